@@ -1,0 +1,6 @@
+pub mod Level
+pub mod State
+pub mod Follows
+pub mod Match
+pub mod Answers
+pub mod Ranges

@@ -1,0 +1,4 @@
+pub mod Words
+pub mod EntryText
+pub mod EntryShape
+pub mod Reason

@@ -1,0 +1,8 @@
+//! The texts of a match: the lines of its entries, its board, and the judge of a whole transcript.
+#![tactic(auto)]
+
+mod faults;
+mod lines;
+
+pub use faults::TextFault;
+pub use lines::parse_entry;
