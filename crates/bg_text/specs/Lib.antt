@@ -2,3 +2,6 @@ pub mod Words
 pub mod EntryText
 pub mod EntryShape
 pub mod Reason
+pub mod BoardText
+pub mod Transcript
+pub mod Judging

@@ -1,7 +1,7 @@
 //! The lines of entries and actions.
 ghost use Rattle.std.specs.Prelude.{◌≡◌, Option, Ok, IfOk, IfErr};
 ghost use Rattle.bg_board.specs.declared.players.Player.{Player};
-ghost use Rattle.bg_match.specs.Ranges.{IsEntry};
+ghost use Rattle.bg_match.specs.Entry.{IsEntry};
 ghost use Rattle.bg_match.specs.declared.entries.Entry.{Entry};
 ghost use Rattle.bg_text.specs.EntryText.{entry_text, IsSeatOf};
 ghost use Rattle.bg_text.specs.EntryShape.{IsEntryTextFault};
