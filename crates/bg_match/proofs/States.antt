@@ -12,7 +12,7 @@ use Rattle.bg_match.specs.declared.phases.Phase.{Phase}
 use Rattle.bg_match.specs.declared.phases.Phase.TheVariants.{Opening, ToAct, Doubled, ToMove, Resigned, Over}
 use Rattle.bg_match.specs.State.{State, IsState, AreScoresOf, IsCubeOf, IsRunning}
 
--- while the match goes on both scores are below the match_length
+-- while the match goes on both scores are below the match length
 pub running_scores : (ph : Phase) (g x o : ℕ) → IsRunning ph → AreScoresOf ph g x o → (x < g) × (o < g)
 running_scores Opening g x o r h = h
 running_scores (ToAct p) g x o r h = h

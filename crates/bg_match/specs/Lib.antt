@@ -3,4 +3,5 @@ pub mod State
 pub mod Follows
 pub mod Match
 pub mod Answers
-pub mod Ranges
+pub mod Actor
+pub mod Entry

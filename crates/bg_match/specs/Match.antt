@@ -48,7 +48,7 @@ LeadsWithScores s scores [] t all = (t ≡ s) × (all ≡ scores)
 LeadsWithScores s scores (e ∷ rest) t all =
     (next : State) × Follows s e next × LeadsWithScores next (scores_then s next scores) rest t all
 
--- the latest game is the Crawford game: the greater score before it is one short of the match_length, and it is the first
+-- the latest game is the Crawford game: the greater score before it is one short of the match length, and it is the first
 -- game or the greater score before the game before it was less
 abbrev pub IsCrawfordGame : ℕ → List ℕ → Type 0
 IsCrawfordGame match_length [] = ⊥

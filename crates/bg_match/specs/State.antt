@@ -23,7 +23,7 @@ abbrev pub score_of : State → Player → ℕ
 score_of s X = s.x_score
 score_of s O = s.o_score
 
--- both scores are below the match_length, except that the winner's has reached it
+-- both scores are below the match length, except that the winner's has reached it
 abbrev pub AreScoresOf : Phase → ℕ → ℕ → ℕ → Type 0
 AreScoresOf (Over X) match_length x o = (match_length ≤ x) × (x ≤ 482) × (o < match_length)
 AreScoresOf (Over O) match_length x o = (match_length ≤ o) × (o ≤ 482) × (x < match_length)

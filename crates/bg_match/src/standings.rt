@@ -92,6 +92,55 @@ impl Standing {
         })
     }
 
+    /// The length of the match in points.
+    pub fn length(&self) -> u8
+        ensures { result ≡ self.now.match_length }
+    {
+        self.length
+    }
+
+    /// The board.
+    pub fn board(&self) -> &Board
+        ensures { result.now ≡ self.now.board }
+    {
+        &self.board
+    }
+
+    /// What is to happen next.
+    pub fn phase(&self) -> Phase
+        ensures { result ≡ self.now.phase }
+    {
+        self.phase
+    }
+
+    /// The cube.
+    pub fn cube(&self) -> Cube
+        ensures { result ≡ self.now.cube }
+    {
+        self.cube
+    }
+
+    /// The scores.
+    pub fn score(&self) -> (u16, u16)
+        ensures { (result.0 ≡ self.now.x_score) × (result.1 ≡ self.now.o_score) }
+    {
+        self.score
+    }
+
+    /// The Crawford mark.
+    pub fn crawford(&self) -> bool
+        ensures { result ≡ self.now.crawford }
+    {
+        self.crawford
+    }
+
+    /// The number of the game.
+    pub fn game(&self) -> u8
+        ensures { result ≡ self.now.game }
+    {
+        self.game
+    }
+
     /// Where the match stands after an entry.
     pub fn next(&self, entry: &Entry) -> Result<Standing, EntryFault>
         ensures ok { IfOk result (λ after. Follows self.now entry.now after) }

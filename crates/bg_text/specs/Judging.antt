@@ -1,5 +1,5 @@
 -- What the judge says of an input.
-use Rattle.std.specs.Prelude.{◌≡◌, ◌≢◌, ◌==◌, ◌⊎◌, ℕ, ◌+◌, ◌<◌, ◌≤◌, List, [], ◌∷◌, ◌++◌, length, take, slice_index_or, Option, Some, IsTrue, codes, if◌then◌else◌}
+use Rattle.std.specs.Prelude.{◌≡◌, ◌≢◌, ◌==◌, ◌⊎◌, ℕ, ◌+◌, ◌<◌, ◌≤◌, List, [], ◌∷◌, ◌++◌, length, take, slice_index_or, Option, Some, None, IsTrue, codes, if◌then◌else◌}
 use Rattle.std.specs.List.{onto_first}
 use Rattle.std.specs.Fmt.{decimal}
 use Rattle.std.specs.Str.{all_ascii_digits}
@@ -11,7 +11,7 @@ use Rattle.bg_match.specs.Entry.{IsEntry}
 use Rattle.bg_match.specs.declared.entries.Entry.{Entry}
 use Rattle.bg_match.specs.declared.entries.EntryFault.{EntryFault}
 use Rattle.bg_match.specs.declared.entries.EntryFault.TheVariants.{RecordFull}
-use Rattle.bg_text.specs.BoardText.{lines_text, board_text}
+use Rattle.bg_text.specs.BoardText.{line_text, board_text}
 use Rattle.bg_text.specs.EntryText.{entry_text, IsSeatOf}
 use Rattle.bg_text.specs.EntryShape.{IsEntryTextFault}
 use Rattle.bg_text.specs.Reason.{reason, text_reason}
@@ -26,20 +26,26 @@ abbrev pub lines_of : List ℕ → List (List ℕ)
 lines_of [] = []
 lines_of (byte ∷ bytes) = if byte == 10 then [] ∷ lines_of bytes else onto_first byte (lines_of bytes)
 
--- the word length, a space and one to three digits
-pub record IsLengthShape (line : List ℕ) : Type 0 where
-  pub digits : List ℕ
-  pub spelled : line ≡ codes "length " ++ digits
+-- one to three digits
+pub record AreLengthDigits (digits : List ℕ) : Type 0 where
   pub decimal_digits : IsTrue (all_ascii_digits digits)
   pub some : 1 ≤ length digits
   pub three : length digits ≤ 3
 
--- what is wrong with line 1, or that there is none
+-- digits that are not the number of a length
+abbrev pub IsDigitsFault : LineFault → List ℕ → Type 0
+IsDigitsFault fault.NotALengthLine digits = AreLengthDigits digits → ⊥
+IsDigitsFault fault.LengthOutOfRange digits =
+    AreLengthDigits digits × ((n : ℕ) → 1 ≤ n → n ≤ 99 → digits ≡ decimal n → ⊥)
+IsDigitsFault _ digits = ⊥
+
+-- what is wrong with line 1, or that there is none: the word length, a space and one to three digits are its shape
 abbrev pub IsLengthFault : LineFault → List (List ℕ) → Type 0
 IsLengthFault fault.NotALengthLine [] = Unit {0}
-IsLengthFault fault.NotALengthLine (line ∷ lines) = IsLengthShape line → ⊥
+IsLengthFault fault.NotALengthLine (line ∷ lines) =
+    (digits : List ℕ) → line ≡ codes "length " ++ digits → AreLengthDigits digits → ⊥
 IsLengthFault fault.LengthOutOfRange (line ∷ lines) =
-    IsLengthShape line × ((n : ℕ) → 1 ≤ n → n ≤ 99 → line ≡ length_line n → ⊥)
+    (digits : List ℕ) × (line ≡ codes "length " ++ digits) × IsDigitsFault fault.LengthOutOfRange digits
 IsLengthFault _ lines = ⊥
 
 -- the line names a seat where another must act
@@ -101,18 +107,18 @@ pub record IsJudged (match_length : ℕ) (lines : List (List ℕ)) (text : List 
   pub longest : IsLongestPart match_length lines count state
   pub line : List ℕ
   pub named : IsVerdict verdict line lines count state
-  pub printed : text ≡ board_text state ++ lines_text (line ∷ [])
+  pub printed : text ≡ board_text state ++ line_text line
 
 -- the text and the verdict where line 1 is refused
 pub record IsRefusedAtOnce (lines : List (List ℕ)) (text : List ℕ) (verdict : Verdict) : Type 0 where
   pub why : LineFault
   pub fault : IsLengthFault why lines
-  pub printed : text ≡ lines_text (refused_line 1 why ∷ [])
+  pub printed : text ≡ line_text (refused_line 1 why)
   pub first : verdict ≡ Refused 1
 
 -- the text and the verdict where the input is longer than the limit
 pub record IsTooLong (text : List ℕ) (verdict : Verdict) : Type 0 where
-  pub printed : text ≡ lines_text (codes "refused: input too long" ∷ [])
+  pub printed : text ≡ line_text (codes "refused: input too long")
   pub too_long : verdict ≡ TooLong
 
 -- what the judge writes and answers of the lines of an input
@@ -122,7 +128,21 @@ IsAnswerTo (line ∷ lines) text verdict =
     IsRefusedAtOnce (line ∷ lines) text verdict
     ⊎ ((n : ℕ) × (1 ≤ n) × (n ≤ 99) × (line ≡ length_line n) × IsJudged n lines text verdict)
 
+-- the most bytes of an input
+abbrev pub most_bytes : ℕ
+most_bytes = 4194304
+
 abbrev pub IsJudgement : List ℕ → List ℕ → Verdict → Type 0
 IsJudgement input text verdict =
-    ((4194304 < length input) × IsTooLong text verdict)
-    ⊎ ((length input ≤ 4194304) × IsAnswerTo (lines_of input) text verdict)
+    ((most_bytes < length input) × IsTooLong text verdict)
+    ⊎ ((length input ≤ most_bytes) × IsAnswerTo (lines_of input) text verdict)
+
+-- the same of an input that contracts know, or of some input
+abbrev pub IsJudgementOf : Option (List ℕ) → List ℕ → Verdict → Type 0
+IsJudgementOf (Some input) text verdict = IsJudgement input text verdict
+IsJudgementOf None text verdict = (input : List ℕ) × IsJudgement input text verdict
+
+-- all of the bytes were read, or more than the limit
+abbrev pub IsReadOf : List ℕ → List ℕ → Type 0
+IsReadOf bytes input =
+    ((length input ≤ most_bytes) × (bytes ≡ input)) ⊎ ((most_bytes < length input) × (most_bytes < length bytes))

@@ -3,10 +3,17 @@
 
 mod board_texts;
 mod faults;
+mod inputs;
+mod judging;
 mod lines;
 mod printing;
+mod reasons;
 mod verdicts;
 
+pub use board_texts::board_text;
 pub use faults::{LineFault, TextFault};
+pub use inputs::MOST_BYTES;
+pub use judging::Judgement;
 pub use lines::parse_entry;
-pub use verdicts::Verdict;
+pub use reasons::reason_text;
+pub use verdicts::{EngineFault, Verdict};
