@@ -1,4 +1,5 @@
 pub mod Words
 pub mod EntryText
 pub mod EntryShape
+pub mod Pairs
 pub mod Reason

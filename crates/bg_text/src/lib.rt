@@ -3,6 +3,8 @@
 
 mod faults;
 mod lines;
+mod pairs;
+mod words;
 
 pub use faults::TextFault;
 pub use lines::parse_entry;
