@@ -46,12 +46,12 @@ IsTurnOf pairs (Ok steps) = IsTurn steps × (pairs ≡ map step_text steps)
 IsTurnOf pairs (Err fault) = IsPairsFault fault pairs
 
 -- two numerals
-pub record AreNumerals (words : List (List ℕ)) : Type 0 where
-  pub first : List ℕ
-  pub second : List ℕ
-  pub spelled : words ≡ first ∷ second ∷ []
-  pub first_numeral : IsNumeral first
-  pub second_numeral : IsNumeral second
+abbrev pub AreNumerals : List (List ℕ) → Type 0
+AreNumerals words = (first second : List ℕ) × (words ≡ first ∷ second ∷ []) × IsNumeral first × IsNumeral second
+
+-- what two numerals are worth
+abbrev pub AreWorth : List (List ℕ) → ℕ → ℕ → Type 0
+AreWorth words x y = (first second : List ℕ) × (words ≡ first ∷ second ∷ []) × IsWorth first x × IsWorth second y
 
 -- what is wrong with the words of two dice
 abbrev pub IsDiceFault : TextFault → List (List ℕ) → Type 0

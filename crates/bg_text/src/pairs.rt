@@ -96,3 +96,33 @@ pub(crate) fn parse_turn(pairs: &[u8]) -> Result<Turn, TextFault>
     }
     turn
 }
+
+ghost use Rattle.bg_text.specs.EntryText.{dice_words};
+ghost use Rattle.bg_text.specs.Pairs.{IsDiceFault};
+
+use bg_board::Die;
+
+/// The dice that two numbers write, one space between them.
+pub(crate) fn parse_dice(numbers: &[u8]) -> Result<(Die, Die), TextFault>
+    ensures { MatchResult result (λ dice. words_of numbers.now ≡ dice_words dice.0 dice.1)
+        (λ fault. IsDiceFault fault (words_of numbers.now)) }
+{
+    let Some((first, second)) = two_numerals(numbers) else {
+        return Err(TextFault::NotALine);
+    };
+    match (Die::new(first), Die::new(second)) {
+        (Some(first), Some(second)) => Ok((first, second)),
+        _ => Err(TextFault::BadNumber),
+    }
+}
+
+ghost use Rattle.bg_text.specs.Pairs.{AreNumerals, AreWorth};
+
+/// The values of two numerals with a space between them.
+fn two_numerals(text: &[u8]) -> Option<(u8, u8)>
+    ensures { MatchOption result (AreNumerals (words_of text.now) → ⊥)
+        (λ values. AreWorth (words_of text.now) values.0 values.1) }
+{
+    let (first, second) = halves(text, b' ')?;
+    Some((numeral(first)?, numeral(second)?))
+}
