@@ -1,2 +1,6 @@
+pub mod Splits
+pub mod Numbers
+pub mod PairTexts
+pub mod Moves
 pub mod LineLists
 pub mod InputLines

@@ -5,6 +5,7 @@ ghost use Rattle.bg_text.specs.Judging.{lines_of, IsLengthFault, IsDigitsFault, 
 ghost use Rattle.bg_text.specs.Transcript.{length_line};
 
 use crate::{EngineFault, LineFault};
+use crate::pairs::numeral;
 use memchr::memchr;
 use std::alloc::Global;
 use std::io::Read;
@@ -67,13 +68,10 @@ fn parse_digits(digits: &[u8]) -> Result<u8, LineFault>
     ensures found { IfOk result (λ length. (1 ≤ length) × (length ≤ 99) × (digits.now ≡ decimal length)) }
     ensures fault { IfErr result (λ fault. IsDigitsFault fault digits.now) }
 {
-    if !digits.iter().all(u8::is_ascii_digit) {
-        return Err(LineFault::NotALengthLine);
-    }
-    match digits {
-        [ones @ b'1'..=b'9'] => Ok(ones - b'0'),
-        [tens @ b'1'..=b'9', ones] => Ok(10 * (tens - b'0') + (ones - b'0')),
-        [_] | [_, _] | [_, _, _] => Err(LineFault::LengthOutOfRange),
-        _ => Err(LineFault::NotALengthLine),
+    match (numeral(digits), digits) {
+        (Some(0), _) => Err(LineFault::LengthOutOfRange),
+        (Some(length), _) => Ok(length),
+        (None, [b'0'..=b'9', b'0'..=b'9', b'0'..=b'9']) => Err(LineFault::LengthOutOfRange),
+        (None, _) => Err(LineFault::NotALengthLine),
     }
 }

@@ -6,9 +6,11 @@ mod faults;
 mod inputs;
 mod judging;
 mod lines;
+mod pairs;
 mod printing;
 mod reasons;
 mod verdicts;
+mod words;
 
 pub use board_texts::board_text;
 pub use faults::{LineFault, TextFault};
