@@ -6,22 +6,33 @@ ghost use Rattle.bg_board.specs.Position.{Position, IsPosition, AreApart, Shares
 
 use crate::{Die, Player, Step, StepFault};
 use std::marker::Model;
+use thiserror::Error;
 
-/// Why counts are no board.
-#[derive(Clone, Copy, Debug, PartialEq, Eq)]
+/// Why counts are no board (docs/RULES.md, "The board").
+#[derive(Clone, Copy, Debug, PartialEq, Eq, Error)]
 pub enum BoardFault {
-    /// A player has not fifteen checkers.
+    /// A player does not have fifteen checkers.
+    #[error("a player does not have fifteen checkers")]
     NotFifteen,
     /// Both players have checkers on one point.
+    #[error("both players have checkers on one point")]
     SharedPoint,
 }
 
-/// The bar, and the point that checkers are borne off to.
-const BAR: usize = 25;
+/// Where checkers are borne off to.
+const OFF: u8 = 0;
 
-const OFF: usize = 0;
+/// The highest point of a player's home board.
+const HOME: u8 = 6;
 
-/// Where each player's fifteen checkers stand, in his own numbering.
+/// The bar.
+const BAR: u8 = 25;
+
+/// Where each player's fifteen checkers stand (docs/RULES.md, "The board").
+///
+/// Each player numbers the points his own way: 24 down to 1, then 0 for checkers that are off, and
+/// 25 for the bar. Point `p` of one player is point `25 - p` of the other, and no point from 1 to 24
+/// holds checkers of both.
 #[derive(Clone, Copy, Debug, PartialEq, Eq)]
 pub struct Board {
     x: [u8; 26],
@@ -42,7 +53,8 @@ impl Board {
     ghost use Rattle.bg_board.specs.BoardFault.{IsBoardFault};
     ghost use Rattle.bg_board.specs.Step.{IsStep, after_step, IsStepFault, carried, hit_by};
 
-    /// The board at the start of a game.
+    /// The board at the start of a game: for each player two checkers on 24, five on 13, three on 8
+    /// and five on 6.
     pub fn start() -> Board
         ensures { result ≡ start_position }
     {
@@ -52,7 +64,15 @@ impl Board {
         Board { x: START, o: START }
     }
 
-    /// The board with these counts.
+    /// The board with these checkers of X and of O, each list by the player's own numbering: how many
+    /// stand on point 0 (off), 1, .., 25 (the bar).
+    ///
+    /// # Errors
+    ///
+    /// Tested in this order:
+    /// 1. [`BoardFault::NotFifteen`]: one of the lists does not add up to fifteen.
+    /// 2. [`BoardFault::SharedPoint`]: for a point `p` from 1 to 24, X has a checker on his `p` and O
+    ///    one on his `25 - p`.
     pub fn from_counts(x: [u8; 26], o: [u8; 26]) -> Result<Board, BoardFault>
         ensures ok { IsOk result ↔ IsPosition (record { x = x; o = o }) }
         ensures value { IfOk result (λ board. board ≡ record { x = x; o = o }) }
@@ -67,7 +87,8 @@ impl Board {
         Ok(Board { x, o })
     }
 
-    /// How many checkers the player has on a point of his own numbering: 0 is off, 25 is the bar.
+    /// How many checkers, 0 to 15, the player has on a point of his own numbering: 0 is off, 25 is the
+    /// bar.
     pub fn count(&self, player: Player, point: u8) -> u8
         requires { point ≤ 25 }
         ensures value { result ≡ count self.now player point }
@@ -76,34 +97,57 @@ impl Board {
         self.checkers(player)[usize::from(point)]
     }
 
-    /// Plays one checker's step by this die.
+    /// How many checkers, 0 to 15, the player has above a point of his own numbering, those on the bar
+    /// included.
+    pub fn count_above(&self, player: Player, point: u8) -> u8
+        requires { point ≤ 25 }
+        ensures value { result ≡ count_above self.now player point }
+        ensures board { IsPosition self.now }
+    {
+        let above = usize::from(point) + 1;
+        total(&self.checkers(player)[above..]) as u8
+    }
+
+    /// Plays one checker's step by this die, and gives the board after it: the checker stands on its
+    /// landing point, and a single opposing checker there has gone to its bar (docs/RULES.md, "A step").
+    ///
+    /// # Errors
+    ///
+    /// Tested in this order:
+    /// 1. [`StepFault::NoChecker`]: the player has no checker where the step begins.
+    /// 2. [`StepFault::BarFirst`]: he has a checker on the bar, and the step begins elsewhere.
+    /// 3. [`StepFault::WrongLanding`]: the step does not end as many points lower as the die shows, or
+    ///    at 0 where that would be 0 or less.
+    /// 4. [`StepFault::Blocked`]: the step ends on a point from 1 to 24 that holds two or more opposing
+    ///    checkers.
+    /// 5. [`StepFault::NotAllHome`]: the step bears off, and one of his checkers stands above 6.
+    /// 6. [`StepFault::HigherChecker`]: the step bears off from below the die's number, and one of his
+    ///    checkers stands above it.
     pub fn play_step(&self, player: Player, step: Step, die: Die) -> Result<Board, StepFault>
         ensures ok { IsOk result ↔ IsStep self.now player step (pips die) }
         ensures after { IfOk result (λ board. board ≡ after_step self.now player step) }
         ensures fault { IfErr result (λ fault. IsStepFault fault self.now player step (pips die)) }
     {
-        let from = usize::from(step.from());
-        let to = usize::from(step.to());
-        let pips = usize::from(die.pips());
-        let own = self.checkers(player);
-        if own[from] == 0 {
+        let from = step.from();
+        let to = step.to();
+        let pips = die.pips();
+        if self.count(player, from) == 0 {
             return Err(StepFault::NoChecker);
         }
-        if own[BAR] > 0 && from != BAR {
+        if from != BAR && self.count(player, BAR) > 0 {
             return Err(StepFault::BarFirst);
         }
         if to != from.saturating_sub(pips) {
             return Err(StepFault::WrongLanding);
         }
-        if to == OFF {
-            if self.count_above(player, 6) > 0 {
-                return Err(StepFault::NotAllHome);
-            }
-            if from < pips && self.count_above(player, from) > 0 {
-                return Err(StepFault::HigherChecker);
-            }
-        } else if self.checkers(player.opponent())[BAR - to] > 1 {
+        if to != OFF && self.count(player.opponent(), BAR - to) > 1 {
             return Err(StepFault::Blocked);
+        }
+        if to == OFF && self.count_above(player, HOME) > 0 {
+            return Err(StepFault::NotAllHome);
+        }
+        if to == OFF && from < pips && self.count_above(player, from) > 0 {
+            return Err(StepFault::HigherChecker);
         }
         Ok(self.after_step(player, step, die))
     }
@@ -131,14 +175,6 @@ impl Board {
         }
     }
 
-    /// How many checkers the player has above a point.
-    pub fn count_above(&self, player: Player, point: usize) -> u32
-        requires { point ≤ 25 }
-        ensures { result ≡ count_above self.now player point }
-    {
-        total(&self.checkers(player)[point + 1..])
-    }
-
     /// The player's checkers, by point.
     fn checkers(&self, player: Player) -> &[u8; 26]
         ensures value { result.now ≡ checkers self.now player }
@@ -156,8 +192,8 @@ fn share_a_point(own: &[u8; 26], other: &[u8; 26]) -> bool
     ensures shared { OnTrue result (SharesPoint own.now other.now) }
     ensures apart { OnFalse result (AreApart own.now other.now) }
 {
-    for point in 1..BAR {
-        if own[point] > 0 && other[BAR - point] > 0 {
+    for point in 1..25 {
+        if own[point] > 0 && other[25 - point] > 0 {
             return true;
         }
     }
@@ -194,8 +230,9 @@ fn hit_by(counts: [u8; 26], landing: usize) -> [u8; 26]
     requires fifteen { sum counts ≡ 15 }
     ensures { result ≡ hit_counts counts landing }
 {
+    const BAR: usize = 25;
     let mut after = counts;
-    if landing > OFF && after[BAR - landing] == 1 {
+    if landing > 0 && after[BAR - landing] == 1 {
         after[BAR - landing] = 0;
         after[BAR] += 1;
     }

@@ -4,3 +4,5 @@ pub mod PairTexts
 pub mod Moves
 pub mod LineLists
 pub mod InputLines
+pub mod TextLaws
+pub mod ReadLines

@@ -6,3 +6,4 @@ pub mod Reason
 pub mod BoardText
 pub mod Transcript
 pub mod Judging
+pub mod Reading

@@ -20,13 +20,14 @@ const LOWER: [u8; 12] = [12, 11, 10, 9, 8, 7, 6, 5, 4, 3, 2, 1];
 pub fn board_text(alloc: Global, standing: &Standing) -> Result<Vec<u8>, AllocError>
     ensures { IfOk result (λ text. text.items ≡ text_of_board standing.now) }
 {
+    let board = standing.board();
     let mut out = Vec::new(alloc);
     push_header(&mut out, standing)?;
     push_numbers(&mut out, &UPPER)?;
-    push_cells(&mut out, standing.board(), &UPPER)?;
-    push_cells(&mut out, standing.board(), &LOWER)?;
+    push_cells(&mut out, &board, &UPPER)?;
+    push_cells(&mut out, &board, &LOWER)?;
     push_numbers(&mut out, &LOWER)?;
-    push_aside(&mut out, standing.board())?;
+    push_aside(&mut out, &board)?;
     push_phase(&mut out, standing.phase())?;
     Ok(out)
 }

@@ -15,7 +15,7 @@ mod words;
 pub use board_texts::board_text;
 pub use faults::{LineFault, TextFault};
 pub use inputs::MOST_BYTES;
-pub use judging::Judgement;
+pub use judging::{Judgement, judge, judge_text};
 pub use lines::parse_entry;
 pub use reasons::reason_text;
 pub use verdicts::{EngineFault, Verdict};
