@@ -6,3 +6,4 @@ pub mod LineLists
 pub mod InputLines
 pub mod TextLaws
 pub mod ReadLines
+pub mod PartRead

@@ -94,5 +94,5 @@ board_lines s =
     ∷ phase_line s.phase
     ∷ []
 
-abbrev pub board_text : State → List ℕ
+unfoldable pub board_text : State → List ℕ
 board_text s = lines_text (board_lines s)

@@ -5,6 +5,7 @@ use Rattle.std.specs.Fmt.{decimal}
 use Rattle.std.specs.Str.{all_ascii_digits}
 use Rattle.bg_board.specs.declared.players.Player.{Player}
 use Rattle.bg_match.specs.State.{State, start_of}
+use Rattle.bg_match.specs.declared.limits.TheConstants.{MOST_ENTRIES, SHORTEST_MATCH, LONGEST_MATCH}
 use Rattle.bg_match.specs.Actor.{actor_of, seat_of}
 use Rattle.bg_match.specs.Follows.{IsEntryFault}
 use Rattle.bg_match.specs.Entry.{IsEntry}
@@ -16,6 +17,7 @@ use Rattle.bg_text.specs.EntryText.{entry_text, IsSeatOf}
 use Rattle.bg_text.specs.EntryShape.{IsEntryTextFault}
 use Rattle.bg_text.specs.Reason.{reason, text_reason}
 use Rattle.bg_text.specs.Transcript.{AreLinesOf, length_line}
+use Rattle.bg_text.specs.declared.inputs.TheConstants.{MOST_BYTES}
 use Rattle.bg_text.specs.declared.faults.LineFault.{LineFault}
 use Rattle.bg_text.specs.declared.faults.LineFault.TheVariants as fault
 use Rattle.bg_text.specs.declared.verdicts.Verdict.{Verdict}
@@ -36,7 +38,7 @@ pub record AreLengthDigits (digits : List ℕ) : Type 0 where
 abbrev pub IsDigitsFault : LineFault → List ℕ → Type 0
 IsDigitsFault fault.NotALengthLine digits = AreLengthDigits digits → ⊥
 IsDigitsFault fault.LengthOutOfRange digits =
-    AreLengthDigits digits × ((n : ℕ) → 1 ≤ n → n ≤ 99 → digits ≡ decimal n → ⊥)
+    AreLengthDigits digits × ((n : ℕ) → SHORTEST_MATCH ≤ n → n ≤ LONGEST_MATCH → digits ≡ decimal n → ⊥)
 IsDigitsFault _ digits = ⊥
 
 -- what is wrong with line 1, or that there is none: the word length, a space and one to three digits are its shape
@@ -54,8 +56,8 @@ IsWrongSeat seat s = (p q : Player) × (seat ≡ Some p) × (seat_of (actor_of s
 
 -- why an entry can't follow n entries that lead to s
 abbrev pub IsRefusal : EntryFault → ℕ → State → Entry → Type 0
-IsRefusal RecordFull n s e = 65535 ≤ n
-IsRefusal why n s e = (n < 65535) × IsEntryFault why s e
+IsRefusal RecordFull n s e = MOST_ENTRIES ≤ n
+IsRefusal why n s e = (n < MOST_ENTRIES) × IsEntryFault why s e
 
 -- why a line can't follow n entries that lead to s, by the first of three tests that fails: its text, its seat, its entry
 abbrev pub IsLineFault : LineFault → ℕ → State → List ℕ → Type 0
@@ -70,7 +72,7 @@ IsLineFault _ n s line = ⊥
 -- the first n lines are those of a legal record of a match of this length, which stands at t
 abbrev pub StandsAfter : ℕ → List (List ℕ) → ℕ → State → Type 0
 StandsAfter match_length lines n t =
-    (n ≤ length lines) × (n ≤ 65535)
+    (n ≤ length lines) × (n ≤ MOST_ENTRIES)
     × ((entries : List Entry) × AreLinesOf (start_of match_length) entries (take n lines) t)
 
 -- n is the greatest number of first lines that are those of a legal record
@@ -126,16 +128,12 @@ abbrev pub IsAnswerTo : List (List ℕ) → List ℕ → Verdict → Type 0
 IsAnswerTo [] text verdict = IsRefusedAtOnce [] text verdict
 IsAnswerTo (line ∷ lines) text verdict =
     IsRefusedAtOnce (line ∷ lines) text verdict
-    ⊎ ((n : ℕ) × (1 ≤ n) × (n ≤ 99) × (line ≡ length_line n) × IsJudged n lines text verdict)
-
--- the most bytes of an input
-abbrev pub most_bytes : ℕ
-most_bytes = 4194304
+    ⊎ ((n : ℕ) × (SHORTEST_MATCH ≤ n) × (n ≤ LONGEST_MATCH) × (line ≡ length_line n) × IsJudged n lines text verdict)
 
 abbrev pub IsJudgement : List ℕ → List ℕ → Verdict → Type 0
 IsJudgement input text verdict =
-    ((most_bytes < length input) × IsTooLong text verdict)
-    ⊎ ((length input ≤ most_bytes) × IsAnswerTo (lines_of input) text verdict)
+    ((MOST_BYTES < length input) × IsTooLong text verdict)
+    ⊎ ((length input ≤ MOST_BYTES) × IsAnswerTo (lines_of input) text verdict)
 
 -- the same of an input that contracts know, or of some input
 abbrev pub IsJudgementOf : Option (List ℕ) → List ℕ → Verdict → Type 0
@@ -145,4 +143,4 @@ IsJudgementOf None text verdict = (input : List ℕ) × IsJudgement input text v
 -- all of the bytes were read, or more than the limit
 abbrev pub IsReadOf : List ℕ → List ℕ → Type 0
 IsReadOf bytes input =
-    ((length input ≤ most_bytes) × (bytes ≡ input)) ⊎ ((most_bytes < length input) × (most_bytes < length bytes))
+    ((length input ≤ MOST_BYTES) × (bytes ≡ input)) ⊎ ((MOST_BYTES < length input) × (MOST_BYTES < length bytes))

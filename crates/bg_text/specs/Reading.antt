@@ -6,11 +6,15 @@ use Rattle.bg_match.specs.Entry.{IsEntry}
 use Rattle.bg_match.specs.Follows.{Follows}
 use Rattle.bg_match.specs.Match.{Log, StandsAt}
 use Rattle.bg_match.specs.State.{State, start_of}
+use Rattle.bg_match.specs.declared.limits.TheConstants.{MOST_ENTRIES}
 use Rattle.bg_match.specs.declared.entries.Entry.{Entry}
+use Rattle.bg_match.specs.declared.entries.EntryFault.{EntryFault}
+use Rattle.bg_match.specs.declared.entries.EntryFault.TheVariants as entry_fault
 use Rattle.bg_text.specs.EntryText.{entry_text, IsSeatOf}
 use Rattle.bg_text.specs.Transcript.{AreLinesOf}
 use Rattle.bg_text.specs.Judging.{IsWrongSeat, IsLineFault, lines_of}
 use Rattle.bg_text.specs.declared.faults.LineFault.{LineFault}
+use Rattle.bg_text.specs.declared.faults.LineFault.TheVariants.{Entry as RefusedEntry}
 use Rattle.bg_text.specs.declared.judging.AddFault.{AddFault}
 use Rattle.bg_text.specs.declared.judging.AddFault.TheVariants.{Refused, Memory}
 
@@ -27,14 +31,19 @@ IsLineAt s line e = (line ≡ entry_text (seat_of (actor_of s.phase)) e) × ((t 
 abbrev pub AddsLine : Log → Log → List ℕ → Type 0
 AddsLine old new line =
     (e : Entry) × (s : State) × StandsAt old.match_length old.entries s × IsLineAt s line e
-    × (length old.entries < 65535) × (new.entries ≡ old.entries ++ e ∷ []) × (new.match_length ≡ old.match_length)
+    × (length old.entries < MOST_ENTRIES) × (new.entries ≡ old.entries ++ e ∷ []) × (new.match_length ≡ old.match_length)
+
+-- what becomes of a refused push
+abbrev pub fault_of_push : EntryFault → AddFault
+fault_of_push entry_fault.Memory = Memory
+fault_of_push why = Refused (RefusedEntry why)
 
 -- a line is refused: it has a fault, and is that of no entry that may follow
 abbrev pub RefusesLine : AddFault → Log → List ℕ → Type 0
 RefusesLine Memory r line = Unit {0}
 RefusesLine (Refused why) r line =
     (s : State) × StandsAt r.match_length r.entries s × IsLineFault why (length r.entries) s line
-    × ((e : Entry) → length r.entries < 65535 → IsLineAt s line e → ⊥)
+    × ((e : Entry) → length r.entries < MOST_ENTRIES → IsLineAt s line e → ⊥)
 
 -- a record of the first lines, and the bytes of those that are left
 pub record IsPartRead (match_length : ℕ) (lines : List (List ℕ)) (r : Log) (rest : List ℕ) : Type 0 where
@@ -42,5 +51,5 @@ pub record IsPartRead (match_length : ℕ) (lines : List (List ℕ)) (r : Log) (
   pub split : lines ≡ done ++ lines_of rest
   pub state : State
   pub entries : AreLinesOf (start_of match_length) r.entries done state
-  pub few : length r.entries ≤ 65535
+  pub few : length r.entries ≤ MOST_ENTRIES
   pub same_length : r.match_length ≡ match_length

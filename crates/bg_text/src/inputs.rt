@@ -6,6 +6,7 @@ ghost use Rattle.bg_text.specs.Transcript.{length_line};
 
 use crate::{EngineFault, LineFault};
 use crate::pairs::numeral;
+use bg_match::{LONGEST_MATCH, SHORTEST_MATCH};
 use memchr::memchr;
 use std::alloc::Global;
 use std::io::Read;
@@ -54,7 +55,7 @@ pub(crate) fn split_line(input: &[u8]) -> Option<(&[u8], &[u8])>
 
 /// The length that line 1 says.
 pub(crate) fn parse_length(line: &[u8]) -> Result<u8, LineFault>
-    ensures found { IfOk result (λ length. (1 ≤ length) × (length ≤ 99) × (line.now ≡ length_line length)) }
+    ensures found { IfOk result (λ length. (SHORTEST_MATCH ≤ length) × (length ≤ LONGEST_MATCH) × (line.now ≡ length_line length)) }
     ensures fault { IfErr result (λ fault. IsLengthFault fault (line.now ∷ [])) }
 {
     match line.strip_prefix(b"length ") {
@@ -65,12 +66,12 @@ pub(crate) fn parse_length(line: &[u8]) -> Result<u8, LineFault>
 
 /// The length that one to three digits say.
 fn parse_digits(digits: &[u8]) -> Result<u8, LineFault>
-    ensures found { IfOk result (λ length. (1 ≤ length) × (length ≤ 99) × (digits.now ≡ decimal length)) }
+    ensures found { IfOk result (λ length. (SHORTEST_MATCH ≤ length) × (length ≤ LONGEST_MATCH) × (digits.now ≡ decimal length)) }
     ensures fault { IfErr result (λ fault. IsDigitsFault fault digits.now) }
 {
     match (numeral(digits), digits) {
-        (Some(0), _) => Err(LineFault::LengthOutOfRange),
-        (Some(length), _) => Ok(length),
+        (Some(length @ SHORTEST_MATCH..=LONGEST_MATCH), _) => Ok(length),
+        (Some(_), _) => Err(LineFault::LengthOutOfRange),
         (None, [b'0'..=b'9', b'0'..=b'9', b'0'..=b'9']) => Err(LineFault::LengthOutOfRange),
         (None, _) => Err(LineFault::NotALengthLine),
     }

@@ -89,9 +89,35 @@ fn read_entry(standing: &Standing, line: &[u8]) -> Result<Entry, LineFault>
 }
 
 /// Why a line was not added.
+#[derive(Drop)]
 enum AddFault {
     Refused(LineFault),
     Memory,
+}
+
+impl From<LineFault> for AddFault {
+    ghost use Rattle.std.specs.Prelude.{◌≡◌};
+    ghost use Rattle.bg_text.specs.declared.judging.AddFault.TheVariants.{Refused};
+
+    ghost from_gives = { λ why fault. fault ≡ Refused why };
+
+    fn from(why: LineFault) -> AddFault {
+        AddFault::Refused(why)
+    }
+}
+
+impl From<EntryFault> for AddFault {
+    ghost use Rattle.std.specs.Prelude.{◌≡◌};
+    ghost use Rattle.bg_text.specs.Reading.{fault_of_push};
+
+    ghost from_gives = { λ why fault. fault ≡ fault_of_push why };
+
+    fn from(why: EntryFault) -> AddFault {
+        match why {
+            EntryFault::Memory => AddFault::Memory,
+            why => AddFault::Refused(LineFault::Entry(why)),
+        }
+    }
 }
 
 /// Adds the entry of a line.
@@ -100,15 +126,9 @@ fn add_line(record: &mut Record, line: &[u8]) -> Result<(), AddFault>
     ensures fault { IfErr result (λ fault. RefusesLine fault record.old line.now) }
     ensures err { OnErr result (record.new ≡ record.old) }
 {
-    let entry = match read_entry(&record.standing(), line) {
-        Ok(entry) => entry,
-        Err(why) => return Err(AddFault::Refused(why)),
-    };
-    match record.push(entry) {
-        Ok(()) => Ok(()),
-        Err(EntryFault::Memory) => Err(AddFault::Memory),
-        Err(why) => Err(AddFault::Refused(LineFault::Entry(why))),
-    }
+    let entry = read_entry(&record.standing(), line)?;
+    record.push(entry)?;
+    Ok(())
 }
 
 /// Judges the lines after line 1 of a match of this length.
