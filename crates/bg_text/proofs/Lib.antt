@@ -2,3 +2,4 @@ pub mod Splits
 pub mod Numbers
 pub mod PairTexts
 pub mod Moves
+pub mod ActionTexts

@@ -7,4 +7,4 @@ mod pairs;
 mod words;
 
 pub use faults::TextFault;
-pub use lines::parse_entry;
+pub use lines::{parse_action, parse_entry};
