@@ -3,3 +3,4 @@ pub mod Numbers
 pub mod PairTexts
 pub mod Moves
 pub mod ActionTexts
+pub mod Starts
