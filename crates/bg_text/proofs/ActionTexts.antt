@@ -30,10 +30,10 @@ step_word step h =
     let low : step.to < step.from = h.lower in
     let high : step.from ≤ 25 = h.starts in
     All-append P (source_text step.from ++ codes "-") (target_text step.to)
-      (All-append P (source_text step.from) (codes "-")
-        (source_lacks 32 (source_text step.from) (omega arith) (source_shape step.from high))
-        (All-cons P 45 [] (omega arith) (All-nil P)))
-      (target_lacks 32 (target_text step.to) (omega arith) (target_shape step.to (omega arith)))
+    (All-append P (source_text step.from) (codes "-")
+    (source_lacks 32 (source_text step.from) (omega arith) (source_shape step.from high))
+    (All-cons P 45 [] (omega arith) (All-nil P)))
+    (target_lacks 32 (target_text step.to) (omega arith) (target_shape step.to (omega arith)))
 
 pub step_words : (steps : List FromTo) → AllByRecursion IsDownward steps → AllByRecursion IsWord (map step_text steps)
 step_words [] h = tt

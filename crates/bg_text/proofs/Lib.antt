@@ -4,3 +4,4 @@ pub mod PairTexts
 pub mod Moves
 pub mod ActionTexts
 pub mod Starts
+pub mod ActionLines

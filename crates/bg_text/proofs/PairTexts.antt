@@ -160,44 +160,44 @@ step_from_ends word first second from to None e source target some value = (
 
 pub same_source : (m n : ℕ) → m ≤ 25 → n ≤ 25 → source_text m ≡ source_text n → m ≡ n
 same_source m n a b e = elim (cases_eq m 25) [
-  inl is ↦ elim (cases_eq n 25) [
-    inl too ↦ omega arith
+  | inl is ↦ elim (cases_eq n 25) [
+    | inl too ↦ omega arith
     | inr other ↦
-      let f : source_text n ≡ decimal n = rw (ne_eqb n 25 other) refl in
-      let g : codes "bar" ≡ source_text m = rw is refl in
-      absurd (numeral_short 98 97 114 n (omega arith) (g ∙ (e ∙ f)))
+        let f : source_text n ≡ decimal n = rw (ne_eqb n 25 other) refl in
+        let g : codes "bar" ≡ source_text m = rw is refl in
+        absurd (numeral_short 98 97 114 n (omega arith) (g ∙ (e ∙ f)))
   ]
   | inr other ↦
-    let f : source_text m ≡ decimal m = rw (ne_eqb m 25 other) refl in
-    elim (cases_eq n 25) [
-      inl is ↦
-        let g : source_text n ≡ codes "bar" = rw is refl in
-        absurd (numeral_short 98 97 114 m (omega arith) (sym g ∙ (sym e ∙ f)))
-      | inr else' ↦
-        let g : source_text n ≡ decimal n = rw (ne_eqb n 25 else') refl in
-        decimal_injective m n (omega arith) (omega arith) (sym f ∙ (e ∙ g))
-    ]
+      let f : source_text m ≡ decimal m = rw (ne_eqb m 25 other) refl in
+      elim (cases_eq n 25) [
+        | inl is ↦
+            let g : source_text n ≡ codes "bar" = rw is refl in
+            absurd (numeral_short 98 97 114 m (omega arith) (sym g ∙ (sym e ∙ f)))
+        | inr else' ↦
+            let g : source_text n ≡ decimal n = rw (ne_eqb n 25 else') refl in
+            decimal_injective m n (omega arith) (omega arith) (sym f ∙ (e ∙ g))
+      ]
 ]
 
 pub same_target : (m n : ℕ) → m ≤ 24 → n ≤ 24 → target_text m ≡ target_text n → m ≡ n
 same_target m n a b e = elim (cases_eq m 0) [
-  inl is ↦ elim (cases_eq n 0) [
-    inl too ↦ omega arith
+  | inl is ↦ elim (cases_eq n 0) [
+    | inl too ↦ omega arith
     | inr other ↦
-      let f : target_text n ≡ decimal n = rw (ne_eqb n 0 other) refl in
-      let g : codes "off" ≡ target_text m = rw is refl in
-      absurd (numeral_short 111 102 102 n (omega arith) (g ∙ (e ∙ f)))
+        let f : target_text n ≡ decimal n = rw (ne_eqb n 0 other) refl in
+        let g : codes "off" ≡ target_text m = rw is refl in
+        absurd (numeral_short 111 102 102 n (omega arith) (g ∙ (e ∙ f)))
   ]
   | inr other ↦
-    let f : target_text m ≡ decimal m = rw (ne_eqb m 0 other) refl in
-    elim (cases_eq n 0) [
-      inl is ↦
-        let g : target_text n ≡ codes "off" = rw is refl in
-        absurd (numeral_short 111 102 102 m (omega arith) (sym g ∙ (sym e ∙ f)))
-      | inr else' ↦
-        let g : target_text n ≡ decimal n = rw (ne_eqb n 0 else') refl in
-        decimal_injective m n (omega arith) (omega arith) (sym f ∙ (e ∙ g))
-    ]
+      let f : target_text m ≡ decimal m = rw (ne_eqb m 0 other) refl in
+      elim (cases_eq n 0) [
+        | inl is ↦
+            let g : target_text n ≡ codes "off" = rw is refl in
+            absurd (numeral_short 111 102 102 m (omega arith) (sym g ∙ (sym e ∙ f)))
+        | inr else' ↦
+            let g : target_text n ≡ decimal n = rw (ne_eqb n 0 else') refl in
+            decimal_injective m n (omega arith) (omega arith) (sym f ∙ (e ∙ g))
+      ]
 ]
 
 step_by_ends : (s t : FromTo) → s.from ≡ t.from → s.to ≡ t.to → s ≡ t
@@ -209,11 +209,11 @@ step_by_ends s t e f =
 pub same_step : (s t : FromTo) → IsDownward s → IsDownward t → step_text s ≡ step_text t → s ≡ t
 same_step s t h k e =
     let cut : source_text s.from ∷ target_text s.to ∷ [] ≡ source_text t.from ∷ target_text t.to ∷ [] =
-        sym (cut_pair (step_text s) (step_shape s h)) ∙ (ap (slice_split (λ byte. byte == 45)) e ∙ cut_pair (step_text t) (step_shape t k)) in
+    sym (cut_pair (step_text s) (step_shape s h)) ∙ (ap (slice_split (λ byte. byte == 45)) e ∙ cut_pair (step_text t) (step_shape t k)) in
     let a : s.to < s.from = h.lower in
     let b : t.to < t.from = k.lower in
     let c : s.from ≤ 25 = h.starts in
     let d : t.from ≤ 25 = k.starts in
     step_by_ends s t
-        (same_source s.from t.from c d (same_first _ _ _ _ cut))
-        (same_target s.to t.to (omega arith) (omega arith) (same_second _ _ _ _ cut))
+    (same_source s.from t.from c d (same_first _ _ _ _ cut))
+    (same_target s.to t.to (omega arith) (omega arith) (same_second _ _ _ _ cut))

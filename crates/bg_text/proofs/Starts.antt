@@ -13,7 +13,7 @@ pub begins : (line start rest : List ℕ) → (pointwise nat_eq (take (length st
 begins line start rest (h, e, n) =
     sym (take-append-drop (length start) line)
     ∙ (ap (λ front. front ++ drop (length start) line) (same_text (take (length start) line) start (sym h))
-      ∙ ap (λ more. start ++ more) (sym e))
+    ∙ ap (λ more. start ++ more) (sym e))
 
 pub begins_not : (line start : List ℕ) → pointwise nat_eq (take (length start) line) start ≡ false → (rest : List ℕ) → line ≡ start ++ rest → ⊥
 begins_not line start h rest e =
