@@ -5,3 +5,4 @@ pub mod Moves
 pub mod ActionTexts
 pub mod Starts
 pub mod ActionLines
+pub mod EntryTexts
