@@ -6,3 +6,4 @@ pub mod ActionTexts
 pub mod Starts
 pub mod ActionLines
 pub mod EntryTexts
+pub mod EntryLines
