@@ -122,14 +122,15 @@ no_action_shape line pairs fixed (inr (inr h)) =
     let found = plain_fixed (words_of line) h in
     fixed found.0 found.1 (line_spaced line (action_words found.0) found.2)
 
+-- the texts of steps have the shape of pairs
+pub each_shape : (steps : List FromTo) → AllByRecursion IsDownward steps → AllByRecursion IsPairShape (map step_text steps)
+each_shape [] h = tt
+each_shape (step ∷ steps) h = (step_shape step h.0, each_shape steps h.1)
+
 -- what is wrong with a line is nothing that an action's text has
 pub no_fault : (line : List ℕ) (fault : TextFault) (a : Action) → IsActionTextFault fault line → IsAction a → line ≡ action_text a → ⊥
 no_fault line NotALine a h range e = h (rw (e, words_of_action a (downward_action a range)) (shape a range))
   where
-    each_shape : (steps : List FromTo) → AllByRecursion IsDownward steps → AllByRecursion IsPairShape (map step_text steps)
-    each_shape [] h = tt
-    each_shape (step ∷ steps) h = (step_shape step h.0, each_shape steps h.1)
-
     shape : (a : Action) → IsAction a → IsActionShape (action_words a)
     shape action.Roll h = inl refl
     shape action.Double h = inr (inr (0, omega arith, refl))

@@ -2,6 +2,8 @@
 use Rattle.std.specs.Prelude.{◌≡◌, ◌⊎◌, ℕ, ◌<◌, ◌≤◌, List, [], ◌∷◌, ◌++◌, length, map, Contains, Option, Some, None, Result, Ok, Err, codes}
 use Rattle.std.specs.List.{AllByRecursion}
 use Rattle.std.proofs.Common.{refl, sym, ◌∙◌, ap, arith, inl, inr}
+use Rattle.std.specs.Fmt.{decimal}
+use Rattle.bg_board.specs.Die.{pips}
 use Rattle.bg_board.specs.FromTo.{FromTo}
 use Rattle.bg_board.specs.declared.dice.Die.{Die}
 use Rattle.bg_board.specs.declared.players.Player.{Player}
@@ -12,8 +14,9 @@ use Rattle.bg_match.specs.declared.actions.Action.{Action}
 use Rattle.bg_match.specs.declared.actions.Action.TheVariants as action
 use Rattle.bg_match.specs.declared.entries.Entry.{Entry}
 use Rattle.bg_match.specs.declared.entries.Entry.TheVariants as entry
+use Rattle.bg_match.specs.declared.levels.Level.TheVariants.{Normal, Gammon, Backgammon}
 use Rattle.bg_text.specs.Words.{words_of, spaced}
-use Rattle.bg_text.specs.EntryText.{letter, dice_words, seat_words, entry_words, entry_text, action_words, action_text, IsSeatOf}
+use Rattle.bg_text.specs.EntryText.{letter, step_text, dice_words, seat_words, entry_words, entry_text, action_words, action_text, IsSeatOf}
 use Rattle.bg_text.specs.EntryShape.{IsDiceShape, IsSeatShape, IsEntryShape, IsActionShape, HasDownwardSteps, IsEntryTextFault, IsActionTextFault, IsPairShape}
 use Rattle.bg_text.specs.Pairs.{IsDiceFault, AreNumerals}
 use Rattle.bg_text.specs.Lines.{IsFixed, IsSeatEntry, IsSeatFault, IsEntryOf}
@@ -21,8 +24,9 @@ use Rattle.bg_text.specs.declared.faults.TextFault.{TextFault}
 use Rattle.bg_text.specs.declared.faults.TextFault.TheVariants.{NotALine, BadNumber, TooManySteps}
 use Rattle.bg_text.proofs.Splits.{words_not_nil, line_spaced}
 use Rattle.bg_text.proofs.ActionTexts.{first_sum}
-use Rattle.bg_text.proofs.ActionLines.{plain_fixed}
-use Rattle.bg_text.proofs.EntryTexts.{words_of_entry, words_of_line, downward_entry, no_letter, same_player, same_line}
+use Rattle.bg_text.proofs.PairTexts.{numeral_decimal}
+use Rattle.bg_text.proofs.ActionLines.{plain_fixed, each_shape}
+use Rattle.bg_text.proofs.EntryTexts.{pips_small, words_of_entry, words_of_line, downward_entry, no_letter, same_line}
 
 -- two dice behind the start of a line
 pub dice_line : (start numbers : List ℕ) (x o : Die) → words_of numbers ≡ dice_words x o → start ++ numbers ≡ start ++ spaced (dice_words x o)
@@ -68,9 +72,9 @@ roll_fault numbers NotALine h = no_shape
 roll_fault numbers BadNumber h = (
   inl (shape_of_numerals (codes "roll") (words_of numbers) h.0),
   λ e seat down text.
-    let words : codes "roll" ∷ words_of numbers ≡ entry_words e = ap words_of text ∙ words_of_entry e down in
-    let dice = dice_of_roll (words_of numbers) e seat words in
-    h.1 dice.0 dice.1 dice.2,
+      let words : codes "roll" ∷ words_of numbers ≡ entry_words e = ap words_of text ∙ words_of_entry e down in
+      let dice = dice_of_roll (words_of numbers) e seat words in
+      h.1 dice.0 dice.1 dice.2,
 )
 roll_fault numbers TooManySteps h = absurd h
 
@@ -86,6 +90,7 @@ seat_fault line BadNumber no_roll h = (shape h.0, text)
     shape : IsActionShape (words_of line) → IsSeatShape (words_of line)
     shape (inl roll) = absurd (h.1 action.Roll tt (line_spaced line (codes "roll" ∷ []) roll))
     shape (inr other) = inr other
+
     text : (e : Entry) → IsSeatEntry e → HasDownwardSteps e → line ≡ spaced (entry_words e) → ⊥
     text (entry.Opening x o) seat down e = seat
     text (entry.Rolled dice) seat down e = no_roll (spaced (dice_words dice.first dice.second)) e
@@ -123,9 +128,9 @@ open_fault numbers NotALine h = no_shape
 open_fault numbers BadNumber h = (
   inl (shape_of_numerals (codes "open") (words_of numbers) h.0),
   λ seat e of down text.
-    let words : codes "open" ∷ words_of numbers ≡ seat_words seat ++ entry_words e = ap words_of text ∙ words_of_line seat e down in
-    let dice = dice_of_opening (words_of numbers) seat e of words in
-    h.1 dice.0 dice.1 dice.2,
+      let words : codes "open" ∷ words_of numbers ≡ seat_words seat ++ entry_words e = ap words_of text ∙ words_of_line seat e down in
+      let dice = dice_of_opening (words_of numbers) seat e of words in
+      h.1 dice.0 dice.1 dice.2,
 )
 open_fault numbers TooManySteps h = absurd h
 
@@ -192,6 +197,59 @@ no_entry_shape line no_open no_player (inr (player, rest, e, shape)) = of rest e
         none : (a : Action) → [] ≡ action_words a → ⊥
         none action.Roll e = absurd cc
         none _ e = absurd cc
+
     of : (rest : List (List ℕ)) → words_of line ≡ letter player ∷ rest → IsSeatShape rest → ⊥
     of [] e shape = no_words shape
     of (word ∷ words) e shape = no_player player (spaced (word ∷ words)) (line_spaced line (letter player ∷ word ∷ words) e)
+
+die_shape : (word : List ℕ) (x o : Die) → IsDiceShape word (word ∷ dice_words x o)
+die_shape word x o = record {
+  first = decimal (pips x);
+  second = decimal (pips o);
+  spelled = refl;
+  first_numeral = numeral_decimal (pips x) (pips_small x);
+  second_numeral = numeral_decimal (pips o) (pips_small o);
+}
+
+seat_shape : (e : Entry) → IsSeatEntry e → HasDownwardSteps e → IsSeatShape (entry_words e)
+seat_shape (entry.Opening x o) h down = absurd h
+seat_shape (entry.Rolled dice) h down = inl (die_shape (codes "roll") dice.first dice.second)
+seat_shape entry.Doubled h down = inr (inr (0, omega arith, refl))
+seat_shape entry.Taken h down = inr (inr (1, omega arith, refl))
+seat_shape entry.Dropped h down = inr (inr (2, omega arith, refl))
+seat_shape (entry.Moved steps) h down = inr (inl (record { pairs = map step_text steps; spelled = refl; each = each_shape steps down }))
+seat_shape (entry.Resigned Normal) h down = inr (inr (3, omega arith, refl))
+seat_shape (entry.Resigned Gammon) h down = inr (inr (4, omega arith, refl))
+seat_shape (entry.Resigned Backgammon) h down = inr (inr (5, omega arith, refl))
+seat_shape entry.Accepted h down = inr (inr (6, omega arith, refl))
+seat_shape entry.Rejected h down = inr (inr (7, omega arith, refl))
+
+line_shape : (seat : Option Player) (e : Entry) → IsSeatOf seat e → HasDownwardSteps e → IsEntryShape (seat_words seat ++ entry_words e)
+line_shape (Some player) e of down = inr (player, entry_words e, refl, seat_shape e (seat_entry player e of) down)
+line_shape None (entry.Opening x o) of down = inl (die_shape (codes "open") x o)
+line_shape None (entry.Rolled dice) of down = absurd cc
+line_shape None entry.Doubled of down = absurd cc
+line_shape None entry.Taken of down = absurd cc
+line_shape None entry.Dropped of down = absurd cc
+line_shape None (entry.Moved steps) of down = absurd cc
+line_shape None (entry.Resigned level) of down = absurd cc
+line_shape None entry.Accepted of down = absurd cc
+line_shape None entry.Rejected of down = absurd cc
+
+-- what is wrong with a line is nothing that an entry's line has
+pub no_entry_fault : (line : List ℕ) (fault : TextFault) (seat : Option Player) (e : Entry) → IsEntryTextFault fault line → IsSeatOf seat e → IsEntry e → line ≡ entry_text seat e → ⊥
+no_entry_fault line NotALine seat e h of range text =
+    let down = downward_entry e range in
+    h (rw (text, words_of_line seat e down) (line_shape seat e of down))
+no_entry_fault line BadNumber seat e h of range text = h.1 seat e of (downward_entry e range) text
+no_entry_fault line TooManySteps seat e (player, steps, written, down, many) of range text =
+    let same = same_line seat (Some player) e (entry.Moved steps) (downward_entry e range) down (sym text ∙ written) in
+    let few : IsTurn steps = rw same.1 at range in
+    omega (arith, few.few)
+
+pub only_entry : (line : List ℕ) (result : Result (Option Player × Entry) TextFault) → IsEntryOf line result → (seat : Option Player) (e : Entry) → IsSeatOf seat e → IsEntry e → line ≡ entry_text seat e → result ≡ Ok (seat, e)
+only_entry line (Ok (other, found)) h seat e of range text =
+    let same = same_line other seat found e (downward_entry found h.1) (downward_entry e range) (sym h.2 ∙ text) in
+    let answer : Option Player → Entry → Result (Option Player × Entry) TextFault = λ by entry. Ok (by, entry) in
+    ap (λ by. answer by found) same.0 ∙ ap (answer seat) same.1
+only_entry line (Err fault) h seat e of range text = absurd (no_entry_fault line fault seat e h of range text)
