@@ -7,3 +7,4 @@ pub mod Starts
 pub mod ActionLines
 pub mod EntryTexts
 pub mod EntryLines
+pub mod MoveLines

@@ -5,6 +5,8 @@ mod faults;
 mod lines;
 mod pairs;
 mod words;
+mod writing;
 
 pub use faults::TextFault;
 pub use lines::{parse_action, parse_entry};
+pub use writing::entry_text;
