@@ -5,7 +5,7 @@ use Rattle.std.specs.List.{slice_split, All}
 use Rattle.std.specs.Str.{all_ascii_digits}
 use Rattle.std.proofs.Common.{refl, sym, ◌∙◌, ap, append_assoc, arith, inl, inr, rules, tests, true, false}
 use Rattle.std.proofs.lemmas.Bool.{cases_lt, cases_eq, ne_eqb}
-use Rattle.std.proofs.lemmas.Fmt.{decimal_digit}
+use Rattle.std.proofs.lemmas.Fmt.{decimal_digit, decimal_injective}
 use Rattle.std.proofs.lemmas.List.Elements.{All-cons, All-nil, All-append}
 use Rattle.bg_board.specs.FromTo.{FromTo}
 use Rattle.bg_turns.specs.Turn.{IsDownward}
@@ -157,3 +157,63 @@ step_from_ends word first second from to None e source target some value = (
       let none : false ≡ true = some.1 (omega arith, omega arith) in
       absurd cc,
 )
+
+pub same_source : (m n : ℕ) → m ≤ 25 → n ≤ 25 → source_text m ≡ source_text n → m ≡ n
+same_source m n a b e = elim (cases_eq m 25) [
+  | inl is ↦ elim (cases_eq n 25) [
+    | inl too ↦ omega arith
+    | inr other ↦
+        let f : source_text n ≡ decimal n = rw (ne_eqb n 25 other) refl in
+        let g : codes "bar" ≡ source_text m = rw is refl in
+        absurd (numeral_short 98 97 114 n (omega arith) (g ∙ (e ∙ f)))
+  ]
+  | inr other ↦
+      let f : source_text m ≡ decimal m = rw (ne_eqb m 25 other) refl in
+      elim (cases_eq n 25) [
+        | inl is ↦
+            let g : source_text n ≡ codes "bar" = rw is refl in
+            absurd (numeral_short 98 97 114 m (omega arith) (sym g ∙ (sym e ∙ f)))
+        | inr else' ↦
+            let g : source_text n ≡ decimal n = rw (ne_eqb n 25 else') refl in
+            decimal_injective m n (omega arith) (omega arith) (sym f ∙ (e ∙ g))
+      ]
+]
+
+pub same_target : (m n : ℕ) → m ≤ 24 → n ≤ 24 → target_text m ≡ target_text n → m ≡ n
+same_target m n a b e = elim (cases_eq m 0) [
+  | inl is ↦ elim (cases_eq n 0) [
+    | inl too ↦ omega arith
+    | inr other ↦
+        let f : target_text n ≡ decimal n = rw (ne_eqb n 0 other) refl in
+        let g : codes "off" ≡ target_text m = rw is refl in
+        absurd (numeral_short 111 102 102 n (omega arith) (g ∙ (e ∙ f)))
+  ]
+  | inr other ↦
+      let f : target_text m ≡ decimal m = rw (ne_eqb m 0 other) refl in
+      elim (cases_eq n 0) [
+        | inl is ↦
+            let g : target_text n ≡ codes "off" = rw is refl in
+            absurd (numeral_short 111 102 102 m (omega arith) (sym g ∙ (sym e ∙ f)))
+        | inr else' ↦
+            let g : target_text n ≡ decimal n = rw (ne_eqb n 0 else') refl in
+            decimal_injective m n (omega arith) (omega arith) (sym f ∙ (e ∙ g))
+      ]
+]
+
+step_by_ends : (s t : FromTo) → s.from ≡ t.from → s.to ≡ t.to → s ≡ t
+step_by_ends s t e f =
+    let step : ℕ → ℕ → FromTo = λ from to. record { from = from; to = to } in
+    ap (λ from. step from s.to) e ∙ ap (step t.from) f
+
+-- one pair is the text of one step
+pub same_step : (s t : FromTo) → IsDownward s → IsDownward t → step_text s ≡ step_text t → s ≡ t
+same_step s t h k e =
+    let cut : source_text s.from ∷ target_text s.to ∷ [] ≡ source_text t.from ∷ target_text t.to ∷ [] =
+    sym (cut_pair (step_text s) (step_shape s h)) ∙ (ap (slice_split (λ byte. byte == 45)) e ∙ cut_pair (step_text t) (step_shape t k)) in
+    let a : s.to < s.from = h.lower in
+    let b : t.to < t.from = k.lower in
+    let c : s.from ≤ 25 = h.starts in
+    let d : t.from ≤ 25 = k.starts in
+    step_by_ends s t
+    (same_source s.from t.from c d (same_first _ _ _ _ cut))
+    (same_target s.to t.to (omega arith) (omega arith) (same_second _ _ _ _ cut))

@@ -24,7 +24,8 @@ use Rattle.bg_text.specs.declared.judging.AddFault.TheVariants.{Refused}
 use Rattle.bg_text.specs.declared.faults.LineFault.{LineFault}
 use Rattle.bg_text.specs.declared.faults.LineFault.TheVariants.{Entry as RefusedEntry}
 use Rattle.bg_text.specs.declared.faults.TextFault.{TextFault}
-use Rattle.bg_text.proofs.TextLaws.{one_entry}
+use Rattle.bg_text.proofs.EntryTexts.{same_line}
+use Rattle.bg_text.proofs.EntryLines.{downward_entry}
 
 back_acts : (p : Player) (back : Option Dice) → IsSome (seat_of (actor_of (phase_back p back)))
 back_acts p None = refl
@@ -45,8 +46,9 @@ seat_acts s entry.Rejected t h = rw h.3 refl
 -- one line is that of one entry that follows
 pub one_line : (s : State) (line : List ℕ) (e e' : Entry) → IsLineAt s line e → IsLineAt s line e' → e ≡ e'
 one_line s line e e' h h' =
-    (one_entry (seat_of (actor_of s.phase)) (seat_of (actor_of s.phase)) e e' (seat_acts s e h.1.0 h.1.1) (seat_acts s e' h'.1.0 h'.1.1)
-    (Follows_in_range s e h.1.0 h.1.1) (Follows_in_range s e' h'.1.0 h'.1.1) (sym h.0 ∙ h'.0)).1
+    let range = downward_entry e (Follows_in_range s e h.1.0 h.1.1) in
+    let range' = downward_entry e' (Follows_in_range s e' h'.1.0 h'.1.1) in
+    (same_line (seat_of (actor_of s.phase)) (seat_of (actor_of s.phase)) e e' range range' (sym h.0 ∙ h'.0)).1
 
 pub AreLinesOf-Leads : (s : State) (entries : List Entry) (lines : List (List ℕ)) (t : State) → AreLinesOf s entries lines t → Leads s entries t
 AreLinesOf-Leads s [] [] t h = h

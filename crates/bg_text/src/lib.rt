@@ -11,11 +11,13 @@ mod printing;
 mod reasons;
 mod verdicts;
 mod words;
+mod writing;
 
 pub use board_texts::board_text;
 pub use faults::{LineFault, TextFault};
 pub use inputs::MOST_BYTES;
 pub use judging::{Judgement, judge, judge_text};
-pub use lines::parse_entry;
+pub use lines::{parse_action, parse_entry};
 pub use reasons::reason_text;
 pub use verdicts::{EngineFault, Verdict};
+pub use writing::entry_text;

@@ -1,14 +1,139 @@
 //! The lines of entries and actions.
-ghost use Rattle.std.specs.Prelude.{◌≡◌, Option, Ok, IfOk, IfErr};
+ghost use Rattle.std.specs.Prelude.{◌≡◌, ℕ, List, ◌∷◌, ◌++◌, Option, Ok, IfOk, IfErr, MatchOption, MatchResult};
 ghost use Rattle.bg_board.specs.declared.players.Player.{Player};
-ghost use Rattle.bg_match.specs.Entry.{IsEntry};
+ghost use Rattle.bg_match.specs.Entry.{IsEntry, IsAction};
+ghost use Rattle.bg_match.specs.declared.actions.Action.{Action};
 ghost use Rattle.bg_match.specs.declared.entries.Entry.{Entry};
-ghost use Rattle.bg_text.specs.EntryText.{entry_text, IsSeatOf};
-ghost use Rattle.bg_text.specs.EntryShape.{IsEntryTextFault};
+ghost use Rattle.bg_match.specs.declared.levels.Level.{Level};
+ghost use Rattle.bg_text.specs.EntryText.{letter, entry_text, action_text, level_word, IsSeatOf};
+ghost use Rattle.bg_text.specs.EntryShape.{IsEntryTextFault, IsActionTextFault};
+ghost use Rattle.bg_text.specs.Lines.{IsFixed, IsReply, IsActionOf, IsSeatEntryOf, IsEntryOf};
 
 use crate::TextFault;
+use crate::pairs::{parse_dice, parse_turn};
+use arrayvec::ArrayVec;
 use bg_board::Player;
-use bg_match::Entry;
+use bg_match::{Action, Entry, Level, entry_of};
+use bg_turns::{Dice, Turn};
+
+/// What follows the start of a line.
+fn rest_after<'a>(line: &'a [u8], start: &[u8]) -> Option<&'a [u8]>
+    ensures { MatchOption result ((rest : List ℕ) → line.now ≡ start.now ++ rest → ⊥)
+        (λ rest. line.now ≡ start.now ++ rest.now) }
+{
+    line.strip_prefix(start)
+}
+
+/// The level that a word names.
+fn parse_level(word: &[u8]) -> Option<Level>
+    ensures { MatchOption result ((level : Level) → word.now ≡ level_word level → ⊥)
+        (λ level. word.now ≡ level_word level) }
+{
+    match word {
+        b"normal" => Some(Level::Normal),
+        b"gammon" => Some(Level::Gammon),
+        b"backgammon" => Some(Level::Backgammon),
+        _ => None,
+    }
+}
+
+/// The reply that a line gives to an offer.
+fn parse_reply(line: &[u8]) -> Option<Action>
+    ensures { MatchOption result ((action : Action) → IsReply action → line.now ≡ action_text action → ⊥)
+        (λ action. IsReply action × (line.now ≡ action_text action)) }
+{
+    match line {
+        b"take" => Some(Action::Take),
+        b"drop" => Some(Action::Drop),
+        b"accept" => Some(Action::Accept),
+        b"reject" => Some(Action::Reject),
+        _ => None,
+    }
+}
+
+/// The action of a line without numbers.
+fn parse_fixed(line: &[u8]) -> Option<Action>
+    ensures { MatchOption result ((action : Action) → IsFixed action → line.now ≡ action_text action → ⊥)
+        (λ action. IsFixed action × (line.now ≡ action_text action)) }
+{
+    if let Some(word) = rest_after(line, b"resign ") {
+        return parse_level(word).map(Action::Resign);
+    }
+    match line {
+        b"roll" => Some(Action::Roll),
+        b"double" => Some(Action::Double),
+        b"move" => Some(Action::Move(Turn {
+            steps: ArrayVec::new(),
+        })),
+        _ => parse_reply(line),
+    }
+}
+
+/// The action of a line, or what is wrong with the line.
+fn read_action(line: &[u8]) -> Result<Action, TextFault>
+    ensures { IsActionOf line.now result }
+{
+    if let Some(pairs) = rest_after(line, b"move ") {
+        return Ok(Action::Move(parse_turn(pairs)?));
+    }
+    match parse_fixed(line) {
+        Some(action) => Ok(action),
+        None => Err(TextFault::NotALine),
+    }
+}
+
+/// The entry of a line behind a player's letter, or what is wrong with it.
+fn read_seat_entry(line: &[u8]) -> Result<Entry, TextFault>
+    ensures { IsSeatEntryOf line.now result }
+{
+    if let Some(numbers) = rest_after(line, b"roll ") {
+        let (first, second) = parse_dice(numbers)?;
+        return Ok(Entry::Rolled(Dice { first, second }));
+    }
+    // `roll` without dice is an action, and no entry
+    let action = read_action(line)?;
+    match entry_of(action, None) {
+        Some(entry) => Ok(entry),
+        None => Err(TextFault::NotALine),
+    }
+}
+
+/// The player whose letter a line begins with, and what follows the letter and its space.
+fn split_player(line: &[u8]) -> Option<(Player, &[u8])>
+    ensures { MatchOption result
+        ((player : Player) (rest : List ℕ) → line.now ≡ letter player ++ 32 ∷ rest → ⊥)
+        (λ found. line.now ≡ letter found.0 ++ 32 ∷ found.1.now) }
+{
+    match line {
+        [b'X', b' ', rest @ ..] => Some((Player::X, rest)),
+        [b'O', b' ', rest @ ..] => Some((Player::O, rest)),
+        _ => None,
+    }
+}
+
+/// The entry of a line and the seat that made it, or what is wrong with the line.
+fn read_entry(line: &[u8]) -> Result<(Option<Player>, Entry), TextFault>
+    ensures { IsEntryOf line.now result }
+{
+    if let Some(numbers) = rest_after(line, b"open ") {
+        let (x, o) = parse_dice(numbers)?;
+        return Ok((None, Entry::Opening(x, o)));
+    }
+    let Some((player, rest)) = split_player(line) else {
+        return Err(TextFault::NotALine);
+    };
+    let entry = read_seat_entry(rest)?;
+    Ok((Some(player), entry))
+}
+
+/// Reads the text of an action.
+pub fn parse_action(line: &[u8]) -> Result<Action, TextFault>
+    ensures found { IfOk result (λ action. IsAction action × (line.now ≡ action_text action)) }
+    ensures only { (action : Action) → IsAction action → line.now ≡ action_text action → result ≡ Ok action }
+    ensures fault { IfErr result (λ fault. IsActionTextFault fault line.now) }
+{
+    read_action(line)
+}
 
 /// Reads the line of an entry.
 pub fn parse_entry(line: &[u8]) -> Result<(Option<Player>, Entry), TextFault>
@@ -18,5 +143,5 @@ pub fn parse_entry(line: &[u8]) -> Result<(Option<Player>, Entry), TextFault>
         → line.now ≡ entry_text seat entry → result ≡ Ok (seat, entry) }
     ensures fault { IfErr result (λ fault. IsEntryTextFault fault line.now) }
 {
-    Err(TextFault::NotALine)
+    read_entry(line)
 }
