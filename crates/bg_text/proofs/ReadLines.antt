@@ -24,8 +24,7 @@ use Rattle.bg_text.specs.declared.judging.AddFault.TheVariants.{Refused}
 use Rattle.bg_text.specs.declared.faults.LineFault.{LineFault}
 use Rattle.bg_text.specs.declared.faults.LineFault.TheVariants.{Entry as RefusedEntry}
 use Rattle.bg_text.specs.declared.faults.TextFault.{TextFault}
-use Rattle.bg_text.proofs.EntryTexts.{same_line}
-use Rattle.bg_text.proofs.EntryLines.{downward_entry}
+use Rattle.bg_text.proofs.EntryTexts.{same_line, downward_entry}
 
 back_acts : (p : Player) (back : Option Dice) → IsSome (seat_of (actor_of (phase_back p back)))
 back_acts p None = refl
