@@ -4,9 +4,11 @@
 mod faults;
 mod lines;
 mod pairs;
+mod reasons;
 mod words;
 mod writing;
 
 pub use faults::TextFault;
 pub use lines::{parse_action, parse_entry};
-pub use writing::entry_text;
+pub use reasons::reason_text;
+pub use writing::{entry_text, entry_texts_differ};

@@ -3,6 +3,7 @@ ghost use Rattle.std.specs.Prelude.{◌≡◌, ◌+◌, ◌≤◌, ◌∷◌, �
 ghost use Rattle.std.specs.Fmt.{decimal};
 ghost use Rattle.arrayvec.specs.ArrayString.{array_string_len};
 ghost use Rattle.bg_text.specs.Words.{spaced};
+ghost use Rattle.bg_text.specs.Lines.{EntryTextsDiffer};
 ghost use Rattle.bg_text.specs.EntryText.{entry_text, entry_words, dice_words, step_text, source_text, target_text, level_word, IsSeatOf};
 
 use arrayvec::ArrayString;
@@ -24,6 +25,12 @@ pub fn entry_text(seat: Option<Player>, entry: &Entry) -> ArrayString<40>
     }
     push_entry(&mut line, entry);
     line
+}
+
+/// One line is the line of one entry: two entries with the same line are equal, and so are their seats.
+pub fn entry_texts_differ()
+    ensures { EntryTextsDiffer }
+{
 }
 
 fn push_entry(line: &mut ArrayString<40>, entry: &Entry)
