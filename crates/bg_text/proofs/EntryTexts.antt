@@ -20,9 +20,8 @@ use Rattle.bg_match.specs.declared.entries.Entry.TheVariants as entry
 use Rattle.bg_match.specs.declared.levels.Level.{Level}
 use Rattle.bg_match.specs.declared.levels.Level.TheVariants.{Normal, Gammon, Backgammon}
 use Rattle.bg_text.specs.Words.{words_of, spaced}
-use Rattle.bg_text.specs.EntryText.{letter, level_word, step_text, dice_words, seat_words, entry_words, entry_text, IsSeatOf}
+use Rattle.bg_text.specs.EntryText.{letter, level_word, step_text, dice_words, seat_words, entry_words, entry_text, IsSeatOf, EntryTextsDiffer}
 use Rattle.bg_text.specs.EntryShape.{HasDownwardSteps}
-use Rattle.bg_text.specs.Lines.{EntryTextsDiffer}
 use Rattle.bg_text.proofs.Splits.{IsWord, words_spaced}
 use Rattle.bg_text.proofs.PairTexts.{numeral_decimal, numeral_lacks}
 use Rattle.bg_text.proofs.ActionTexts.{step_words, same_steps, same_level, first_sum}

@@ -57,9 +57,3 @@ IsSeatEntryOf line (Err fault) = IsSeatFault fault line
 abbrev pub IsEntryOf : List ℕ → Result (Option Player × Entry) TextFault → Type 0
 IsEntryOf line (Ok found) = IsSeatOf found.0 found.1 × IsEntry found.1 × (line ≡ entry_text found.0 found.1)
 IsEntryOf line (Err fault) = IsEntryTextFault fault line
-
--- one line is the line of one entry, and of one seat
-abbrev pub EntryTextsDiffer : Type 0
-EntryTextsDiffer =
-    (seat other : Option Player) (a b : Entry) → IsEntry a → IsEntry b → entry_text seat a ≡ entry_text other b
-    → (seat ≡ other) × (a ≡ b)

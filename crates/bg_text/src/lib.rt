@@ -5,6 +5,8 @@ mod faults;
 mod lines;
 mod pairs;
 mod reasons;
+#[cfg(test)]
+mod tests;
 mod words;
 mod writing;
 
