@@ -20,7 +20,7 @@ use Rattle.bg_match.specs.declared.entries.Entry.TheVariants as entry
 use Rattle.bg_match.specs.declared.levels.Level.{Level}
 use Rattle.bg_match.specs.declared.levels.Level.TheVariants.{Normal, Gammon, Backgammon}
 use Rattle.bg_text.specs.Words.{words_of, spaced}
-use Rattle.bg_text.specs.EntryText.{letter, level_word, step_text, dice_words, seat_words, entry_words, entry_text, IsSeatOf}
+use Rattle.bg_text.specs.EntryText.{letter, level_word, step_text, dice_words, seat_words, entry_words, entry_text, IsSeatOf, EntryTextsDiffer}
 use Rattle.bg_text.specs.EntryShape.{HasDownwardSteps}
 use Rattle.bg_text.proofs.Splits.{IsWord, words_spaced}
 use Rattle.bg_text.proofs.PairTexts.{numeral_decimal, numeral_lacks}
@@ -194,3 +194,6 @@ same_line seat other a b h k e =
     from (Some p) (Some q) w =
         let first : letter p ≡ letter q = cc w in
         (ap Some (same_player p q first), same_entry_words a b h k (same_rest _ _ _ _ w))
+
+pub one_entry : EntryTextsDiffer
+one_entry seat other a b h k e = same_line seat other a b (downward_entry a h) (downward_entry b k) e

@@ -6,6 +6,7 @@ use Rattle.bg_board.specs.FromTo.{FromTo}
 use Rattle.bg_board.specs.declared.dice.Die.{Die}
 use Rattle.bg_board.specs.declared.players.Player.{Player}
 use Rattle.bg_board.specs.declared.players.Player.TheVariants.{X, O}
+use Rattle.bg_match.specs.Entry.{IsEntry}
 use Rattle.bg_match.specs.declared.actions.Action.{Action}
 use Rattle.bg_match.specs.declared.actions.Action.TheVariants as action
 use Rattle.bg_match.specs.declared.entries.Entry.{Entry}
@@ -62,6 +63,12 @@ entry_text seat e = spaced (seat_words seat ++ entry_words e)
 abbrev pub IsSeatOf : Option Player → Entry → Type 0
 IsSeatOf seat (entry.Opening x o) = seat ≡ None
 IsSeatOf seat _ = IsSome seat
+
+-- one line is the line of one entry, and of one seat
+abbrev pub EntryTextsDiffer : Type 0
+EntryTextsDiffer =
+    (seat other : Option Player) (a b : Entry) → IsEntry a → IsEntry b → entry_text seat a ≡ entry_text other b
+    → (seat ≡ other) × (a ≡ b)
 
 abbrev pub action_words : Action → List (List ℕ)
 action_words action.Roll = codes "roll" ∷ []

@@ -5,7 +5,7 @@ ghost use Rattle.bg_text.specs.Judging.{lines_of, IsLengthFault, IsDigitsFault, 
 ghost use Rattle.bg_text.specs.Transcript.{length_line};
 
 use crate::{EngineFault, LineFault};
-use crate::pairs::numeral;
+use crate::pairs::parse_numeral;
 use bg_match::{LONGEST_MATCH, SHORTEST_MATCH};
 use memchr::memchr;
 use std::alloc::Global;
@@ -69,7 +69,7 @@ fn parse_digits(digits: &[u8]) -> Result<u8, LineFault>
     ensures found { IfOk result (λ length. (SHORTEST_MATCH ≤ length) × (length ≤ LONGEST_MATCH) × (digits.now ≡ decimal length)) }
     ensures fault { IfErr result (λ fault. IsDigitsFault fault digits.now) }
 {
-    match (numeral(digits), digits) {
+    match (parse_numeral(digits), digits) {
         (Some(length @ SHORTEST_MATCH..=LONGEST_MATCH), _) => Ok(length),
         (Some(_), _) => Err(LineFault::LengthOutOfRange),
         (None, [b'0'..=b'9', b'0'..=b'9', b'0'..=b'9']) => Err(LineFault::LengthOutOfRange),

@@ -12,7 +12,7 @@ use crate::board_texts::board_text;
 use crate::inputs::{MOST_BYTES, parse_length, read_input, split_line};
 use crate::lines::parse_entry;
 use crate::printing::{push_number, push_text};
-use crate::reasons::{reason_text, text_reason};
+use crate::reasons::reason_text;
 use crate::{EngineFault, LineFault, Verdict};
 use bg_board::Player;
 use bg_match::{Entry, EntryFault, Record, Standing};
@@ -35,7 +35,7 @@ fn push_reason(out: &mut Vec<u8>, why: LineFault) -> Result<(), AllocError>
     match why {
         LineFault::NotALengthLine => push_text(out, "not a length line"),
         LineFault::LengthOutOfRange => push_text(out, "length out of range"),
-        LineFault::Text(fault) => push_text(out, text_reason(fault)),
+        LineFault::Text(fault) => push_text(out, fault.reason()),
         LineFault::WrongPlayer => push_text(out, "wrong player"),
         LineFault::Entry(fault) => push_text(out, reason_text(&fault).as_str()),
     }

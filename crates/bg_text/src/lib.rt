@@ -9,6 +9,8 @@ mod lines;
 mod pairs;
 mod printing;
 mod reasons;
+#[cfg(test)]
+mod tests;
 mod verdicts;
 mod words;
 mod writing;
@@ -20,4 +22,4 @@ pub use judging::{Judgement, judge, judge_text};
 pub use lines::{parse_action, parse_entry};
 pub use reasons::reason_text;
 pub use verdicts::{EngineFault, Verdict};
-pub use writing::entry_text;
+pub use writing::{entry_text, entry_texts_differ};

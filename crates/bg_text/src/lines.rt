@@ -126,7 +126,12 @@ fn read_entry(line: &[u8]) -> Result<(Option<Player>, Entry), TextFault>
     Ok((Some(player), entry))
 }
 
-/// Reads the text of an action.
+/// Reads the text of an action: an entry's line without the player's letter and its space, where `roll` stands
+/// without dice and `open` is no action (docs/FORMATS.md, "Actions").
+///
+/// It is `Ok` exactly on the texts of actions. The points of a move are in the player's own numbering, 25 standing
+/// for the bar and 0 for off; each step leads down. The faults are those of [`parse_entry`], in the same order.
+/// It takes no memory, and time linear in the line's length.
 pub fn parse_action(line: &[u8]) -> Result<Action, TextFault>
     ensures found { IfOk result (λ action. IsAction action × (line.now ≡ action_text action)) }
     ensures only { (action : Action) → IsAction action → line.now ≡ action_text action → result ≡ Ok action }
@@ -135,7 +140,19 @@ pub fn parse_action(line: &[u8]) -> Result<Action, TextFault>
     read_action(line)
 }
 
-/// Reads the line of an entry.
+/// Reads the line of an entry, without its line feed (docs/FORMATS.md, "Entry lines"). It gives the entry, and the
+/// seat that made it or none for an opening, which is the referee's.
+///
+/// It is `Ok` exactly on the texts of [`entry_text`](crate::entry_text), and gives what was written. The points of a
+/// move are in the numbering of the player whose letter begins the line, 25 standing for the bar and 0 for off; each
+/// step leads down. It takes no memory, and time linear in the line's length.
+///
+/// The whole line is tested for its shape, then for its numbers, then for the count of its steps:
+/// - [`TextFault::NotALine`]: the line has none of the shapes of an entry's line. A space more or less, and any byte
+///   that stands in no shape, make it another shape.
+/// - [`TextFault::BadNumber`]: a number has a leading zero or is out of its range, or a pair does not lead down, also
+///   behind the fourth pair.
+/// - [`TextFault::TooManySteps`]: a move has more than four pairs.
 pub fn parse_entry(line: &[u8]) -> Result<(Option<Player>, Entry), TextFault>
     ensures found { IfOk result (λ found. IsSeatOf found.0 found.1 × IsEntry found.1
         × (line.now ≡ entry_text found.0 found.1)) }

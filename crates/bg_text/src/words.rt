@@ -1,6 +1,6 @@
 //! The pieces of a text.
-ghost use Rattle.std.specs.Prelude.{◌≡◌, ◌==◌, ℕ, List, [], ◌∷◌, MatchOption};
-ghost use Rattle.std.specs.List.{slice_split};
+ghost use Rattle.std.specs.Prelude.{◌≡◌, ◌≢◌, ◌==◌, ℕ, List, [], ◌∷◌, ◌++◌, MatchOption};
+ghost use Rattle.std.specs.List.{All, slice_split};
 
 use std::marker::Model;
 
@@ -22,6 +22,7 @@ impl<'a> Model for Pieces<'a> {
 }
 
 impl<'a> Pieces<'a> {
+    /// The pieces of a text. Between two separators in a row stands an empty piece.
     pub(crate) fn new(text: &'a [u8], separator: u8) -> Pieces<'a>
         ensures { result ≡ slice_split (λ byte. byte == separator) text.now }
     {
@@ -32,6 +33,7 @@ impl<'a> Pieces<'a> {
         }
     }
 
+    /// The first piece that is left, which is then taken.
     pub(crate) fn next_piece(&mut self) -> Option<&'a [u8]>
         ensures { MatchOption result ((self.old ≡ []) × (self.new ≡ []))
             (λ piece. self.old ≡ piece.now ∷ self.new) }
@@ -51,9 +53,6 @@ impl<'a> Pieces<'a> {
         }
     }
 }
-
-ghost use Rattle.std.specs.Prelude.{◌++◌, ◌≢◌, false};
-ghost use Rattle.std.specs.List.{All};
 
 /// What stands before and after the first separator of a text.
 fn split_once(text: &[u8], separator: u8) -> Option<(&[u8], &[u8])>

@@ -3,7 +3,7 @@ ghost use Rattle.std.specs.Prelude.{◌≡◌, ◌+◌, ◌≤◌, ◌∷◌, �
 ghost use Rattle.std.specs.Fmt.{decimal};
 ghost use Rattle.arrayvec.specs.ArrayString.{array_string_len};
 ghost use Rattle.bg_text.specs.Words.{spaced};
-ghost use Rattle.bg_text.specs.EntryText.{entry_text, entry_words, dice_words, step_text, source_text, target_text, level_word, IsSeatOf};
+ghost use Rattle.bg_text.specs.EntryText.{entry_text, entry_words, dice_words, step_text, source_text, target_text, level_word, IsSeatOf, EntryTextsDiffer};
 
 use arrayvec::ArrayString;
 use bg_board::{Die, Player, Step};
@@ -11,7 +11,9 @@ use bg_match::{Entry, Level};
 use bg_turns::Turn;
 use itoa::Buffer;
 
-/// The line of an entry that this seat made, or the referee.
+/// The line of an entry, without a line feed, with the seat that made it (docs/FORMATS.md, "Entry lines"). An opening
+/// is the referee's and has no seat, and every other entry has one. The points of a move are in the numbering of that
+/// seat. The longest line has 34 bytes, a move of four steps from the bar to points above 9.
 pub fn entry_text(seat: Option<Player>, entry: &Entry) -> ArrayString<40>
     requires { IsSeatOf seat entry.now }
     ensures { result.bytes ≡ entry_text seat entry.now }
@@ -25,6 +27,11 @@ pub fn entry_text(seat: Option<Player>, entry: &Entry) -> ArrayString<40>
     push_entry(&mut line, entry);
     line
 }
+
+/// One line is the line of one entry: two entries with the same line are equal, and so are their seats.
+pub fn entry_texts_differ()
+    ensures { EntryTextsDiffer }
+{}
 
 fn push_entry(line: &mut ArrayString<40>, entry: &Entry)
     requires { array_string_len line.old ≤ 2 }
