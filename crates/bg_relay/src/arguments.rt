@@ -14,9 +14,11 @@ pub fn command(alloc: Global) -> Result<Command<'static>, Error> {
              `refused at line L: REASON`. Ends with status 0 where the transcript is good, 2 where it is\n\
              refused, and 1 where reading, writing or memory failed.",
         );
-    Ok(Command::new(alloc, "bg_relay")
-        .about("A backgammon match relay, proved")
-        .subcommand_required(true)
-        .arg_required_else_help(true)
-        .subcommand(judge)?)
+    Ok(
+        Command::new(alloc, "bg_relay")
+            .about("A backgammon match relay, proved")
+            .subcommand_required(true)
+            .arg_required_else_help(true)
+            .subcommand(judge)?,
+    )
 }

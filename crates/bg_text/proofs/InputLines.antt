@@ -32,7 +32,7 @@ pub three_digits : (a b c : ℕ) → 48 ≤ a → a ≤ 57 → 48 ≤ b → b �
 three_digits a b c la ha lb hb lc hc = (
   record { decimal_digits = search (rules, tests); some = omega arith; three = omega arith },
   λ n low high same. let short : length (decimal n) ≤ 2 = length-decimal-le 2 n (omega arith) (omega arith) (omega arith) in
-  let long : 3 ≡ length (decimal n) = ap length same in omega arith,
+      let long : 3 ≡ length (decimal n) = ap length same in omega arith,
 )
 
 pub three_digits_at : (ds : List ℕ) → length ds ≡ 3 → 48 ≤ get_or ds 0 0 → get_or ds 0 0 ≤ 57 → 48 ≤ get_or ds 1 0 → get_or ds 1 0 ≤ 57 → 48 ≤ get_or ds 2 0 → get_or ds 2 0 ≤ 57 → IsDigitsFault LengthOutOfRange ds

@@ -12,3 +12,4 @@ pub mod LineLists
 pub mod InputLines
 pub mod ReadLines
 pub mod PartRead
+pub mod WrittenLines

@@ -1,17 +1,18 @@
 -- How a transcript is read, line by line.
-use Rattle.std.specs.Prelude.{◌≡◌, ℕ, ◌<◌, ◌≤◌, List, [], ◌∷◌, ◌++◌, length, Option, Result, Ok}
+use Rattle.std.specs.Prelude.{◌≡◌, ℕ, ◌<◌, ◌≤◌, List, [], ◌∷◌, ◌++◌, ◌-◌, length, take, Option, Some, Result, Ok}
 use Rattle.bg_board.specs.declared.players.Player.{Player}
 use Rattle.bg_match.specs.Actor.{actor_of, seat_of}
 use Rattle.bg_match.specs.Entry.{IsEntry}
 use Rattle.bg_match.specs.Follows.{Follows}
-use Rattle.bg_match.specs.Match.{Log, StandsAt}
+use Rattle.bg_match.specs.Match.{Log, StandsAt, at_number}
 use Rattle.bg_match.specs.State.{State, start_of}
 use Rattle.bg_match.specs.declared.limits.TheConstants.{MOST_ENTRIES}
 use Rattle.bg_match.specs.declared.entries.Entry.{Entry}
 use Rattle.bg_match.specs.declared.entries.EntryFault.{EntryFault}
 use Rattle.bg_match.specs.declared.entries.EntryFault.TheVariants as entry_fault
 use Rattle.bg_text.specs.EntryText.{entry_text, IsSeatOf}
-use Rattle.bg_text.specs.Transcript.{AreLinesOf}
+use Rattle.bg_text.specs.BoardText.{line_text, lines_text}
+use Rattle.bg_text.specs.Transcript.{AreLinesOf, length_line}
 use Rattle.bg_text.specs.Judging.{IsWrongSeat, IsLineFault, lines_of}
 use Rattle.bg_text.specs.declared.faults.LineFault.{LineFault}
 use Rattle.bg_text.specs.declared.faults.LineFault.TheVariants.{Entry as RefusedEntry}
@@ -53,3 +54,16 @@ pub record IsPartRead (match_length : ℕ) (lines : List (List ℕ)) (r : Log) (
   pub entries : AreLinesOf (start_of match_length) r.entries done state
   pub few : length r.entries ≤ MOST_ENTRIES
   pub same_length : r.match_length ≡ match_length
+
+-- new is old with the line of the entry of this number
+abbrev pub AddsLineOf : Log → ℕ → List ℕ → List ℕ → Type 0
+AddsLineOf r number old new =
+    (s : State) × (e : Entry) × StandsAt r.match_length (take (number - 1) r.entries) s × (at_number r.entries number ≡ Some e)
+    × (new ≡ old ++ line_text (entry_text (seat_of (actor_of s.phase)) e))
+
+-- the lines so far of the transcript of a record, whose next entry has this number
+pub record IsPartWritten (r : Log) (number : ℕ) (text : List ℕ) : Type 0 where
+  pub lines : List (List ℕ)
+  pub state : State
+  pub each : AreLinesOf (start_of r.match_length) (take (number - 1) r.entries) lines state
+  pub written : text ≡ lines_text (length_line r.match_length ∷ lines)

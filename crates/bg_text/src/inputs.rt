@@ -4,8 +4,8 @@ ghost use Rattle.std.specs.Fmt.{decimal};
 ghost use Rattle.bg_text.specs.Judging.{lines_of, IsLengthFault, IsDigitsFault, IsReadOf};
 ghost use Rattle.bg_text.specs.Transcript.{length_line};
 
-use crate::{EngineFault, LineFault};
 use crate::pairs::parse_numeral;
+use crate::{EngineFault, LineFault};
 use bg_match::{LONGEST_MATCH, SHORTEST_MATCH};
 use memchr::memchr;
 use std::alloc::Global;

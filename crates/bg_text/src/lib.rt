@@ -11,6 +11,7 @@ mod printing;
 mod reasons;
 #[cfg(test)]
 mod tests;
+mod transcripts;
 mod verdicts;
 mod words;
 mod writing;
@@ -21,5 +22,6 @@ pub use inputs::MOST_BYTES;
 pub use judging::{Judgement, judge, judge_text};
 pub use lines::{parse_action, parse_entry};
 pub use reasons::reason_text;
+pub use transcripts::transcript_text;
 pub use verdicts::{EngineFault, Verdict};
 pub use writing::{entry_text, entry_texts_differ};
