@@ -1,0 +1,240 @@
+//! The board.
+ghost use Rattle.std.specs.Prelude.{◌≡◌, ◌≤◌, ◌<◌, ◌+◌, ◌-◌, ◌↔◌, ℕ, List, drop, sum, IsOk, IfOk, IfErr, length, slice_index};
+ghost use Rattle.std.specs.Bool.{OnTrue, OnFalse};
+ghost use Rattle.bg_board.specs.Die.{pips};
+ghost use Rattle.bg_board.specs.Position.{Position, IsPosition, AreApart, SharesPoint, count, count_above, checkers, opponent, position_of, start_position};
+
+use crate::{Die, Player, Step, StepFault};
+use std::marker::Model;
+use thiserror::Error;
+
+/// Why counts are no board (docs/RULES.md, "The board").
+#[derive(Clone, Copy, Debug, PartialEq, Eq, Error)]
+pub enum BoardFault {
+    /// A player does not have fifteen checkers.
+    #[error("a player does not have fifteen checkers")]
+    NotFifteen,
+    /// Both players have checkers on one point.
+    #[error("both players have checkers on one point")]
+    SharedPoint,
+}
+
+/// Where checkers are borne off to.
+const OFF: u8 = 0;
+
+/// The highest point of a player's home board.
+const HOME: u8 = 6;
+
+/// The bar.
+const BAR: u8 = 25;
+
+/// Where each player's fifteen checkers stand (docs/RULES.md, "The board").
+///
+/// Each player numbers the points his own way: 24 down to 1, then 0 for checkers that are off, and
+/// 25 for the bar. Point `p` of one player is point `25 - p` of the other, and no point from 1 to 24
+/// holds checkers of both.
+#[derive(Clone, Copy, Debug, PartialEq, Eq)]
+pub struct Board {
+    x: [u8; 26],
+    o: [u8; 26],
+}
+
+impl Model for Board {
+    ghost Value = { Position };
+
+    ghost view = { λ b. record { x = b.x; o = b.o } };
+
+    ghost invariant = { λ b. IsPosition (record { x = b.x; o = b.o }) };
+
+    ghost inverse = { λ p. record { x = p.x; o = p.o } };
+}
+
+impl Board {
+    ghost use Rattle.bg_board.specs.BoardFault.{IsBoardFault};
+    ghost use Rattle.bg_board.specs.Step.{IsStep, after_step, IsStepFault, carried, hit_by};
+
+    /// The board at the start of a game: for each player two checkers on 24, five on 13, three on 8
+    /// and five on 6.
+    pub fn start() -> Board
+        ensures { result ≡ start_position }
+    {
+        const START: [u8; 26] = [
+            0, 0, 0, 0, 0, 0, 5, 0, 3, 0, 0, 0, 0, 5, 0, 0, 0, 0, 0, 0, 0, 0, 0, 0, 2, 0,
+        ];
+        Board { x: START, o: START }
+    }
+
+    /// The board with these checkers of X and of O, each list by the player's own numbering: how many
+    /// stand on point 0 (off), 1, .., 25 (the bar).
+    ///
+    /// # Errors
+    ///
+    /// Tested in this order:
+    /// 1. [`BoardFault::NotFifteen`]: one of the lists does not add up to fifteen.
+    /// 2. [`BoardFault::SharedPoint`]: for a point `p` from 1 to 24, X has a checker on his `p` and O
+    ///    one on his `25 - p`.
+    pub fn from_counts(x: [u8; 26], o: [u8; 26]) -> Result<Board, BoardFault>
+        ensures ok { IsOk result ↔ IsPosition (record { x = x; o = o }) }
+        ensures value { IfOk result (λ board. board ≡ record { x = x; o = o }) }
+        ensures fault { IfErr result (λ fault. IsBoardFault fault (record { x = x; o = o })) }
+    {
+        if total(&x) != 15 || total(&o) != 15 {
+            return Err(BoardFault::NotFifteen);
+        }
+        if share_a_point(&x, &o) {
+            return Err(BoardFault::SharedPoint);
+        }
+        Ok(Board { x, o })
+    }
+
+    /// How many checkers, 0 to 15, the player has on a point of his own numbering: 0 is off, 25 is the
+    /// bar.
+    pub fn count(&self, player: Player, point: u8) -> u8
+        requires { point ≤ 25 }
+        ensures value { result ≡ count self.now player point }
+        ensures board { IsPosition self.now }
+    {
+        self.checkers(player)[usize::from(point)]
+    }
+
+    /// How many checkers, 0 to 15, the player has above a point of his own numbering, those on the bar
+    /// included.
+    pub fn count_above(&self, player: Player, point: u8) -> u8
+        requires { point ≤ 25 }
+        ensures value { result ≡ count_above self.now player point }
+        ensures board { IsPosition self.now }
+    {
+        let above = usize::from(point) + 1;
+        total(&self.checkers(player)[above..]) as u8
+    }
+
+    /// Plays one checker's step by this die, and gives the board after it: the checker stands on its
+    /// landing point, and a single opposing checker there has gone to its bar (docs/RULES.md, "A step").
+    ///
+    /// # Errors
+    ///
+    /// Tested in this order:
+    /// 1. [`StepFault::NoChecker`]: the player has no checker where the step begins.
+    /// 2. [`StepFault::BarFirst`]: he has a checker on the bar, and the step begins elsewhere.
+    /// 3. [`StepFault::WrongLanding`]: the step does not end as many points lower as the die shows, or
+    ///    at 0 where that would be 0 or less.
+    /// 4. [`StepFault::Blocked`]: the step ends on a point from 1 to 24 that holds two or more opposing
+    ///    checkers.
+    /// 5. [`StepFault::NotAllHome`]: the step bears off, and one of his checkers stands above 6.
+    /// 6. [`StepFault::HigherChecker`]: the step bears off from below the die's number, and one of his
+    ///    checkers stands above it.
+    pub fn play_step(&self, player: Player, step: Step, die: Die) -> Result<Board, StepFault>
+        ensures ok { IsOk result ↔ IsStep self.now player step (pips die) }
+        ensures after { IfOk result (λ board. board ≡ after_step self.now player step) }
+        ensures fault { IfErr result (λ fault. IsStepFault fault self.now player step (pips die)) }
+    {
+        let from = step.from();
+        let to = step.to();
+        let pips = die.pips();
+        if self.count(player, from) == 0 {
+            return Err(StepFault::NoChecker);
+        }
+        if from != BAR && self.count(player, BAR) > 0 {
+            return Err(StepFault::BarFirst);
+        }
+        if to != from.saturating_sub(pips) {
+            return Err(StepFault::WrongLanding);
+        }
+        if to != OFF && self.count(player.opponent(), BAR - to) > 1 {
+            return Err(StepFault::Blocked);
+        }
+        if to == OFF && self.count_above(player, HOME) > 0 {
+            return Err(StepFault::NotAllHome);
+        }
+        if to == OFF && from < pips && self.count_above(player, from) > 0 {
+            return Err(StepFault::HigherChecker);
+        }
+        Ok(self.after_step(player, step, die))
+    }
+
+    /// The board after a legal step.
+    fn after_step(&self, player: Player, step: Step, die: Die) -> Board
+        requires { IsStep self.now player step (pips die) }
+        ensures { result ≡ after_step self.now player step }
+    {
+        let from = usize::from(step.from());
+        let to = usize::from(step.to());
+        let own = carried(*self.checkers(player), from, to);
+        let other = hit_by(*self.checkers(player.opponent()), to);
+        Self::of_players(player, own, other)
+    }
+
+    /// The board where the player has these checkers, and his opponent those.
+    fn of_players(player: Player, own: [u8; 26], other: [u8; 26]) -> Board
+        requires { IsPosition (position_of player own other) }
+        ensures { result ≡ position_of player own other }
+    {
+        match player {
+            Player::X => Board { x: own, o: other },
+            Player::O => Board { x: other, o: own },
+        }
+    }
+
+    /// The player's checkers, by point.
+    fn checkers(&self, player: Player) -> &[u8; 26]
+        ensures value { result.now ≡ checkers self.now player }
+        ensures board { IsPosition self.now }
+    {
+        match player {
+            Player::X => &self.x,
+            Player::O => &self.o,
+        }
+    }
+}
+
+/// Whether both players have checkers on one point.
+fn share_a_point(own: &[u8; 26], other: &[u8; 26]) -> bool
+    ensures shared { OnTrue result (SharesPoint own.now other.now) }
+    ensures apart { OnFalse result (AreApart own.now other.now) }
+{
+    for point in 1..25 {
+        if own[point] > 0 && other[25 - point] > 0 {
+            return true;
+        }
+    }
+    false
+}
+
+/// How many checkers there are.
+fn total(counts: &[u8]) -> u32
+    requires { length counts.now ≤ 26 }
+    ensures { result ≡ sum counts.now }
+{
+    counts.iter().map(|count| u32::from(*count)).sum()
+}
+
+ghost use Rattle.bg_board.specs.Step.{carried as carried_counts, hit_by as hit_counts};
+
+/// One checker is carried from a point to another.
+fn carried(counts: [u8; 26], from: usize, to: usize) -> [u8; 26]
+    requires starts { from ≤ 25 }
+    requires lands { to ≤ 25 }
+    requires checker { 0 < slice_index counts from }
+    requires fifteen { sum counts ≡ 15 }
+    ensures { result ≡ carried_counts counts from to }
+{
+    let mut after = counts;
+    after[from] -= 1;
+    after[to] += 1;
+    after
+}
+
+/// A single checker where the opponent lands goes to the bar.
+fn hit_by(counts: [u8; 26], landing: usize) -> [u8; 26]
+    requires lands { landing ≤ 24 }
+    requires fifteen { sum counts ≡ 15 }
+    ensures { result ≡ hit_counts counts landing }
+{
+    const BAR: usize = 25;
+    let mut after = counts;
+    if landing > 0 && after[BAR - landing] == 1 {
+        after[BAR - landing] = 0;
+        after[BAR] += 1;
+    }
+    after
+}
