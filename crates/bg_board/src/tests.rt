@@ -1,0 +1,115 @@
+//! Worked positions.
+use crate::{Board, BoardFault, Die, Player, Step, StepFault};
+use std::test::Fail;
+
+fn counts(points: &[(usize, u8)]) -> [u8; 26] {
+    let mut counts = [0; 26];
+    for &(point, count) in points {
+        if point < 26 {
+            counts[point] = count;
+        }
+    }
+    counts
+}
+
+#[test]
+fn ranges(rt: HostRuntime) -> Result<(), Fail> {
+    for (number, shown) in [(0, None), (1, Some(1)), (6, Some(6)), (7, None)] {
+        assert!(rt;
+            Die::new(number).map(|die| die.pips()) == shown,
+            "die {number}"
+        );
+    }
+    for (from, to, good) in [
+        (25, 24, true),
+        (26, 25, false),
+        (1, 0, true),
+        (0, 0, false),
+        (6, 6, false),
+        (6, 7, false),
+    ] {
+        assert!(rt; Step::new(from, to).is_some() == good, "{from}-{to}");
+    }
+    let start = Board::start();
+    for (point, count, above) in [(0, 0, 15), (6, 5, 10), (8, 3, 7), (13, 5, 2), (24, 2, 0)] {
+        assert_eq!(rt; start.count(Player::O, point), count, "on {point}");
+        assert_eq!(rt; start.count_above(Player::O, point), above, "above {point}");
+    }
+    Ok(())
+}
+
+#[test]
+fn counts_refused(rt: HostRuntime) -> Result<(), Fail> {
+    let fifteen = counts(&[(1, 15)]);
+    let fourteen = counts(&[(1, 14)]);
+    let across = counts(&[(24, 1), (0, 14)]);
+    let not_fifteen = Some(BoardFault::NotFifteen);
+    let shared = Some(BoardFault::SharedPoint);
+    for (x, o, fault) in [
+        (fifteen, fifteen, None),
+        (fourteen, across, not_fifteen),
+        (across, fourteen, not_fifteen),
+        (fifteen, across, shared),
+        (across, fifteen, shared),
+    ] {
+        assert!(rt; Board::from_counts(x, o).err() == fault);
+    }
+    Ok(())
+}
+
+/// Each refusal, in their order, by steps that the later ones would refuse too where that can be.
+#[test]
+fn steps_refused(rt: HostRuntime) -> Result<(), Fail> {
+    let start = counts(&[(24, 2), (13, 5), (8, 3), (6, 5)]);
+    let on_bar = counts(&[(25, 1), (24, 1), (13, 5), (8, 3), (6, 5)]);
+    let one_outside = counts(&[(13, 1), (5, 1), (3, 1), (0, 12)]);
+    let home = counts(&[(5, 1), (3, 1), (0, 13)]);
+    let low = counts(&[(3, 2), (1, 1), (0, 12)]);
+    let away = counts(&[(0, 15)]);
+    for (x, o, from, to, die, fault) in [
+        (on_bar, start, 12, 11, Die::Six, Some(StepFault::NoChecker)),
+        (on_bar, start, 24, 18, Die::Six, Some(StepFault::BarFirst)),
+        (
+            start,
+            start,
+            24,
+            19,
+            Die::Six,
+            Some(StepFault::WrongLanding),
+        ),
+        (start, start, 24, 19, Die::Five, Some(StepFault::Blocked)),
+        (
+            one_outside,
+            away,
+            3,
+            0,
+            Die::Four,
+            Some(StepFault::NotAllHome),
+        ),
+        (home, away, 3, 0, Die::Four, Some(StepFault::HigherChecker)),
+        (home, away, 3, 0, Die::Three, None),
+        (low, away, 3, 0, Die::Four, None),
+        (on_bar, start, 25, 20, Die::Five, None),
+        (start, start, 24, 18, Die::Six, None),
+    ] {
+        let board = Board::from_counts(x, o)?;
+        let step = Step::new(from, to).ok_or("step")?;
+        assert!(rt;
+            board.play_step(Player::X, step, die).err() == fault,
+            "{from}-{to}"
+        );
+    }
+    Ok(())
+}
+
+#[test]
+fn hit(rt: HostRuntime) -> Result<(), Fail> {
+    let before = Board::from_counts(counts(&[(8, 2), (0, 13)]), counts(&[(20, 1), (6, 14)]))?;
+    let after = Board::from_counts(
+        counts(&[(8, 1), (5, 1), (0, 13)]),
+        counts(&[(25, 1), (6, 14)]),
+    )?;
+    let step = Step::new(8, 5).ok_or("step")?;
+    assert!(rt; before.play_step(Player::X, step, Die::Three) == Ok(after));
+    Ok(())
+}
