@@ -1,5 +1,5 @@
 -- The mark of a standing is that of the list of scores.
-use Rattle.std.proofs.Common.{◌≡◌, ◌≢◌, ◌↔◌, ℕ, ◌+◌, ◌*◌, Bool, true, false, cond, eqb, ltb, eq-eqb, Option, Some, None, List, [], ◌∷◌, refl, sym, ◌∙◌, ap, arith}
+use Rattle.std.proofs.Common.{◌≡◌, ◌≢◌, ◌↔◌, ℕ, ◌+◌, ◌*◌, Bool, true, false, cond, eqb, ltb, eq-eqb, Option, Some, None, List, [], ◌∷◌, refl, sym, ◌∙◌, ap, subst, arith}
 use Rattle.std.proofs.lemmas.Bool.{cond-true, cond-false, ne_eqb}
 use Rattle.std.proofs.lemmas.Bool.Decides.{nat_tests}
 use Rattle.bg_board.specs.Position.{Position, opponent}
@@ -14,7 +14,8 @@ use Rattle.bg_match.specs.declared.entries.Entry.TheVariants as entry
 use Rattle.bg_match.specs.Level.{points, level_of}
 use Rattle.bg_match.specs.State.{State, IsRunning, scored, next_game, after_win, start_of, is_crawford, greater_score}
 use Rattle.bg_match.specs.Follows.{Follows, phase_back, after_level}
-use Rattle.bg_match.specs.Match.{LeadsWithScores, scores_then, IsCrawfordGame, MarksCrawford}
+use Rattle.bg_match.specs.Match.{Leads, LeadsWithScores, scores_then, IsCrawfordGame, MarksCrawford}
+use Rattle.bg_match.proofs.MatchLength.{match_length-StandsAt}
 
 -- the mark by the scores
 abbrev mark_of : ℕ → List ℕ → Bool
@@ -122,7 +123,14 @@ mark_is match_length [] = (λ h. cc, λ h. absurd h)
 mark_is match_length (latest ∷ []) = (λ h. grind (arith, nat_tests), λ h. grind (arith, nat_tests))
 mark_is match_length (latest ∷ before ∷ rest) = (λ h. (grind (arith, nat_tests), grind (arith, nat_tests)), λ h. grind (arith, nat_tests))
 
+without_scores : (s : State) (scores : List ℕ) (entries : List Entry) (t : State) (all : List ℕ) → LeadsWithScores s scores entries t all → Leads s entries t
+without_scores s scores [] t all l = l.0
+without_scores s scores (e ∷ rest) t all l = (l.0, l.1, without_scores l.0 (scores_then s l.0 scores) rest t all l.2)
+
 pub marks_crawford : MarksCrawford
 marks_crawford match_length entries t scores l =
     let h = leads_agrees (start_of match_length) (0 ∷ []) entries t scores (record { mark = refl; latest = λ _. refl }) l in
-    (λ yes'. (mark_is t.match_length scores).0 (sym h.mark ∙ yes'), λ game. h.mark ∙ (mark_is t.match_length scores).1 game)
+    let by_scores : (t.crawford ≡ true) ↔ IsCrawfordGame t.match_length scores =
+    (λ marked. (mark_is t.match_length scores).0 (sym h.mark ∙ marked), λ game. h.mark ∙ (mark_is t.match_length scores).1 game) in
+    let same = match_length-StandsAt match_length entries t (without_scores (start_of match_length) (0 ∷ []) entries t scores l) in
+    subst (λ n. (t.crawford ≡ true) ↔ IsCrawfordGame n scores) same by_scores

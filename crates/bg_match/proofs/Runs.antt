@@ -1,19 +1,21 @@
 -- A list of entries leads to one standing.
-use Rattle.std.proofs.Common.{◌≡◌, ℕ, ◌*◌, ◌<◌, Option, Some, None, List, [], ◌∷◌, ◌++◌, length, refl, sym, ◌∙◌, ap, subst}
+use Rattle.std.proofs.Common.{◌≡◌, ◌↔◌, ℕ, ◌*◌, ◌<◌, Option, Some, None, List, [], ◌∷◌, ◌++◌, length, length-append, refl, sym, ◌∙◌, ap, subst, arith}
 use Rattle.bg_board.specs.declared.players.Player.{Player}
 use Rattle.bg_turns.specs.declared.throws.Dice.{Dice}
 use Rattle.bg_board.specs.Position.{opponent}
-use Rattle.bg_turns.specs.Turn.{after_steps}
+use Rattle.bg_turns.specs.Turn.{IsLegalTurn, after_steps}
+use Rattle.bg_board.specs.FromTo.{FromTo}
+use Rattle.bg_match.specs.declared.limits.TheConstants.{MOST_ENTRIES}
 use Rattle.bg_match.specs.declared.levels.Level.{Level}
 use Rattle.bg_match.specs.declared.phases.Phase.TheVariants as phase
 use Rattle.bg_match.specs.declared.entries.Entry.{Entry}
 use Rattle.bg_match.specs.declared.entries.Entry.TheVariants as entry
 use Rattle.bg_match.specs.Level.{points}
 use Rattle.bg_match.specs.State.{State, after_win, start_of}
-use Rattle.bg_match.specs.Follows.{Follows, IsEntryFault, phase_back, after_turn}
+use Rattle.bg_match.specs.Follows.{Follows, CanFollow, IsEntryFault, phase_back, after_turn}
 use Rattle.bg_match.specs.declared.entries.EntryFault.{EntryFault}
 use Rattle.bg_match.specs.declared.entries.EntryFault.TheVariants as fault
-use Rattle.std.specs.Prelude.{Result, Ok, Err, IfOk, IfErr, OnErr}
+use Rattle.std.specs.Prelude.{Result, Ok, Err, IfOk, IfErr}
 use Rattle.bg_match.specs.Match.{Leads, StandsAt, IsLegalRecord, IsRecordFault}
 
 phase_back-player : (p q : Player) (a b : Option Dice) → phase_back p a ≡ phase_back q b → p ≡ q
@@ -73,19 +75,17 @@ Leads-last s (d ∷ entries) e m t h k =
     let same = Follows-same s d k.0 h.0 k.1 h.1 in
     Leads-last h.0 entries e m t h.2 (subst (λ (x : State). Leads x (entries ++ e ∷ []) t) same k.2)
 
--- no longer legal
-pub illegal_from_follows : (match_length : ℕ) (entries : List Entry) (e : Entry) (m : State) → StandsAt match_length entries m → ((t : State) → Follows m e t → ⊥) → IsLegalRecord match_length (entries ++ e ∷ []) → ⊥
-illegal_from_follows match_length entries e m at never legal = never legal.1.0 (Leads-last (start_of match_length) entries e m legal.1.0 at legal.1.1)
-
 -- what the standing says of an entry, said of the record
-module _ (match_length : ℕ) (entries : List Entry) (e : Entry) (m : State) (at : StandsAt match_length entries m) (few : length entries < 65535) where
-  pub after_ok : (r : Result State EntryFault) → IfOk r (λ t. Follows m e t) → IfOk r (λ t. (length entries < 65535) × StandsAt match_length (entries ++ e ∷ []) t)
-  after_ok (Ok t) h = (few, Leads-push (start_of match_length) entries e m t at h)
-  after_ok (Err why) h = tt
+module _ (match_length : ℕ) (entries : List Entry) (e : Entry) (m : State) (at : StandsAt match_length entries m) (few : length entries < MOST_ENTRIES) where
+  pub legal_follow : IsLegalRecord match_length (entries ++ e ∷ []) ↔ CanFollow m e
+  legal_follow = (
+    λ legal. (legal.1.0, Leads-last (start_of match_length) entries e m legal.1.0 at legal.1.1),
+    λ can. (omega (arith, length-append entries (e ∷ [])), (can.0, Leads-push (start_of match_length) entries e m can.0 at can.1)),
+  )
 
-  pub after_err : (r : Result State EntryFault) → OnErr r ((t : State) → Follows m e t → ⊥) → OnErr r (IsLegalRecord match_length (entries ++ e ∷ []) → ⊥)
-  after_err (Ok t) h = tt
-  after_err (Err why) h = illegal_from_follows match_length entries e m at h
+  pub after_follow : (r : Result State EntryFault) → IfOk r (λ t. Follows m e t) → IfOk r (λ t. (length entries < MOST_ENTRIES) × StandsAt match_length (entries ++ e ∷ []) t)
+  after_follow (Ok t) h = (few, Leads-push (start_of match_length) entries e m t at h)
+  after_follow (Err why) h = tt
 
   record_fault : (why : EntryFault) (id spare : ℕ) → IsEntryFault why m e → IsRecordFault why (record { id = id; match_length = match_length; entries = entries; spare = spare }) e
   record_fault fault.RecordFull id spare h = absurd h
@@ -99,3 +99,14 @@ module _ (match_length : ℕ) (entries : List Entry) (e : Entry) (m : State) (at
   pub after_fault : (r : Result State EntryFault) (id spare : ℕ) → IfErr r (λ why. IsEntryFault why m e) → IfErr r (λ why. IsRecordFault why (record { id = id; match_length = match_length; entries = entries; spare = spare }) e)
   after_fault (Ok t) id spare h = tt
   after_fault (Err why) id spare h = record_fault why id spare h
+
+-- a turn that is to be moved may follow exactly where it is legal
+pub CanFollow-Moved : (s : State) (p : Player) (dice : Dice) (turn : List FromTo) → s.phase ≡ phase.ToMove p dice → CanFollow s (entry.Moved turn) ↔ IsLegalTurn s.board p dice turn
+CanFollow-Moved s p dice turn is = (
+  λ h. (
+      let same : phase.ToMove h.1.0 h.1.1 ≡ phase.ToMove p dice = sym h.1.2 ∙ is in
+      let player : h.1.0 ≡ p = cc in
+      let thrown : h.1.1 ≡ dice = cc in
+      subst (λ (d : Dice). IsLegalTurn s.board p d turn) thrown (subst (λ (q : Player). IsLegalTurn s.board q h.1.1 turn) player h.1.3)),
+  λ legal. (after_turn s p (after_steps s.board p turn), (p, dice, is, legal, refl)),
+)

@@ -4,11 +4,12 @@ use Rattle.std.specs.Int.{IsPowerOfTwo}
 use Rattle.bg_board.specs.Position.{Position, start_position}
 use Rattle.bg_board.specs.declared.players.Player.{Player}
 use Rattle.bg_board.specs.declared.players.Player.TheVariants.{X, O}
+use Rattle.bg_match.specs.declared.limits.TheConstants.{SHORTEST_MATCH, LONGEST_MATCH, GREATEST_CUBE, GREATEST_SCORE}
 use Rattle.bg_match.specs.declared.phases.Cube.{Cube}
 use Rattle.bg_match.specs.declared.phases.Phase.{Phase}
 use Rattle.bg_match.specs.declared.phases.Phase.TheVariants.{Opening, Doubled, Over}
 
--- what contracts see of a `Standing`
+-- what contracts see of a `Standing`: `crawford` marks the game that is played without the cube, `game` is its number
 pub record State : Type 0 where
   pub match_length : ℕ
   pub board : Position
@@ -23,10 +24,10 @@ abbrev pub score_of : State → Player → ℕ
 score_of s X = s.x_score
 score_of s O = s.o_score
 
--- both scores are below the match length, except that the winner's has reached it
+-- both scores are below the length of the match, except that the winner's has reached it
 abbrev pub AreScoresOf : Phase → ℕ → ℕ → ℕ → Type 0
-AreScoresOf (Over X) match_length x o = (match_length ≤ x) × (x ≤ 482) × (o < match_length)
-AreScoresOf (Over O) match_length x o = (match_length ≤ o) × (o ≤ 482) × (x < match_length)
+AreScoresOf (Over X) match_length x o = (match_length ≤ x) × (x ≤ GREATEST_SCORE) × (o < match_length)
+AreScoresOf (Over O) match_length x o = (match_length ≤ o) × (o ≤ GREATEST_SCORE) × (x < match_length)
 AreScoresOf _ match_length x o = (x < match_length) × (o < match_length)
 
 -- the match goes on
@@ -34,14 +35,15 @@ abbrev pub IsRunning : Phase → Type 0
 IsRunning (Over p) = ⊥
 IsRunning _ = Unit {0}
 
--- the cube may still be turned while a double is answered
+-- the cube is not yet at its greatest while a double is answered
 abbrev pub IsCubeOf : Phase → ℕ → Type 0
-IsCubeOf (Doubled q) value = value < 128
-IsCubeOf _ value = value ≤ 128
+IsCubeOf (Doubled q) value = value < GREATEST_CUBE
+IsCubeOf _ value = value ≤ GREATEST_CUBE
 
+-- what every `Standing` keeps
 pub record IsState (s : State) : Type 0 where
-  pub shortest : 1 ≤ s.match_length
-  pub longest : s.match_length ≤ 99
+  pub shortest : SHORTEST_MATCH ≤ s.match_length
+  pub longest : s.match_length ≤ LONGEST_MATCH
   pub cube_value : IsPowerOfTwo s.cube.value
   pub cube_limit : IsCubeOf s.phase s.cube.value
   pub middle : (s.cube.owner ≡ None) ↔ (s.cube.value ≡ 1)
@@ -49,7 +51,8 @@ pub record IsState (s : State) : Type 0 where
   pub first_game : 1 ≤ s.game
   pub games : s.game ≤ s.x_score + s.o_score + 1
 
--- the greater score before a game, and that before the game before it, say whether it is played without the cube
+-- whether a game is played without the cube: the greater score before it is one point short of the match, and it is
+-- the first game or the greater score before the game before it was less
 abbrev pub is_crawford : ℕ → Option ℕ → ℕ → Bool
 is_crawford match_length None greater = greater + 1 == match_length
 is_crawford match_length (Some before) greater = greater + 1 == match_length && nat_lt before greater
@@ -57,7 +60,7 @@ is_crawford match_length (Some before) greater = greater + 1 == match_length && 
 abbrev pub start_cube : Cube
 start_cube = record { value = 1; owner = None }
 
--- the start of a match
+-- the start of a match of this length
 abbrev pub start_of : ℕ → State
 start_of match_length = record {
   match_length = match_length;

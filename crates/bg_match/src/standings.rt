@@ -1,26 +1,30 @@
 //! Where a match stands.
-ghost use Rattle.std.specs.Prelude.{◌≡◌, ◌≤◌, ◌*◌, ◌↔◌, IfOk, IfErr, OnErr, MatchOption, IsSome, IfSome, IsTrue};
+ghost use Rattle.std.specs.Prelude.{◌≡◌, ◌≤◌, ◌*◌, ◌↔◌, IfOk, IfErr, OnErr, MatchOption, IsSome, IfSome, IsTrue, IsOk};
 ghost use Rattle.std.specs.Int.{IsPowerOfTwo};
 ghost use Rattle.bg_match.specs.State.{IsCubeOf, AreScoresOf};
 ghost use Rattle.bg_board.specs.Die.{pips};
 ghost use Rattle.bg_board.specs.Position.{opponent};
 ghost use Rattle.bg_match.specs.Follows.{phase_back as back_phase, opener as opening_player};
 
-use crate::{Cube, Entry, EntryFault, Level, NoDouble, Phase, level_of};
+use crate::{
+    Actor, Cube, Entry, EntryFault, GREATEST_CUBE, GREATEST_SCORE, LONGEST_MATCH, Level, NoDouble,
+    Phase, SHORTEST_MATCH, level_of,
+};
 use bg_board::{Board, Die, Player};
 use bg_turns::{Dice, Turn, judge_turn};
 use std::marker::Model;
 
-/// The length of a match, and the board, the phase, the cube, the scores and the number of the game being played.
-#[derive(Clone, Copy, Debug)]
+/// Where a match stands: its length, the board, the phase and the cube of the game that is played, the scores of X and
+/// of O, whether that game is the Crawford game, and its number, from 1.
+#[derive(Clone, Copy, Debug, PartialEq, Eq)]
 pub struct Standing {
     length: u8,
+    game: u8,
+    crawford: bool,
     board: Board,
     phase: Phase,
     cube: Cube,
     score: (u16, u16),
-    crawford: bool,
-    game: u8,
 }
 
 impl Model for Standing {
@@ -38,13 +42,14 @@ impl Model for Standing {
 impl Standing {
     ghost use Rattle.bg_match.specs.State.{State, IsState, after_win, start_of, IsRunning};
     ghost use Rattle.bg_match.specs.Level.{points};
-    ghost use Rattle.bg_match.specs.Follows.{Follows, IsEntryFault, IsNoDouble, MayDouble, MovedFault, after_turn};
+    ghost use Rattle.bg_match.specs.Actor.{actor_of};
+    ghost use Rattle.bg_match.specs.Follows.{Follows, CanFollow, IsEntryFault, IsNoDouble, MayDouble, MovedFault, after_turn};
     ghost use Rattle.bg_turns.specs.Turn.{IsLegalTurn, after_steps};
 
     /// Where a match of this length starts.
     pub fn start(length: u8) -> Standing
-        requires shortest { 1 ≤ length }
-        requires longest { length ≤ 99 }
+        requires shortest { SHORTEST_MATCH ≤ length }
+        requires longest { length ≤ LONGEST_MATCH }
         ensures { result ≡ start_of length }
     {
         Standing {
@@ -61,7 +66,66 @@ impl Standing {
         }
     }
 
-    /// The standing of these parts, if they fit together.
+    /// The length of the match in points, from 1 to 99.
+    pub fn length(&self) -> u8
+        ensures value { result ≡ self.now.match_length }
+        ensures standing { IsState self.now }
+    {
+        self.length
+    }
+
+    /// The board of the game that is played, or of the last game where the match is over.
+    pub fn board(&self) -> Board
+        ensures { result ≡ self.now.board }
+    {
+        self.board
+    }
+
+    /// What is to happen next.
+    pub fn phase(&self) -> Phase
+        ensures { result ≡ self.now.phase }
+    {
+        self.phase
+    }
+
+    /// The doubling cube.
+    pub fn cube(&self) -> Cube
+        ensures { result ≡ self.now.cube }
+    {
+        self.cube
+    }
+
+    /// The points of X and of O.
+    pub fn score(&self) -> (u16, u16)
+        ensures { result ≡ (self.now.x_score, self.now.o_score) }
+    {
+        self.score
+    }
+
+    /// Whether the game is the Crawford game, which is played without the cube.
+    pub fn crawford(&self) -> bool
+        ensures { result ≡ self.now.crawford }
+    {
+        self.crawford
+    }
+
+    /// The number of the game, from 1.
+    pub fn game(&self) -> u8
+        ensures { result ≡ self.now.game }
+    {
+        self.game
+    }
+
+    /// Who acts next.
+    pub fn actor(&self) -> Actor
+        ensures { result ≡ actor_of self.now.phase }
+    {
+        self.phase.actor()
+    }
+
+    /// The standing of these parts; None unless the length is from 1 to 99, the cube is a power of two up to 128, below
+    /// 128 while a double is answered, and in the middle exactly where it is 1, both scores are below the length, except
+    /// that the winner's is from the length to 482, and the game's number is from 1 to one more than the points scored.
     pub fn from_parts(
         length: u8,
         board: Board,
@@ -75,7 +139,10 @@ impl Standing {
         ensures value { IfSome result (λ s. s ≡ record { match_length = length; board = board; phase = phase; cube = cube; x_score = score.0; o_score = score.1; crawford = crawford; game = game }) }
     {
         let games = u32::from(score.0) + u32::from(score.1) + 1;
-        if length < 1 || length > 99 || game < 1 || u32::from(game) > games {
+        if !(SHORTEST_MATCH..=LONGEST_MATCH).contains(&length)
+            || game < 1
+            || u32::from(game) > games
+        {
             return None;
         }
         if !is_cube(cube, phase) || !are_scores(phase, u16::from(length), score) {
@@ -93,9 +160,13 @@ impl Standing {
     }
 
     /// Where the match stands after an entry.
+    ///
+    /// # Errors
+    /// The first that holds: MatchOver; WrongPhase where the phase does not allow such an entry; EqualOpening where the
+    /// dice of an opening are equal; Turn where a turn is not legal; NoDouble where the player may not double.
     pub fn next(&self, entry: &Entry) -> Result<Standing, EntryFault>
-        ensures ok { IfOk result (λ after. Follows self.now entry.now after) }
-        ensures err { OnErr result ((after : State) → Follows self.now entry.now after → ⊥) }
+        ensures ok { IsOk result ↔ CanFollow self.now entry.now }
+        ensures after { IfOk result (λ after. Follows self.now entry.now after) }
         ensures fault { IfErr result (λ fault. IsEntryFault fault self.now entry.now) }
     {
         match self.phase {
@@ -144,7 +215,7 @@ impl Standing {
         }
     }
 
-    /// Why the player may not double.
+    /// Why the player may not double; None where he may.
     fn no_double(&self, player: Player) -> Option<NoDouble>
         ensures { MatchOption result (MayDouble self.now player) (λ why. IsNoDouble why self.now player) }
     {
@@ -152,7 +223,7 @@ impl Standing {
             Some(NoDouble::Crawford)
         } else if self.cube.owner == Some(player.opponent()) {
             Some(NoDouble::NotOwner)
-        } else if self.cube.value == 128 {
+        } else if self.cube.value == GREATEST_CUBE {
             Some(NoDouble::AtCap)
         } else {
             None
@@ -162,8 +233,8 @@ impl Standing {
     /// After a legal turn, or why it is none.
     fn moved(&self, player: Player, dice: Dice, turn: &Turn) -> Result<Standing, EntryFault>
         requires { self.now.phase ≡ Phase.ToMove player dice }
-        ensures ok { IfOk result (λ after. IsLegalTurn self.now.board player dice turn.now
-            × (after ≡ after_turn self.now player (after_steps self.now.board player turn.now))) }
+        ensures ok { IsOk result ↔ IsLegalTurn self.now.board player dice turn.now }
+        ensures after { IfOk result (λ after. after ≡ after_turn self.now player (after_steps self.now.board player turn.now)) }
         ensures err { IfErr result (λ fault. MovedFault fault self.now player dice turn.now) }
     {
         let board = judge_turn(&self.board, player, dice, turn).map_err(EntryFault::Turn)?;
@@ -264,7 +335,7 @@ fn opener(x: Die, o: Die) -> Player
     }
 }
 
-/// The phase that a resignation was made in.
+/// The phase in which an offer to resign was made.
 fn phase_back(player: Player, back: Option<Dice>) -> Phase
     ensures { result ≡ back_phase player back }
 {
@@ -303,8 +374,8 @@ fn is_within_limit(value: u8, phase: Phase) -> bool
     ensures { IsTrue result ↔ IsCubeOf phase value }
 {
     match phase {
-        Phase::Doubled(_) => value < 128,
-        _ => value <= 128,
+        Phase::Doubled(_) => value < GREATEST_CUBE,
+        _ => value <= GREATEST_CUBE,
     }
 }
 
@@ -314,8 +385,8 @@ fn are_scores(phase: Phase, match_length: u16, score: (u16, u16)) -> bool
 {
     let (x, o) = score;
     match phase {
-        Phase::Over(Player::X) => match_length <= x && x <= 482 && o < match_length,
-        Phase::Over(Player::O) => match_length <= o && o <= 482 && x < match_length,
+        Phase::Over(Player::X) => match_length <= x && x <= GREATEST_SCORE && o < match_length,
+        Phase::Over(Player::O) => match_length <= o && o <= GREATEST_SCORE && x < match_length,
         _ => x < match_length && o < match_length,
     }
 }
