@@ -1,0 +1,92 @@
+-- The laws of legal records and of the entries that answer actions.
+use Rattle.std.proofs.Common.{◌≡◌, ℕ, ◌+◌, ◌≤◌, Option, Some, None, List, [], ◌∷◌, ◌++◌, length, length-append, refl, sym, ◌∙◌, ap, subst, arith}
+use Rattle.std.specs.List.{AllByRecursion}
+use Rattle.bg_board.specs.declared.dice.Die.{Die}
+use Rattle.bg_turns.specs.declared.throws.Dice.{Dice}
+use Rattle.bg_match.specs.declared.actions.Action.{Action}
+use Rattle.bg_match.specs.declared.actions.Action.TheVariants as action
+use Rattle.bg_match.specs.declared.phases.Phase.TheVariants as phase
+use Rattle.bg_match.specs.declared.entries.Entry.{Entry}
+use Rattle.bg_match.specs.declared.entries.Entry.TheVariants as entry
+use Rattle.bg_match.specs.Actor.{actor_of}
+use Rattle.bg_match.specs.Entry.{IsEntry}
+use Rattle.bg_match.specs.State.{State, start_of}
+use Rattle.bg_match.specs.Follows.{Follows, CanFollow}
+use Rattle.bg_match.specs.Match.{Leads, StandsAt, IsLegalRecord}
+use Rattle.bg_match.specs.Answers.{Answers}
+use Rattle.bg_match.specs.Laws.{HasLegalFronts, HasOneStanding, HasEntriesInRange, OpensByReferee, RollsAnyDice}
+use Rattle.bg_match.proofs.PlayableTurns.{legal_in_range}
+use Rattle.bg_match.proofs.Runs.{Follows-same, Leads-push}
+
+-- a front part leads somewhere, and the rest on from there
+pub Leads-front : (s : State) (front rest : List Entry) (t : State) → Leads s (front ++ rest) t → (m : State) × Leads s front m × Leads m rest t
+Leads-front s [] rest t h = (s, refl, h)
+Leads-front s (e ∷ front) rest t h = let r = Leads-front h.0 front rest t h.2 in (r.0, (h.0, h.1, r.1), r.2)
+
+pub legal_fronts : HasLegalFronts
+legal_fronts match_length front rest h =
+    let few : length front ≤ length (front ++ rest) = omega (arith, length-append front rest) in
+    let at = Leads-front (start_of match_length) front rest h.1.0 h.1.1 in
+    (omega (arith, h.0), (at.0, at.1))
+
+Leads-same : (s : State) (entries : List Entry) (t u : State) → Leads s entries t → Leads s entries u → t ≡ u
+Leads-same s [] t u h k = h ∙ sym k
+Leads-same s (e ∷ rest) t u h k =
+    let same = Follows-same s e k.0 h.0 k.1 h.1 in
+    Leads-same h.0 rest t u h.2 (subst (λ (x : State). Leads x rest u) same k.2)
+
+pub one_standing : HasOneStanding
+one_standing match_length entries s t h k = Leads-same (start_of match_length) entries s t h k
+
+Follows_in_range : (s : State) (e : Entry) (t : State) → Follows s e t → IsEntry e
+Follows_in_range s (entry.Opening x o) t h = tt
+Follows_in_range s (entry.Rolled dice) t h = tt
+Follows_in_range s entry.Doubled t h = tt
+Follows_in_range s entry.Taken t h = tt
+Follows_in_range s entry.Dropped t h = tt
+Follows_in_range s (entry.Moved turn) t h = legal_in_range s.board h.0 h.1 turn h.3
+Follows_in_range s (entry.Resigned level) t h = tt
+Follows_in_range s entry.Accepted t h = tt
+Follows_in_range s entry.Rejected t h = tt
+
+Leads_in_range : (s : State) (entries : List Entry) (t : State) → Leads s entries t → AllByRecursion IsEntry entries
+Leads_in_range s [] t h = tt
+Leads_in_range s (e ∷ rest) t h = (Follows_in_range s e h.0 h.1, Leads_in_range h.0 rest t h.2)
+
+pub entries_in_range : HasEntriesInRange
+entries_in_range match_length entries h = Leads_in_range (start_of match_length) entries h.1.0 h.1.1
+
+pub opens_by_referee : OpensByReferee
+opens_by_referee match_length entries x o h =
+    let at = Leads-front (start_of match_length) entries (entry.Opening x o ∷ []) h.1.0 h.1.1 in
+    (at.0, at.1, sym (ap actor_of at.2.1.0))
+
+-- another entry in place of the last one
+last_instead : (match_length : ℕ) (entries : List Entry) (e f : Entry) → ((m : State) → CanFollow m e → CanFollow m f)
+    → IsLegalRecord match_length (entries ++ e ∷ []) → IsLegalRecord match_length (entries ++ f ∷ [])
+last_instead match_length entries e f instead h =
+    let at = Leads-front (start_of match_length) entries (e ∷ []) h.1.0 h.1.1 in
+    let next = instead at.0 (at.2.0, at.2.1) in (
+      omega (arith, h.0, length-append entries (e ∷ []), length-append entries (f ∷ [])),
+      (next.0, Leads-push (start_of match_length) entries f at.0 next.0 at.1 next.1),
+    )
+
+rolls_alike : (m : State) (dice other : Dice) → CanFollow m (entry.Rolled dice) → CanFollow m (entry.Rolled other)
+rolls_alike m dice other h = (record m { phase = phase.ToMove h.1.0 other }, (h.1.0, h.1.1, refl))
+
+same_legal : (match_length : ℕ) (entries : List Entry) (e f : Entry) → e ≡ f
+    → IsLegalRecord match_length (entries ++ e ∷ []) → IsLegalRecord match_length (entries ++ f ∷ [])
+same_legal match_length entries e f same h = subst (λ (x : Entry). IsLegalRecord match_length (entries ++ x ∷ [])) same h
+
+pub rolls_any_dice : RollsAnyDice
+rolls_any_dice match_length entries action.Roll dice other e f h k legal =
+    let rolled = same_legal match_length entries e (entry.Rolled h.0) h.2 legal in
+    let again = last_instead match_length entries (entry.Rolled h.0) (entry.Rolled k.0) (λ m. rolls_alike m h.0 k.0) rolled in
+    same_legal match_length entries (entry.Rolled k.0) f (sym k.2) again
+rolls_any_dice match_length entries action.Double dice other e f h k legal = same_legal match_length entries e f (h ∙ sym k) legal
+rolls_any_dice match_length entries action.Take dice other e f h k legal = same_legal match_length entries e f (h ∙ sym k) legal
+rolls_any_dice match_length entries action.Drop dice other e f h k legal = same_legal match_length entries e f (h ∙ sym k) legal
+rolls_any_dice match_length entries (action.Move turn) dice other e f h k legal = same_legal match_length entries e f (h ∙ sym k) legal
+rolls_any_dice match_length entries (action.Resign level) dice other e f h k legal = same_legal match_length entries e f (h ∙ sym k) legal
+rolls_any_dice match_length entries action.Accept dice other e f h k legal = same_legal match_length entries e f (h ∙ sym k) legal
+rolls_any_dice match_length entries action.Reject dice other e f h k legal = same_legal match_length entries e f (h ∙ sym k) legal

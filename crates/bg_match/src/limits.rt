@@ -1,0 +1,19 @@
+//! The limits of a match.
+
+/// The number of an entry in its match. Numbers count from 1.
+pub type Number = u16;
+
+/// The most entries of a match.
+pub const MOST_ENTRIES: Number = 65535;
+
+/// The length of the shortest match, in points.
+pub const SHORTEST_MATCH: u8 = 1;
+
+/// The length of the longest match, in points.
+pub const LONGEST_MATCH: u8 = 99;
+
+/// What the cube shows at most.
+pub const GREATEST_CUBE: u8 = 128;
+
+/// The greatest score: one point short of the longest match, and then a backgammon with the greatest cube.
+pub const GREATEST_SCORE: u16 = 482;

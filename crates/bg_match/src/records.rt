@@ -1,0 +1,244 @@
+//! The record of a match.
+ghost use Rattle.std.specs.Prelude.{◌≡◌, ◌≢◌, ◌≤◌, ◌<◌, ◌+◌, ◌-◌, ◌↔◌, ◌⊎◌, ◌++◌, ◌∷◌, [], ℕ, length, take, IsOk, IfOk, OnOk, OnErr, IfErr, IsTrue, option_copied, vec_len, vec_capacity};
+ghost use Rattle.std.specs.List.{AllByRecursion};
+
+use crate::{
+    Actor, Entry, EntryFault, LONGEST_MATCH, MOST_ENTRIES, Number, SHORTEST_MATCH, Standing,
+};
+use bg_board::Player;
+use std::alloc::{AllocError, Global};
+use std::marker::Model;
+
+/// Why there is no match of this length.
+#[derive(Clone, Copy, Debug, PartialEq, Eq)]
+pub enum LengthFault {
+    /// The length is not from 1 to 99.
+    LengthOutOfRange,
+}
+
+/// An entry, and the seat that made it: None for an entry of the referee.
+#[derive(Debug, Drop)]
+struct Made {
+    entry: Entry,
+    seat: Option<Player>,
+}
+
+/// The entries of a match, which are legal so far. Entries are numbered from 1.
+///
+/// Contracts see the match id, the length of the match, the list of entries, and how many more there is room for.
+#[derive(Debug, Drop)]
+pub struct Record {
+    id: u64,
+    length: u8,
+    made: Vec<Made>,
+    standing: Standing,
+}
+
+impl Model for Record {
+    ghost use Rattle.std.specs.Prelude.{◌-◌, map, vec_len, vec_capacity};
+    ghost use Rattle.bg_match.specs.Match.{Log, IsKept};
+
+    ghost Value = { Log };
+
+    ghost view = { λ r. record { id = r.id; match_length = r.length; entries = map (λ m. m.entry) r.made.items; spare = vec_capacity r.made - vec_len r.made } };
+
+    ghost invariant = { λ r. IsKept r.length (map (λ m. m.entry) r.made.items) (map (λ m. m.seat) r.made.items) r.standing };
+}
+
+impl Record {
+    ghost use Rattle.bg_match.specs.State.{State};
+    ghost use Rattle.bg_match.specs.Entry.{IsEntry};
+    ghost use Rattle.bg_match.specs.Match.{Log, StandsAt, IsLegalRecord, ActsAfter, SeatAfter, IsMarkedByScores, IsRecordFault, at_number};
+
+    /// A match with no entry.
+    ///
+    /// # Errors
+    /// LengthOutOfRange where the length is not from 1 to 99.
+    pub fn new(alloc: Global, id: u64, length: u8) -> Result<Record, LengthFault>
+        ensures ok { IsOk result ↔ ((SHORTEST_MATCH ≤ length) × (length ≤ LONGEST_MATCH)) }
+        ensures value { IfOk result (λ r. r ≡ record { id = id; match_length = length; entries = []; spare = 0 }) }
+    {
+        if !(SHORTEST_MATCH..=LONGEST_MATCH).contains(&length) {
+            return Err(LengthFault::LengthOutOfRange);
+        }
+        Ok(Record {
+            id,
+            length,
+            made: Vec::new(alloc),
+            standing: Standing::start(length),
+        })
+    }
+
+    /// How many entries there are, which is the number of the last one.
+    pub fn len(&self) -> Number
+        ensures value { result ≡ length self.now.entries }
+        ensures legal { IsLegalRecord self.now.match_length self.now.entries }
+        ensures in_range { AllByRecursion IsEntry self.now.entries }
+    {
+        self.made.len() as Number
+    }
+
+    /// Whether there is no entry.
+    pub fn is_empty(&self) -> bool
+        ensures { IsTrue result ↔ (self.now.entries ≡ []) }
+    {
+        self.made.is_empty()
+    }
+
+    /// The entry of this number, from 1; None for 0 and above the length.
+    pub fn entry(&self, number: Number) -> Option<&Entry>
+        ensures { option_copied result ≡ at_number self.now.entries number }
+    {
+        let made = made_at(&self.made, number)?;
+        Some(&made.entry)
+    }
+
+    /// The player whose seat made the entry of this number, from 1. None for an entry of the referee, for 0 and above
+    /// the length.
+    pub fn by(&self, number: Number) -> Option<Player>
+        ensures seat { 1 ≤ number → number ≤ length self.now.entries → SeatAfter self.now.match_length (take (number - 1) self.now.entries) result }
+        ensures none { (number ≡ 0) ⊎ (length self.now.entries < number) → result ≡ None }
+    {
+        let made = made_at(&self.made, number)?;
+        made.seat
+    }
+
+    /// The number of the match.
+    pub fn id(&self) -> u64
+        ensures { result ≡ self.now.id }
+    {
+        self.id
+    }
+
+    /// The length of the match in points, from 1 to 99.
+    pub fn length(&self) -> u8
+        ensures value { result ≡ self.now.match_length }
+        ensures shortest { SHORTEST_MATCH ≤ result }
+        ensures longest { result ≤ LONGEST_MATCH }
+    {
+        self.length
+    }
+
+    /// Where the match stands after its entries.
+    pub fn standing(&self) -> Standing
+        ensures stands { StandsAt self.now.match_length self.now.entries result }
+        ensures length { result.match_length ≡ self.now.match_length }
+        ensures crawford { IsMarkedByScores self.now.match_length self.now.entries result }
+    {
+        self.standing
+    }
+
+    /// Who acts next.
+    pub fn actor(&self) -> Actor
+        ensures { ActsAfter self.now.match_length self.now.entries result }
+    {
+        self.standing.actor()
+    }
+
+    /// Whether an entry may follow. The answer is that of `push`, but never Memory.
+    ///
+    /// # Errors
+    /// RecordFull where there are 65535 entries, else as [`Standing::next`].
+    pub fn check(&self, entry: &Entry) -> Result<(), EntryFault>
+        ensures ok { IsOk result ↔ IsLegalRecord self.now.match_length (self.now.entries ++ entry.now ∷ []) }
+        ensures fault { IfErr result (λ fault. IsRecordFault fault self.now entry.now) }
+        ensures memory { result ≢ Err EntryFault.Memory }
+    {
+        self.after(entry)?;
+        Ok(())
+    }
+
+    /// Appends an entry. A refusal changes nothing.
+    ///
+    /// # Errors
+    /// RecordFull where there are 65535 entries, else as [`Standing::next`]; at last Memory where there is no room, and no
+    /// memory for more.
+    pub fn push(&mut self, entry: Entry) -> Result<(), EntryFault>
+        ensures ok { result ≢ Err EntryFault.Memory → (IsOk result ↔ IsLegalRecord self.old.match_length (self.old.entries ++ entry ∷ [])) }
+        ensures appended { OnOk result (self.new ≡ record self.old { entries = self.old.entries ++ entry ∷ []; spare = self.new.spare }) }
+        ensures spare { OnOk result (0 < self.old.spare → self.new.spare + 1 ≡ self.old.spare) }
+        ensures legal { OnOk result (IsLegalRecord self.new.match_length self.new.entries) }
+        ensures err { OnErr result (self.new ≡ self.old) }
+        ensures fault { IfErr result (λ fault. IsRecordFault fault self.old entry) }
+    {
+        let after = self.after(&entry)?;
+        if make_room(&mut self.made, 1).is_err() {
+            return Err(EntryFault::Memory);
+        }
+        let seat = self.standing.actor().seat();
+        self.made.push_reserved(Made { entry, seat });
+        self.standing = after;
+        Ok(())
+    }
+
+    /// Makes room for this many more entries. Where it is there already nothing is done.
+    ///
+    /// # Errors
+    /// AllocError where there is no memory for it, and then nothing has changed.
+    pub fn reserve(&mut self, count: Number) -> Result<(), AllocError>
+        ensures room { OnOk result (count ≤ self.new.spare) }
+        ensures same { self.new ≡ record self.old { spare = self.new.spare } }
+        ensures there { count ≤ self.old.spare → IsOk result × (self.new ≡ self.old) }
+        ensures err { OnErr result (self.new ≡ self.old) }
+    {
+        make_room(&mut self.made, usize::from(count))
+    }
+
+    /// The same record, with room for its entries alone.
+    pub fn copy(&self) -> Result<Record, AllocError>
+        ensures { IfOk result (λ copy. copy ≡ record self.now { spare = 0 }) }
+    {
+        let mut made = Vec::with_capacity(*self.made.allocator(), self.made.len())?;
+        for Made { entry, seat } in &self.made {
+            made.push_reserved(Made {
+                entry: entry.copy(),
+                seat: *seat,
+            });
+        }
+        Ok(Record {
+            id: self.id,
+            length: self.length,
+            made,
+            standing: self.standing,
+        })
+    }
+
+    /// Where the match would stand after an entry.
+    fn after(&self, entry: &Entry) -> Result<Standing, EntryFault>
+        ensures ok { IsOk result ↔ IsLegalRecord self.now.match_length (self.now.entries ++ entry.now ∷ []) }
+        ensures after { IfOk result (λ after. (length self.now.entries < MOST_ENTRIES)
+            × StandsAt self.now.match_length (self.now.entries ++ entry.now ∷ []) after) }
+        ensures fault { IfErr result (λ fault. IsRecordFault fault self.now entry.now) }
+        ensures memory { result ≢ Err EntryFault.Memory }
+    {
+        if self.made.len() >= usize::from(MOST_ENTRIES) {
+            return Err(EntryFault::RecordFull);
+        }
+        self.standing.next(entry)
+    }
+}
+
+ghost use Rattle.bg_match.specs.Match.{at_number};
+
+/// The entry of this number, from 1.
+fn made_at(made: &[Made], number: Number) -> Option<&Made>
+    ensures { option_copied result ≡ at_number made.now number }
+{
+    made.get(usize::from(number).checked_sub(1)?)
+}
+
+/// Makes room for this many more entries, at least twice as much room as before. Where it is there already nothing is
+/// done.
+fn make_room(made: &mut Vec<Made>, count: usize) -> Result<(), AllocError>
+    ensures items { made.new.items ≡ made.old.items }
+    ensures len { vec_len made.new ≡ vec_len made.old }
+    ensures room { OnOk result (vec_len made.new + count ≤ vec_capacity made.new) }
+    ensures there { vec_len made.old + count ≤ vec_capacity made.old → IsOk result × (vec_capacity made.new ≡ vec_capacity made.old) }
+    ensures full { OnErr result (vec_capacity made.old < vec_len made.old + count) }
+    ensures err { OnErr result (vec_capacity made.new ≡ vec_capacity made.old) }
+{
+    if count <= made.capacity() - made.len() {
+        return Ok(());
+    }
+    made.reserve(count)
+}
