@@ -38,7 +38,7 @@ Leads-same s (e ∷ rest) t u h k =
 pub one_standing : HasOneStanding
 one_standing match_length entries s t h k = Leads-same (start_of match_length) entries s t h k
 
-Follows_in_range : (s : State) (e : Entry) (t : State) → Follows s e t → IsEntry e
+pub Follows_in_range : (s : State) (e : Entry) (t : State) → Follows s e t → IsEntry e
 Follows_in_range s (entry.Opening x o) t h = tt
 Follows_in_range s (entry.Rolled dice) t h = tt
 Follows_in_range s entry.Doubled t h = tt
