@@ -23,6 +23,10 @@ pub Leads-front : (s : State) (front rest : List Entry) (t : State) → Leads s 
 Leads-front s [] rest t h = (s, refl, h)
 Leads-front s (e ∷ front) rest t h = let r = Leads-front h.0 front rest t h.2 in (r.0, (h.0, h.1, r.1), r.2)
 
+pub Leads-append : (s : State) (front rest : List Entry) (m t : State) → Leads s front m → Leads m rest t → Leads s (front ++ rest) t
+Leads-append s [] rest m t h k = subst (λ (u : State). Leads u rest t) h k
+Leads-append s (e ∷ front) rest m t h k = (h.0, h.1, Leads-append h.0 front rest m t h.2 k)
+
 pub legal_fronts : HasLegalFronts
 legal_fronts match_length front rest h =
     let few : length front ≤ length (front ++ rest) = omega (arith, length-append front rest) in
@@ -38,7 +42,7 @@ Leads-same s (e ∷ rest) t u h k =
 pub one_standing : HasOneStanding
 one_standing match_length entries s t h k = Leads-same (start_of match_length) entries s t h k
 
-Follows_in_range : (s : State) (e : Entry) (t : State) → Follows s e t → IsEntry e
+pub Follows_in_range : (s : State) (e : Entry) (t : State) → Follows s e t → IsEntry e
 Follows_in_range s (entry.Opening x o) t h = tt
 Follows_in_range s (entry.Rolled dice) t h = tt
 Follows_in_range s entry.Doubled t h = tt

@@ -41,6 +41,10 @@ OpensByReferee = (match_length : ℕ) (entries : List Entry) (x o : Die)
 abbrev pub AnswersOneAction : Type 0
 AnswersOneAction = (a b : Action) (e : Entry) → IsAnswer a e → IsAnswer b e → a ≡ b
 
+-- an opening answers none
+abbrev pub OpeningAnswersNone : Type 0
+OpeningAnswersNone = (a : Action) (x o : Die) → IsAnswer a (entry.Opening x o) → ⊥
+
 -- the entry of an action is in its ranges where the action is
 abbrev pub AnswersInRange : Type 0
 AnswersInRange = (a : Action) (e : Entry) → IsAnswer a e → IsAction a → IsEntry e
