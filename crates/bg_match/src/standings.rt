@@ -102,7 +102,7 @@ impl Standing {
         self.score
     }
 
-    /// Whether the game is the Crawford game, which is played without the cube.
+    /// Whether the game is the Crawford game, which is played without the cube (docs/RULES.md, "The Crawford game").
     pub fn crawford(&self) -> bool
         ensures { result ≡ self.now.crawford }
     {
