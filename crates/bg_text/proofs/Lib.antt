@@ -1,0 +1,15 @@
+pub mod Splits
+pub mod Numbers
+pub mod PairTexts
+pub mod Moves
+pub mod ActionTexts
+pub mod Starts
+pub mod ActionLines
+pub mod EntryTexts
+pub mod EntryLines
+pub mod MoveLines
+pub mod LineLists
+pub mod InputLines
+pub mod ReadLines
+pub mod PartRead
+pub mod WrittenLines

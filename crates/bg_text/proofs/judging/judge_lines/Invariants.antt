@@ -1,0 +1,10 @@
+use Rattle.std.proofs.Common.{length}
+use Rattle.bg_text.specs.Judging.{lines_of}
+use Rattle.bg_text.specs.Reading.{IsPartRead}
+use Rattle.bg_text.proofs.judging.judge_lines.Given as goal
+
+abbrev pub invariant-loop-line : goal.invariant-loop-line
+invariant-loop-line l = IsPartRead l.length (lines_of l.lines) l.record l.rest
+
+abbrev pub decreases-loop-line : goal.decreases-loop-line
+decreases-loop-line l = length l.rest

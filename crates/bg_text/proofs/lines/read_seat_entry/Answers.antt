@@ -1,0 +1,16 @@
+use Rattle.std.proofs.Common.{◌≡◌, Err, codes, rules, ◌∙◌}
+use Rattle.bg_text.proofs.EntryLines.{dice_line, roll_fault, seat_fault}
+use Rattle.bg_text.proofs.lines.read_seat_entry.Goals as goal
+
+pub returns-in_err-first : goal.returns-in_err-first
+returns-in_err-first c =
+    let same : c.from_residual.result ≡ Err c.in_err-first.field-0.0 = search rules in
+    rw same (rw c.in-Some.ensures (roll_fault _ _ c.in_err-first.ensures))
+
+pub returns-in-Some : goal.returns-in-Some
+returns-in-Some c = (tt, tt, c.in-Some.ensures ∙ dice_line (codes "roll ") c.in-Some.numbers.now c.in_ok-first.first c.in_ok-first.second c.in_ok-first.ensures)
+
+pub returns-in_err-action : goal.returns-in_err-action
+returns-in_err-action c =
+    let same : c.from_residual-in_err-action.result ≡ Err c.in_err-action.field-0.0 = search rules in
+    rw same (seat_fault _ _ c.in_default.ensures c.in_err-action.ensures)

@@ -1,0 +1,12 @@
+use Rattle.std.proofs.Common.{◌+◌, arith}
+use Rattle.bg_text.proofs.WrittenLines.{none_written, more_written, all_written}
+use Rattle.bg_text.proofs.transcripts.transcript_text.Goals as goal
+
+pub loop-written-preserved : goal.loop-written-preserved
+loop-written-preserved c =
+    more_written c.args.record.now (c.loop-written.written + 1) c.loop-written.text.items c.push_entry.new.out.items c.len-written-end.ensures.legal (omega arith)
+    c.loop-written.invariant c.in_ok-push_entry.ensures
+
+pub returns : goal.returns
+returns c =
+    all_written c.args.record.now (c.loop-written.written + 1) c.loop-written.text.items (omega (arith, c.len-written-end.ensures.value)) c.loop-written.invariant

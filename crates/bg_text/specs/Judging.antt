@@ -1,0 +1,146 @@
+-- What the judge says of an input.
+use Rattle.std.specs.Prelude.{◌≡◌, ◌≢◌, ◌==◌, ◌⊎◌, ℕ, ◌+◌, ◌<◌, ◌≤◌, List, [], ◌∷◌, ◌++◌, length, take, slice_index_or, Option, Some, None, IsTrue, codes, if◌then◌else◌}
+use Rattle.std.specs.List.{onto_first}
+use Rattle.std.specs.Fmt.{decimal}
+use Rattle.std.specs.Str.{all_ascii_digits}
+use Rattle.bg_board.specs.declared.players.Player.{Player}
+use Rattle.bg_match.specs.State.{State, start_of}
+use Rattle.bg_match.specs.declared.limits.TheConstants.{MOST_ENTRIES, SHORTEST_MATCH, LONGEST_MATCH}
+use Rattle.bg_match.specs.Actor.{actor_of, seat_of}
+use Rattle.bg_match.specs.Follows.{IsEntryFault}
+use Rattle.bg_match.specs.Entry.{IsEntry}
+use Rattle.bg_match.specs.declared.entries.Entry.{Entry}
+use Rattle.bg_match.specs.declared.entries.EntryFault.{EntryFault}
+use Rattle.bg_match.specs.declared.entries.EntryFault.TheVariants.{RecordFull}
+use Rattle.bg_text.specs.BoardText.{line_text, board_text}
+use Rattle.bg_text.specs.EntryText.{entry_text, IsSeatOf}
+use Rattle.bg_text.specs.EntryShape.{IsEntryTextFault}
+use Rattle.bg_text.specs.Reason.{reason, text_reason}
+use Rattle.bg_text.specs.Transcript.{AreLinesOf, length_line}
+use Rattle.bg_text.specs.declared.inputs.TheConstants.{MOST_BYTES}
+use Rattle.bg_text.specs.declared.faults.LineFault.{LineFault}
+use Rattle.bg_text.specs.declared.faults.LineFault.TheVariants as fault
+use Rattle.bg_text.specs.declared.verdicts.Verdict.{Verdict}
+use Rattle.bg_text.specs.declared.verdicts.Verdict.TheVariants.{Fine, Refused, TooLong}
+
+-- the lines of an input, each without its line feed; one at the end opens no further line
+abbrev pub lines_of : List ℕ → List (List ℕ)
+lines_of [] = []
+lines_of (byte ∷ bytes) = if byte == 10 then [] ∷ lines_of bytes else onto_first byte (lines_of bytes)
+
+-- one to three digits
+pub record AreLengthDigits (digits : List ℕ) : Type 0 where
+  pub decimal_digits : IsTrue (all_ascii_digits digits)
+  pub some : 1 ≤ length digits
+  pub three : length digits ≤ 3
+
+-- digits that are not the number of a length
+abbrev pub IsDigitsFault : LineFault → List ℕ → Type 0
+IsDigitsFault fault.NotALengthLine digits = AreLengthDigits digits → ⊥
+IsDigitsFault fault.LengthOutOfRange digits =
+    AreLengthDigits digits × ((n : ℕ) → SHORTEST_MATCH ≤ n → n ≤ LONGEST_MATCH → digits ≡ decimal n → ⊥)
+IsDigitsFault _ digits = ⊥
+
+-- what is wrong with line 1, or that there is none: the word length, a space and one to three digits are its shape
+abbrev pub IsLengthFault : LineFault → List (List ℕ) → Type 0
+IsLengthFault fault.NotALengthLine [] = Unit {0}
+IsLengthFault fault.NotALengthLine (line ∷ lines) =
+    (digits : List ℕ) → line ≡ codes "length " ++ digits → AreLengthDigits digits → ⊥
+IsLengthFault fault.LengthOutOfRange (line ∷ lines) =
+    (digits : List ℕ) × (line ≡ codes "length " ++ digits) × IsDigitsFault fault.LengthOutOfRange digits
+IsLengthFault _ lines = ⊥
+
+-- the line names a seat where another must act
+abbrev pub IsWrongSeat : Option Player → State → Type 0
+IsWrongSeat seat s = (p q : Player) × (seat ≡ Some p) × (seat_of (actor_of s.phase) ≡ Some q) × (p ≢ q)
+
+-- why an entry can't follow n entries that lead to s
+abbrev pub IsRefusal : EntryFault → ℕ → State → Entry → Type 0
+IsRefusal RecordFull n s e = MOST_ENTRIES ≤ n
+IsRefusal why n s e = (n < MOST_ENTRIES) × IsEntryFault why s e
+
+-- why a line can't follow n entries that lead to s, by the first of three tests that fails: its text, its seat, its entry
+abbrev pub IsLineFault : LineFault → ℕ → State → List ℕ → Type 0
+IsLineFault (fault.Text why) n s line = IsEntryTextFault why line
+IsLineFault fault.WrongPlayer n s line =
+    (seat : Option Player) × (e : Entry) × IsSeatOf seat e × IsEntry e × (line ≡ entry_text seat e) × IsWrongSeat seat s
+IsLineFault (fault.Entry why) n s line =
+    (seat : Option Player) × (e : Entry) × IsSeatOf seat e × IsEntry e × (line ≡ entry_text seat e)
+    × (IsWrongSeat seat s → ⊥) × IsRefusal why n s e
+IsLineFault _ n s line = ⊥
+
+-- the first n lines are those of a legal record of a match of this length, which stands at t
+abbrev pub StandsAfter : ℕ → List (List ℕ) → ℕ → State → Type 0
+StandsAfter match_length lines n t =
+    (n ≤ length lines) × (n ≤ MOST_ENTRIES)
+    × ((entries : List Entry) × AreLinesOf (start_of match_length) entries (take n lines) t)
+
+-- n is the greatest number of first lines that are those of a legal record
+pub record IsLongestPart (match_length : ℕ) (lines : List (List ℕ)) (n : ℕ) (t : State) : Type 0 where
+  pub stands : StandsAfter match_length lines n t
+  pub longest : (m : ℕ) (s : State) → StandsAfter match_length lines m s → m ≤ n
+
+abbrev pub fault_reason : LineFault → List ℕ
+fault_reason fault.NotALengthLine = codes "not a length line"
+fault_reason fault.LengthOutOfRange = codes "length out of range"
+fault_reason (fault.Text why) = text_reason why
+fault_reason fault.WrongPlayer = codes "wrong player"
+fault_reason (fault.Entry why) = reason why
+
+-- the verdict line: a number of entries, or the number of a line, from 1, and a reason
+abbrev pub fine_line : ℕ → List ℕ
+fine_line n = codes "ok " ++ decimal n
+
+abbrev pub refused_line : ℕ → LineFault → List ℕ
+refused_line number why = codes "refused at line " ++ decimal number ++ codes ": " ++ fault_reason why
+
+-- the verdict and its line, where n of the lines after line 1 are a legal record that stands at t
+abbrev pub IsVerdict : Verdict → List ℕ → List (List ℕ) → ℕ → State → Type 0
+IsVerdict (Fine entries) line lines n t = (n ≡ length lines) × (entries ≡ n) × (line ≡ fine_line n)
+IsVerdict (Refused number) line lines n t =
+    (n < length lines) × (number ≡ n + 2)
+    × ((why : LineFault) × IsLineFault why n t (slice_index_or lines n []) × (line ≡ refused_line number why))
+IsVerdict TooLong line lines n t = ⊥
+
+-- the text and the verdict on a transcript: the board after its longest legal part, and the verdict line
+pub record IsJudged (match_length : ℕ) (lines : List (List ℕ)) (text : List ℕ) (verdict : Verdict) : Type 0 where
+  pub count : ℕ
+  pub state : State
+  pub longest : IsLongestPart match_length lines count state
+  pub line : List ℕ
+  pub named : IsVerdict verdict line lines count state
+  pub printed : text ≡ board_text state ++ line_text line
+
+-- the text and the verdict where line 1 is refused
+pub record IsRefusedAtOnce (lines : List (List ℕ)) (text : List ℕ) (verdict : Verdict) : Type 0 where
+  pub why : LineFault
+  pub fault : IsLengthFault why lines
+  pub printed : text ≡ line_text (refused_line 1 why)
+  pub first : verdict ≡ Refused 1
+
+-- the text and the verdict where the input is longer than the limit
+pub record IsTooLong (text : List ℕ) (verdict : Verdict) : Type 0 where
+  pub printed : text ≡ line_text (codes "refused: input too long")
+  pub too_long : verdict ≡ TooLong
+
+-- what the judge writes and answers of the lines of an input
+abbrev pub IsAnswerTo : List (List ℕ) → List ℕ → Verdict → Type 0
+IsAnswerTo [] text verdict = IsRefusedAtOnce [] text verdict
+IsAnswerTo (line ∷ lines) text verdict =
+    IsRefusedAtOnce (line ∷ lines) text verdict
+    ⊎ ((n : ℕ) × (SHORTEST_MATCH ≤ n) × (n ≤ LONGEST_MATCH) × (line ≡ length_line n) × IsJudged n lines text verdict)
+
+abbrev pub IsJudgement : List ℕ → List ℕ → Verdict → Type 0
+IsJudgement input text verdict =
+    ((MOST_BYTES < length input) × IsTooLong text verdict)
+    ⊎ ((length input ≤ MOST_BYTES) × IsAnswerTo (lines_of input) text verdict)
+
+-- the same of an input that contracts know, or of some input
+abbrev pub IsJudgementOf : Option (List ℕ) → List ℕ → Verdict → Type 0
+IsJudgementOf (Some input) text verdict = IsJudgement input text verdict
+IsJudgementOf None text verdict = (input : List ℕ) × IsJudgement input text verdict
+
+-- all of the bytes were read, or more than the limit
+abbrev pub IsReadOf : List ℕ → List ℕ → Type 0
+IsReadOf bytes input =
+    ((length input ≤ MOST_BYTES) × (bytes ≡ input)) ⊎ ((MOST_BYTES < length input) × (MOST_BYTES < length bytes))

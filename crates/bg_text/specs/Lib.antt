@@ -1,0 +1,10 @@
+pub mod Words
+pub mod EntryText
+pub mod EntryShape
+pub mod Pairs
+pub mod Lines
+pub mod Reason
+pub mod BoardText
+pub mod Transcript
+pub mod Judging
+pub mod Reading

@@ -1,0 +1,63 @@
+//! Why a line cannot be read, or cannot follow.
+ghost use Rattle.std.specs.Prelude.{◌≡◌};
+ghost use Rattle.bg_text.specs.Reason.{text_reason};
+
+use bg_match::EntryFault;
+use std::fmt;
+
+/// Why a line is not the text of an entry or an action, by the first of three tests that fails
+/// (docs/FORMATS.md, "Entry lines").
+#[derive(Clone, Copy, Debug, PartialEq, Eq)]
+pub enum TextFault {
+    /// The line has none of the shapes of a line.
+    NotALine,
+    /// The line has its shape, but a number has a leading zero or is out of its range (1 to 6 for a die, 1 to 24
+    /// for a point), or a step does not lead down.
+    BadNumber,
+    /// The line has its shape and its numbers are right, but there are more than four steps.
+    TooManySteps,
+}
+
+impl TextFault {
+    ghost use Rattle.std.specs.Prelude.{◌≤◌, length};
+
+    /// The fault in words, as it is printed (docs/FORMATS.md, "Refusals").
+    pub fn reason(self) -> &'static str
+        ensures words { result.now ≡ text_reason self }
+        ensures fits { length result.now ≤ 14 }
+    {
+        match self {
+            TextFault::NotALine => "not a line",
+            TextFault::BadNumber => "bad number",
+            TextFault::TooManySteps => "too many steps",
+        }
+    }
+}
+
+impl fmt::Display for TextFault {
+    ghost use Rattle.std.specs.Prelude.{Some};
+    ghost use Rattle.bg_text.specs.Reason.{text_reason};
+
+    ghost output = { λ fault. Some (text_reason fault) };
+
+    fn fmt<W: fmt::Write>(&self, f: &mut fmt::Formatter<W>) -> fmt::Result {
+        f.write_str(self.reason())
+    }
+}
+
+impl std::error::Error for TextFault {}
+
+/// Why a line of a transcript is refused (docs/FORMATS.md, "Transcripts").
+#[derive(Clone, Copy, Debug, PartialEq, Eq)]
+pub enum LineFault {
+    /// The first line is missing, or has not the shape of a length line.
+    NotALengthLine,
+    /// The length has a leading zero, or is not from 1 to 99.
+    LengthOutOfRange,
+    /// The line is no entry's text.
+    Text(TextFault),
+    /// The line names a seat where the other seat must act.
+    WrongPlayer,
+    /// The entry does not follow.
+    Entry(EntryFault),
+}

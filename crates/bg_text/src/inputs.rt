@@ -1,0 +1,78 @@
+//! The input of the judge: its bytes and lines, and the length of the match.
+ghost use Rattle.std.specs.Prelude.{◌≡◌, ◌≢◌, ◌≤◌, ◌<◌, ◌↔◌, ◌∷◌, [], length, IsNone, IfSome, IfOk, IfErr, Option};
+ghost use Rattle.std.specs.Fmt.{decimal};
+ghost use Rattle.bg_text.specs.Judging.{lines_of, IsLengthFault, IsDigitsFault, IsReadOf};
+ghost use Rattle.bg_text.specs.Transcript.{length_line};
+
+use crate::pairs::parse_numeral;
+use crate::{EngineFault, LineFault};
+use bg_match::{LONGEST_MATCH, SHORTEST_MATCH};
+use memchr::memchr;
+use std::alloc::Global;
+use std::io::Read;
+
+/// The most bytes of an input.
+pub const MOST_BYTES: usize = 4_194_304;
+
+/// Reads all of an input, or one byte more than the limit, in at most as many reads.
+pub(crate) fn read_input<R: Read>(alloc: Global, reader: &mut R) -> Result<Vec<u8>, EngineFault>
+    ensures read { IfOk result (λ input. IfSome (R.remaining reader.old) (λ bytes. IsReadOf bytes input.items)) }
+    ensures fault { IfErr result (λ fault. fault ≢ EngineFault.Write) }
+{
+    let mut input = Vec::new(alloc);
+    let mut chunk = [0; 4096];
+    while input.len() <= MOST_BYTES {
+        let room = chunk.len().min(MOST_BYTES + 1 - input.len());
+        let part = &mut chunk[..room];
+        let count = match reader.read(part) {
+            Ok(count) => count,
+            Err(_) => return Err(EngineFault::Read),
+        };
+        if count == 0 {
+            return Ok(input);
+        }
+        if input.extend_from_slice(&part[..count]).is_err() {
+            return Err(EngineFault::Memory);
+        }
+    }
+    Ok(input)
+}
+
+/// The first line, without its line feed, and what follows it. None where nothing is left.
+pub(crate) fn split_line(input: &[u8]) -> Option<(&[u8], &[u8])>
+    ensures none { IsNone result ↔ (input.now ≡ []) }
+    ensures lines { IfSome result (λ parts. lines_of input.now ≡ parts.0.now ∷ lines_of parts.1.now) }
+    ensures shorter { IfSome result (λ parts. length parts.1.now < length input.now) }
+{
+    if input.is_empty() {
+        return None;
+    }
+    match memchr(b'\n', input) {
+        Some(end) => Some((&input[..end], &input[end + 1..])),
+        None => Some((input, &[])),
+    }
+}
+
+/// The length that line 1 says.
+pub(crate) fn parse_length(line: &[u8]) -> Result<u8, LineFault>
+    ensures found { IfOk result (λ length. (SHORTEST_MATCH ≤ length) × (length ≤ LONGEST_MATCH) × (line.now ≡ length_line length)) }
+    ensures fault { IfErr result (λ fault. IsLengthFault fault (line.now ∷ [])) }
+{
+    match line.strip_prefix(b"length ") {
+        Some(digits) => parse_digits(digits),
+        None => Err(LineFault::NotALengthLine),
+    }
+}
+
+/// The length that one to three digits say.
+fn parse_digits(digits: &[u8]) -> Result<u8, LineFault>
+    ensures found { IfOk result (λ length. (SHORTEST_MATCH ≤ length) × (length ≤ LONGEST_MATCH) × (digits.now ≡ decimal length)) }
+    ensures fault { IfErr result (λ fault. IsDigitsFault fault digits.now) }
+{
+    match (parse_numeral(digits), digits) {
+        (Some(length @ SHORTEST_MATCH..=LONGEST_MATCH), _) => Ok(length),
+        (Some(_), _) => Err(LineFault::LengthOutOfRange),
+        (None, [b'0'..=b'9', b'0'..=b'9', b'0'..=b'9']) => Err(LineFault::LengthOutOfRange),
+        (None, _) => Err(LineFault::NotALengthLine),
+    }
+}

@@ -1,0 +1,246 @@
+//! The judge of a transcript.
+ghost use Rattle.std.specs.Prelude.{◌≡◌, ◌≢◌, ◌≤◌, ◌<◌, ◌↔◌, ◌++◌, ◌+◌, ℕ, length, List, Ok, IsTrue, OnOk, OnErr, IfOk, IfErr};
+ghost use Rattle.std.specs.Io.KnownBytes.{Appends};
+ghost use Rattle.bg_match.specs.Match.{StandsAt};
+ghost use Rattle.bg_match.specs.State.{State};
+ghost use Rattle.bg_match.specs.declared.entries.Entry.{Entry};
+ghost use Rattle.bg_text.specs.BoardText.{line_text, board_text as text_of_board};
+ghost use Rattle.bg_text.specs.Judging.{lines_of, fault_reason, refused_line, fine_line, IsWrongSeat, IsLineFault, IsTooLong, IsJudged, IsJudgement, IsJudgementOf};
+ghost use Rattle.bg_text.specs.Reading.{IsReadAs, IsLineAt, AddsLine, RefusesLine};
+
+use crate::board_texts::board_text;
+use crate::inputs::{MOST_BYTES, parse_length, read_input, split_line};
+use crate::lines::parse_entry;
+use crate::printing::{push_number, push_text};
+use crate::reasons::reason_text;
+use crate::{EngineFault, LineFault, Verdict};
+use bg_board::Player;
+use bg_match::{Entry, EntryFault, Record, Standing};
+use std::alloc::{AllocError, Global};
+use std::io::{Read, Write};
+
+/// What the judge says of an input.
+#[derive(Debug, PartialEq, Eq, Drop)]
+pub struct Judgement {
+    /// The board text of the standing after the good lines, and the verdict line.
+    pub text: Vec<u8>,
+    /// The verdict that the text ends with.
+    pub verdict: Verdict,
+}
+
+/// Adds the reason why a line is refused.
+fn push_reason(out: &mut Vec<u8>, why: LineFault) -> Result<(), AllocError>
+    ensures { OnOk result (out.new.items ≡ out.old.items ++ fault_reason why) }
+{
+    match why {
+        LineFault::NotALengthLine => push_text(out, "not a length line"),
+        LineFault::LengthOutOfRange => push_text(out, "length out of range"),
+        LineFault::Text(fault) => push_text(out, fault.reason()),
+        LineFault::WrongPlayer => push_text(out, "wrong player"),
+        LineFault::Entry(fault) => push_text(out, reason_text(&fault).as_str()),
+    }
+}
+
+/// Adds the verdict line of a refusal.
+fn push_refused(out: &mut Vec<u8>, number: u32, why: LineFault) -> Result<(), AllocError>
+    ensures { OnOk result (out.new.items ≡ out.old.items ++ line_text (refused_line number why)) }
+{
+    push_text(out, "refused at line ")?;
+    push_number(out, number)?;
+    push_text(out, ": ")?;
+    push_reason(out, why)?;
+    push_text(out, "\n")?;
+    Ok(())
+}
+
+/// Adds the verdict line of a good transcript.
+fn push_fine(out: &mut Vec<u8>, entries: u32) -> Result<(), AllocError>
+    ensures { OnOk result (out.new.items ≡ out.old.items ++ line_text (fine_line entries)) }
+{
+    push_text(out, "ok ")?;
+    push_number(out, entries)?;
+    push_text(out, "\n")
+}
+
+/// Whether a line names a seat where the other seat must act.
+fn is_wrong_seat(seat: Option<Player>, standing: &Standing) -> bool
+    ensures { IsTrue result ↔ IsWrongSeat seat standing.now }
+{
+    match (seat, standing.phase().actor().seat()) {
+        (Some(named), Some(acting)) => named != acting,
+        _ => false,
+    }
+}
+
+/// The entry of a line, unless it names the wrong seat.
+fn read_entry(standing: &Standing, line: &[u8]) -> Result<Entry, LineFault>
+    ensures found { IfOk result (IsReadAs standing.now line.now) }
+    ensures only { (entry : Entry) → IsLineAt standing.now line.now entry → result ≡ Ok entry }
+    ensures fault { IfErr result (λ why. (entries : ℕ) → IsLineFault why entries standing.now line.now) }
+{
+    let (seat, entry) = match parse_entry(line) {
+        Ok(found) => found,
+        Err(fault) => return Err(LineFault::Text(fault)),
+    };
+    if is_wrong_seat(seat, standing) {
+        return Err(LineFault::WrongPlayer);
+    }
+    Ok(entry)
+}
+
+/// Why a line was not added.
+#[derive(Drop)]
+enum AddFault {
+    Refused(LineFault),
+    Memory,
+}
+
+impl From<LineFault> for AddFault {
+    ghost use Rattle.std.specs.Prelude.{◌≡◌};
+    ghost use Rattle.bg_text.specs.declared.judging.AddFault.TheVariants.{Refused};
+
+    ghost from_gives = { λ why fault. fault ≡ Refused why };
+
+    fn from(why: LineFault) -> AddFault {
+        AddFault::Refused(why)
+    }
+}
+
+impl From<EntryFault> for AddFault {
+    ghost use Rattle.std.specs.Prelude.{◌≡◌};
+    ghost use Rattle.bg_text.specs.Reading.{fault_of_push};
+
+    ghost from_gives = { λ why fault. fault ≡ fault_of_push why };
+
+    fn from(why: EntryFault) -> AddFault {
+        match why {
+            EntryFault::Memory => AddFault::Memory,
+            why => AddFault::Refused(LineFault::Entry(why)),
+        }
+    }
+}
+
+/// Adds the entry of a line.
+fn add_line(record: &mut Record, line: &[u8]) -> Result<(), AddFault>
+    ensures added { OnOk result (AddsLine record.old record.new line.now) }
+    ensures fault { IfErr result (λ fault. RefusesLine fault record.old line.now) }
+    ensures err { OnErr result (record.new ≡ record.old) }
+{
+    let entry = read_entry(&record.standing(), line)?;
+    record.push(entry)?;
+    Ok(())
+}
+
+/// Judges the lines after line 1 of a match of this length.
+fn judge_lines(alloc: Global, length: u8, lines: &[u8]) -> Result<Judgement, AllocError>
+    requires shortest { 1 ≤ length }
+    requires longest { length ≤ 99 }
+    ensures { IfOk result (λ judgement. IsJudged length (lines_of lines.now) judgement.text.items judgement.verdict) }
+{
+    let mut record = Record::new(alloc, 0, length).unwrap();
+    let mut rest = lines;
+    while let Some((line, after)) = split_line(rest) {
+        match add_line(&mut record, line) {
+            Ok(()) => rest = after,
+            Err(AddFault::Refused(why)) => return refused(alloc, &record, why),
+            Err(AddFault::Memory) => return Err(AllocError),
+        }
+    }
+    fine(alloc, &record)
+}
+
+/// The judgement where a line after those of the record is refused.
+fn refused(alloc: Global, record: &Record, why: LineFault) -> Result<Judgement, AllocError>
+    ensures { IfOk result (λ judgement. (t : State) × StandsAt record.now.match_length record.now.entries t
+        × (judgement.text.items ≡ text_of_board t ++ line_text (refused_line (length record.now.entries + 2) why))
+        × (judgement.verdict ≡ Verdict.Refused (length record.now.entries + 2))) }
+{
+    let number = u32::from(record.len()) + 2;
+    let mut text = board_text(alloc, &record.standing())?;
+    push_refused(&mut text, number, why)?;
+    Ok(Judgement {
+        text,
+        verdict: Verdict::Refused(number),
+    })
+}
+
+/// The judgement where all lines are those of the record.
+fn fine(alloc: Global, record: &Record) -> Result<Judgement, AllocError>
+    ensures { IfOk result (λ judgement. (t : State) × StandsAt record.now.match_length record.now.entries t
+        × (judgement.text.items ≡ text_of_board t ++ line_text (fine_line (length record.now.entries)))
+        × (judgement.verdict ≡ Verdict.Fine (length record.now.entries))) }
+{
+    let entries = u32::from(record.len());
+    let mut text = board_text(alloc, &record.standing())?;
+    push_fine(&mut text, entries)?;
+    Ok(Judgement {
+        text,
+        verdict: Verdict::Fine(entries),
+    })
+}
+
+/// The judgement where line 1 is refused.
+fn refused_at_once(alloc: Global, why: LineFault) -> Result<Judgement, AllocError>
+    ensures { IfOk result (λ judgement. (judgement.text.items ≡ line_text (refused_line 1 why))
+        × (judgement.verdict ≡ Verdict.Refused 1)) }
+{
+    let mut text = Vec::new(alloc);
+    push_refused(&mut text, 1, why)?;
+    Ok(Judgement {
+        text,
+        verdict: Verdict::Refused(1),
+    })
+}
+
+/// What the judge says of an input: the board after its longest legal part, and the verdict, as docs/FORMATS.md,
+/// "The judge", says. Memory is the only fault.
+pub fn judge_text(alloc: Global, input: &[u8]) -> Result<Judgement, AllocError>
+    ensures { IfOk result (λ judgement. IsJudgement input.now judgement.text.items judgement.verdict) }
+{
+    if input.len() > MOST_BYTES {
+        return too_long(alloc);
+    }
+    let Some((line, lines)) = split_line(input) else {
+        return refused_at_once(alloc, LineFault::NotALengthLine);
+    };
+    match parse_length(line) {
+        Ok(length) => judge_lines(alloc, length, lines),
+        Err(why) => refused_at_once(alloc, why),
+    }
+}
+
+/// The judgement on an input that is longer than the limit.
+fn too_long(alloc: Global) -> Result<Judgement, AllocError>
+    ensures { IfOk result (λ judgement. IsTooLong judgement.text.items judgement.verdict) }
+{
+    Ok(Judgement {
+        text: Vec::from_slice(alloc, b"refused: input too long\n")?,
+        verdict: Verdict::TooLong,
+    })
+}
+
+/// Judges a transcript: reads all of the input, and writes the board and the verdict, as docs/FORMATS.md, "The judge",
+/// says. The input has at most 4194304 bytes, which take at most 4194305 reads; a longer one is TooLong.
+///
+/// # Errors
+/// Read where the reader fails and Memory where memory runs out: nothing was written then. Write where the writer
+/// fails: nothing is said of how much was written.
+pub fn judge<R: Read, W: Write>(
+    alloc: Global,
+    reader: &mut R,
+    writer: &mut W,
+) -> Result<Verdict, EngineFault>
+    ensures judged { IfOk result (λ verdict. (text : List ℕ) × IsJudgementOf (R.remaining reader.old) text verdict
+        × Appends (W.contents writer.old) (W.contents writer.new) text) }
+    ensures unwritten { IfErr result (λ fault. fault ≢ EngineFault.Write → writer.new ≡ writer.old) }
+{
+    let input = read_input(alloc, reader)?;
+    let judgement = match judge_text(alloc, &input) {
+        Ok(judgement) => judgement,
+        Err(_) => return Err(EngineFault::Memory),
+    };
+    if writer.write_all(&judgement.text).is_err() {
+        return Err(EngineFault::Write);
+    }
+    Ok(judgement.verdict)
+}

@@ -1,0 +1,27 @@
+//! The texts of a match: the lines of its entries, its board, and the judge of a whole transcript.
+#![tactic(auto)]
+
+mod board_texts;
+mod faults;
+mod inputs;
+mod judging;
+mod lines;
+mod pairs;
+mod printing;
+mod reasons;
+#[cfg(test)]
+mod tests;
+mod transcripts;
+mod verdicts;
+mod words;
+mod writing;
+
+pub use board_texts::board_text;
+pub use faults::{LineFault, TextFault};
+pub use inputs::MOST_BYTES;
+pub use judging::{Judgement, judge, judge_text};
+pub use lines::{parse_action, parse_entry};
+pub use reasons::reason_text;
+pub use transcripts::transcript_text;
+pub use verdicts::{EngineFault, Verdict};
+pub use writing::{entry_text, entry_texts_differ};

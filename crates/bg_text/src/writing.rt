@@ -1,0 +1,132 @@
+//! The texts of entries.
+ghost use Rattle.std.specs.Prelude.{◌≡◌, ◌+◌, ◌≤◌, ◌∷◌, ◌++◌, length, map, codes};
+ghost use Rattle.std.specs.Fmt.{decimal};
+ghost use Rattle.arrayvec.specs.ArrayString.{array_string_len};
+ghost use Rattle.bg_text.specs.Words.{spaced};
+ghost use Rattle.bg_text.specs.EntryText.{entry_text, entry_words, dice_words, step_text, source_text, target_text, level_word, IsSeatOf, EntryTextsDiffer};
+
+use arrayvec::ArrayString;
+use bg_board::{Die, Player, Step};
+use bg_match::{Entry, Level};
+use bg_turns::Turn;
+use itoa::Buffer;
+
+/// The line of an entry, without a line feed, with the seat that made it (docs/FORMATS.md, "Entry lines"). An opening
+/// is the referee's and has no seat, and every other entry has one. The points of a move are in the numbering of that
+/// seat. The longest line has 34 bytes, a move of four steps from the bar to points above 9.
+pub fn entry_text(seat: Option<Player>, entry: &Entry) -> ArrayString<40>
+    requires { IsSeatOf seat entry.now }
+    ensures { result.bytes ≡ entry_text seat entry.now }
+{
+    let mut line = ArrayString::new();
+    match seat {
+        Some(Player::X) => line.push_str("X "),
+        Some(Player::O) => line.push_str("O "),
+        None => {}
+    }
+    push_entry(&mut line, entry);
+    line
+}
+
+/// One line is the line of one entry: two entries with the same line are equal, and so are their seats.
+pub fn entry_texts_differ()
+    ensures { EntryTextsDiffer }
+{}
+
+fn push_entry(line: &mut ArrayString<40>, entry: &Entry)
+    requires { array_string_len line.old ≤ 2 }
+    ensures { line.new.bytes ≡ line.old.bytes ++ spaced (entry_words entry.now) }
+{
+    match entry {
+        Entry::Opening(x, o) => push_dice(line, "open", *x, *o),
+        Entry::Rolled(dice) => push_dice(line, "roll", dice.first, dice.second),
+        Entry::Doubled => line.push_str("double"),
+        Entry::Taken => line.push_str("take"),
+        Entry::Dropped => line.push_str("drop"),
+        Entry::Moved(turn) => push_turn(line, turn),
+        Entry::Resigned(level) => {
+            line.push_str("resign ");
+            line.push_str(level_name(*level));
+        }
+        Entry::Accepted => line.push_str("accept"),
+        Entry::Rejected => line.push_str("reject"),
+    }
+}
+
+fn level_name(level: Level) -> &'static str
+    ensures name { result.now ≡ level_word level }
+    ensures fits { length result.now ≤ 10 }
+{
+    match level {
+        Level::Normal => "normal",
+        Level::Gammon => "gammon",
+        Level::Backgammon => "backgammon",
+    }
+}
+
+fn push_dice(line: &mut ArrayString<40>, word: &str, first: Die, second: Die)
+    requires { array_string_len line.old + length word.now ≤ 6 }
+    ensures { line.new.bytes ≡ line.old.bytes ++ spaced (word.now ∷ dice_words first second) }
+{
+    line.push_str(word);
+    line.push_str(" ");
+    push_number(line, first.pips());
+    line.push_str(" ");
+    push_number(line, second.pips());
+}
+
+fn push_turn(line: &mut ArrayString<40>, turn: &Turn)
+    requires { array_string_len line.old ≤ 2 }
+    ensures { line.new.bytes ≡ line.old.bytes ++ spaced (codes "move" ∷ map step_text turn.now) }
+{
+    line.push_str("move");
+    let steps = turn.steps.as_slice();
+    for step in steps {
+        push_step(line, *step);
+    }
+}
+
+/// A space, and the text of a step.
+fn push_step(line: &mut ArrayString<40>, step: Step)
+    requires { array_string_len line.old ≤ 32 }
+    ensures bytes { line.new.bytes ≡ line.old.bytes ++ 32 ∷ step_text step }
+    ensures fits { array_string_len line.new ≤ array_string_len line.old + 8 }
+{
+    line.push_str(" ");
+    push_source(line, step.from());
+    line.push_str("-");
+    push_target(line, step.to());
+}
+
+fn push_source(line: &mut ArrayString<40>, point: u8)
+    requires { array_string_len line.old ≤ 37 }
+    ensures bytes { line.new.bytes ≡ line.old.bytes ++ source_text point }
+    ensures fits { array_string_len line.new ≤ array_string_len line.old + 3 }
+{
+    if point == 25 {
+        line.push_str("bar");
+    } else {
+        push_number(line, point);
+    }
+}
+
+fn push_target(line: &mut ArrayString<40>, point: u8)
+    requires { array_string_len line.old ≤ 37 }
+    ensures bytes { line.new.bytes ≡ line.old.bytes ++ target_text point }
+    ensures fits { array_string_len line.new ≤ array_string_len line.old + 3 }
+{
+    if point == 0 {
+        line.push_str("off");
+    } else {
+        push_number(line, point);
+    }
+}
+
+fn push_number(line: &mut ArrayString<40>, number: u8)
+    requires { array_string_len line.old ≤ 37 }
+    ensures bytes { line.new.bytes ≡ line.old.bytes ++ decimal number }
+    ensures fits { array_string_len line.new ≤ array_string_len line.old + 3 }
+{
+    let mut digits = Buffer::new();
+    line.push_str(digits.format(number));
+}
