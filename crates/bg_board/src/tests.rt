@@ -39,6 +39,17 @@ fn ranges(rt: HostRuntime) -> Result<(), Fail> {
 }
 
 #[test]
+fn printed(rt: HostRuntime) -> Result<(), Fail> {
+    let alloc = rt.alloc();
+    let players = format!(in alloc; "{} {}", Player::X, Player::O)?;
+    assert_eq!(rt; players.as_str(), "X O");
+    let fault = StepFault::BarFirst;
+    let reason = format!(in alloc; "{fault}")?;
+    assert_eq!(rt; reason.as_str(), "a checker on the bar must enter first");
+    Ok(())
+}
+
+#[test]
 fn counts_refused(rt: HostRuntime) -> Result<(), Fail> {
     let fifteen = counts(&[(1, 15)]);
     let fourteen = counts(&[(1, 14)]);

@@ -23,6 +23,10 @@ pub Leads-front : (s : State) (front rest : List Entry) (t : State) → Leads s 
 Leads-front s [] rest t h = (s, refl, h)
 Leads-front s (e ∷ front) rest t h = let r = Leads-front h.0 front rest t h.2 in (r.0, (h.0, h.1, r.1), r.2)
 
+pub Leads-append : (s : State) (front rest : List Entry) (m t : State) → Leads s front m → Leads m rest t → Leads s (front ++ rest) t
+Leads-append s [] rest m t h k = subst (λ (u : State). Leads u rest t) h k
+Leads-append s (e ∷ front) rest m t h k = (h.0, h.1, Leads-append h.0 front rest m t h.2 k)
+
 pub legal_fronts : HasLegalFronts
 legal_fronts match_length front rest h =
     let few : length front ≤ length (front ++ rest) = omega (arith, length-append front rest) in

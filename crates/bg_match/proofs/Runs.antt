@@ -1,8 +1,10 @@
 -- A list of entries leads to one standing.
-use Rattle.std.proofs.Common.{◌≡◌, ◌↔◌, ℕ, ◌*◌, ◌<◌, Option, Some, None, List, [], ◌∷◌, ◌++◌, length, length-append, refl, sym, ◌∙◌, ap, subst, arith}
+use Rattle.std.proofs.Common.{◌≡◌, ◌≢◌, ◌↔◌, ℕ, ◌*◌, ◌<◌, Option, Some, None, List, [], ◌∷◌, ◌++◌, length, length-append, refl, sym, ◌∙◌, ap, subst, arith}
 use Rattle.bg_board.specs.declared.players.Player.{Player}
 use Rattle.bg_turns.specs.declared.throws.Dice.{Dice}
 use Rattle.bg_board.specs.Position.{opponent}
+use Rattle.bg_board.specs.Die.{pips}
+use Rattle.bg_board.specs.declared.dice.Die.{Die}
 use Rattle.bg_turns.specs.Turn.{IsLegalTurn, after_steps}
 use Rattle.bg_board.specs.FromTo.{FromTo}
 use Rattle.bg_match.specs.declared.limits.TheConstants.{MOST_ENTRIES}
@@ -12,7 +14,7 @@ use Rattle.bg_match.specs.declared.entries.Entry.{Entry}
 use Rattle.bg_match.specs.declared.entries.Entry.TheVariants as entry
 use Rattle.bg_match.specs.Level.{points}
 use Rattle.bg_match.specs.State.{State, after_win, start_of}
-use Rattle.bg_match.specs.Follows.{Follows, CanFollow, IsEntryFault, phase_back, after_turn}
+use Rattle.bg_match.specs.Follows.{Follows, CanFollow, IsEntryFault, MayDouble, opener, phase_back, after_turn}
 use Rattle.bg_match.specs.declared.entries.EntryFault.{EntryFault}
 use Rattle.bg_match.specs.declared.entries.EntryFault.TheVariants as fault
 use Rattle.std.specs.Prelude.{Result, Ok, Err, IfOk, IfErr}
@@ -109,4 +111,18 @@ CanFollow-Moved s p dice turn is = (
       let thrown : h.1.1 ≡ dice = cc in
       subst (λ (d : Dice). IsLegalTurn s.board p d turn) thrown (subst (λ (q : Player). IsLegalTurn s.board q h.1.1 turn) player h.1.3)),
   λ legal. (after_turn s p (after_steps s.board p turn), (p, dice, is, legal, refl)),
+)
+
+-- an opening may follow where a game is to be opened exactly where its dice differ
+pub CanFollow-Opening : (s : State) (x o : Die) → s.phase ≡ phase.Opening → CanFollow s (entry.Opening x o) ↔ (pips x ≢ pips o)
+CanFollow-Opening s x o is = (λ h. h.1.1, λ differ. (record s { phase = phase.ToMove (opener x o) (record { first = x; second = o }) }, (is, differ, refl)))
+
+-- a double may follow where a player is to act exactly where he may double
+pub CanFollow-Doubled : (s : State) (p : Player) → s.phase ≡ phase.ToAct p → CanFollow s entry.Doubled ↔ MayDouble s p
+CanFollow-Doubled s p is = (
+  λ h. (
+      let same : phase.ToAct h.1.0 ≡ phase.ToAct p = sym h.1.1 ∙ is in
+      let player : h.1.0 ≡ p = cc in
+      subst (λ (q : Player). MayDouble s q) player h.1.2),
+  λ may. (record s { phase = phase.Doubled (opponent p) }, (p, is, may, refl)),
 )

@@ -1,5 +1,5 @@
 -- What holds of every match.
-use Rattle.std.specs.Prelude.{◌≡◌, ℕ, ◌≤◌, Option, List, [], ◌∷◌, ◌++◌}
+use Rattle.std.specs.Prelude.{◌≡◌, ◌↔◌, ℕ, ◌≤◌, true, Option, List, [], ◌∷◌, ◌++◌}
 use Rattle.std.specs.List.{AllByRecursion}
 use Rattle.bg_board.specs.declared.dice.Die.{Die}
 use Rattle.bg_turns.specs.declared.throws.Dice.{Dice}
@@ -8,6 +8,8 @@ use Rattle.bg_match.specs.declared.phases.Actor.TheVariants.{Referee}
 use Rattle.bg_match.specs.declared.actions.Action.{Action}
 use Rattle.bg_match.specs.declared.entries.Entry.{Entry}
 use Rattle.bg_match.specs.declared.entries.Entry.TheVariants as entry
+use Rattle.bg_match.specs.contracts.actions.ActionPartialEq.TheImpl.{ghosts as of_actions}
+use Rattle.bg_match.specs.contracts.entries.EntryPartialEq.TheImpl.{ghosts as of_entries}
 use Rattle.bg_match.specs.State.{State}
 use Rattle.bg_match.specs.Entry.{IsEntry, IsAction}
 use Rattle.bg_match.specs.Match.{StandsAt, IsLegalRecord, ActsAfter}
@@ -41,6 +43,10 @@ OpensByReferee = (match_length : ℕ) (entries : List Entry) (x o : Die)
 abbrev pub AnswersOneAction : Type 0
 AnswersOneAction = (a b : Action) (e : Entry) → IsAnswer a e → IsAnswer b e → a ≡ b
 
+-- an opening answers none
+abbrev pub OpeningAnswersNone : Type 0
+OpeningAnswersNone = (a : Action) (x o : Die) → IsAnswer a (entry.Opening x o) → ⊥
+
 -- the entry of an action is in its ranges where the action is
 abbrev pub AnswersInRange : Type 0
 AnswersInRange = (a : Action) (e : Entry) → IsAnswer a e → IsAction a → IsEntry e
@@ -50,3 +56,11 @@ abbrev pub RollsAnyDice : Type 0
 RollsAnyDice = (match_length : ℕ) (entries : List Entry) (a : Action) (dice other : Option Dice) (e f : Entry)
     → Answers a dice e → Answers a other f
     → IsLegalRecord match_length (entries ++ e ∷ []) → IsLegalRecord match_length (entries ++ f ∷ [])
+
+-- `==` of entries says whether they are the same
+abbrev pub ComparesEntries : Type 0
+ComparesEntries = (a b : Entry) → (of_entries.eq a b ≡ true) ↔ (a ≡ b)
+
+-- `==` of actions says whether they are the same
+abbrev pub ComparesActions : Type 0
+ComparesActions = (a b : Action) → (of_actions.eq a b ≡ true) ↔ (a ≡ b)

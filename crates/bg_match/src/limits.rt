@@ -1,4 +1,4 @@
-//! The limits of a match.
+//! The limits of a match (docs/RULES.md, "Limits").
 
 /// The number of an entry in its match. Numbers count from 1.
 pub type Number = u16;

@@ -8,11 +8,13 @@ use crate::{
 use bg_board::Player;
 use std::alloc::{AllocError, Global};
 use std::marker::Model;
+use thiserror::Error;
 
 /// Why there is no match of this length.
-#[derive(Clone, Copy, Debug, PartialEq, Eq)]
+#[derive(Clone, Copy, Debug, PartialEq, Eq, Error)]
 pub enum LengthFault {
     /// The length is not from 1 to 99.
+    #[error("length out of range")]
     LengthOutOfRange,
 }
 
@@ -23,7 +25,7 @@ struct Made {
     seat: Option<Player>,
 }
 
-/// The entries of a match, which are legal so far. Entries are numbered from 1.
+/// The entries of a match, which are legal so far (docs/RULES.md, "Entries and phases"). Entries are numbered from 1.
 ///
 /// Contracts see the match id, the length of the match, the list of entries, and how many more there is room for.
 #[derive(Debug, Drop)]

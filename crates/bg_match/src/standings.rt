@@ -1,5 +1,5 @@
 //! Where a match stands.
-ghost use Rattle.std.specs.Prelude.{◌≡◌, ◌≤◌, ◌*◌, ◌↔◌, IfOk, IfErr, OnErr, MatchOption, IsSome, IfSome, IsTrue, IsOk};
+ghost use Rattle.std.specs.Prelude.{◌≡◌, ◌≢◌, ◌≤◌, ◌*◌, ◌↔◌, IfOk, IfErr, OnErr, MatchOption, IsSome, IfSome, IsTrue, IsOk};
 ghost use Rattle.std.specs.Int.{IsPowerOfTwo};
 ghost use Rattle.bg_match.specs.State.{IsCubeOf, AreScoresOf};
 ghost use Rattle.bg_board.specs.Die.{pips};
@@ -43,7 +43,7 @@ impl Standing {
     ghost use Rattle.bg_match.specs.State.{State, IsState, after_win, start_of, IsRunning};
     ghost use Rattle.bg_match.specs.Level.{points};
     ghost use Rattle.bg_match.specs.Actor.{actor_of};
-    ghost use Rattle.bg_match.specs.Follows.{Follows, CanFollow, IsEntryFault, IsNoDouble, MayDouble, MovedFault, after_turn};
+    ghost use Rattle.bg_match.specs.Follows.{Follows, CanFollow, IsEntryFault, IsNoDouble, IsDoubleFault, MayDouble, MovedFault, after_turn};
     ghost use Rattle.bg_turns.specs.Turn.{IsLegalTurn, after_steps};
 
     /// Where a match of this length starts.
@@ -102,7 +102,7 @@ impl Standing {
         self.score
     }
 
-    /// Whether the game is the Crawford game, which is played without the cube.
+    /// Whether the game is the Crawford game, which is played without the cube (docs/RULES.md, "The Crawford game").
     pub fn crawford(&self) -> bool
         ensures { result ≡ self.now.crawford }
     {
@@ -169,49 +169,61 @@ impl Standing {
         ensures after { IfOk result (λ after. Follows self.now entry.now after) }
         ensures fault { IfErr result (λ fault. IsEntryFault fault self.now entry.now) }
     {
-        match self.phase {
-            Phase::Opening => match entry {
-                Entry::Opening(x, o) if x.pips() == o.pips() => Err(EntryFault::EqualOpening),
-                Entry::Opening(x, o) => {
-                    let dice = Dice {
-                        first: *x,
-                        second: *o,
-                    };
-                    Ok(self.with_phase(Phase::ToMove(opener(*x, *o), dice)))
-                }
-                _ => Err(EntryFault::WrongPhase),
-            },
-            Phase::ToAct(player) => match entry {
-                Entry::Rolled(dice) => Ok(self.with_phase(Phase::ToMove(player, *dice))),
-                Entry::Doubled => match self.no_double(player) {
-                    Some(why) => Err(EntryFault::NoDouble(why)),
-                    None => Ok(self.with_phase(Phase::Doubled(player.opponent()))),
-                },
-                Entry::Resigned(level) => Ok(self.with_phase(Phase::Resigned(
-                    player, *level, None,
-                ))),
-                _ => Err(EntryFault::WrongPhase),
-            },
-            Phase::Doubled(player) => match entry {
-                Entry::Taken => Ok(self.taken_by(player)),
-                Entry::Dropped => Ok(self.won_by(player.opponent(), u16::from(self.cube.value))),
-                _ => Err(EntryFault::WrongPhase),
-            },
-            Phase::ToMove(player, dice) => match entry {
-                Entry::Moved(turn) => self.moved(player, dice, turn),
-                Entry::Resigned(level) => Ok(self.with_phase(Phase::Resigned(
-                    player,
-                    *level,
-                    Some(dice),
-                ))),
-                _ => Err(EntryFault::WrongPhase),
-            },
-            Phase::Resigned(player, level, back) => match entry {
-                Entry::Accepted => Ok(self.won_by(player.opponent(), self.worth(level))),
-                Entry::Rejected => Ok(self.with_phase(phase_back(player, back))),
-                _ => Err(EntryFault::WrongPhase),
-            },
-            Phase::Over(_) => Err(EntryFault::MatchOver),
+        match (self.phase, entry) {
+            (Phase::Opening, Entry::Opening(x, o)) => self.opened(*x, *o),
+            (Phase::ToAct(player), Entry::Rolled(dice)) => {
+                Ok(self.with_phase(Phase::ToMove(player, *dice)))
+            }
+            (Phase::ToAct(player), Entry::Doubled) => self.doubled_by(player),
+            (Phase::ToAct(player), Entry::Resigned(level)) => {
+                Ok(self.with_phase(Phase::Resigned(player, *level, None)))
+            }
+            (Phase::Doubled(player), Entry::Taken) => Ok(self.taken_by(player)),
+            (Phase::Doubled(player), Entry::Dropped) => {
+                Ok(self.won_by(player.opponent(), u16::from(self.cube.value)))
+            }
+            (Phase::ToMove(player, dice), Entry::Moved(turn)) => self.moved(player, dice, turn),
+            (Phase::ToMove(player, dice), Entry::Resigned(level)) => {
+                Ok(self.with_phase(Phase::Resigned(player, *level, Some(dice))))
+            }
+            (Phase::Resigned(player, level, _), Entry::Accepted) => {
+                Ok(self.won_by(player.opponent(), self.worth(level)))
+            }
+            (Phase::Resigned(player, _, back), Entry::Rejected) => {
+                Ok(self.with_phase(phase_back(player, back)))
+            }
+            (Phase::Over(_), _) => Err(EntryFault::MatchOver),
+            _ => Err(EntryFault::WrongPhase),
+        }
+    }
+
+    /// After an opening, or that its dice are equal.
+    fn opened(&self, x: Die, o: Die) -> Result<Standing, EntryFault>
+        requires { self.now.phase ≡ Phase.Opening }
+        ensures ok { IsOk result ↔ (pips x ≢ pips o) }
+        ensures after { IfOk result (λ after. after ≡ record self.now { phase = Phase.ToMove (opening_player x o) (record { first = x; second = o }) }) }
+        ensures err { IfErr result (λ fault. fault ≡ EntryFault.EqualOpening) }
+    {
+        if x.pips() == o.pips() {
+            return Err(EntryFault::EqualOpening);
+        }
+        let dice = Dice {
+            first: x,
+            second: o,
+        };
+        Ok(self.with_phase(Phase::ToMove(opener(x, o), dice)))
+    }
+
+    /// After a double, or why the player may not double.
+    fn doubled_by(&self, player: Player) -> Result<Standing, EntryFault>
+        requires { self.now.phase ≡ Phase.ToAct player }
+        ensures ok { IsOk result ↔ MayDouble self.now player }
+        ensures after { IfOk result (λ after. after ≡ record self.now { phase = Phase.Doubled (opponent player) }) }
+        ensures err { IfErr result (λ fault. IsDoubleFault fault self.now player) }
+    {
+        match self.no_double(player) {
+            Some(why) => Err(EntryFault::NoDouble(why)),
+            None => Ok(self.with_phase(Phase::Doubled(player.opponent()))),
         }
     }
 
