@@ -4,7 +4,7 @@ use clap::{Command, Error};
 use std::alloc::Global;
 
 /// The program's commands, with their help.
-pub fn command<'a>(alloc: Global) -> Result<Command<'a>, Error> {
+pub(crate) fn command<'a>(alloc: Global) -> Result<Command<'a>, Error> {
     let judge = Command::new(alloc, "judge")
         .about("Judge the transcript of a match on standard input")
         .long_about(
