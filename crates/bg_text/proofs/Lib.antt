@@ -13,3 +13,4 @@ pub mod InputLines
 pub mod ReadLines
 pub mod PartRead
 pub mod WrittenLines
+pub mod FineTranscripts

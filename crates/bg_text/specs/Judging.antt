@@ -9,6 +9,7 @@ use Rattle.bg_match.specs.declared.limits.TheConstants.{MOST_ENTRIES, SHORTEST_M
 use Rattle.bg_match.specs.Actor.{actor_of, seat_of}
 use Rattle.bg_match.specs.Follows.{IsEntryFault}
 use Rattle.bg_match.specs.Entry.{IsEntry}
+use Rattle.bg_match.specs.Match.{StandsAt}
 use Rattle.bg_match.specs.declared.entries.Entry.{Entry}
 use Rattle.bg_match.specs.declared.entries.EntryFault.{EntryFault}
 use Rattle.bg_match.specs.declared.entries.EntryFault.TheVariants.{RecordFull}
@@ -16,7 +17,7 @@ use Rattle.bg_text.specs.BoardText.{line_text, board_text}
 use Rattle.bg_text.specs.EntryText.{entry_text, IsSeatOf}
 use Rattle.bg_text.specs.EntryShape.{IsEntryTextFault}
 use Rattle.bg_text.specs.Reason.{reason, text_reason}
-use Rattle.bg_text.specs.Transcript.{AreLinesOf, length_line}
+use Rattle.bg_text.specs.Transcript.{AreLinesOf, IsTranscript, length_line}
 use Rattle.bg_text.specs.declared.inputs.TheConstants.{MOST_BYTES}
 use Rattle.bg_text.specs.declared.faults.LineFault.{LineFault}
 use Rattle.bg_text.specs.declared.faults.LineFault.TheVariants as fault
@@ -144,3 +145,11 @@ IsJudgementOf None text verdict = (input : List ℕ) × IsJudgement input text v
 abbrev pub IsReadOf : List ℕ → List ℕ → Type 0
 IsReadOf bytes input =
     ((length input ≤ MOST_BYTES) × (bytes ≡ input)) ⊎ ((MOST_BYTES < length input) × (MOST_BYTES < length bytes))
+
+-- the judge finds every transcript fine, counts its entries, and shows the board where they lead
+abbrev pub TranscriptsAreFine : Type 0
+TranscriptsAreFine =
+    (match_length : ℕ) (entries : List Entry) (t : State) (input text : List ℕ) (verdict : Verdict)
+    → SHORTEST_MATCH ≤ match_length → match_length ≤ LONGEST_MATCH → length entries ≤ MOST_ENTRIES
+    → StandsAt match_length entries t → IsTranscript match_length entries input → IsJudgement input text verdict
+    → (verdict ≡ Fine (length entries)) × (text ≡ board_text t ++ line_text (fine_line (length entries)))

@@ -5,7 +5,7 @@ ghost use Rattle.bg_match.specs.Match.{StandsAt};
 ghost use Rattle.bg_match.specs.State.{State};
 ghost use Rattle.bg_match.specs.declared.entries.Entry.{Entry};
 ghost use Rattle.bg_text.specs.BoardText.{line_text, board_text as text_of_board};
-ghost use Rattle.bg_text.specs.Judging.{lines_of, fault_reason, refused_line, fine_line, IsWrongSeat, IsLineFault, IsTooLong, IsJudged, IsJudgement, IsJudgementOf};
+ghost use Rattle.bg_text.specs.Judging.{lines_of, fault_reason, refused_line, fine_line, IsWrongSeat, IsLineFault, IsTooLong, IsJudged, IsJudgement, IsJudgementOf, TranscriptsAreFine};
 ghost use Rattle.bg_text.specs.EngineFault.{SourceFails, SinkFails};
 ghost use Rattle.bg_text.specs.Reading.{IsReadAs, IsLineAt, AddsLine, RefusesLine};
 
@@ -219,6 +219,11 @@ fn too_long(alloc: Global) -> Result<Judgement, AllocError>
         verdict: Verdict::TooLong,
     })
 }
+
+/// Every transcript is judged fine, with the number of its entries and the board where they lead.
+pub fn transcripts_are_fine()
+    ensures { TranscriptsAreFine }
+{}
 
 /// Judges a transcript: reads all of the input, and writes the board and the verdict, as docs/FORMATS.md, "The judge",
 /// says. The input has at most 4194304 bytes, which take at most 4194305 reads; a longer one is TooLong.

@@ -1,0 +1,5 @@
+use Rattle.bg_text.proofs.FineTranscripts.{transcripts_are_fine}
+use Rattle.bg_text.proofs.judging.transcripts_are_fine.Goals as goal
+
+pub returns : goal.returns
+returns c = transcripts_are_fine
