@@ -1,20 +1,18 @@
 -- The laws of legal records and of the entries that answer actions.
-use Rattle.std.proofs.Common.{◌≡◌, ℕ, ◌+◌, ◌≤◌, Option, Some, None, List, [], ◌∷◌, ◌++◌, length, length-append, refl, sym, ◌∙◌, ap, subst, arith}
+use Rattle.std.proofs.Common.{◌≡◌, ◌↔◌, ℕ, ◌≤◌, Option, Some, None, List, [], ◌∷◌, ◌++◌, length, length-append, refl, sym, ◌∙◌, ap, subst, arith}
 use Rattle.std.specs.List.{AllByRecursion}
-use Rattle.bg_board.specs.declared.dice.Die.{Die}
+use Rattle.bg_board.specs.declared.players.Player.{Player}
 use Rattle.bg_turns.specs.declared.throws.Dice.{Dice}
-use Rattle.bg_match.specs.declared.actions.Action.{Action}
 use Rattle.bg_match.specs.declared.actions.Action.TheVariants as action
 use Rattle.bg_match.specs.declared.phases.Phase.TheVariants as phase
 use Rattle.bg_match.specs.declared.entries.Entry.{Entry}
 use Rattle.bg_match.specs.declared.entries.Entry.TheVariants as entry
-use Rattle.bg_match.specs.Actor.{actor_of}
-use Rattle.bg_match.specs.Entry.{IsEntry}
+use Rattle.bg_match.specs.Actor.{actor_of, seat_of}
+use Rattle.bg_match.specs.Entry.{IsEntry, IsOpening}
 use Rattle.bg_match.specs.State.{State, start_of}
-use Rattle.bg_match.specs.Follows.{Follows, CanFollow}
-use Rattle.bg_match.specs.Match.{Leads, StandsAt, IsLegalRecord}
-use Rattle.bg_match.specs.Answers.{Answers}
-use Rattle.bg_match.specs.Laws.{HasLegalFronts, HasOneStanding, HasEntriesInRange, OpensByReferee, RollsAnyDice}
+use Rattle.bg_match.specs.Follows.{Follows, CanFollow, phase_back}
+use Rattle.bg_match.specs.Match.{Leads, IsLegalRecord}
+use Rattle.bg_match.specs.Laws.{HasLegalFronts, HasOneStanding, HasEntriesInRange, OpensByReferee, OpensWithoutSeat, RollsAnyDice}
 use Rattle.bg_match.proofs.PlayableTurns.{legal_in_range}
 use Rattle.bg_match.proofs.Runs.{Follows-same, Leads-push}
 
@@ -94,3 +92,25 @@ rolls_any_dice match_length entries (action.Move turn) dice other e f h k legal 
 rolls_any_dice match_length entries (action.Resign level) dice other e f h k legal = same_legal match_length entries e f (h ∙ sym k) legal
 rolls_any_dice match_length entries action.Accept dice other e f h k legal = same_legal match_length entries e f (h ∙ sym k) legal
 rolls_any_dice match_length entries action.Reject dice other e f h k legal = same_legal match_length entries e f (h ∙ sym k) legal
+
+-- the seat that acts before an entry, if a seat does
+acts_before : (s : State) (e : Entry) (t : State) → Follows s e t → (seat_of (actor_of s.phase) ≡ None) ↔ IsOpening e
+acts_before s (entry.Opening x o) t h = rw h.0 (λ _. tt, λ _. refl)
+acts_before s (entry.Rolled dice) t h = rw h.1 (λ none. cc, λ opening. absurd opening)
+acts_before s entry.Doubled t h = rw h.1 (λ none. cc, λ opening. absurd opening)
+acts_before s entry.Taken t h = rw h.1 (λ none. cc, λ opening. absurd opening)
+acts_before s entry.Dropped t h = rw h.1 (λ none. cc, λ opening. absurd opening)
+acts_before s (entry.Moved turn) t h = rw h.2 (λ none. cc, λ opening. absurd opening)
+acts_before s (entry.Resigned level) t h = rw h.2 (resigner h.0 h.1) where
+  resigner : (p : Player) (back : Option Dice) → (seat_of (actor_of (phase_back p back)) ≡ None) ↔ ⊥
+  resigner p None = (λ none. cc, λ opening. absurd opening)
+  resigner p (Some dice) = (λ none. cc, λ opening. absurd opening)
+acts_before s entry.Accepted t h = rw h.3 (λ none. cc, λ opening. absurd opening)
+acts_before s entry.Rejected t h = rw h.3 (λ none. cc, λ opening. absurd opening)
+
+pub opens_without_seat : OpensWithoutSeat
+opens_without_seat match_length front rest e seat legal after =
+    let at = Leads-front (start_of match_length) front (e ∷ rest) legal.1.0 legal.1.1 in
+    let same = one_standing match_length front at.0 after.0 at.1 after.1 in
+    let acts = acts_before at.0 e at.2.0 at.2.1 in
+    rw (after.2, ← same) acts

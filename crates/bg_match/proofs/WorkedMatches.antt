@@ -1,20 +1,17 @@
 -- Worked matches, by the definitions alone.
-use Rattle.std.proofs.Common.{◌≡◌, ◌≢◌, ℕ, true, false, Some, None, List, [], ◌∷◌, ◌++◌, refl, inl, inr, arith}
+use Rattle.std.proofs.Common.{◌≡◌, ℕ, true, false, Some, None, List, [], ◌∷◌, ◌++◌, refl, inr, arith}
 use Rattle.bg_board.specs.Position.{Position, start_position}
 use Rattle.bg_board.specs.declared.players.Player.TheVariants.{X, O}
 use Rattle.bg_board.specs.declared.dice.Die.TheVariants.{One, Three, Five, Six}
 use Rattle.bg_turns.specs.declared.throws.Dice.{Dice}
 use Rattle.bg_match.specs.declared.levels.Level.TheVariants.{Normal, Gammon, Backgammon}
-use Rattle.bg_match.specs.declared.phases.Actor.TheVariants.{Referee, Seat, Nobody}
-use Rattle.bg_match.specs.declared.phases.Phase.{Phase}
+use Rattle.bg_match.specs.declared.phases.Actor.TheVariants.{Referee, Nobody}
 use Rattle.bg_match.specs.declared.phases.Phase.TheVariants as phase
-use Rattle.bg_match.specs.declared.phases.Cube.{Cube}
 use Rattle.bg_match.specs.declared.entries.Entry.{Entry}
 use Rattle.bg_match.specs.declared.entries.Entry.TheVariants as entry
 use Rattle.bg_match.specs.declared.entries.EntryFault.TheVariants as fault
 use Rattle.bg_match.specs.declared.entries.NoDouble.TheVariants as no_double
 use Rattle.bg_match.specs.Level.{level_of}
-use Rattle.bg_match.specs.Actor.{actor_of}
 use Rattle.bg_match.specs.State.{State, start_of, start_cube, after_win}
 use Rattle.bg_match.specs.Follows.{Follows, IsEntryFault, after_turn}
 use Rattle.bg_match.proofs.Legal.{Leads-append}

@@ -14,3 +14,8 @@ IsEntry _ = Unit {0}
 abbrev pub IsAction : Action → Type 0
 IsAction (action.Move turn) = IsTurn turn
 IsAction _ = Unit {0}
+
+-- the entry opens a game
+abbrev pub IsOpening : Entry → Type 0
+IsOpening (entry.Opening x o) = Unit {0}
+IsOpening _ = ⊥

@@ -1,7 +1,8 @@
 -- What holds of every match.
-use Rattle.std.specs.Prelude.{◌≡◌, ◌↔◌, ℕ, ◌≤◌, true, Option, List, [], ◌∷◌, ◌++◌}
+use Rattle.std.specs.Prelude.{◌≡◌, ◌↔◌, ℕ, ◌≤◌, true, Option, None, List, [], ◌∷◌, ◌++◌}
 use Rattle.std.specs.List.{AllByRecursion}
 use Rattle.bg_board.specs.declared.dice.Die.{Die}
+use Rattle.bg_board.specs.declared.players.Player.{Player}
 use Rattle.bg_turns.specs.declared.throws.Dice.{Dice}
 use Rattle.bg_match.specs.declared.limits.TheConstants.{SHORTEST_MATCH, LONGEST_MATCH}
 use Rattle.bg_match.specs.declared.phases.Actor.TheVariants.{Referee}
@@ -11,8 +12,8 @@ use Rattle.bg_match.specs.declared.entries.Entry.TheVariants as entry
 use Rattle.bg_match.specs.contracts.actions.ActionPartialEq.TheImpl.{ghosts as of_actions}
 use Rattle.bg_match.specs.contracts.entries.EntryPartialEq.TheImpl.{ghosts as of_entries}
 use Rattle.bg_match.specs.State.{State}
-use Rattle.bg_match.specs.Entry.{IsEntry, IsAction}
-use Rattle.bg_match.specs.Match.{StandsAt, IsLegalRecord, ActsAfter}
+use Rattle.bg_match.specs.Entry.{IsEntry, IsAction, IsOpening}
+use Rattle.bg_match.specs.Match.{StandsAt, IsLegalRecord, ActsAfter, SeatAfter}
 use Rattle.bg_match.specs.Answers.{IsAnswer, Answers}
 
 -- a match of any length may begin
@@ -38,6 +39,11 @@ HasEntriesInRange = (match_length : ℕ) (entries : List Entry)
 abbrev pub OpensByReferee : Type 0
 OpensByReferee = (match_length : ℕ) (entries : List Entry) (x o : Die)
     → IsLegalRecord match_length (entries ++ entry.Opening x o ∷ []) → ActsAfter match_length entries Referee
+
+-- every entry of a legal record is made by a seat, but for the openings
+abbrev pub OpensWithoutSeat : Type 0
+OpensWithoutSeat = (match_length : ℕ) (front rest : List Entry) (e : Entry) (seat : Option Player)
+    → IsLegalRecord match_length (front ++ e ∷ rest) → SeatAfter match_length front seat → (seat ≡ None) ↔ IsOpening e
 
 -- an entry answers one action
 abbrev pub AnswersOneAction : Type 0

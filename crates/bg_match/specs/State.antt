@@ -20,6 +20,19 @@ pub record State : Type 0 where
   pub crawford : Bool
   pub game : ℕ
 
+-- the state of these parts, the score of X first
+abbrev pub state_of : ℕ → Position → Phase → Cube → ℕ × ℕ → Bool → ℕ → State
+state_of match_length board phase cube score crawford game = record {
+  match_length = match_length;
+  board = board;
+  phase = phase;
+  cube = cube;
+  x_score = score.0;
+  o_score = score.1;
+  crawford = crawford;
+  game = game;
+}
+
 abbrev pub score_of : State → Player → ℕ
 score_of s X = s.x_score
 score_of s O = s.o_score

@@ -1,6 +1,6 @@
 //! Laws of the definitions, for the crates above: each is the contract of a function that does nothing.
 ghost use Rattle.bg_match.specs.Match.{MarksCrawford};
-ghost use Rattle.bg_match.specs.Laws.{MayBegin, HasLegalFronts, HasOneStanding, HasEntriesInRange, OpensByReferee};
+ghost use Rattle.bg_match.specs.Laws.{MayBegin, HasLegalFronts, HasOneStanding, HasEntriesInRange, OpensByReferee, OpensWithoutSeat};
 ghost use Rattle.bg_match.specs.Laws.{AnswersOneAction, OpeningAnswersNone, AnswersInRange, RollsAnyDice, ComparesEntries, ComparesActions};
 
 /// The Crawford mark of a standing is that of the scores before the games of its match.
@@ -15,6 +15,7 @@ pub fn laws_of_records()
     ensures standing { HasOneStanding }
     ensures in_range { HasEntriesInRange }
     ensures referee { OpensByReferee }
+    ensures seats { OpensWithoutSeat }
 {}
 
 /// What holds of the entries that answer actions.

@@ -1,5 +1,5 @@
 //! The record of a match.
-ghost use Rattle.std.specs.Prelude.{◌≡◌, ◌≢◌, ◌≤◌, ◌<◌, ◌+◌, ◌-◌, ◌↔◌, ◌⊎◌, ◌++◌, ◌∷◌, [], ℕ, length, take, IsOk, IfOk, OnOk, OnErr, IfErr, IsTrue, option_copied, vec_len, vec_capacity};
+ghost use Rattle.std.specs.Prelude.{◌≡◌, ◌≢◌, ◌≤◌, ◌<◌, ◌+◌, ◌-◌, ◌↔◌, ◌⊎◌, ◌++◌, ◌∷◌, [], length, take, IsOk, IfOk, OnOk, OnErr, IfErr, IsTrue, option_copied, vec_len, vec_capacity};
 ghost use Rattle.std.specs.List.{AllByRecursion};
 
 use crate::{
@@ -18,7 +18,7 @@ pub enum LengthFault {
     LengthOutOfRange,
 }
 
-/// An entry, and the seat that made it: None for an entry of the referee.
+/// An entry, and the seat that made it: `None` for an entry of the referee.
 #[derive(Debug, Drop)]
 struct Made {
     entry: Entry,
@@ -48,14 +48,13 @@ impl Model for Record {
 }
 
 impl Record {
-    ghost use Rattle.bg_match.specs.State.{State};
     ghost use Rattle.bg_match.specs.Entry.{IsEntry};
     ghost use Rattle.bg_match.specs.Match.{Log, StandsAt, IsLegalRecord, ActsAfter, SeatAfter, IsMarkedByScores, IsRecordFault, at_number};
 
     /// A match with no entry.
     ///
     /// # Errors
-    /// LengthOutOfRange where the length is not from 1 to 99.
+    /// `LengthOutOfRange` where the length is not from 1 to 99.
     pub fn new(alloc: Global, id: u64, length: u8) -> Result<Record, LengthFault>
         ensures ok { IsOk result ↔ ((SHORTEST_MATCH ≤ length) × (length ≤ LONGEST_MATCH)) }
         ensures value { IfOk result (λ r. r ≡ record { id = id; match_length = length; entries = []; spare = 0 }) }
@@ -87,7 +86,7 @@ impl Record {
         self.made.is_empty()
     }
 
-    /// The entry of this number, from 1; None for 0 and above the length.
+    /// The entry of this number, from 1; `None` for 0 and above the length.
     pub fn entry(&self, number: Number) -> Option<&Entry>
         ensures { option_copied result ≡ at_number self.now.entries number }
     {
@@ -95,7 +94,7 @@ impl Record {
         Some(&made.entry)
     }
 
-    /// The player whose seat made the entry of this number, from 1. None for an entry of the referee, for 0 and above
+    /// The player whose seat made the entry of this number, from 1. `None` for an entry of the referee, for 0 and above
     /// the length.
     pub fn by(&self, number: Number) -> Option<Player>
         ensures seat { 1 ≤ number → number ≤ length self.now.entries → SeatAfter self.now.match_length (take (number - 1) self.now.entries) result }
@@ -137,10 +136,10 @@ impl Record {
         self.standing.actor()
     }
 
-    /// Whether an entry may follow. The answer is that of `push`, but never Memory.
+    /// Whether an entry may follow. The answer is that of `push`, but never `Memory`.
     ///
     /// # Errors
-    /// RecordFull where there are 65535 entries, else as [`Standing::next`].
+    /// `RecordFull` where there are 65535 entries, else as [`Standing::next`].
     pub fn check(&self, entry: &Entry) -> Result<(), EntryFault>
         ensures ok { IsOk result ↔ IsLegalRecord self.now.match_length (self.now.entries ++ entry.now ∷ []) }
         ensures fault { IfErr result (λ fault. IsRecordFault fault self.now entry.now) }
@@ -153,8 +152,8 @@ impl Record {
     /// Appends an entry. A refusal changes nothing.
     ///
     /// # Errors
-    /// RecordFull where there are 65535 entries, else as [`Standing::next`]; at last Memory where there is no room, and no
-    /// memory for more.
+    /// `RecordFull` where there are 65535 entries, else as [`Standing::next`]; at last `Memory` where there is no room,
+    /// and no memory for more.
     pub fn push(&mut self, entry: Entry) -> Result<(), EntryFault>
         ensures ok { result ≢ Err EntryFault.Memory → (IsOk result ↔ IsLegalRecord self.old.match_length (self.old.entries ++ entry ∷ [])) }
         ensures appended { OnOk result (self.new ≡ record self.old { entries = self.old.entries ++ entry ∷ []; spare = self.new.spare }) }
@@ -176,7 +175,7 @@ impl Record {
     /// Makes room for this many more entries. Where it is there already nothing is done.
     ///
     /// # Errors
-    /// AllocError where there is no memory for it, and then nothing has changed.
+    /// `AllocError` where there is no memory for it, and then nothing has changed.
     pub fn reserve(&mut self, count: Number) -> Result<(), AllocError>
         ensures room { OnOk result (count ≤ self.new.spare) }
         ensures same { self.new ≡ record self.old { spare = self.new.spare } }

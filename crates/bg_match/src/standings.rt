@@ -1,5 +1,5 @@
 //! Where a match stands.
-ghost use Rattle.std.specs.Prelude.{◌≡◌, ◌≢◌, ◌≤◌, ◌*◌, ◌↔◌, IfOk, IfErr, OnErr, MatchOption, IsSome, IfSome, IsTrue, IsOk};
+ghost use Rattle.std.specs.Prelude.{◌≡◌, ◌≢◌, ◌≤◌, ◌*◌, ◌↔◌, IfOk, IfErr, MatchOption, IsSome, IfSome, IsTrue, IsOk};
 ghost use Rattle.std.specs.Int.{IsPowerOfTwo};
 ghost use Rattle.bg_match.specs.State.{IsCubeOf, AreScoresOf};
 ghost use Rattle.bg_board.specs.Die.{pips};
@@ -28,19 +28,19 @@ pub struct Standing {
 }
 
 impl Model for Standing {
-    ghost use Rattle.bg_match.specs.State.{State, IsState};
+    ghost use Rattle.bg_match.specs.State.{State, IsState, state_of};
 
     ghost Value = { State };
 
-    ghost view = { λ s. record { match_length = s.length; board = s.board; phase = s.phase; cube = s.cube; x_score = s.score.0; o_score = s.score.1; crawford = s.crawford; game = s.game } };
+    ghost view = { λ s. state_of s.length s.board s.phase s.cube s.score s.crawford s.game };
 
-    ghost invariant = { λ s. IsState (record { match_length = s.length; board = s.board; phase = s.phase; cube = s.cube; x_score = s.score.0; o_score = s.score.1; crawford = s.crawford; game = s.game }) };
+    ghost invariant = { λ s. IsState (state_of s.length s.board s.phase s.cube s.score s.crawford s.game) };
 
     ghost inverse = { λ v. record { length = v.match_length; board = v.board; phase = v.phase; cube = v.cube; score = (v.x_score, v.o_score); crawford = v.crawford; game = v.game } };
 }
 
 impl Standing {
-    ghost use Rattle.bg_match.specs.State.{State, IsState, after_win, start_of, IsRunning};
+    ghost use Rattle.bg_match.specs.State.{State, IsState, state_of, after_win, start_of, IsRunning};
     ghost use Rattle.bg_match.specs.Level.{points};
     ghost use Rattle.bg_match.specs.Actor.{actor_of};
     ghost use Rattle.bg_match.specs.Follows.{Follows, CanFollow, IsEntryFault, IsNoDouble, IsDoubleFault, MayDouble, MovedFault, after_turn};
@@ -123,9 +123,10 @@ impl Standing {
         self.phase.actor()
     }
 
-    /// The standing of these parts; None unless the length is from 1 to 99, the cube is a power of two up to 128, below
-    /// 128 while a double is answered, and in the middle exactly where it is 1, both scores are below the length, except
-    /// that the winner's is from the length to 482, and the game's number is from 1 to one more than the points scored.
+    /// The standing of these parts, the score of X first. `None` unless all of these hold: the length is from 1 to 99;
+    /// the cube is a power of two up to 128, below 128 while a double is answered, and in the middle exactly where it
+    /// is 1; both scores are below the length, but for the winner's, which is from the length to 482; the number of the
+    /// game is from 1 to one more than the points scored.
     pub fn from_parts(
         length: u8,
         board: Board,
@@ -135,8 +136,8 @@ impl Standing {
         crawford: bool,
         game: u8,
     ) -> Option<Standing>
-        ensures some { IsSome result ↔ IsState (record { match_length = length; board = board; phase = phase; cube = cube; x_score = score.0; o_score = score.1; crawford = crawford; game = game }) }
-        ensures value { IfSome result (λ s. s ≡ record { match_length = length; board = board; phase = phase; cube = cube; x_score = score.0; o_score = score.1; crawford = crawford; game = game }) }
+        ensures some { IsSome result ↔ IsState (state_of length board phase cube score crawford game) }
+        ensures value { IfSome result (λ s. s ≡ state_of length board phase cube score crawford game) }
     {
         let games = u32::from(score.0) + u32::from(score.1) + 1;
         if !(SHORTEST_MATCH..=LONGEST_MATCH).contains(&length)
@@ -162,8 +163,9 @@ impl Standing {
     /// Where the match stands after an entry.
     ///
     /// # Errors
-    /// The first that holds: MatchOver; WrongPhase where the phase does not allow such an entry; EqualOpening where the
-    /// dice of an opening are equal; Turn where a turn is not legal; NoDouble where the player may not double.
+    /// The first that holds: `MatchOver`; `WrongPhase` where the phase does not allow such an entry; `EqualOpening`
+    /// where the dice of an opening are equal; `Turn` where a turn is not legal; `NoDouble` where the player may not
+    /// double.
     pub fn next(&self, entry: &Entry) -> Result<Standing, EntryFault>
         ensures ok { IsOk result ↔ CanFollow self.now entry.now }
         ensures after { IfOk result (λ after. Follows self.now entry.now after) }
@@ -227,7 +229,7 @@ impl Standing {
         }
     }
 
-    /// Why the player may not double; None where he may.
+    /// Why the player may not double; `None` where he may.
     fn no_double(&self, player: Player) -> Option<NoDouble>
         ensures { MatchOption result (MayDouble self.now player) (λ why. IsNoDouble why self.now player) }
     {

@@ -3,8 +3,8 @@
 use clap::{Command, Error};
 use std::alloc::Global;
 
-/// The program's arguments and help.
-pub fn command(alloc: Global) -> Result<Command<'static>, Error> {
+/// The program's commands, with their help.
+pub(crate) fn command<'a>(alloc: Global) -> Result<Command<'a>, Error> {
     let judge = Command::new(alloc, "judge")
         .about("Judge the transcript of a match on standard input")
         .long_about(

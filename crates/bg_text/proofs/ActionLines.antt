@@ -1,6 +1,6 @@
 -- What a line says, or has wrong, as an action's text.
-use Rattle.std.specs.Prelude.{◌≡◌, ◌⊎◌, ℕ, ◌<◌, ◌≤◌, List, [], ◌∷◌, ◌++◌, length, map, Contains, codes, Result, Ok, Err}
-use Rattle.std.specs.List.{All, AllByRecursion}
+use Rattle.std.specs.Prelude.{◌≡◌, ℕ, List, [], ◌∷◌, ◌++◌, length, map, Contains, codes, Result, Ok, Err}
+use Rattle.std.specs.List.{AllByRecursion}
 use Rattle.std.proofs.Common.{refl, sym, ◌∙◌, ap, arith, inl, inr}
 use Rattle.std.proofs.lemmas.List.Elements.{All-from_recursion, All-contains}
 use Rattle.bg_board.specs.FromTo.{FromTo}
@@ -11,7 +11,7 @@ use Rattle.bg_match.specs.declared.actions.Action.TheVariants as action
 use Rattle.bg_match.specs.declared.levels.Level.TheVariants.{Normal, Gammon, Backgammon}
 use Rattle.bg_text.specs.Words.{words_of, spaced}
 use Rattle.bg_text.specs.EntryText.{step_text, action_words, action_text}
-use Rattle.bg_text.specs.EntryShape.{IsPairShape, IsMoveShape, IsActionShape, plain_words, MovesDownward, IsActionTextFault}
+use Rattle.bg_text.specs.EntryShape.{IsPairShape, IsActionShape, plain_words, MovesDownward, IsActionTextFault}
 use Rattle.bg_text.specs.Pairs.{IsPairsFault}
 use Rattle.bg_text.specs.Lines.{IsFixed, IsActionOf}
 use Rattle.bg_text.specs.declared.faults.TextFault.{TextFault}
@@ -99,16 +99,6 @@ move_fault pairs BadNumber h = (
   λ a down e. let found = pairs_of_text pairs a down e in h.1 found.0 found.1 found.2,
 )
 move_fault pairs TooManySteps (steps, text, down, many) = (steps, move_of_pairs pairs steps text, down, many)
-
-pub fixed_action : (a : Action) → IsFixed a → IsAction a
-fixed_action (action.Move steps) h = rw h (record { few = omega arith; each = tt })
-fixed_action action.Roll h = tt
-fixed_action action.Double h = tt
-fixed_action action.Take h = tt
-fixed_action action.Drop h = tt
-fixed_action (action.Resign level) h = tt
-fixed_action action.Accept h = tt
-fixed_action action.Reject h = tt
 
 -- a line of an action's shape has pairs or is fixed
 pub no_action_shape : (line : List ℕ) → ((rest : List ℕ) → line ≡ codes "move " ++ rest → ⊥) → ((a : Action) → IsFixed a → line ≡ action_text a → ⊥) → IsActionShape (words_of line) → ⊥

@@ -1,24 +1,20 @@
 -- The texts of actions.
-use Rattle.std.specs.Prelude.{◌≡◌, ◌≢◌, ◌⊎◌, ℕ, ◌<◌, ◌≤◌, List, [], ◌∷◌, ◌++◌, length, map, sum, Contains, codes, Result, Ok, Err}
-use Rattle.std.specs.List.{All, AllByRecursion}
-use Rattle.std.proofs.Common.{refl, sym, ◌∙◌, ap, subst, arith, inl, inr, rules}
-use Rattle.std.proofs.lemmas.List.Elements.{All-from_recursion, All-contains, All-append, All-cons, All-nil}
+use Rattle.std.specs.Prelude.{◌≡◌, ◌≢◌, ℕ, ◌<◌, ◌≤◌, List, [], ◌∷◌, ◌++◌, map, sum, codes}
+use Rattle.std.specs.List.{AllByRecursion}
+use Rattle.std.proofs.Common.{refl, sym, ◌∙◌, ap, arith}
+use Rattle.std.proofs.lemmas.List.Elements.{All-from_recursion, All-append, All-cons, All-nil}
 use Rattle.bg_board.specs.FromTo.{FromTo}
-use Rattle.bg_turns.specs.Turn.{IsDownward, IsTurn}
+use Rattle.bg_turns.specs.Turn.{IsDownward}
 use Rattle.bg_match.specs.Entry.{IsAction}
 use Rattle.bg_match.specs.declared.actions.Action.{Action}
 use Rattle.bg_match.specs.declared.actions.Action.TheVariants as action
 use Rattle.bg_match.specs.declared.levels.Level.{Level}
 use Rattle.bg_match.specs.declared.levels.Level.TheVariants.{Normal, Gammon, Backgammon}
-use Rattle.bg_text.specs.Words.{words_of, spaced}
+use Rattle.bg_text.specs.Words.{words_of}
 use Rattle.bg_text.specs.EntryText.{step_text, source_text, target_text, level_word, action_words, action_text}
-use Rattle.bg_text.specs.EntryShape.{IsPairShape, IsMoveShape, IsActionShape, plain_words, MovesDownward, IsActionTextFault}
-use Rattle.bg_text.specs.Pairs.{IsPairsFault}
-use Rattle.bg_text.specs.Lines.{IsFixed, IsActionOf}
-use Rattle.bg_text.specs.declared.faults.TextFault.{TextFault}
-use Rattle.bg_text.specs.declared.faults.TextFault.TheVariants.{NotALine, BadNumber, TooManySteps}
-use Rattle.bg_text.proofs.Splits.{IsWord, words_not_nil, words_spaced, line_spaced}
-use Rattle.bg_text.proofs.PairTexts.{source_lacks, target_lacks, source_shape, target_shape, step_shape, same_step}
+use Rattle.bg_text.specs.EntryShape.{MovesDownward}
+use Rattle.bg_text.proofs.Splits.{IsWord, words_spaced}
+use Rattle.bg_text.proofs.PairTexts.{source_lacks, target_lacks, source_shape, target_shape, same_step}
 
 abbrev pub move_line : List FromTo → List ℕ
 move_line steps = action_text (action.Move steps)

@@ -1,14 +1,12 @@
 -- What a line says, or has wrong, as the line of an entry.
-use Rattle.std.specs.Prelude.{◌≡◌, ◌⊎◌, ℕ, ◌<◌, ◌≤◌, List, [], ◌∷◌, ◌++◌, length, map, Contains, Option, Some, None, Result, Ok, Err, codes}
-use Rattle.std.specs.List.{AllByRecursion}
+use Rattle.std.specs.Prelude.{◌≡◌, ℕ, List, [], ◌∷◌, ◌++◌, map, Option, Some, None, Result, Ok, Err, codes}
 use Rattle.std.proofs.Common.{refl, sym, ◌∙◌, ap, arith, inl, inr}
 use Rattle.std.specs.Fmt.{decimal}
 use Rattle.bg_board.specs.Die.{pips}
-use Rattle.bg_board.specs.FromTo.{FromTo}
 use Rattle.bg_board.specs.declared.dice.Die.{Die}
 use Rattle.bg_board.specs.declared.players.Player.{Player}
 use Rattle.bg_board.specs.declared.players.Player.TheVariants.{X, O}
-use Rattle.bg_turns.specs.Turn.{IsDownward, IsTurn}
+use Rattle.bg_turns.specs.Turn.{IsTurn}
 use Rattle.bg_match.specs.Entry.{IsEntry}
 use Rattle.bg_match.specs.declared.actions.Action.{Action}
 use Rattle.bg_match.specs.declared.actions.Action.TheVariants as action
@@ -16,13 +14,13 @@ use Rattle.bg_match.specs.declared.entries.Entry.{Entry}
 use Rattle.bg_match.specs.declared.entries.Entry.TheVariants as entry
 use Rattle.bg_match.specs.declared.levels.Level.TheVariants.{Normal, Gammon, Backgammon}
 use Rattle.bg_text.specs.Words.{words_of, spaced}
-use Rattle.bg_text.specs.EntryText.{letter, step_text, dice_words, seat_words, entry_words, entry_text, action_words, action_text, IsSeatOf}
-use Rattle.bg_text.specs.EntryShape.{IsDiceShape, IsSeatShape, IsEntryShape, IsActionShape, HasDownwardSteps, IsEntryTextFault, IsActionTextFault, IsPairShape}
+use Rattle.bg_text.specs.EntryText.{letter, step_text, dice_words, seat_words, entry_words, entry_text, action_words, IsSeatOf}
+use Rattle.bg_text.specs.EntryShape.{IsDiceShape, IsSeatShape, IsEntryShape, IsActionShape, HasDownwardSteps, IsEntryTextFault, IsActionTextFault}
 use Rattle.bg_text.specs.Pairs.{IsDiceFault, AreNumerals}
 use Rattle.bg_text.specs.Lines.{IsFixed, IsSeatEntry, IsSeatFault, IsEntryOf}
 use Rattle.bg_text.specs.declared.faults.TextFault.{TextFault}
 use Rattle.bg_text.specs.declared.faults.TextFault.TheVariants.{NotALine, BadNumber, TooManySteps}
-use Rattle.bg_text.proofs.Splits.{words_not_nil, line_spaced}
+use Rattle.bg_text.proofs.Splits.{words_not_nil, line_spaced, same_rest}
 use Rattle.bg_text.proofs.ActionTexts.{first_sum}
 use Rattle.bg_text.proofs.PairTexts.{numeral_decimal}
 use Rattle.bg_text.proofs.ActionLines.{plain_fixed, each_shape}
@@ -150,9 +148,6 @@ line_behind player (entry.Moved steps) = refl
 line_behind player (entry.Resigned level) = refl
 line_behind player entry.Accepted = refl
 line_behind player entry.Rejected = refl
-
-same_rest : (u v : List ℕ) (a b : List (List ℕ)) → u ∷ a ≡ v ∷ b → a ≡ b
-same_rest u v a b e = cc
 
 seat_entry : (player : Player) (e : Entry) → IsSeatOf (Some player) e → IsSeatEntry e
 seat_entry player (entry.Opening x o) h = absurd cc

@@ -1,18 +1,16 @@
 -- The texts of entries.
-use Rattle.std.specs.Prelude.{◌≡◌, ◌≢◌, ◌==◌, ℕ, ◌<◌, ◌≤◌, Bool, true, false, if◌then◌else◌, List, [], ◌∷◌, ◌++◌, sum, map, Option, Some, None, codes}
-use Rattle.std.specs.List.{All, AllByRecursion}
+use Rattle.std.specs.Prelude.{◌≡◌, ◌≢◌, ◌==◌, ℕ, ◌<◌, ◌≤◌, Bool, true, false, if◌then◌else◌, List, [], ◌∷◌, ◌++◌, sum, Option, Some, None, codes}
+use Rattle.std.specs.List.{AllByRecursion}
 use Rattle.std.specs.Fmt.{decimal}
 use Rattle.std.proofs.Common.{refl, sym, ◌∙◌, ap, arith}
 use Rattle.std.proofs.lemmas.Bool.{eqb-false}
 use Rattle.std.proofs.lemmas.Fmt.{decimal_injective}
 use Rattle.std.proofs.lemmas.List.Elements.{All-cons, All-nil}
 use Rattle.bg_board.specs.Die.{pips}
-use Rattle.bg_board.specs.FromTo.{FromTo}
 use Rattle.bg_board.specs.declared.dice.Die.{Die}
 use Rattle.bg_board.specs.declared.dice.Die.TheVariants.{One, Two, Three, Four, Five, Six}
 use Rattle.bg_board.specs.declared.players.Player.{Player}
 use Rattle.bg_board.specs.declared.players.Player.TheVariants.{X, O}
-use Rattle.bg_turns.specs.Turn.{IsDownward}
 use Rattle.bg_turns.specs.declared.throws.Dice.{Dice}
 use Rattle.bg_match.specs.Entry.{IsEntry}
 use Rattle.bg_match.specs.declared.entries.Entry.{Entry}
@@ -20,9 +18,9 @@ use Rattle.bg_match.specs.declared.entries.Entry.TheVariants as entry
 use Rattle.bg_match.specs.declared.levels.Level.{Level}
 use Rattle.bg_match.specs.declared.levels.Level.TheVariants.{Normal, Gammon, Backgammon}
 use Rattle.bg_text.specs.Words.{words_of, spaced}
-use Rattle.bg_text.specs.EntryText.{letter, level_word, step_text, dice_words, seat_words, entry_words, entry_text, IsSeatOf, EntryTextsDiffer}
+use Rattle.bg_text.specs.EntryText.{letter, level_word, dice_words, seat_words, entry_words, entry_text, EntryTextsDiffer}
 use Rattle.bg_text.specs.EntryShape.{HasDownwardSteps}
-use Rattle.bg_text.proofs.Splits.{IsWord, words_spaced}
+use Rattle.bg_text.proofs.Splits.{IsWord, words_spaced, same_first, same_second, same_rest}
 use Rattle.bg_text.proofs.PairTexts.{numeral_decimal, numeral_lacks}
 use Rattle.bg_text.proofs.ActionTexts.{step_words, same_steps, same_level, first_sum}
 
@@ -116,15 +114,6 @@ same_die a b e =
     let small : pips a < 100 = pips_small a in
     let other : pips b < 100 = pips_small b in
     same_pips a b (decimal_injective (pips a) (pips b) (omega arith) (omega arith) e)
-
-same_first : (a b c d : List ℕ) → a ∷ b ∷ [] ≡ c ∷ d ∷ [] → a ≡ c
-same_first a b c d e = cc
-
-same_second : (a b c d : List ℕ) → a ∷ b ∷ [] ≡ c ∷ d ∷ [] → b ≡ d
-same_second a b c d e = cc
-
-same_rest : (u v : List ℕ) (a b : List (List ℕ)) → u ∷ a ≡ v ∷ b → a ≡ b
-same_rest u v a b e = cc
 
 pub same_dice : (a b c d : Die) → dice_words a b ≡ dice_words c d → (a ≡ c) × (b ≡ d)
 same_dice a b c d e = (same_die a c (same_first _ _ _ _ e), same_die b d (same_second _ _ _ _ e))

@@ -1,12 +1,12 @@
 -- The pairs of a move, and their turn.
-use Rattle.std.specs.Prelude.{◌≡◌, ◌+◌, ◌≤◌, ◌<◌, ℕ, List, [], ◌∷◌, ◌++◌, length, map, Option, Some, None, Result, Ok, Err}
+use Rattle.std.specs.Prelude.{◌≡◌, ℕ, List, [], ◌∷◌, ◌++◌, length, map, Option, Some, None, Result, Ok, Err}
 use Rattle.std.specs.List.{AllByRecursion}
-use Rattle.std.proofs.Common.{refl, sym, ◌∙◌, ap, arith, length-append, append_assoc, append-nil}
+use Rattle.std.proofs.Common.{refl, sym, ◌∙◌, ap, arith, length-append, append_assoc}
 use Rattle.bg_board.specs.FromTo.{FromTo}
-use Rattle.bg_turns.specs.Turn.{IsDownward, IsTurn}
+use Rattle.bg_turns.specs.Turn.{IsDownward}
 use Rattle.bg_text.specs.EntryText.{step_text}
 use Rattle.bg_text.specs.EntryShape.{IsPairShape}
-use Rattle.bg_text.specs.Pairs.{IsStepOf, IsTurnOf, IsPairsFault}
+use Rattle.bg_text.specs.Pairs.{IsStepOf, IsTurnOf}
 use Rattle.bg_text.specs.declared.faults.TextFault.{TextFault}
 use Rattle.bg_text.specs.declared.faults.TextFault.TheVariants.{NotALine, BadNumber, TooManySteps}
 use Rattle.bg_text.proofs.PairTexts.{step_shape}
@@ -97,14 +97,6 @@ pub record IsReadSoFar (all left : List (List ℕ)) (turn : Result (List FromTo)
   pub whole : all ≡ read ++ left
   pub shapes : AllByRecursion IsPairShape read
   pub turn_of : IsTurnOf read turn
-
-pub nothing_read : (all : List (List ℕ)) → IsReadSoFar all all (Ok [])
-nothing_read all = record { read = []; whole = refl; shapes = tt; turn_of = (record { few = omega arith; each = tt }, refl) }
-
-pub all_read : (all : List (List ℕ)) (turn : Result (List FromTo) TextFault) → IsReadSoFar all [] turn → IsTurnOf all turn
-all_read all turn h =
-    let whole : all ≡ h.read = h.whole ∙ append-nil h.read in
-    rw whole h.turn_of
 
 pub one_more_read : (all : List (List ℕ)) (pair : List ℕ) (left : List (List ℕ)) (turn next : Result (List FromTo) TextFault) (step : Option FromTo) → IsReadSoFar all (pair ∷ left) turn → IsStepOf pair step → ((pairs : List (List ℕ)) (p : List ℕ) → AllByRecursion IsPairShape pairs → IsTurnOf pairs turn → IsStepOf p step → IsTurnOf (pairs ++ p ∷ []) next) → IsReadSoFar all left next
 one_more_read all pair left turn next step h right goes = record {

@@ -1,11 +1,8 @@
 -- Numbers of one or two digits.
-use Rattle.std.specs.Prelude.{◌≡◌, ◌⊎◌, ◌↔◌, ℕ, ◌+◌, ◌-◌, ◌*◌, ◌/◌, ◌%◌, ◌<◌, ◌≤◌, List, [], ◌∷◌, ◌++◌, length, slice_index, IsTrue}
+use Rattle.std.specs.Prelude.{◌≡◌, ℕ, ◌+◌, ◌-◌, ◌*◌, ◌/◌, ◌%◌, ◌<◌, ◌≤◌, List, [], ◌∷◌, ◌++◌, length, slice_index}
 use Rattle.std.specs.Fmt.{decimal}
-use Rattle.std.specs.Str.{all_ascii_digits}
-use Rattle.std.specs.Char.{is_ascii_digit}
-use Rattle.std.proofs.Common.{refl, sym, ◌∙◌, ap, arith, inl, inr, rules, tests}
+use Rattle.std.proofs.Common.{sym, ◌∙◌, ap, arith, inl, inr, rules, tests}
 use Rattle.std.proofs.lemmas.Bool.{cases_lt}
-use Rattle.std.proofs.lemmas.Bool.Decides.{nat_tests}
 use Rattle.std.proofs.lemmas.Fmt.{decimal_digit, decimal_step}
 use Rattle.bg_text.specs.EntryShape.{IsNumeral}
 use Rattle.bg_text.specs.Pairs.{IsWorth}
@@ -15,9 +12,6 @@ pub two_digits : (n : ℕ) → 10 ≤ n → n < 100 → decimal n ≡ (48 + n / 
 two_digits n low high =
     let small : n / 10 < 10 = omega arith in
     decimal_step n low (omega arith) ∙ ap (λ ds. ds ++ (48 + n % 10) ∷ []) (decimal_digit (n / 10) small)
-
-pub digit : (a : ℕ) → 48 ≤ a → a ≤ 57 → IsTrue (is_ascii_digit a)
-digit a low high = search (rules, tests)
 
 pub numeral_one : (a : ℕ) → 48 ≤ a → a ≤ 57 → IsNumeral (a ∷ [])
 numeral_one a low high = record { digits = search (rules, tests); some = omega arith; two = omega arith }

@@ -1,18 +1,18 @@
 -- Pairs, and the steps that they write.
-use Rattle.std.specs.Prelude.{◌≡◌, ◌≢◌, ◌==◌, ◌⊎◌, ◌↔◌, ℕ, ◌+◌, ◌/◌, ◌%◌, ◌<◌, ◌≤◌, List, [], ◌∷◌, ◌++◌, length, slice_index, map, Option, Some, None, IsSome, IfSome, IsTrue, codes}
+use Rattle.std.specs.Prelude.{◌≡◌, ◌≢◌, ◌==◌, ◌⊎◌, ◌↔◌, ℕ, ◌+◌, ◌/◌, ◌%◌, ◌<◌, ◌≤◌, List, [], ◌∷◌, ◌++◌, length, slice_index, Option, Some, None, IsSome, IfSome, IsTrue, codes}
 use Rattle.std.specs.Fmt.{decimal}
 use Rattle.std.specs.List.{slice_split, All}
 use Rattle.std.specs.Str.{all_ascii_digits}
 use Rattle.std.proofs.Common.{refl, sym, ◌∙◌, ap, append_assoc, arith, inl, inr, rules, tests, true, false}
 use Rattle.std.proofs.lemmas.Bool.{cases_lt, cases_eq, ne_eqb}
 use Rattle.std.proofs.lemmas.Fmt.{decimal_digit, decimal_injective}
-use Rattle.std.proofs.lemmas.List.Elements.{All-cons, All-nil, All-append}
+use Rattle.std.proofs.lemmas.List.Elements.{All-cons, All-nil}
 use Rattle.bg_board.specs.FromTo.{FromTo}
 use Rattle.bg_turns.specs.Turn.{IsDownward}
 use Rattle.bg_text.specs.EntryText.{source_text, target_text, step_text}
 use Rattle.bg_text.specs.EntryShape.{IsNumeral, IsPairShape}
-use Rattle.bg_text.specs.Pairs.{IsWorth, IsSource, IsTarget, IsStepOf}
-use Rattle.bg_text.proofs.Splits.{one_piece, two_pieces, pieces_joined}
+use Rattle.bg_text.specs.Pairs.{IsSource, IsTarget, IsStepOf}
+use Rattle.bg_text.proofs.Splits.{two_pieces, pieces_joined, same_first, same_second}
 use Rattle.bg_text.proofs.Numbers.{two_digits, numeral_one, numeral_two}
 
 -- a number below 100 is written as a numeral
@@ -100,12 +100,6 @@ target_off word e = record { shape = inl e; point = λ n few. (is n few, λ h. r
 -- a pair is cut at its hyphen
 pub cut_pair : (word : List ℕ) (p : IsPairShape word) → slice_split (λ byte. byte == 45) word ≡ p.source ∷ p.target ∷ []
 cut_pair word p = two_pieces 45 word p.source p.target (source_lacks 45 p.source (omega arith) p.starts) (target_lacks 45 p.target (omega arith) p.ends) (p.hyphened ∙ append_assoc p.source (codes "-") p.target)
-
-same_first : (a b c d : List ℕ) → a ∷ b ∷ [] ≡ c ∷ d ∷ [] → a ≡ c
-same_first a b c d e = cc
-
-same_second : (a b c d : List ℕ) → a ∷ b ∷ [] ≡ c ∷ d ∷ [] → b ≡ d
-same_second a b c d e = cc
 
 pub no_halves : (word : List ℕ) → ((first second : List ℕ) → slice_split (λ byte. byte == 45) word ≡ first ∷ second ∷ [] → ⊥) → IsPairShape word → ⊥
 no_halves word h p = h p.source p.target (cut_pair word p)

@@ -1,6 +1,6 @@
 -- Texts cut at a separator, and put together again.
-use Rattle.std.specs.Prelude.{◌≡◌, ◌≢◌, ◌==◌, ℕ, Bool, true, false, List, [], ◌∷◌, ◌++◌, if◌then◌else◌}
-use Rattle.std.specs.List.{slice_split, onto_first, join_with_byte, All, AllByRecursion}
+use Rattle.std.specs.Prelude.{◌≡◌, ◌≢◌, ◌==◌, ℕ, false, List, [], ◌∷◌, ◌++◌}
+use Rattle.std.specs.List.{slice_split, join_with_byte, All, AllByRecursion}
 use Rattle.std.proofs.Common.{refl, sym, ◌∙◌, ap, arith, length}
 use Rattle.std.proofs.lemmas.Bool.{ne_eqb, eq-eqb}
 use Rattle.std.proofs.lemmas.List.Elements.{All-weaker}
@@ -43,3 +43,13 @@ words_spaced first (next ∷ rest) h k =
 -- a line is its words with a space between each two
 pub line_spaced : (line : List ℕ) (words : List (List ℕ)) → words_of line ≡ words → line ≡ spaced words
 line_spaced line words e = pieces_joined 32 line words e
+
+-- equal lists of words have equal parts
+pub same_first : (a b c d : List ℕ) → a ∷ b ∷ [] ≡ c ∷ d ∷ [] → a ≡ c
+same_first a b c d e = cc
+
+pub same_second : (a b c d : List ℕ) → a ∷ b ∷ [] ≡ c ∷ d ∷ [] → b ≡ d
+same_second a b c d e = cc
+
+pub same_rest : (u v : List ℕ) (a b : List (List ℕ)) → u ∷ a ≡ v ∷ b → a ≡ b
+same_rest u v a b e = cc

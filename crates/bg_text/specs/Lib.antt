@@ -1,3 +1,5 @@
+pub mod Devices
+pub mod DeviceParts
 pub mod Words
 pub mod EntryText
 pub mod EntryShape
@@ -6,5 +8,6 @@ pub mod Lines
 pub mod Reason
 pub mod BoardText
 pub mod Transcript
+pub mod EngineFault
 pub mod Judging
 pub mod Reading

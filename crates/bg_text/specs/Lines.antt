@@ -1,5 +1,5 @@
 -- What the readers of lines say of a line and of its parts.
-use Rattle.std.specs.Prelude.{◌≡◌, ℕ, ◌<◌, List, [], length, Option, Some, None, Result, Ok, Err}
+use Rattle.std.specs.Prelude.{◌≡◌, ℕ, ◌<◌, List, [], length, Option, Result, Ok, Err}
 use Rattle.std.specs.List.{AllByRecursion}
 use Rattle.bg_board.specs.FromTo.{FromTo}
 use Rattle.bg_board.specs.declared.players.Player.{Player}

@@ -1,30 +1,31 @@
 //! The input of the judge: its bytes and lines, and the length of the match.
-ghost use Rattle.std.specs.Prelude.{◌≡◌, ◌≢◌, ◌≤◌, ◌<◌, ◌↔◌, ◌∷◌, [], length, IsNone, IfSome, IfOk, IfErr, Option};
+ghost use Rattle.std.specs.Prelude.{◌≡◌, ◌≤◌, ◌+◌, ◌<◌, ◌↔◌, ◌∷◌, [], length, IsNone, IfSome, IfOk, IfErr, Option};
 ghost use Rattle.std.specs.Fmt.{decimal};
 ghost use Rattle.bg_text.specs.Judging.{lines_of, IsLengthFault, IsDigitsFault, IsReadOf};
+ghost use Rattle.bg_text.specs.EngineFault.{ReadsFailOnce};
 ghost use Rattle.bg_text.specs.Transcript.{length_line};
 
 use crate::pairs::parse_numeral;
-use crate::{EngineFault, LineFault};
+use crate::{EngineFault, LineFault, Source};
 use bg_match::{LONGEST_MATCH, SHORTEST_MATCH};
 use memchr::memchr;
 use std::alloc::Global;
-use std::io::Read;
 
 /// The most bytes of an input.
 pub const MOST_BYTES: usize = 4_194_304;
 
 /// Reads all of an input, or one byte more than the limit, in at most as many reads.
-pub(crate) fn read_input<R: Read>(alloc: Global, reader: &mut R) -> Result<Vec<u8>, EngineFault>
-    ensures read { IfOk result (λ input. IfSome (R.remaining reader.old) (λ bytes. IsReadOf bytes input.items)) }
-    ensures fault { IfErr result (λ fault. fault ≢ EngineFault.Write) }
+pub(crate) fn read_input<S: Source>(alloc: Global, source: &mut S) -> Result<Vec<u8>, EngineFault>
+    ensures read { IfOk result (λ input. IfSome (S.remaining source.old) (λ bytes. IsReadOf bytes input.items)) }
+    ensures reads { S.reads source.new ≤ S.reads source.old + MOST_BYTES + 1 }
+    ensures failed { ReadsFailOnce result (S.failures source.old) (S.failures source.new) }
 {
     let mut input = Vec::new(alloc);
     let mut chunk = [0; 4096];
     while input.len() <= MOST_BYTES {
         let room = chunk.len().min(MOST_BYTES + 1 - input.len());
         let part = &mut chunk[..room];
-        let count = match reader.read(part) {
+        let count = match source.read(part) {
             Ok(count) => count,
             Err(_) => return Err(EngineFault::Read),
         };

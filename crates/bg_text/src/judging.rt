@@ -6,6 +6,7 @@ ghost use Rattle.bg_match.specs.State.{State};
 ghost use Rattle.bg_match.specs.declared.entries.Entry.{Entry};
 ghost use Rattle.bg_text.specs.BoardText.{line_text, board_text as text_of_board};
 ghost use Rattle.bg_text.specs.Judging.{lines_of, fault_reason, refused_line, fine_line, IsWrongSeat, IsLineFault, IsTooLong, IsJudged, IsJudgement, IsJudgementOf, TranscriptsAreFine};
+ghost use Rattle.bg_text.specs.EngineFault.{SourceFails, SinkFails};
 ghost use Rattle.bg_text.specs.Reading.{IsReadAs, IsLineAt, AddsLine, RefusesLine};
 
 use crate::board_texts::board_text;
@@ -13,11 +14,10 @@ use crate::inputs::{MOST_BYTES, parse_length, read_input, split_line};
 use crate::lines::parse_entry;
 use crate::printing::{push_number, push_text};
 use crate::reasons::reason_text;
-use crate::{EngineFault, LineFault, Verdict};
+use crate::{EngineFault, LineFault, Sink, Source, Verdict};
 use bg_board::Player;
 use bg_match::{Entry, EntryFault, Record, Standing};
 use std::alloc::{AllocError, Global};
-use std::io::{Read, Write};
 
 /// What the judge says of an input.
 #[derive(Debug, PartialEq, Eq, Drop)]
@@ -108,6 +108,7 @@ impl From<LineFault> for AddFault {
 
 impl From<EntryFault> for AddFault {
     ghost use Rattle.std.specs.Prelude.{◌≡◌};
+    ghost use Rattle.bg_text.specs.EngineFault.{SourceFails, SinkFails};
     ghost use Rattle.bg_text.specs.Reading.{fault_of_push};
 
     ghost from_gives = { λ why fault. fault ≡ fault_of_push why };
@@ -122,9 +123,9 @@ impl From<EntryFault> for AddFault {
 
 /// Adds the entry of a line.
 fn add_line(record: &mut Record, line: &[u8]) -> Result<(), AddFault>
-    ensures added { OnOk result (AddsLine record.old record.new line.now) }
-    ensures fault { IfErr result (λ fault. RefusesLine fault record.old line.now) }
-    ensures err { OnErr result (record.new ≡ record.old) }
+    ensures added { OnOk result (AddsLine «record».old «record».new line.now) }
+    ensures fault { IfErr result (λ fault. RefusesLine fault «record».old line.now) }
+    ensures err { OnErr result («record».new ≡ «record».old) }
 {
     let entry = read_entry(&record.standing(), line)?;
     record.push(entry)?;
@@ -151,9 +152,9 @@ fn judge_lines(alloc: Global, length: u8, lines: &[u8]) -> Result<Judgement, All
 
 /// The judgement where a line after those of the record is refused.
 fn refused(alloc: Global, record: &Record, why: LineFault) -> Result<Judgement, AllocError>
-    ensures { IfOk result (λ judgement. (t : State) × StandsAt record.now.match_length record.now.entries t
-        × (judgement.text.items ≡ text_of_board t ++ line_text (refused_line (length record.now.entries + 2) why))
-        × (judgement.verdict ≡ Verdict.Refused (length record.now.entries + 2))) }
+    ensures { IfOk result (λ judgement. (t : State) × StandsAt «record».now.match_length «record».now.entries t
+        × (judgement.text.items ≡ text_of_board t ++ line_text (refused_line (length «record».now.entries + 2) why))
+        × (judgement.verdict ≡ Verdict.Refused (length «record».now.entries + 2))) }
 {
     let number = u32::from(record.len()) + 2;
     let mut text = board_text(alloc, &record.standing())?;
@@ -166,9 +167,9 @@ fn refused(alloc: Global, record: &Record, why: LineFault) -> Result<Judgement, 
 
 /// The judgement where all lines are those of the record.
 fn fine(alloc: Global, record: &Record) -> Result<Judgement, AllocError>
-    ensures { IfOk result (λ judgement. (t : State) × StandsAt record.now.match_length record.now.entries t
-        × (judgement.text.items ≡ text_of_board t ++ line_text (fine_line (length record.now.entries)))
-        × (judgement.verdict ≡ Verdict.Fine (length record.now.entries))) }
+    ensures { IfOk result (λ judgement. (t : State) × StandsAt «record».now.match_length «record».now.entries t
+        × (judgement.text.items ≡ text_of_board t ++ line_text (fine_line (length «record».now.entries)))
+        × (judgement.verdict ≡ Verdict.Fine (length «record».now.entries))) }
 {
     let entries = u32::from(record.len());
     let mut text = board_text(alloc, &record.standing())?;
@@ -228,24 +229,30 @@ pub fn transcripts_are_fine()
 /// says. The input has at most 4194304 bytes, which take at most 4194305 reads; a longer one is TooLong.
 ///
 /// # Errors
-/// Read where the reader fails and Memory where memory runs out: nothing was written then. Write where the writer
-/// fails to write or to flush: nothing is said of how much was written.
-pub fn judge<R: Read, W: Write>(
+/// Read exactly where the source failed, and Memory where memory runs out: nothing was written then. Write exactly where
+/// the sink failed: nothing is said of how much was written.
+pub fn judge<S: Source, T: Sink>(
     alloc: Global,
-    reader: &mut R,
-    writer: &mut W,
+    source: &mut S,
+    sink: &mut T,
 ) -> Result<Verdict, EngineFault>
-    ensures judged { IfOk result (λ verdict. (text : List ℕ) × IsJudgementOf (R.remaining reader.old) text verdict
-        × Appends (W.contents writer.old) (W.contents writer.new) text) }
-    ensures unwritten { IfErr result (λ fault. fault ≢ EngineFault.Write → writer.new ≡ writer.old) }
+    ensures judged { IfOk result (λ verdict. (text : List ℕ) × IsJudgementOf (S.remaining source.old) text verdict
+        × Appends (T.contents sink.old) (T.contents sink.new) text) }
+    ensures unwritten { IfErr result (λ fault. fault ≢ EngineFault.Write → sink.new ≡ sink.old) }
+    ensures reads { S.reads source.new ≤ S.reads source.old + MOST_BYTES + 1 }
+    ensures source { SourceFails result (S.failures source.old) (S.failures source.new) }
+    ensures sink { SinkFails result (T.failures sink.old) (T.failures sink.new) }
 {
-    let input = read_input(alloc, reader)?;
+    let input = match read_input(alloc, source) {
+        Ok(input) => input,
+        Err(fault) => return Err(fault),
+    };
     let judgement = match judge_text(alloc, &input) {
         Ok(judgement) => judgement,
         Err(_) => return Err(EngineFault::Memory),
     };
-    if writer.write_all(&judgement.text).is_err() || writer.flush().is_err() {
-        return Err(EngineFault::Write);
+    match sink.write_all(&judgement.text) {
+        Ok(()) => Ok(judgement.verdict),
+        Err(_) => Err(EngineFault::Write),
     }
-    Ok(judgement.verdict)
 }

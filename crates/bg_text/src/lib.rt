@@ -2,6 +2,8 @@
 #![tactic(auto)]
 
 mod board_texts;
+mod counts;
+mod devices;
 mod faults;
 mod inputs;
 mod judging;
@@ -17,6 +19,8 @@ mod words;
 mod writing;
 
 pub use board_texts::board_text;
+pub use counts::Count;
+pub use devices::{DeviceFailure, Reading, Sink, Source, Writing};
 pub use faults::{LineFault, TextFault};
 pub use inputs::MOST_BYTES;
 pub use judging::{Judgement, judge, judge_text, transcripts_are_fine};

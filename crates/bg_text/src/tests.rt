@@ -64,10 +64,11 @@ fn lines_of_entries(rt: HostRuntime) -> Result<(), Fail> {
         ("O accept", Some(Player::O), Entry::Accepted),
         ("X reject", Some(Player::X), Entry::Rejected),
     ] {
-        let (by, found) = parse_entry(line.as_bytes())?;
-        assert_eq!(rt; by, seat, "{line}");
-        assert_eq!(rt; found, entry, "{line}");
-        assert_eq!(rt; entry_text(by, &found).as_str(), line);
+        let line = line.as_bytes();
+        let (by, found) = parse_entry(line)?;
+        assert_eq!(rt; by, seat);
+        assert_eq!(rt; found, entry);
+        assert_eq!(rt; entry_text(by, &found).as_str().as_bytes(), line);
     }
     Ok(())
 }

@@ -1,4 +1,4 @@
-use Rattle.std.proofs.Common.{◌≡◌, Ok, Err, length, rules, arith, sym, ◌∙◌}
+use Rattle.std.proofs.Common.{◌≡◌, Err, length, rules, sym, ◌∙◌}
 use Rattle.std.proofs.lemmas.Bool.{eqb-true}
 use Rattle.bg_text.proofs.Moves.{wrong_number, still_wrong, too_many}
 use Rattle.bg_text.proofs.pairs.with_step.Goals as goal

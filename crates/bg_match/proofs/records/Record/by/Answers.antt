@@ -1,5 +1,4 @@
-use Rattle.std.proofs.Common.{◌≡◌, ◌∙◌, sym, ap, Some, option_map}
-use Rattle.bg_match.specs.Match.{at_number}
+use Rattle.std.proofs.Common.{◌∙◌, sym, ap, option_map}
 use Rattle.bg_match.proofs.Kept.{at_number-map, SeatAfter-at_number}
 use Rattle.bg_match.proofs.records.Record.by.Goals as goal
 

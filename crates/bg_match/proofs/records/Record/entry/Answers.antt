@@ -1,4 +1,4 @@
-use Rattle.std.proofs.Common.{◌≡◌, ◌∙◌, sym, ap, option_map}
+use Rattle.std.proofs.Common.{◌∙◌, sym, ap, option_map}
 use Rattle.bg_match.proofs.Kept.{at_number-map}
 use Rattle.bg_match.proofs.records.Record.entry.Goals as goal
 

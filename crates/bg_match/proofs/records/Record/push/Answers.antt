@@ -1,7 +1,5 @@
-use Rattle.std.proofs.Common.{◌≡◌, ◌<◌, ◌++◌, ◌∷◌, [], map, length, ◌∙◌, sym, ap, arith}
+use Rattle.std.proofs.Common.{◌≡◌, map, length, ◌∙◌, sym}
 use Rattle.std.proofs.lemmas.List.{length-map, map-append}
-use Rattle.bg_match.specs.declared.limits.TheConstants.{MOST_ENTRIES}
-use Rattle.bg_match.specs.Match.{StandsAt}
 use Rattle.bg_match.proofs.Kept.{IsKept-push}
 use Rattle.bg_match.proofs.records.Record.push.Goals as goal
 

@@ -1,5 +1,3 @@
-use Rattle.std.proofs.Common.{ap}
-use Rattle.bg_match.specs.Match.{Log}
 use Rattle.bg_match.proofs.MatchLength.{match_length-StandsAt}
 use Rattle.bg_match.proofs.records.Record.standing.Goals as goal
 
