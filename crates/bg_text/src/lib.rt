@@ -6,6 +6,8 @@ mod counts;
 mod devices;
 mod faults;
 mod inputs;
+#[cfg(test)]
+mod judge_tests;
 mod judging;
 mod lines;
 mod pairs;
