@@ -196,7 +196,7 @@ length_line_short n below =
     )
 
 -- a length line is not at fault
-no_length_fault : (n : ℕ) (lines : List (List ℕ)) (why : LineFault) → SHORTEST_MATCH ≤ n → n ≤ LONGEST_MATCH → IsLengthFault why (length_line n ∷ lines) → ⊥
+pub no_length_fault : (n : ℕ) (lines : List (List ℕ)) (why : LineFault) → SHORTEST_MATCH ≤ n → n ≤ LONGEST_MATCH → IsLengthFault why (length_line n ∷ lines) → ⊥
 no_length_fault n lines fault.NotALengthLine low high h =
     let number = numeral_decimal n (omega arith) in
     h (decimal n) refl (record { decimal_digits = number.digits; some = number.some; three = omega (arith, number.two) })
@@ -207,7 +207,7 @@ no_length_fault n lines (fault.Text why) low high h = h
 no_length_fault n lines fault.WrongPlayer low high h = h
 no_length_fault n lines (fault.Entry why) low high h = h
 
-one_length : (m n : ℕ) → m ≤ LONGEST_MATCH → n ≤ LONGEST_MATCH → length_line m ≡ length_line n → m ≡ n
+pub one_length : (m n : ℕ) → m ≤ LONGEST_MATCH → n ≤ LONGEST_MATCH → length_line m ≡ length_line n → m ≡ n
 one_length m n low high same = decimal_injective m n (omega arith) (omega arith) (ap (drop 7) same)
 
 module _ (n : ℕ) (entries : List Entry) (lines : List (List ℕ)) (t : State) (few : length entries ≤ MOST_ENTRIES) (each : AreLinesOf (start_of n) entries lines t) where

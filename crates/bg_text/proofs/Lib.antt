@@ -14,3 +14,4 @@ pub mod ReadLines
 pub mod PartRead
 pub mod WrittenLines
 pub mod FineTranscripts
+pub mod OneJudgement

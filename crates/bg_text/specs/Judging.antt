@@ -153,3 +153,9 @@ TranscriptsAreFine =
     → SHORTEST_MATCH ≤ match_length → match_length ≤ LONGEST_MATCH → length entries ≤ MOST_ENTRIES
     → StandsAt match_length entries t → IsTranscript match_length entries input → IsJudgement input text verdict
     → (verdict ≡ Fine (length entries)) × (text ≡ board_text t ++ line_text (fine_line (length entries)))
+
+-- an input has one judgement
+abbrev pub JudgementsAgree : Type 0
+JudgementsAgree =
+    (input text other : List ℕ) (verdict another : Verdict) → IsJudgement input text verdict
+    → IsJudgement input other another → (text ≡ other) × (verdict ≡ another)

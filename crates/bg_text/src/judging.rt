@@ -5,7 +5,7 @@ ghost use Rattle.bg_match.specs.Match.{StandsAt};
 ghost use Rattle.bg_match.specs.State.{State};
 ghost use Rattle.bg_match.specs.declared.entries.Entry.{Entry};
 ghost use Rattle.bg_text.specs.BoardText.{line_text, board_text as text_of_board};
-ghost use Rattle.bg_text.specs.Judging.{lines_of, fault_reason, refused_line, fine_line, IsWrongSeat, IsLineFault, IsTooLong, IsJudged, IsJudgement, IsJudgementOf, TranscriptsAreFine};
+ghost use Rattle.bg_text.specs.Judging.{lines_of, fault_reason, refused_line, fine_line, IsWrongSeat, IsLineFault, IsTooLong, IsJudged, IsJudgement, IsJudgementOf, TranscriptsAreFine, JudgementsAgree};
 ghost use Rattle.bg_text.specs.EngineFault.{SourceFails, SinkFails};
 ghost use Rattle.bg_text.specs.Reading.{IsReadAs, IsLineAt, AddsLine, RefusesLine};
 
@@ -219,6 +219,11 @@ fn too_long(alloc: Global) -> Result<Judgement, AllocError>
         verdict: Verdict::TooLong,
     })
 }
+
+/// An input has one judgement: no two texts, and no two verdicts, are both right.
+pub fn judgements_agree()
+    ensures { JudgementsAgree }
+{}
 
 /// Every transcript is judged fine, with the number of its entries and the board where they lead.
 pub fn transcripts_are_fine()

@@ -25,7 +25,7 @@ pub use counts::Count;
 pub use devices::{DeviceFailure, Reading, Sink, Source, Writing};
 pub use faults::{LineFault, TextFault};
 pub use inputs::MOST_BYTES;
-pub use judging::{Judgement, judge, judge_text, transcripts_are_fine};
+pub use judging::{Judgement, judge, judge_text, judgements_agree, transcripts_are_fine};
 pub use lines::{parse_action, parse_entry};
 pub use reasons::reason_text;
 pub use transcripts::transcript_text;
