@@ -1,11 +1,22 @@
 //! The command line.
 
-use clap::{Command, Error};
+use clap::{Arg, Command, Error};
 use std::alloc::Global;
 
 /// The program's commands, with their help.
 pub(crate) fn command<'a>(alloc: Global) -> Result<Command<'a>, Error> {
-    let judge = Command::new(alloc, "judge")
+    Ok(
+        Command::new(alloc, "bg_relay")
+            .about("A backgammon match relay, proved")
+            .subcommand_required(true)
+            .arg_required_else_help(true)
+            .subcommand(judge_command(alloc))?
+            .subcommand(show_command(alloc)?)?,
+    )
+}
+
+fn judge_command<'a>(alloc: Global) -> Command<'a> {
+    Command::new(alloc, "judge")
         .about("Judge the transcript of a match on standard input")
         .long_about(
             "Judge the transcript of a match on standard input.\n\
@@ -13,12 +24,29 @@ pub(crate) fn command<'a>(alloc: Global) -> Result<Command<'a>, Error> {
              Prints the board after the good lines, and then `ok N` with the number of entries, or\n\
              `refused at line L: REASON`. Ends with status 0 where the transcript is good, 2 where it is\n\
              refused, and 1 where reading, writing or memory failed.",
-        );
+        )
+}
+
+fn show_command<'a>(alloc: Global) -> Result<Command<'a>, Error> {
+    let file0 = Arg::new(alloc, "FILE0")
+        .required(true)
+        .help("The file of the even saves");
+    let file1 = Arg::new(alloc, "FILE1")
+        .required(true)
+        .help("The file of the odd saves");
     Ok(
-        Command::new(alloc, "bg_relay")
-            .about("A backgammon match relay, proved")
-            .subcommand_required(true)
-            .arg_required_else_help(true)
-            .subcommand(judge)?,
+        Command::new(alloc, "show")
+            .about("Show what the two saved files of a party hold")
+            .long_about(
+                "Show what the two saved files of a party hold.\n\
+             \n\
+             A party saves its match in two files by turns: saves with even numbers in the one, with odd\n\
+             numbers in the other, so that a save that is cut short leaves the one before it. Prints a line\n\
+             for each file, and the board of the newer one that loads. A missing file counts as empty. Ends\n\
+             with status 0 where one of them loads, 2 where none does, and 1 where reading, writing or memory\n\
+             failed.",
+            )
+            .arg(file0)?
+            .arg(file1)?,
     )
 }

@@ -1,6 +1,8 @@
-//! The command line: what is accepted, and where help and refusals are printed.
+//! The command line, and what is shown of saved files.
 use crate::arguments::command;
+use crate::showing::show_text;
 use clap::error::ErrorKind;
+use std::process::Abort;
 use std::test::Fail;
 
 #[test]
@@ -37,4 +39,124 @@ fn other_words_are_refused(rt: HostRuntime) -> Result<(), Fail> {
         }
     }
     Ok(())
+}
+
+/// Save 2 of the referee of match 1, length 1: an opening and its move.
+const REFEREE: [u8; 30] = [
+    0x42, 0x47, 0x53, 0x31, 0, 0, 0, 0, 0, 0, 0, 0, 1, 1, 0, 0, 0, 2, 0, 0, 2, 1, 3, 1, 6, 2, 8, 5,
+    6, 5,
+];
+
+/// Save 3 of the referee of the same match, which has the opening alone.
+const OPENING: [u8; 24] = [
+    0x42, 0x47, 0x53, 0x31, 0, 0, 0, 0, 0, 0, 0, 0, 1, 1, 0, 0, 0, 3, 0, 0, 1, 1, 3, 1,
+];
+
+/// Save 1 of the seat of X, which has the opening and claims its move as entry 2.
+const SEAT: [u8; 32] = [
+    0x42, 0x47, 0x53, 0x31, 1, 0, 0, 0, 0, 0, 0, 0, 1, 1, 0, 0, 0, 1, 1, 0, 2, 6, 2, 8, 5, 6, 5, 0,
+    1, 1, 3, 1,
+];
+
+const AFTER_THE_MOVE: &str = "length 1 game 1 score 0-0 cube 1 middle crawford
+  13  14  15  16  17  18  19  20  21  22  23  24
+  X5   .   .   .  O3   .  O5   .   .   .   .  X2
+  O5   .   .   .  X2   .  X4  X2   .   .   .  O2
+  12  11  10   9   8   7   6   5   4   3   2   1
+bar X 0 O 0 off X 0 O 0
+O to roll
+";
+
+const AFTER_THE_OPENING: &str = "length 1 game 1 score 0-0 cube 1 middle crawford
+  13  14  15  16  17  18  19  20  21  22  23  24
+  X5   .   .   .  O3   .  O5   .   .   .   .  X2
+  O5   .   .   .  X3   .  X5   .   .   .   .  O2
+  12  11  10   9   8   7   6   5   4   3   2   1
+bar X 0 O 0 off X 0 O 0
+X to move 3 1
+";
+
+/// What is shown of two files: the lines, then the board.
+fn check_shown(
+    rt: &(impl AllocGlobal + Abort),
+    file0: &[u8],
+    file1: &[u8],
+    lines: &str,
+    board: &str,
+    loads: bool,
+) -> Result<(), Fail> {
+    let (text, found) = show_text(rt.alloc(), file0, file1)?;
+    assert!(rt; found == loads);
+    let (front, back) = text.split_at(lines.len().min(text.len()));
+    assert!(rt; front == lines.as_bytes());
+    assert!(rt; back == board.as_bytes());
+    Ok(())
+}
+
+#[test]
+fn shown_files(rt: HostRuntime) -> Result<(), Fail> {
+    let referee = "file 0: party 0 match 1 length 1 save 2 entries 2\n";
+    let seat = "file 0: party 1 match 1 length 1 save 1 entries 1 claim 2\n";
+    let newer = "file 1: party 0 match 1 length 1 save 3 entries 1\n";
+    let equal = "file 1: party 0 match 1 length 1 save 2 entries 2\n";
+    check_shown(
+        &rt,
+        &REFEREE,
+        b"",
+        &format!(in rt.alloc(); "{referee}file 1: short\n")?,
+        AFTER_THE_MOVE,
+        true,
+    )?;
+    check_shown(
+        &rt,
+        &SEAT,
+        b"BGS0",
+        &format!(in rt.alloc(); "{seat}file 1: bad magic\n")?,
+        AFTER_THE_OPENING,
+        true,
+    )?;
+    check_shown(
+        &rt,
+        &REFEREE,
+        &OPENING,
+        &format!(in rt.alloc(); "{referee}{newer}")?,
+        AFTER_THE_OPENING,
+        true,
+    )?;
+    check_shown(
+        &rt,
+        &REFEREE,
+        &REFEREE,
+        &format!(in rt.alloc(); "{referee}{equal}")?,
+        AFTER_THE_MOVE,
+        true,
+    )?;
+    check_shown(&rt, b"", b"B", "file 0: short\nfile 1: short\n", "", false)?;
+    Ok(())
+}
+
+#[test]
+fn files_that_do_not_load(rt: HostRuntime) -> Result<(), Fail> {
+    let mut illegal = SEAT;
+    illegal[31] = 3;
+    let mut field = SEAT;
+    field[13] = 0;
+    check_shown(
+        &rt,
+        &illegal,
+        &field,
+        "file 0: illegal entry 1\nfile 1: bad field at 13\n",
+        "",
+        false,
+    )?;
+    let mut extra = Vec::from_slice(rt.alloc(), &REFEREE)?;
+    extra.push(0)?;
+    check_shown(
+        &rt,
+        &extra,
+        &SEAT,
+        "file 0: extra bytes\nfile 1: party 1 match 1 length 1 save 1 entries 1 claim 2\n",
+        AFTER_THE_OPENING,
+        true,
+    )
 }

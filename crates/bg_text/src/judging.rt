@@ -46,7 +46,7 @@ fn push_refused(out: &mut Vec<u8>, number: u32, why: LineFault) -> Result<(), Al
     ensures { OnOk result (out.new.items ≡ out.old.items ++ line_text (refused_line number why)) }
 {
     push_text(out, "refused at line ")?;
-    push_number(out, number)?;
+    push_number(out, number.into())?;
     push_text(out, ": ")?;
     push_reason(out, why)?;
     push_text(out, "\n")?;
@@ -58,7 +58,7 @@ fn push_fine(out: &mut Vec<u8>, entries: u32) -> Result<(), AllocError>
     ensures { OnOk result (out.new.items ≡ out.old.items ++ line_text (fine_line entries)) }
 {
     push_text(out, "ok ")?;
-    push_number(out, entries)?;
+    push_number(out, entries.into())?;
     push_text(out, "\n")
 }
 

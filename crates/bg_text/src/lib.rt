@@ -27,6 +27,7 @@ pub use faults::{LineFault, TextFault};
 pub use inputs::MOST_BYTES;
 pub use judging::{Judgement, judge, judge_text, judgements_agree, transcripts_are_fine};
 pub use lines::{parse_action, parse_entry};
+pub use printing::{push_number, push_text};
 pub use reasons::reason_text;
 pub use transcripts::transcript_text;
 pub use verdicts::{EngineFault, Verdict};

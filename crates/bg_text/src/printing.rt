@@ -4,15 +4,21 @@ ghost use Rattle.std.specs.Fmt.{decimal};
 
 use std::alloc::AllocError;
 
-/// Adds a text.
-pub(crate) fn push_text(out: &mut Vec<u8>, text: &str) -> Result<(), AllocError>
+/// Adds a text to the end of another.
+///
+/// # Errors
+/// AllocError where memory runs out.
+pub fn push_text(out: &mut Vec<u8>, text: &str) -> Result<(), AllocError>
     ensures { OnOk result (out.new.items ≡ out.old.items ++ text.now) }
 {
     out.extend_from_slice(text.as_bytes())
 }
 
-/// Adds a number in decimal.
-pub(crate) fn push_number(out: &mut Vec<u8>, number: u32) -> Result<(), AllocError>
+/// Adds a number in decimal, without leading zeros, to the end of a text.
+///
+/// # Errors
+/// AllocError where memory runs out.
+pub fn push_number(out: &mut Vec<u8>, number: u64) -> Result<(), AllocError>
     ensures { OnOk result (out.new.items ≡ out.old.items ++ decimal number) }
 {
     push_text(out, itoa::Buffer::new().format(number))

@@ -1,0 +1,135 @@
+-- The law of each field.
+use Rattle.std.proofs.Common.{◌≡◌, ℕ, ◌+◌, ◌^◌, ◌<◌, ◌≤◌, Bool, true, false, cond, List, [], ◌∷◌, ◌++◌, length, take, drop, Result, Ok, Err, refl, sym, ap, subst, ◌∙◌, arith, inl, inr}
+use Rattle.std.specs.Prelude.{nat_lt, ◌||◌}
+use Rattle.std.specs.Int.{w16, w32, w64, from_be_bytes, to_be_bytes}
+use Rattle.std.proofs.lemmas.Bool.{cases_lt, ltb-false, lt-ltb, le-ltb}
+use Rattle.std.proofs.lemmas.List.{take_at, drop_at, take-append-drop, length-append, length-take, get_or-take, get_or_past, take-append-le, drop-append-le}
+use Rattle.std.proofs.lemmas.Nat.{be_bytes_2, be_bytes_4, be_bytes_8, from_be_bytes-to_be_bytes_2, from_be_bytes-to_be_bytes_4, from_be_bytes-to_be_bytes_8}
+use Rattle.bg_wire.specs.declared.reader.ReadFault.{ReadFault}
+use Rattle.bg_wire.specs.declared.reader.ReadFault.TheVariants.{Short, Field}
+use Rattle.bg_wire.specs.Reading.{Cursor, is_outside, byte_of, u8_at, number_at, u16_at, u32_at, u64_at}
+use Rattle.bg_wire.proofs.Laws.{IsBytes, longer, Grows, Law, other_text, ok_is}
+
+IsBytes-take : (n : ℕ) (bytes : List ℕ) → IsBytes bytes → IsBytes (take n bytes)
+IsBytes-take n bytes h i =
+    elim (cases_lt i n) [
+      | inl lt ↦ rw (get_or-take n bytes i 0 lt) (h i)
+      | inr le ↦ rw (get_or_past (take n bytes) i 0 (omega (arith, length-take n bytes))) (omega arith)
+    ]
+
+-- a test that did not fail
+guard_ok : {A : Type 0} (b : Bool) (f : ReadFault) (r : Result A ReadFault) (y : A) → cond b (Err f) r ≡ Ok y → (b ≡ false) × (r ≡ Ok y)
+guard_ok true f r y e = absurd cc
+guard_ok false f r y e = (refl, e)
+
+or_false : (a b : Bool) → (a || b) ≡ false → (a ≡ false) × (b ≡ false)
+or_false true b e = absurd cc
+or_false false b e = (refl, e)
+
+inside : (low high n : ℕ) → is_outside low high n ≡ false → (low ≤ n) × (n ≤ high)
+inside low high n e = let h = or_false (nat_lt n low) (nat_lt high n) e in (ltb-false _ _ h.0, ltb-false _ _ h.1)
+
+is_inside : (low high n : ℕ) → low ≤ n → n ≤ high → is_outside low high n ≡ false
+is_inside low high n p q = rw (le-ltb n low p, le-ltb high n q) refl
+
+Grows-guard : {A : Type 0} (more : List ℕ) (b : Bool) (n : ℕ) (x : A) (d : Cursor) → Grows more (cond b (Err (Field n)) (Ok (x, d))) (cond b (Err (Field n)) (Ok (x, longer more d)))
+Grows-guard more true n x d = refl
+Grows-guard more false n x d = refl
+
+-- ---- a byte
+
+abbrev pub Byte : ℕ → ℕ → ℕ → List ℕ → Type 0
+Byte low high x front = (low ≤ x) × (x ≤ high) × (front ≡ x ∷ [])
+
+pub byte_law : (low high : ℕ) → Law (u8_at low high) (Byte low high)
+unfolding u8_at
+byte_law low high = record {
+  takes = λ c. takes c.at c.rest;
+  again = λ c x front rest text e. (
+    record { at = c.at + 1; rest = rest },
+    refl,
+    ap (byte_of low high c.at) (e ∙ ap (λ (f : List ℕ). f ++ rest) text.2) ∙ rw (is_inside low high x text.0 text.1) refl,
+  );
+  grows = λ c more. grows c.at c.rest more;
+}
+  where
+    takes : (at : ℕ) (bytes : List ℕ) (x : ℕ) (d : Cursor) → IsBytes bytes → byte_of low high at bytes ≡ Ok (x, d) → (front : List ℕ) × Byte low high x front × (bytes ≡ front ++ d.rest)
+    takes at [] x d fits e = absurd cc
+    takes at (b ∷ bytes) x d fits e =
+        let g = guard_ok (is_outside low high b) (Field at) (Ok (b, record { at = at + 1; rest = bytes })) (x, d) e in
+        let in_range = inside low high b g.0 in
+        let here : (front : List ℕ) × Byte low high b front × (b ∷ bytes ≡ front ++ bytes) = (b ∷ [], (in_range.0, in_range.1, refl), refl) in
+        subst (λ (p : ℕ × Cursor). (front : List ℕ) × Byte low high p.0 front × (b ∷ bytes ≡ front ++ (p.1).rest)) (ok_is _ _ g.1) here
+
+    grows : (at : ℕ) (bytes : List ℕ) (more : List ℕ) → Grows more (byte_of low high at bytes) (byte_of low high at (bytes ++ more))
+    grows at [] more = tt
+    grows at (b ∷ bytes) more = Grows-guard more (is_outside low high b) at b (record { at = at + 1; rest = bytes })
+
+-- ---- a number of some bytes
+
+abbrev Spelled : ℕ → (ℕ → List ℕ) → (ℕ → Bool) → ℕ → List ℕ → Type 0
+Spelled limit bytes_of is_wrong n front = (is_wrong n ≡ false) × (n < limit) × (front ≡ bytes_of n)
+
+module _ (size limit : ℕ) (value_of : List ℕ → ℕ) (bytes_of : ℕ → List ℕ) (is_wrong : ℕ → Bool) (len : (n : ℕ) → length (bytes_of n) ≡ size)
+    (spelled : (bytes : List ℕ) → length bytes ≡ size → IsBytes bytes → (value_of bytes < limit) × (bytes_of (value_of bytes) ≡ bytes)) (valued : (n : ℕ) → n < limit → value_of (bytes_of n) ≡ n) where
+  number_law : Law (number_at size value_of is_wrong) (Spelled limit bytes_of is_wrong)
+  number_law = record {
+    takes = λ c n d fits e.
+        let front = take size c.rest in
+        let rest = drop size c.rest in
+        let long = guard_ok (nat_lt (length c.rest) size) Short _ (n, d) e in
+        let g = guard_ok (is_wrong (value_of front)) (Field c.at) (Ok (value_of front, record { at = c.at + size; rest = rest })) (n, d) long.1 in
+        let enough : size ≤ length c.rest = ltb-false _ _ long.0 in
+        let s = spelled front (omega (arith, length-take size c.rest)) (IsBytes-take size c.rest fits) in
+        let here : (f : List ℕ) × Spelled limit bytes_of is_wrong (value_of front) f × (c.rest ≡ f ++ rest) = (front, (g.0, s.0, sym s.1), sym (take-append-drop size c.rest)) in
+        subst (λ (p : ℕ × Cursor). (f : List ℕ) × Spelled limit bytes_of is_wrong p.0 f × (c.rest ≡ f ++ (p.1).rest)) (ok_is _ _ g.1) here;
+    again = λ c n front rest text e.
+        let whole : c.rest ≡ bytes_of n ++ rest = e ∙ ap (λ (f : List ℕ). f ++ rest) text.2 in
+        let long : nat_lt (length c.rest) size ≡ false = le-ltb _ _ (omega (arith, ap length whole, length-append (bytes_of n) rest, len n)) in
+        let front_is : take size c.rest ≡ bytes_of n = ap (take size) whole ∙ take_at (bytes_of n) rest size (len n) in
+        let rest_is : drop size c.rest ≡ rest = ap (drop size) whole ∙ drop_at (bytes_of n) rest size (len n) in
+        let value : value_of (take size c.rest) ≡ n = ap value_of front_is ∙ valued n text.1 in
+        (record { at = c.at + size; rest = drop size c.rest }, rest_is, rw (long, value, text.0) refl);
+    grows = λ c more. elim (cases_lt (length c.rest) size) [
+      | inl short ↦ rw (lt-ltb _ _ short) tt
+      | inr long ↦
+          rw (le-ltb _ _ long, le-ltb (length (c.rest ++ more)) size (omega (arith, length-append c.rest more)), take-append-le size c.rest more long, drop-append-le size c.rest more long)
+          (Grows-guard more (is_wrong (value_of (take size c.rest))) c.at (value_of (take size c.rest)) (record { at = c.at + size; rest = drop size c.rest }))
+    ];
+  }
+
+abbrev pub Number : ℕ → ℕ → ℕ → List ℕ → Type 0
+Number low high n front = (low ≤ n) × (n ≤ high) × (n < 2 ^ 16) × (front ≡ to_be_bytes w16 n)
+
+two_bytes : (bytes : List ℕ) → length bytes ≡ 2 → IsBytes bytes → (from_be_bytes w16 bytes < 2 ^ 16) × (to_be_bytes w16 (from_be_bytes w16 bytes) ≡ bytes)
+two_bytes bytes len fits = (omega (arith, fits 0, fits 1), be_bytes_2 bytes (from_be_bytes w16 bytes) len fits refl)
+
+pub u16_law : (low high : ℕ) → Law (u16_at low high) (Number low high)
+unfolding u16_at
+u16_law low high =
+    other_text _ (λ n front h. let r = inside low high n h.0 in (r.0, r.1, h.1, h.2)) (λ n front h. (is_inside low high n h.0 h.1, h.2, h.3))
+    (number_law 2 (2 ^ 16) (from_be_bytes w16) (to_be_bytes w16) (is_outside low high) (λ n. refl) two_bytes from_be_bytes-to_be_bytes_2)
+
+abbrev pub Long : ℕ → ℕ → ℕ → List ℕ → Type 0
+Long low high n front = (low ≤ n) × (n ≤ high) × (n < 2 ^ 32) × (front ≡ to_be_bytes w32 n)
+
+four_bytes : (bytes : List ℕ) → length bytes ≡ 4 → IsBytes bytes → (from_be_bytes w32 bytes < 2 ^ 32) × (to_be_bytes w32 (from_be_bytes w32 bytes) ≡ bytes)
+four_bytes bytes len fits = (omega (arith, fits 0, fits 1, fits 2, fits 3), be_bytes_4 bytes (from_be_bytes w32 bytes) len fits refl)
+
+pub u32_law : (low high : ℕ) → Law (u32_at low high) (Long low high)
+unfolding u32_at
+u32_law low high =
+    other_text _ (λ n front h. let r = inside low high n h.0 in (r.0, r.1, h.1, h.2)) (λ n front h. (is_inside low high n h.0 h.1, h.2, h.3))
+    (number_law 4 (2 ^ 32) (from_be_bytes w32) (to_be_bytes w32) (is_outside low high) (λ n. refl) four_bytes from_be_bytes-to_be_bytes_4)
+
+abbrev pub Word : ℕ → List ℕ → Type 0
+Word n front = (n < 2 ^ 64) × (front ≡ to_be_bytes w64 n)
+
+eight_bytes : (bytes : List ℕ) → length bytes ≡ 8 → IsBytes bytes → (from_be_bytes w64 bytes < 2 ^ 64) × (to_be_bytes w64 (from_be_bytes w64 bytes) ≡ bytes)
+eight_bytes bytes len fits = (omega (arith, fits 0, fits 1, fits 2, fits 3, fits 4, fits 5, fits 6, fits 7), be_bytes_8 bytes (from_be_bytes w64 bytes) len fits refl)
+
+pub u64_law : Law u64_at Word
+unfolding u64_at
+u64_law =
+    other_text _ (λ n front h. (h.1, h.2)) (λ n front h. (refl, h.0, h.1))
+    (number_law 8 (2 ^ 64) (from_be_bytes w64) (to_be_bytes w64) (λ n. false) (λ n. refl) eight_bytes from_be_bytes-to_be_bytes_8)

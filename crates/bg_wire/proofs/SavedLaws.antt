@@ -1,0 +1,318 @@
+-- The law of saved texts, and what follows from it.
+use Rattle.std.proofs.Common.{◌≡◌, ◌≢◌, ℕ, zero, suc, ◌^◌, ◌<◌, ◌≤◌, Bool, true, false, cond, List, [], ◌∷◌, ◌++◌, length, Option, Some, None, Ok, Err, refl, sym, ap, subst, ◌∙◌, arith}
+use Rattle.std.specs.Prelude.{◌==◌}
+use Rattle.std.specs.Int.{w16, w32, w64, to_be_bytes}
+use Rattle.std.proofs.lemmas.Bool.Decides.{nat_tests}
+use Rattle.bg_match.specs.Entry.{IsEntry, IsAction}
+use Rattle.bg_match.specs.declared.limits.TheConstants.{MOST_ENTRIES, SHORTEST_MATCH, LONGEST_MATCH}
+use Rattle.bg_match.specs.declared.actions.Action.{Action}
+use Rattle.bg_match.specs.declared.entries.Entry.{Entry}
+use Rattle.bg_wire.specs.declared.codes.TheConstants.{FIRST_ENTRY, FIRST_PARTY, REFEREE, LAST_SEAT}
+use Rattle.bg_wire.specs.declared.faults.LoadFault.TheVariants as fault
+use Rattle.bg_wire.specs.declared.reader.ReadFault.{ReadFault}
+use Rattle.bg_wire.specs.declared.reader.ReadFault.TheVariants as read_fault
+use Rattle.bg_wire.specs.declared.saved_version_one.Front.{Front}
+use Rattle.bg_wire.specs.declared.saved_version_one.TheConstants.{MAGIC, MAGIC_AT, NO_CLAIM, KEPT_CLAIM, FIRST_SAVE, LAST_SAVE}
+use Rattle.bg_wire.specs.EntryText.{action_text, entry_text, entries_text}
+use Rattle.bg_wire.specs.SavedText.{SavedParts, claim_text, front_text, front_of, saved_text, IsClaimOf, IsLayoutOf, IsSavedText}
+use Rattle.bg_wire.specs.Texts.{ArePrefixFree}
+use Rattle.bg_wire.specs.Reading.{◌>>=◌, Cursor, Read, u8_at, u16_at, u32_at, u64_at, many_at, passed_of}
+use Rattle.bg_wire.specs.EntryReading.{with, action_at, entry_at}
+use Rattle.bg_wire.specs.SavedReading.{load_fault, most_flag, kept_claim_at, flagged_at, claim_at, front_at, parts_with, saved_at, layout_of, IsLaidOut}
+use Rattle.bg_wire.proofs.Laws.{Law, Then, Nothing, Mapped, Each, Choice, then_law, done_law, with_law, other_text, choice_law, many_law, from_front, prefix_free}
+use Rattle.bg_wire.proofs.Many.{passed_list, passed_not}
+use Rattle.bg_wire.proofs.Fields.{Byte, Number, Long, Word, byte_law, u16_law, u32_law, u64_law}
+use Rattle.bg_wire.proofs.EntryLaws.{Spells, each_to, each_from, action_law, entry_law}
+
+-- ---- the claim
+
+abbrev Claim : Type 0
+Claim = Option (ℕ × Action)
+
+abbrev claim_with : ℕ → Action → Claim
+claim_with n a = Some (n, a)
+
+abbrev KeptParts : Claim → List ℕ → Type 0
+KeptParts = Then (Number FIRST_ENTRY MOST_ENTRIES) (λ n. Mapped (claim_with n) (Spells IsAction action_text))
+
+kept_law : Law kept_claim_at KeptParts
+unfolding kept_claim_at
+kept_law =
+    then_law (u16_at FIRST_ENTRY MOST_ENTRIES) (λ n c. with (claim_with n) (action_at c)) (u16_law FIRST_ENTRY MOST_ENTRIES)
+    (λ n. with_law (claim_with n) action_at action_law)
+
+abbrev Flagged : ℕ → Claim → List ℕ → Type 0
+Flagged flag = Choice (flag == NO_CLAIM) (Nothing None) KeptParts
+
+flagged_law : (flag : ℕ) → Law (flagged_at flag) (Flagged flag)
+flagged_law flag = choice_law (flag == NO_CLAIM) (λ c. Ok (None, c)) kept_claim_at (done_law None) kept_law
+
+abbrev ClaimParts : ℕ → Claim → List ℕ → Type 0
+ClaimParts party = Then (Byte NO_CLAIM (most_flag party)) Flagged
+
+seat_flag : (party : ℕ) → most_flag (suc party) ≡ KEPT_CLAIM
+seat_flag party = let is : (suc party == REFEREE) ≡ false = grind (arith, nat_tests) in rw is refl
+
+-- the flag of a claim is only of a seat
+flag_of_seat : (party : ℕ) → KEPT_CLAIM ≤ most_flag party → FIRST_PARTY ≤ party
+flag_of_seat zero le = absurd (omega arith)
+flag_of_seat (suc party) le = omega arith
+
+seat_may : (party : ℕ) → FIRST_PARTY ≤ party → KEPT_CLAIM ≤ most_flag party
+seat_may zero le = absurd (omega arith)
+seat_may (suc party) le = let is = seat_flag party in omega (arith, is)
+
+most_flag_is : (party : ℕ) → most_flag party ≤ KEPT_CLAIM
+most_flag_is zero = omega arith
+most_flag_is (suc party) = let is = seat_flag party in omega (arith, is)
+
+claim_to : (party : ℕ) (k : Claim) (front : List ℕ) → ClaimParts party k front → Spells (IsClaimOf party) claim_text k front
+claim_to party k front h = go h.0 refl
+  where
+    go : (flag : ℕ) → h.0 ≡ flag → Spells (IsClaimOf party) claim_text k front
+    go zero is =
+        let rest = subst (λ (n : ℕ). Flagged n k h.2) is h.4 in
+        let text : front ≡ NO_CLAIM ∷ [] = h.5 ∙ ap (λ (r : List ℕ). r ++ h.2) h.3.2 ∙ ap (λ (n : ℕ). n ∷ h.2) is ∙ ap (λ (r : List ℕ). NO_CLAIM ∷ r) rest.1 in
+        subst (λ (x : Claim). Spells (IsClaimOf party) claim_text x front) rest.0 (tt, text)
+    go (suc zero) is =
+        let rest = subst (λ (n : ℕ). Flagged n k h.2) is h.4 in
+        let seat = flag_of_seat party (omega (arith, is, h.3.1)) in
+        let last : h.2 ≡ to_be_bytes w16 rest.0 ++ action_text rest.4.0 = rest.5 ∙ ap (λ (r : List ℕ). r ++ rest.2) rest.3.3 ∙ ap (λ (r : List ℕ). to_be_bytes w16 rest.0 ++ r) rest.4.1.1 in
+        let text : front ≡ claim_text (claim_with rest.0 rest.4.0) = h.5 ∙ ap (λ (r : List ℕ). r ++ h.2) h.3.2 ∙ ap (λ (n : ℕ). n ∷ h.2) is ∙ ap (λ (r : List ℕ). KEPT_CLAIM ∷ r) last in
+        subst (λ (x : Claim). Spells (IsClaimOf party) claim_text x front) rest.4.2 ((seat, (rest.3.0, rest.3.1, rest.4.1.0)), text)
+    go (suc (suc n)) is = absurd (omega (arith, is, h.3.1, most_flag_is party))
+
+claim_from : (party : ℕ) (k : Claim) (front : List ℕ) → Spells (IsClaimOf party) claim_text k front → ClaimParts party k front
+claim_from party None front h = (NO_CLAIM, NO_CLAIM ∷ [], [], (omega arith, omega arith, refl), (refl, refl), h.1)
+claim_from party (Some x) front h =
+    let kept = h.0.1 in
+    let last = to_be_bytes w16 x.0 ++ action_text x.1 in
+    (KEPT_CLAIM, KEPT_CLAIM ∷ [], last, (omega arith, seat_may party h.0.0, refl), (x.0, to_be_bytes w16 x.0, action_text x.1, (kept.0, kept.1, omega (arith, kept.1), refl), (x.1, (kept.2, refl), refl), refl), h.1)
+
+claim_law : (party : ℕ) → Law (claim_at party) (Spells (IsClaimOf party) claim_text)
+unfolding claim_at
+claim_law party = other_text _ (claim_to party) (claim_from party) (then_law (u8_at NO_CLAIM (most_flag party)) flagged_at (byte_law NO_CLAIM (most_flag party)) flagged_law)
+
+-- ---- what stands before the entries
+
+abbrev front_with : ℕ → ℕ → ℕ → ℕ → Claim → ℕ → Front
+front_with party id match_length save claim count =
+    record { party = party; id = id; match_length = match_length; save = save; claim = claim; count = count }
+
+module _ (party : ℕ) where
+  abbrev from_claim : ℕ → ℕ → ℕ → Cursor → Read Front
+  from_claim id n save c = claim_at party c >>= λ k. with (front_with party id n save k.0) (u16_at 0 MOST_ENTRIES k.1)
+
+  abbrev from_save : ℕ → ℕ → Cursor → Read Front
+  from_save id n c = u32_at FIRST_SAVE LAST_SAVE c >>= λ save. from_claim id n save.0 save.1
+
+  abbrev from_length : ℕ → Cursor → Read Front
+  from_length id c = u8_at SHORTEST_MATCH LONGEST_MATCH c >>= λ n. from_save id n.0 n.1
+
+  abbrev from_id : Cursor → Read Front
+  from_id c = u64_at c >>= λ id. from_length id.0 id.1
+
+  abbrev ClaimOn : ℕ → ℕ → ℕ → Front → List ℕ → Type 0
+  ClaimOn id n save = Then (Spells (IsClaimOf party) claim_text) (λ k. Mapped (front_with party id n save k) (Number 0 MOST_ENTRIES))
+
+  abbrev SaveOn : ℕ → ℕ → Front → List ℕ → Type 0
+  SaveOn id n = Then (Long FIRST_SAVE LAST_SAVE) (ClaimOn id n)
+
+  abbrev LengthOn : ℕ → Front → List ℕ → Type 0
+  LengthOn id = Then (Byte SHORTEST_MATCH LONGEST_MATCH) (SaveOn id)
+
+  abbrev IdOn : Front → List ℕ → Type 0
+  IdOn = Then Word LengthOn
+
+  claim_on : (id n save : ℕ) → Law (from_claim id n save) (ClaimOn id n save)
+  claim_on id n save =
+      then_law (claim_at party) (λ k c. with (front_with party id n save k) (u16_at 0 MOST_ENTRIES c)) (claim_law party)
+      (λ k. with_law (front_with party id n save k) (u16_at 0 MOST_ENTRIES) (u16_law 0 MOST_ENTRIES))
+
+  save_on : (id n : ℕ) → Law (from_save id n) (SaveOn id n)
+  save_on id n = then_law (u32_at FIRST_SAVE LAST_SAVE) (from_claim id n) (u32_law FIRST_SAVE LAST_SAVE) (claim_on id n)
+
+  length_on : (id : ℕ) → Law (from_length id) (LengthOn id)
+  length_on id = then_law (u8_at SHORTEST_MATCH LONGEST_MATCH) (from_save id) (byte_law SHORTEST_MATCH LONGEST_MATCH) (save_on id)
+
+  id_on : Law from_id IdOn
+  id_on = then_law u64_at from_length u64_law length_on
+
+abbrev FrontParts : Front → List ℕ → Type 0
+FrontParts = Then (Long MAGIC MAGIC) (λ m. Then (Byte REFEREE LAST_SEAT) IdOn)
+
+front_parts_law : Law front_at FrontParts
+unfolding front_at
+front_parts_law =
+    then_law (u32_at MAGIC MAGIC) (λ m c. u8_at REFEREE LAST_SEAT c >>= λ party. from_id party.0 party.1) (u32_law MAGIC MAGIC)
+    (λ m. then_law (u8_at REFEREE LAST_SEAT) from_id (byte_law REFEREE LAST_SEAT) id_on)
+
+record IsFront (f : Front) : Type 0 where
+  party : f.party ≤ LAST_SEAT
+  id_fits : f.id < 2 ^ 64
+  shortest : SHORTEST_MATCH ≤ f.match_length
+  longest : f.match_length ≤ LONGEST_MATCH
+  first_save : FIRST_SAVE ≤ f.save
+  last_save : f.save ≤ LAST_SAVE
+  claim : IsClaimOf f.party f.claim
+  few : f.count ≤ MOST_ENTRIES
+
+-- two texts in a row, each said in another way
+join : {front first second a b : List ℕ} → front ≡ first ++ second → first ≡ a → second ≡ b → front ≡ a ++ b
+join {front} {first} {second} {a} {b} e p q = e ∙ ap (λ (r : List ℕ). r ++ second) p ∙ ap (λ (r : List ℕ). a ++ r) q
+
+front_to : (f : Front) (front : List ℕ) → FrontParts f front → Spells IsFront front_text f front
+front_to f front h =
+    let party = h.4 in let id = party.4 in let n = id.4 in let save = n.4 in let claim = save.4 in
+    let m : h.0 ≡ MAGIC = omega (arith, h.3.0, h.3.1) in
+    let made : Front = front_with party.0 id.0 n.0 save.0 claim.0 claim.4.0 in
+    let text : front ≡ front_text made =
+    join h.5 (h.3.3 ∙ ap (to_be_bytes w32) m) (join party.5 party.3.2 (join id.5 id.3.1 (join n.5 n.3.2 (join save.5 save.3.3 (join claim.5 claim.3.1 claim.4.1.3))))) in
+    subst (λ (x : Front). Spells IsFront front_text x front) claim.4.2 (
+      record {
+        party = party.3.1;
+        id_fits = id.3.0;
+        shortest = n.3.0;
+        longest = n.3.1;
+        first_save = save.3.0;
+        last_save = save.3.1;
+        claim = claim.3.0;
+        few = claim.4.1.1;
+      },
+      text,
+    )
+
+front_from : (f : Front) (front : List ℕ) → Spells IsFront front_text f front → FrontParts f front
+front_from f front h =
+    let r = h.0 in
+    let count_text = to_be_bytes w16 f.count in
+    let from_claim_text = claim_text f.claim ++ count_text in
+    let from_save_text = to_be_bytes w32 f.save ++ from_claim_text in
+    let from_length_text = f.match_length ∷ from_save_text in
+    let from_id_text = to_be_bytes w64 f.id ++ from_length_text in
+    let from_party_text = f.party ∷ from_id_text in (
+      MAGIC,
+      to_be_bytes w32 MAGIC,
+      from_party_text,
+      (omega arith, omega arith, omega arith, refl),
+      (
+        f.party,
+        f.party ∷ [],
+        from_id_text,
+        (omega arith, r.party, refl),
+        (
+          f.id,
+          to_be_bytes w64 f.id,
+          from_length_text,
+          (r.id_fits, refl),
+          (
+            f.match_length,
+            f.match_length ∷ [],
+            from_save_text,
+            (r.shortest, r.longest, refl),
+            (
+              f.save,
+              to_be_bytes w32 f.save,
+              from_claim_text,
+              (r.first_save, r.last_save, omega (arith, r.last_save), refl),
+              (f.claim, claim_text f.claim, count_text, (r.claim, refl), (f.count, (omega arith, r.few, omega (arith, r.few), refl), refl), refl),
+              refl,
+            ),
+            refl,
+          ),
+          refl,
+        ),
+        refl,
+      ),
+      h.1,
+    )
+
+front_law : Law front_at (Spells IsFront front_text)
+front_law = other_text _ front_to front_from front_parts_law
+
+-- ---- the whole
+
+abbrev SavedParted : SavedParts → List ℕ → Type 0
+SavedParted = Then (Spells IsFront front_text) (λ f. Mapped (parts_with f) (Each (Spells IsEntry entry_text) f.count))
+
+parted_to : (p : SavedParts) (front : List ℕ) → SavedParted p front → IsLayoutOf p front
+parted_to p front h =
+    let f = h.0 in
+    let es = h.4.0 in
+    let r = h.3.0 in
+    let each = each_to IsEntry entry_text f.count es h.2 h.4.1 in
+    let counted : f ≡ front_of (parts_with f es) = ap (front_with f.party f.id f.match_length f.save f.claim) (sym each.0) in
+    let text : front ≡ saved_text (parts_with f es) = join h.5 (h.3.1 ∙ ap front_text counted) each.2 in
+    subst (λ (x : SavedParts). IsLayoutOf x front) h.4.2 (record {
+      in_layout = record {
+        party = r.party;
+        id_fits = r.id_fits;
+        shortest = r.shortest;
+        longest = r.longest;
+        first_save = r.first_save;
+        last_save = r.last_save;
+        claim = r.claim;
+        few = omega (arith, each.0, r.few);
+        in_range = each.1;
+      };
+      spelled = text;
+    })
+
+parted_from : (p : SavedParts) (front : List ℕ) → IsLayoutOf p front → SavedParted p front
+parted_from p front h =
+    let r = h.in_layout in
+    let f = front_of p in
+    let is : IsFront f = record {
+      party = r.party;
+      id_fits = r.id_fits;
+      shortest = r.shortest;
+      longest = r.longest;
+      first_save = r.first_save;
+      last_save = r.last_save;
+      claim = r.claim;
+      few = r.few;
+    } in
+    (f, front_text f, entries_text p.entries, (is, refl), (p.entries, each_from IsEntry entry_text (length p.entries) p.entries (entries_text p.entries) refl r.in_range refl, refl), h.spelled)
+
+pub saved_law : Law saved_at IsLayoutOf
+unfolding saved_at
+saved_law =
+    other_text _ parted_to parted_from
+    (then_law front_at (λ f c. with (parts_with f) (many_at entry_at f.count c)) front_law
+    (λ f. with_law (parts_with f) (many_at entry_at f.count) (many_law entry_at entry_law f.count)))
+
+pub not_extra : (f : ReadFault) → load_fault f ≢ fault.Extra
+not_extra read_fault.Short e = absurd cc
+not_extra (read_fault.Field at) e = named (at == MAGIC_AT) e
+  where
+    named : (a : Bool) → cond a fault.Magic (fault.Field at) ≢ fault.Extra
+    named true e = absurd cc
+    named false e = absurd cc
+
+pub saved_prefix_free : ArePrefixFree IsSavedText
+saved_prefix_free p q text rest h k = prefix_free saved_at saved_law p q text rest h.layout k.layout
+
+-- ---- where the layout holds, and where it does not
+
+module _ (bytes : List ℕ) where
+  pub front_fails : (f : ReadFault) → front_at (from_front bytes) ≡ Err f → layout_of bytes ≡ Err (load_fault f)
+  unfolding layout_of saved_at
+  front_fails f e = rw e refl
+
+  module _ (front : Front) (c : Cursor) (read : front_at (from_front bytes) ≡ Ok (front, c)) where
+    pub entries_fail : (f : ReadFault) → passed_of (many_at entry_at front.count c) ≡ Err f → layout_of bytes ≡ Err (load_fault f)
+    unfolding layout_of saved_at
+    entries_fail f e = rw (read, passed_not (many_at entry_at front.count c) f e) refl
+
+    pub more_left : (d : Cursor) → passed_of (many_at entry_at front.count c) ≡ Ok d → (length d.rest == 0) ≡ false → layout_of bytes ≡ Err fault.Extra
+    unfolding layout_of saved_at
+    more_left d e some = let h = passed_list (many_at entry_at front.count c) d e in rw (read, h.1, some) refl
+
+    pub is_laid_out : (d : Cursor) → passed_of (many_at entry_at front.count c) ≡ Ok d → (length d.rest == 0) ≡ true → IsLaidOut (Ok (front, c)) bytes
+    unfolding layout_of saved_at
+    is_laid_out d e none =
+        let h = passed_list (many_at entry_at front.count c) d e in
+        (h.0, d, h.1, whole h.0 h.1)
+      where
+        whole : (entries : List Entry) → many_at entry_at front.count c ≡ Ok (entries, d) → layout_of bytes ≡ Ok (parts_with front entries)
+        whole entries e = rw (read, e, none) refl

@@ -1,0 +1,93 @@
+-- Reading entries and actions.
+use Rattle.std.specs.Prelude.{◌==◌, ℕ, ◌-◌, List, Ok, if◌then◌else◌}
+use Rattle.bg_board.specs.FromTo.{FromTo}
+use Rattle.bg_board.specs.declared.dice.Die.{Die}
+use Rattle.bg_board.specs.declared.dice.Die.TheVariants.{One, Two, Three, Four, Five, Six}
+use Rattle.bg_turns.specs.declared.throws.Dice.{Dice}
+use Rattle.bg_match.specs.declared.actions.Action.{Action}
+use Rattle.bg_match.specs.declared.actions.Action.TheVariants as action
+use Rattle.bg_match.specs.declared.entries.Entry.{Entry}
+use Rattle.bg_match.specs.declared.entries.Entry.TheVariants as entry
+use Rattle.bg_match.specs.declared.levels.Level.{Level}
+use Rattle.bg_match.specs.declared.levels.Level.TheVariants.{Normal, Gammon, Backgammon}
+use Rattle.bg_wire.specs.declared.codes.TheConstants.{OPENING, ROLLED, DOUBLED, TAKEN, DROPPED, MOVED, RESIGNED, ACCEPTED, REJECTED, NORMAL, GAMMON, BACKGAMMON, LEAST_PIPS, MOST_PIPS, LOWEST_START, BAR, MOST_STEPS}
+use Rattle.bg_wire.specs.Reading.{◌>>=◌, Cursor, Read, u8_at, many_at}
+
+unfoldable pub step_at : Cursor → Read FromTo
+step_at c = do
+  from ← u8_at LOWEST_START BAR c
+  to ← u8_at 0 (from.0 - 1) from.1
+  Ok (record { from = from.0; to = to.0 }, to.1)
+
+unfoldable pub turn_at : Cursor → Read (List FromTo)
+turn_at c = do
+  count ← u8_at 0 MOST_STEPS c
+  many_at step_at count.0 count.1
+
+abbrev pub level_of : ℕ → Level
+level_of code = if code == NORMAL then Normal else if code == GAMMON then Gammon else Backgammon
+
+unfoldable pub level_at : Cursor → Read Level
+level_at c = do
+  code ← u8_at NORMAL BACKGAMMON c
+  Ok (level_of code.0, code.1)
+
+-- the die that shows so much
+abbrev pub die_of : ℕ → Die
+die_of n =
+    if n == 1 then One
+    else if n == 2 then Two
+    else if n == 3 then Three
+    else if n == 4 then Four
+    else if n == 5 then Five
+    else Six
+
+unfoldable pub die_at : Cursor → Read Die
+die_at c = do
+  shown ← u8_at LEAST_PIPS MOST_PIPS c
+  Ok (die_of shown.0, shown.1)
+
+unfoldable pub dice_at : Cursor → Read Dice
+dice_at c = do
+  first ← die_at c
+  second ← die_at first.1
+  Ok (record { first = first.0; second = second.0 }, second.1)
+
+-- what is read becomes another value
+abbrev pub with : {A B : Type 0} → (A → B) → Read A → Read B
+with f read = read >>= λ x. Ok (f x.0, x.1)
+
+-- what follows the code of an action
+unfoldable pub action_of : ℕ → Cursor → Read Action
+action_of code c =
+    if code == ROLLED then Ok (action.Roll, c)
+    else if code == DOUBLED then Ok (action.Double, c)
+    else if code == TAKEN then Ok (action.Take, c)
+    else if code == DROPPED then Ok (action.Drop, c)
+    else if code == MOVED then with action.Move (turn_at c)
+    else if code == RESIGNED then with action.Resign (level_at c)
+    else if code == ACCEPTED then Ok (action.Accept, c)
+    else Ok (action.Reject, c)
+
+unfoldable pub action_at : Cursor → Read Action
+action_at c = do
+  code ← u8_at ROLLED REJECTED c
+  action_of code.0 code.1
+
+-- what follows the code of an entry
+unfoldable pub entry_of : ℕ → Cursor → Read Entry
+entry_of code c =
+    if code == OPENING then with (λ dice. entry.Opening dice.first dice.second) (dice_at c)
+    else if code == ROLLED then with entry.Rolled (dice_at c)
+    else if code == DOUBLED then Ok (entry.Doubled, c)
+    else if code == TAKEN then Ok (entry.Taken, c)
+    else if code == DROPPED then Ok (entry.Dropped, c)
+    else if code == MOVED then with entry.Moved (turn_at c)
+    else if code == RESIGNED then with entry.Resigned (level_at c)
+    else if code == ACCEPTED then Ok (entry.Accepted, c)
+    else Ok (entry.Rejected, c)
+
+unfoldable pub entry_at : Cursor → Read Entry
+entry_at c = do
+  code ← u8_at OPENING REJECTED c
+  entry_of code.0 code.1

@@ -1,0 +1,65 @@
+-- The one text of each packet.
+use Rattle.std.specs.Prelude.{◌≡◌, ℕ, ◌+◌, ◌<◌, ◌≤◌, ◌^◌, List, ◌∷◌, ◌++◌, length}
+use Rattle.std.specs.List.{flat_map, AllByRecursion}
+use Rattle.std.specs.Int.{w16, w64, to_be_bytes}
+use Rattle.bg_match.specs.Entry.{IsEntry, IsAction}
+use Rattle.bg_match.specs.declared.limits.TheConstants.{MOST_ENTRIES}
+use Rattle.bg_match.specs.declared.actions.Action.{Action}
+use Rattle.bg_match.specs.declared.entries.Entry.{Entry}
+use Rattle.bg_wire.specs.EntryText.{action_text, entry_text}
+use Rattle.bg_wire.specs.declared.packets.Packet.{Packet}
+use Rattle.bg_wire.specs.declared.packets.Packet.TheVariants as packet
+use Rattle.bg_wire.specs.declared.packets.TheConstants.{MOST_ENTRIES_IN_PACKET}
+use Rattle.bg_wire.specs.declared.packet_version_one.TheConstants.{MAGIC, VERSION, WANT, CLAIM, ENTRIES}
+use Rattle.bg_wire.specs.declared.codes.TheConstants.{FIRST_ENTRY, FIRST_PARTY, LAST_SEAT, LAST_PARTY}
+
+abbrev pub header_text : ℕ → ℕ → List ℕ
+header_text kind id = to_be_bytes w16 MAGIC ++ (VERSION ∷ kind ∷ to_be_bytes w64 id)
+
+-- the count of the entries, then each
+abbrev pub list_text : List Entry → List ℕ
+list_text list = length list ∷ flat_map entry_text list
+
+abbrev pub packet_text : Packet → List ℕ
+packet_text (packet.Want id sender held) = header_text WANT id ++ (sender ∷ to_be_bytes w16 held)
+packet_text (packet.Claim id sender number action) =
+    header_text CLAIM id ++ (sender ∷ (to_be_bytes w16 number ++ action_text action))
+packet_text (packet.Entries id start list) = header_text ENTRIES id ++ (to_be_bytes w16 start ++ list_text list)
+
+pub record IsWant (id sender held : ℕ) : Type 0 where
+  pub id_fits : id < 2 ^ 64
+  pub first_party : FIRST_PARTY ≤ sender
+  pub last_party : sender ≤ LAST_PARTY
+  pub held_at_most : held ≤ MOST_ENTRIES
+
+pub record IsClaim (id sender number : ℕ) (action : Action) : Type 0 where
+  pub id_fits : id < 2 ^ 64
+  pub first_seat : FIRST_PARTY ≤ sender
+  pub last_seat : sender ≤ LAST_SEAT
+  pub first_entry : FIRST_ENTRY ≤ number
+  pub last_entry : number ≤ MOST_ENTRIES
+  pub action_in_range : IsAction action
+
+-- so many entries from start on, so the last of them has the number start + length - 1
+pub record IsEntries (id start : ℕ) (list : List Entry) : Type 0 where
+  pub id_fits : id < 2 ^ 64
+  pub first_entry : FIRST_ENTRY ≤ start
+  pub some : 1 ≤ length list
+  pub few : length list ≤ MOST_ENTRIES_IN_PACKET
+  pub last_entry : start + length list ≤ MOST_ENTRIES + 1
+  pub in_range : AllByRecursion IsEntry list
+
+-- the fields of the packet are in their ranges
+abbrev pub IsPacket : Packet → Type 0
+IsPacket (packet.Want id sender held) = IsWant id sender held
+IsPacket (packet.Claim id sender number action) = IsClaim id sender number action
+IsPacket (packet.Entries id start list) = IsEntries id start list
+
+-- the bytes are the packet's text
+pub record IsText (p : Packet) (bytes : List ℕ) : Type 0 where
+  pub in_range : IsPacket p
+  pub spelled : bytes ≡ packet_text p
+
+-- the bytes are no packet's text
+abbrev pub IsNoText : List ℕ → Type 0
+IsNoText bytes = (p : Packet) → IsText p bytes → ⊥

@@ -1,0 +1,77 @@
+-- Reading saved texts.
+use Rattle.std.specs.Prelude.{◌≡◌, ◌==◌, ℕ, List, Option, Some, None, Result, Ok, Err, if◌then◌else◌}
+use Rattle.bg_match.specs.declared.limits.TheConstants.{MOST_ENTRIES, SHORTEST_MATCH, LONGEST_MATCH}
+use Rattle.bg_match.specs.declared.actions.Action.{Action}
+use Rattle.bg_match.specs.declared.entries.Entry.{Entry}
+use Rattle.bg_wire.specs.Reading.{◌>>=◌, Cursor, Read, u8_at, u16_at, u32_at, u64_at, many_at, whole_of}
+use Rattle.bg_wire.specs.EntryReading.{action_at, entry_at}
+use Rattle.bg_wire.specs.SavedText.{SavedParts}
+use Rattle.bg_wire.specs.declared.codes.TheConstants.{FIRST_ENTRY, REFEREE, LAST_SEAT}
+use Rattle.bg_wire.specs.declared.faults.LoadFault.{LoadFault}
+use Rattle.bg_wire.specs.declared.faults.LoadFault.TheVariants as fault
+use Rattle.bg_wire.specs.declared.reader.ReadFault.{ReadFault}
+use Rattle.bg_wire.specs.declared.reader.ReadFault.TheVariants as read_fault
+use Rattle.bg_wire.specs.declared.saved_version_one.Front.{Front}
+use Rattle.bg_wire.specs.declared.saved_version_one.TheConstants.{MAGIC, MAGIC_AT, NO_CLAIM, KEPT_CLAIM, FIRST_SAVE, LAST_SAVE}
+
+-- the first field has a fault of its own
+abbrev pub load_fault : ReadFault → LoadFault
+load_fault read_fault.Short = fault.Short
+load_fault (read_fault.Field at) = if at == MAGIC_AT then fault.Magic else fault.Field at
+
+-- the referee keeps no claim
+abbrev pub most_flag : ℕ → ℕ
+most_flag party = if party == REFEREE then NO_CLAIM else KEPT_CLAIM
+
+unfoldable pub kept_claim_at : Cursor → Read (Option (ℕ × Action))
+kept_claim_at c = do
+  number ← u16_at FIRST_ENTRY MOST_ENTRIES c
+  action ← action_at number.1
+  Ok (Some (number.0, action.0), action.1)
+
+-- what follows the claim flag
+abbrev pub flagged_at : ℕ → Cursor → Read (Option (ℕ × Action))
+flagged_at flag c = if flag == NO_CLAIM then Ok (None, c) else kept_claim_at c
+
+unfoldable pub claim_at : ℕ → Cursor → Read (Option (ℕ × Action))
+claim_at party c = do
+  flag ← u8_at NO_CLAIM (most_flag party) c
+  flagged_at flag.0 flag.1
+
+unfoldable pub front_at : Cursor → Read Front
+front_at c = do
+  magic ← u32_at MAGIC MAGIC c
+  party ← u8_at REFEREE LAST_SEAT magic.1
+  id ← u64_at party.1
+  match_length ← u8_at SHORTEST_MATCH LONGEST_MATCH id.1
+  save ← u32_at FIRST_SAVE LAST_SAVE match_length.1
+  claim ← claim_at party.0 save.1
+  count ← u16_at 0 MOST_ENTRIES claim.1
+  Ok (record { party = party.0; id = id.0; match_length = match_length.0; save = save.0; claim = claim.0; count = count.0 }, count.1)
+
+abbrev pub parts_with : Front → List Entry → SavedParts
+parts_with f entries = record {
+  party = f.party;
+  id = f.id;
+  match_length = f.match_length;
+  save = f.save;
+  claim = f.claim;
+  entries = entries;
+}
+
+unfoldable pub saved_at : Cursor → Read SavedParts
+saved_at c = do
+  front ← front_at c
+  entries ← many_at entry_at (front.0).count front.1
+  Ok (parts_with front.0 entries.0, entries.1)
+
+-- the fields where the layout holds, whatever the entries are
+unfoldable pub layout_of : List ℕ → Result SavedParts LoadFault
+layout_of bytes = whole_of load_fault fault.Extra (saved_at (record { at = 0; rest = bytes }))
+
+-- where the layout holds, what stands before the entries, and where they begin
+abbrev pub IsLaidOut : Result (Front × Cursor) LoadFault → List ℕ → Type 0
+IsLaidOut (Ok parts) bytes =
+    (entries : List Entry) × (end : Cursor) × (many_at entry_at (parts.0).count parts.1 ≡ Ok (entries, end))
+    × (layout_of bytes ≡ Ok (parts_with parts.0 entries))
+IsLaidOut (Err why) bytes = layout_of bytes ≡ Err why

@@ -1,0 +1,127 @@
+-- The one text of what a party saves.
+use Rattle.std.specs.Prelude.{◌≡◌, ◌≢◌, ℕ, ◌-◌, ◌<◌, ◌≤◌, ◌^◌, List, [], ◌∷◌, ◌++◌, length, take, Option, Some, None, Result, Ok, Err}
+use Rattle.std.specs.List.{AllByRecursion}
+use Rattle.std.specs.Int.{w16, w32, w64, to_be_bytes}
+use Rattle.bg_match.specs.Entry.{IsEntry, IsAction}
+use Rattle.bg_match.specs.Match.{Log, IsLegalRecord}
+use Rattle.bg_match.specs.declared.limits.TheConstants.{MOST_ENTRIES, SHORTEST_MATCH, LONGEST_MATCH}
+use Rattle.bg_match.specs.declared.actions.Action.{Action}
+use Rattle.bg_match.specs.declared.entries.Entry.{Entry}
+use Rattle.bg_wire.specs.EntryText.{action_text, entries_text}
+use Rattle.bg_wire.specs.declared.codes.TheConstants.{FIRST_ENTRY, FIRST_PARTY, LAST_SEAT}
+use Rattle.bg_wire.specs.declared.faults.LoadFault.{LoadFault}
+use Rattle.bg_wire.specs.declared.faults.LoadFault.TheVariants.{Illegal, Memory}
+use Rattle.bg_wire.specs.declared.saves.Saved.{Saved}
+use Rattle.bg_wire.specs.declared.saved_version_one.Front.{Front}
+use Rattle.bg_wire.specs.declared.saved_version_one.TheConstants.{MAGIC, NO_CLAIM, KEPT_CLAIM, FIRST_SAVE, LAST_SAVE}
+
+-- what a saved text tells, which is all of a `Saved` but the room for further entries
+pub record SavedParts : Type 0 where
+  pub party : ℕ
+  pub id : ℕ
+  pub match_length : ℕ
+  pub save : ℕ
+  pub claim : Option (ℕ × Action)
+  pub entries : List Entry
+
+abbrev pub parts_of : Saved → SavedParts
+parts_of s = record {
+  party = s.party;
+  id = s.log.id;
+  match_length = s.log.match_length;
+  save = s.save;
+  claim = s.claim;
+  entries = s.log.entries;
+}
+
+abbrev pub claim_text : Option (ℕ × Action) → List ℕ
+claim_text None = NO_CLAIM ∷ []
+claim_text (Some claim) = KEPT_CLAIM ∷ (to_be_bytes w16 claim.0 ++ action_text claim.1)
+
+-- what stands before the entries, their count last
+abbrev pub front_text : Front → List ℕ
+front_text f =
+    to_be_bytes w32 MAGIC ++ (f.party ∷ (to_be_bytes w64 f.id ++ (f.match_length ∷ (to_be_bytes w32 f.save
+    ++ (claim_text f.claim ++ to_be_bytes w16 f.count)))))
+
+abbrev pub front_of : SavedParts → Front
+front_of p = record {
+  party = p.party;
+  id = p.id;
+  match_length = p.match_length;
+  save = p.save;
+  claim = p.claim;
+  count = length p.entries;
+}
+
+abbrev pub saved_text : SavedParts → List ℕ
+saved_text p = front_text (front_of p) ++ entries_text p.entries
+
+-- the number and the action of a claim are in their ranges
+abbrev pub IsKeptClaim : Option (ℕ × Action) → Type 0
+IsKeptClaim None = Unit {0}
+IsKeptClaim (Some claim) = (FIRST_ENTRY ≤ claim.0) × (claim.0 ≤ MOST_ENTRIES) × IsAction claim.1
+
+-- the referee keeps no claim
+abbrev pub IsClaimOf : ℕ → Option (ℕ × Action) → Type 0
+IsClaimOf party None = Unit {0}
+IsClaimOf party (Some claim) = (FIRST_PARTY ≤ party) × IsKeptClaim (Some claim)
+
+-- what may be saved; a record is in its ranges by itself
+pub record IsSavable (s : Saved) : Type 0 where
+  pub party : s.party ≤ LAST_SEAT
+  pub first_save : FIRST_SAVE ≤ s.save
+  pub last_save : s.save ≤ LAST_SAVE
+  pub claim : IsClaimOf s.party s.claim
+
+-- all fields are in their ranges
+pub record IsInLayout (p : SavedParts) : Type 0 where
+  pub party : p.party ≤ LAST_SEAT
+  pub id_fits : p.id < 2 ^ 64
+  pub shortest : SHORTEST_MATCH ≤ p.match_length
+  pub longest : p.match_length ≤ LONGEST_MATCH
+  pub first_save : FIRST_SAVE ≤ p.save
+  pub last_save : p.save ≤ LAST_SAVE
+  pub claim : IsClaimOf p.party p.claim
+  pub few : length p.entries ≤ MOST_ENTRIES
+  pub in_range : AllByRecursion IsEntry p.entries
+
+-- the layout holds, and these are its fields
+pub record IsLayoutOf (p : SavedParts) (bytes : List ℕ) : Type 0 where
+  pub in_layout : IsInLayout p
+  pub spelled : bytes ≡ saved_text p
+
+-- the bytes are the saved text: the layout holds, and the entries are legal
+pub record IsSavedText (p : SavedParts) (bytes : List ℕ) : Type 0 where
+  pub layout : IsLayoutOf p bytes
+  pub legal : IsLegalRecord p.match_length p.entries
+
+-- the entry of this number, from 1, is the first that does not follow the ones before it
+pub record IsFirstIllegal (match_length : ℕ) (entries : List Entry) (n : ℕ) : Type 0 where
+  pub first : 1 ≤ n
+  pub last : n ≤ length entries
+  pub before : IsLegalRecord match_length (take (n - 1) entries)
+  pub illegal : IsLegalRecord match_length (take n entries) → ⊥
+
+-- the layout holds, and the entry of this number is the first that does not follow
+abbrev pub IsIllegalAt : ℕ → List ℕ → Type 0
+IsIllegalAt n bytes = (p : SavedParts) × IsLayoutOf p bytes × IsFirstIllegal p.match_length p.entries n
+
+-- the layout holds, and there are entries
+abbrev pub HasEntries : List ℕ → Type 0
+HasEntries bytes = (p : SavedParts) × IsLayoutOf p bytes × (p.entries ≢ [])
+
+-- the entries were appended to a record that had none, up to the first that does not follow
+abbrev pub Replays : {A : Type 0} → Result A LoadFault → Log → Log → List Entry → Type 0
+Replays (Ok _) old new entries =
+    (new ≡ record old { entries = entries; spare = new.spare }) × IsLegalRecord old.match_length entries
+Replays (Err (Illegal n)) old new entries = IsFirstIllegal old.match_length entries n
+Replays (Err _) old new entries = ⊥
+
+-- what loading answers, by what the layout gives. Memory is wanted for entries alone
+abbrev pub Loads : Result Saved LoadFault → Result SavedParts LoadFault → Type 0
+Loads result (Err why) = result ≡ Err why
+Loads (Ok s) (Ok p) = (parts_of s ≡ p) × IsLegalRecord p.match_length p.entries
+Loads (Err Memory) (Ok p) = p.entries ≢ []
+Loads (Err (Illegal n)) (Ok p) = IsFirstIllegal p.match_length p.entries n
+Loads (Err _) (Ok p) = ⊥

@@ -1,0 +1,24 @@
+//! The bytes of the relay: packets and saved texts, read and written exactly.
+#![tactic(auto)]
+
+mod codec;
+mod codes;
+mod entry_reading;
+mod entry_writing;
+mod faults;
+mod packet_version_one;
+mod packets;
+mod reader;
+mod saved_version_one;
+mod saves;
+mod saving;
+mod slots;
+#[cfg(test)]
+mod tests;
+
+pub use codec::{decode, encode, packet_texts_are_prefix_free};
+pub use faults::{LoadFault, WireFault};
+pub use packets::{Datagram, EntryList, MOST_ENTRIES_IN_PACKET, Packet, PacketBytes};
+pub use saves::Saved;
+pub use saving::{load, save_text, saved_texts_are_prefix_free};
+pub use slots::Slot;

@@ -1,0 +1,216 @@
+//! The layout of packets, version 1 (docs/FORMATS.md, "Packets").
+ghost use Rattle.std.specs.Prelude.{◌≡◌, ◌≤◌, ◌+◌, ◌++◌, length};
+ghost use Rattle.std.specs.Int.{w16, w64, to_be_bytes};
+ghost use Rattle.std.specs.List.{AllByRecursion};
+ghost use Rattle.arrayvec.specs.ArrayVec.{array_vec_len};
+ghost use Rattle.bg_match.specs.Entry.{IsEntry};
+ghost use Rattle.bg_wire.specs.Reading.{Reads, many_at};
+ghost use Rattle.bg_wire.specs.EntryReading.{entry_at};
+ghost use Rattle.bg_wire.specs.PacketText.{IsPacket, header_text, list_text, packet_text};
+ghost use Rattle.bg_wire.specs.PacketReading.{want_at, claim_at, most_from, list_at, entries_at, kind_at, body_at, packet_at, wire_fault};
+
+use crate::codes::{FIRST_ENTRY, FIRST_PARTY, LAST_PARTY, LAST_SEAT};
+use crate::entry_reading::{action, entry};
+use crate::entry_writing::{Bytes, put_action, put_entry};
+use crate::reader::{ReadFault, Reader};
+use crate::{EntryList, MOST_ENTRIES_IN_PACKET, Packet, WireFault};
+use arrayvec::ArrayVec;
+use bg_match::{MOST_ENTRIES, Number};
+
+/// What every packet begins with, as a number of two bytes.
+pub(crate) const MAGIC: u16 = 0x4247;
+
+pub(crate) const VERSION: u8 = 1;
+
+/// The kinds of packets.
+pub(crate) const WANT: u8 = 1;
+
+pub(crate) const CLAIM: u8 = 2;
+
+pub(crate) const ENTRIES: u8 = 3;
+
+/// The offsets of the fields whose faults have names of their own.
+pub(crate) const MAGIC_AT: usize = 0;
+
+pub(crate) const VERSION_AT: usize = 2;
+
+pub(crate) const KIND_AT: usize = 3;
+
+impl WireFault {
+    /// A field's fault: three fields of the header have faults of their own.
+    pub(crate) fn of(fault: ReadFault) -> WireFault
+        ensures { result ≡ wire_fault fault }
+    {
+        match fault {
+            ReadFault::Short => WireFault::Short,
+            ReadFault::Field(MAGIC_AT) => WireFault::Magic,
+            ReadFault::Field(VERSION_AT) => WireFault::Version,
+            ReadFault::Field(KIND_AT) => WireFault::Kind,
+            ReadFault::Field(at) => WireFault::Field(at),
+        }
+    }
+}
+
+#[tactic(auto, unfolding(crate::specs::PacketReading::want_at))]
+fn want(reader: &mut Reader<'_>, id: u64) -> Result<Packet, ReadFault>
+    ensures { Reads result reader.new (want_at id reader.old) }
+{
+    let sender = reader.read_u8(FIRST_PARTY, LAST_PARTY)?;
+    let held = reader.read_u16(0, MOST_ENTRIES)?;
+    Ok(Packet::Want { id, sender, held })
+}
+
+#[tactic(auto, unfolding(crate::specs::PacketReading::claim_at))]
+fn claim(reader: &mut Reader<'_>, id: u64) -> Result<Packet, ReadFault>
+    ensures { Reads result reader.new (claim_at id reader.old) }
+{
+    let sender = reader.read_u8(FIRST_PARTY, LAST_SEAT)?;
+    let number = reader.read_u16(FIRST_ENTRY, MOST_ENTRIES)?;
+    let action = action(reader)?;
+    Ok(Packet::Claim {
+        id,
+        sender,
+        number,
+        action,
+    })
+}
+
+/// How many entries one packet tells at most, from this number on.
+fn most_from(start: Number) -> u8
+    requires first { 1 ≤ start }
+    requires last { start ≤ MOST_ENTRIES }
+    ensures value { result ≡ most_from start }
+    ensures few { result ≤ 8 }
+{
+    let after = MOST_ENTRIES - start;
+    if after < Number::from(MOST_ENTRIES_IN_PACKET) - 1 {
+        after as u8 + 1
+    } else {
+        MOST_ENTRIES_IN_PACKET
+    }
+}
+
+fn list_of(reader: &mut Reader<'_>, count: u8) -> Result<EntryList, ReadFault>
+    requires { count ≤ 8 }
+    ensures { Reads result reader.new (many_at entry_at count reader.old) }
+{
+    let mut entries = ArrayVec::new();
+    for _ in 0..count {
+        entries.push(entry(reader)?);
+    }
+    Ok(EntryList { entries })
+}
+
+#[tactic(auto, unfolding(crate::specs::PacketReading::list_at))]
+fn list(reader: &mut Reader<'_>, start: Number) -> Result<EntryList, ReadFault>
+    requires first { 1 ≤ start }
+    requires last { start ≤ MOST_ENTRIES }
+    ensures { Reads result reader.new (list_at start reader.old) }
+{
+    let count = reader.read_u8(1, most_from(start))?;
+    list_of(reader, count)
+}
+
+#[tactic(auto, unfolding(crate::specs::PacketReading::entries_at))]
+fn entries(reader: &mut Reader<'_>, id: u64) -> Result<Packet, ReadFault>
+    ensures { Reads result reader.new (entries_at id reader.old) }
+{
+    let start = reader.read_u16(FIRST_ENTRY, MOST_ENTRIES)?;
+    let list = list(reader, start)?;
+    Ok(Packet::Entries { id, start, list })
+}
+
+#[tactic(auto, unfolding(crate::specs::PacketReading::kind_at))]
+fn kind(reader: &mut Reader<'_>) -> Result<u8, ReadFault>
+    ensures { Reads result reader.new (kind_at reader.old) }
+{
+    reader.read_u16(MAGIC, MAGIC)?;
+    reader.read_u8(VERSION, VERSION)?;
+    reader.read_u8(WANT, ENTRIES)
+}
+
+/// What follows the header.
+#[tactic(auto, unfolding(crate::specs::PacketReading::body_at))]
+fn body(reader: &mut Reader<'_>, kind: u8, id: u64) -> Result<Packet, ReadFault>
+    ensures { Reads result reader.new (body_at kind id reader.old) }
+{
+    match kind {
+        WANT => want(reader, id),
+        CLAIM => claim(reader, id),
+        _ => entries(reader, id),
+    }
+}
+
+/// A packet at the front of the bytes.
+#[tactic(auto, unfolding(crate::specs::PacketReading::packet_at))]
+pub(crate) fn packet(reader: &mut Reader<'_>) -> Result<Packet, ReadFault>
+    ensures { Reads result reader.new (packet_at reader.old) }
+{
+    let kind = kind(reader)?;
+    let id = reader.read_u64()?;
+    body(reader, kind, id)
+}
+
+fn put_number(out: &mut Bytes, number: Number)
+    requires { array_vec_len out.old + 2 ≤ 128 }
+    ensures { out.new.items ≡ out.old.items ++ to_be_bytes w16 number }
+{
+    out.try_extend_from_slice(&number.to_be_bytes()).unwrap()
+}
+
+fn put_list(out: &mut Bytes, list: &EntryList)
+    requires few { length list.now ≤ 8 }
+    requires in_range { AllByRecursion IsEntry list.now }
+    requires room { array_vec_len out.old + 81 ≤ 128 }
+    ensures { out.new.items ≡ out.old.items ++ list_text list.now }
+{
+    let entries = list.entries.as_slice();
+    out.push(entries.len() as u8);
+    for entry in entries {
+        put_entry(out, entry);
+    }
+}
+
+fn header(kind: u8, id: u64) -> Bytes
+    ensures { result.items ≡ header_text kind id }
+{
+    let mut out = ArrayVec::new();
+    out.try_extend_from_slice(&MAGIC.to_be_bytes()).unwrap();
+    out.push(VERSION);
+    out.push(kind);
+    out.try_extend_from_slice(&id.to_be_bytes()).unwrap();
+    out
+}
+
+/// The text of a packet.
+pub(crate) fn text(packet: &Packet) -> Bytes
+    requires { IsPacket packet.now }
+    ensures { result.items ≡ packet_text packet.now }
+{
+    match packet {
+        Packet::Want { id, sender, held } => {
+            let mut out = header(WANT, *id);
+            out.push(*sender);
+            put_number(&mut out, *held);
+            out
+        }
+        Packet::Claim {
+            id,
+            sender,
+            number,
+            action,
+        } => {
+            let mut out = header(CLAIM, *id);
+            out.push(*sender);
+            put_number(&mut out, *number);
+            put_action(&mut out, action);
+            out
+        }
+        Packet::Entries { id, start, list } => {
+            let mut out = header(ENTRIES, *id);
+            put_number(&mut out, *start);
+            put_list(&mut out, list);
+            out
+        }
+    }
+}

@@ -1,0 +1,120 @@
+//! Packets and datagrams.
+ghost use Rattle.std.specs.Prelude.{◌≡◌};
+
+use arrayvec::ArrayVec;
+use bg_match::{Action, Entry, Number};
+use std::marker::Model;
+
+/// The most entries of one packet.
+pub const MOST_ENTRIES_IN_PACKET: u8 = 8;
+
+/// At most eight entries that follow each other. Contracts see it as the list of its entries.
+#[derive(Debug, PartialEq, Eq, Drop)]
+pub struct EntryList {
+    /// The entries, in the order of their numbers.
+    pub entries: ArrayVec<Entry, 8>,
+}
+
+impl Model for EntryList {
+    ghost use Rattle.std.specs.Prelude.{List};
+    ghost use Rattle.bg_match.specs.declared.entries.Entry.{Entry};
+
+    ghost Value = { List Entry };
+
+    ghost view = { λ list. list.entries.items };
+
+    ghost inverse = { λ entries. record { entries = record { items = entries } } };
+}
+
+/// What the parties of a match send each other (docs/FORMATS.md, "Packets"). Parties are numbered: 0 is the referee, 1
+/// the seat of X, 2 the seat of O, and the others watch.
+#[derive(Debug, PartialEq, Eq, Drop)]
+pub enum Packet {
+    /// A party asks the referee for the entries after those that it holds.
+    Want {
+        /// The number of the match.
+        id: u64,
+        /// The party that asks, from 1 to 255.
+        sender: u8,
+        /// How many entries it holds, from 0 to 65535.
+        held: Number,
+    },
+    /// A seat claims an action.
+    Claim {
+        /// The number of the match.
+        id: u64,
+        /// The seat's party, 1 or 2.
+        sender: u8,
+        /// The number of the entry that shall answer the action, from 1 to 65535.
+        number: Number,
+        /// What the seat does.
+        action: Action,
+    },
+    /// The referee tells entries.
+    Entries {
+        /// The number of the match.
+        id: u64,
+        /// The number of the first of these entries, from 1 to 65535. The number of the last is at most 65535.
+        start: Number,
+        /// The entries, from 1 to 8.
+        list: EntryList,
+    },
+}
+
+/// A place in a list that is not full holds a Want of party 1 in match 0, which holds nothing.
+impl Default for Packet {
+    ghost use Rattle.std.specs.Prelude.{◌≡◌};
+    ghost use Rattle.bg_wire.specs.declared.packets.Packet.TheVariants.{Want};
+
+    ghost is_default = { λ packet. packet ≡ Want 0 1 0 };
+
+    fn default() -> Self {
+        Packet::Want {
+            id: 0,
+            sender: 1,
+            held: 0,
+        }
+    }
+}
+
+/// The bytes of a datagram, at most 128. Contracts see it as the list of its bytes.
+#[derive(Debug, PartialEq, Eq, Drop)]
+pub struct PacketBytes {
+    /// The bytes, in the order in which they are sent.
+    pub bytes: ArrayVec<u8, 128>,
+}
+
+impl Model for PacketBytes {
+    ghost use Rattle.std.specs.Prelude.{List, ℕ};
+
+    ghost Value = { List ℕ };
+
+    ghost view = { λ packet. packet.bytes.items };
+
+    ghost inverse = { λ bytes. record { bytes = record { items = bytes } } };
+}
+
+/// Bytes on their way to a party.
+#[derive(Debug, PartialEq, Eq, Drop)]
+pub struct Datagram {
+    /// The party that they go to, from 0 to 255.
+    pub to: u8,
+    /// What is sent.
+    pub bytes: PacketBytes,
+}
+
+impl Datagram {
+    /// The same datagram. It takes no memory.
+    pub fn copy(&self) -> Datagram
+        ensures { result ≡ self.now }
+    {
+        let mut bytes = ArrayVec::new();
+        bytes
+            .try_extend_from_slice(self.bytes.bytes.as_slice())
+            .unwrap();
+        Datagram {
+            to: self.to,
+            bytes: PacketBytes { bytes },
+        }
+    }
+}

@@ -1,0 +1,178 @@
+//! The layout of saved texts, version 1 (docs/FORMATS.md, "Saved files").
+ghost use Rattle.std.specs.Prelude.{◌≡◌, ◌≤◌, ◌+◌, ◌++◌, IfOk};
+ghost use Rattle.arrayvec.specs.ArrayVec.{array_vec_len};
+ghost use Rattle.bg_match.specs.Match.{IsLegalRecord};
+ghost use Rattle.bg_wire.specs.Reading.{Reads, Ends, passed_of, many_at};
+ghost use Rattle.bg_wire.specs.EntryReading.{entry_at};
+ghost use Rattle.bg_wire.specs.SavedText.{IsSavable, IsKeptClaim, IsInLayout, parts_of, front_of, front_text, claim_text};
+ghost use Rattle.bg_wire.specs.SavedReading.{most_flag, kept_claim_at, claim_at, front_at, load_fault, IsLaidOut};
+
+use crate::codes::{FIRST_ENTRY, LAST_SEAT, REFEREE};
+use crate::entry_reading::{action, entry};
+use crate::entry_writing::{Bytes, put_action};
+use crate::reader::{ReadFault, Reader};
+use crate::{LoadFault, Saved};
+use arrayvec::ArrayVec;
+use bg_match::{Action, LONGEST_MATCH, MOST_ENTRIES, Number, SHORTEST_MATCH};
+
+/// What every saved text of this version begins with, as a number of four bytes.
+pub(crate) const MAGIC: u32 = 0x4247_5331;
+/// The offset of the field whose fault has a name of its own.
+pub(crate) const MAGIC_AT: usize = 0;
+
+/// The flag where no claim is kept.
+pub(crate) const NO_CLAIM: u8 = 0;
+/// The flag where one is kept.
+pub(crate) const KEPT_CLAIM: u8 = 1;
+
+/// The number of the first save.
+pub(crate) const FIRST_SAVE: u32 = 1;
+/// The number of the last save.
+pub(crate) const LAST_SAVE: u32 = 4_294_967_295;
+
+/// What stands before the entries.
+#[derive(Debug, Drop)]
+pub(crate) struct Front {
+    pub(crate) party: u8,
+    pub(crate) id: u64,
+    pub(crate) match_length: u8,
+    pub(crate) save: u32,
+    pub(crate) claim: Option<(Number, Action)>,
+    pub(crate) count: Number,
+}
+
+impl LoadFault {
+    /// A field's fault: that of the first has a name of its own.
+    pub(crate) fn of(fault: ReadFault) -> LoadFault
+        ensures { result ≡ load_fault fault }
+    {
+        match fault {
+            ReadFault::Short => LoadFault::Short,
+            ReadFault::Field(MAGIC_AT) => LoadFault::Magic,
+            ReadFault::Field(at) => LoadFault::Field(at),
+        }
+    }
+}
+
+#[tactic(auto, unfolding(crate::specs::SavedReading::kept_claim_at))]
+fn kept_claim(reader: &mut Reader<'_>) -> Result<Option<(Number, Action)>, ReadFault>
+    ensures { Reads result reader.new (kept_claim_at reader.old) }
+{
+    let number = reader.read_u16(FIRST_ENTRY, MOST_ENTRIES)?;
+    let action = action(reader)?;
+    Ok(Some((number, action)))
+}
+
+/// The greatest flag of a party: the referee keeps no claim.
+fn most_flag(party: u8) -> u8
+    ensures { result ≡ most_flag party }
+{
+    if party == REFEREE {
+        NO_CLAIM
+    } else {
+        KEPT_CLAIM
+    }
+}
+
+#[tactic(auto, unfolding(crate::specs::SavedReading::claim_at))]
+fn claim(reader: &mut Reader<'_>, party: u8) -> Result<Option<(Number, Action)>, ReadFault>
+    ensures { Reads result reader.new (claim_at party reader.old) }
+{
+    let flag = reader.read_u8(NO_CLAIM, most_flag(party))?;
+    if flag == NO_CLAIM {
+        Ok(None)
+    } else {
+        kept_claim(reader)
+    }
+}
+
+#[tactic(auto, unfolding(crate::specs::SavedReading::front_at))]
+fn read_front(reader: &mut Reader<'_>) -> Result<Front, ReadFault>
+    ensures reads { Reads result reader.new (front_at reader.old) }
+    ensures shortest { IfOk result (λ front. SHORTEST_MATCH ≤ front.match_length) }
+    ensures longest { IfOk result (λ front. front.match_length ≤ LONGEST_MATCH) }
+{
+    reader.read_u32(MAGIC, MAGIC)?;
+    let party = reader.read_u8(REFEREE, LAST_SEAT)?;
+    let id = reader.read_u64()?;
+    let match_length = reader.read_u8(SHORTEST_MATCH, LONGEST_MATCH)?;
+    let save = reader.read_u32(FIRST_SAVE, LAST_SAVE)?;
+    let claim = claim(reader, party)?;
+    let count = reader.read_u16(0, MOST_ENTRIES)?;
+    Ok(Front {
+        party,
+        id,
+        match_length,
+        save,
+        claim,
+        count,
+    })
+}
+
+/// Passes over so many entries.
+fn pass_entries(reader: &mut Reader<'_>, count: Number) -> Result<(), ReadFault>
+    ensures { Ends result reader.new (passed_of (many_at entry_at count reader.old)) }
+{
+    for _ in 0..count {
+        entry(reader)?;
+    }
+    Ok(())
+}
+
+/// What stands before the entries, and a reader at the first of them, where the whole layout holds.
+pub(crate) fn lay_out<'a>(bytes: &'a [u8]) -> Result<(Front, Reader<'a>), LoadFault>
+    ensures laid_out { IsLaidOut result bytes.now }
+    ensures shortest { IfOk result (λ parts. SHORTEST_MATCH ≤ (parts.0).match_length) }
+    ensures longest { IfOk result (λ parts. (parts.0).match_length ≤ LONGEST_MATCH) }
+{
+    let mut reader = Reader::new(bytes);
+    let front = match read_front(&mut reader) {
+        Ok(front) => front,
+        Err(fault) => return Err(LoadFault::of(fault)),
+    };
+    let entries = reader.copy();
+    if let Err(fault) = pass_entries(&mut reader, front.count) {
+        return Err(LoadFault::of(fault));
+    }
+    if !reader.is_empty() {
+        return Err(LoadFault::Extra);
+    }
+    Ok((front, entries))
+}
+
+/// The text of what stands before the entries.
+pub(crate) fn front_text(saved: &Saved) -> Bytes
+    requires { IsSavable saved.now }
+    ensures text { result.items ≡ front_text (front_of (parts_of saved.now)) }
+    ensures in_layout { IsInLayout (parts_of saved.now) }
+    ensures legal { IsLegalRecord saved.now.log.match_length saved.now.log.entries }
+{
+    let mut out = ArrayVec::new();
+    out.try_extend_from_slice(&MAGIC.to_be_bytes()).unwrap();
+    out.push(saved.party);
+    out.try_extend_from_slice(&saved.log.id().to_be_bytes())
+        .unwrap();
+    out.push(saved.log.length());
+    out.try_extend_from_slice(&saved.save.to_be_bytes())
+        .unwrap();
+    put_claim(&mut out, &saved.claim);
+    out.try_extend_from_slice(&saved.log.len().to_be_bytes())
+        .unwrap();
+    out
+}
+
+fn put_claim(out: &mut Bytes, claim: &Option<(Number, Action)>)
+    requires kept { IsKeptClaim claim.now }
+    requires room { array_vec_len out.old + 13 ≤ 128 }
+    ensures text { out.new.items ≡ out.old.items ++ claim_text claim.now }
+    ensures len { array_vec_len out.new ≤ array_vec_len out.old + 13 }
+{
+    match claim {
+        None => out.push(NO_CLAIM),
+        Some((number, action)) => {
+            out.push(KEPT_CLAIM);
+            out.try_extend_from_slice(&number.to_be_bytes()).unwrap();
+            put_action(out, action);
+        }
+    }
+}

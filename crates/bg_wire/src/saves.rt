@@ -1,0 +1,16 @@
+//! What a party saves.
+use bg_match::{Action, Number, Record};
+
+/// What a party keeps over a restart (docs/FORMATS.md, "Saved files").
+#[derive(Debug, Drop)]
+pub struct Saved {
+    /// The party: 0 the referee, 1 the seat of X, 2 the seat of O.
+    pub party: u8,
+    /// The number of the save, from 1.
+    pub save: u32,
+    /// The last claim of a seat, with the number of the entry that shall answer it, from 1 to 65535. The referee has
+    /// none.
+    pub claim: Option<(Number, Action)>,
+    /// The match, as far as the party knows it.
+    pub log: Record,
+}

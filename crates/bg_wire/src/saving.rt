@@ -1,0 +1,126 @@
+//! Saved texts, written and read.
+ghost use Rattle.std.specs.Prelude.{◌≡◌, ◌≢◌, ◌↔◌, ◌<◌, ◌≤◌, ◌++◌, [], List, ℕ, IsOk, IfOk, OnOk};
+ghost use Rattle.std.specs.List.{AllByRecursion};
+ghost use Rattle.bg_match.specs.Entry.{IsEntry};
+ghost use Rattle.bg_match.specs.Match.{IsLegalRecord};
+ghost use Rattle.bg_match.specs.declared.entries.Entry.{Entry};
+ghost use Rattle.bg_wire.specs.Texts.{HasMore, ArePrefixFree};
+ghost use Rattle.bg_wire.specs.Reading.{Cursor, many_at};
+ghost use Rattle.bg_wire.specs.EntryReading.{entry_at};
+ghost use Rattle.bg_wire.specs.EntryText.{entries_text, text_at};
+ghost use Rattle.bg_wire.specs.SavedText.{SavedParts, IsSavable, IsLayoutOf, IsSavedText, IsIllegalAt, HasEntries, Loads, Replays, parts_of};
+ghost use Rattle.bg_wire.specs.SavedReading.{layout_of};
+
+use crate::entry_reading::entry;
+use crate::entry_writing::{Bytes, put_entry};
+use crate::reader::Reader;
+use crate::{LoadFault, Saved, saved_version_one as layout};
+use arrayvec::ArrayVec;
+use bg_match::{MOST_ENTRIES, Number, Record};
+use std::alloc::{AllocError, Global};
+
+/// The saved text, at most 655383 bytes (docs/FORMATS.md, "Saved files").
+///
+/// # Errors
+/// AllocError where there is no memory for it.
+pub fn save_text(alloc: Global, saved: &Saved) -> Result<Vec<u8>, AllocError>
+    requires { IsSavable saved.now }
+    ensures { IfOk result (λ text. IsSavedText (parts_of saved.now) text.items) }
+{
+    let mut text = Vec::new(alloc);
+    text.extend_from_slice(layout::front_text(saved).as_slice())?;
+    push_entries(&mut text, &saved.log)?;
+    Ok(text)
+}
+
+/// No saved text begins with another saved text, or with a shorter one of its own: one text is the text of one value.
+pub fn saved_texts_are_prefix_free()
+    ensures { ArePrefixFree IsSavedText }
+{}
+
+/// Appends the texts of all entries.
+fn push_entries(text: &mut Vec<u8>, log: &Record) -> Result<(), AllocError>
+    ensures { OnOk result (text.new.items ≡ text.old.items ++ entries_text log.now.entries) }
+{
+    for index in 0..log.len() {
+        text.extend_from_slice(entry_bytes(log, index).as_slice())?;
+    }
+    Ok(())
+}
+
+/// The text of the entry of this index, from 0; nothing past the end.
+fn entry_bytes(log: &Record, index: Number) -> Bytes
+    requires below { index < MOST_ENTRIES }
+    requires in_range { AllByRecursion IsEntry log.now.entries }
+    ensures { result.items ≡ text_at log.now.entries index }
+{
+    let mut bytes = ArrayVec::new();
+    let Some(entry) = log.entry(index + 1) else {
+        return bytes;
+    };
+    put_entry(&mut bytes, entry);
+    bytes
+}
+
+/// What the saved text says (docs/FORMATS.md, "Saved files"). The claim is not compared with the record.
+///
+/// # Errors
+/// The first fault of the layout that is met from left to right. Where the layout holds, Illegal of the first entry that
+/// does not follow. Memory where there is none for the entries.
+pub fn load(alloc: Global, bytes: &[u8]) -> Result<Saved, LoadFault>
+    // What is loaded is spelled so.
+    ensures found { IfOk result (λ saved. IsSavedText (parts_of saved) bytes.now) }
+    ensures savable { IfOk result (λ saved. IsSavable saved) }
+    // What is spelled so is loaded.
+    ensures only { (p : SavedParts) → IsSavedText p bytes.now → result ≢ Err LoadFault.Memory
+        → IsOk result × IfOk result (λ saved. parts_of saved ≡ p) }
+    // The front of a text, and no more, is short.
+    ensures short { (p : SavedParts) (rest : List ℕ) → IsLayoutOf p (bytes.now ++ rest) → rest ≢ [] → result ≡ Err LoadFault.Short }
+    // Bytes behind the layout are extra, and nothing else is.
+    ensures extra { (result ≡ Err LoadFault.Extra) ↔ HasMore IsLayoutOf bytes.now }
+    // The first entry that does not follow.
+    ensures illegal { (n : ℕ) → result ≡ Err (LoadFault.Illegal n) → IsIllegalAt n bytes.now }
+    ensures only_illegal { (n : ℕ) → IsIllegalAt n bytes.now → result ≢ Err LoadFault.Memory → result ≡ Err (LoadFault.Illegal n) }
+    // Memory is wanted for entries alone, once the layout holds.
+    ensures memory { result ≡ Err LoadFault.Memory → HasEntries bytes.now }
+    // Which fault of the layout it is.
+    ensures exact { Loads result (layout_of bytes.now) }
+{
+    load_record(alloc, bytes)
+}
+
+fn load_record(alloc: Global, bytes: &[u8]) -> Result<Saved, LoadFault>
+    ensures { Loads result (layout_of bytes.now) }
+{
+    let (front, mut entries) = layout::lay_out(bytes)?;
+    let mut log = Record::new(alloc, front.id, front.match_length).unwrap();
+    if log.reserve(front.count).is_err() {
+        return Err(LoadFault::Memory);
+    }
+    replay(&mut log, &mut entries, front.count)?;
+    Ok(Saved {
+        party: front.party,
+        save: front.save,
+        claim: front.claim,
+        log,
+    })
+}
+
+/// Appends so many entries to a record that has none, and has room for them.
+fn replay(log: &mut Record, reader: &mut Reader<'_>, count: Number) -> Result<(), LoadFault>
+    requires none { log.old.entries ≡ [] }
+    requires legal { IsLegalRecord log.old.match_length [] }
+    requires room { count ≤ log.old.spare }
+    ensures { (entries : List Entry) (end : Cursor) → many_at entry_at count reader.old ≡ Ok (entries, end) → Replays result log.old log.new entries }
+{
+    for _ in 0..count {
+        let entry = match entry(reader) {
+            Ok(entry) => entry,
+            Err(fault) => return Err(LoadFault::of(fault)),
+        };
+        if log.push(entry).is_err() {
+            return Err(LoadFault::Illegal(log.len() + 1));
+        }
+    }
+    Ok(())
+}
