@@ -17,9 +17,9 @@ use Rattle.bg_match.specs.declared.entries.Entry.TheVariants as entry
 use Rattle.bg_match.specs.declared.levels.Level.{Level}
 use Rattle.bg_match.specs.declared.levels.Level.TheVariants.{Normal, Gammon, Backgammon}
 use Rattle.bg_wire.specs.declared.codes.TheConstants.{OPENING, ROLLED, DOUBLED, TAKEN, DROPPED, MOVED, RESIGNED, ACCEPTED, REJECTED, NORMAL, BACKGAMMON, LEAST_PIPS, MOST_PIPS, LOWEST_START, BAR, MOST_STEPS}
-use Rattle.bg_wire.specs.Reading.{◌>>=◌, Cursor, Read, u8_at, many_at}
+use Rattle.bg_wire.specs.Reading.{◌>>=◌, Cursor, Read, u8_at, many_at, with}
 use Rattle.bg_wire.specs.EntryText.{step_text, turn_text, level_code, dice_text, action_text, entry_text}
-use Rattle.bg_wire.specs.EntryReading.{step_at, turn_at, level_of, level_at, die_of, die_at, dice_at, with, action_of, action_at, entry_of, entry_at}
+use Rattle.bg_wire.specs.EntryReading.{step_at, turn_at, level_of, level_at, die_of, die_at, dice_at, action_of, action_at, entry_of, entry_at}
 use Rattle.bg_wire.proofs.Laws.{Law, Then, Nothing, Mapped, Each, Choice, then_law, done_law, with_law, other_text, many_law, choice_law}
 use Rattle.bg_wire.proofs.Fields.{Byte, byte_law}
 

@@ -6,9 +6,8 @@ use Rattle.std.proofs.lemmas.Bool.Decides.{nat_tests}
 use Rattle.std.proofs.lemmas.List.{append-nil, length-append, nil_from_length}
 use Rattle.bg_wire.specs.declared.reader.ReadFault.{ReadFault}
 use Rattle.bg_wire.specs.declared.reader.ReadFault.TheVariants.{Short, Field}
-use Rattle.bg_wire.specs.Reading.{◌>>=◌, Cursor, Read, many_at, whole_of}
+use Rattle.bg_wire.specs.Reading.{◌>>=◌, Cursor, Read, many_at, whole_of, with}
 use Rattle.bg_wire.specs.Texts.{HasMore, ArePrefixFree}
-use Rattle.bg_wire.specs.EntryReading.{with}
 
 abbrev pub IsBytes : List ℕ → Type 0
 IsBytes bytes = (i : ℕ) → get_or bytes i 0 < 256

@@ -16,8 +16,8 @@ use Rattle.bg_wire.specs.declared.packet_version_one.TheConstants.{MAGIC, VERSIO
 use Rattle.bg_wire.specs.declared.codes.TheConstants.{FIRST_ENTRY, FIRST_PARTY, LAST_SEAT, LAST_PARTY}
 use Rattle.bg_wire.specs.EntryText.{action_text, entry_text}
 use Rattle.bg_wire.specs.PacketText.{header_text, list_text, IsText}
-use Rattle.bg_wire.specs.Reading.{◌>>=◌, u8_at, u16_at, u64_at}
-use Rattle.bg_wire.specs.EntryReading.{with, action_at, entry_at}
+use Rattle.bg_wire.specs.Reading.{◌>>=◌, u8_at, u16_at, u64_at, with}
+use Rattle.bg_wire.specs.EntryReading.{action_at, entry_at}
 use Rattle.bg_wire.specs.PacketReading.{wire_fault, want_at, claim_at, most_from, list_at, entries_at, kind_at, body_at, packet_at}
 use Rattle.bg_wire.proofs.Laws.{Law, Then, Mapped, Choice, then_law, with_law, other_text, choice_law}
 use Rattle.bg_wire.proofs.Fields.{Byte, Number, Word, byte_law, u16_law, u64_law}

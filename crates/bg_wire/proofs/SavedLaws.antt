@@ -16,8 +16,8 @@ use Rattle.bg_wire.specs.declared.saved_version_one.TheConstants.{MAGIC, MAGIC_A
 use Rattle.bg_wire.specs.EntryText.{action_text, entry_text, entries_text}
 use Rattle.bg_wire.specs.SavedText.{SavedParts, claim_text, front_text, front_of, saved_text, IsClaimOf, IsLayoutOf, IsSavedText}
 use Rattle.bg_wire.specs.Texts.{ArePrefixFree}
-use Rattle.bg_wire.specs.Reading.{◌>>=◌, Cursor, Read, u8_at, u16_at, u32_at, u64_at, many_at, passed_of}
-use Rattle.bg_wire.specs.EntryReading.{with, action_at, entry_at}
+use Rattle.bg_wire.specs.Reading.{◌>>=◌, Cursor, Read, u8_at, u16_at, u32_at, u64_at, many_at, passed_of, with}
+use Rattle.bg_wire.specs.EntryReading.{action_at, entry_at}
 use Rattle.bg_wire.specs.SavedReading.{load_fault, most_flag, kept_claim_at, flagged_at, claim_at, front_at, parts_with, saved_at, layout_of, IsLaidOut}
 use Rattle.bg_wire.proofs.Laws.{Law, Then, Nothing, Mapped, Each, Choice, then_law, done_law, with_law, other_text, choice_law, many_law, from_front, prefix_free}
 use Rattle.bg_wire.proofs.Many.{passed_list, passed_not}

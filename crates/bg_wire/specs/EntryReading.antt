@@ -11,7 +11,7 @@ use Rattle.bg_match.specs.declared.entries.Entry.TheVariants as entry
 use Rattle.bg_match.specs.declared.levels.Level.{Level}
 use Rattle.bg_match.specs.declared.levels.Level.TheVariants.{Normal, Gammon, Backgammon}
 use Rattle.bg_wire.specs.declared.codes.TheConstants.{OPENING, ROLLED, DOUBLED, TAKEN, DROPPED, MOVED, RESIGNED, ACCEPTED, REJECTED, NORMAL, GAMMON, BACKGAMMON, LEAST_PIPS, MOST_PIPS, LOWEST_START, BAR, MOST_STEPS}
-use Rattle.bg_wire.specs.Reading.{◌>>=◌, Cursor, Read, u8_at, many_at}
+use Rattle.bg_wire.specs.Reading.{◌>>=◌, Cursor, Read, u8_at, many_at, with}
 
 unfoldable pub step_at : Cursor → Read FromTo
 step_at c = do
@@ -52,10 +52,6 @@ dice_at c = do
   first ← die_at c
   second ← die_at first.1
   Ok (record { first = first.0; second = second.0 }, second.1)
-
--- what is read becomes another value
-abbrev pub with : {A B : Type 0} → (A → B) → Read A → Read B
-with f read = read >>= λ x. Ok (f x.0, x.1)
 
 -- what follows the code of an action
 unfoldable pub action_of : ℕ → Cursor → Read Action

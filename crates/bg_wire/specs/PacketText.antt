@@ -1,12 +1,12 @@
 -- The one text of each packet.
 use Rattle.std.specs.Prelude.{◌≡◌, ℕ, ◌+◌, ◌<◌, ◌≤◌, ◌^◌, List, ◌∷◌, ◌++◌, length}
-use Rattle.std.specs.List.{flat_map, AllByRecursion}
+use Rattle.std.specs.List.{AllByRecursion}
 use Rattle.std.specs.Int.{w16, w64, to_be_bytes}
 use Rattle.bg_match.specs.Entry.{IsEntry, IsAction}
 use Rattle.bg_match.specs.declared.limits.TheConstants.{MOST_ENTRIES}
 use Rattle.bg_match.specs.declared.actions.Action.{Action}
 use Rattle.bg_match.specs.declared.entries.Entry.{Entry}
-use Rattle.bg_wire.specs.EntryText.{action_text, entry_text}
+use Rattle.bg_wire.specs.EntryText.{action_text, entries_text}
 use Rattle.bg_wire.specs.declared.packets.Packet.{Packet}
 use Rattle.bg_wire.specs.declared.packets.Packet.TheVariants as packet
 use Rattle.bg_wire.specs.declared.packets.TheConstants.{MOST_ENTRIES_IN_PACKET}
@@ -18,7 +18,7 @@ header_text kind id = to_be_bytes w16 MAGIC ++ (VERSION ∷ kind ∷ to_be_bytes
 
 -- the count of the entries, then each
 abbrev pub list_text : List Entry → List ℕ
-list_text list = length list ∷ flat_map entry_text list
+list_text list = length list ∷ entries_text list
 
 abbrev pub packet_text : Packet → List ℕ
 packet_text (packet.Want id sender held) = header_text WANT id ++ (sender ∷ to_be_bytes w16 held)

@@ -54,6 +54,10 @@ u64_at = number_at 8 (from_be_bytes w64) (λ n. false)
 unfoldable pub u32_at : ℕ → ℕ → Cursor → Read ℕ
 u32_at low high = number_at 4 (from_be_bytes w32) (is_outside low high)
 
+-- what is read becomes another value
+abbrev pub with : {A B : Type 0} → (A → B) → Read A → Read B
+with f read = read >>= λ x. Ok (f x.0, x.1)
+
 -- so many, one after the other
 unfoldable pub many_at : {A : Type 0} → (Cursor → Read A) → ℕ → Cursor → Read (List A)
 many_at one zero c = Ok ([], c)

@@ -27,7 +27,8 @@ pub fn decode(bytes: &[u8]) -> Result<Packet, WireFault>
     // What is spelled so is read.
     ensures only { (packet : Packet) → IsText packet bytes.now → result ≡ Ok packet }
     // The front of a packet's text, and no more, is short.
-    ensures short { (packet : Packet) (rest : List ℕ) → IsText packet (bytes.now ++ rest) → rest ≢ [] → result ≡ Err WireFault.Short }
+    ensures short { (packet : Packet) (rest : List ℕ) → IsText packet (bytes.now ++ rest) → rest ≢ []
+        → result ≡ Err WireFault.Short }
     // Bytes behind a packet's text are extra, and nothing else is.
     ensures extra { (result ≡ Err WireFault.Extra) ↔ HasMore IsText bytes.now }
     // Which fault it is.

@@ -3,7 +3,10 @@ ghost use Rattle.std.specs.Prelude.{◌≡◌, ◌≤◌};
 ghost use Rattle.bg_wire.specs.Reading.{Reads, many_at};
 ghost use Rattle.bg_wire.specs.EntryReading.{step_at, turn_at, level_at, die_at, dice_at, action_of, action_at, entry_of, entry_at};
 
-use crate::codes::*;
+use crate::codes::{
+    ACCEPTED, BACKGAMMON, BAR, DOUBLED, DROPPED, GAMMON, LEAST_PIPS, LOWEST_START, MOST_PIPS,
+    MOST_STEPS, MOVED, NORMAL, OPENING, REJECTED, RESIGNED, ROLLED, TAKEN,
+};
 use crate::reader::{ReadFault, Reader};
 use arrayvec::ArrayVec;
 use bg_board::{Die, Step};

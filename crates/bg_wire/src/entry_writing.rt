@@ -4,7 +4,10 @@ ghost use Rattle.arrayvec.specs.ArrayVec.{array_vec_len};
 ghost use Rattle.bg_match.specs.Entry.{IsEntry, IsAction};
 ghost use Rattle.bg_wire.specs.EntryText.{turn_text, level_code, dice_text, action_text, entry_text};
 
-use crate::codes::*;
+use crate::codes::{
+    ACCEPTED, BACKGAMMON, DOUBLED, DROPPED, GAMMON, MOVED, NORMAL, OPENING, REJECTED, RESIGNED,
+    ROLLED, TAKEN,
+};
 use arrayvec::ArrayVec;
 use bg_board::Die;
 use bg_match::{Action, Entry, Level};

@@ -75,12 +75,14 @@ pub fn load(alloc: Global, bytes: &[u8]) -> Result<Saved, LoadFault>
     ensures only { (p : SavedParts) → IsSavedText p bytes.now → result ≢ Err LoadFault.Memory
         → IsOk result × IfOk result (λ saved. parts_of saved ≡ p) }
     // The front of a text, and no more, is short.
-    ensures short { (p : SavedParts) (rest : List ℕ) → IsLayoutOf p (bytes.now ++ rest) → rest ≢ [] → result ≡ Err LoadFault.Short }
+    ensures short { (p : SavedParts) (rest : List ℕ) → IsLayoutOf p (bytes.now ++ rest) → rest ≢ []
+        → result ≡ Err LoadFault.Short }
     // Bytes behind the layout are extra, and nothing else is.
     ensures extra { (result ≡ Err LoadFault.Extra) ↔ HasMore IsLayoutOf bytes.now }
     // The first entry that does not follow.
     ensures illegal { (n : ℕ) → result ≡ Err (LoadFault.Illegal n) → IsIllegalAt n bytes.now }
-    ensures only_illegal { (n : ℕ) → IsIllegalAt n bytes.now → result ≢ Err LoadFault.Memory → result ≡ Err (LoadFault.Illegal n) }
+    ensures only_illegal { (n : ℕ) → IsIllegalAt n bytes.now → result ≢ Err LoadFault.Memory
+        → result ≡ Err (LoadFault.Illegal n) }
     // Memory is wanted for entries alone, once the layout holds.
     ensures memory { result ≡ Err LoadFault.Memory → HasEntries bytes.now }
     // Which fault of the layout it is.
@@ -89,6 +91,7 @@ pub fn load(alloc: Global, bytes: &[u8]) -> Result<Saved, LoadFault>
     load_record(alloc, bytes)
 }
 
+/// The saved text as a record, once the whole layout is known to hold: so no count is trusted before its bytes are there.
 fn load_record(alloc: Global, bytes: &[u8]) -> Result<Saved, LoadFault>
     ensures { Loads result (layout_of bytes.now) }
 {
@@ -111,7 +114,8 @@ fn replay(log: &mut Record, reader: &mut Reader<'_>, count: Number) -> Result<()
     requires none { log.old.entries ≡ [] }
     requires legal { IsLegalRecord log.old.match_length [] }
     requires room { count ≤ log.old.spare }
-    ensures { (entries : List Entry) (end : Cursor) → many_at entry_at count reader.old ≡ Ok (entries, end) → Replays result log.old log.new entries }
+    ensures { (entries : List Entry) (end : Cursor) → many_at entry_at count reader.old ≡ Ok (entries, end)
+        → Replays result log.old log.new entries }
 {
     for _ in 0..count {
         let entry = match entry(reader) {
