@@ -2,6 +2,7 @@
 use crate::arguments::command;
 use crate::showing::show_text;
 use clap::error::ErrorKind;
+use std::alloc::AllocError;
 use std::process::Abort;
 use std::test::Fail;
 
@@ -159,4 +160,23 @@ fn files_that_do_not_load(rt: HostRuntime) -> Result<(), Fail> {
         AFTER_THE_OPENING,
         true,
     )
+}
+
+/// Want of memory is answered and harms nothing: asked again, the answer is the same. Under `rt try --test --fail-alloc N`
+/// the Nth growth is refused.
+#[test]
+fn refused_growths(rt: HostRuntime) -> Result<(), Fail> {
+    for _ in 0..2 {
+        let (text, loads) = match show_text(rt.alloc(), &SEAT, &REFEREE) {
+            Ok(shown) => shown,
+            Err(AllocError) => show_text(rt.alloc(), &SEAT, &REFEREE)?,
+        };
+        let lines = "file 0: party 1 match 1 length 1 save 1 entries 1 claim 2
+file 1: party 0 match 1 length 1 save 2 entries 2
+";
+        assert!(rt; loads);
+        assert!(rt; text.starts_with(lines.as_bytes()));
+        assert!(rt; text.ends_with(AFTER_THE_MOVE.as_bytes()));
+    }
+    Ok(())
 }

@@ -1,5 +1,5 @@
 -- A transcript is judged fine.
-use Rattle.std.proofs.Common.{◌≡◌, ◌≢◌, ◌==◌, ◌⊎◌, ℕ, zero, suc, ◌+◌, ◌-◌, ◌*◌, ◌<◌, ◌≤◌, Bool, true, false, if◌then◌else◌, List, [], ◌∷◌, ◌++◌, length, take, drop, map, Option, Some, None, refl, sym, ◌∙◌, ap, subst, arith, length-append, inl, inr}
+use Rattle.std.proofs.Common.{◌≡◌, ◌≢◌, ◌==◌, ◌⊎◌, ℕ, suc, ◌+◌, ◌*◌, ◌<◌, ◌≤◌, Bool, true, false, if◌then◌else◌, List, [], ◌∷◌, ◌++◌, length, take, drop, map, Option, Some, None, refl, sym, ◌∙◌, ap, subst, arith, length-append, inl, inr}
 use Rattle.std.specs.Prelude.{codes}
 use Rattle.std.specs.List.{All, AllByRecursion}
 use Rattle.std.specs.Fmt.{decimal}
@@ -15,7 +15,6 @@ use Rattle.bg_board.specs.declared.players.Player.TheVariants.{X, O}
 use Rattle.bg_turns.specs.Turn.{IsDownward}
 use Rattle.bg_match.specs.Actor.{actor_of, seat_of}
 use Rattle.bg_match.specs.Entry.{IsEntry}
-use Rattle.bg_match.specs.Match.{StandsAt}
 use Rattle.bg_match.specs.State.{State, start_of}
 use Rattle.bg_match.specs.declared.entries.Entry.{Entry}
 use Rattle.bg_match.specs.declared.entries.Entry.TheVariants as entry
@@ -27,8 +26,8 @@ use Rattle.bg_text.specs.BoardText.{board_text, line_text, lines_text}
 use Rattle.bg_text.specs.EntryText.{letter, level_word, step_text, source_text, target_text, entry_words, entry_text}
 use Rattle.bg_text.specs.EntryShape.{IsNumeral}
 use Rattle.bg_text.specs.Words.{spaced}
-use Rattle.bg_text.specs.Transcript.{AreLinesOf, IsTranscript, length_line}
-use Rattle.bg_text.specs.Judging.{lines_of, fine_line, AreLengthDigits, IsLengthFault, StandsAfter, IsVerdict, IsJudged, IsAnswerTo, IsJudgement, TranscriptsAreFine}
+use Rattle.bg_text.specs.Transcript.{AreLinesOf, length_line}
+use Rattle.bg_text.specs.Judging.{lines_of, fine_line, IsLengthFault, StandsAfter, IsVerdict, IsJudged, IsAnswerTo, IsJudgement, TranscriptsAreFine}
 use Rattle.bg_text.specs.declared.faults.LineFault.{LineFault}
 use Rattle.bg_text.specs.declared.faults.LineFault.TheVariants as fault
 use Rattle.bg_text.specs.declared.inputs.TheConstants.{MOST_BYTES}

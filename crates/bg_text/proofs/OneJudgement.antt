@@ -1,5 +1,5 @@
 -- An input has one judgement.
-use Rattle.std.proofs.Common.{◌≡◌, ◌≢◌, ◌⊎◌, ℕ, ◌+◌, ◌<◌, ◌≤◌, true, false, List, [], ◌∷◌, ◌++◌, length, take, map, slice_index_or, Option, Some, None, refl, sym, ◌∙◌, ap, subst, arith, inl, inr}
+use Rattle.std.proofs.Common.{◌≡◌, ◌⊎◌, ℕ, ◌<◌, ◌≤◌, true, false, List, [], ◌∷◌, ◌++◌, take, map, slice_index_or, Option, Some, None, refl, sym, ◌∙◌, ap, subst, arith, inl, inr}
 use Rattle.std.specs.List.{AllByRecursion}
 use Rattle.bg_board.specs.FromTo.{FromTo}
 use Rattle.bg_board.specs.Position.{Position, opponent}
@@ -9,8 +9,6 @@ use Rattle.bg_turns.specs.Turn.{IsDownward, IsTurnFault}
 use Rattle.bg_turns.specs.declared.faults.TurnFault.{TurnFault}
 use Rattle.bg_turns.specs.declared.faults.TurnFault.TheVariants.{StepIllegal, MoreCanBePlayed, LargerMustBePlayed}
 use Rattle.bg_turns.specs.declared.throws.Dice.{Dice}
-use Rattle.bg_match.specs.Actor.{actor_of, seat_of}
-use Rattle.bg_match.specs.Entry.{IsEntry}
 use Rattle.bg_match.specs.Follows.{IsEntryFault, IsNoDouble, is_in_phase}
 use Rattle.bg_match.specs.State.{State, start_of}
 use Rattle.bg_match.specs.declared.entries.Entry.{Entry}
@@ -22,10 +20,10 @@ use Rattle.bg_match.specs.declared.entries.NoDouble.TheVariants.{Crawford, NotOw
 use Rattle.bg_match.specs.declared.limits.TheConstants.{MOST_ENTRIES, SHORTEST_MATCH, LONGEST_MATCH}
 use Rattle.bg_match.specs.declared.phases.Phase.TheVariants as phase
 use Rattle.bg_text.specs.BoardText.{board_text, line_text}
-use Rattle.bg_text.specs.EntryText.{letter, step_text, entry_words, entry_text, IsSeatOf}
+use Rattle.bg_text.specs.EntryText.{letter, step_text, entry_words}
 use Rattle.bg_text.specs.EntryShape.{IsPairShape, IsEntryShape, IsEntryTextFault}
-use Rattle.bg_text.specs.Transcript.{AreLinesOf, length_line}
-use Rattle.bg_text.specs.Judging.{lines_of, refused_line, IsWrongSeat, IsRefusal, IsLineFault, IsLengthFault, IsLongestPart, IsVerdict, IsJudged, IsRefusedAtOnce, IsAnswerTo, IsJudgement, JudgementsAgree}
+use Rattle.bg_text.specs.Transcript.{length_line}
+use Rattle.bg_text.specs.Judging.{lines_of, refused_line, IsWrongSeat, IsRefusal, IsLineFault, IsLengthFault, IsLongestPart, IsVerdict, IsJudged, IsRefusedAtOnce, IsAnswerTo, JudgementsAgree}
 use Rattle.bg_text.specs.declared.faults.LineFault.{LineFault}
 use Rattle.bg_text.specs.declared.faults.LineFault.TheVariants as fault
 use Rattle.bg_text.specs.declared.faults.TextFault.{TextFault}

@@ -1,5 +1,5 @@
 -- A transcript that is read line by line.
-use Rattle.std.proofs.Common.{◌≡◌, ◌≢◌, ℕ, suc, ◌+◌, ◌-◌, ◌<◌, ◌≤◌, List, [], ◌∷◌, ◌++◌, length, take, drop, slice_index_or, Option, Some, None, Result, Ok, Err, IfOk, refl, sym, ◌∙◌, ap, subst, arith, length-append, append-nil, append_assoc, inl, inr}
+use Rattle.std.proofs.Common.{◌≡◌, ℕ, suc, ◌+◌, ◌-◌, ◌<◌, List, [], ◌∷◌, ◌++◌, length, take, slice_index_or, Result, Ok, Err, IfOk, refl, sym, ◌∙◌, ap, subst, arith, length-append, append-nil, append_assoc, inl, inr}
 use Rattle.std.proofs.lemmas.Bool.{cases_lt}
 use Rattle.std.proofs.Math.Seq.{get_or-append_seam, take-append-add}
 use Rattle.std.proofs.lemmas.List.{take_all, take-append-le}
@@ -10,7 +10,7 @@ use Rattle.bg_match.specs.declared.limits.TheConstants.{MOST_ENTRIES}
 use Rattle.bg_match.proofs.Legal.{one_standing}
 use Rattle.bg_text.specs.BoardText.{board_text, line_text}
 use Rattle.bg_text.specs.Transcript.{AreLinesOf}
-use Rattle.bg_text.specs.Judging.{lines_of, StandsAfter, IsLongestPart, IsLineFault, IsVerdict, IsJudged, fine_line, refused_line}
+use Rattle.bg_text.specs.Judging.{lines_of, StandsAfter, IsLineFault, IsJudged, fine_line, refused_line}
 use Rattle.bg_text.specs.Reading.{IsLineAt, AddsLine, RefusesLine, IsPartRead}
 use Rattle.bg_text.specs.declared.faults.LineFault.{LineFault}
 use Rattle.bg_text.specs.declared.judging.AddFault.TheVariants.{Refused as RefusedLine}

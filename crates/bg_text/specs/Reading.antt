@@ -1,5 +1,5 @@
 -- How a transcript is read, line by line.
-use Rattle.std.specs.Prelude.{◌≡◌, ℕ, ◌<◌, ◌≤◌, List, [], ◌∷◌, ◌++◌, ◌-◌, length, take, Option, Some, Result, Ok}
+use Rattle.std.specs.Prelude.{◌≡◌, ℕ, ◌<◌, ◌≤◌, List, [], ◌∷◌, ◌++◌, ◌-◌, length, take, Option, Some}
 use Rattle.bg_board.specs.declared.players.Player.{Player}
 use Rattle.bg_match.specs.Actor.{actor_of, seat_of}
 use Rattle.bg_match.specs.Entry.{IsEntry}
@@ -14,7 +14,6 @@ use Rattle.bg_text.specs.EntryText.{entry_text, IsSeatOf}
 use Rattle.bg_text.specs.BoardText.{line_text, lines_text}
 use Rattle.bg_text.specs.Transcript.{AreLinesOf, length_line}
 use Rattle.bg_text.specs.Judging.{IsWrongSeat, IsLineFault, lines_of}
-use Rattle.bg_text.specs.declared.faults.LineFault.{LineFault}
 use Rattle.bg_text.specs.declared.faults.LineFault.TheVariants.{Entry as RefusedEntry}
 use Rattle.bg_text.specs.declared.judging.AddFault.{AddFault}
 use Rattle.bg_text.specs.declared.judging.AddFault.TheVariants.{Refused, Memory}

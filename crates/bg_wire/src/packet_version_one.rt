@@ -20,20 +20,25 @@ use bg_match::{MOST_ENTRIES, Number};
 /// What every packet begins with, as a number of two bytes.
 pub(crate) const MAGIC: u16 = 0x4247;
 
+/// The version that this layout is of.
 pub(crate) const VERSION: u8 = 1;
 
-/// The kinds of packets.
+/// The kind of a Want.
 pub(crate) const WANT: u8 = 1;
 
+/// The kind of a Claim.
 pub(crate) const CLAIM: u8 = 2;
 
+/// The kind of Entries.
 pub(crate) const ENTRIES: u8 = 3;
 
-/// The offsets of the fields whose faults have names of their own.
+/// The offset of the first field, whose fault is Magic.
 pub(crate) const MAGIC_AT: usize = 0;
 
+/// The offset of the field whose fault is Version.
 pub(crate) const VERSION_AT: usize = 2;
 
+/// The offset of the field whose fault is Kind.
 pub(crate) const KIND_AT: usize = 3;
 
 impl WireFault {
