@@ -11,7 +11,8 @@ use Rattle.bg_match.specs.Actor.{actor_of, seat_of}
 use Rattle.bg_match.specs.Entry.{IsEntry, IsOpening}
 use Rattle.bg_match.specs.State.{State, start_of}
 use Rattle.bg_match.specs.Follows.{Follows, CanFollow, phase_back}
-use Rattle.bg_match.specs.Match.{Leads, IsLegalRecord}
+use Rattle.bg_match.specs.declared.phases.Actor.{Actor}
+use Rattle.bg_match.specs.Match.{Leads, IsLegalRecord, ActsAfter}
 use Rattle.bg_match.specs.Laws.{HasLegalFronts, HasOneStanding, HasEntriesInRange, OpensByReferee, OpensWithoutSeat, RollsAnyDice}
 use Rattle.bg_match.proofs.PlayableTurns.{legal_in_range}
 use Rattle.bg_match.proofs.Runs.{Follows-same, Leads-push}
@@ -39,6 +40,12 @@ Leads-same s (e ∷ rest) t u h k =
 
 pub one_standing : HasOneStanding
 one_standing match_length entries s t h k = Leads-same (start_of match_length) entries s t h k
+
+-- one actor acts
+pub one_actor : (match_length : ℕ) (entries : List Entry) (a b : Actor)
+    → ActsAfter match_length entries a → ActsAfter match_length entries b → a ≡ b
+one_actor match_length entries a b h k =
+    h.2 ∙ ap (λ (s : State). actor_of s.phase) (one_standing match_length entries h.0 k.0 h.1 k.1) ∙ sym k.2
 
 pub Follows_in_range : (s : State) (e : Entry) (t : State) → Follows s e t → IsEntry e
 Follows_in_range s (entry.Opening x o) t h = tt

@@ -6,3 +6,4 @@ pub mod PacketLaws
 pub mod SavedLaws
 pub mod SavedEntries
 pub mod Loading
+pub mod Numbers

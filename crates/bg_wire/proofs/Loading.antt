@@ -131,10 +131,10 @@ module _ (bytes : List ℕ) (result : Result Saved LoadFault) (loads : Loads res
       go (Ok s) (Err f) was h = absurd cc
       go (Ok s) (Ok p) was h = subst (λ (q : SavedParts). IsSavedText q bytes) (sym h.0) (record { layout = is_layout bytes p fits was; legal = h.1 })
 
-  pub savable : IsBytes bytes → IfOk result (λ s. IsSavable s)
+  pub savable : IsBytes bytes → IfOk result (λ s. IsSavable (parts_of s))
   savable fits = go result (found fits)
     where
-      go : (r : Result Saved LoadFault) → IfOk r (λ s. IsSavedText (parts_of s) bytes) → IfOk r (λ s. IsSavable s)
+      go : (r : Result Saved LoadFault) → IfOk r (λ s. IsSavedText (parts_of s) bytes) → IfOk r (λ s. IsSavable (parts_of s))
       go (Err f) h = tt
       go (Ok s) h = let r = h.layout.in_layout in record { party = r.party; first_save = r.first_save; last_save = r.last_save; claim = r.claim }
 

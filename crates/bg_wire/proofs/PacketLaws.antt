@@ -13,7 +13,8 @@ use Rattle.bg_wire.specs.declared.packets.Packet.{Packet}
 use Rattle.bg_wire.specs.declared.packets.Packet.TheVariants as packet
 use Rattle.bg_wire.specs.declared.packets.TheConstants.{MOST_ENTRIES_IN_PACKET}
 use Rattle.bg_wire.specs.declared.packet_version_one.TheConstants.{MAGIC, VERSION, WANT, CLAIM, ENTRIES, MAGIC_AT, VERSION_AT, KIND_AT}
-use Rattle.bg_wire.specs.declared.codes.TheConstants.{FIRST_ENTRY, FIRST_PARTY, LAST_SEAT, LAST_PARTY}
+use Rattle.bg_wire.specs.declared.codes.TheConstants.{FIRST_ENTRY}
+use Rattle.bg_wire.specs.declared.parties.TheConstants.{FIRST_PARTY, LAST_SEAT, LAST_PARTY}
 use Rattle.bg_wire.specs.EntryText.{action_text, entry_text}
 use Rattle.bg_wire.specs.PacketText.{header_text, list_text, IsText}
 use Rattle.bg_wire.specs.Reading.{◌>>=◌, u8_at, u16_at, u64_at, with}

@@ -7,12 +7,14 @@ use Rattle.bg_match.specs.Entry.{IsEntry, IsAction}
 use Rattle.bg_match.specs.declared.limits.TheConstants.{MOST_ENTRIES, SHORTEST_MATCH, LONGEST_MATCH}
 use Rattle.bg_match.specs.declared.actions.Action.{Action}
 use Rattle.bg_match.specs.declared.entries.Entry.{Entry}
-use Rattle.bg_wire.specs.declared.codes.TheConstants.{FIRST_ENTRY, FIRST_PARTY, REFEREE, LAST_SEAT}
+use Rattle.bg_wire.specs.declared.codes.TheConstants.{FIRST_ENTRY}
+use Rattle.bg_wire.specs.declared.parties.TheConstants.{FIRST_PARTY, REFEREE, LAST_SEAT}
 use Rattle.bg_wire.specs.declared.faults.LoadFault.TheVariants as fault
 use Rattle.bg_wire.specs.declared.reader.ReadFault.{ReadFault}
 use Rattle.bg_wire.specs.declared.reader.ReadFault.TheVariants as read_fault
 use Rattle.bg_wire.specs.declared.saved_version_one.Front.{Front}
-use Rattle.bg_wire.specs.declared.saved_version_one.TheConstants.{MAGIC, MAGIC_AT, NO_CLAIM, KEPT_CLAIM, FIRST_SAVE, LAST_SAVE}
+use Rattle.bg_wire.specs.declared.saved_version_one.TheConstants.{MAGIC, MAGIC_AT, NO_CLAIM, KEPT_CLAIM}
+use Rattle.bg_wire.specs.declared.saves.TheConstants.{FIRST_SAVE, LAST_SAVE}
 use Rattle.bg_wire.specs.EntryText.{action_text, entry_text, entries_text}
 use Rattle.bg_wire.specs.SavedText.{SavedParts, claim_text, front_text, front_of, saved_text, IsClaimOf, IsLayoutOf, IsSavedText}
 use Rattle.bg_wire.specs.Texts.{ArePrefixFree}

@@ -6,3 +6,6 @@ pub mod PacketText
 pub mod PacketReading
 pub mod SavedText
 pub mod SavedReading
+pub mod Parties
+pub mod Runs
+pub mod Saves

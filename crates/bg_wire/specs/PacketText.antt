@@ -11,7 +11,8 @@ use Rattle.bg_wire.specs.declared.packets.Packet.{Packet}
 use Rattle.bg_wire.specs.declared.packets.Packet.TheVariants as packet
 use Rattle.bg_wire.specs.declared.packets.TheConstants.{MOST_ENTRIES_IN_PACKET}
 use Rattle.bg_wire.specs.declared.packet_version_one.TheConstants.{MAGIC, VERSION, WANT, CLAIM, ENTRIES}
-use Rattle.bg_wire.specs.declared.codes.TheConstants.{FIRST_ENTRY, FIRST_PARTY, LAST_SEAT, LAST_PARTY}
+use Rattle.bg_wire.specs.declared.codes.TheConstants.{FIRST_ENTRY}
+use Rattle.bg_wire.specs.declared.parties.TheConstants.{FIRST_PARTY, LAST_SEAT, LAST_PARTY}
 
 abbrev pub header_text : ℕ → ℕ → List ℕ
 header_text kind id = to_be_bytes w16 MAGIC ++ (VERSION ∷ kind ∷ to_be_bytes w64 id)
@@ -63,3 +64,9 @@ pub record IsText (p : Packet) (bytes : List ℕ) : Type 0 where
 -- the bytes are no packet's text
 abbrev pub IsNoText : List ℕ → Type 0
 IsNoText bytes = (p : Packet) → IsText p bytes → ⊥
+
+-- the match that the packet is of
+abbrev pub id_of : Packet → ℕ
+id_of (packet.Want id sender held) = id
+id_of (packet.Claim id sender number action) = id
+id_of (packet.Entries id start list) = id

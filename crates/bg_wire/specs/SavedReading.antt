@@ -6,13 +6,15 @@ use Rattle.bg_match.specs.declared.entries.Entry.{Entry}
 use Rattle.bg_wire.specs.Reading.{◌>>=◌, Cursor, Read, u8_at, u16_at, u32_at, u64_at, many_at, whole_of}
 use Rattle.bg_wire.specs.EntryReading.{action_at, entry_at}
 use Rattle.bg_wire.specs.SavedText.{SavedParts}
-use Rattle.bg_wire.specs.declared.codes.TheConstants.{FIRST_ENTRY, REFEREE, LAST_SEAT}
+use Rattle.bg_wire.specs.declared.codes.TheConstants.{FIRST_ENTRY}
+use Rattle.bg_wire.specs.declared.parties.TheConstants.{REFEREE, LAST_SEAT}
 use Rattle.bg_wire.specs.declared.faults.LoadFault.{LoadFault}
 use Rattle.bg_wire.specs.declared.faults.LoadFault.TheVariants as fault
 use Rattle.bg_wire.specs.declared.reader.ReadFault.{ReadFault}
 use Rattle.bg_wire.specs.declared.reader.ReadFault.TheVariants as read_fault
 use Rattle.bg_wire.specs.declared.saved_version_one.Front.{Front}
-use Rattle.bg_wire.specs.declared.saved_version_one.TheConstants.{MAGIC, MAGIC_AT, NO_CLAIM, KEPT_CLAIM, FIRST_SAVE, LAST_SAVE}
+use Rattle.bg_wire.specs.declared.saved_version_one.TheConstants.{MAGIC, MAGIC_AT, NO_CLAIM, KEPT_CLAIM}
+use Rattle.bg_wire.specs.declared.saves.TheConstants.{FIRST_SAVE, LAST_SAVE}
 
 -- the first field has a fault of its own
 abbrev pub load_fault : ReadFault → LoadFault

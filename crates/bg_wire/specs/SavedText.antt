@@ -8,12 +8,14 @@ use Rattle.bg_match.specs.declared.limits.TheConstants.{MOST_ENTRIES, SHORTEST_M
 use Rattle.bg_match.specs.declared.actions.Action.{Action}
 use Rattle.bg_match.specs.declared.entries.Entry.{Entry}
 use Rattle.bg_wire.specs.EntryText.{action_text, entries_text}
-use Rattle.bg_wire.specs.declared.codes.TheConstants.{FIRST_ENTRY, FIRST_PARTY, LAST_SEAT}
+use Rattle.bg_wire.specs.declared.codes.TheConstants.{FIRST_ENTRY}
+use Rattle.bg_wire.specs.declared.parties.TheConstants.{FIRST_PARTY, LAST_SEAT}
 use Rattle.bg_wire.specs.declared.faults.LoadFault.{LoadFault}
 use Rattle.bg_wire.specs.declared.faults.LoadFault.TheVariants.{Illegal, Memory}
 use Rattle.bg_wire.specs.declared.saves.Saved.{Saved}
 use Rattle.bg_wire.specs.declared.saved_version_one.Front.{Front}
-use Rattle.bg_wire.specs.declared.saved_version_one.TheConstants.{MAGIC, NO_CLAIM, KEPT_CLAIM, FIRST_SAVE, LAST_SAVE}
+use Rattle.bg_wire.specs.declared.saved_version_one.TheConstants.{MAGIC, NO_CLAIM, KEPT_CLAIM}
+use Rattle.bg_wire.specs.declared.saves.TheConstants.{FIRST_SAVE, LAST_SAVE}
 
 -- what a saved text tells, which is all of a `Saved` but the room for further entries
 pub record SavedParts : Type 0 where
@@ -24,15 +26,18 @@ pub record SavedParts : Type 0 where
   pub claim : Option (ℕ × Action)
   pub entries : List Entry
 
-abbrev pub parts_of : Saved → SavedParts
-parts_of s = record {
-  party = s.party;
-  id = s.log.id;
-  match_length = s.log.match_length;
-  save = s.save;
-  claim = s.claim;
-  entries = s.log.entries;
+abbrev pub parts_with : ℕ → ℕ → Option (ℕ × Action) → Log → SavedParts
+parts_with party save claim log = record {
+  party = party;
+  id = log.id;
+  match_length = log.match_length;
+  save = save;
+  claim = claim;
+  entries = log.entries;
 }
+
+abbrev pub parts_of : Saved → SavedParts
+parts_of s = parts_with s.party s.save s.claim s.log
 
 abbrev pub claim_text : Option (ℕ × Action) → List ℕ
 claim_text None = NO_CLAIM ∷ []
@@ -68,11 +73,11 @@ IsClaimOf party None = Unit {0}
 IsClaimOf party (Some claim) = (FIRST_PARTY ≤ party) × IsKeptClaim (Some claim)
 
 -- what may be saved; a record is in its ranges by itself
-pub record IsSavable (s : Saved) : Type 0 where
-  pub party : s.party ≤ LAST_SEAT
-  pub first_save : FIRST_SAVE ≤ s.save
-  pub last_save : s.save ≤ LAST_SAVE
-  pub claim : IsClaimOf s.party s.claim
+pub record IsSavable (p : SavedParts) : Type 0 where
+  pub party : p.party ≤ LAST_SEAT
+  pub first_save : FIRST_SAVE ≤ p.save
+  pub last_save : p.save ≤ LAST_SAVE
+  pub claim : IsClaimOf p.party p.claim
 
 -- all fields are in their ranges
 pub record IsInLayout (p : SavedParts) : Type 0 where

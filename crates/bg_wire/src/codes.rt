@@ -41,12 +41,3 @@ pub(crate) const MOST_STEPS: u8 = 4;
 
 /// The number of the first entry of a match.
 pub(crate) const FIRST_ENTRY: Number = 1;
-
-/// The party of the referee.
-pub(crate) const REFEREE: u8 = 0;
-/// The first party that is not the referee, which is the seat of X.
-pub(crate) const FIRST_PARTY: u8 = 1;
-/// The party of the seat of O.
-pub(crate) const LAST_SEAT: u8 = 2;
-/// The last party that may watch.
-pub(crate) const LAST_PARTY: u8 = 255;

@@ -1,4 +1,4 @@
-//! Why bytes are no packet, and no saved text.
+//! Why bytes are no packet, and no saved text; why there is no text to save.
 use bg_match::Number;
 use thiserror::Error;
 
@@ -46,6 +46,17 @@ pub enum LoadFault {
     #[error("illegal entry {0}")]
     Illegal(Number),
     /// There is no memory for the entries.
+    #[error("out of memory")]
+    Memory,
+}
+
+/// Why a party has no text to save, in the order in which the refusals are tested (docs/PROTOCOL.md, "Saving").
+#[derive(Clone, Copy, Debug, PartialEq, Eq, Error)]
+pub enum SaveRefusal {
+    /// The last save had the greatest number, 4294967295.
+    #[error("saves spent")]
+    SavesSpent,
+    /// There is no memory for the text.
     #[error("out of memory")]
     Memory,
 }

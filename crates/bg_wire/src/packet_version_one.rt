@@ -9,11 +9,13 @@ ghost use Rattle.bg_wire.specs.EntryReading.{entry_at};
 ghost use Rattle.bg_wire.specs.PacketText.{IsPacket, header_text, list_text, packet_text};
 ghost use Rattle.bg_wire.specs.PacketReading.{want_at, claim_at, most_from, list_at, entries_at, kind_at, body_at, packet_at, wire_fault};
 
-use crate::codes::{FIRST_ENTRY, FIRST_PARTY, LAST_PARTY, LAST_SEAT};
+use crate::codes::FIRST_ENTRY;
 use crate::entry_reading::{action, entry};
 use crate::entry_writing::{Bytes, put_action, put_entry};
 use crate::reader::{ReadFault, Reader};
-use crate::{EntryList, MOST_ENTRIES_IN_PACKET, Packet, WireFault};
+use crate::{
+    EntryList, FIRST_PARTY, LAST_PARTY, LAST_SEAT, MOST_ENTRIES_IN_PACKET, Packet, WireFault,
+};
 use arrayvec::ArrayVec;
 use bg_match::{MOST_ENTRIES, Number};
 

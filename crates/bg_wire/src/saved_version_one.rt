@@ -4,16 +4,16 @@ ghost use Rattle.arrayvec.specs.ArrayVec.{array_vec_len};
 ghost use Rattle.bg_match.specs.Match.{IsLegalRecord};
 ghost use Rattle.bg_wire.specs.Reading.{Reads, Ends, passed_of, many_at};
 ghost use Rattle.bg_wire.specs.EntryReading.{entry_at};
-ghost use Rattle.bg_wire.specs.SavedText.{IsSavable, IsKeptClaim, IsInLayout, parts_of, front_of, front_text, claim_text};
+ghost use Rattle.bg_wire.specs.SavedText.{IsSavable, IsKeptClaim, IsInLayout, parts_with, front_of, front_text, claim_text};
 ghost use Rattle.bg_wire.specs.SavedReading.{most_flag, kept_claim_at, claim_at, front_at, load_fault, IsLaidOut};
 
-use crate::codes::{FIRST_ENTRY, LAST_SEAT, REFEREE};
+use crate::codes::FIRST_ENTRY;
 use crate::entry_reading::{action, entry};
 use crate::entry_writing::{Bytes, put_action};
 use crate::reader::{ReadFault, Reader};
-use crate::{LoadFault, Saved};
+use crate::{FIRST_SAVE, LAST_SAVE, LAST_SEAT, LoadFault, REFEREE};
 use arrayvec::ArrayVec;
-use bg_match::{Action, LONGEST_MATCH, MOST_ENTRIES, Number, SHORTEST_MATCH};
+use bg_match::{Action, LONGEST_MATCH, MOST_ENTRIES, Number, Record, SHORTEST_MATCH};
 
 /// What every saved text of this version begins with, as a number of four bytes.
 pub(crate) const MAGIC: u32 = 0x4247_5331;
@@ -24,11 +24,6 @@ pub(crate) const MAGIC_AT: usize = 0;
 pub(crate) const NO_CLAIM: u8 = 0;
 /// The flag where one is kept.
 pub(crate) const KEPT_CLAIM: u8 = 1;
-
-/// The number of the first save.
-pub(crate) const FIRST_SAVE: u32 = 1;
-/// The number of the last save.
-pub(crate) const LAST_SAVE: u32 = 4_294_967_295;
 
 /// What stands before the entries.
 #[derive(Debug, Drop)]
@@ -141,23 +136,25 @@ pub(crate) fn lay_out<'a>(bytes: &'a [u8]) -> Result<(Front, Reader<'a>), LoadFa
 }
 
 /// The text of what stands before the entries.
-pub(crate) fn front_text(saved: &Saved) -> Bytes
-    requires { IsSavable saved.now }
-    ensures text { result.items ≡ front_text (front_of (parts_of saved.now)) }
-    ensures in_layout { IsInLayout (parts_of saved.now) }
-    ensures legal { IsLegalRecord saved.now.log.match_length saved.now.log.entries }
+pub(crate) fn front_text(
+    party: u8,
+    save: u32,
+    claim: &Option<(Number, Action)>,
+    log: &Record,
+) -> Bytes
+    requires { IsSavable (parts_with party save claim.now log.now) }
+    ensures text { result.items ≡ front_text (front_of (parts_with party save claim.now log.now)) }
+    ensures in_layout { IsInLayout (parts_with party save claim.now log.now) }
+    ensures legal { IsLegalRecord log.now.match_length log.now.entries }
 {
     let mut out = ArrayVec::new();
     out.try_extend_from_slice(&MAGIC.to_be_bytes()).unwrap();
-    out.push(saved.party);
-    out.try_extend_from_slice(&saved.log.id().to_be_bytes())
-        .unwrap();
-    out.push(saved.log.length());
-    out.try_extend_from_slice(&saved.save.to_be_bytes())
-        .unwrap();
-    put_claim(&mut out, &saved.claim);
-    out.try_extend_from_slice(&saved.log.len().to_be_bytes())
-        .unwrap();
+    out.push(party);
+    out.try_extend_from_slice(&log.id().to_be_bytes()).unwrap();
+    out.push(log.length());
+    out.try_extend_from_slice(&save.to_be_bytes()).unwrap();
+    put_claim(&mut out, claim);
+    out.try_extend_from_slice(&log.len().to_be_bytes()).unwrap();
     out
 }
 

@@ -1,6 +1,11 @@
 //! What a party saves.
 use bg_match::{Action, Number, Record};
 
+/// The number of the first save.
+pub const FIRST_SAVE: u32 = 1;
+/// The number of the last save.
+pub const LAST_SAVE: u32 = 4_294_967_295;
+
 /// What a party keeps over a restart (docs/FORMATS.md, "Saved files").
 #[derive(Debug, Drop)]
 pub struct Saved {

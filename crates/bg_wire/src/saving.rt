@@ -1,5 +1,5 @@
 //! Saved texts, written and read.
-ghost use Rattle.std.specs.Prelude.{◌≡◌, ◌≢◌, ◌↔◌, ◌<◌, ◌≤◌, ◌++◌, [], List, ℕ, IsOk, IfOk, OnOk};
+ghost use Rattle.std.specs.Prelude.{◌≡◌, ◌≢◌, ◌↔◌, ◌<◌, ◌≤◌, ◌+◌, ◌++◌, [], List, ℕ, IsOk, IfOk, OnOk};
 ghost use Rattle.std.specs.List.{AllByRecursion};
 ghost use Rattle.bg_match.specs.Entry.{IsEntry};
 ghost use Rattle.bg_match.specs.Match.{IsLegalRecord};
@@ -8,15 +8,18 @@ ghost use Rattle.bg_wire.specs.Texts.{HasMore, ArePrefixFree};
 ghost use Rattle.bg_wire.specs.Reading.{Cursor, many_at};
 ghost use Rattle.bg_wire.specs.EntryReading.{entry_at};
 ghost use Rattle.bg_wire.specs.EntryText.{entries_text, text_at};
-ghost use Rattle.bg_wire.specs.SavedText.{SavedParts, IsSavable, IsLayoutOf, IsSavedText, IsIllegalAt, HasEntries, Loads, Replays, parts_of};
+ghost use Rattle.bg_wire.specs.SavedText.{SavedParts, IsSavable, IsLayoutOf, IsSavedText, IsIllegalAt, HasEntries, Loads, Replays, parts_of, parts_with, IsClaimOf};
+ghost use Rattle.bg_wire.specs.Saves.{IsNextSave};
 ghost use Rattle.bg_wire.specs.SavedReading.{layout_of};
 
 use crate::entry_reading::entry;
 use crate::entry_writing::{Bytes, put_entry};
 use crate::reader::Reader;
-use crate::{LoadFault, Saved, saved_version_one as layout};
+use crate::{
+    LAST_SEAT, LoadFault, SaveRefusal, Saved, Slot, saved_version_one as layout,
+};
 use arrayvec::ArrayVec;
-use bg_match::{MOST_ENTRIES, Number, Record};
+use bg_match::{Action, MOST_ENTRIES, Number, Record};
 use std::alloc::{AllocError, Global};
 
 /// The saved text, at most 655383 bytes (docs/FORMATS.md, "Saved files").
@@ -24,12 +27,51 @@ use std::alloc::{AllocError, Global};
 /// # Errors
 /// AllocError where there is no memory for it.
 pub fn save_text(alloc: Global, saved: &Saved) -> Result<Vec<u8>, AllocError>
-    requires { IsSavable saved.now }
+    requires { IsSavable (parts_of saved.now) }
     ensures { IfOk result (λ text. IsSavedText (parts_of saved.now) text.items) }
 {
+    text_of(alloc, saved.party, saved.save, &saved.claim, &saved.log)
+}
+
+/// The slot, the number and the text of the save that follows the save `last`, or the first one where `last` is 0
+/// (docs/PROTOCOL.md, "Saving"). The text is the one that [`save_text`] gives of the same parts, which are only lent.
+///
+/// # Errors
+/// `SavesSpent` where `last` is 4294967295, else `Memory` where there is no memory for the text.
+pub fn next_save(
+    alloc: Global,
+    last: u32,
+    party: u8,
+    claim: &Option<(Number, Action)>,
+    log: &Record,
+) -> Result<(Slot, u32, Vec<u8>), SaveRefusal>
+    requires party { party ≤ LAST_SEAT }
+    requires claim { IsClaimOf party claim.now }
+    ensures { IsNextSave (parts_with party (last + 1) claim.now log.now) result }
+{
+    let Some(save) = last.checked_add(1) else {
+        return Err(SaveRefusal::SavesSpent);
+    };
+    match text_of(alloc, party, save, claim, log) {
+        Ok(text) => Ok((Slot::of(save), save, text)),
+        Err(_) => Err(SaveRefusal::Memory),
+    }
+}
+
+/// The saved text of these parts.
+fn text_of(
+    alloc: Global,
+    party: u8,
+    save: u32,
+    claim: &Option<(Number, Action)>,
+    log: &Record,
+) -> Result<Vec<u8>, AllocError>
+    requires { IsSavable (parts_with party save claim.now log.now) }
+    ensures { IfOk result (λ text. IsSavedText (parts_with party save claim.now log.now) text.items) }
+{
     let mut text = Vec::new(alloc);
-    text.extend_from_slice(layout::front_text(saved).as_slice())?;
-    push_entries(&mut text, &saved.log)?;
+    text.extend_from_slice(layout::front_text(party, save, claim, log).as_slice())?;
+    push_entries(&mut text, log)?;
     Ok(text)
 }
 
@@ -70,7 +112,7 @@ fn entry_bytes(log: &Record, index: Number) -> Bytes
 pub fn load(alloc: Global, bytes: &[u8]) -> Result<Saved, LoadFault>
     // What is loaded is spelled so.
     ensures found { IfOk result (λ saved. IsSavedText (parts_of saved) bytes.now) }
-    ensures savable { IfOk result (λ saved. IsSavable saved) }
+    ensures savable { IfOk result (λ saved. IsSavable (parts_of saved)) }
     // What is spelled so is loaded.
     ensures only { (p : SavedParts) → IsSavedText p bytes.now → result ≢ Err LoadFault.Memory
         → IsOk result × IfOk result (λ saved. parts_of saved ≡ p) }

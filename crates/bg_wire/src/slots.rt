@@ -1,4 +1,5 @@
 //! The slots of saved texts.
+ghost use Rattle.std.specs.Prelude.{◌≡◌};
 
 /// One of the two slots in which a party keeps its saved texts (docs/FORMATS.md, "Saved files").
 #[derive(Clone, Copy, Debug, PartialEq, Eq, Hash)]
@@ -7,4 +8,19 @@ pub enum Slot {
     Zero,
     /// The slot of saves with odd numbers.
     One,
+}
+
+impl Slot {
+    ghost use Rattle.bg_wire.specs.Saves.{slot_of};
+
+    /// The slot of the save of this number.
+    pub fn of(save: u32) -> Slot
+        ensures { result ≡ slot_of save }
+    {
+        if save % 2 == 0 {
+            Slot::Zero
+        } else {
+            Slot::One
+        }
+    }
 }

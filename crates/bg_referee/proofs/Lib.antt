@@ -1,0 +1,6 @@
+pub mod Acting
+pub mod Opening
+pub mod Growing
+pub mod Accepting
+pub mod Answering
+pub mod Refusing

@@ -1,0 +1,4 @@
+pub mod Referee
+pub mod Dues
+pub mod Claims
+pub mod Takes

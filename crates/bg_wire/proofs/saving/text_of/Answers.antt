@@ -1,0 +1,12 @@
+use Rattle.std.proofs.Common.{◌∙◌, ◌++◌, ap, List, ℕ}
+use Rattle.bg_wire.specs.EntryText.{entries_text}
+use Rattle.bg_wire.proofs.saving.text_of.Goals as goal
+
+pub returns : goal.returns
+returns c = record {
+  layout = record {
+    in_layout = c.front_text.ensures.in_layout;
+    spelled = c.in_ok-push_entries.ensures ∙ ap (λ (r : List ℕ). r ++ entries_text c.args.log.now.entries) (c.in_ok-extend_from_slice.ensures.items ∙ ap (λ (r : List ℕ). r ++ c.as_slice.result.now) c.new-text.ensures.items ∙ c.as_slice.ensures.value ∙ c.front_text.ensures.text);
+  };
+  legal = c.front_text.ensures.legal;
+}
