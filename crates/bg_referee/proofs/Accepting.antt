@@ -14,6 +14,7 @@ use Rattle.bg_match.specs.Match.{ActsAfter, IsLegalRecord}
 use Rattle.bg_wire.specs.Parties.{party_of}
 use Rattle.bg_wire.specs.declared.packets.Packet.{Packet}
 use Rattle.bg_wire.specs.declared.packets.Packet.TheVariants as packet
+use Rattle.bg_match.proofs.Answering.{can_answer, one_answer}
 use Rattle.bg_referee.specs.declared.outcomes.TakeOutcome.{TakeOutcome}
 use Rattle.bg_referee.specs.declared.outcomes.TakeOutcome.TheVariants as outcome
 use Rattle.bg_referee.specs.Referee.{RefereeView, IsReferee}
@@ -50,30 +51,6 @@ want_accepts old new word id sender held result h =
         | inr b ↦ said old new (packet.Want id sender held) word outcome.Ahead result ((λ e g. g), refl) b.1
       ]
     ]
-
--- a roll that is answered has dice
-can_answer : (a : Action) (dice : Option Dice) (e : Entry) → Answers a dice e → CanAnswer a dice
-can_answer action.Roll dice e h = λ none. let some = h.1 in cc
-can_answer action.Double dice e h = tt
-can_answer action.Take dice e h = tt
-can_answer action.Drop dice e h = tt
-can_answer (action.Move turn) dice e h = tt
-can_answer (action.Resign level) dice e h = tt
-can_answer action.Accept dice e h = tt
-can_answer action.Reject dice e h = tt
-
--- an action has one entry, with given dice
-one_answer : (a : Action) (dice : Option Dice) (e f : Entry) → Answers a dice e → Answers a dice f → e ≡ f
-one_answer action.Roll dice e f h k =
-    let same : h.0 ≡ k.0 = let p = h.1 in let q = k.1 in cc in
-    h.2 ∙ ap entry.Rolled same ∙ sym k.2
-one_answer action.Double dice e f h k = h ∙ sym k
-one_answer action.Take dice e f h k = h ∙ sym k
-one_answer action.Drop dice e f h k = h ∙ sym k
-one_answer (action.Move turn) dice e f h k = h ∙ sym k
-one_answer (action.Resign level) dice e f h k = h ∙ sym k
-one_answer action.Accept dice e f h k = h ∙ sym k
-one_answer action.Reject dice e f h k = h ∙ sym k
 
 -- who is on turn is the one who acts
 on_turn : (match_length : ℕ) (entries : List Entry) (actor : Actor) (sender : ℕ)

@@ -1,0 +1,21 @@
+-- A claim is in its ranges.
+use Rattle.std.proofs.Common.{◌≡◌, ◌↔◌, ◌++◌, ◌∷◌, [], ℕ, ◌+◌, ◌≤◌, Result, Ok, Err, Some, length, length-append, refl, subst, arith}
+use Rattle.std.specs.Prelude.{IsOk}
+use Rattle.bg_match.specs.declared.actions.Action.{Action}
+use Rattle.bg_match.specs.declared.entries.Entry.{Entry}
+use Rattle.bg_match.specs.Match.{IsLegalRecord}
+use Rattle.bg_match.proofs.Answering.{one_answer, action_in_range}
+use Rattle.bg_wire.specs.SavedText.{IsKeptClaim}
+use Rattle.bg_party.specs.declared.learned.ChooseFault.{ChooseFault}
+use Rattle.bg_party.specs.declared.learned.ChooseFault.TheVariants as fault
+use Rattle.bg_party.specs.Parties.{SeatView}
+use Rattle.bg_party.specs.Claims.{CanClaim, MayClaim, IsChooseFault, trial_dice}
+
+-- a claim is in its ranges
+pub kept_claim : (s : SeatView) (a : Action) (n : ℕ) → CanClaim s.log.match_length s.player s.log.entries s.claim a
+    → n ≡ length s.log.entries + 1 → IsKeptClaim (Some (n, a))
+kept_claim s a n can next =
+    let e = can.2.0 in
+    let few : length (s.log.entries ++ e ∷ []) ≤ 65535 = can.2.2.0 in
+    let size = length-append s.log.entries (e ∷ []) in
+    (omega arith, omega arith, action_in_range s.log.match_length s.log.entries a (Some trial_dice) e can.2.1 can.2.2)

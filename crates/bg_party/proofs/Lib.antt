@@ -1,0 +1,4 @@
+pub mod Conflicts
+pub mod Following
+pub mod Choosing
+pub mod Holding

@@ -1,0 +1,84 @@
+-- What a packet teaches the holder of a record.
+use Rattle.std.specs.Prelude.{◌≡◌, ◌≢◌, ℕ, ◌+◌, ◌-◌, ◌<◌, ◌≤◌, Some, List, [], ◌++◌, length, take, drop, slice_get}
+use Rattle.bg_match.specs.declared.entries.Entry.{Entry}
+use Rattle.bg_match.specs.Match.{Log, IsLegalRecord, at_number}
+use Rattle.bg_wire.specs.PacketText.{id_of}
+use Rattle.bg_wire.specs.Runs.{IsRun}
+use Rattle.bg_wire.specs.SavedText.{IsFirstIllegal}
+use Rattle.bg_wire.specs.declared.packets.Packet.{Packet}
+use Rattle.bg_wire.specs.declared.packets.Packet.TheVariants as packet
+use Rattle.bg_party.specs.declared.learned.Learned.{Learned}
+use Rattle.bg_party.specs.declared.learned.Learned.TheVariants as learned
+
+-- what the list tells under numbers that are held is what is held; its first entry has the number `start`
+abbrev pub Agrees : List Entry → ℕ → List Entry → Type 0
+Agrees entries start list =
+    (i : ℕ) (e : Entry) → slice_get list i ≡ Some e → start + i ≤ length entries → at_number entries (start + i) ≡ Some e
+
+-- under this number the list tells another entry than the one that is held, and under no smaller one
+abbrev pub IsConflict : List Entry → ℕ → List Entry → ℕ → Type 0
+IsConflict entries start list n =
+    (i : ℕ) × (told : Entry) × (n ≡ start + i) × (n ≤ length entries) × (slice_get list i ≡ Some told)
+    × (at_number entries n ≢ Some told) × Agrees entries start (take i list)
+
+-- the entries of the list that are not held yet
+abbrev pub new_entries : List Entry → ℕ → List Entry → List Entry
+new_entries entries start list = drop (length entries + 1 - start) list
+
+-- the list agrees with what is held, and begins within it or right behind it
+abbrev pub Joins : List Entry → ℕ → List Entry → Type 0
+Joins entries start list = Agrees entries start list × (start ≤ length entries + 1)
+
+-- the list joins what is held, and its new entries, of which there are some, follow
+abbrev pub Extends : ℕ → List Entry → ℕ → List Entry → Type 0
+Extends match_length entries start list =
+    Joins entries start list × (new_entries entries start list ≢ [])
+    × IsLegalRecord match_length (entries ++ new_entries entries start list)
+
+-- what a list of entries teaches: a case for each answer. Want of memory comes only where the room is too small
+abbrev pub Teaches : Log → ℕ → List Entry → Learned → Type 0
+Teaches log start list learned.OtherMatch = ⊥
+Teaches log start list (learned.Conflict n) = IsConflict log.entries start list n
+Teaches log start list learned.Gap = Agrees log.entries start list × (length log.entries + 1 < start)
+Teaches log start list learned.Nothing = Joins log.entries start list × (new_entries log.entries start list ≡ [])
+Teaches log start list (learned.Illegal n) =
+    Joins log.entries start list
+    × IsFirstIllegal log.match_length (log.entries ++ new_entries log.entries start list) n
+Teaches log start list learned.Memory =
+    Extends log.match_length log.entries start list × (log.spare < length (new_entries log.entries start list))
+Teaches log start list (learned.Grew k) =
+    Extends log.match_length log.entries start list × (k ≡ length (new_entries log.entries start list))
+
+-- what a packet teaches; only entries of this match do
+abbrev pub Learns : Log → Packet → Learned → Type 0
+Learns log p learned.OtherMatch = id_of p ≢ log.id
+Learns log (packet.Entries id start list) l = (id ≡ log.id) × Teaches log start list l
+Learns log (packet.Want id sender held) l = (id ≡ log.id) × (l ≡ learned.Nothing)
+Learns log (packet.Claim id sender number action) l = (id ≡ log.id) × (l ≡ learned.Nothing)
+
+-- the record with the new entries of the packet
+abbrev pub grown : Log → Packet → ℕ → Log
+grown log (packet.Entries id start list) spare =
+    record log { entries = log.entries ++ new_entries log.entries start list; spare = spare }
+grown log _ spare = log
+
+-- the record afterwards: only `Grew` changes it
+abbrev pub IsAfter : Log → Packet → Learned → Log → Type 0
+IsAfter old p (learned.Grew k) new = new ≡ grown old p new.spare
+IsAfter old p _ new = new ≡ old
+
+-- entries of this match that join what is held, and follow where they are new
+abbrev pub Continues : ℕ → ℕ → List Entry → Packet → Type 0
+Continues match_id match_length entries (packet.Entries id start list) =
+    (id ≡ match_id) × Joins entries start list × IsLegalRecord match_length (entries ++ new_entries entries start list)
+Continues match_id match_length entries _ = ⊥
+
+-- all entries of the packet are held under their own numbers
+abbrev pub Holds : List Entry → Packet → Type 0
+Holds entries (packet.Entries id start list) = IsRun entries start list
+Holds entries _ = ⊥
+
+-- entries that continue the record are held afterwards, want of memory aside
+abbrev pub Keeps : Log → Packet → Learned → Log → Type 0
+Keeps old p learned.Memory new = Unit {0}
+Keeps old p l new = Continues old.id old.match_length old.entries p → Holds new.entries p

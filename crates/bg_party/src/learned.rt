@@ -1,0 +1,37 @@
+//! What followers answer.
+use bg_match::{EntryFault, Number};
+use thiserror::Error;
+
+/// What a follower learns from a packet, in the order in which the cases are tested (docs/PROTOCOL.md, "What a follower
+/// learns").
+#[derive(Clone, Copy, Debug, PartialEq, Eq)]
+pub enum Learned {
+    /// The packet is of another match.
+    OtherMatch,
+    /// It tells nothing new.
+    Nothing,
+    /// Under this number, from 1, it tells another entry than the one that is held. It is the least such number.
+    Conflict(Number),
+    /// It begins behind the entry that comes next.
+    Gap,
+    /// Its entry of this number is the first that does not follow those before it.
+    Illegal(Number),
+    /// There is no memory for the new entries.
+    Memory,
+    /// All its new entries are held now. There were so many, from 1 to 8.
+    Grew(u8),
+}
+
+/// Why a seat does not claim an action, in the order in which the refusals are tested (docs/PROTOCOL.md, "Claims").
+#[derive(Clone, Copy, Debug, PartialEq, Eq, Error)]
+pub enum ChooseFault {
+    /// By its record another party acts, or nobody.
+    #[error("not your turn")]
+    NotYourTurn,
+    /// The seat has a claim that its record does not answer yet.
+    #[error("already claimed")]
+    AlreadyClaimed,
+    /// The action does not follow its record. The reason is never `Memory`.
+    #[error("illegal action: {0}")]
+    Illegal(EntryFault),
+}
