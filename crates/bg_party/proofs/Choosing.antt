@@ -6,9 +6,9 @@ use Rattle.bg_match.specs.declared.entries.Entry.{Entry}
 use Rattle.bg_match.specs.Match.{IsLegalRecord}
 use Rattle.bg_match.proofs.Answering.{one_answer, action_in_range}
 use Rattle.bg_wire.specs.SavedText.{IsKeptClaim}
-use Rattle.bg_party.specs.declared.learned.ChooseFault.{ChooseFault}
-use Rattle.bg_party.specs.declared.learned.ChooseFault.TheVariants as fault
-use Rattle.bg_party.specs.Parties.{SeatView}
+use Rattle.bg_party.specs.declared.outcomes.ChooseFault.{ChooseFault}
+use Rattle.bg_party.specs.declared.outcomes.ChooseFault.TheVariants as fault
+use Rattle.bg_party.specs.Views.{SeatView}
 use Rattle.bg_party.specs.Claims.{CanClaim, MayClaim, IsChooseFault, trial_dice}
 
 -- a claim is in its ranges

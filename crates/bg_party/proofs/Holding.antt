@@ -9,8 +9,8 @@ use Rattle.bg_wire.specs.PacketText.{IsPacket}
 use Rattle.bg_wire.specs.Runs.{IsRun}
 use Rattle.bg_wire.specs.declared.packets.Packet.{Packet}
 use Rattle.bg_wire.specs.declared.packets.Packet.TheVariants as packet
-use Rattle.bg_party.specs.declared.learned.Learned.{Learned}
-use Rattle.bg_party.specs.declared.learned.Learned.TheVariants as learned
+use Rattle.bg_party.specs.declared.outcomes.Learned.{Learned}
+use Rattle.bg_party.specs.declared.outcomes.Learned.TheVariants as learned
 use Rattle.bg_party.specs.Learns.{Agrees, Continues, Keeps, Learns, Teaches, IsAfter, new_entries}
 
 -- what entries of this match teach

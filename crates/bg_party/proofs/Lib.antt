@@ -2,3 +2,4 @@ pub mod Conflicts
 pub mod Following
 pub mod Choosing
 pub mod Holding
+pub mod OneLesson

@@ -11,9 +11,9 @@ use Rattle.bg_match.specs.Match.{Log, ActsAfter, IsLegalRecord, IsRecordFault}
 use Rattle.bg_wire.specs.Parties.{party_of}
 use Rattle.bg_wire.specs.declared.packets.Packet.{Packet}
 use Rattle.bg_wire.specs.declared.packets.Packet.TheVariants as packet
-use Rattle.bg_party.specs.declared.learned.ChooseFault.{ChooseFault}
-use Rattle.bg_party.specs.declared.learned.ChooseFault.TheVariants as fault
-use Rattle.bg_party.specs.Parties.{SeatView}
+use Rattle.bg_party.specs.declared.outcomes.ChooseFault.{ChooseFault}
+use Rattle.bg_party.specs.declared.outcomes.ChooseFault.TheVariants as fault
+use Rattle.bg_party.specs.Views.{SeatView}
 
 -- the number of a claim, 0 where there is none
 abbrev pub claim_number : Option (ℕ × Action) → ℕ

@@ -7,8 +7,8 @@ use Rattle.bg_wire.specs.Runs.{IsRun}
 use Rattle.bg_wire.specs.SavedText.{IsFirstIllegal}
 use Rattle.bg_wire.specs.declared.packets.Packet.{Packet}
 use Rattle.bg_wire.specs.declared.packets.Packet.TheVariants as packet
-use Rattle.bg_party.specs.declared.learned.Learned.{Learned}
-use Rattle.bg_party.specs.declared.learned.Learned.TheVariants as learned
+use Rattle.bg_party.specs.declared.outcomes.Learned.{Learned}
+use Rattle.bg_party.specs.declared.outcomes.Learned.TheVariants as learned
 
 -- what the list tells under numbers that are held is what is held; its first entry has the number `start`
 abbrev pub Agrees : List Entry → ℕ → List Entry → Type 0
@@ -82,3 +82,8 @@ Holds entries _ = ⊥
 abbrev pub Keeps : Log → Packet → Learned → Log → Type 0
 Keeps old p learned.Memory new = Unit {0}
 Keeps old p l new = Continues old.id old.match_length old.entries p → Holds new.entries p
+
+-- a packet teaches the holder of a record one thing, want of memory aside
+abbrev pub TeachesOneThing : Type 0
+TeachesOneThing = (log : Log) (p : Packet) (a b : Learned) → IsLegalRecord log.match_length log.entries
+    → Learns log p a → Learns log p b → a ≢ learned.Memory → b ≢ learned.Memory → a ≡ b

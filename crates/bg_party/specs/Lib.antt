@@ -1,3 +1,3 @@
-pub mod Parties
+pub mod Views
 pub mod Learns
 pub mod Claims

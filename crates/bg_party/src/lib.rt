@@ -2,12 +2,14 @@
 #![tactic(auto)]
 
 mod follower;
-mod learned;
+mod laws;
+mod outcomes;
 mod seat;
 #[cfg(test)]
 mod tests;
 mod watcher;
 
-pub use learned::{ChooseFault, Learned};
+pub use laws::packets_teach_one_thing;
+pub use outcomes::{ChooseFault, Learned};
 pub use seat::Seat;
 pub use watcher::Watcher;

@@ -36,7 +36,7 @@ pub struct Seat {
 
 impl Model for Seat {
     ghost use Rattle.std.specs.Prelude.{◌+◌};
-    ghost use Rattle.bg_party.specs.Parties.{SeatView, IsSeat};
+    ghost use Rattle.bg_party.specs.Views.{SeatView, IsSeat};
 
     ghost Value = { SeatView };
 
@@ -46,7 +46,7 @@ impl Model for Seat {
 }
 
 impl Seat {
-    ghost use Rattle.bg_party.specs.Parties.{IsSeat};
+    ghost use Rattle.bg_party.specs.Views.{IsSeat};
     ghost use Rattle.bg_party.specs.Learns.{Learns, IsAfter, Keeps};
     ghost use Rattle.bg_party.specs.Claims.{CanClaim, MayClaim, Chooses, claim_number, packet_of_seat};
 

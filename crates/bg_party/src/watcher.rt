@@ -20,7 +20,7 @@ pub struct Watcher {
 }
 
 impl Model for Watcher {
-    ghost use Rattle.bg_party.specs.Parties.{WatcherView, IsWatcher};
+    ghost use Rattle.bg_party.specs.Views.{WatcherView, IsWatcher};
 
     ghost Value = { WatcherView };
 
@@ -30,7 +30,7 @@ impl Model for Watcher {
 }
 
 impl Watcher {
-    ghost use Rattle.bg_party.specs.Parties.{IsWatcher};
+    ghost use Rattle.bg_party.specs.Views.{IsWatcher};
     ghost use Rattle.bg_party.specs.Learns.{Learns, IsAfter, Keeps};
     ghost use Rattle.bg_party.specs.Claims.{want_of};
 

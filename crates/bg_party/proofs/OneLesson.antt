@@ -1,0 +1,154 @@
+-- A packet teaches the holder of a record one thing, want of memory aside.
+use Rattle.std.proofs.Common.{◌≡◌, ◌≢◌, ◌⊎◌, inl, inr, ℕ, zero, suc, ◌+◌, ◌-◌, ◌<◌, ◌≤◌, Some, List, [], ◌∷◌, ◌++◌, take, drop, refl, sym, ◌∙◌, ap, subst, arith}
+use Rattle.std.proofs.lemmas.List.{append-nil, take-append-drop}
+use Rattle.bg_match.specs.declared.actions.Action.{Action}
+use Rattle.bg_match.specs.declared.entries.Entry.{Entry}
+use Rattle.bg_match.specs.Match.{Log, IsLegalRecord, at_number}
+use Rattle.bg_match.proofs.Legal.{legal_fronts}
+use Rattle.bg_wire.specs.SavedText.{IsFirstIllegal}
+use Rattle.bg_wire.specs.declared.packets.Packet.TheVariants as packet
+use Rattle.bg_wire.proofs.Numbers.{get_take}
+use Rattle.bg_party.specs.declared.outcomes.Learned.{Learned}
+use Rattle.bg_party.specs.declared.outcomes.Learned.TheVariants as learned
+use Rattle.bg_party.specs.Learns.{Agrees, IsConflict, Teaches, Learns, TeachesOneThing, new_entries}
+
+nat_order : (a b : ℕ) → (a < b) ⊎ (a ≡ b) ⊎ (b < a)
+nat_order zero zero = inr (inl refl)
+nat_order zero (suc b) = inl (omega arith)
+nat_order (suc a) zero = inr (inr (omega arith))
+nat_order (suc a) (suc b) = elim (nat_order a b) [ inl p ↦ inl (omega arith) | inr q ↦ elim q [ inl p ↦ inr (inl (ap suc p)) | inr p ↦ inr (inr (omega arith)) ] ]
+
+take_take : (n k : ℕ) (xs : List Entry) → n ≤ k → take n (take k xs) ≡ take n xs
+take_take zero k xs within = refl
+take_take (suc n) zero xs within = absurd (omega arith)
+take_take (suc n) (suc k) [] within = refl
+take_take (suc n) (suc k) (x ∷ xs) within = ap (λ (l : List Entry). x ∷ l) (take_take n k xs (omega arith))
+
+-- a front part of a legal record is legal
+front_legal : (m n k : ℕ) (xs : List Entry) → n ≤ k → IsLegalRecord m (take k xs) → IsLegalRecord m (take n xs)
+front_legal m n k xs within legal =
+    subst (IsLegalRecord m) (take_take n k xs within)
+    (legal_fronts m (take n (take k xs)) (drop n (take k xs)) (subst (IsLegalRecord m) (sym (take-append-drop n (take k xs))) legal))
+
+-- one entry is the first that does not follow
+no_earlier : (m n k : ℕ) (xs : List Entry) → IsFirstIllegal m xs n → IsFirstIllegal m xs k → n < k → ⊥
+no_earlier m n k xs h j less = h.illegal (front_legal m n (k - 1) xs (let first = j.first in omega arith) j.before)
+
+one_illegal : (m n k : ℕ) (xs : List Entry) → IsFirstIllegal m xs n → IsFirstIllegal m xs k → n ≡ k
+one_illegal m n k xs h j = elim (nat_order n k) [
+  | inl less ↦ absurd (no_earlier m n k xs h j less)
+  | inr rest ↦ elim rest [ inl same ↦ same | inr more ↦ absurd (no_earlier m k n xs j h more) ]
+]
+
+-- where one entry does not follow, not all do
+not_all : (m n : ℕ) (xs : List Entry) → IsFirstIllegal m xs n → IsLegalRecord m xs → ⊥
+not_all m n xs h legal =
+    h.illegal (legal_fronts m (take n xs) (drop n xs) (subst (IsLegalRecord m) (sym (take-append-drop n xs)) legal))
+
+-- what agrees has no conflict
+no_conflict : (entries : List Entry) (start n : ℕ) (list : List Entry) → IsConflict entries start list n → Agrees entries start list → ⊥
+no_conflict entries start n list h agrees =
+    h.5 (subst (λ (m : ℕ). at_number entries m ≡ Some h.1) (sym h.2) (agrees h.0 h.1 h.4 (omega (arith, h.2, h.3))))
+
+no_earlier_conflict : (entries : List Entry) (start n k : ℕ) (list : List Entry) (h : IsConflict entries start list n)
+    (j : IsConflict entries start list k) → h.0 < j.0 → ⊥
+no_earlier_conflict entries start n k list h j less =
+    let at = j.6 h.0 h.1 (get_take j.0 list h.0 less ∙ h.4) (omega (arith, h.2, h.3)) in
+    h.5 (subst (λ (m : ℕ). at_number entries m ≡ Some h.1) (sym h.2) at)
+
+one_conflict : (entries : List Entry) (start n k : ℕ) (list : List Entry) → IsConflict entries start list n → IsConflict entries start list k → n ≡ k
+one_conflict entries start n k list h j = elim (nat_order h.0 j.0) [
+  | inl less ↦ absurd (no_earlier_conflict entries start n k list h j less)
+  | inr rest ↦ elim rest [ inl same ↦ h.2 ∙ ap (λ (i : ℕ). start + i) same ∙ sym j.2 | inr more ↦ absurd (no_earlier_conflict entries start k n list j h more) ]
+]
+
+-- the record with no new entries is the record
+none_follow : (m : ℕ) (entries new : List Entry) → IsLegalRecord m entries → new ≡ [] → IsLegalRecord m (entries ++ new)
+none_follow m entries new legal none =
+    subst (λ (l : List Entry). IsLegalRecord m (entries ++ l)) (sym none) (subst (IsLegalRecord m) (sym (append-nil entries)) legal)
+
+module _ (log : Log) (start : ℕ) (list : List Entry) (legal : IsLegalRecord log.match_length log.entries) where
+  -- the answers are tried in this order, so one of them excludes the later ones
+  apart : (a b : Learned) → Teaches log start list a → Teaches log start list b → a ≢ learned.Memory → b ≢ learned.Memory → a ≡ b
+  apart learned.OtherMatch b h k x y = absurd h
+  apart a learned.OtherMatch h k x y = absurd k
+  apart learned.Memory b h k x y = absurd (x refl)
+  apart a learned.Memory h k x y = absurd (y refl)
+  apart (learned.Conflict n) (learned.Conflict m) h k x y = ap learned.Conflict (one_conflict log.entries start n m list h k)
+  apart (learned.Conflict n) learned.Gap h k x y = absurd (no_conflict log.entries start n list h k.0)
+  apart (learned.Conflict n) learned.Nothing h k x y = absurd (no_conflict log.entries start n list h k.0.0)
+  apart (learned.Conflict n) (learned.Illegal m) h k x y = absurd (no_conflict log.entries start n list h k.0.0)
+  apart (learned.Conflict n) (learned.Grew m) h k x y = absurd (no_conflict log.entries start n list h k.0.0.0)
+  apart learned.Gap (learned.Conflict m) h k x y = absurd (no_conflict log.entries start m list k h.0)
+  apart learned.Gap learned.Gap h k x y = refl
+  apart learned.Gap learned.Nothing h k x y = absurd (omega (arith, h.1, k.0.1))
+  apart learned.Gap (learned.Illegal m) h k x y = absurd (omega (arith, h.1, k.0.1))
+  apart learned.Gap (learned.Grew m) h k x y = absurd (omega (arith, h.1, k.0.0.1))
+  apart learned.Nothing (learned.Conflict m) h k x y = absurd (no_conflict log.entries start m list k h.0.0)
+  apart learned.Nothing learned.Gap h k x y = absurd (omega (arith, k.1, h.0.1))
+  apart learned.Nothing learned.Nothing h k x y = refl
+  apart learned.Nothing (learned.Illegal m) h k x y =
+      absurd (not_all log.match_length m (log.entries ++ new_entries log.entries start list) k.1 (none_follow log.match_length log.entries (new_entries log.entries start list) legal h.1))
+  apart learned.Nothing (learned.Grew m) h k x y = absurd (k.0.1 h.1)
+  apart (learned.Illegal n) (learned.Conflict m) h k x y = absurd (no_conflict log.entries start m list k h.0.0)
+  apart (learned.Illegal n) learned.Gap h k x y = absurd (omega (arith, k.1, h.0.1))
+  apart (learned.Illegal n) learned.Nothing h k x y =
+      absurd (not_all log.match_length n (log.entries ++ new_entries log.entries start list) h.1 (none_follow log.match_length log.entries (new_entries log.entries start list) legal k.1))
+  apart (learned.Illegal n) (learned.Illegal m) h k x y =
+      ap learned.Illegal (one_illegal log.match_length n m (log.entries ++ new_entries log.entries start list) h.1 k.1)
+  apart (learned.Illegal n) (learned.Grew m) h k x y =
+      absurd (not_all log.match_length n (log.entries ++ new_entries log.entries start list) h.1 k.0.2)
+  apart (learned.Grew n) (learned.Conflict m) h k x y = absurd (no_conflict log.entries start m list k h.0.0.0)
+  apart (learned.Grew n) learned.Gap h k x y = absurd (omega (arith, k.1, h.0.0.1))
+  apart (learned.Grew n) learned.Nothing h k x y = absurd (h.0.1 k.1)
+  apart (learned.Grew n) (learned.Illegal m) h k x y =
+      absurd (not_all log.match_length m (log.entries ++ new_entries log.entries start list) k.1 h.0.2)
+  apart (learned.Grew n) (learned.Grew m) h k x y = ap learned.Grew (h.1 ∙ sym k.1)
+
+-- of another match, or of this one
+of_entries : (log : Log) (id start : ℕ) (list : List Entry) (l : Learned) → Learns log (packet.Entries id start list) l
+    → ((l ≡ learned.OtherMatch) × (id ≢ log.id)) ⊎ ((id ≡ log.id) × Teaches log start list l)
+of_entries log id start list learned.OtherMatch h = inl (refl, h)
+of_entries log id start list learned.Nothing h = inr h
+of_entries log id start list (learned.Conflict n) h = inr h
+of_entries log id start list learned.Gap h = inr h
+of_entries log id start list (learned.Illegal n) h = inr h
+of_entries log id start list learned.Memory h = inr h
+of_entries log id start list (learned.Grew k) h = inr h
+
+of_want : (log : Log) (id sender held : ℕ) (l : Learned) → Learns log (packet.Want id sender held) l
+    → ((l ≡ learned.OtherMatch) × (id ≢ log.id)) ⊎ ((id ≡ log.id) × (l ≡ learned.Nothing))
+of_want log id sender held learned.OtherMatch h = inl (refl, h)
+of_want log id sender held learned.Nothing h = inr h
+of_want log id sender held (learned.Conflict n) h = inr h
+of_want log id sender held learned.Gap h = inr h
+of_want log id sender held (learned.Illegal n) h = inr h
+of_want log id sender held learned.Memory h = inr h
+of_want log id sender held (learned.Grew k) h = inr h
+
+of_claim : (log : Log) (id sender number : ℕ) (action : Action) (l : Learned) → Learns log (packet.Claim id sender number action) l
+    → ((l ≡ learned.OtherMatch) × (id ≢ log.id)) ⊎ ((id ≡ log.id) × (l ≡ learned.Nothing))
+of_claim log id sender number action learned.OtherMatch h = inl (refl, h)
+of_claim log id sender number action learned.Nothing h = inr h
+of_claim log id sender number action (learned.Conflict n) h = inr h
+of_claim log id sender number action learned.Gap h = inr h
+of_claim log id sender number action (learned.Illegal n) h = inr h
+of_claim log id sender number action learned.Memory h = inr h
+of_claim log id sender number action (learned.Grew k) h = inr h
+
+pub teaches_one_thing : TeachesOneThing
+teaches_one_thing log (packet.Entries id start list) a b legal h k x y = elim (of_entries log id start list a h) [
+  | inl other ↦ elim (of_entries log id start list b k) [ inl also ↦ other.0 ∙ sym also.0 | inr this ↦ absurd (other.1 this.0) ]
+  | inr this ↦ elim (of_entries log id start list b k) [
+    | inl other ↦ absurd (other.1 this.0)
+    | inr also ↦ apart log start list legal a b this.1 also.1 x y
+  ]
+]
+teaches_one_thing log (packet.Want id sender held) a b legal h k x y = elim (of_want log id sender held a h) [
+  | inl other ↦ elim (of_want log id sender held b k) [ inl also ↦ other.0 ∙ sym also.0 | inr this ↦ absurd (other.1 this.0) ]
+  | inr this ↦ elim (of_want log id sender held b k) [ inl other ↦ absurd (other.1 this.0) | inr also ↦ this.1 ∙ sym also.1 ]
+]
+teaches_one_thing log (packet.Claim id sender number action) a b legal h k x y = elim (of_claim log id sender number action a h) [
+  | inl other ↦ elim (of_claim log id sender number action b k) [ inl also ↦ other.0 ∙ sym also.0 | inr this ↦ absurd (other.1 this.0) ]
+  | inr this ↦ elim (of_claim log id sender number action b k) [ inl other ↦ absurd (other.1 this.0) | inr also ↦ this.1 ∙ sym also.1 ]
+]
