@@ -40,7 +40,7 @@ impl Model for Standing {
 }
 
 impl Standing {
-    ghost use Rattle.bg_match.specs.State.{State, IsState, state_of, after_win, start_of, IsRunning};
+    ghost use Rattle.bg_match.specs.State.{IsState, state_of, after_win, start_of, IsRunning};
     ghost use Rattle.bg_match.specs.Level.{points};
     ghost use Rattle.bg_match.specs.Actor.{actor_of};
     ghost use Rattle.bg_match.specs.Follows.{Follows, CanFollow, IsEntryFault, IsNoDouble, IsDoubleFault, MayDouble, MovedFault, after_turn};
