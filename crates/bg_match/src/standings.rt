@@ -360,27 +360,13 @@ fn phase_back(player: Player, back: Option<Dice>) -> Phase
 }
 
 /// Whether the cube is as the phase allows.
+#[tactic(auto, using(crate::proofs::States::power_of_two))]
 fn is_cube(cube: Cube, phase: Phase) -> bool
     ensures { IsTrue result ↔ (IsPowerOfTwo cube.value × IsCubeOf phase cube.value × ((cube.owner ≡ None) ↔ (cube.value ≡ 1))) }
 {
-    if !is_cube_value(cube.value) {
-        return false;
-    }
-    if !is_within_limit(cube.value, phase) {
-        return false;
-    }
-    if cube.value == 1 {
-        cube.owner.is_none()
-    } else {
-        cube.owner.is_some()
-    }
-}
-
-/// Whether the number stands on a cube.
-fn is_cube_value(value: u8) -> bool
-    ensures { IsTrue result ↔ IsPowerOfTwo value }
-{
-    [1, 2, 4, 8, 16, 32, 64, 128].contains(&value)
+    cube.value.is_power_of_two()
+        && is_within_limit(cube.value, phase)
+        && cube.owner.is_none() == (cube.value == 1)
 }
 
 /// Whether the cube may show this in the phase.
