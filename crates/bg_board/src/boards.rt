@@ -204,12 +204,7 @@ fn share_a_point(own: &[u8; 26], other: &[u8; 26]) -> bool
     ensures apart { OnFalse result (AreApart own.now other.now) }
 {
     let bar = usize::from(BAR);
-    for point in 1..bar {
-        if own[point] > 0 && other[bar - point] > 0 {
-            return true;
-        }
-    }
-    false
+    (1..bar).any(|point| own[point] > 0 && other[bar - point] > 0)
 }
 
 /// How many checkers there are.
