@@ -6,6 +6,7 @@ ghost use Rattle.bg_board.specs.Die.{pips};
 ghost use Rattle.bg_board.specs.Position.{opponent};
 ghost use Rattle.bg_match.specs.Follows.{phase_back as back_phase, opener as opening_player};
 
+use crate::limits::GREATEST_WIN;
 use crate::{
     Actor, Cube, Entry, EntryFault, GREATEST_CUBE, GREATEST_SCORE, LONGEST_MATCH, Level, NoDouble,
     Phase, SHORTEST_MATCH, level_of,
@@ -263,7 +264,7 @@ impl Standing {
     fn worth(&self, level: Level) -> u16
         ensures value { result ≡ points level * self.now.cube.value }
         ensures least { 1 ≤ result }
-        ensures greatest { result ≤ 384 }
+        ensures greatest { result ≤ GREATEST_WIN }
     {
         level.points() * u16::from(self.cube.value)
     }
@@ -287,7 +288,7 @@ impl Standing {
     fn won_by(&self, winner: Player, points: u16) -> Standing
         requires running { IsRunning self.now.phase }
         requires least { 1 ≤ points }
-        requires greatest { points ≤ 384 }
+        requires greatest { points ≤ GREATEST_WIN }
         ensures { result ≡ after_win self.now winner points }
     {
         let before = self.score.0.max(self.score.1);
