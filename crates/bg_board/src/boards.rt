@@ -1,8 +1,9 @@
 //! The board.
-ghost use Rattle.std.specs.Prelude.{◌≡◌, ◌≤◌, ◌<◌, ◌+◌, ◌-◌, ◌↔◌, ℕ, List, drop, sum, IsOk, IfOk, IfErr, length, slice_index};
+ghost use Rattle.std.specs.Prelude.{◌≡◌, ◌≤◌, ◌<◌, ◌↔◌, sum, IsOk, IfOk, IfErr, IsTrue, length, slice_index};
 ghost use Rattle.std.specs.Bool.{OnTrue, OnFalse};
 ghost use Rattle.bg_board.specs.Die.{pips};
-ghost use Rattle.bg_board.specs.Position.{Position, IsPosition, AreApart, SharesPoint, count, count_above, checkers, opponent, position_of, start_position};
+ghost use Rattle.bg_board.specs.Position.{Position, IsPosition, AreApart, SharesPoint, HasAllOff, count, count_above, checkers, position_of, start_position};
+ghost use Rattle.bg_board.specs.Step.{carried as carried_counts, hit_by as hit_counts};
 
 use crate::{Die, Player, Step, StepFault};
 use std::marker::Model;
@@ -19,14 +20,17 @@ pub enum BoardFault {
     SharedPoint,
 }
 
-/// Where checkers are borne off to.
-const OFF: u8 = 0;
+/// Where a player's checkers are borne off to, in his own numbering.
+pub const OFF: u8 = 0;
+
+/// A player's bar, in his own numbering.
+pub const BAR: u8 = 25;
+
+/// How many checkers each player has.
+pub const CHECKERS: u8 = 15;
 
 /// The highest point of a player's home board.
 const HOME: u8 = 6;
-
-/// The bar.
-const BAR: u8 = 25;
 
 /// Where each player's fifteen checkers stand (docs/RULES.md, "The board").
 ///
@@ -51,7 +55,7 @@ impl Model for Board {
 
 impl Board {
     ghost use Rattle.bg_board.specs.BoardFault.{IsBoardFault};
-    ghost use Rattle.bg_board.specs.Step.{IsStep, after_step, IsStepFault, carried, hit_by};
+    ghost use Rattle.bg_board.specs.Step.{IsStep, after_step, IsStepFault};
 
     /// The board at the start of a game: for each player two checkers on 24, five on 13, three on 8
     /// and five on 6.
@@ -78,7 +82,7 @@ impl Board {
         ensures value { IfOk result (λ board. board ≡ record { x = x; o = o }) }
         ensures fault { IfErr result (λ fault. IsBoardFault fault (record { x = x; o = o })) }
     {
-        if total(&x) != 15 || total(&o) != 15 {
+        if total(&x) != u32::from(CHECKERS) || total(&o) != u32::from(CHECKERS) {
             return Err(BoardFault::NotFifteen);
         }
         if share_a_point(&x, &o) {
@@ -106,6 +110,13 @@ impl Board {
     {
         let above = usize::from(point) + 1;
         total(&self.checkers(player)[above..]) as u8
+    }
+
+    /// Whether the player has borne off his fifteen checkers.
+    pub fn has_all_off(&self, player: Player) -> bool
+        ensures { IsTrue result ↔ HasAllOff self.now player }
+    {
+        self.count(player, OFF) == CHECKERS
     }
 
     /// Plays one checker's step by this die, and gives the board after it: the checker stands on its
@@ -192,12 +203,8 @@ fn share_a_point(own: &[u8; 26], other: &[u8; 26]) -> bool
     ensures shared { OnTrue result (SharesPoint own.now other.now) }
     ensures apart { OnFalse result (AreApart own.now other.now) }
 {
-    for point in 1..25 {
-        if own[point] > 0 && other[25 - point] > 0 {
-            return true;
-        }
-    }
-    false
+    let bar = usize::from(BAR);
+    (1..bar).any(|point| own[point] > 0 && other[bar - point] > 0)
 }
 
 /// How many checkers there are.
@@ -207,8 +214,6 @@ fn total(counts: &[u8]) -> u32
 {
     counts.iter().map(|count| u32::from(*count)).sum()
 }
-
-ghost use Rattle.bg_board.specs.Step.{carried as carried_counts, hit_by as hit_counts};
 
 /// One checker is carried from a point to another.
 fn carried(counts: [u8; 26], from: usize, to: usize) -> [u8; 26]
@@ -230,11 +235,11 @@ fn hit_by(counts: [u8; 26], landing: usize) -> [u8; 26]
     requires fifteen { sum counts ≡ 15 }
     ensures { result ≡ hit_counts counts landing }
 {
-    const BAR: usize = 25;
+    let bar = usize::from(BAR);
     let mut after = counts;
-    if landing > 0 && after[BAR - landing] == 1 {
-        after[BAR - landing] = 0;
-        after[BAR] += 1;
+    if landing > 0 && after[bar - landing] == 1 {
+        after[bar - landing] = 0;
+        after[bar] += 1;
     }
     after
 }

@@ -114,6 +114,14 @@ fn steps_refused(rt: HostRuntime) -> Result<(), Fail> {
 }
 
 #[test]
+fn all_off(rt: HostRuntime) -> Result<(), Fail> {
+    let last = Board::from_counts(counts(&[(0, 14), (1, 1)]), counts(&[(0, 15)]))?;
+    assert!(rt; !last.has_all_off(Player::X) && last.has_all_off(Player::O));
+    assert!(rt; !Board::start().has_all_off(Player::O));
+    Ok(())
+}
+
+#[test]
 fn hit(rt: HostRuntime) -> Result<(), Fail> {
     let before = Board::from_counts(counts(&[(8, 2), (0, 13)]), counts(&[(20, 1), (6, 14)]))?;
     let after = Board::from_counts(

@@ -1,9 +1,11 @@
 -- What every standing keeps, phase by phase.
 use Rattle.std.proofs.Common.{◌≡◌, ℕ, zero, suc, ◌+◌, ◌*◌, ◌^◌, ◌<◌, ◌≤◌, Bool, Some, None, refl, sym, ◌∙◌, ap, arith}
 use Rattle.std.proofs.Common.{◌↔◌, List, [], ◌∷◌, eqb, ◌||◌, true, false, inl, inr}
-use Rattle.std.proofs.lemmas.Bool.{or_cases}
+use Rattle.std.proofs.lemmas.Bool.{or_cases, agree_below_at}
 use Rattle.std.proofs.lemmas.Bool.Decides.{nat_tests}
-use Rattle.std.specs.Int.{IsPowerOfTwo}
+use Rattle.std.specs.Prelude.{IsTrue}
+use Rattle.std.specs.Int.{IsPowerOfTwo, is_power_of_two}
+use Rattle.std.specs.Int.Count.{ones}
 use Rattle.std.proofs.Math.Pow.{pow_mono}
 use Rattle.std.proofs.Math.Nat.{pow-succ'}
 use Rattle.bg_board.specs.Position.{Position}
@@ -118,6 +120,10 @@ test_from_power (suc (suc (suc (suc (suc (suc (suc (suc k)))))))) v h e =
     let large : 2 ^ 8 ≤ 2 ^ (suc (suc (suc (suc (suc (suc (suc (suc k)))))))) = pow_mono few in
     absurd (omega arith)
 
-pub powers_on_cube : (v : ℕ) (r : Bool) → v < 256 → r ≡ is_power_in (0 ∷ 1 ∷ 2 ∷ 3 ∷ 4 ∷ 5 ∷ 6 ∷ 7 ∷ []) v → (r ≡ true) ↔ IsPowerOfTwo v
-powers_on_cube v r h is =
-    (λ t. power_from_test (0 ∷ 1 ∷ 2 ∷ 3 ∷ 4 ∷ 5 ∷ 6 ∷ 7 ∷ []) v (sym is ∙ t), λ p. is ∙ test_from_power p.0 v h p.1)
+-- below 256 the library's test says the same
+pub power_of_two : (v : ℕ) → v < 256 → IsTrue (is_power_of_two v) ↔ IsPowerOfTwo v
+unfolding ones
+power_of_two v low =
+    let same : is_power_of_two v ≡ is_power_in (0 ∷ 1 ∷ 2 ∷ 3 ∷ 4 ∷ 5 ∷ 6 ∷ 7 ∷ []) v =
+    agree_below_at is_power_of_two (is_power_in (0 ∷ 1 ∷ 2 ∷ 3 ∷ 4 ∷ 5 ∷ 6 ∷ 7 ∷ [])) 256 v refl low in
+    (λ t. power_from_test (0 ∷ 1 ∷ 2 ∷ 3 ∷ 4 ∷ 5 ∷ 6 ∷ 7 ∷ []) v (sym same ∙ t), λ p. same ∙ test_from_power p.0 v low p.1)

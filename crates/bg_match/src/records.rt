@@ -1,6 +1,7 @@
 //! The record of a match.
 ghost use Rattle.std.specs.Prelude.{◌≡◌, ◌≢◌, ◌≤◌, ◌<◌, ◌+◌, ◌-◌, ◌↔◌, ◌⊎◌, ◌++◌, ◌∷◌, [], length, take, IsOk, IfOk, OnOk, OnErr, IfErr, IsTrue, option_copied, vec_len, vec_capacity};
 ghost use Rattle.std.specs.List.{AllByRecursion};
+ghost use Rattle.bg_match.specs.Match.{at_number};
 
 use crate::{
     Actor, Entry, EntryFault, LONGEST_MATCH, MOST_ENTRIES, Number, SHORTEST_MATCH, Standing,
@@ -49,7 +50,7 @@ impl Model for Record {
 
 impl Record {
     ghost use Rattle.bg_match.specs.Entry.{IsEntry};
-    ghost use Rattle.bg_match.specs.Match.{Log, StandsAt, IsLegalRecord, ActsAfter, SeatAfter, IsMarkedByScores, IsRecordFault, at_number};
+    ghost use Rattle.bg_match.specs.Match.{StandsAt, IsLegalRecord, ActsAfter, SeatAfter, IsMarkedByScores, IsRecordFault};
 
     /// A match with no entry.
     ///
@@ -218,8 +219,6 @@ impl Record {
         self.standing.next(entry)
     }
 }
-
-ghost use Rattle.bg_match.specs.Match.{at_number};
 
 /// The entry of this number, from 1.
 fn made_at(made: &[Made], number: Number) -> Option<&Made>

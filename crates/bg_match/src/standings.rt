@@ -6,6 +6,7 @@ ghost use Rattle.bg_board.specs.Die.{pips};
 ghost use Rattle.bg_board.specs.Position.{opponent};
 ghost use Rattle.bg_match.specs.Follows.{phase_back as back_phase, opener as opening_player};
 
+use crate::limits::GREATEST_WIN;
 use crate::{
     Actor, Cube, Entry, EntryFault, GREATEST_CUBE, GREATEST_SCORE, LONGEST_MATCH, Level, NoDouble,
     Phase, SHORTEST_MATCH, level_of,
@@ -40,7 +41,7 @@ impl Model for Standing {
 }
 
 impl Standing {
-    ghost use Rattle.bg_match.specs.State.{State, IsState, state_of, after_win, start_of, IsRunning};
+    ghost use Rattle.bg_match.specs.State.{IsState, state_of, after_win, start_of, IsRunning};
     ghost use Rattle.bg_match.specs.Level.{points};
     ghost use Rattle.bg_match.specs.Actor.{actor_of};
     ghost use Rattle.bg_match.specs.Follows.{Follows, CanFollow, IsEntryFault, IsNoDouble, IsDoubleFault, MayDouble, MovedFault, after_turn};
@@ -263,7 +264,7 @@ impl Standing {
     fn worth(&self, level: Level) -> u16
         ensures value { result ≡ points level * self.now.cube.value }
         ensures least { 1 ≤ result }
-        ensures greatest { result ≤ 384 }
+        ensures greatest { result ≤ GREATEST_WIN }
     {
         level.points() * u16::from(self.cube.value)
     }
@@ -287,7 +288,7 @@ impl Standing {
     fn won_by(&self, winner: Player, points: u16) -> Standing
         requires running { IsRunning self.now.phase }
         requires least { 1 ≤ points }
-        requires greatest { points ≤ 384 }
+        requires greatest { points ≤ GREATEST_WIN }
         ensures { result ≡ after_win self.now winner points }
     {
         let before = self.score.0.max(self.score.1);
@@ -360,27 +361,13 @@ fn phase_back(player: Player, back: Option<Dice>) -> Phase
 }
 
 /// Whether the cube is as the phase allows.
+#[tactic(auto, using(crate::proofs::States::power_of_two))]
 fn is_cube(cube: Cube, phase: Phase) -> bool
     ensures { IsTrue result ↔ (IsPowerOfTwo cube.value × IsCubeOf phase cube.value × ((cube.owner ≡ None) ↔ (cube.value ≡ 1))) }
 {
-    if !is_cube_value(cube.value) {
-        return false;
-    }
-    if !is_within_limit(cube.value, phase) {
-        return false;
-    }
-    if cube.value == 1 {
-        cube.owner.is_none()
-    } else {
-        cube.owner.is_some()
-    }
-}
-
-/// Whether the number stands on a cube.
-fn is_cube_value(value: u8) -> bool
-    ensures { IsTrue result ↔ IsPowerOfTwo value }
-{
-    [1, 2, 4, 8, 16, 32, 64, 128].contains(&value)
+    cube.value.is_power_of_two()
+        && is_within_limit(cube.value, phase)
+        && cube.owner.is_none() == (cube.value == 1)
 }
 
 /// Whether the cube may show this in the phase.

@@ -269,6 +269,40 @@ fn match_won_by_a_backgammon(rt: HostRuntime) -> Result<(), Fail> {
     Ok(())
 }
 
+/// X has fifteen off: what the win counts depends on where the checkers of O stand.
+#[test]
+fn levels_of_wins(rt: HostRuntime) -> Result<(), Fail> {
+    for (o, level) in [
+        (counts(&[(0, 1), (1, 13), (25, 1)]), Level::Normal),
+        (counts(&[(1, 14), (18, 1)]), Level::Gammon),
+        (counts(&[(1, 14), (19, 1)]), Level::Backgammon),
+        (counts(&[(1, 14), (25, 1)]), Level::Backgammon),
+    ] {
+        let board = Board::from_counts(counts(&[(0, 15)]), o)?;
+        assert_eq!(rt; level_of(&board, Player::X), Some(level));
+    }
+    assert_eq!(rt; level_of(&Board::start(), Player::X), None);
+    Ok(())
+}
+
+/// A match of seven points at 3-2 goes on after an offer is accepted.
+#[test]
+fn games_after_wins(rt: HostRuntime) -> Result<(), Fail> {
+    let start = Board::start();
+    for (player, level, cube, score, crawford) in [
+        (Player::O, Level::Normal, MIDDLE, (4, 2), false),
+        (Player::O, Level::Backgammon, MIDDLE, (6, 2), true),
+        (Player::X, Level::Gammon, cube(2, Player::O), (3, 6), true),
+    ] {
+        let offered = Phase::Resigned(player, level, None);
+        let before = Standing::from_parts(7, start, offered, cube, (3, 2), false, 4);
+        let after = before.ok_or("standing")?.next(&Entry::Accepted)?;
+        let opening = Standing::from_parts(7, start, Phase::Opening, MIDDLE, score, crawford, 5);
+        assert!(rt; Some(after) == opening, "at {score:?}");
+    }
+    Ok(())
+}
+
 #[test]
 fn entries_of_actions(rt: HostRuntime) -> Result<(), Fail> {
     let throw = dice(6, 5)?;
@@ -325,14 +359,19 @@ fn refused_growths(rt: HostRuntime) -> Result<(), Fail> {
             odd if odd % 2 == 1 => Entry::Resigned(Level::Normal),
             _ => Entry::Rejected,
         };
+        let (before, by) = (record.standing(), record.by(pushed));
         if record.push(entry.copy()).is_err() {
             assert_eq!(rt; record.len(), pushed);
+            assert!(rt; record.standing() == before && record.by(pushed) == by);
             record.push(entry)?;
         }
         assert_eq!(rt; record.len(), pushed + 1);
     }
+    let (before, by) = (record.standing(), record.by(20));
     if record.reserve(100).is_err() {
         assert_eq!(rt; record.len(), 20);
+        assert!(rt; record.standing() == before && record.by(20) == by);
+        assert!(rt; record.entry(20) == Some(&Entry::Resigned(Level::Normal)));
         record.reserve(100)?;
     }
     let copy = match record.copy() {
