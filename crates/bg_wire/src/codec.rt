@@ -1,18 +1,20 @@
 //! Packets as bytes, and bytes as packets.
-ghost use Rattle.std.specs.Prelude.{◌≡◌, ◌≢◌, ◌↔◌, ◌++◌, [], List, ℕ, IfOk};
+ghost use Rattle.std.specs.Prelude.{◌≡◌, ◌≢◌, ◌↔◌, ◌≤◌, ◌++◌, [], List, ℕ, IfOk};
+ghost use Rattle.arrayvec.specs.ArrayVec.{array_vec_len};
 ghost use Rattle.bg_wire.specs.declared.packets.Packet.{Packet};
 ghost use Rattle.bg_wire.specs.PacketText.{IsPacket, IsText};
 ghost use Rattle.bg_wire.specs.Texts.{HasMore, ArePrefixFree};
 ghost use Rattle.bg_wire.specs.PacketReading.{packet_of};
 
 use crate::reader::Reader;
-use crate::{Packet, WireFault, packet_version_one as layout};
+use crate::{LONGEST_PACKET, Packet, WireFault, packet_version_one as layout};
 use arrayvec::ArrayVec;
 
 /// The text of a packet, at most 95 bytes (docs/FORMATS.md, "Packets").
 pub fn encode(packet: &Packet) -> ArrayVec<u8, 128>
     requires { IsPacket packet.now }
-    ensures { IsText packet.now result.items }
+    ensures text { IsText packet.now result.items }
+    ensures longest { array_vec_len result ≤ LONGEST_PACKET }
 {
     layout::text(packet)
 }

@@ -8,6 +8,9 @@ use std::marker::Model;
 /// The most entries of one packet.
 pub const MOST_ENTRIES_IN_PACKET: u8 = 8;
 
+/// The most bytes of a packet's text.
+pub const LONGEST_PACKET: usize = 95;
+
 /// At most eight entries that follow each other. Contracts see it as the list of its entries.
 #[derive(Debug, PartialEq, Eq, Drop)]
 pub struct EntryList {

@@ -6,6 +6,9 @@ pub const FIRST_SAVE: u32 = 1;
 /// The number of the last save.
 pub const LAST_SAVE: u32 = 4_294_967_295;
 
+/// The most bytes of a saved text.
+pub const LONGEST_SAVED_TEXT: usize = 655_383;
+
 /// What a party keeps over a restart (docs/FORMATS.md, "Saved files").
 #[derive(Debug, Drop)]
 pub struct Saved {
