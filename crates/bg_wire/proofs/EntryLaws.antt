@@ -20,8 +20,8 @@ use Rattle.bg_wire.specs.Codes.{opening_code, rolled_code, doubled_code, taken_c
 use Rattle.bg_wire.specs.Reading.{◌>>=◌, Cursor, Read, u8_at, many_at, with}
 use Rattle.bg_wire.specs.EntryText.{step_text, turn_text, level_code, dice_text, action_text, entry_text}
 use Rattle.bg_wire.specs.EntryReading.{step_at, turn_at, level_of, level_at, die_of, die_at, dice_at, action_of, action_at, entry_of, entry_at}
-use Rattle.bg_wire.proofs.Laws.{Law, Then, Nothing, Mapped, Each, Choice, then_law, done_law, with_law, other_text, many_law, choice_law}
-use Rattle.bg_wire.proofs.Fields.{Byte, byte_law}
+use Rattle.bg_wire.proofs.Laws.{Law, Then, Nothing, Mapped, Each, Choice, HasText, has_mapped, has_choice, has_each, then_law, done_law, with_law, other_text, many_law, choice_law}
+use Rattle.bg_wire.proofs.Fields.{Byte, has_byte, byte_law}
 
 -- what is in its ranges has this text
 abbrev pub Spells : {A : Type 0} → (A → Type 0) → (A → List ℕ) → A → List ℕ → Type 0
@@ -58,7 +58,11 @@ pub step_law : Law step_at (Spells IsDownward step_text)
 unfolding step_at
 step_law = other_text _ step_to step_from
     (then_law (u8_at lowest_start bar) (λ from c. with (step_of from) (u8_at 0 (from - 1) c)) (byte_law lowest_start bar)
-    (λ from. with_law (step_of from) (u8_at 0 (from - 1)) (byte_law 0 (from - 1))))
+    (λ from. with_law (step_of from) (u8_at 0 (from - 1)) (byte_law 0 (from - 1)))
+    (λ from first h. has_mapped (step_of from) (has_byte 0 (from - 1) (omega arith))))
+
+has_step : HasText (Spells IsDownward step_text)
+has_step = (step_of 1 0, step_text (step_of 1 0), (record { starts = omega arith; lower = omega arith }, refl))
 
 -- each has a text, one after the other
 pub each_to : {A : Type 0} (Valid : A → Type 0) (text : A → List ℕ) (n : ℕ) (xs : List A) (front : List ℕ) → Each (Spells Valid text) n xs front
@@ -96,14 +100,17 @@ counted_from : {A : Type 0} (low high : ℕ) (Valid : A → Type 0) (text : A �
 counted_from low high Valid text xs front h =
     (length xs, length xs ∷ [], flat_map text xs, (h.0.0, h.0.1, refl), each_from Valid text (length xs) xs (flat_map text xs) refl h.0.2 refl, h.1)
 
-pub counted_law : {A : Type 0} (low high : ℕ) (Valid : A → Type 0) (text : A → List ℕ) (one : Cursor → Read A) → Law one (Spells Valid text)
+pub counted_law : {A : Type 0} (low high : ℕ) (Valid : A → Type 0) (text : A → List ℕ) (one : Cursor → Read A) → Law one (Spells Valid text) → HasText (Spells Valid text)
     → Law (λ c. u8_at low high c >>= λ n. many_at one n.0 n.1) (Spells (IsCounted low high Valid) (counted_text text))
-counted_law low high Valid text one law =
-    other_text _ (counted_to low high Valid text) (counted_from low high Valid text) (then_law (u8_at low high) (λ n. many_at one n) (byte_law low high) (λ n. many_law one law n))
+counted_law low high Valid text one law some =
+    other_text _ (counted_to low high Valid text) (counted_from low high Valid text) (then_law (u8_at low high) (λ n. many_at one n) (byte_law low high) (λ n. many_law one law n) (λ n first h. has_each some n))
 
 turn_law : Law turn_at (Spells IsTurn turn_text)
 unfolding turn_at
-turn_law = other_text _ (λ t front h. (record { few = h.0.1; each = h.0.2 }, h.1)) (λ t front h. ((omega arith, h.0.few, h.0.each), h.1)) (counted_law 0 most_steps IsDownward step_text step_at step_law)
+turn_law = other_text _ (λ t front h. (record { few = h.0.1; each = h.0.2 }, h.1)) (λ t front h. ((omega arith, h.0.few, h.0.each), h.1)) (counted_law 0 most_steps IsDownward step_text step_at step_law has_step)
+
+has_turn : HasText (Spells IsTurn turn_text)
+has_turn = ([], turn_text [], (record { few = omega arith; each = tt }, refl))
 
 -- ---- one byte that names a value
 
@@ -139,6 +146,9 @@ level_law : Law level_at (Spells Always level_text)
 unfolding level_at
 level_law = code_law normal_code backgammon_code level_of level_code level_named level_in_range
 
+has_level : HasText (Spells Always level_text)
+has_level = (Normal, level_text Normal, (tt, refl))
+
 die_named : (n : ℕ) → least_pips ≤ n → n ≤ most_pips → pips (die_of n) ≡ n
 die_named zero low high = absurd (omega arith)
 die_named (suc zero) low high = refl
@@ -164,6 +174,9 @@ die_law : Law die_at (Spells Always die_text)
 unfolding die_at
 die_law = code_law least_pips most_pips die_of pips die_named die_in_range
 
+has_die : HasText (Spells Always die_text)
+has_die = (One, die_text One, (tt, refl))
+
 abbrev dice_of : Die → Die → Dice
 dice_of first second = record { first = first; second = second }
 
@@ -183,7 +196,10 @@ dice_from d front h = (d.first, die_text d.first, die_text d.second, (tt, refl),
 
 dice_law : Law dice_at (Spells Always throw_text)
 unfolding dice_at
-dice_law = other_text _ dice_to dice_from (then_law die_at (λ first c. with (dice_of first) (die_at c)) die_law (λ first. with_law (dice_of first) die_at die_law))
+dice_law = other_text _ dice_to dice_from (then_law die_at (λ first c. with (dice_of first) (die_at c)) die_law (λ first. with_law (dice_of first) die_at die_law) (λ first text h. has_mapped (dice_of first) has_die))
+
+has_dice : HasText (Spells Always throw_text)
+has_dice = (dice_of One One, throw_text (dice_of One One), (tt, refl))
 
 -- ---- a code, and what follows it
 
@@ -218,6 +234,17 @@ action_rest_law code =
     (choice_law (code == resigned_code) (λ c. with action.Resign (level_at c)) _ (with_law action.Resign level_at level_law)
     (choice_law (code == accepted_code) (λ c. Ok (action.Accept, c)) (λ c. Ok (action.Reject, c)) (done_law action.Accept) (done_law action.Reject)))))))
 
+has_action_rest : (code : ℕ) → HasText (ActionRest code)
+has_action_rest code =
+    has_choice (code == rolled_code) (action.Roll, [], (refl, refl))
+    (has_choice (code == doubled_code) (action.Double, [], (refl, refl))
+    (has_choice (code == taken_code) (action.Take, [], (refl, refl))
+    (has_choice (code == dropped_code) (action.Drop, [], (refl, refl))
+    (has_choice (code == moved_code) (has_mapped action.Move has_turn)
+    (has_choice (code == resigned_code) (has_mapped action.Resign has_level)
+    (has_choice (code == accepted_code) (action.Accept, [], (refl, refl))
+    (action.Reject, [], (refl, refl))))))))
+
 action_rest : (code : ℕ) (a : Action) (rest : List ℕ) → rolled_code ≤ code → code ≤ rejected_code → ActionRest code a rest → Spells IsAction action_text a (code ∷ rest)
 action_rest zero a rest low high h = absurd (omega arith)
 action_rest (suc zero) a rest low high h = absurd (omega arith)
@@ -251,7 +278,10 @@ action_from action.Reject front h = (9, 9 ∷ [], [], (omega arith, omega arith,
 
 pub action_law : Law action_at (Spells IsAction action_text)
 unfolding action_at
-action_law = other_text _ action_to action_from (then_law (u8_at rolled_code rejected_code) action_of (byte_law rolled_code rejected_code) action_rest_law)
+action_law = other_text _ action_to action_from (then_law (u8_at rolled_code rejected_code) action_of (byte_law rolled_code rejected_code) action_rest_law (λ code first h. has_action_rest code))
+
+pub has_action : HasText (Spells IsAction action_text)
+has_action = (action.Roll, action_text action.Roll, (tt, refl))
 
 -- ---- entries
 
@@ -281,6 +311,18 @@ entry_rest_law code =
     (choice_law (code == moved_code) (λ c. with entry.Moved (turn_at c)) _ (with_law entry.Moved turn_at turn_law)
     (choice_law (code == resigned_code) (λ c. with entry.Resigned (level_at c)) _ (with_law entry.Resigned level_at level_law)
     (choice_law (code == accepted_code) (λ c. Ok (entry.Accepted, c)) (λ c. Ok (entry.Rejected, c)) (done_law entry.Accepted) (done_law entry.Rejected))))))))
+
+has_entry_rest : (code : ℕ) → HasText (EntryRest code)
+has_entry_rest code =
+    has_choice (code == opening_code) (has_mapped opening_of has_dice)
+    (has_choice (code == rolled_code) (has_mapped entry.Rolled has_dice)
+    (has_choice (code == doubled_code) (entry.Doubled, [], (refl, refl))
+    (has_choice (code == taken_code) (entry.Taken, [], (refl, refl))
+    (has_choice (code == dropped_code) (entry.Dropped, [], (refl, refl))
+    (has_choice (code == moved_code) (has_mapped entry.Moved has_turn)
+    (has_choice (code == resigned_code) (has_mapped entry.Resigned has_level)
+    (has_choice (code == accepted_code) (entry.Accepted, [], (refl, refl))
+    (entry.Rejected, [], (refl, refl)))))))))
 
 entry_rest : (code : ℕ) (e : Entry) (rest : List ℕ) → opening_code ≤ code → code ≤ rejected_code → EntryRest code e rest → Spells IsEntry entry_text e (code ∷ rest)
 entry_rest zero e rest low high h = absurd (omega arith)
@@ -316,4 +358,7 @@ entry_from entry.Rejected front h = (9, 9 ∷ [], [], (omega arith, omega arith,
 
 pub entry_law : Law entry_at (Spells IsEntry entry_text)
 unfolding entry_at
-entry_law = other_text _ entry_to entry_from (then_law (u8_at opening_code rejected_code) entry_of (byte_law opening_code rejected_code) entry_rest_law)
+entry_law = other_text _ entry_to entry_from (then_law (u8_at opening_code rejected_code) entry_of (byte_law opening_code rejected_code) entry_rest_law (λ code first h. has_entry_rest code))
+
+pub has_entry : HasText (Spells IsEntry entry_text)
+has_entry = (entry.Doubled, entry_text entry.Doubled, (tt, refl))

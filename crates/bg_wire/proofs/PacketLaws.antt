@@ -1,8 +1,8 @@
 -- The law of packets, and what follows from it.
-use Rattle.std.proofs.Common.{◌≡◌, ◌≢◌, ℕ, zero, suc, ◌+◌, ◌-◌, ◌^◌, ◌<◌, ◌≤◌, Bool, true, false, cond, List, [], ◌∷◌, ◌++◌, length, refl, ap, subst, ◌∙◌, arith, inl, inr}
+use Rattle.std.proofs.Common.{◌≡◌, ◌≢◌, ℕ, zero, suc, ◌+◌, ◌-◌, ◌^◌, ◌<◌, ◌≤◌, Bool, true, false, cond, List, [], ◌∷◌, ◌++◌, length, Err, refl, ap, subst, ◌∙◌, arith, inl, inr}
 use Rattle.std.specs.Prelude.{◌==◌}
 use Rattle.std.specs.Int.{w16, w64, to_be_bytes}
-use Rattle.std.proofs.lemmas.Bool.{cases_lt, lt-ltb, le-ltb}
+use Rattle.std.proofs.lemmas.Bool.{cases_lt, lt-ltb, le-ltb, eqb-true}
 use Rattle.bg_match.specs.Entry.{IsEntry, IsAction}
 use Rattle.bg_match.specs.declared.entries.Entry.{Entry}
 use Rattle.bg_wire.specs.Codes.{last_number, most_in_packet, packet_magic, packet_version, want_kind, claim_kind, entries_kind, magic_offset, version_offset, kind_offset, first_number, seat_of_x, seat_of_o, last_watcher}
@@ -12,50 +12,93 @@ use Rattle.bg_wire.specs.declared.reader.ReadFault.TheVariants as read_fault
 use Rattle.bg_wire.specs.declared.packets.Packet.{Packet}
 use Rattle.bg_wire.specs.declared.packets.Packet.TheVariants as packet
 use Rattle.bg_wire.specs.EntryText.{action_text, entry_text}
-use Rattle.bg_wire.specs.PacketText.{header_text, list_text, IsText}
+use Rattle.bg_wire.specs.PacketText.{header_text, list_text, packet_text, IsText}
+use Rattle.bg_wire.specs.Texts.{IsWrongAt}
+use Rattle.bg_wire.specs.Faults.{IsWireFault}
 use Rattle.bg_wire.specs.Reading.{◌>>=◌, u8_at, u16_at, u64_at, with}
 use Rattle.bg_wire.specs.EntryReading.{action_at, entry_at}
 use Rattle.bg_wire.specs.PacketReading.{wire_fault, want_at, claim_at, most_from, list_at, entries_at, kind_at, body_at, packet_at}
-use Rattle.bg_wire.proofs.Laws.{Law, Then, Mapped, Choice, then_law, with_law, other_text, choice_law}
-use Rattle.bg_wire.proofs.Fields.{Byte, Number, Word, byte_law, u16_law, u64_law}
-use Rattle.bg_wire.proofs.EntryLaws.{Spells, IsCounted, counted_law, action_law, entry_law}
+use Rattle.bg_wire.proofs.Laws.{IsBytes, from_front, is_wrong_at, Law, Then, Mapped, Choice, HasText, has_then, has_mapped, has_choice, then_law, with_law, other_text, choice_law}
+use Rattle.bg_wire.proofs.Fields.{Byte, Number, Word, has_byte, has_number, has_word, byte_law, u16_law, u64_law}
+use Rattle.bg_wire.proofs.EntryLaws.{Spells, IsCounted, has_action, has_entry, counted_law, action_law, entry_law}
+
+-- ---- how many entries a packet tells
+
+fits_room : (start n : ℕ) → n ≤ most_in_packet → start + n ≤ last_number + 1 → n ≤ most_from start
+fits_room start n le fits = elim (cases_lt (last_number + 1 - start) most_in_packet) [
+  | inl few ↦ let is : most_from start ≡ last_number + 1 - start = rw (lt-ltb _ _ few) refl in omega arith
+  | inr many ↦ let is : most_from start ≡ most_in_packet = rw (le-ltb _ _ many) refl in omega arith
+]
+
+room_fits : (start n : ℕ) → start ≤ last_number → n ≤ most_from start → (n ≤ most_in_packet) × (start + n ≤ last_number + 1)
+room_fits start n fits le = elim (cases_lt (last_number + 1 - start) most_in_packet) [
+  | inl few ↦ let is : most_from start ≡ last_number + 1 - start = rw (lt-ltb _ _ few) refl in (omega arith, omega arith)
+  | inr many ↦ let is : most_from start ≡ most_in_packet = rw (le-ltb _ _ many) refl in (omega arith, omega arith)
+]
 
 -- ---- what follows the header
 
 abbrev WantParts : ℕ → Packet → List ℕ → Type 0
 WantParts id = Then (Byte seat_of_x last_watcher) (λ s. Mapped (packet.Want id s) (Number 0 last_number))
 
+has_held : (id s : ℕ) → HasText (Mapped (packet.Want id s) (Number 0 last_number))
+has_held id s = has_mapped (packet.Want id s) (has_number 0 last_number (omega arith) (omega arith))
+
+has_want : (id : ℕ) → HasText (WantParts id)
+has_want id = has_then (has_byte seat_of_x last_watcher (omega arith)) (λ s first h. has_held id s)
+
 want_law : (id : ℕ) → Law (want_at id) (WantParts id)
 unfolding want_at
 want_law id =
     then_law (u8_at seat_of_x last_watcher) (λ s c. with (packet.Want id s) (u16_at 0 last_number c)) (byte_law seat_of_x last_watcher)
-    (λ s. with_law (packet.Want id s) (u16_at 0 last_number) (u16_law 0 last_number))
+    (λ s. with_law (packet.Want id s) (u16_at 0 last_number) (u16_law 0 last_number)) (λ s first h. has_held id s)
 
 abbrev ClaimParts : ℕ → Packet → List ℕ → Type 0
 ClaimParts id = Then (Byte seat_of_x seat_of_o) (λ s. Then (Number first_number last_number) (λ n. Mapped (packet.Claim id s n) (Spells IsAction action_text)))
+
+has_claimed : (id s n : ℕ) → HasText (Mapped (packet.Claim id s n) (Spells IsAction action_text))
+has_claimed id s n = has_mapped (packet.Claim id s n) has_action
+
+has_claim_of : (id s : ℕ) → HasText (Then (Number first_number last_number) (λ n. Mapped (packet.Claim id s n) (Spells IsAction action_text)))
+has_claim_of id s = has_then (has_number first_number last_number (omega arith) (omega arith)) (λ n first h. has_claimed id s n)
+
+has_claim : (id : ℕ) → HasText (ClaimParts id)
+has_claim id = has_then (has_byte seat_of_x seat_of_o (omega arith)) (λ s first h. has_claim_of id s)
 
 claim_law : (id : ℕ) → Law (claim_at id) (ClaimParts id)
 unfolding claim_at
 claim_law id =
     then_law (u8_at seat_of_x seat_of_o) (λ s c. u16_at first_number last_number c >>= λ n. with (packet.Claim id s n.0) (action_at n.1)) (byte_law seat_of_x seat_of_o)
     (λ s. then_law (u16_at first_number last_number) (λ n c. with (packet.Claim id s n) (action_at c)) (u16_law first_number last_number)
-    (λ n. with_law (packet.Claim id s n) action_at action_law))
+    (λ n. with_law (packet.Claim id s n) action_at action_law) (λ n first h. has_claimed id s n))
+    (λ s first h. has_claim_of id s)
 
 abbrev ListText : ℕ → List Entry → List ℕ → Type 0
 ListText start = Spells (IsCounted 1 (most_from start) IsEntry) list_text
 
+has_list : (start : ℕ) → start ≤ last_number → HasText (ListText start)
+has_list start le =
+    let one : List Entry = has_entry.0 ∷ [] in
+    (one, list_text one, ((omega arith, fits_room start 1 (omega arith) (omega arith), (has_entry.2.0, tt)), refl))
+
 list_law : (start : ℕ) → Law (list_at start) (ListText start)
 unfolding list_at
-list_law start = counted_law 1 (most_from start) IsEntry entry_text entry_at entry_law
+list_law start = counted_law 1 (most_from start) IsEntry entry_text entry_at entry_law has_entry
 
 abbrev EntriesParts : ℕ → Packet → List ℕ → Type 0
 EntriesParts id = Then (Number first_number last_number) (λ start. Mapped (packet.Entries id start) (ListText start))
+
+has_told : (id start : ℕ) → start ≤ last_number → HasText (Mapped (packet.Entries id start) (ListText start))
+has_told id start le = has_mapped (packet.Entries id start) (has_list start le)
+
+has_entries : (id : ℕ) → HasText (EntriesParts id)
+has_entries id = has_then (has_number first_number last_number (omega arith) (omega arith)) (λ start first h. has_told id start h.1)
 
 entries_law : (id : ℕ) → Law (entries_at id) (EntriesParts id)
 unfolding entries_at
 entries_law id =
     then_law (u16_at first_number last_number) (λ start c. with (packet.Entries id start) (list_at start c)) (u16_law first_number last_number)
-    (λ start. with_law (packet.Entries id start) (list_at start) (list_law start))
+    (λ start. with_law (packet.Entries id start) (list_at start) (list_law start)) (λ start first h. has_told id start h.1)
 
 abbrev Body : ℕ → ℕ → Packet → List ℕ → Type 0
 Body kind id = Choice (kind == want_kind) (WantParts id) (Choice (kind == claim_kind) (ClaimParts id) (EntriesParts id))
@@ -63,6 +106,9 @@ Body kind id = Choice (kind == want_kind) (WantParts id) (Choice (kind == claim_
 body_law : (kind id : ℕ) → Law (body_at kind id) (Body kind id)
 unfolding body_at
 body_law kind id = choice_law (kind == want_kind) (want_at id) _ (want_law id) (choice_law (kind == claim_kind) (claim_at id) (entries_at id) (claim_law id) (entries_law id))
+
+has_body : (kind id : ℕ) → HasText (Body kind id)
+has_body kind id = has_choice (kind == want_kind) (has_want id) (has_choice (kind == claim_kind) (has_claim id) (has_entries id))
 
 -- ---- the header
 
@@ -93,29 +139,19 @@ kind_from kind front h = (
   h.2,
 )
 
+has_kind : HasText (Byte want_kind entries_kind)
+has_kind = has_byte want_kind entries_kind (omega arith)
+
 kind_law : Law kind_at KindText
 unfolding kind_at
 kind_law =
     other_text _ kind_to kind_from
     (then_law (u16_at packet_magic packet_magic) (λ m c. u8_at packet_version packet_version c >>= λ v. u8_at want_kind entries_kind v.1) (u16_law packet_magic packet_magic)
-    (λ m. then_law (u8_at packet_version packet_version) (λ v. u8_at want_kind entries_kind) (byte_law packet_version packet_version) (λ v. byte_law want_kind entries_kind)))
+    (λ m. then_law (u8_at packet_version packet_version) (λ v. u8_at want_kind entries_kind) (byte_law packet_version packet_version) (λ v. byte_law want_kind entries_kind) (λ v first h. has_kind))
+    (λ m first h. has_then (has_byte packet_version packet_version (omega arith)) (λ v first h. has_kind)))
 
 abbrev PacketParts : Packet → List ℕ → Type 0
 PacketParts = Then KindText (λ kind. Then Word (Body kind))
-
--- ---- how many entries a packet tells
-
-fits_room : (start n : ℕ) → n ≤ most_in_packet → start + n ≤ last_number + 1 → n ≤ most_from start
-fits_room start n le fits = elim (cases_lt (last_number + 1 - start) most_in_packet) [
-  | inl few ↦ let is : most_from start ≡ last_number + 1 - start = rw (lt-ltb _ _ few) refl in omega arith
-  | inr many ↦ let is : most_from start ≡ most_in_packet = rw (le-ltb _ _ many) refl in omega arith
-]
-
-room_fits : (start n : ℕ) → start ≤ last_number → n ≤ most_from start → (n ≤ most_in_packet) × (start + n ≤ last_number + 1)
-room_fits start n fits le = elim (cases_lt (last_number + 1 - start) most_in_packet) [
-  | inl few ↦ let is : most_from start ≡ last_number + 1 - start = rw (lt-ltb _ _ few) refl in (omega arith, omega arith)
-  | inr many ↦ let is : most_from start ≡ most_in_packet = rw (le-ltb _ _ many) refl in (omega arith, omega arith)
-]
 
 -- ---- the parts are the text
 
@@ -197,7 +233,8 @@ text_parts (packet.Entries id start list) front h =
 
 pub packet_law : Law packet_at IsText
 unfolding packet_at
-packet_law = other_text _ parts_text text_parts (then_law kind_at (λ kind c. u64_at c >>= λ id. body_at kind id.0 id.1) kind_law (λ kind. then_law u64_at (body_at kind) u64_law (body_law kind)))
+packet_law = other_text _ parts_text text_parts (then_law kind_at (λ kind c. u64_at c >>= λ id. body_at kind id.0 id.1) kind_law (λ kind. then_law u64_at (body_at kind) u64_law (body_law kind) (λ id first h. has_body kind id))
+    (λ kind first h. has_then has_word (λ id first h. has_body kind id)))
 
 pub not_extra : (f : ReadFault) → wire_fault f ≢ fault.Extra
 not_extra read_fault.Short e = absurd cc
@@ -208,3 +245,22 @@ not_extra (read_fault.Field at) e = named (at == magic_offset) (at == version_of
     named false true c e = absurd cc
     named false false true e = absurd cc
     named false false false e = absurd cc
+
+has_packet : HasText IsText
+has_packet =
+    let p = packet.Want 0 seat_of_x 0 in
+    (p, packet_text p, record { in_range = record { id_fits = omega arith; first_party = omega arith; last_party = omega arith; held_at_most = omega arith }; spelled = refl })
+
+-- what the fault of a field says
+pub says_field : (bytes : List ℕ) → IsBytes bytes → (f : ReadFault) → packet_at (from_front bytes) ≡ Err f → IsWireFault (wire_fault f) bytes
+says_field bytes fits read_fault.Short e = packet_law.cuts (from_front bytes) has_packet fits e
+says_field bytes fits (read_fault.Field at) e = named (at == magic_offset) refl (at == version_offset) refl (at == kind_offset) refl
+  where
+    wrong : IsWrongAt IsText bytes at
+    wrong = is_wrong_at packet_at packet_law bytes at has_packet fits e
+
+    named : (a : Bool) → (at == magic_offset) ≡ a → (b : Bool) → (at == version_offset) ≡ b → (c : Bool) → (at == kind_offset) ≡ c → IsWireFault (cond a fault.Magic (cond b fault.Version (cond c fault.Kind (fault.Field at)))) bytes
+    named true is b _ c _ = subst (IsWrongAt IsText bytes) (eqb-true _ _ is) wrong
+    named false _ true is c _ = subst (IsWrongAt IsText bytes) (eqb-true _ _ is) wrong
+    named false _ false _ true is = subst (IsWrongAt IsText bytes) (eqb-true _ _ is) wrong
+    named false _ false _ false _ = wrong

@@ -2,6 +2,7 @@
 use Rattle.std.proofs.Common.{◌≡◌, ◌≢◌, ℕ, zero, suc, ◌^◌, ◌<◌, ◌≤◌, Bool, true, false, cond, List, [], ◌∷◌, ◌++◌, length, Option, Some, None, Ok, Err, refl, sym, ap, subst, ◌∙◌, arith}
 use Rattle.std.specs.Prelude.{◌==◌}
 use Rattle.std.specs.Int.{w16, w32, w64, to_be_bytes}
+use Rattle.std.proofs.lemmas.Bool.{eqb-true}
 use Rattle.std.proofs.lemmas.Bool.Decides.{nat_tests}
 use Rattle.bg_match.specs.Entry.{IsEntry, IsAction}
 use Rattle.bg_match.specs.declared.actions.Action.{Action}
@@ -12,15 +13,16 @@ use Rattle.bg_wire.specs.declared.reader.ReadFault.{ReadFault}
 use Rattle.bg_wire.specs.declared.reader.ReadFault.TheVariants as read_fault
 use Rattle.bg_wire.specs.declared.saved_version_one.Front.{Front}
 use Rattle.bg_wire.specs.EntryText.{action_text, entry_text, entries_text}
-use Rattle.bg_wire.specs.SavedText.{SavedParts, claim_text, front_text, front_of, saved_text, IsClaimOf, IsLayoutOf, IsSavedText}
-use Rattle.bg_wire.specs.Texts.{ArePrefixFree}
+use Rattle.bg_wire.specs.SavedText.{SavedParts, claim_text, front_text, front_of, saved_text, IsClaimOf, IsInLayout, IsLayoutOf, IsSavedText}
+use Rattle.bg_wire.specs.Faults.{IsLoadFault}
+use Rattle.bg_wire.specs.Texts.{ArePrefixFree, IsWrongAt}
 use Rattle.bg_wire.specs.Reading.{◌>>=◌, Cursor, Read, u8_at, u16_at, u32_at, u64_at, many_at, passed_of, with}
 use Rattle.bg_wire.specs.EntryReading.{action_at, entry_at}
 use Rattle.bg_wire.specs.SavedReading.{load_fault, most_flag, kept_claim_at, flagged_at, claim_at, front_at, parts_with, saved_at, layout_of, IsLaidOut}
-use Rattle.bg_wire.proofs.Laws.{Law, Then, Nothing, Mapped, Each, Choice, then_law, done_law, with_law, other_text, choice_law, many_law, from_front, prefix_free}
+use Rattle.bg_wire.proofs.Laws.{IsBytes, is_wrong_at, Law, Then, Nothing, Mapped, Each, Choice, HasText, has_then, has_mapped, has_choice, has_each, then_law, done_law, with_law, other_text, choice_law, many_law, from_front, prefix_free}
 use Rattle.bg_wire.proofs.Many.{passed_list, passed_not}
-use Rattle.bg_wire.proofs.Fields.{Byte, Number, Long, Word, byte_law, u16_law, u32_law, u64_law}
-use Rattle.bg_wire.proofs.EntryLaws.{Spells, each_to, each_from, action_law, entry_law}
+use Rattle.bg_wire.proofs.Fields.{Byte, Number, Long, Word, has_byte, has_number, has_long, has_word, byte_law, u16_law, u32_law, u64_law}
+use Rattle.bg_wire.proofs.EntryLaws.{Spells, each_to, each_from, action_law, entry_law, has_action, has_entry}
 
 -- ---- the claim
 
@@ -37,13 +39,19 @@ kept_law : Law kept_claim_at KeptParts
 unfolding kept_claim_at
 kept_law =
     then_law (u16_at first_number last_number) (λ n c. with (claim_with n) (action_at c)) (u16_law first_number last_number)
-    (λ n. with_law (claim_with n) action_at action_law)
+    (λ n. with_law (claim_with n) action_at action_law) (λ n first h. has_mapped (claim_with n) has_action)
+
+has_kept : HasText KeptParts
+has_kept = has_then (has_number first_number last_number (omega arith) (omega arith)) (λ n first h. has_mapped (claim_with n) has_action)
 
 abbrev Flagged : ℕ → Claim → List ℕ → Type 0
 Flagged flag = Choice (flag == no_claim_flag) (Nothing None) KeptParts
 
 flagged_law : (flag : ℕ) → Law (flagged_at flag) (Flagged flag)
 flagged_law flag = choice_law (flag == no_claim_flag) (λ c. Ok (None, c)) kept_claim_at (done_law None) kept_law
+
+has_flagged : (flag : ℕ) → HasText (Flagged flag)
+has_flagged flag = has_choice (flag == no_claim_flag) (None, [], (refl, refl)) has_kept
 
 abbrev ClaimParts : ℕ → Claim → List ℕ → Type 0
 ClaimParts party = Then (Byte no_claim_flag (most_flag party)) Flagged
@@ -89,7 +97,10 @@ claim_from party (Some x) front h =
 
 claim_law : (party : ℕ) → Law (claim_at party) (Spells (IsClaimOf party) claim_text)
 unfolding claim_at
-claim_law party = other_text _ (claim_to party) (claim_from party) (then_law (u8_at no_claim_flag (most_flag party)) flagged_at (byte_law no_claim_flag (most_flag party)) flagged_law)
+claim_law party = other_text _ (claim_to party) (claim_from party) (then_law (u8_at no_claim_flag (most_flag party)) flagged_at (byte_law no_claim_flag (most_flag party)) flagged_law (λ flag first h. has_flagged flag))
+
+has_claim : (party : ℕ) → HasText (Spells (IsClaimOf party) claim_text)
+has_claim party = (None, claim_text None, (tt, refl))
 
 -- ---- what stands before the entries
 
@@ -122,19 +133,34 @@ module _ (party : ℕ) where
   abbrev IdOn : Front → List ℕ → Type 0
   IdOn = Then Word LengthOn
 
+  has_count : (id n save : ℕ) (k : Claim) → HasText (Mapped (front_with party id n save k) (Number 0 last_number))
+  has_count id n save k = has_mapped (front_with party id n save k) (has_number 0 last_number (omega arith) (omega arith))
+
+  has_claim_on : (id n save : ℕ) → HasText (ClaimOn id n save)
+  has_claim_on id n save = has_then (has_claim party) (λ k first h. has_count id n save k)
+
+  has_save_on : (id n : ℕ) → HasText (SaveOn id n)
+  has_save_on id n = has_then (has_long least_save greatest_save (omega arith) (omega arith)) (λ save first h. has_claim_on id n save)
+
+  has_length_on : (id : ℕ) → HasText (LengthOn id)
+  has_length_on id = has_then (has_byte shortest_match longest_match (omega arith)) (λ n first h. has_save_on id n)
+
+  has_id_on : HasText IdOn
+  has_id_on = has_then has_word (λ id first h. has_length_on id)
+
   claim_on : (id n save : ℕ) → Law (from_claim id n save) (ClaimOn id n save)
   claim_on id n save =
       then_law (claim_at party) (λ k c. with (front_with party id n save k) (u16_at 0 last_number c)) (claim_law party)
-      (λ k. with_law (front_with party id n save k) (u16_at 0 last_number) (u16_law 0 last_number))
+      (λ k. with_law (front_with party id n save k) (u16_at 0 last_number) (u16_law 0 last_number)) (λ k first h. has_count id n save k)
 
   save_on : (id n : ℕ) → Law (from_save id n) (SaveOn id n)
-  save_on id n = then_law (u32_at least_save greatest_save) (from_claim id n) (u32_law least_save greatest_save) (claim_on id n)
+  save_on id n = then_law (u32_at least_save greatest_save) (from_claim id n) (u32_law least_save greatest_save) (claim_on id n) (λ save first h. has_claim_on id n save)
 
   length_on : (id : ℕ) → Law (from_length id) (LengthOn id)
-  length_on id = then_law (u8_at shortest_match longest_match) (from_save id) (byte_law shortest_match longest_match) (save_on id)
+  length_on id = then_law (u8_at shortest_match longest_match) (from_save id) (byte_law shortest_match longest_match) (save_on id) (λ n first h. has_save_on id n)
 
   id_on : Law from_id IdOn
-  id_on = then_law u64_at from_length u64_law length_on
+  id_on = then_law u64_at from_length u64_law length_on (λ id first h. has_length_on id)
 
 abbrev FrontParts : Front → List ℕ → Type 0
 FrontParts = Then (Long saved_magic saved_magic) (λ m. Then (Byte referee seat_of_o) IdOn)
@@ -143,7 +169,8 @@ front_parts_law : Law front_at FrontParts
 unfolding front_at
 front_parts_law =
     then_law (u32_at saved_magic saved_magic) (λ m c. u8_at referee seat_of_o c >>= λ party. from_id party.0 party.1) (u32_law saved_magic saved_magic)
-    (λ m. then_law (u8_at referee seat_of_o) from_id (byte_law referee seat_of_o) id_on)
+    (λ m. then_law (u8_at referee seat_of_o) from_id (byte_law referee seat_of_o) id_on (λ party first h. has_id_on party))
+    (λ m first h. has_then (has_byte referee seat_of_o (omega arith)) (λ party first h. has_id_on party))
 
 record IsFront (f : Front) : Type 0 where
   party : f.party ≤ seat_of_o
@@ -277,7 +304,8 @@ unfolding saved_at
 saved_law =
     other_text _ parted_to parted_from
     (then_law front_at (λ f c. with (parts_with f) (many_at entry_at f.count c)) front_law
-    (λ f. with_law (parts_with f) (many_at entry_at f.count) (many_law entry_at entry_law f.count)))
+    (λ f. with_law (parts_with f) (many_at entry_at f.count) (many_law entry_at entry_law f.count))
+    (λ f first h. has_mapped (parts_with f) (has_each has_entry f.count)))
 
 pub not_extra : (f : ReadFault) → load_fault f ≢ fault.Extra
 not_extra read_fault.Short e = absurd cc
@@ -314,3 +342,32 @@ module _ (bytes : List ℕ) where
       where
         whole : (entries : List Entry) → many_at entry_at front.count c ≡ Ok (entries, d) → layout_of bytes ≡ Ok (parts_with front entries)
         whole entries e = rw (read, e, none) refl
+
+-- ---- what the fault of a field says
+
+has_saved : HasText IsLayoutOf
+has_saved =
+    let p : SavedParts = record { party = referee; id = 0; match_length = shortest_match; save = least_save; claim = None; entries = [] } in
+    let r : IsInLayout p = record {
+      party = omega arith;
+      id_fits = omega arith;
+      shortest = omega arith;
+      longest = omega arith;
+      first_save = omega arith;
+      last_save = omega arith;
+      claim = tt;
+      few = omega arith;
+      in_range = tt;
+    } in
+    (p, saved_text p, record { in_layout = r; spelled = refl })
+
+pub says_field : (bytes : List ℕ) → IsBytes bytes → (f : ReadFault) → saved_at (from_front bytes) ≡ Err f → IsLoadFault (load_fault f) bytes
+says_field bytes fits read_fault.Short e = saved_law.cuts (from_front bytes) has_saved fits e
+says_field bytes fits (read_fault.Field at) e = named (at == magic_offset) refl
+  where
+    wrong : IsWrongAt IsLayoutOf bytes at
+    wrong = is_wrong_at saved_at saved_law bytes at has_saved fits e
+
+    named : (a : Bool) → (at == magic_offset) ≡ a → IsLoadFault (cond a fault.Magic (fault.Field at)) bytes
+    named true is = subst (IsWrongAt IsLayoutOf bytes) (eqb-true _ _ is) wrong
+    named false _ = wrong

@@ -7,6 +7,7 @@ pub mod PacketText
 pub mod PacketReading
 pub mod SavedText
 pub mod SavedReading
+pub mod Faults
 pub mod Parties
 pub mod Runs
 pub mod Saves

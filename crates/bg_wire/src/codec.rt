@@ -1,9 +1,10 @@
 //! Packets as bytes, and bytes as packets.
-ghost use Rattle.std.specs.Prelude.{◌≡◌, ◌≢◌, ◌↔◌, ◌≤◌, ◌++◌, [], List, ℕ, IfOk};
+ghost use Rattle.std.specs.Prelude.{◌≡◌, ◌≢◌, ◌↔◌, ◌≤◌, ◌++◌, [], List, ℕ, IfOk, IfErr};
 ghost use Rattle.arrayvec.specs.ArrayVec.{array_vec_len};
 ghost use Rattle.bg_wire.specs.declared.packets.Packet.{Packet};
 ghost use Rattle.bg_wire.specs.PacketText.{IsPacket, IsText};
 ghost use Rattle.bg_wire.specs.Texts.{HasMore, ArePrefixFree};
+ghost use Rattle.bg_wire.specs.Faults.{IsWireFault};
 ghost use Rattle.bg_wire.specs.PacketReading.{packet_of};
 
 use crate::reader::Reader;
@@ -33,6 +34,8 @@ pub fn decode(bytes: &[u8]) -> Result<Packet, WireFault>
         → result ≡ Err WireFault.Short }
     // Bytes behind a packet's text are extra, and nothing else is.
     ensures extra { (result ≡ Err WireFault.Extra) ↔ HasMore IsText bytes.now }
+    // What a fault says of the bytes.
+    ensures why { IfErr result (λ fault. IsWireFault fault bytes.now) }
     // Which fault it is.
     ensures exact { result ≡ packet_of bytes.now }
 {

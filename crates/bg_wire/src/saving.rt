@@ -1,5 +1,5 @@
 //! Saved texts, written and read.
-ghost use Rattle.std.specs.Prelude.{◌≡◌, ◌≢◌, ◌↔◌, ◌<◌, ◌≤◌, ◌+◌, ◌++◌, [], List, ℕ, IsOk, IfOk, OnOk, vec_len};
+ghost use Rattle.std.specs.Prelude.{◌≡◌, ◌≢◌, ◌↔◌, ◌<◌, ◌≤◌, ◌+◌, ◌++◌, [], List, ℕ, IsOk, IfOk, IfErr, OnOk, vec_len};
 ghost use Rattle.std.specs.List.{AllByRecursion};
 ghost use Rattle.bg_match.specs.Entry.{IsEntry};
 ghost use Rattle.bg_match.specs.Match.{IsLegalRecord};
@@ -9,6 +9,7 @@ ghost use Rattle.bg_wire.specs.Reading.{Cursor, many_at};
 ghost use Rattle.bg_wire.specs.EntryReading.{entry_at};
 ghost use Rattle.bg_wire.specs.EntryText.{entries_text, text_at};
 ghost use Rattle.bg_wire.specs.SavedText.{SavedParts, IsSavable, IsLayoutOf, IsSavedText, IsIllegalAt, HasEntries, Loads, Replays, parts_of, parts_with, IsClaimOf};
+ghost use Rattle.bg_wire.specs.Faults.{IsLoadFault};
 ghost use Rattle.bg_wire.specs.Saves.{IsNextSave};
 ghost use Rattle.bg_wire.specs.SavedReading.{layout_of};
 
@@ -131,6 +132,8 @@ pub fn load(alloc: Global, bytes: &[u8]) -> Result<Saved, LoadFault>
         → result ≡ Err (LoadFault.Illegal n) }
     // Memory is wanted for entries alone, once the layout holds.
     ensures memory { result ≡ Err LoadFault.Memory → HasEntries bytes.now }
+    // What a fault says of the bytes.
+    ensures why { IfErr result (λ fault. IsLoadFault fault bytes.now) }
     // Which fault of the layout it is.
     ensures exact { Loads result (layout_of bytes.now) }
 {
