@@ -57,10 +57,6 @@ pub record IsText (p : Packet) (bytes : List ℕ) : Type 0 where
   pub in_range : IsPacket p
   pub spelled : bytes ≡ packet_text p
 
--- the bytes are no packet's text
-abbrev pub IsNoText : List ℕ → Type 0
-IsNoText bytes = (p : Packet) → IsText p bytes → ⊥
-
 -- the match that the packet is of
 abbrev pub id_of : Packet → ℕ
 id_of (packet.Want id sender held) = id

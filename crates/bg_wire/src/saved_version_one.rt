@@ -115,7 +115,7 @@ fn pass_entries(reader: &mut Reader<'_>, count: Number) -> Result<(), ReadFault>
 }
 
 /// What stands before the entries, and a reader at the first of them, where the whole layout holds.
-pub(crate) fn lay_out<'a>(bytes: &'a [u8]) -> Result<(Front, Reader<'a>), LoadFault>
+pub(crate) fn lay_out(bytes: &[u8]) -> Result<(Front, Reader<'_>), LoadFault>
     ensures laid_out { IsLaidOut result bytes.now }
     ensures shortest { IfOk result (λ parts. SHORTEST_MATCH ≤ (parts.0).match_length) }
     ensures longest { IfOk result (λ parts. (parts.0).match_length ≤ LONGEST_MATCH) }
