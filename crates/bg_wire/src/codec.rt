@@ -8,11 +8,11 @@ ghost use Rattle.bg_wire.specs.Faults.{IsWireFault};
 ghost use Rattle.bg_wire.specs.PacketReading.{packet_of};
 
 use crate::reader::Reader;
-use crate::{LONGEST_PACKET, Packet, WireFault, packet_version_one as layout};
+use crate::{LONGEST_PACKET, MOST_DATAGRAM_BYTES, Packet, WireFault, packet_version_one as layout};
 use arrayvec::ArrayVec;
 
 /// The text of a packet, at most 95 bytes (docs/FORMATS.md, "Packets").
-pub fn encode(packet: &Packet) -> ArrayVec<u8, 128>
+pub fn encode(packet: &Packet) -> ArrayVec<u8, MOST_DATAGRAM_BYTES>
     requires { IsPacket packet.now }
     ensures text { IsText packet.now result.items }
     ensures longest { array_vec_len result ≤ LONGEST_PACKET }

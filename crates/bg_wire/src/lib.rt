@@ -20,7 +20,8 @@ mod tests;
 pub use codec::{decode, encode, packet_texts_are_prefix_free};
 pub use faults::{LoadFault, SaveRefusal, WireFault};
 pub use packets::{
-    Datagram, EntryList, LONGEST_PACKET, MOST_ENTRIES_IN_PACKET, Packet, PacketBytes,
+    Datagram, EntryList, LONGEST_PACKET, MOST_DATAGRAM_BYTES, MOST_ENTRIES_IN_PACKET, Packet,
+    PacketBytes,
 };
 pub use parties::{FIRST_PARTY, FIRST_WATCHER, LAST_PARTY, LAST_SEAT, REFEREE, party_of};
 pub use saves::{FIRST_SAVE, LAST_SAVE, LONGEST_SAVED_TEXT, Saved};
