@@ -33,7 +33,7 @@ HasText {A} Text = (x : A) × (front : List ℕ) × Text x front
 abbrev pub cursor : ℕ → List ℕ → Cursor
 cursor at rest = record { at = at; rest = rest }
 
--- the field of this offset is wrong: what stands before it begins a text, and the fault does not hang on what stands behind it
+-- the field of this offset is wrong: what stands before it begins a text, and what stands behind it does not matter
 pub record FailsAt {A : Type 0} (read : Cursor → Read A) (Text : A → List ℕ → Type 0) (c : Cursor) (n : ℕ) : Type 0 where
   pub before : List ℕ
   pub wrong : List ℕ
