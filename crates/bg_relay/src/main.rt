@@ -8,6 +8,7 @@ mod tests;
 
 use arguments::command;
 use bg_text::{Reading, Verdict, Writing, judge};
+use bg_wire::LONGEST_SAVED_TEXT;
 use clap::error::ErrorKind;
 use showing::show_text;
 use std::fs::File;
@@ -17,7 +18,7 @@ use std::process::ExitCode;
 use std::rt::Files;
 
 /// The most bytes that are read of a saved file: one more than the longest saved text has.
-const MOST_SAVED_BYTES: u64 = 655_384;
+const MOST_SAVED_BYTES: u64 = LONGEST_SAVED_TEXT as u64 + 1;
 
 fn main(rt: HostRuntime) -> anyhow::Result<ExitCode> {
     let words: Vec<String> = std::env::args(&rt)?.collect(rt.alloc())?;

@@ -16,12 +16,12 @@ use Rattle.bg_match.specs.declared.entries.Entry.{Entry}
 use Rattle.bg_match.specs.declared.entries.Entry.TheVariants as entry
 use Rattle.bg_match.specs.declared.levels.Level.{Level}
 use Rattle.bg_match.specs.declared.levels.Level.TheVariants.{Normal, Gammon, Backgammon}
-use Rattle.bg_wire.specs.declared.codes.TheConstants.{OPENING, ROLLED, DOUBLED, TAKEN, DROPPED, MOVED, RESIGNED, ACCEPTED, REJECTED, NORMAL, BACKGAMMON, LEAST_PIPS, MOST_PIPS, LOWEST_START, BAR, MOST_STEPS}
+use Rattle.bg_wire.specs.Codes.{opening_code, rolled_code, doubled_code, taken_code, dropped_code, moved_code, resigned_code, accepted_code, rejected_code, normal_code, backgammon_code, least_pips, most_pips, lowest_start, bar, most_steps}
 use Rattle.bg_wire.specs.Reading.{◌>>=◌, Cursor, Read, u8_at, many_at, with}
 use Rattle.bg_wire.specs.EntryText.{step_text, turn_text, level_code, dice_text, action_text, entry_text}
 use Rattle.bg_wire.specs.EntryReading.{step_at, turn_at, level_of, level_at, die_of, die_at, dice_at, action_of, action_at, entry_of, entry_at}
-use Rattle.bg_wire.proofs.Laws.{Law, Then, Nothing, Mapped, Each, Choice, then_law, done_law, with_law, other_text, many_law, choice_law}
-use Rattle.bg_wire.proofs.Fields.{Byte, byte_law}
+use Rattle.bg_wire.proofs.Laws.{Law, Then, Nothing, Mapped, Each, Choice, HasText, has_mapped, has_choice, has_each, then_law, done_law, with_law, other_text, many_law, choice_law}
+use Rattle.bg_wire.proofs.Fields.{Byte, has_byte, byte_law}
 
 -- what is in its ranges has this text
 abbrev pub Spells : {A : Type 0} → (A → Type 0) → (A → List ℕ) → A → List ℕ → Type 0
@@ -36,7 +36,7 @@ abbrev step_of : ℕ → ℕ → FromTo
 step_of from to = record { from = from; to = to }
 
 abbrev StepParts : FromTo → List ℕ → Type 0
-StepParts = Then (Byte LOWEST_START BAR) (λ from. Mapped (step_of from) (Byte 0 (from - 1)))
+StepParts = Then (Byte lowest_start bar) (λ from. Mapped (step_of from) (Byte 0 (from - 1)))
 
 step_to : (s : FromTo) (front : List ℕ) → StepParts s front → Spells IsDownward step_text s front
 step_to s front h =
@@ -57,8 +57,12 @@ step_from s front h = (
 pub step_law : Law step_at (Spells IsDownward step_text)
 unfolding step_at
 step_law = other_text _ step_to step_from
-    (then_law (u8_at LOWEST_START BAR) (λ from c. with (step_of from) (u8_at 0 (from - 1) c)) (byte_law LOWEST_START BAR)
-    (λ from. with_law (step_of from) (u8_at 0 (from - 1)) (byte_law 0 (from - 1))))
+    (then_law (u8_at lowest_start bar) (λ from c. with (step_of from) (u8_at 0 (from - 1) c)) (byte_law lowest_start bar)
+    (λ from. with_law (step_of from) (u8_at 0 (from - 1)) (byte_law 0 (from - 1)))
+    (λ from first h. has_mapped (step_of from) (has_byte 0 (from - 1) (omega arith))))
+
+has_step : HasText (Spells IsDownward step_text)
+has_step = (step_of 1 0, step_text (step_of 1 0), (record { starts = omega arith; lower = omega arith }, refl))
 
 -- each has a text, one after the other
 pub each_to : {A : Type 0} (Valid : A → Type 0) (text : A → List ℕ) (n : ℕ) (xs : List A) (front : List ℕ) → Each (Spells Valid text) n xs front
@@ -96,14 +100,17 @@ counted_from : {A : Type 0} (low high : ℕ) (Valid : A → Type 0) (text : A �
 counted_from low high Valid text xs front h =
     (length xs, length xs ∷ [], flat_map text xs, (h.0.0, h.0.1, refl), each_from Valid text (length xs) xs (flat_map text xs) refl h.0.2 refl, h.1)
 
-pub counted_law : {A : Type 0} (low high : ℕ) (Valid : A → Type 0) (text : A → List ℕ) (one : Cursor → Read A) → Law one (Spells Valid text)
+pub counted_law : {A : Type 0} (low high : ℕ) (Valid : A → Type 0) (text : A → List ℕ) (one : Cursor → Read A) → Law one (Spells Valid text) → HasText (Spells Valid text)
     → Law (λ c. u8_at low high c >>= λ n. many_at one n.0 n.1) (Spells (IsCounted low high Valid) (counted_text text))
-counted_law low high Valid text one law =
-    other_text _ (counted_to low high Valid text) (counted_from low high Valid text) (then_law (u8_at low high) (λ n. many_at one n) (byte_law low high) (λ n. many_law one law n))
+counted_law low high Valid text one law some =
+    other_text _ (counted_to low high Valid text) (counted_from low high Valid text) (then_law (u8_at low high) (λ n. many_at one n) (byte_law low high) (λ n. many_law one law n) (λ n first h. has_each some n))
 
 turn_law : Law turn_at (Spells IsTurn turn_text)
 unfolding turn_at
-turn_law = other_text _ (λ t front h. (record { few = h.0.1; each = h.0.2 }, h.1)) (λ t front h. ((omega arith, h.0.few, h.0.each), h.1)) (counted_law 0 MOST_STEPS IsDownward step_text step_at step_law)
+turn_law = other_text _ (λ t front h. (record { few = h.0.1; each = h.0.2 }, h.1)) (λ t front h. ((omega arith, h.0.few, h.0.each), h.1)) (counted_law 0 most_steps IsDownward step_text step_at step_law has_step)
+
+has_turn : HasText (Spells IsTurn turn_text)
+has_turn = ([], turn_text [], (record { few = omega arith; each = tt }, refl))
 
 -- ---- one byte that names a value
 
@@ -120,14 +127,14 @@ module _ {A : Type 0} (low high : ℕ) (named : ℕ → A) (code : A → ℕ) (t
   code_law : Law (λ c. with named (u8_at low high c)) (Spells Always code_text)
   code_law = other_text _ code_to code_from (with_law named (u8_at low high) (byte_law low high))
 
-level_named : (n : ℕ) → NORMAL ≤ n → n ≤ BACKGAMMON → level_code (level_of n) ≡ n
+level_named : (n : ℕ) → normal_code ≤ n → n ≤ backgammon_code → level_code (level_of n) ≡ n
 level_named zero low high = absurd (omega arith)
 level_named (suc zero) low high = refl
 level_named (suc (suc zero)) low high = refl
 level_named (suc (suc (suc zero))) low high = refl
 level_named (suc (suc (suc (suc n)))) low high = absurd (omega arith)
 
-level_in_range : (l : Level) → (NORMAL ≤ level_code l) × (level_code l ≤ BACKGAMMON) × (level_of (level_code l) ≡ l)
+level_in_range : (l : Level) → (normal_code ≤ level_code l) × (level_code l ≤ backgammon_code) × (level_of (level_code l) ≡ l)
 level_in_range Normal = (omega arith, omega arith, refl)
 level_in_range Gammon = (omega arith, omega arith, refl)
 level_in_range Backgammon = (omega arith, omega arith, refl)
@@ -137,9 +144,12 @@ level_text l = level_code l ∷ []
 
 level_law : Law level_at (Spells Always level_text)
 unfolding level_at
-level_law = code_law NORMAL BACKGAMMON level_of level_code level_named level_in_range
+level_law = code_law normal_code backgammon_code level_of level_code level_named level_in_range
 
-die_named : (n : ℕ) → LEAST_PIPS ≤ n → n ≤ MOST_PIPS → pips (die_of n) ≡ n
+has_level : HasText (Spells Always level_text)
+has_level = (Normal, level_text Normal, (tt, refl))
+
+die_named : (n : ℕ) → least_pips ≤ n → n ≤ most_pips → pips (die_of n) ≡ n
 die_named zero low high = absurd (omega arith)
 die_named (suc zero) low high = refl
 die_named (suc (suc zero)) low high = refl
@@ -149,7 +159,7 @@ die_named (suc (suc (suc (suc (suc zero))))) low high = refl
 die_named (suc (suc (suc (suc (suc (suc zero)))))) low high = refl
 die_named (suc (suc (suc (suc (suc (suc (suc n))))))) low high = absurd (omega arith)
 
-die_in_range : (d : Die) → (LEAST_PIPS ≤ pips d) × (pips d ≤ MOST_PIPS) × (die_of (pips d) ≡ d)
+die_in_range : (d : Die) → (least_pips ≤ pips d) × (pips d ≤ most_pips) × (die_of (pips d) ≡ d)
 die_in_range One = (omega arith, omega arith, refl)
 die_in_range Two = (omega arith, omega arith, refl)
 die_in_range Three = (omega arith, omega arith, refl)
@@ -162,7 +172,10 @@ die_text d = pips d ∷ []
 
 die_law : Law die_at (Spells Always die_text)
 unfolding die_at
-die_law = code_law LEAST_PIPS MOST_PIPS die_of pips die_named die_in_range
+die_law = code_law least_pips most_pips die_of pips die_named die_in_range
+
+has_die : HasText (Spells Always die_text)
+has_die = (One, die_text One, (tt, refl))
 
 abbrev dice_of : Die → Die → Dice
 dice_of first second = record { first = first; second = second }
@@ -183,7 +196,10 @@ dice_from d front h = (d.first, die_text d.first, die_text d.second, (tt, refl),
 
 dice_law : Law dice_at (Spells Always throw_text)
 unfolding dice_at
-dice_law = other_text _ dice_to dice_from (then_law die_at (λ first c. with (dice_of first) (die_at c)) die_law (λ first. with_law (dice_of first) die_at die_law))
+dice_law = other_text _ dice_to dice_from (then_law die_at (λ first c. with (dice_of first) (die_at c)) die_law (λ first. with_law (dice_of first) die_at die_law) (λ first text h. has_mapped (dice_of first) has_die))
+
+has_dice : HasText (Spells Always throw_text)
+has_dice = (dice_of One One, throw_text (dice_of One One), (tt, refl))
 
 -- ---- a code, and what follows it
 
@@ -198,27 +214,38 @@ module _ {A : Type 0} (Valid : A → Type 0) (text : A → List ℕ) (code : ℕ
 
 abbrev ActionRest : ℕ → Action → List ℕ → Type 0
 ActionRest code =
-    Choice (code == ROLLED) (Nothing action.Roll)
-    (Choice (code == DOUBLED) (Nothing action.Double)
-    (Choice (code == TAKEN) (Nothing action.Take)
-    (Choice (code == DROPPED) (Nothing action.Drop)
-    (Choice (code == MOVED) (Mapped action.Move (Spells IsTurn turn_text))
-    (Choice (code == RESIGNED) (Mapped action.Resign (Spells Always level_text))
-    (Choice (code == ACCEPTED) (Nothing action.Accept)
+    Choice (code == rolled_code) (Nothing action.Roll)
+    (Choice (code == doubled_code) (Nothing action.Double)
+    (Choice (code == taken_code) (Nothing action.Take)
+    (Choice (code == dropped_code) (Nothing action.Drop)
+    (Choice (code == moved_code) (Mapped action.Move (Spells IsTurn turn_text))
+    (Choice (code == resigned_code) (Mapped action.Resign (Spells Always level_text))
+    (Choice (code == accepted_code) (Nothing action.Accept)
     (Nothing action.Reject)))))))
 
 action_rest_law : (code : ℕ) → Law (action_of code) (ActionRest code)
 unfolding action_of
 action_rest_law code =
-    choice_law (code == ROLLED) (λ c. Ok (action.Roll, c)) _ (done_law action.Roll)
-    (choice_law (code == DOUBLED) (λ c. Ok (action.Double, c)) _ (done_law action.Double)
-    (choice_law (code == TAKEN) (λ c. Ok (action.Take, c)) _ (done_law action.Take)
-    (choice_law (code == DROPPED) (λ c. Ok (action.Drop, c)) _ (done_law action.Drop)
-    (choice_law (code == MOVED) (λ c. with action.Move (turn_at c)) _ (with_law action.Move turn_at turn_law)
-    (choice_law (code == RESIGNED) (λ c. with action.Resign (level_at c)) _ (with_law action.Resign level_at level_law)
-    (choice_law (code == ACCEPTED) (λ c. Ok (action.Accept, c)) (λ c. Ok (action.Reject, c)) (done_law action.Accept) (done_law action.Reject)))))))
+    choice_law (code == rolled_code) (λ c. Ok (action.Roll, c)) _ (done_law action.Roll)
+    (choice_law (code == doubled_code) (λ c. Ok (action.Double, c)) _ (done_law action.Double)
+    (choice_law (code == taken_code) (λ c. Ok (action.Take, c)) _ (done_law action.Take)
+    (choice_law (code == dropped_code) (λ c. Ok (action.Drop, c)) _ (done_law action.Drop)
+    (choice_law (code == moved_code) (λ c. with action.Move (turn_at c)) _ (with_law action.Move turn_at turn_law)
+    (choice_law (code == resigned_code) (λ c. with action.Resign (level_at c)) _ (with_law action.Resign level_at level_law)
+    (choice_law (code == accepted_code) (λ c. Ok (action.Accept, c)) (λ c. Ok (action.Reject, c)) (done_law action.Accept) (done_law action.Reject)))))))
 
-action_rest : (code : ℕ) (a : Action) (rest : List ℕ) → ROLLED ≤ code → code ≤ REJECTED → ActionRest code a rest → Spells IsAction action_text a (code ∷ rest)
+has_action_rest : (code : ℕ) → HasText (ActionRest code)
+has_action_rest code =
+    has_choice (code == rolled_code) (action.Roll, [], (refl, refl))
+    (has_choice (code == doubled_code) (action.Double, [], (refl, refl))
+    (has_choice (code == taken_code) (action.Take, [], (refl, refl))
+    (has_choice (code == dropped_code) (action.Drop, [], (refl, refl))
+    (has_choice (code == moved_code) (has_mapped action.Move has_turn)
+    (has_choice (code == resigned_code) (has_mapped action.Resign has_level)
+    (has_choice (code == accepted_code) (action.Accept, [], (refl, refl))
+    (action.Reject, [], (refl, refl))))))))
+
+action_rest : (code : ℕ) (a : Action) (rest : List ℕ) → rolled_code ≤ code → code ≤ rejected_code → ActionRest code a rest → Spells IsAction action_text a (code ∷ rest)
 action_rest zero a rest low high h = absurd (omega arith)
 action_rest (suc zero) a rest low high h = absurd (omega arith)
 action_rest (suc (suc zero)) a rest low high h = nothing_follows IsAction action_text 2 action.Roll a rest tt refl h
@@ -232,7 +259,7 @@ action_rest (suc (suc (suc (suc (suc (suc (suc (suc (suc zero))))))))) a rest lo
 action_rest (suc (suc (suc (suc (suc (suc (suc (suc (suc (suc n)))))))))) a rest low high h = absurd (omega arith)
 
 abbrev ActionParts : Action → List ℕ → Type 0
-ActionParts = Then (Byte ROLLED REJECTED) ActionRest
+ActionParts = Then (Byte rolled_code rejected_code) ActionRest
 
 action_to : (a : Action) (front : List ℕ) → ActionParts a front → Spells IsAction action_text a front
 action_to a front h =
@@ -251,7 +278,10 @@ action_from action.Reject front h = (9, 9 ∷ [], [], (omega arith, omega arith,
 
 pub action_law : Law action_at (Spells IsAction action_text)
 unfolding action_at
-action_law = other_text _ action_to action_from (then_law (u8_at ROLLED REJECTED) action_of (byte_law ROLLED REJECTED) action_rest_law)
+action_law = other_text _ action_to action_from (then_law (u8_at rolled_code rejected_code) action_of (byte_law rolled_code rejected_code) action_rest_law (λ code first h. has_action_rest code))
+
+pub has_action : HasText (Spells IsAction action_text)
+has_action = (action.Roll, action_text action.Roll, (tt, refl))
 
 -- ---- entries
 
@@ -260,29 +290,41 @@ opening_of dice = entry.Opening dice.first dice.second
 
 abbrev EntryRest : ℕ → Entry → List ℕ → Type 0
 EntryRest code =
-    Choice (code == OPENING) (Mapped opening_of (Spells Always throw_text))
-    (Choice (code == ROLLED) (Mapped entry.Rolled (Spells Always throw_text))
-    (Choice (code == DOUBLED) (Nothing entry.Doubled)
-    (Choice (code == TAKEN) (Nothing entry.Taken)
-    (Choice (code == DROPPED) (Nothing entry.Dropped)
-    (Choice (code == MOVED) (Mapped entry.Moved (Spells IsTurn turn_text))
-    (Choice (code == RESIGNED) (Mapped entry.Resigned (Spells Always level_text))
-    (Choice (code == ACCEPTED) (Nothing entry.Accepted)
+    Choice (code == opening_code) (Mapped opening_of (Spells Always throw_text))
+    (Choice (code == rolled_code) (Mapped entry.Rolled (Spells Always throw_text))
+    (Choice (code == doubled_code) (Nothing entry.Doubled)
+    (Choice (code == taken_code) (Nothing entry.Taken)
+    (Choice (code == dropped_code) (Nothing entry.Dropped)
+    (Choice (code == moved_code) (Mapped entry.Moved (Spells IsTurn turn_text))
+    (Choice (code == resigned_code) (Mapped entry.Resigned (Spells Always level_text))
+    (Choice (code == accepted_code) (Nothing entry.Accepted)
     (Nothing entry.Rejected))))))))
 
 entry_rest_law : (code : ℕ) → Law (entry_of code) (EntryRest code)
 unfolding entry_of
 entry_rest_law code =
-    choice_law (code == OPENING) (λ c. with opening_of (dice_at c)) _ (with_law opening_of dice_at dice_law)
-    (choice_law (code == ROLLED) (λ c. with entry.Rolled (dice_at c)) _ (with_law entry.Rolled dice_at dice_law)
-    (choice_law (code == DOUBLED) (λ c. Ok (entry.Doubled, c)) _ (done_law entry.Doubled)
-    (choice_law (code == TAKEN) (λ c. Ok (entry.Taken, c)) _ (done_law entry.Taken)
-    (choice_law (code == DROPPED) (λ c. Ok (entry.Dropped, c)) _ (done_law entry.Dropped)
-    (choice_law (code == MOVED) (λ c. with entry.Moved (turn_at c)) _ (with_law entry.Moved turn_at turn_law)
-    (choice_law (code == RESIGNED) (λ c. with entry.Resigned (level_at c)) _ (with_law entry.Resigned level_at level_law)
-    (choice_law (code == ACCEPTED) (λ c. Ok (entry.Accepted, c)) (λ c. Ok (entry.Rejected, c)) (done_law entry.Accepted) (done_law entry.Rejected))))))))
+    choice_law (code == opening_code) (λ c. with opening_of (dice_at c)) _ (with_law opening_of dice_at dice_law)
+    (choice_law (code == rolled_code) (λ c. with entry.Rolled (dice_at c)) _ (with_law entry.Rolled dice_at dice_law)
+    (choice_law (code == doubled_code) (λ c. Ok (entry.Doubled, c)) _ (done_law entry.Doubled)
+    (choice_law (code == taken_code) (λ c. Ok (entry.Taken, c)) _ (done_law entry.Taken)
+    (choice_law (code == dropped_code) (λ c. Ok (entry.Dropped, c)) _ (done_law entry.Dropped)
+    (choice_law (code == moved_code) (λ c. with entry.Moved (turn_at c)) _ (with_law entry.Moved turn_at turn_law)
+    (choice_law (code == resigned_code) (λ c. with entry.Resigned (level_at c)) _ (with_law entry.Resigned level_at level_law)
+    (choice_law (code == accepted_code) (λ c. Ok (entry.Accepted, c)) (λ c. Ok (entry.Rejected, c)) (done_law entry.Accepted) (done_law entry.Rejected))))))))
 
-entry_rest : (code : ℕ) (e : Entry) (rest : List ℕ) → OPENING ≤ code → code ≤ REJECTED → EntryRest code e rest → Spells IsEntry entry_text e (code ∷ rest)
+has_entry_rest : (code : ℕ) → HasText (EntryRest code)
+has_entry_rest code =
+    has_choice (code == opening_code) (has_mapped opening_of has_dice)
+    (has_choice (code == rolled_code) (has_mapped entry.Rolled has_dice)
+    (has_choice (code == doubled_code) (entry.Doubled, [], (refl, refl))
+    (has_choice (code == taken_code) (entry.Taken, [], (refl, refl))
+    (has_choice (code == dropped_code) (entry.Dropped, [], (refl, refl))
+    (has_choice (code == moved_code) (has_mapped entry.Moved has_turn)
+    (has_choice (code == resigned_code) (has_mapped entry.Resigned has_level)
+    (has_choice (code == accepted_code) (entry.Accepted, [], (refl, refl))
+    (entry.Rejected, [], (refl, refl)))))))))
+
+entry_rest : (code : ℕ) (e : Entry) (rest : List ℕ) → opening_code ≤ code → code ≤ rejected_code → EntryRest code e rest → Spells IsEntry entry_text e (code ∷ rest)
 entry_rest zero e rest low high h = absurd (omega arith)
 entry_rest (suc zero) e rest low high h = follows IsEntry entry_text 1 opening_of Always throw_text e rest (λ x v. tt) (λ x. refl) h
 entry_rest (suc (suc zero)) e rest low high h = follows IsEntry entry_text 2 entry.Rolled Always throw_text e rest (λ x v. tt) (λ x. refl) h
@@ -296,7 +338,7 @@ entry_rest (suc (suc (suc (suc (suc (suc (suc (suc (suc zero))))))))) e rest low
 entry_rest (suc (suc (suc (suc (suc (suc (suc (suc (suc (suc n)))))))))) e rest low high h = absurd (omega arith)
 
 abbrev EntryParts : Entry → List ℕ → Type 0
-EntryParts = Then (Byte OPENING REJECTED) EntryRest
+EntryParts = Then (Byte opening_code rejected_code) EntryRest
 
 entry_to : (e : Entry) (front : List ℕ) → EntryParts e front → Spells IsEntry entry_text e front
 entry_to e front h =
@@ -316,4 +358,7 @@ entry_from entry.Rejected front h = (9, 9 ∷ [], [], (omega arith, omega arith,
 
 pub entry_law : Law entry_at (Spells IsEntry entry_text)
 unfolding entry_at
-entry_law = other_text _ entry_to entry_from (then_law (u8_at OPENING REJECTED) entry_of (byte_law OPENING REJECTED) entry_rest_law)
+entry_law = other_text _ entry_to entry_from (then_law (u8_at opening_code rejected_code) entry_of (byte_law opening_code rejected_code) entry_rest_law (λ code first h. has_entry_rest code))
+
+pub has_entry : HasText (Spells IsEntry entry_text)
+has_entry = (entry.Doubled, entry_text entry.Doubled, (tt, refl))

@@ -1,6 +1,7 @@
 pub mod Many
 pub mod Laws
 pub mod Fields
+pub mod Lengths
 pub mod EntryLaws
 pub mod PacketLaws
 pub mod SavedLaws

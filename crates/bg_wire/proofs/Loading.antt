@@ -16,9 +16,10 @@ use Rattle.bg_wire.specs.declared.saves.Saved.{Saved}
 use Rattle.bg_wire.specs.Texts.{HasMore}
 use Rattle.bg_wire.specs.Reading.{Read, whole_of}
 use Rattle.bg_wire.specs.SavedText.{SavedParts, IsSavable, IsLayoutOf, IsSavedText, IsFirstIllegal, IsIllegalAt, HasEntries, Replays, Loads, parts_of}
+use Rattle.bg_wire.specs.Faults.{IsLoadFault}
 use Rattle.bg_wire.specs.SavedReading.{load_fault, saved_at, layout_of}
-use Rattle.bg_wire.proofs.Laws.{IsBytes, from_front, is_found, is_read, is_short, has_more, is_extra}
-use Rattle.bg_wire.proofs.SavedLaws.{saved_law, not_extra}
+use Rattle.bg_wire.proofs.Laws.{IsBytes, from_front, is_found, is_read, is_short, has_more, is_extra, says_why}
+use Rattle.bg_wire.proofs.SavedLaws.{saved_law, says_field, not_extra}
 
 -- ---- the first entry that does not follow
 
@@ -84,6 +85,10 @@ module _ (bytes : List ℕ) where
   laid_more : IsBytes bytes → layout_of bytes ≡ Err fault.Extra → HasMore IsLayoutOf bytes
   unfolding layout_of
   laid_more fits e = has_more saved_at saved_law load_fault fault.Extra bytes not_extra fits e
+
+  laid_why : IsBytes bytes → IfErr (layout_of bytes) (λ f. IsLoadFault f bytes)
+  unfolding layout_of
+  laid_why fits = says_why saved_at saved_law load_fault fault.Extra bytes (λ f. IsLoadFault f bytes) (says_field bytes fits) (λ fits more. more) fits
 
   laid_extra : HasMore IsLayoutOf bytes → layout_of bytes ≡ Err fault.Extra
   unfolding layout_of
@@ -183,6 +188,25 @@ module _ (bytes : List ℕ) (result : Result Saved LoadFault) (loads : Loads res
       go (Err fault.Magic) h ample = absurd h
       go (Err (fault.Field k)) h ample = absurd h
       go (Err fault.Extra) h ample = absurd h
+
+  pub why : IsBytes bytes → IfErr result (λ f. IsLoadFault f bytes)
+  why fits = go result (layout_of bytes) refl loads
+    where
+      of_layout : (g : LoadFault) → layout_of bytes ≡ Err g → IsLoadFault g bytes
+      of_layout g was = let h : IfErr (let l : Result SavedParts LoadFault = Err g in l) (λ f. IsLoadFault f bytes) = subst (λ (l : Result SavedParts LoadFault). IfErr l (λ f. IsLoadFault f bytes)) was (laid_why bytes fits) in h
+
+      of_entries : (p : SavedParts) → layout_of bytes ≡ Ok p → (f : LoadFault) → Loads (Err f) (Ok p) → IsLoadFault f bytes
+      of_entries p was (fault.Illegal n) h = (p, is_layout bytes p fits was, h)
+      of_entries p was fault.Memory h = (p, is_layout bytes p fits was, h)
+      of_entries p was fault.Short h = absurd h
+      of_entries p was fault.Magic h = absurd h
+      of_entries p was (fault.Field n) h = absurd h
+      of_entries p was fault.Extra h = absurd h
+
+      go : (r : Result Saved LoadFault) (l : Result SavedParts LoadFault) → layout_of bytes ≡ l → Loads r l → IfErr r (λ f. IsLoadFault f bytes)
+      go (Ok s) l was h = tt
+      go (Err f) (Ok p) was h = of_entries p was f h
+      go (Err f) (Err g) was h = let same : f ≡ g = cc in subst (λ (x : LoadFault). IsLoadFault x bytes) (sym same) (of_layout g was)
 
   pub memory : IsBytes bytes → result ≡ Err fault.Memory → HasEntries bytes
   memory fits e = go (layout_of bytes) refl (subst (λ (r : Result Saved LoadFault). Loads r (layout_of bytes)) e loads)

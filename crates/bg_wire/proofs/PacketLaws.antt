@@ -1,138 +1,170 @@
 -- The law of packets, and what follows from it.
-use Rattle.std.proofs.Common.{◌≡◌, ◌≢◌, ℕ, zero, suc, ◌+◌, ◌-◌, ◌^◌, ◌<◌, ◌≤◌, Bool, true, false, cond, List, [], ◌∷◌, ◌++◌, length, refl, ap, subst, ◌∙◌, arith, inl, inr}
+use Rattle.std.proofs.Common.{◌≡◌, ◌≢◌, ℕ, zero, suc, ◌+◌, ◌-◌, ◌^◌, ◌<◌, ◌≤◌, Bool, true, false, cond, List, [], ◌∷◌, ◌++◌, length, Err, refl, ap, subst, ◌∙◌, arith, inl, inr}
 use Rattle.std.specs.Prelude.{◌==◌}
 use Rattle.std.specs.Int.{w16, w64, to_be_bytes}
-use Rattle.std.proofs.lemmas.Bool.{cases_lt, lt-ltb, le-ltb}
+use Rattle.std.proofs.lemmas.Bool.{cases_lt, lt-ltb, le-ltb, eqb-true}
 use Rattle.bg_match.specs.Entry.{IsEntry, IsAction}
-use Rattle.bg_match.specs.declared.limits.TheConstants.{MOST_ENTRIES}
 use Rattle.bg_match.specs.declared.entries.Entry.{Entry}
+use Rattle.bg_wire.specs.Codes.{last_number, most_in_packet, packet_magic, packet_version, want_kind, claim_kind, entries_kind, magic_offset, version_offset, kind_offset, first_number, seat_of_x, seat_of_o, last_watcher}
 use Rattle.bg_wire.specs.declared.faults.WireFault.TheVariants as fault
 use Rattle.bg_wire.specs.declared.reader.ReadFault.{ReadFault}
 use Rattle.bg_wire.specs.declared.reader.ReadFault.TheVariants as read_fault
 use Rattle.bg_wire.specs.declared.packets.Packet.{Packet}
 use Rattle.bg_wire.specs.declared.packets.Packet.TheVariants as packet
-use Rattle.bg_wire.specs.declared.packets.TheConstants.{MOST_ENTRIES_IN_PACKET}
-use Rattle.bg_wire.specs.declared.packet_version_one.TheConstants.{MAGIC, VERSION, WANT, CLAIM, ENTRIES, MAGIC_AT, VERSION_AT, KIND_AT}
-use Rattle.bg_wire.specs.declared.codes.TheConstants.{FIRST_ENTRY}
-use Rattle.bg_wire.specs.declared.parties.TheConstants.{FIRST_PARTY, LAST_SEAT, LAST_PARTY}
 use Rattle.bg_wire.specs.EntryText.{action_text, entry_text}
-use Rattle.bg_wire.specs.PacketText.{header_text, list_text, IsText}
+use Rattle.bg_wire.specs.PacketText.{header_text, list_text, packet_text, IsText}
+use Rattle.bg_wire.specs.Texts.{IsWrongAt}
+use Rattle.bg_wire.specs.Faults.{IsWireFault}
 use Rattle.bg_wire.specs.Reading.{◌>>=◌, u8_at, u16_at, u64_at, with}
 use Rattle.bg_wire.specs.EntryReading.{action_at, entry_at}
 use Rattle.bg_wire.specs.PacketReading.{wire_fault, want_at, claim_at, most_from, list_at, entries_at, kind_at, body_at, packet_at}
-use Rattle.bg_wire.proofs.Laws.{Law, Then, Mapped, Choice, then_law, with_law, other_text, choice_law}
-use Rattle.bg_wire.proofs.Fields.{Byte, Number, Word, byte_law, u16_law, u64_law}
-use Rattle.bg_wire.proofs.EntryLaws.{Spells, IsCounted, counted_law, action_law, entry_law}
+use Rattle.bg_wire.proofs.Laws.{IsBytes, from_front, is_wrong_at, Law, Then, Mapped, Choice, HasText, has_then, has_mapped, has_choice, then_law, with_law, other_text, choice_law}
+use Rattle.bg_wire.proofs.Fields.{Byte, Number, Word, has_byte, has_number, has_word, byte_law, u16_law, u64_law}
+use Rattle.bg_wire.proofs.EntryLaws.{Spells, IsCounted, has_action, has_entry, counted_law, action_law, entry_law}
+
+-- ---- how many entries a packet tells
+
+fits_room : (start n : ℕ) → n ≤ most_in_packet → start + n ≤ last_number + 1 → n ≤ most_from start
+fits_room start n le fits = elim (cases_lt (last_number + 1 - start) most_in_packet) [
+  | inl few ↦ let is : most_from start ≡ last_number + 1 - start = rw (lt-ltb _ _ few) refl in omega arith
+  | inr many ↦ let is : most_from start ≡ most_in_packet = rw (le-ltb _ _ many) refl in omega arith
+]
+
+room_fits : (start n : ℕ) → start ≤ last_number → n ≤ most_from start → (n ≤ most_in_packet) × (start + n ≤ last_number + 1)
+room_fits start n fits le = elim (cases_lt (last_number + 1 - start) most_in_packet) [
+  | inl few ↦ let is : most_from start ≡ last_number + 1 - start = rw (lt-ltb _ _ few) refl in (omega arith, omega arith)
+  | inr many ↦ let is : most_from start ≡ most_in_packet = rw (le-ltb _ _ many) refl in (omega arith, omega arith)
+]
 
 -- ---- what follows the header
 
 abbrev WantParts : ℕ → Packet → List ℕ → Type 0
-WantParts id = Then (Byte FIRST_PARTY LAST_PARTY) (λ s. Mapped (packet.Want id s) (Number 0 MOST_ENTRIES))
+WantParts id = Then (Byte seat_of_x last_watcher) (λ s. Mapped (packet.Want id s) (Number 0 last_number))
+
+has_held : (id s : ℕ) → HasText (Mapped (packet.Want id s) (Number 0 last_number))
+has_held id s = has_mapped (packet.Want id s) (has_number 0 last_number (omega arith) (omega arith))
+
+has_want : (id : ℕ) → HasText (WantParts id)
+has_want id = has_then (has_byte seat_of_x last_watcher (omega arith)) (λ s first h. has_held id s)
 
 want_law : (id : ℕ) → Law (want_at id) (WantParts id)
 unfolding want_at
 want_law id =
-    then_law (u8_at FIRST_PARTY LAST_PARTY) (λ s c. with (packet.Want id s) (u16_at 0 MOST_ENTRIES c)) (byte_law FIRST_PARTY LAST_PARTY)
-    (λ s. with_law (packet.Want id s) (u16_at 0 MOST_ENTRIES) (u16_law 0 MOST_ENTRIES))
+    then_law (u8_at seat_of_x last_watcher) (λ s c. with (packet.Want id s) (u16_at 0 last_number c)) (byte_law seat_of_x last_watcher)
+    (λ s. with_law (packet.Want id s) (u16_at 0 last_number) (u16_law 0 last_number)) (λ s first h. has_held id s)
 
 abbrev ClaimParts : ℕ → Packet → List ℕ → Type 0
-ClaimParts id = Then (Byte FIRST_PARTY LAST_SEAT) (λ s. Then (Number FIRST_ENTRY MOST_ENTRIES) (λ n. Mapped (packet.Claim id s n) (Spells IsAction action_text)))
+ClaimParts id = Then (Byte seat_of_x seat_of_o) (λ s. Then (Number first_number last_number) (λ n. Mapped (packet.Claim id s n) (Spells IsAction action_text)))
+
+has_claimed : (id s n : ℕ) → HasText (Mapped (packet.Claim id s n) (Spells IsAction action_text))
+has_claimed id s n = has_mapped (packet.Claim id s n) has_action
+
+has_claim_of : (id s : ℕ) → HasText (Then (Number first_number last_number) (λ n. Mapped (packet.Claim id s n) (Spells IsAction action_text)))
+has_claim_of id s = has_then (has_number first_number last_number (omega arith) (omega arith)) (λ n first h. has_claimed id s n)
+
+has_claim : (id : ℕ) → HasText (ClaimParts id)
+has_claim id = has_then (has_byte seat_of_x seat_of_o (omega arith)) (λ s first h. has_claim_of id s)
 
 claim_law : (id : ℕ) → Law (claim_at id) (ClaimParts id)
 unfolding claim_at
 claim_law id =
-    then_law (u8_at FIRST_PARTY LAST_SEAT) (λ s c. u16_at FIRST_ENTRY MOST_ENTRIES c >>= λ n. with (packet.Claim id s n.0) (action_at n.1)) (byte_law FIRST_PARTY LAST_SEAT)
-    (λ s. then_law (u16_at FIRST_ENTRY MOST_ENTRIES) (λ n c. with (packet.Claim id s n) (action_at c)) (u16_law FIRST_ENTRY MOST_ENTRIES)
-    (λ n. with_law (packet.Claim id s n) action_at action_law))
+    then_law (u8_at seat_of_x seat_of_o) (λ s c. u16_at first_number last_number c >>= λ n. with (packet.Claim id s n.0) (action_at n.1)) (byte_law seat_of_x seat_of_o)
+    (λ s. then_law (u16_at first_number last_number) (λ n c. with (packet.Claim id s n) (action_at c)) (u16_law first_number last_number)
+    (λ n. with_law (packet.Claim id s n) action_at action_law) (λ n first h. has_claimed id s n))
+    (λ s first h. has_claim_of id s)
 
 abbrev ListText : ℕ → List Entry → List ℕ → Type 0
 ListText start = Spells (IsCounted 1 (most_from start) IsEntry) list_text
 
+has_list : (start : ℕ) → start ≤ last_number → HasText (ListText start)
+has_list start le =
+    let one : List Entry = has_entry.0 ∷ [] in
+    (one, list_text one, ((omega arith, fits_room start 1 (omega arith) (omega arith), (has_entry.2.0, tt)), refl))
+
 list_law : (start : ℕ) → Law (list_at start) (ListText start)
 unfolding list_at
-list_law start = counted_law 1 (most_from start) IsEntry entry_text entry_at entry_law
+list_law start = counted_law 1 (most_from start) IsEntry entry_text entry_at entry_law has_entry
 
 abbrev EntriesParts : ℕ → Packet → List ℕ → Type 0
-EntriesParts id = Then (Number FIRST_ENTRY MOST_ENTRIES) (λ start. Mapped (packet.Entries id start) (ListText start))
+EntriesParts id = Then (Number first_number last_number) (λ start. Mapped (packet.Entries id start) (ListText start))
+
+has_told : (id start : ℕ) → start ≤ last_number → HasText (Mapped (packet.Entries id start) (ListText start))
+has_told id start le = has_mapped (packet.Entries id start) (has_list start le)
+
+has_entries : (id : ℕ) → HasText (EntriesParts id)
+has_entries id = has_then (has_number first_number last_number (omega arith) (omega arith)) (λ start first h. has_told id start h.1)
 
 entries_law : (id : ℕ) → Law (entries_at id) (EntriesParts id)
 unfolding entries_at
 entries_law id =
-    then_law (u16_at FIRST_ENTRY MOST_ENTRIES) (λ start c. with (packet.Entries id start) (list_at start c)) (u16_law FIRST_ENTRY MOST_ENTRIES)
-    (λ start. with_law (packet.Entries id start) (list_at start) (list_law start))
+    then_law (u16_at first_number last_number) (λ start c. with (packet.Entries id start) (list_at start c)) (u16_law first_number last_number)
+    (λ start. with_law (packet.Entries id start) (list_at start) (list_law start)) (λ start first h. has_told id start h.1)
 
 abbrev Body : ℕ → ℕ → Packet → List ℕ → Type 0
-Body kind id = Choice (kind == WANT) (WantParts id) (Choice (kind == CLAIM) (ClaimParts id) (EntriesParts id))
+Body kind id = Choice (kind == want_kind) (WantParts id) (Choice (kind == claim_kind) (ClaimParts id) (EntriesParts id))
 
 body_law : (kind id : ℕ) → Law (body_at kind id) (Body kind id)
 unfolding body_at
-body_law kind id = choice_law (kind == WANT) (want_at id) _ (want_law id) (choice_law (kind == CLAIM) (claim_at id) (entries_at id) (claim_law id) (entries_law id))
+body_law kind id = choice_law (kind == want_kind) (want_at id) _ (want_law id) (choice_law (kind == claim_kind) (claim_at id) (entries_at id) (claim_law id) (entries_law id))
+
+has_body : (kind id : ℕ) → HasText (Body kind id)
+has_body kind id = has_choice (kind == want_kind) (has_want id) (has_choice (kind == claim_kind) (has_claim id) (has_entries id))
 
 -- ---- the header
 
 abbrev KindParts : ℕ → List ℕ → Type 0
-KindParts = Then (Number MAGIC MAGIC) (λ m. Then (Byte VERSION VERSION) (λ v. Byte WANT ENTRIES))
+KindParts = Then (Number packet_magic packet_magic) (λ m. Then (Byte packet_version packet_version) (λ v. Byte want_kind entries_kind))
 
 abbrev kind_text : ℕ → List ℕ
-kind_text kind = to_be_bytes w16 MAGIC ++ (VERSION ∷ kind ∷ [])
+kind_text kind = to_be_bytes w16 packet_magic ++ (packet_version ∷ kind ∷ [])
 
 abbrev KindText : ℕ → List ℕ → Type 0
-KindText kind front = (WANT ≤ kind) × (kind ≤ ENTRIES) × (front ≡ kind_text kind)
+KindText kind front = (want_kind ≤ kind) × (kind ≤ entries_kind) × (front ≡ kind_text kind)
 
 kind_to : (kind : ℕ) (front : List ℕ) → KindParts kind front → KindText kind front
 kind_to kind front h =
-    let m : h.0 ≡ MAGIC = omega (arith, h.3.0, h.3.1) in
-    let v : h.4.0 ≡ VERSION = omega (arith, h.4.3.0, h.4.3.1) in
-    let magic : h.1 ≡ to_be_bytes w16 MAGIC = h.3.3 ∙ ap (to_be_bytes w16) m in
-    let others : h.2 ≡ VERSION ∷ kind ∷ [] = h.4.5 ∙ ap (λ (r : List ℕ). r ++ h.4.2) h.4.3.2 ∙ ap (λ (n : ℕ). n ∷ h.4.2) v ∙ ap (λ (r : List ℕ). VERSION ∷ r) h.4.4.2 in
-    (h.4.4.0, h.4.4.1, h.5 ∙ ap (λ (r : List ℕ). r ++ h.2) magic ∙ ap (λ (r : List ℕ). to_be_bytes w16 MAGIC ++ r) others)
+    let m : h.0 ≡ packet_magic = omega (arith, h.3.0, h.3.1) in
+    let v : h.4.0 ≡ packet_version = omega (arith, h.4.3.0, h.4.3.1) in
+    let magic : h.1 ≡ to_be_bytes w16 packet_magic = h.3.3 ∙ ap (to_be_bytes w16) m in
+    let others : h.2 ≡ packet_version ∷ kind ∷ [] = h.4.5 ∙ ap (λ (r : List ℕ). r ++ h.4.2) h.4.3.2 ∙ ap (λ (n : ℕ). n ∷ h.4.2) v ∙ ap (λ (r : List ℕ). packet_version ∷ r) h.4.4.2 in
+    (h.4.4.0, h.4.4.1, h.5 ∙ ap (λ (r : List ℕ). r ++ h.2) magic ∙ ap (λ (r : List ℕ). to_be_bytes w16 packet_magic ++ r) others)
 
 kind_from : (kind : ℕ) (front : List ℕ) → KindText kind front → KindParts kind front
 kind_from kind front h = (
-  MAGIC,
-  to_be_bytes w16 MAGIC,
-  VERSION ∷ kind ∷ [],
+  packet_magic,
+  to_be_bytes w16 packet_magic,
+  packet_version ∷ kind ∷ [],
   (omega arith, omega arith, omega arith, refl),
-  (VERSION, VERSION ∷ [], kind ∷ [], (omega arith, omega arith, refl), (h.0, h.1, refl), refl),
+  (packet_version, packet_version ∷ [], kind ∷ [], (omega arith, omega arith, refl), (h.0, h.1, refl), refl),
   h.2,
 )
+
+has_kind : HasText (Byte want_kind entries_kind)
+has_kind = has_byte want_kind entries_kind (omega arith)
 
 kind_law : Law kind_at KindText
 unfolding kind_at
 kind_law =
     other_text _ kind_to kind_from
-    (then_law (u16_at MAGIC MAGIC) (λ m c. u8_at VERSION VERSION c >>= λ v. u8_at WANT ENTRIES v.1) (u16_law MAGIC MAGIC)
-    (λ m. then_law (u8_at VERSION VERSION) (λ v. u8_at WANT ENTRIES) (byte_law VERSION VERSION) (λ v. byte_law WANT ENTRIES)))
+    (then_law (u16_at packet_magic packet_magic) (λ m c. u8_at packet_version packet_version c >>= λ v. u8_at want_kind entries_kind v.1) (u16_law packet_magic packet_magic)
+    (λ m. then_law (u8_at packet_version packet_version) (λ v. u8_at want_kind entries_kind) (byte_law packet_version packet_version) (λ v. byte_law want_kind entries_kind) (λ v first h. has_kind))
+    (λ m first h. has_then (has_byte packet_version packet_version (omega arith)) (λ v first h. has_kind)))
 
 abbrev PacketParts : Packet → List ℕ → Type 0
 PacketParts = Then KindText (λ kind. Then Word (Body kind))
 
--- ---- how many entries a packet tells
-
-fits_room : (start n : ℕ) → n ≤ MOST_ENTRIES_IN_PACKET → start + n ≤ MOST_ENTRIES + 1 → n ≤ most_from start
-fits_room start n le fits = elim (cases_lt (MOST_ENTRIES + 1 - start) MOST_ENTRIES_IN_PACKET) [
-  | inl few ↦ let is : most_from start ≡ MOST_ENTRIES + 1 - start = rw (lt-ltb _ _ few) refl in omega arith
-  | inr many ↦ let is : most_from start ≡ MOST_ENTRIES_IN_PACKET = rw (le-ltb _ _ many) refl in omega arith
-]
-
-room_fits : (start n : ℕ) → start ≤ MOST_ENTRIES → n ≤ most_from start → (n ≤ MOST_ENTRIES_IN_PACKET) × (start + n ≤ MOST_ENTRIES + 1)
-room_fits start n fits le = elim (cases_lt (MOST_ENTRIES + 1 - start) MOST_ENTRIES_IN_PACKET) [
-  | inl few ↦ let is : most_from start ≡ MOST_ENTRIES + 1 - start = rw (lt-ltb _ _ few) refl in (omega arith, omega arith)
-  | inr many ↦ let is : most_from start ≡ MOST_ENTRIES_IN_PACKET = rw (le-ltb _ _ many) refl in (omega arith, omega arith)
-]
-
 -- ---- the parts are the text
 
 module _ (id : ℕ) (p : Packet) (rest front : List ℕ) (id_fits : id < 2 ^ 64) where
-  want_text : front ≡ header_text WANT id ++ rest → WantParts id p rest → IsText p front
+  want_text : front ≡ header_text want_kind id ++ rest → WantParts id p rest → IsText p front
   want_text whole h =
       let text : rest ≡ h.0 ∷ to_be_bytes w16 h.4.0 = h.5 ∙ ap (λ (r : List ℕ). r ++ h.2) h.3.2 ∙ ap (λ (r : List ℕ). h.0 ∷ r) h.4.1.3 in
       subst (λ (q : Packet). IsText q front) h.4.2 (record {
         in_range = record { id_fits = id_fits; first_party = h.3.0; last_party = h.3.1; held_at_most = h.4.1.1 };
-        spelled = whole ∙ ap (λ (r : List ℕ). header_text WANT id ++ r) text;
+        spelled = whole ∙ ap (λ (r : List ℕ). header_text want_kind id ++ r) text;
       })
 
-  claim_text : front ≡ header_text CLAIM id ++ rest → ClaimParts id p rest → IsText p front
+  claim_text : front ≡ header_text claim_kind id ++ rest → ClaimParts id p rest → IsText p front
   claim_text whole h =
       let n = h.4 in
       let last : n.2 ≡ action_text n.4.0 = n.4.1.1 in
@@ -140,10 +172,10 @@ module _ (id : ℕ) (p : Packet) (rest front : List ℕ) (id_fits : id < 2 ^ 64)
       h.5 ∙ ap (λ (r : List ℕ). r ++ h.2) h.3.2 ∙ ap (λ (r : List ℕ). h.0 ∷ r) (n.5 ∙ ap (λ (r : List ℕ). r ++ n.2) n.3.3 ∙ ap (λ (r : List ℕ). to_be_bytes w16 n.0 ++ r) last) in
       subst (λ (q : Packet). IsText q front) n.4.2 (record {
         in_range = record { id_fits = id_fits; first_seat = h.3.0; last_seat = h.3.1; first_entry = n.3.0; last_entry = n.3.1; action_in_range = n.4.1.0 };
-        spelled = whole ∙ ap (λ (r : List ℕ). header_text CLAIM id ++ r) text;
+        spelled = whole ∙ ap (λ (r : List ℕ). header_text claim_kind id ++ r) text;
       })
 
-  entries_text : front ≡ header_text ENTRIES id ++ rest → EntriesParts id p rest → IsText p front
+  entries_text : front ≡ header_text entries_kind id ++ rest → EntriesParts id p rest → IsText p front
   entries_text whole h =
       let list = h.4.0 in
       let counted = h.4.1.0 in
@@ -151,10 +183,10 @@ module _ (id : ℕ) (p : Packet) (rest front : List ℕ) (id_fits : id < 2 ^ 64)
       let fits = room_fits h.0 (length list) h.3.1 counted.1 in
       subst (λ (q : Packet). IsText q front) h.4.2 (record {
         in_range = record { id_fits = id_fits; first_entry = h.3.0; some = counted.0; few = fits.0; last_entry = fits.1; in_range = counted.2 };
-        spelled = whole ∙ ap (λ (r : List ℕ). header_text ENTRIES id ++ r) text;
+        spelled = whole ∙ ap (λ (r : List ℕ). header_text entries_kind id ++ r) text;
       })
 
-body_text : (kind id : ℕ) (p : Packet) (rest front : List ℕ) → id < 2 ^ 64 → WANT ≤ kind → kind ≤ ENTRIES → front ≡ header_text kind id ++ rest → Body kind id p rest → IsText p front
+body_text : (kind id : ℕ) (p : Packet) (rest front : List ℕ) → id < 2 ^ 64 → want_kind ≤ kind → kind ≤ entries_kind → front ≡ header_text kind id ++ rest → Body kind id p rest → IsText p front
 body_text zero id p rest front fits low high whole h = absurd (omega arith)
 body_text (suc zero) id p rest front fits low high whole h = want_text id p rest front fits whole h
 body_text (suc (suc zero)) id p rest front fits low high whole h = claim_text id p rest front fits whole h
@@ -168,18 +200,18 @@ parts_text p front h =
     body_text h.0 w.0 p w.2 front w.3.0 h.3.0 h.3.1 whole w.4
 
 -- the parts of a header, before a body
-header_parts : (kind id : ℕ) (p : Packet) (rest front : List ℕ) → WANT ≤ kind → kind ≤ ENTRIES → id < 2 ^ 64 → front ≡ header_text kind id ++ rest → Body kind id p rest → PacketParts p front
+header_parts : (kind id : ℕ) (p : Packet) (rest front : List ℕ) → want_kind ≤ kind → kind ≤ entries_kind → id < 2 ^ 64 → front ≡ header_text kind id ++ rest → Body kind id p rest → PacketParts p front
 header_parts kind id p rest front low high fits whole body =
     (kind, kind_text kind, to_be_bytes w64 id ++ rest, (low, high, refl), (id, to_be_bytes w64 id, rest, (fits, refl), body, refl), whole)
 
 text_parts : (p : Packet) (front : List ℕ) → IsText p front → PacketParts p front
 text_parts (packet.Want id sender held) front h =
     let r = h.in_range in
-    header_parts WANT id _ (sender ∷ to_be_bytes w16 held) front (omega arith) (omega arith) r.id_fits h.spelled
+    header_parts want_kind id _ (sender ∷ to_be_bytes w16 held) front (omega arith) (omega arith) r.id_fits h.spelled
     (sender, sender ∷ [], to_be_bytes w16 held, (r.first_party, r.last_party, refl), (held, (omega arith, r.held_at_most, omega (arith, r.held_at_most), refl), refl), refl)
 text_parts (packet.Claim id sender number action) front h =
     let r = h.in_range in
-    header_parts CLAIM id _ (sender ∷ (to_be_bytes w16 number ++ action_text action)) front (omega arith) (omega arith) r.id_fits h.spelled (
+    header_parts claim_kind id _ (sender ∷ (to_be_bytes w16 number ++ action_text action)) front (omega arith) (omega arith) r.id_fits h.spelled (
       sender,
       sender ∷ [],
       to_be_bytes w16 number ++ action_text action,
@@ -189,8 +221,8 @@ text_parts (packet.Claim id sender number action) front h =
     )
 text_parts (packet.Entries id start list) front h =
     let r = h.in_range in
-    let last : start ≤ MOST_ENTRIES = omega (arith, r.last_entry, r.some) in
-    header_parts ENTRIES id _ (to_be_bytes w16 start ++ list_text list) front (omega arith) (omega arith) r.id_fits h.spelled (
+    let last : start ≤ last_number = omega (arith, r.last_entry, r.some) in
+    header_parts entries_kind id _ (to_be_bytes w16 start ++ list_text list) front (omega arith) (omega arith) r.id_fits h.spelled (
       start,
       to_be_bytes w16 start,
       list_text list,
@@ -201,14 +233,34 @@ text_parts (packet.Entries id start list) front h =
 
 pub packet_law : Law packet_at IsText
 unfolding packet_at
-packet_law = other_text _ parts_text text_parts (then_law kind_at (λ kind c. u64_at c >>= λ id. body_at kind id.0 id.1) kind_law (λ kind. then_law u64_at (body_at kind) u64_law (body_law kind)))
+packet_law = other_text _ parts_text text_parts (then_law kind_at (λ kind c. u64_at c >>= λ id. body_at kind id.0 id.1) kind_law (λ kind. then_law u64_at (body_at kind) u64_law (body_law kind) (λ id first h. has_body kind id))
+    (λ kind first h. has_then has_word (λ id first h. has_body kind id)))
 
 pub not_extra : (f : ReadFault) → wire_fault f ≢ fault.Extra
 not_extra read_fault.Short e = absurd cc
-not_extra (read_fault.Field at) e = named (at == MAGIC_AT) (at == VERSION_AT) (at == KIND_AT) e
+not_extra (read_fault.Field at) e = named (at == magic_offset) (at == version_offset) (at == kind_offset) e
   where
     named : (a b c : Bool) → cond a fault.Magic (cond b fault.Version (cond c fault.Kind (fault.Field at))) ≢ fault.Extra
     named true b c e = absurd cc
     named false true c e = absurd cc
     named false false true e = absurd cc
     named false false false e = absurd cc
+
+has_packet : HasText IsText
+has_packet =
+    let p = packet.Want 0 seat_of_x 0 in
+    (p, packet_text p, record { in_range = record { id_fits = omega arith; first_party = omega arith; last_party = omega arith; held_at_most = omega arith }; spelled = refl })
+
+-- what the fault of a field says
+pub says_field : (bytes : List ℕ) → IsBytes bytes → (f : ReadFault) → packet_at (from_front bytes) ≡ Err f → IsWireFault (wire_fault f) bytes
+says_field bytes fits read_fault.Short e = packet_law.cuts (from_front bytes) has_packet fits e
+says_field bytes fits (read_fault.Field at) e = named (at == magic_offset) refl (at == version_offset) refl (at == kind_offset) refl
+  where
+    wrong : IsWrongAt IsText bytes at
+    wrong = is_wrong_at packet_at packet_law bytes at has_packet fits e
+
+    named : (a : Bool) → (at == magic_offset) ≡ a → (b : Bool) → (at == version_offset) ≡ b → (c : Bool) → (at == kind_offset) ≡ c → IsWireFault (cond a fault.Magic (cond b fault.Version (cond c fault.Kind (fault.Field at)))) bytes
+    named true is b _ c _ = subst (IsWrongAt IsText bytes) (eqb-true _ _ is) wrong
+    named false _ true is c _ = subst (IsWrongAt IsText bytes) (eqb-true _ _ is) wrong
+    named false _ false _ true is = subst (IsWrongAt IsText bytes) (eqb-true _ _ is) wrong
+    named false _ false _ false _ = wrong

@@ -2,29 +2,27 @@
 use Rattle.std.proofs.Common.{◌≡◌, ◌≢◌, ℕ, zero, suc, ◌^◌, ◌<◌, ◌≤◌, Bool, true, false, cond, List, [], ◌∷◌, ◌++◌, length, Option, Some, None, Ok, Err, refl, sym, ap, subst, ◌∙◌, arith}
 use Rattle.std.specs.Prelude.{◌==◌}
 use Rattle.std.specs.Int.{w16, w32, w64, to_be_bytes}
+use Rattle.std.proofs.lemmas.Bool.{eqb-true}
 use Rattle.std.proofs.lemmas.Bool.Decides.{nat_tests}
 use Rattle.bg_match.specs.Entry.{IsEntry, IsAction}
-use Rattle.bg_match.specs.declared.limits.TheConstants.{MOST_ENTRIES, SHORTEST_MATCH, LONGEST_MATCH}
 use Rattle.bg_match.specs.declared.actions.Action.{Action}
 use Rattle.bg_match.specs.declared.entries.Entry.{Entry}
-use Rattle.bg_wire.specs.declared.codes.TheConstants.{FIRST_ENTRY}
-use Rattle.bg_wire.specs.declared.parties.TheConstants.{FIRST_PARTY, REFEREE, LAST_SEAT}
+use Rattle.bg_wire.specs.Codes.{last_number, shortest_match, longest_match, first_number, seat_of_x, referee, seat_of_o, saved_magic, magic_offset, no_claim_flag, claim_flag, least_save, greatest_save}
 use Rattle.bg_wire.specs.declared.faults.LoadFault.TheVariants as fault
 use Rattle.bg_wire.specs.declared.reader.ReadFault.{ReadFault}
 use Rattle.bg_wire.specs.declared.reader.ReadFault.TheVariants as read_fault
 use Rattle.bg_wire.specs.declared.saved_version_one.Front.{Front}
-use Rattle.bg_wire.specs.declared.saved_version_one.TheConstants.{MAGIC, MAGIC_AT, NO_CLAIM, KEPT_CLAIM}
-use Rattle.bg_wire.specs.declared.saves.TheConstants.{FIRST_SAVE, LAST_SAVE}
 use Rattle.bg_wire.specs.EntryText.{action_text, entry_text, entries_text}
-use Rattle.bg_wire.specs.SavedText.{SavedParts, claim_text, front_text, front_of, saved_text, IsClaimOf, IsLayoutOf, IsSavedText}
-use Rattle.bg_wire.specs.Texts.{ArePrefixFree}
+use Rattle.bg_wire.specs.SavedText.{SavedParts, claim_text, front_text, front_of, saved_text, IsClaimOf, IsInLayout, IsLayoutOf, IsSavedText}
+use Rattle.bg_wire.specs.Faults.{IsLoadFault}
+use Rattle.bg_wire.specs.Texts.{ArePrefixFree, IsWrongAt}
 use Rattle.bg_wire.specs.Reading.{◌>>=◌, Cursor, Read, u8_at, u16_at, u32_at, u64_at, many_at, passed_of, with}
 use Rattle.bg_wire.specs.EntryReading.{action_at, entry_at}
 use Rattle.bg_wire.specs.SavedReading.{load_fault, most_flag, kept_claim_at, flagged_at, claim_at, front_at, parts_with, saved_at, layout_of, IsLaidOut}
-use Rattle.bg_wire.proofs.Laws.{Law, Then, Nothing, Mapped, Each, Choice, then_law, done_law, with_law, other_text, choice_law, many_law, from_front, prefix_free}
+use Rattle.bg_wire.proofs.Laws.{IsBytes, is_wrong_at, Law, Then, Nothing, Mapped, Each, Choice, HasText, has_then, has_mapped, has_choice, has_each, then_law, done_law, with_law, other_text, choice_law, many_law, from_front, prefix_free}
 use Rattle.bg_wire.proofs.Many.{passed_list, passed_not}
-use Rattle.bg_wire.proofs.Fields.{Byte, Number, Long, Word, byte_law, u16_law, u32_law, u64_law}
-use Rattle.bg_wire.proofs.EntryLaws.{Spells, each_to, each_from, action_law, entry_law}
+use Rattle.bg_wire.proofs.Fields.{Byte, Number, Long, Word, has_byte, has_number, has_long, has_word, byte_law, u16_law, u32_law, u64_law}
+use Rattle.bg_wire.proofs.EntryLaws.{Spells, each_to, each_from, action_law, entry_law, has_action, has_entry}
 
 -- ---- the claim
 
@@ -35,36 +33,42 @@ abbrev claim_with : ℕ → Action → Claim
 claim_with n a = Some (n, a)
 
 abbrev KeptParts : Claim → List ℕ → Type 0
-KeptParts = Then (Number FIRST_ENTRY MOST_ENTRIES) (λ n. Mapped (claim_with n) (Spells IsAction action_text))
+KeptParts = Then (Number first_number last_number) (λ n. Mapped (claim_with n) (Spells IsAction action_text))
 
 kept_law : Law kept_claim_at KeptParts
 unfolding kept_claim_at
 kept_law =
-    then_law (u16_at FIRST_ENTRY MOST_ENTRIES) (λ n c. with (claim_with n) (action_at c)) (u16_law FIRST_ENTRY MOST_ENTRIES)
-    (λ n. with_law (claim_with n) action_at action_law)
+    then_law (u16_at first_number last_number) (λ n c. with (claim_with n) (action_at c)) (u16_law first_number last_number)
+    (λ n. with_law (claim_with n) action_at action_law) (λ n first h. has_mapped (claim_with n) has_action)
+
+has_kept : HasText KeptParts
+has_kept = has_then (has_number first_number last_number (omega arith) (omega arith)) (λ n first h. has_mapped (claim_with n) has_action)
 
 abbrev Flagged : ℕ → Claim → List ℕ → Type 0
-Flagged flag = Choice (flag == NO_CLAIM) (Nothing None) KeptParts
+Flagged flag = Choice (flag == no_claim_flag) (Nothing None) KeptParts
 
 flagged_law : (flag : ℕ) → Law (flagged_at flag) (Flagged flag)
-flagged_law flag = choice_law (flag == NO_CLAIM) (λ c. Ok (None, c)) kept_claim_at (done_law None) kept_law
+flagged_law flag = choice_law (flag == no_claim_flag) (λ c. Ok (None, c)) kept_claim_at (done_law None) kept_law
+
+has_flagged : (flag : ℕ) → HasText (Flagged flag)
+has_flagged flag = has_choice (flag == no_claim_flag) (None, [], (refl, refl)) has_kept
 
 abbrev ClaimParts : ℕ → Claim → List ℕ → Type 0
-ClaimParts party = Then (Byte NO_CLAIM (most_flag party)) Flagged
+ClaimParts party = Then (Byte no_claim_flag (most_flag party)) Flagged
 
-seat_flag : (party : ℕ) → most_flag (suc party) ≡ KEPT_CLAIM
-seat_flag party = let is : (suc party == REFEREE) ≡ false = grind (arith, nat_tests) in rw is refl
+seat_flag : (party : ℕ) → most_flag (suc party) ≡ claim_flag
+seat_flag party = let is : (suc party == referee) ≡ false = grind (arith, nat_tests) in rw is refl
 
 -- the flag of a claim is only of a seat
-flag_of_seat : (party : ℕ) → KEPT_CLAIM ≤ most_flag party → FIRST_PARTY ≤ party
+flag_of_seat : (party : ℕ) → claim_flag ≤ most_flag party → seat_of_x ≤ party
 flag_of_seat zero le = absurd (omega arith)
 flag_of_seat (suc party) le = omega arith
 
-seat_may : (party : ℕ) → FIRST_PARTY ≤ party → KEPT_CLAIM ≤ most_flag party
+seat_may : (party : ℕ) → seat_of_x ≤ party → claim_flag ≤ most_flag party
 seat_may zero le = absurd (omega arith)
 seat_may (suc party) le = let is = seat_flag party in omega (arith, is)
 
-most_flag_is : (party : ℕ) → most_flag party ≤ KEPT_CLAIM
+most_flag_is : (party : ℕ) → most_flag party ≤ claim_flag
 most_flag_is zero = omega arith
 most_flag_is (suc party) = let is = seat_flag party in omega (arith, is)
 
@@ -74,26 +78,29 @@ claim_to party k front h = go h.0 refl
     go : (flag : ℕ) → h.0 ≡ flag → Spells (IsClaimOf party) claim_text k front
     go zero is =
         let rest = subst (λ (n : ℕ). Flagged n k h.2) is h.4 in
-        let text : front ≡ NO_CLAIM ∷ [] = h.5 ∙ ap (λ (r : List ℕ). r ++ h.2) h.3.2 ∙ ap (λ (n : ℕ). n ∷ h.2) is ∙ ap (λ (r : List ℕ). NO_CLAIM ∷ r) rest.1 in
+        let text : front ≡ no_claim_flag ∷ [] = h.5 ∙ ap (λ (r : List ℕ). r ++ h.2) h.3.2 ∙ ap (λ (n : ℕ). n ∷ h.2) is ∙ ap (λ (r : List ℕ). no_claim_flag ∷ r) rest.1 in
         subst (λ (x : Claim). Spells (IsClaimOf party) claim_text x front) rest.0 (tt, text)
     go (suc zero) is =
         let rest = subst (λ (n : ℕ). Flagged n k h.2) is h.4 in
         let seat = flag_of_seat party (omega (arith, is, h.3.1)) in
         let last : h.2 ≡ to_be_bytes w16 rest.0 ++ action_text rest.4.0 = rest.5 ∙ ap (λ (r : List ℕ). r ++ rest.2) rest.3.3 ∙ ap (λ (r : List ℕ). to_be_bytes w16 rest.0 ++ r) rest.4.1.1 in
-        let text : front ≡ claim_text (claim_with rest.0 rest.4.0) = h.5 ∙ ap (λ (r : List ℕ). r ++ h.2) h.3.2 ∙ ap (λ (n : ℕ). n ∷ h.2) is ∙ ap (λ (r : List ℕ). KEPT_CLAIM ∷ r) last in
+        let text : front ≡ claim_text (claim_with rest.0 rest.4.0) = h.5 ∙ ap (λ (r : List ℕ). r ++ h.2) h.3.2 ∙ ap (λ (n : ℕ). n ∷ h.2) is ∙ ap (λ (r : List ℕ). claim_flag ∷ r) last in
         subst (λ (x : Claim). Spells (IsClaimOf party) claim_text x front) rest.4.2 ((seat, (rest.3.0, rest.3.1, rest.4.1.0)), text)
     go (suc (suc n)) is = absurd (omega (arith, is, h.3.1, most_flag_is party))
 
 claim_from : (party : ℕ) (k : Claim) (front : List ℕ) → Spells (IsClaimOf party) claim_text k front → ClaimParts party k front
-claim_from party None front h = (NO_CLAIM, NO_CLAIM ∷ [], [], (omega arith, omega arith, refl), (refl, refl), h.1)
+claim_from party None front h = (no_claim_flag, no_claim_flag ∷ [], [], (omega arith, omega arith, refl), (refl, refl), h.1)
 claim_from party (Some x) front h =
     let kept = h.0.1 in
     let last = to_be_bytes w16 x.0 ++ action_text x.1 in
-    (KEPT_CLAIM, KEPT_CLAIM ∷ [], last, (omega arith, seat_may party h.0.0, refl), (x.0, to_be_bytes w16 x.0, action_text x.1, (kept.0, kept.1, omega (arith, kept.1), refl), (x.1, (kept.2, refl), refl), refl), h.1)
+    (claim_flag, claim_flag ∷ [], last, (omega arith, seat_may party h.0.0, refl), (x.0, to_be_bytes w16 x.0, action_text x.1, (kept.0, kept.1, omega (arith, kept.1), refl), (x.1, (kept.2, refl), refl), refl), h.1)
 
 claim_law : (party : ℕ) → Law (claim_at party) (Spells (IsClaimOf party) claim_text)
 unfolding claim_at
-claim_law party = other_text _ (claim_to party) (claim_from party) (then_law (u8_at NO_CLAIM (most_flag party)) flagged_at (byte_law NO_CLAIM (most_flag party)) flagged_law)
+claim_law party = other_text _ (claim_to party) (claim_from party) (then_law (u8_at no_claim_flag (most_flag party)) flagged_at (byte_law no_claim_flag (most_flag party)) flagged_law (λ flag first h. has_flagged flag))
+
+has_claim : (party : ℕ) → HasText (Spells (IsClaimOf party) claim_text)
+has_claim party = (None, claim_text None, (tt, refl))
 
 -- ---- what stands before the entries
 
@@ -103,61 +110,77 @@ front_with party id match_length save claim count =
 
 module _ (party : ℕ) where
   abbrev from_claim : ℕ → ℕ → ℕ → Cursor → Read Front
-  from_claim id n save c = claim_at party c >>= λ k. with (front_with party id n save k.0) (u16_at 0 MOST_ENTRIES k.1)
+  from_claim id n save c = claim_at party c >>= λ k. with (front_with party id n save k.0) (u16_at 0 last_number k.1)
 
   abbrev from_save : ℕ → ℕ → Cursor → Read Front
-  from_save id n c = u32_at FIRST_SAVE LAST_SAVE c >>= λ save. from_claim id n save.0 save.1
+  from_save id n c = u32_at least_save greatest_save c >>= λ save. from_claim id n save.0 save.1
 
   abbrev from_length : ℕ → Cursor → Read Front
-  from_length id c = u8_at SHORTEST_MATCH LONGEST_MATCH c >>= λ n. from_save id n.0 n.1
+  from_length id c = u8_at shortest_match longest_match c >>= λ n. from_save id n.0 n.1
 
   abbrev from_id : Cursor → Read Front
   from_id c = u64_at c >>= λ id. from_length id.0 id.1
 
   abbrev ClaimOn : ℕ → ℕ → ℕ → Front → List ℕ → Type 0
-  ClaimOn id n save = Then (Spells (IsClaimOf party) claim_text) (λ k. Mapped (front_with party id n save k) (Number 0 MOST_ENTRIES))
+  ClaimOn id n save = Then (Spells (IsClaimOf party) claim_text) (λ k. Mapped (front_with party id n save k) (Number 0 last_number))
 
   abbrev SaveOn : ℕ → ℕ → Front → List ℕ → Type 0
-  SaveOn id n = Then (Long FIRST_SAVE LAST_SAVE) (ClaimOn id n)
+  SaveOn id n = Then (Long least_save greatest_save) (ClaimOn id n)
 
   abbrev LengthOn : ℕ → Front → List ℕ → Type 0
-  LengthOn id = Then (Byte SHORTEST_MATCH LONGEST_MATCH) (SaveOn id)
+  LengthOn id = Then (Byte shortest_match longest_match) (SaveOn id)
 
   abbrev IdOn : Front → List ℕ → Type 0
   IdOn = Then Word LengthOn
 
+  has_count : (id n save : ℕ) (k : Claim) → HasText (Mapped (front_with party id n save k) (Number 0 last_number))
+  has_count id n save k = has_mapped (front_with party id n save k) (has_number 0 last_number (omega arith) (omega arith))
+
+  has_claim_on : (id n save : ℕ) → HasText (ClaimOn id n save)
+  has_claim_on id n save = has_then (has_claim party) (λ k first h. has_count id n save k)
+
+  has_save_on : (id n : ℕ) → HasText (SaveOn id n)
+  has_save_on id n = has_then (has_long least_save greatest_save (omega arith) (omega arith)) (λ save first h. has_claim_on id n save)
+
+  has_length_on : (id : ℕ) → HasText (LengthOn id)
+  has_length_on id = has_then (has_byte shortest_match longest_match (omega arith)) (λ n first h. has_save_on id n)
+
+  has_id_on : HasText IdOn
+  has_id_on = has_then has_word (λ id first h. has_length_on id)
+
   claim_on : (id n save : ℕ) → Law (from_claim id n save) (ClaimOn id n save)
   claim_on id n save =
-      then_law (claim_at party) (λ k c. with (front_with party id n save k) (u16_at 0 MOST_ENTRIES c)) (claim_law party)
-      (λ k. with_law (front_with party id n save k) (u16_at 0 MOST_ENTRIES) (u16_law 0 MOST_ENTRIES))
+      then_law (claim_at party) (λ k c. with (front_with party id n save k) (u16_at 0 last_number c)) (claim_law party)
+      (λ k. with_law (front_with party id n save k) (u16_at 0 last_number) (u16_law 0 last_number)) (λ k first h. has_count id n save k)
 
   save_on : (id n : ℕ) → Law (from_save id n) (SaveOn id n)
-  save_on id n = then_law (u32_at FIRST_SAVE LAST_SAVE) (from_claim id n) (u32_law FIRST_SAVE LAST_SAVE) (claim_on id n)
+  save_on id n = then_law (u32_at least_save greatest_save) (from_claim id n) (u32_law least_save greatest_save) (claim_on id n) (λ save first h. has_claim_on id n save)
 
   length_on : (id : ℕ) → Law (from_length id) (LengthOn id)
-  length_on id = then_law (u8_at SHORTEST_MATCH LONGEST_MATCH) (from_save id) (byte_law SHORTEST_MATCH LONGEST_MATCH) (save_on id)
+  length_on id = then_law (u8_at shortest_match longest_match) (from_save id) (byte_law shortest_match longest_match) (save_on id) (λ n first h. has_save_on id n)
 
   id_on : Law from_id IdOn
-  id_on = then_law u64_at from_length u64_law length_on
+  id_on = then_law u64_at from_length u64_law length_on (λ id first h. has_length_on id)
 
 abbrev FrontParts : Front → List ℕ → Type 0
-FrontParts = Then (Long MAGIC MAGIC) (λ m. Then (Byte REFEREE LAST_SEAT) IdOn)
+FrontParts = Then (Long saved_magic saved_magic) (λ m. Then (Byte referee seat_of_o) IdOn)
 
 front_parts_law : Law front_at FrontParts
 unfolding front_at
 front_parts_law =
-    then_law (u32_at MAGIC MAGIC) (λ m c. u8_at REFEREE LAST_SEAT c >>= λ party. from_id party.0 party.1) (u32_law MAGIC MAGIC)
-    (λ m. then_law (u8_at REFEREE LAST_SEAT) from_id (byte_law REFEREE LAST_SEAT) id_on)
+    then_law (u32_at saved_magic saved_magic) (λ m c. u8_at referee seat_of_o c >>= λ party. from_id party.0 party.1) (u32_law saved_magic saved_magic)
+    (λ m. then_law (u8_at referee seat_of_o) from_id (byte_law referee seat_of_o) id_on (λ party first h. has_id_on party))
+    (λ m first h. has_then (has_byte referee seat_of_o (omega arith)) (λ party first h. has_id_on party))
 
 record IsFront (f : Front) : Type 0 where
-  party : f.party ≤ LAST_SEAT
+  party : f.party ≤ seat_of_o
   id_fits : f.id < 2 ^ 64
-  shortest : SHORTEST_MATCH ≤ f.match_length
-  longest : f.match_length ≤ LONGEST_MATCH
-  first_save : FIRST_SAVE ≤ f.save
-  last_save : f.save ≤ LAST_SAVE
+  shortest : shortest_match ≤ f.match_length
+  longest : f.match_length ≤ longest_match
+  first_save : least_save ≤ f.save
+  last_save : f.save ≤ greatest_save
   claim : IsClaimOf f.party f.claim
-  few : f.count ≤ MOST_ENTRIES
+  few : f.count ≤ last_number
 
 -- two texts in a row, each said in another way
 join : {front first second a b : List ℕ} → front ≡ first ++ second → first ≡ a → second ≡ b → front ≡ a ++ b
@@ -166,7 +189,7 @@ join {front} {first} {second} {a} {b} e p q = e ∙ ap (λ (r : List ℕ). r ++ 
 front_to : (f : Front) (front : List ℕ) → FrontParts f front → Spells IsFront front_text f front
 front_to f front h =
     let party = h.4 in let id = party.4 in let n = id.4 in let save = n.4 in let claim = save.4 in
-    let m : h.0 ≡ MAGIC = omega (arith, h.3.0, h.3.1) in
+    let m : h.0 ≡ saved_magic = omega (arith, h.3.0, h.3.1) in
     let made : Front = front_with party.0 id.0 n.0 save.0 claim.0 claim.4.0 in
     let text : front ≡ front_text made =
     join h.5 (h.3.3 ∙ ap (to_be_bytes w32) m) (join party.5 party.3.2 (join id.5 id.3.1 (join n.5 n.3.2 (join save.5 save.3.3 (join claim.5 claim.3.1 claim.4.1.3))))) in
@@ -193,8 +216,8 @@ front_from f front h =
     let from_length_text = f.match_length ∷ from_save_text in
     let from_id_text = to_be_bytes w64 f.id ++ from_length_text in
     let from_party_text = f.party ∷ from_id_text in (
-      MAGIC,
-      to_be_bytes w32 MAGIC,
+      saved_magic,
+      to_be_bytes w32 saved_magic,
       from_party_text,
       (omega arith, omega arith, omega arith, refl),
       (
@@ -281,11 +304,12 @@ unfolding saved_at
 saved_law =
     other_text _ parted_to parted_from
     (then_law front_at (λ f c. with (parts_with f) (many_at entry_at f.count c)) front_law
-    (λ f. with_law (parts_with f) (many_at entry_at f.count) (many_law entry_at entry_law f.count)))
+    (λ f. with_law (parts_with f) (many_at entry_at f.count) (many_law entry_at entry_law f.count))
+    (λ f first h. has_mapped (parts_with f) (has_each has_entry f.count)))
 
 pub not_extra : (f : ReadFault) → load_fault f ≢ fault.Extra
 not_extra read_fault.Short e = absurd cc
-not_extra (read_fault.Field at) e = named (at == MAGIC_AT) e
+not_extra (read_fault.Field at) e = named (at == magic_offset) e
   where
     named : (a : Bool) → cond a fault.Magic (fault.Field at) ≢ fault.Extra
     named true e = absurd cc
@@ -318,3 +342,32 @@ module _ (bytes : List ℕ) where
       where
         whole : (entries : List Entry) → many_at entry_at front.count c ≡ Ok (entries, d) → layout_of bytes ≡ Ok (parts_with front entries)
         whole entries e = rw (read, e, none) refl
+
+-- ---- what the fault of a field says
+
+has_saved : HasText IsLayoutOf
+has_saved =
+    let p : SavedParts = record { party = referee; id = 0; match_length = shortest_match; save = least_save; claim = None; entries = [] } in
+    let r : IsInLayout p = record {
+      party = omega arith;
+      id_fits = omega arith;
+      shortest = omega arith;
+      longest = omega arith;
+      first_save = omega arith;
+      last_save = omega arith;
+      claim = tt;
+      few = omega arith;
+      in_range = tt;
+    } in
+    (p, saved_text p, record { in_layout = r; spelled = refl })
+
+pub says_field : (bytes : List ℕ) → IsBytes bytes → (f : ReadFault) → saved_at (from_front bytes) ≡ Err f → IsLoadFault (load_fault f) bytes
+says_field bytes fits read_fault.Short e = saved_law.cuts (from_front bytes) has_saved fits e
+says_field bytes fits (read_fault.Field at) e = named (at == magic_offset) refl
+  where
+    wrong : IsWrongAt IsLayoutOf bytes at
+    wrong = is_wrong_at saved_at saved_law bytes at has_saved fits e
+
+    named : (a : Bool) → (at == magic_offset) ≡ a → IsLoadFault (cond a fault.Magic (fault.Field at)) bytes
+    named true is = subst (IsWrongAt IsLayoutOf bytes) (eqb-true _ _ is) wrong
+    named false _ = wrong

@@ -1,3 +1,4 @@
+pub mod Codes
 pub mod Reading
 pub mod Texts
 pub mod EntryText
@@ -6,6 +7,7 @@ pub mod PacketText
 pub mod PacketReading
 pub mod SavedText
 pub mod SavedReading
+pub mod Faults
 pub mod Parties
 pub mod Runs
 pub mod Saves

@@ -1,7 +1,7 @@
 -- Reading packets.
 use Rattle.std.specs.Prelude.{◌==◌, ℕ, ◌+◌, ◌-◌, List, Result, Ok, nat_lt, if◌then◌else◌}
-use Rattle.bg_match.specs.declared.limits.TheConstants.{MOST_ENTRIES}
 use Rattle.bg_match.specs.declared.entries.Entry.{Entry}
+use Rattle.bg_wire.specs.Codes.{last_number, most_in_packet, packet_magic, packet_version, want_kind, claim_kind, entries_kind, magic_offset, version_offset, kind_offset, first_number, seat_of_x, seat_of_o, last_watcher}
 use Rattle.bg_wire.specs.Reading.{◌>>=◌, Cursor, Read, u8_at, u16_at, u64_at, many_at, whole_of}
 use Rattle.bg_wire.specs.EntryReading.{action_at, entry_at}
 use Rattle.bg_wire.specs.declared.faults.WireFault.{WireFault}
@@ -10,37 +10,33 @@ use Rattle.bg_wire.specs.declared.reader.ReadFault.{ReadFault}
 use Rattle.bg_wire.specs.declared.reader.ReadFault.TheVariants as read_fault
 use Rattle.bg_wire.specs.declared.packets.Packet.{Packet}
 use Rattle.bg_wire.specs.declared.packets.Packet.TheVariants as packet
-use Rattle.bg_wire.specs.declared.packets.TheConstants.{MOST_ENTRIES_IN_PACKET}
-use Rattle.bg_wire.specs.declared.packet_version_one.TheConstants.{MAGIC, VERSION, WANT, CLAIM, ENTRIES, MAGIC_AT, VERSION_AT, KIND_AT}
-use Rattle.bg_wire.specs.declared.codes.TheConstants.{FIRST_ENTRY}
-use Rattle.bg_wire.specs.declared.parties.TheConstants.{FIRST_PARTY, LAST_SEAT, LAST_PARTY}
 
 -- three fields have faults of their own
 abbrev pub wire_fault : ReadFault → WireFault
 wire_fault read_fault.Short = fault.Short
 wire_fault (read_fault.Field at) =
-    if at == MAGIC_AT then fault.Magic
-    else if at == VERSION_AT then fault.Version
-    else if at == KIND_AT then fault.Kind
+    if at == magic_offset then fault.Magic
+    else if at == version_offset then fault.Version
+    else if at == kind_offset then fault.Kind
     else fault.Field at
 
 unfoldable pub want_at : ℕ → Cursor → Read Packet
 want_at id c = do
-  sender ← u8_at FIRST_PARTY LAST_PARTY c
-  held ← u16_at 0 MOST_ENTRIES sender.1
+  sender ← u8_at seat_of_x last_watcher c
+  held ← u16_at 0 last_number sender.1
   Ok (packet.Want id sender.0 held.0, held.1)
 
 unfoldable pub claim_at : ℕ → Cursor → Read Packet
 claim_at id c = do
-  sender ← u8_at FIRST_PARTY LAST_SEAT c
-  number ← u16_at FIRST_ENTRY MOST_ENTRIES sender.1
+  sender ← u8_at seat_of_x seat_of_o c
+  number ← u16_at first_number last_number sender.1
   action ← action_at number.1
   Ok (packet.Claim id sender.0 number.0 action.0, action.1)
 
 -- how many entries one packet tells at most, from this number on
 abbrev pub most_from : ℕ → ℕ
 most_from start =
-    if nat_lt (MOST_ENTRIES + 1 - start) MOST_ENTRIES_IN_PACKET then MOST_ENTRIES + 1 - start else MOST_ENTRIES_IN_PACKET
+    if nat_lt (last_number + 1 - start) most_in_packet then last_number + 1 - start else most_in_packet
 
 unfoldable pub list_at : ℕ → Cursor → Read (List Entry)
 list_at start c = do
@@ -49,21 +45,21 @@ list_at start c = do
 
 unfoldable pub entries_at : ℕ → Cursor → Read Packet
 entries_at id c = do
-  start ← u16_at FIRST_ENTRY MOST_ENTRIES c
+  start ← u16_at first_number last_number c
   list ← list_at start.0 start.1
   Ok (packet.Entries id start.0 list.0, list.1)
 
 unfoldable pub kind_at : Cursor → Read ℕ
 kind_at c = do
-  magic ← u16_at MAGIC MAGIC c
-  version ← u8_at VERSION VERSION magic.1
-  u8_at WANT ENTRIES version.1
+  magic ← u16_at packet_magic packet_magic c
+  version ← u8_at packet_version packet_version magic.1
+  u8_at want_kind entries_kind version.1
 
 -- what follows the header
 unfoldable pub body_at : ℕ → ℕ → Cursor → Read Packet
 body_at kind id c =
-    if kind == WANT then want_at id c
-    else if kind == CLAIM then claim_at id c
+    if kind == want_kind then want_at id c
+    else if kind == claim_kind then claim_at id c
     else entries_at id c
 
 unfoldable pub packet_at : Cursor → Read Packet

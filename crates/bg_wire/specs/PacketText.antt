@@ -3,51 +3,47 @@ use Rattle.std.specs.Prelude.{◌≡◌, ℕ, ◌+◌, ◌<◌, ◌≤◌, ◌^�
 use Rattle.std.specs.List.{AllByRecursion}
 use Rattle.std.specs.Int.{w16, w64, to_be_bytes}
 use Rattle.bg_match.specs.Entry.{IsEntry, IsAction}
-use Rattle.bg_match.specs.declared.limits.TheConstants.{MOST_ENTRIES}
 use Rattle.bg_match.specs.declared.actions.Action.{Action}
 use Rattle.bg_match.specs.declared.entries.Entry.{Entry}
+use Rattle.bg_wire.specs.Codes.{last_number, most_in_packet, packet_magic, packet_version, want_kind, claim_kind, entries_kind, first_number, seat_of_x, seat_of_o, last_watcher}
 use Rattle.bg_wire.specs.EntryText.{action_text, entries_text}
 use Rattle.bg_wire.specs.declared.packets.Packet.{Packet}
 use Rattle.bg_wire.specs.declared.packets.Packet.TheVariants as packet
-use Rattle.bg_wire.specs.declared.packets.TheConstants.{MOST_ENTRIES_IN_PACKET}
-use Rattle.bg_wire.specs.declared.packet_version_one.TheConstants.{MAGIC, VERSION, WANT, CLAIM, ENTRIES}
-use Rattle.bg_wire.specs.declared.codes.TheConstants.{FIRST_ENTRY}
-use Rattle.bg_wire.specs.declared.parties.TheConstants.{FIRST_PARTY, LAST_SEAT, LAST_PARTY}
 
 abbrev pub header_text : ℕ → ℕ → List ℕ
-header_text kind id = to_be_bytes w16 MAGIC ++ (VERSION ∷ kind ∷ to_be_bytes w64 id)
+header_text kind id = to_be_bytes w16 packet_magic ++ (packet_version ∷ kind ∷ to_be_bytes w64 id)
 
 -- the count of the entries, then each
 abbrev pub list_text : List Entry → List ℕ
 list_text list = length list ∷ entries_text list
 
 abbrev pub packet_text : Packet → List ℕ
-packet_text (packet.Want id sender held) = header_text WANT id ++ (sender ∷ to_be_bytes w16 held)
+packet_text (packet.Want id sender held) = header_text want_kind id ++ (sender ∷ to_be_bytes w16 held)
 packet_text (packet.Claim id sender number action) =
-    header_text CLAIM id ++ (sender ∷ (to_be_bytes w16 number ++ action_text action))
-packet_text (packet.Entries id start list) = header_text ENTRIES id ++ (to_be_bytes w16 start ++ list_text list)
+    header_text claim_kind id ++ (sender ∷ (to_be_bytes w16 number ++ action_text action))
+packet_text (packet.Entries id start list) = header_text entries_kind id ++ (to_be_bytes w16 start ++ list_text list)
 
 pub record IsWant (id sender held : ℕ) : Type 0 where
   pub id_fits : id < 2 ^ 64
-  pub first_party : FIRST_PARTY ≤ sender
-  pub last_party : sender ≤ LAST_PARTY
-  pub held_at_most : held ≤ MOST_ENTRIES
+  pub first_party : seat_of_x ≤ sender
+  pub last_party : sender ≤ last_watcher
+  pub held_at_most : held ≤ last_number
 
 pub record IsClaim (id sender number : ℕ) (action : Action) : Type 0 where
   pub id_fits : id < 2 ^ 64
-  pub first_seat : FIRST_PARTY ≤ sender
-  pub last_seat : sender ≤ LAST_SEAT
-  pub first_entry : FIRST_ENTRY ≤ number
-  pub last_entry : number ≤ MOST_ENTRIES
+  pub first_seat : seat_of_x ≤ sender
+  pub last_seat : sender ≤ seat_of_o
+  pub first_entry : first_number ≤ number
+  pub last_entry : number ≤ last_number
   pub action_in_range : IsAction action
 
 -- so many entries from start on, so the last of them has the number start + length - 1
 pub record IsEntries (id start : ℕ) (list : List Entry) : Type 0 where
   pub id_fits : id < 2 ^ 64
-  pub first_entry : FIRST_ENTRY ≤ start
+  pub first_entry : first_number ≤ start
   pub some : 1 ≤ length list
-  pub few : length list ≤ MOST_ENTRIES_IN_PACKET
-  pub last_entry : start + length list ≤ MOST_ENTRIES + 1
+  pub few : length list ≤ most_in_packet
+  pub last_entry : start + length list ≤ last_number + 1
   pub in_range : AllByRecursion IsEntry list
 
 -- the fields of the packet are in their ranges
@@ -60,10 +56,6 @@ IsPacket (packet.Entries id start list) = IsEntries id start list
 pub record IsText (p : Packet) (bytes : List ℕ) : Type 0 where
   pub in_range : IsPacket p
   pub spelled : bytes ≡ packet_text p
-
--- the bytes are no packet's text
-abbrev pub IsNoText : List ℕ → Type 0
-IsNoText bytes = (p : Packet) → IsText p bytes → ⊥
 
 -- the match that the packet is of
 abbrev pub id_of : Packet → ℕ

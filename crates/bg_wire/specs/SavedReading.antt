@@ -1,54 +1,50 @@
 -- Reading saved texts.
 use Rattle.std.specs.Prelude.{◌≡◌, ◌==◌, ℕ, List, Option, Some, None, Result, Ok, Err, if◌then◌else◌}
-use Rattle.bg_match.specs.declared.limits.TheConstants.{MOST_ENTRIES, SHORTEST_MATCH, LONGEST_MATCH}
 use Rattle.bg_match.specs.declared.actions.Action.{Action}
 use Rattle.bg_match.specs.declared.entries.Entry.{Entry}
+use Rattle.bg_wire.specs.Codes.{last_number, shortest_match, longest_match, first_number, referee, seat_of_o, saved_magic, magic_offset, no_claim_flag, claim_flag, least_save, greatest_save}
 use Rattle.bg_wire.specs.Reading.{◌>>=◌, Cursor, Read, u8_at, u16_at, u32_at, u64_at, many_at, whole_of}
 use Rattle.bg_wire.specs.EntryReading.{action_at, entry_at}
 use Rattle.bg_wire.specs.SavedText.{SavedParts}
-use Rattle.bg_wire.specs.declared.codes.TheConstants.{FIRST_ENTRY}
-use Rattle.bg_wire.specs.declared.parties.TheConstants.{REFEREE, LAST_SEAT}
 use Rattle.bg_wire.specs.declared.faults.LoadFault.{LoadFault}
 use Rattle.bg_wire.specs.declared.faults.LoadFault.TheVariants as fault
 use Rattle.bg_wire.specs.declared.reader.ReadFault.{ReadFault}
 use Rattle.bg_wire.specs.declared.reader.ReadFault.TheVariants as read_fault
 use Rattle.bg_wire.specs.declared.saved_version_one.Front.{Front}
-use Rattle.bg_wire.specs.declared.saved_version_one.TheConstants.{MAGIC, MAGIC_AT, NO_CLAIM, KEPT_CLAIM}
-use Rattle.bg_wire.specs.declared.saves.TheConstants.{FIRST_SAVE, LAST_SAVE}
 
 -- the first field has a fault of its own
 abbrev pub load_fault : ReadFault → LoadFault
 load_fault read_fault.Short = fault.Short
-load_fault (read_fault.Field at) = if at == MAGIC_AT then fault.Magic else fault.Field at
+load_fault (read_fault.Field at) = if at == magic_offset then fault.Magic else fault.Field at
 
 -- the referee keeps no claim
 abbrev pub most_flag : ℕ → ℕ
-most_flag party = if party == REFEREE then NO_CLAIM else KEPT_CLAIM
+most_flag party = if party == referee then no_claim_flag else claim_flag
 
 unfoldable pub kept_claim_at : Cursor → Read (Option (ℕ × Action))
 kept_claim_at c = do
-  number ← u16_at FIRST_ENTRY MOST_ENTRIES c
+  number ← u16_at first_number last_number c
   action ← action_at number.1
   Ok (Some (number.0, action.0), action.1)
 
 -- what follows the claim flag
 abbrev pub flagged_at : ℕ → Cursor → Read (Option (ℕ × Action))
-flagged_at flag c = if flag == NO_CLAIM then Ok (None, c) else kept_claim_at c
+flagged_at flag c = if flag == no_claim_flag then Ok (None, c) else kept_claim_at c
 
 unfoldable pub claim_at : ℕ → Cursor → Read (Option (ℕ × Action))
 claim_at party c = do
-  flag ← u8_at NO_CLAIM (most_flag party) c
+  flag ← u8_at no_claim_flag (most_flag party) c
   flagged_at flag.0 flag.1
 
 unfoldable pub front_at : Cursor → Read Front
 front_at c = do
-  magic ← u32_at MAGIC MAGIC c
-  party ← u8_at REFEREE LAST_SEAT magic.1
+  magic ← u32_at saved_magic saved_magic c
+  party ← u8_at referee seat_of_o magic.1
   id ← u64_at party.1
-  match_length ← u8_at SHORTEST_MATCH LONGEST_MATCH id.1
-  save ← u32_at FIRST_SAVE LAST_SAVE match_length.1
+  match_length ← u8_at shortest_match longest_match id.1
+  save ← u32_at least_save greatest_save match_length.1
   claim ← claim_at party.0 save.1
-  count ← u16_at 0 MOST_ENTRIES claim.1
+  count ← u16_at 0 last_number claim.1
   Ok (record { party = party.0; id = id.0; match_length = match_length.0; save = save.0; claim = claim.0; count = count.0 }, count.1)
 
 abbrev pub parts_with : Front → List Entry → SavedParts

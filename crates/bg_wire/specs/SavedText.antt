@@ -4,18 +4,14 @@ use Rattle.std.specs.List.{AllByRecursion}
 use Rattle.std.specs.Int.{w16, w32, w64, to_be_bytes}
 use Rattle.bg_match.specs.Entry.{IsEntry, IsAction}
 use Rattle.bg_match.specs.Match.{Log, IsLegalRecord}
-use Rattle.bg_match.specs.declared.limits.TheConstants.{MOST_ENTRIES, SHORTEST_MATCH, LONGEST_MATCH}
 use Rattle.bg_match.specs.declared.actions.Action.{Action}
 use Rattle.bg_match.specs.declared.entries.Entry.{Entry}
+use Rattle.bg_wire.specs.Codes.{last_number, shortest_match, longest_match, first_number, seat_of_x, seat_of_o, saved_magic, no_claim_flag, claim_flag, least_save, greatest_save}
 use Rattle.bg_wire.specs.EntryText.{action_text, entries_text}
-use Rattle.bg_wire.specs.declared.codes.TheConstants.{FIRST_ENTRY}
-use Rattle.bg_wire.specs.declared.parties.TheConstants.{FIRST_PARTY, LAST_SEAT}
 use Rattle.bg_wire.specs.declared.faults.LoadFault.{LoadFault}
 use Rattle.bg_wire.specs.declared.faults.LoadFault.TheVariants.{Illegal, Memory}
 use Rattle.bg_wire.specs.declared.saves.Saved.{Saved}
 use Rattle.bg_wire.specs.declared.saved_version_one.Front.{Front}
-use Rattle.bg_wire.specs.declared.saved_version_one.TheConstants.{MAGIC, NO_CLAIM, KEPT_CLAIM}
-use Rattle.bg_wire.specs.declared.saves.TheConstants.{FIRST_SAVE, LAST_SAVE}
 
 -- what a saved text tells, which is all of a `Saved` but the room for further entries
 pub record SavedParts : Type 0 where
@@ -40,13 +36,13 @@ abbrev pub parts_of : Saved → SavedParts
 parts_of s = parts_with s.party s.save s.claim s.log
 
 abbrev pub claim_text : Option (ℕ × Action) → List ℕ
-claim_text None = NO_CLAIM ∷ []
-claim_text (Some claim) = KEPT_CLAIM ∷ (to_be_bytes w16 claim.0 ++ action_text claim.1)
+claim_text None = no_claim_flag ∷ []
+claim_text (Some claim) = claim_flag ∷ (to_be_bytes w16 claim.0 ++ action_text claim.1)
 
 -- what stands before the entries, their count last
 abbrev pub front_text : Front → List ℕ
 front_text f =
-    to_be_bytes w32 MAGIC ++ (f.party ∷ (to_be_bytes w64 f.id ++ (f.match_length ∷ (to_be_bytes w32 f.save
+    to_be_bytes w32 saved_magic ++ (f.party ∷ (to_be_bytes w64 f.id ++ (f.match_length ∷ (to_be_bytes w32 f.save
     ++ (claim_text f.claim ++ to_be_bytes w16 f.count)))))
 
 abbrev pub front_of : SavedParts → Front
@@ -65,30 +61,30 @@ saved_text p = front_text (front_of p) ++ entries_text p.entries
 -- the number and the action of a claim are in their ranges
 abbrev pub IsKeptClaim : Option (ℕ × Action) → Type 0
 IsKeptClaim None = Unit {0}
-IsKeptClaim (Some claim) = (FIRST_ENTRY ≤ claim.0) × (claim.0 ≤ MOST_ENTRIES) × IsAction claim.1
+IsKeptClaim (Some claim) = (first_number ≤ claim.0) × (claim.0 ≤ last_number) × IsAction claim.1
 
 -- the referee keeps no claim
 abbrev pub IsClaimOf : ℕ → Option (ℕ × Action) → Type 0
 IsClaimOf party None = Unit {0}
-IsClaimOf party (Some claim) = (FIRST_PARTY ≤ party) × IsKeptClaim (Some claim)
+IsClaimOf party (Some claim) = (seat_of_x ≤ party) × IsKeptClaim (Some claim)
 
 -- what may be saved; a record is in its ranges by itself
 pub record IsSavable (p : SavedParts) : Type 0 where
-  pub party : p.party ≤ LAST_SEAT
-  pub first_save : FIRST_SAVE ≤ p.save
-  pub last_save : p.save ≤ LAST_SAVE
+  pub party : p.party ≤ seat_of_o
+  pub first_save : least_save ≤ p.save
+  pub last_save : p.save ≤ greatest_save
   pub claim : IsClaimOf p.party p.claim
 
 -- all fields are in their ranges
 pub record IsInLayout (p : SavedParts) : Type 0 where
-  pub party : p.party ≤ LAST_SEAT
+  pub party : p.party ≤ seat_of_o
   pub id_fits : p.id < 2 ^ 64
-  pub shortest : SHORTEST_MATCH ≤ p.match_length
-  pub longest : p.match_length ≤ LONGEST_MATCH
-  pub first_save : FIRST_SAVE ≤ p.save
-  pub last_save : p.save ≤ LAST_SAVE
+  pub shortest : shortest_match ≤ p.match_length
+  pub longest : p.match_length ≤ longest_match
+  pub first_save : least_save ≤ p.save
+  pub last_save : p.save ≤ greatest_save
   pub claim : IsClaimOf p.party p.claim
-  pub few : length p.entries ≤ MOST_ENTRIES
+  pub few : length p.entries ≤ last_number
   pub in_range : AllByRecursion IsEntry p.entries
 
 -- the layout holds, and these are its fields

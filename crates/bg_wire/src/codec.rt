@@ -1,18 +1,21 @@
 //! Packets as bytes, and bytes as packets.
-ghost use Rattle.std.specs.Prelude.{◌≡◌, ◌≢◌, ◌↔◌, ◌++◌, [], List, ℕ, IfOk};
+ghost use Rattle.std.specs.Prelude.{◌≡◌, ◌≢◌, ◌↔◌, ◌≤◌, ◌++◌, [], List, ℕ, IfOk, IfErr};
+ghost use Rattle.arrayvec.specs.ArrayVec.{array_vec_len};
 ghost use Rattle.bg_wire.specs.declared.packets.Packet.{Packet};
 ghost use Rattle.bg_wire.specs.PacketText.{IsPacket, IsText};
 ghost use Rattle.bg_wire.specs.Texts.{HasMore, ArePrefixFree};
+ghost use Rattle.bg_wire.specs.Faults.{IsWireFault};
 ghost use Rattle.bg_wire.specs.PacketReading.{packet_of};
 
 use crate::reader::Reader;
-use crate::{Packet, WireFault, packet_version_one as layout};
+use crate::{LONGEST_PACKET, MOST_DATAGRAM_BYTES, Packet, WireFault, packet_version_one as layout};
 use arrayvec::ArrayVec;
 
 /// The text of a packet, at most 95 bytes (docs/FORMATS.md, "Packets").
-pub fn encode(packet: &Packet) -> ArrayVec<u8, 128>
+pub fn encode(packet: &Packet) -> ArrayVec<u8, MOST_DATAGRAM_BYTES>
     requires { IsPacket packet.now }
-    ensures { IsText packet.now result.items }
+    ensures text { IsText packet.now result.items }
+    ensures longest { array_vec_len result ≤ LONGEST_PACKET }
 {
     layout::text(packet)
 }
@@ -31,6 +34,8 @@ pub fn decode(bytes: &[u8]) -> Result<Packet, WireFault>
         → result ≡ Err WireFault.Short }
     // Bytes behind a packet's text are extra, and nothing else is.
     ensures extra { (result ≡ Err WireFault.Extra) ↔ HasMore IsText bytes.now }
+    // What a fault says of the bytes.
+    ensures why { IfErr result (λ fault. IsWireFault fault bytes.now) }
     // Which fault it is.
     ensures exact { result ≡ packet_of bytes.now }
 {

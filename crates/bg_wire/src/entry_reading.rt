@@ -24,7 +24,7 @@ fn step(reader: &mut Reader<'_>) -> Result<Step, ReadFault>
 }
 
 fn steps(reader: &mut Reader<'_>, count: u8) -> Result<Turn, ReadFault>
-    requires { count ≤ 4 }
+    requires { count ≤ MOST_STEPS }
     ensures { Reads result reader.new (many_at step_at count reader.old) }
 {
     let mut steps = ArrayVec::new();

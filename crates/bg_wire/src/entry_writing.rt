@@ -4,9 +4,10 @@ ghost use Rattle.arrayvec.specs.ArrayVec.{array_vec_len};
 ghost use Rattle.bg_match.specs.Entry.{IsEntry, IsAction};
 ghost use Rattle.bg_wire.specs.EntryText.{turn_text, level_code, dice_text, action_text, entry_text};
 
+use crate::MOST_DATAGRAM_BYTES;
 use crate::codes::{
-    ACCEPTED, BACKGAMMON, DOUBLED, DROPPED, GAMMON, MOVED, NORMAL, OPENING, REJECTED, RESIGNED,
-    ROLLED, TAKEN,
+    ACCEPTED, BACKGAMMON, DOUBLED, DROPPED, GAMMON, MOST_STEPS, MOVED, NORMAL, OPENING, REJECTED,
+    RESIGNED, ROLLED, TAKEN,
 };
 use arrayvec::ArrayVec;
 use bg_board::Die;
@@ -14,11 +15,11 @@ use bg_match::{Action, Entry, Level};
 use bg_turns::Turn;
 
 /// Room for the text of any packet, and of any one entry or action.
-pub(crate) type Bytes = ArrayVec<u8, 128>;
+pub(crate) type Bytes = ArrayVec<u8, MOST_DATAGRAM_BYTES>;
 
 fn put_turn(out: &mut Bytes, turn: &Turn)
-    requires few { length turn.now ≤ 4 }
-    requires room { array_vec_len out.old + 9 ≤ 128 }
+    requires few { length turn.now ≤ MOST_STEPS }
+    requires room { array_vec_len out.old + 9 ≤ MOST_DATAGRAM_BYTES }
     ensures text { out.new.items ≡ out.old.items ++ turn_text turn.now }
     ensures len { array_vec_len out.new ≤ array_vec_len out.old + 9 }
 {
@@ -42,7 +43,7 @@ fn level_code(level: Level) -> u8
 
 /// A code, and two dice.
 fn put_dice(out: &mut Bytes, code: u8, first: Die, second: Die)
-    requires { array_vec_len out.old + 3 ≤ 128 }
+    requires { array_vec_len out.old + 3 ≤ MOST_DATAGRAM_BYTES }
     ensures text { out.new.items ≡ out.old.items ++ code ∷ dice_text first second }
     ensures len { array_vec_len out.new ≤ array_vec_len out.old + 3 }
 {
@@ -54,7 +55,7 @@ fn put_dice(out: &mut Bytes, code: u8, first: Die, second: Die)
 /// The text of an action.
 pub(crate) fn put_action(out: &mut Bytes, action: &Action)
     requires in_range { IsAction action.now }
-    requires room { array_vec_len out.old + 10 ≤ 128 }
+    requires room { array_vec_len out.old + 10 ≤ MOST_DATAGRAM_BYTES }
     ensures text { out.new.items ≡ out.old.items ++ action_text action.now }
     ensures len { array_vec_len out.new ≤ array_vec_len out.old + 10 }
 {
@@ -79,7 +80,7 @@ pub(crate) fn put_action(out: &mut Bytes, action: &Action)
 /// The text of an entry.
 pub(crate) fn put_entry(out: &mut Bytes, entry: &Entry)
     requires in_range { IsEntry entry.now }
-    requires room { array_vec_len out.old + 10 ≤ 128 }
+    requires room { array_vec_len out.old + 10 ≤ MOST_DATAGRAM_BYTES }
     ensures text { out.new.items ≡ out.old.items ++ entry_text entry.now }
     ensures len { array_vec_len out.new ≤ array_vec_len out.old + 10 }
 {

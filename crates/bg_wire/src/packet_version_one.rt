@@ -14,7 +14,8 @@ use crate::entry_reading::{action, entry};
 use crate::entry_writing::{Bytes, put_action, put_entry};
 use crate::reader::{ReadFault, Reader};
 use crate::{
-    EntryList, FIRST_PARTY, LAST_PARTY, LAST_SEAT, MOST_ENTRIES_IN_PACKET, Packet, WireFault,
+    EntryList, FIRST_PARTY, LAST_PARTY, LAST_SEAT, MOST_DATAGRAM_BYTES, MOST_ENTRIES_IN_PACKET,
+    Packet, WireFault,
 };
 use arrayvec::ArrayVec;
 use bg_match::{MOST_ENTRIES, Number};
@@ -87,7 +88,7 @@ fn most_from(start: Number) -> u8
     requires first { 1 ≤ start }
     requires last { start ≤ MOST_ENTRIES }
     ensures value { result ≡ most_from start }
-    ensures few { result ≤ 8 }
+    ensures few { result ≤ MOST_ENTRIES_IN_PACKET }
 {
     let after = MOST_ENTRIES - start;
     if after < Number::from(MOST_ENTRIES_IN_PACKET) - 1 {
@@ -98,7 +99,7 @@ fn most_from(start: Number) -> u8
 }
 
 fn list_of(reader: &mut Reader<'_>, count: u8) -> Result<EntryList, ReadFault>
-    requires { count ≤ 8 }
+    requires { count ≤ MOST_ENTRIES_IN_PACKET }
     ensures { Reads result reader.new (many_at entry_at count reader.old) }
 {
     let mut entries = ArrayVec::new();
@@ -159,16 +160,16 @@ pub(crate) fn packet(reader: &mut Reader<'_>) -> Result<Packet, ReadFault>
 }
 
 fn put_number(out: &mut Bytes, number: Number)
-    requires { array_vec_len out.old + 2 ≤ 128 }
+    requires { array_vec_len out.old + 2 ≤ MOST_DATAGRAM_BYTES }
     ensures { out.new.items ≡ out.old.items ++ to_be_bytes w16 number }
 {
     out.try_extend_from_slice(&number.to_be_bytes()).unwrap()
 }
 
 fn put_list(out: &mut Bytes, list: &EntryList)
-    requires few { length list.now ≤ 8 }
+    requires few { length list.now ≤ MOST_ENTRIES_IN_PACKET }
     requires in_range { AllByRecursion IsEntry list.now }
-    requires room { array_vec_len out.old + 81 ≤ 128 }
+    requires room { array_vec_len out.old + 81 ≤ MOST_DATAGRAM_BYTES }
     ensures { out.new.items ≡ out.old.items ++ list_text list.now }
 {
     let entries = list.entries.as_slice();

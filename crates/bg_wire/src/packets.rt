@@ -8,11 +8,20 @@ use std::marker::Model;
 /// The most entries of one packet.
 pub const MOST_ENTRIES_IN_PACKET: u8 = 8;
 
+/// The room of an [`EntryList`].
+const ENTRY_ROOM: usize = MOST_ENTRIES_IN_PACKET as usize;
+
+/// The most bytes of a datagram.
+pub const MOST_DATAGRAM_BYTES: usize = 128;
+
+/// The most bytes of a packet's text.
+pub const LONGEST_PACKET: usize = 95;
+
 /// At most eight entries that follow each other. Contracts see it as the list of its entries.
 #[derive(Debug, PartialEq, Eq, Drop)]
 pub struct EntryList {
     /// The entries, in the order of their numbers.
-    pub entries: ArrayVec<Entry, 8>,
+    pub entries: ArrayVec<Entry, ENTRY_ROOM>,
 }
 
 impl Model for EntryList {
@@ -81,7 +90,7 @@ impl Default for Packet {
 #[derive(Debug, PartialEq, Eq, Drop)]
 pub struct PacketBytes {
     /// The bytes, in the order in which they are sent.
-    pub bytes: ArrayVec<u8, 128>,
+    pub bytes: ArrayVec<u8, MOST_DATAGRAM_BYTES>,
 }
 
 impl Model for PacketBytes {

@@ -13,7 +13,7 @@ pub const LAST_SEAT: u8 = 2;
 /// The first party that only watches.
 pub const FIRST_WATCHER: u8 = 3;
 /// The last party that may watch.
-pub const LAST_PARTY: u8 = 255;
+pub const LAST_PARTY: u8 = u8::MAX;
 
 /// The party of a player's seat: 1 of X, 2 of O.
 pub fn party_of(player: Player) -> u8

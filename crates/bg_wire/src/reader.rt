@@ -89,15 +89,14 @@ impl<'a> Reader<'a> {
         ensures low { IfOk result (λ number. low ≤ number) }
         ensures high { IfOk result (λ number. number ≤ high) }
     {
-        if self.rest.len() < 2 {
+        let Some((bytes, rest)) = self.rest.split_first_chunk::<2>() else {
             return Err(ReadFault::Short);
-        }
-        let (front, rest) = self.rest.split_at(2);
-        let number = u16::from_be_bytes([front[0], front[1]]);
+        };
+        let number = u16::from_be_bytes(*bytes);
         if number < low || high < number {
             return Err(ReadFault::Field(self.at));
         }
-        self.at += 2;
+        self.at += bytes.len();
         self.rest = rest;
         Ok(number)
     }
@@ -107,15 +106,14 @@ impl<'a> Reader<'a> {
     pub(crate) fn read_u32(&mut self, low: u32, high: u32) -> Result<u32, ReadFault>
         ensures { Reads result self.new (u32_at low high self.old) }
     {
-        if self.rest.len() < 4 {
+        let Some((bytes, rest)) = self.rest.split_first_chunk::<4>() else {
             return Err(ReadFault::Short);
-        }
-        let (front, rest) = self.rest.split_at(4);
-        let number = u32::from_be_bytes([front[0], front[1], front[2], front[3]]);
+        };
+        let number = u32::from_be_bytes(*bytes);
         if number < low || high < number {
             return Err(ReadFault::Field(self.at));
         }
-        self.at += 4;
+        self.at += bytes.len();
         self.rest = rest;
         Ok(number)
     }
@@ -125,14 +123,11 @@ impl<'a> Reader<'a> {
     pub(crate) fn read_u64(&mut self) -> Result<u64, ReadFault>
         ensures { Reads result self.new (u64_at self.old) }
     {
-        if self.rest.len() < 8 {
+        let Some((bytes, rest)) = self.rest.split_first_chunk::<8>() else {
             return Err(ReadFault::Short);
-        }
-        let (front, rest) = self.rest.split_at(8);
-        let number = u64::from_be_bytes([
-            front[0], front[1], front[2], front[3], front[4], front[5], front[6], front[7],
-        ]);
-        self.at += 8;
+        };
+        let number = u64::from_be_bytes(*bytes);
+        self.at += bytes.len();
         self.rest = rest;
         Ok(number)
     }

@@ -11,7 +11,7 @@ use crate::codes::FIRST_ENTRY;
 use crate::entry_reading::{action, entry};
 use crate::entry_writing::{Bytes, put_action};
 use crate::reader::{ReadFault, Reader};
-use crate::{FIRST_SAVE, LAST_SAVE, LAST_SEAT, LoadFault, REFEREE};
+use crate::{FIRST_SAVE, LAST_SAVE, LAST_SEAT, LoadFault, MOST_DATAGRAM_BYTES, REFEREE};
 use arrayvec::ArrayVec;
 use bg_match::{Action, LONGEST_MATCH, MOST_ENTRIES, Number, Record, SHORTEST_MATCH};
 
@@ -115,7 +115,7 @@ fn pass_entries(reader: &mut Reader<'_>, count: Number) -> Result<(), ReadFault>
 }
 
 /// What stands before the entries, and a reader at the first of them, where the whole layout holds.
-pub(crate) fn lay_out<'a>(bytes: &'a [u8]) -> Result<(Front, Reader<'a>), LoadFault>
+pub(crate) fn lay_out(bytes: &[u8]) -> Result<(Front, Reader<'_>), LoadFault>
     ensures laid_out { IsLaidOut result bytes.now }
     ensures shortest { IfOk result (λ parts. SHORTEST_MATCH ≤ (parts.0).match_length) }
     ensures longest { IfOk result (λ parts. (parts.0).match_length ≤ LONGEST_MATCH) }
@@ -160,7 +160,7 @@ pub(crate) fn front_text(
 
 fn put_claim(out: &mut Bytes, claim: &Option<(Number, Action)>)
     requires kept { IsKeptClaim claim.now }
-    requires room { array_vec_len out.old + 13 ≤ 128 }
+    requires room { array_vec_len out.old + 13 ≤ MOST_DATAGRAM_BYTES }
     ensures text { out.new.items ≡ out.old.items ++ claim_text claim.now }
     ensures len { array_vec_len out.new ≤ array_vec_len out.old + 13 }
 {

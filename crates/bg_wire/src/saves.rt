@@ -4,7 +4,10 @@ use bg_match::{Action, Number, Record};
 /// The number of the first save.
 pub const FIRST_SAVE: u32 = 1;
 /// The number of the last save.
-pub const LAST_SAVE: u32 = 4_294_967_295;
+pub const LAST_SAVE: u32 = u32::MAX;
+
+/// The most bytes of a saved text.
+pub const LONGEST_SAVED_TEXT: usize = 655_383;
 
 /// What a party keeps over a restart (docs/FORMATS.md, "Saved files").
 #[derive(Debug, Drop)]

@@ -1,5 +1,5 @@
 //! Saved texts, written and read.
-ghost use Rattle.std.specs.Prelude.{◌≡◌, ◌≢◌, ◌↔◌, ◌<◌, ◌≤◌, ◌+◌, ◌++◌, [], List, ℕ, IsOk, IfOk, OnOk};
+ghost use Rattle.std.specs.Prelude.{◌≡◌, ◌≢◌, ◌↔◌, ◌<◌, ◌≤◌, ◌+◌, ◌++◌, [], List, ℕ, IsOk, IfOk, IfErr, OnOk, vec_len};
 ghost use Rattle.std.specs.List.{AllByRecursion};
 ghost use Rattle.bg_match.specs.Entry.{IsEntry};
 ghost use Rattle.bg_match.specs.Match.{IsLegalRecord};
@@ -9,6 +9,7 @@ ghost use Rattle.bg_wire.specs.Reading.{Cursor, many_at};
 ghost use Rattle.bg_wire.specs.EntryReading.{entry_at};
 ghost use Rattle.bg_wire.specs.EntryText.{entries_text, text_at};
 ghost use Rattle.bg_wire.specs.SavedText.{SavedParts, IsSavable, IsLayoutOf, IsSavedText, IsIllegalAt, HasEntries, Loads, Replays, parts_of, parts_with, IsClaimOf};
+ghost use Rattle.bg_wire.specs.Faults.{IsLoadFault};
 ghost use Rattle.bg_wire.specs.Saves.{IsNextSave};
 ghost use Rattle.bg_wire.specs.SavedReading.{layout_of};
 
@@ -16,7 +17,7 @@ use crate::entry_reading::entry;
 use crate::entry_writing::{Bytes, put_entry};
 use crate::reader::Reader;
 use crate::{
-    LAST_SEAT, LoadFault, SaveRefusal, Saved, Slot, saved_version_one as layout,
+    LAST_SEAT, LONGEST_SAVED_TEXT, LoadFault, SaveRefusal, Saved, Slot, saved_version_one as layout,
 };
 use arrayvec::ArrayVec;
 use bg_match::{Action, MOST_ENTRIES, Number, Record};
@@ -28,7 +29,8 @@ use std::alloc::{AllocError, Global};
 /// AllocError where there is no memory for it.
 pub fn save_text(alloc: Global, saved: &Saved) -> Result<Vec<u8>, AllocError>
     requires { IsSavable (parts_of saved.now) }
-    ensures { IfOk result (λ text. IsSavedText (parts_of saved.now) text.items) }
+    ensures text { IfOk result (λ text. IsSavedText (parts_of saved.now) text.items) }
+    ensures longest { IfOk result (λ text. vec_len text ≤ LONGEST_SAVED_TEXT) }
 {
     text_of(alloc, saved.party, saved.save, &saved.claim, &saved.log)
 }
@@ -47,7 +49,8 @@ pub fn next_save(
 ) -> Result<(Slot, u32, Vec<u8>), SaveRefusal>
     requires party { party ≤ LAST_SEAT }
     requires claim { IsClaimOf party claim.now }
-    ensures { IsNextSave (parts_with party (last + 1) claim.now log.now) result }
+    ensures next { IsNextSave (parts_with party (last + 1) claim.now log.now) result }
+    ensures longest { IfOk result (λ next. vec_len (next.2) ≤ LONGEST_SAVED_TEXT) }
 {
     let Some(save) = last.checked_add(1) else {
         return Err(SaveRefusal::SavesSpent);
@@ -67,7 +70,9 @@ fn text_of(
     log: &Record,
 ) -> Result<Vec<u8>, AllocError>
     requires { IsSavable (parts_with party save claim.now log.now) }
-    ensures { IfOk result (λ text. IsSavedText (parts_with party save claim.now log.now) text.items) }
+    ensures text { IfOk result (λ text.
+        IsSavedText (parts_with party save claim.now log.now) text.items) }
+    ensures longest { IfOk result (λ text. vec_len text ≤ LONGEST_SAVED_TEXT) }
 {
     let mut text = Vec::new(alloc);
     text.extend_from_slice(layout::front_text(party, save, claim, log).as_slice())?;
@@ -127,6 +132,8 @@ pub fn load(alloc: Global, bytes: &[u8]) -> Result<Saved, LoadFault>
         → result ≡ Err (LoadFault.Illegal n) }
     // Memory is wanted for entries alone, once the layout holds.
     ensures memory { result ≡ Err LoadFault.Memory → HasEntries bytes.now }
+    // What a fault says of the bytes.
+    ensures why { IfErr result (λ fault. IsLoadFault fault bytes.now) }
     // Which fault of the layout it is.
     ensures exact { Loads result (layout_of bytes.now) }
 {

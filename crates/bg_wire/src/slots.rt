@@ -17,10 +17,6 @@ impl Slot {
     pub fn of(save: u32) -> Slot
         ensures { result ≡ slot_of save }
     {
-        if save % 2 == 0 {
-            Slot::Zero
-        } else {
-            Slot::One
-        }
+        if save % 2 == 0 { Slot::Zero } else { Slot::One }
     }
 }

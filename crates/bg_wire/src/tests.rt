@@ -1,7 +1,7 @@
 //! Worked packets and saved texts, byte by byte, and what becomes of them where bytes are missing or changed.
 use crate::{
-    Datagram, EntryList, LoadFault, Packet, PacketBytes, Saved, WireFault, decode, encode, load,
-    save_text,
+    Datagram, EntryList, LONGEST_PACKET, LoadFault, Packet, PacketBytes, Saved, WireFault, decode,
+    encode, load, save_text,
 };
 use arrayvec::ArrayVec;
 use bg_board::{Die, Step};
@@ -192,7 +192,7 @@ fn longest_packet(rt: HostRuntime) -> Result<(), Fail> {
     for _ in 0..8 {
         bytes.extend_from_slice(&[0x06, 4, 25, 0, 25, 24, 2, 1, 1, 0])?;
     }
-    assert_eq!(rt; bytes.len(), 95);
+    assert_eq!(rt; (bytes.len(), LONGEST_PACKET), (95, 95));
     assert_eq!(rt; encode(&decode(&bytes)?).as_slice(), bytes.as_slice());
     Ok(())
 }

@@ -1,13 +1,14 @@
 use Rattle.std.proofs.Common.{◌≡◌, ◌≢◌, ◌∙◌, ◌++◌, [], sym, Result, Ok, Err, arith}
-use Rattle.std.specs.Prelude.{ℕ, List, IfOk, ◌↔◌}
+use Rattle.std.specs.Prelude.{ℕ, List, IfOk, IfErr, ◌↔◌}
 use Rattle.bg_wire.specs.declared.faults.WireFault.{WireFault}
 use Rattle.bg_wire.specs.declared.faults.WireFault.TheVariants.{Short, Extra}
 use Rattle.bg_wire.specs.declared.packets.Packet.{Packet}
 use Rattle.bg_wire.specs.PacketText.{IsText}
 use Rattle.bg_wire.specs.PacketReading.{wire_fault, packet_at, packet_of}
 use Rattle.bg_wire.specs.Texts.{HasMore}
-use Rattle.bg_wire.proofs.Laws.{IsBytes, is_found, is_read, is_short, has_more, is_extra}
-use Rattle.bg_wire.proofs.PacketLaws.{packet_law, not_extra}
+use Rattle.bg_wire.specs.Faults.{IsWireFault}
+use Rattle.bg_wire.proofs.Laws.{IsBytes, is_found, is_read, is_short, has_more, is_extra, says_why}
+use Rattle.bg_wire.proofs.PacketLaws.{packet_law, says_field, not_extra}
 use Rattle.bg_wire.proofs.codec.decode.Goals as goal
 
 module _ (bytes : List ℕ) (r : Result Packet WireFault) (was : r ≡ packet_of bytes) where
@@ -31,6 +32,10 @@ module _ (bytes : List ℕ) (r : Result Packet WireFault) (was : r ≡ packet_of
   unfolding packet_of
   extra fits = (λ e. has_more packet_at packet_law wire_fault Extra bytes not_extra fits (sym was ∙ e), λ h. was ∙ is_extra packet_at packet_law wire_fault Extra bytes h)
 
+  why : IsBytes bytes → IfErr r (λ fault. IsWireFault fault bytes)
+  unfolding packet_of
+  why fits = rw was (says_why packet_at packet_law wire_fault Extra bytes (λ fault. IsWireFault fault bytes) (says_field bytes fits) (λ fits more. more) fits)
+
 pub returns-clause-found : goal.returns-clause-found
 returns-clause-found c = found c.args.bytes.now c.all.result c.all.ensures (λ i. omega (arith, c.type_inv.bytes i))
 
@@ -42,3 +47,6 @@ returns-clause-short c = short c.args.bytes.now c.all.result c.all.ensures
 
 pub returns-clause-extra : goal.returns-clause-extra
 returns-clause-extra c = extra c.args.bytes.now c.all.result c.all.ensures (λ i. omega (arith, c.type_inv.bytes i))
+
+pub returns-clause-why : goal.returns-clause-why
+returns-clause-why c = why c.args.bytes.now c.all.result c.all.ensures (λ i. omega (arith, c.type_inv.bytes i))

@@ -1,5 +1,5 @@
 use Rattle.std.proofs.Common.{arith}
-use Rattle.bg_wire.proofs.Loading.{found, savable, only, short, extra, illegal, only_illegal, memory}
+use Rattle.bg_wire.proofs.Loading.{found, savable, only, short, extra, illegal, only_illegal, memory, why}
 use Rattle.bg_wire.proofs.saving.load.Goals as goal
 
 pub returns-clause-found : goal.returns-clause-found
@@ -25,3 +25,6 @@ returns-clause-only_illegal c = only_illegal c.args.bytes.now c.load_record.resu
 
 pub returns-clause-memory : goal.returns-clause-memory
 returns-clause-memory c = memory c.args.bytes.now c.load_record.result c.load_record.ensures (λ i. omega (arith, c.type_inv.bytes i))
+
+pub returns-clause-why : goal.returns-clause-why
+returns-clause-why c = why c.args.bytes.now c.load_record.result c.load_record.ensures (λ i. omega (arith, c.type_inv.bytes i))
