@@ -1,11 +1,11 @@
 //! The judge of a transcript.
-ghost use Rattle.std.specs.Prelude.{◌≡◌, ◌≢◌, ◌≤◌, ◌<◌, ◌↔◌, ◌++◌, ◌+◌, ℕ, length, List, Ok, IsTrue, OnOk, OnErr, IfOk, IfErr};
+ghost use Rattle.std.specs.Prelude.{◌≡◌, ◌≢◌, ◌≤◌, ◌<◌, ◌↔◌, ◌++◌, ◌+◌, ℕ, length, List, Ok, IsTrue, OnOk, OnErr, IfOk, IfErr, IfSome};
 ghost use Rattle.std.specs.Io.KnownBytes.{Appends};
 ghost use Rattle.bg_match.specs.Match.{StandsAt};
 ghost use Rattle.bg_match.specs.State.{State};
 ghost use Rattle.bg_match.specs.declared.entries.Entry.{Entry};
 ghost use Rattle.bg_text.specs.BoardText.{line_text, board_text as text_of_board};
-ghost use Rattle.bg_text.specs.Judging.{lines_of, fault_reason, refused_line, fine_line, IsWrongSeat, IsLineFault, IsTooLong, IsJudged, IsJudgement, IsJudgementOf, TranscriptsAreFine, JudgementsAgree};
+ghost use Rattle.bg_text.specs.Judging.{lines_of, fault_reason, refused_line, fine_line, IsWrongSeat, IsLineFault, IsTooLong, IsJudged, IsJudgement, IsReadOf, TranscriptsAreFine, JudgementsAgree};
 ghost use Rattle.bg_text.specs.EngineFault.{SourceFails, SinkFails};
 ghost use Rattle.bg_text.specs.Reading.{IsReadAs, IsLineAt, AddsLine, RefusesLine};
 
@@ -108,7 +108,6 @@ impl From<LineFault> for AddFault {
 
 impl From<EntryFault> for AddFault {
     ghost use Rattle.std.specs.Prelude.{◌≡◌};
-    ghost use Rattle.bg_text.specs.EngineFault.{SourceFails, SinkFails};
     ghost use Rattle.bg_text.specs.Reading.{fault_of_push};
 
     ghost from_gives = { λ why fault. fault ≡ fault_of_push why };
@@ -230,8 +229,9 @@ pub fn transcripts_are_fine()
     ensures { TranscriptsAreFine }
 {}
 
-/// Judges a transcript: reads all of the input, and writes the board and the verdict, as docs/FORMATS.md, "The judge",
-/// says. The input has at most 4194304 bytes, which take at most 4194305 reads; a longer one is TooLong.
+/// Judges a transcript: reads all of the input, and writes the board and the verdict on what it read, as
+/// docs/FORMATS.md, "The judge", says. The input has at most 4194304 bytes, which take at most 4194305 reads; of a longer
+/// one 4194305 bytes are read, and it is TooLong.
 ///
 /// # Errors
 /// Read exactly where the source failed, and Memory where memory runs out: nothing was written then. Write exactly where
@@ -241,8 +241,13 @@ pub fn judge<S: Source, T: Sink>(
     source: &mut S,
     sink: &mut T,
 ) -> Result<Verdict, EngineFault>
-    ensures judged { IfOk result (λ verdict. (text : List ℕ) × IsJudgementOf (S.remaining source.old) text verdict
+    // the text is the judgement of what the source gave, and that of all its bytes where they are known
+    ensures judged { IfOk result (λ verdict. (input : List ℕ) × (text : List ℕ) × IsJudgement input text verdict
+        × (S.given source.new ≡ S.given source.old ++ input) × (length input ≤ MOST_BYTES + 1)
+        × (T.taken sink.new ≡ T.taken sink.old ++ text)
+        × IfSome (S.remaining source.old) (λ bytes. IsReadOf input bytes × IsJudgement bytes text verdict)
         × Appends (T.contents sink.old) (T.contents sink.new) text) }
+    ensures untaken { IfErr result (λ _. T.taken sink.new ≡ T.taken sink.old) }
     ensures unwritten { IfErr result (λ fault. fault ≢ EngineFault.Write → sink.new ≡ sink.old) }
     ensures reads { S.reads source.new ≤ S.reads source.old + MOST_BYTES + 1 }
     ensures source { SourceFails result (S.failures source.old) (S.failures source.new) }
