@@ -6,7 +6,7 @@ use std::marker::Model;
 
 /// The bytes that went one way, in order. It takes no bytes itself; a clause reads them as `bytes`.
 #[derive(Drop)]
-pub struct History {
+pub(crate) struct History {
     pub ghost bytes: { List ℕ },
 }
 
@@ -16,14 +16,14 @@ impl Model for History {
 
 impl History {
     /// No byte yet.
-    pub fn new() -> History
+    pub(crate) fn new() -> History
         ensures { result.bytes ≡ [] }
     {
         History {}
     }
 
     /// These bytes more.
-    pub fn then(&self, _bytes: &[u8]) -> History
+    pub(crate) fn then(&self, _bytes: &[u8]) -> History
         ensures { result.bytes ≡ self.now.bytes ++ _bytes.now }
     {
         History {}

@@ -5,8 +5,9 @@ ghost use Rattle.bg_text.specs.Judging.{lines_of, IsLengthFault, IsDigitsFault, 
 ghost use Rattle.bg_text.specs.EngineFault.{ReadsFailOnce};
 ghost use Rattle.bg_text.specs.Transcript.{length_line};
 
+use crate::faults::LineFault;
 use crate::pairs::parse_numeral;
-use crate::{EngineFault, LineFault, Source};
+use crate::{EngineFault, Source};
 use bg_match::{LONGEST_MATCH, SHORTEST_MATCH};
 use memchr::memchr;
 use std::alloc::Global;
@@ -27,16 +28,13 @@ pub(crate) fn read_input<S: Source>(alloc: Global, source: &mut S) -> Result<Vec
     while input.len() <= MOST_BYTES {
         let room = chunk.len().min(MOST_BYTES + 1 - input.len());
         let part = &mut chunk[..room];
-        let count = match source.read(part) {
-            Ok(count) => count,
-            Err(_) => return Err(EngineFault::Read),
-        };
+        let count = source.read(part).map_err(|_| EngineFault::Read)?;
         if count == 0 {
             return Ok(input);
         }
-        if input.extend_from_slice(&part[..count]).is_err() {
-            return Err(EngineFault::Memory);
-        }
+        input
+            .extend_from_slice(&part[..count])
+            .map_err(|_| EngineFault::Memory)?;
     }
     Ok(input)
 }

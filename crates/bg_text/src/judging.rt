@@ -10,11 +10,12 @@ ghost use Rattle.bg_text.specs.EngineFault.{SourceFails, SinkFails};
 ghost use Rattle.bg_text.specs.Reading.{IsReadAs, IsLineAt, AddsLine, RefusesLine};
 
 use crate::board_texts::board_text;
+use crate::faults::LineFault;
 use crate::inputs::{MOST_BYTES, parse_length, read_input, split_line};
 use crate::lines::parse_entry;
 use crate::printing::{push_number, push_text};
 use crate::reasons::reason_text;
-use crate::{EngineFault, LineFault, Sink, Source, Verdict};
+use crate::{EngineFault, Sink, Source, Verdict};
 use bg_board::Player;
 use bg_match::{Entry, EntryFault, Record, Standing};
 use std::alloc::{AllocError, Global};
@@ -49,8 +50,7 @@ fn push_refused(out: &mut Vec<u8>, number: u32, why: LineFault) -> Result<(), Al
     push_number(out, number.into())?;
     push_text(out, ": ")?;
     push_reason(out, why)?;
-    push_text(out, "\n")?;
-    Ok(())
+    push_text(out, "\n")
 }
 
 /// Adds the verdict line of a good transcript.
@@ -78,10 +78,7 @@ fn read_entry(standing: &Standing, line: &[u8]) -> Result<Entry, LineFault>
     ensures only { (entry : Entry) → IsLineAt standing.now line.now entry → result ≡ Ok entry }
     ensures fault { IfErr result (λ why. (entries : ℕ) → IsLineFault why entries standing.now line.now) }
 {
-    let (seat, entry) = match parse_entry(line) {
-        Ok(found) => found,
-        Err(fault) => return Err(LineFault::Text(fault)),
-    };
+    let (seat, entry) = parse_entry(line).map_err(LineFault::Text)?;
     if is_wrong_seat(seat, standing) {
         return Err(LineFault::WrongPlayer);
     }
@@ -253,16 +250,9 @@ pub fn judge<S: Source, T: Sink>(
     ensures source { SourceFails result (S.failures source.old) (S.failures source.new) }
     ensures sink { SinkFails result (T.failures sink.old) (T.failures sink.new) }
 {
-    let input = match read_input(alloc, source) {
-        Ok(input) => input,
-        Err(fault) => return Err(fault),
-    };
-    let judgement = match judge_text(alloc, &input) {
-        Ok(judgement) => judgement,
-        Err(_) => return Err(EngineFault::Memory),
-    };
-    match sink.write_all(&judgement.text) {
-        Ok(()) => Ok(judgement.verdict),
-        Err(_) => Err(EngineFault::Write),
-    }
+    let input = read_input(alloc, source)?;
+    let judgement = judge_text(alloc, &input).map_err(|_| EngineFault::Memory)?;
+    sink.write_all(&judgement.text)
+        .map_err(|_| EngineFault::Write)?;
+    Ok(judgement.verdict)
 }

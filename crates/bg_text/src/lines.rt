@@ -91,11 +91,7 @@ fn read_seat_entry(line: &[u8]) -> Result<Entry, TextFault>
         return Ok(Entry::Rolled(Dice { first, second }));
     }
     // `roll` without dice is an action, and no entry
-    let action = read_action(line)?;
-    match entry_of(action, None) {
-        Some(entry) => Ok(entry),
-        None => Err(TextFault::NotALine),
-    }
+    entry_of(read_action(line)?, None).ok_or(TextFault::NotALine)
 }
 
 /// The player whose letter a line begins with, and what follows the letter and its space.

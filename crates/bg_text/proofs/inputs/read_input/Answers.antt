@@ -1,10 +1,11 @@
-use Rattle.std.proofs.Common.{arith, refl, ◌<◌, length, length-take}
+use Rattle.std.proofs.Common.{arith, rules, refl, ◌≡◌, Ok, ◌<◌, length, length-take}
 use Rattle.bg_text.proofs.WholeInputs.{read_to_end, read_to_limit}
 use Rattle.bg_text.proofs.inputs.read_input.Goals as goal
 
 pub returns-then-count-eq0-clause-read : goal.returns-then-count-eq0-clause-read
 returns-then-count-eq0-clause-read g c =
-    let none = rw c.if-count-eq0.true at c.in-Ok.ensures.bytes in
+    let was : c.read.result ≡ Ok c.in_ok-count.count = search (rules, c.in_ok-count.was, c.in_ok-count.ensures.cases) in
+    let none = rw (was, c.if-count-eq0.true) at c.read.ensures.bytes in
     let part = length-take c.min-room.result c.loop-chunk.chunk in
     let room : 0 < length c.read.new.buffer =
     omega (arith, part, c.min-room.array_long, c.read.auto.buffer, c.min-room.ensures, c.len-in-loop-chunk.ensures, c.loop-chunk-test.true, c.len.ensures) in
