@@ -2,7 +2,8 @@
 use Rattle.std.proofs.Common.{◌≡◌, ℕ, ◌+◌, ◌≤◌, List, [], ◌++◌, length, take, Option, Some, None, IfSome, sym, ◌∙◌, ap, subst, arith, append-nil, length-take, inl, inr}
 use Rattle.std.proofs.lemmas.List.{take_all, take_at}
 use Rattle.std.specs.Io.KnownBytes.{Consumes, IsAtEnd}
-use Rattle.bg_text.specs.Judging.{IsReadOf, IsJudgement, IsAnswerTo, lines_of}
+use Rattle.bg_text.specs.Transfers.{IsReadOf}
+use Rattle.bg_text.specs.Judging.{IsJudgement, IsAnswerTo, lines_of}
 use Rattle.bg_text.specs.declared.inputs.TheConstants.{MOST_BYTES}
 use Rattle.bg_text.specs.declared.verdicts.Verdict.{Verdict}
 
@@ -34,6 +35,6 @@ judged_whole bytes input text verdict read judged =
           inr (few, subst (λ (input : List ℕ). IsAnswerTo (lines_of input) text verdict) same answer.1)
     ]
 
-pub judged_known : (u : Option (List ℕ)) (input text : List ℕ) (verdict : Verdict) → IfSome u (IsReadOf input) → IsJudgement input text verdict → IfSome u (λ bytes. IsReadOf input bytes × IsJudgement bytes text verdict)
+pub judged_known : (u : Option (List ℕ)) (input text : List ℕ) (verdict : Verdict) → IfSome u (IsReadOf input) → IsJudgement input text verdict → IfSome u (λ bytes. IsJudgement bytes text verdict)
 judged_known None input text verdict read judged = tt
-judged_known (Some bytes) input text verdict read judged = (read, judged_whole bytes input text verdict read judged)
+judged_known (Some bytes) input text verdict read judged = judged_whole bytes input text verdict read judged

@@ -10,6 +10,9 @@ module _ {R : Type 0} where
   abbrev pub given_of : Reading R → List ℕ
   given_of source = source.given.bytes
 
+  abbrev pub ends_of : Reading R → ℕ
+  ends_of source = source.ends.number
+
   abbrev pub reads_of : Reading R → ℕ
   reads_of source = source.reads.number
 

@@ -136,10 +136,6 @@ IsJudgement input text verdict =
     ((MOST_BYTES < length input) × IsTooLong text verdict)
     ⊎ ((length input ≤ MOST_BYTES) × IsAnswerTo (lines_of input) text verdict)
 
--- what is read of some bytes: all of them, but no more than one over the limit
-abbrev pub IsReadOf : List ℕ → List ℕ → Type 0
-IsReadOf input bytes = input ≡ take (MOST_BYTES + 1) bytes
-
 -- the judge finds every transcript fine, counts its entries, and shows the board where they lead
 abbrev pub TranscriptsAreFine : Type 0
 TranscriptsAreFine =

@@ -2,7 +2,7 @@
 ghost use Rattle.std.specs.Prelude.{◌≡◌, ℕ, ◌+◌, List, [], Option, OnOk};
 ghost use Rattle.std.specs.Io.{ReadsAtMost};
 ghost use Rattle.std.specs.Io.KnownBytes.{Appends, ReadConsumes};
-ghost use Rattle.bg_text.specs.Devices.{CountsFailure, Gives, Takes};
+ghost use Rattle.bg_text.specs.Devices.{CountsEnd, CountsFailure, Gives, Takes};
 
 use crate::counts::Count;
 use crate::histories::History;
@@ -22,6 +22,9 @@ pub trait Source {
     /// All bytes that its reads gave, in order.
     ghost given: { Self → List ℕ };
 
+    /// How often it said that nothing is left: gave nothing, though there was room.
+    ghost ends: { Self → ℕ };
+
     /// How often it was asked for bytes.
     ghost reads: { Self → ℕ };
 
@@ -33,6 +36,7 @@ pub trait Source {
         ensures bound { ReadsAtMost result buffer.new }
         ensures bytes { ReadConsumes (remaining self.old) (remaining self.new) result buffer.new }
         ensures given { Gives (given self.old) (given self.new) result buffer.new }
+        ensures ends { CountsEnd (ends self.old) (ends self.new) result buffer.new }
         ensures reads { reads self.new ≡ reads self.old + 1 }
         ensures cause { CountsFailure (failures self.old) (failures self.new) result };
 }
@@ -60,23 +64,26 @@ pub trait Sink {
 pub struct Reading<R> {
     reader: R,
     given: History,
+    ends: Count,
     reads: Count,
     failures: Count,
 }
 
 impl<R: Read> Reading<R> {
-    ghost use Rattle.bg_text.specs.DeviceParts.{reader_of, given_of, reads_of, read_failures_of};
+    ghost use Rattle.bg_text.specs.DeviceParts.{reader_of, given_of, ends_of, reads_of, read_failures_of};
 
     /// Reads from this reader. It has not been asked yet, so it has given nothing and has not failed.
     pub fn new(reader: R) -> Reading<R>
         ensures reader { reader_of result ≡ reader }
         ensures given { given_of result ≡ [] }
+        ensures ends { ends_of result ≡ 0 }
         ensures reads { reads_of result ≡ 0 }
         ensures failures { read_failures_of result ≡ 0 }
     {
         Reading {
             reader,
             given: History::new(),
+            ends: Count::new(),
             reads: Count::new(),
             failures: Count::new(),
         }
@@ -84,11 +91,13 @@ impl<R: Read> Reading<R> {
 }
 
 impl<R: Read> Source for Reading<R> {
-    ghost use Rattle.bg_text.specs.DeviceParts.{reader_of, given_of, reads_of, read_failures_of};
+    ghost use Rattle.bg_text.specs.DeviceParts.{reader_of, given_of, ends_of, reads_of, read_failures_of};
 
     ghost remaining = { λ s. R.remaining (reader_of s) };
 
     ghost given = { given_of };
+
+    ghost ends = { ends_of };
 
     ghost reads = { reads_of };
 
@@ -99,6 +108,9 @@ impl<R: Read> Source for Reading<R> {
         match self.reader.read(buffer) {
             Ok(count) => {
                 self.given = self.given.then(&buffer[..count]);
+                if count == 0 && !buffer.is_empty() {
+                    self.ends = self.ends.next();
+                }
                 Ok(count)
             }
             Err(_) => {

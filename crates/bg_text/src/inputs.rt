@@ -1,9 +1,10 @@
 //! The input of the judge: its bytes and lines, and the length of the match.
 ghost use Rattle.std.specs.Prelude.{◌≡◌, ◌≤◌, ◌+◌, ◌<◌, ◌↔◌, ◌∷◌, ◌++◌, [], length, IsNone, IfSome, IfOk, IfErr, Option};
 ghost use Rattle.std.specs.Fmt.{decimal};
-ghost use Rattle.bg_text.specs.Judging.{lines_of, IsLengthFault, IsDigitsFault, IsReadOf};
+ghost use Rattle.bg_text.specs.Judging.{lines_of, IsLengthFault, IsDigitsFault};
 ghost use Rattle.bg_text.specs.EngineFault.{ReadsFailOnce};
 ghost use Rattle.bg_text.specs.Transcript.{length_line};
+ghost use Rattle.bg_text.specs.Transfers.{ReadsInput};
 
 use crate::faults::LineFault;
 use crate::pairs::parse_numeral;
@@ -17,9 +18,7 @@ pub const MOST_BYTES: usize = 4_194_304;
 
 /// Reads all of an input, or one byte more than the limit, in at most as many reads.
 pub(crate) fn read_input<S: Source>(alloc: Global, source: &mut S) -> Result<Vec<u8>, EngineFault>
-    ensures given { IfOk result (λ input. S.given source.new ≡ S.given source.old ++ input.items) }
-    ensures most { IfOk result (λ input. length input.items ≤ MOST_BYTES + 1) }
-    ensures read { IfOk result (λ input. IfSome (S.remaining source.old) (IsReadOf input.items)) }
+    ensures read { IfOk result (λ input. ReadsInput S.Source source.old source.new input.items) }
     ensures reads { S.reads source.new ≤ S.reads source.old + MOST_BYTES + 1 }
     ensures failed { ReadsFailOnce result (S.failures source.old) (S.failures source.new) }
 {

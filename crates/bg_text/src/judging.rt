@@ -1,12 +1,12 @@
 //! The judge of a transcript.
 ghost use Rattle.std.specs.Prelude.{◌≡◌, ◌≢◌, ◌≤◌, ◌<◌, ◌↔◌, ◌++◌, ◌+◌, ℕ, length, List, Ok, IsTrue, OnOk, OnErr, IfOk, IfErr, IfSome};
-ghost use Rattle.std.specs.Io.KnownBytes.{Appends};
 ghost use Rattle.bg_match.specs.Match.{StandsAt};
 ghost use Rattle.bg_match.specs.State.{State};
 ghost use Rattle.bg_match.specs.declared.entries.Entry.{Entry};
 ghost use Rattle.bg_text.specs.BoardText.{line_text, board_text as text_of_board};
-ghost use Rattle.bg_text.specs.Judging.{lines_of, fault_reason, refused_line, fine_line, IsWrongSeat, IsLineFault, IsTooLong, IsJudged, IsJudgement, IsReadOf, TranscriptsAreFine, JudgementsAgree};
+ghost use Rattle.bg_text.specs.Judging.{lines_of, fault_reason, refused_line, fine_line, IsWrongSeat, IsLineFault, IsTooLong, IsJudged, IsJudgement, TranscriptsAreFine, JudgementsAgree};
 ghost use Rattle.bg_text.specs.EngineFault.{SourceFails, SinkFails};
+ghost use Rattle.bg_text.specs.Transfers.{ReadsInput, WritesText};
 ghost use Rattle.bg_text.specs.Reading.{IsReadAs, IsLineAt, AddsLine, RefusesLine};
 
 use crate::board_texts::board_text;
@@ -238,12 +238,10 @@ pub fn judge<S: Source, T: Sink>(
     source: &mut S,
     sink: &mut T,
 ) -> Result<Verdict, EngineFault>
-    // the text is the judgement of what the source gave, and that of all its bytes where they are known
-    ensures judged { IfOk result (λ verdict. (input : List ℕ) × (text : List ℕ) × IsJudgement input text verdict
-        × (S.given source.new ≡ S.given source.old ++ input) × (length input ≤ MOST_BYTES + 1)
-        × (T.taken sink.new ≡ T.taken sink.old ++ text)
-        × IfSome (S.remaining source.old) (λ bytes. IsReadOf input bytes × IsJudgement bytes text verdict)
-        × Appends (T.contents sink.old) (T.contents sink.new) text) }
+    ensures judged { IfOk result (λ verdict. (input : List ℕ) × (text : List ℕ)
+        × ReadsInput S.Source source.old source.new input × IsJudgement input text verdict
+        × WritesText T.Sink sink.old sink.new text
+        × IfSome (S.remaining source.old) (λ bytes. IsJudgement bytes text verdict)) }
     ensures untaken { IfErr result (λ _. T.taken sink.new ≡ T.taken sink.old) }
     ensures unwritten { IfErr result (λ fault. fault ≢ EngineFault.Write → sink.new ≡ sink.old) }
     ensures reads { S.reads source.new ≤ S.reads source.old + MOST_BYTES + 1 }

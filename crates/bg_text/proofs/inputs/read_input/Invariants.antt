@@ -8,6 +8,7 @@ abbrev pub invariant-loop-chunk : goal.invariant-loop-chunk
 invariant-loop-chunk g l = record {
   read : Consumes (g.S.Source.remaining l.initial.source) (g.S.Source.remaining l.source) l.input.items;
   given : g.S.Source.given l.source ≡ g.S.Source.given l.initial.source ++ l.input.items;
+  ends : g.S.Source.ends l.source ≡ g.S.Source.ends l.initial.source;
   reads : g.S.Source.reads l.source ≤ g.S.Source.reads l.initial.source + vec_len l.input;
   within : vec_len l.input ≤ MOST_BYTES + 1;
   failures : g.S.Source.failures l.source ≡ g.S.Source.failures l.initial.source;
