@@ -1,5 +1,5 @@
 //! The input of the judge: its bytes and lines, and the length of the match.
-ghost use Rattle.std.specs.Prelude.{◌≡◌, ◌≤◌, ◌+◌, ◌<◌, ◌↔◌, ◌∷◌, ◌++◌, [], length, IsNone, IfSome, IfOk, IfErr, Option};
+ghost use Rattle.std.specs.Prelude.{◌≡◌, ◌≤◌, ◌+◌, ◌<◌, ◌↔◌, ◌∷◌, [], length, IsNone, IfSome, IfOk, IfErr};
 ghost use Rattle.std.specs.Fmt.{decimal};
 ghost use Rattle.bg_text.specs.Judging.{lines_of, IsLengthFault, IsDigitsFault};
 ghost use Rattle.bg_text.specs.EngineFault.{ReadsFailOnce};
@@ -55,7 +55,8 @@ pub(crate) fn split_line(input: &[u8]) -> Option<(&[u8], &[u8])>
 
 /// The length that line 1 says.
 pub(crate) fn parse_length(line: &[u8]) -> Result<u8, LineFault>
-    ensures found { IfOk result (λ length. (SHORTEST_MATCH ≤ length) × (length ≤ LONGEST_MATCH) × (line.now ≡ length_line length)) }
+    ensures found { IfOk result (λ length. (SHORTEST_MATCH ≤ length) × (length ≤ LONGEST_MATCH)
+        × (line.now ≡ length_line length)) }
     ensures fault { IfErr result (λ fault. IsLengthFault fault (line.now ∷ [])) }
 {
     match line.strip_prefix(b"length ") {
@@ -66,7 +67,8 @@ pub(crate) fn parse_length(line: &[u8]) -> Result<u8, LineFault>
 
 /// The length that one to three digits say.
 fn parse_digits(digits: &[u8]) -> Result<u8, LineFault>
-    ensures found { IfOk result (λ length. (SHORTEST_MATCH ≤ length) × (length ≤ LONGEST_MATCH) × (digits.now ≡ decimal length)) }
+    ensures found { IfOk result (λ length. (SHORTEST_MATCH ≤ length) × (length ≤ LONGEST_MATCH)
+        × (digits.now ≡ decimal length)) }
     ensures fault { IfErr result (λ fault. IsDigitsFault fault digits.now) }
 {
     match (parse_numeral(digits), digits) {

@@ -1,5 +1,5 @@
 //! The judge of a transcript.
-ghost use Rattle.std.specs.Prelude.{◌≡◌, ◌≢◌, ◌≤◌, ◌<◌, ◌↔◌, ◌++◌, ◌+◌, ℕ, length, List, Ok, IsTrue, OnOk, OnErr, IfOk, IfErr, IfSome};
+ghost use Rattle.std.specs.Prelude.{◌≡◌, ◌≢◌, ◌≤◌, ◌↔◌, ◌++◌, ◌+◌, ℕ, length, List, Ok, IsTrue, OnOk, OnErr, IfOk, IfErr, IfSome};
 ghost use Rattle.bg_match.specs.Match.{StandsAt};
 ghost use Rattle.bg_match.specs.State.{State};
 ghost use Rattle.bg_match.specs.declared.entries.Entry.{Entry};

@@ -1,5 +1,5 @@
 //! The lines of entries and actions.
-ghost use Rattle.std.specs.Prelude.{◌≡◌, ℕ, List, ◌∷◌, ◌++◌, Option, Ok, IfOk, IfErr, MatchOption, MatchResult};
+ghost use Rattle.std.specs.Prelude.{◌≡◌, ℕ, List, ◌∷◌, ◌++◌, Option, Ok, IfOk, IfErr, MatchOption};
 ghost use Rattle.bg_board.specs.declared.players.Player.{Player};
 ghost use Rattle.bg_match.specs.Entry.{IsEntry, IsAction};
 ghost use Rattle.bg_match.specs.declared.actions.Action.{Action};
