@@ -10,6 +10,7 @@ pub mod EntryLines
 pub mod MoveLines
 pub mod LineLists
 pub mod InputLines
+pub mod WholeInputs
 pub mod ReadLines
 pub mod PartRead
 pub mod WrittenLines

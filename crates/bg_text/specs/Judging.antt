@@ -1,5 +1,5 @@
 -- What the judge says of an input.
-use Rattle.std.specs.Prelude.{◌≡◌, ◌≢◌, ◌==◌, ◌⊎◌, ℕ, ◌+◌, ◌<◌, ◌≤◌, List, [], ◌∷◌, ◌++◌, length, take, slice_index_or, Option, Some, None, IsTrue, codes, if◌then◌else◌}
+use Rattle.std.specs.Prelude.{◌≡◌, ◌≢◌, ◌==◌, ◌⊎◌, ℕ, ◌+◌, ◌<◌, ◌≤◌, List, [], ◌∷◌, ◌++◌, length, take, slice_index_or, Option, Some, IsTrue, codes, if◌then◌else◌}
 use Rattle.std.specs.List.{onto_first}
 use Rattle.std.specs.Fmt.{decimal}
 use Rattle.std.specs.Str.{all_ascii_digits}
@@ -135,16 +135,6 @@ abbrev pub IsJudgement : List ℕ → List ℕ → Verdict → Type 0
 IsJudgement input text verdict =
     ((MOST_BYTES < length input) × IsTooLong text verdict)
     ⊎ ((length input ≤ MOST_BYTES) × IsAnswerTo (lines_of input) text verdict)
-
--- the same of an input that contracts know, or of some input
-abbrev pub IsJudgementOf : Option (List ℕ) → List ℕ → Verdict → Type 0
-IsJudgementOf (Some input) text verdict = IsJudgement input text verdict
-IsJudgementOf None text verdict = (input : List ℕ) × IsJudgement input text verdict
-
--- all of the bytes were read, or more than the limit
-abbrev pub IsReadOf : List ℕ → List ℕ → Type 0
-IsReadOf bytes input =
-    ((length input ≤ MOST_BYTES) × (bytes ≡ input)) ⊎ ((MOST_BYTES < length input) × (MOST_BYTES < length bytes))
 
 -- the judge finds every transcript fine, counts its entries, and shows the board where they lead
 abbrev pub TranscriptsAreFine : Type 0

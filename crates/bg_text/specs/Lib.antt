@@ -9,5 +9,6 @@ pub mod Reason
 pub mod BoardText
 pub mod Transcript
 pub mod EngineFault
+pub mod Transfers
 pub mod Judging
 pub mod Reading

@@ -49,7 +49,7 @@ impl std::error::Error for TextFault {}
 
 /// Why a line of a transcript is refused (docs/FORMATS.md, "Transcripts").
 #[derive(Clone, Copy, Debug, PartialEq, Eq)]
-pub enum LineFault {
+pub(crate) enum LineFault {
     /// The first line is missing, or has not the shape of a length line.
     NotALengthLine,
     /// The length has a leading zero, or is not from 1 to 99.

@@ -1,12 +1,14 @@
 //! The input of the judge: its bytes and lines, and the length of the match.
-ghost use Rattle.std.specs.Prelude.{◌≡◌, ◌≤◌, ◌+◌, ◌<◌, ◌↔◌, ◌∷◌, [], length, IsNone, IfSome, IfOk, IfErr, Option};
+ghost use Rattle.std.specs.Prelude.{◌≡◌, ◌≤◌, ◌+◌, ◌<◌, ◌↔◌, ◌∷◌, [], length, IsNone, IfSome, IfOk, IfErr};
 ghost use Rattle.std.specs.Fmt.{decimal};
-ghost use Rattle.bg_text.specs.Judging.{lines_of, IsLengthFault, IsDigitsFault, IsReadOf};
+ghost use Rattle.bg_text.specs.Judging.{lines_of, IsLengthFault, IsDigitsFault};
 ghost use Rattle.bg_text.specs.EngineFault.{ReadsFailOnce};
 ghost use Rattle.bg_text.specs.Transcript.{length_line};
+ghost use Rattle.bg_text.specs.Transfers.{ReadsInput};
 
+use crate::faults::LineFault;
 use crate::pairs::parse_numeral;
-use crate::{EngineFault, LineFault, Source};
+use crate::{EngineFault, Source};
 use bg_match::{LONGEST_MATCH, SHORTEST_MATCH};
 use memchr::memchr;
 use std::alloc::Global;
@@ -16,7 +18,7 @@ pub const MOST_BYTES: usize = 4_194_304;
 
 /// Reads all of an input, or one byte more than the limit, in at most as many reads.
 pub(crate) fn read_input<S: Source>(alloc: Global, source: &mut S) -> Result<Vec<u8>, EngineFault>
-    ensures read { IfOk result (λ input. IfSome (S.remaining source.old) (λ bytes. IsReadOf bytes input.items)) }
+    ensures read { IfOk result (λ input. ReadsInput S.Source source.old source.new input.items) }
     ensures reads { S.reads source.new ≤ S.reads source.old + MOST_BYTES + 1 }
     ensures failed { ReadsFailOnce result (S.failures source.old) (S.failures source.new) }
 {
@@ -25,16 +27,13 @@ pub(crate) fn read_input<S: Source>(alloc: Global, source: &mut S) -> Result<Vec
     while input.len() <= MOST_BYTES {
         let room = chunk.len().min(MOST_BYTES + 1 - input.len());
         let part = &mut chunk[..room];
-        let count = match source.read(part) {
-            Ok(count) => count,
-            Err(_) => return Err(EngineFault::Read),
-        };
+        let count = source.read(part).map_err(|_| EngineFault::Read)?;
         if count == 0 {
             return Ok(input);
         }
-        if input.extend_from_slice(&part[..count]).is_err() {
-            return Err(EngineFault::Memory);
-        }
+        input
+            .extend_from_slice(&part[..count])
+            .map_err(|_| EngineFault::Memory)?;
     }
     Ok(input)
 }
@@ -56,7 +55,8 @@ pub(crate) fn split_line(input: &[u8]) -> Option<(&[u8], &[u8])>
 
 /// The length that line 1 says.
 pub(crate) fn parse_length(line: &[u8]) -> Result<u8, LineFault>
-    ensures found { IfOk result (λ length. (SHORTEST_MATCH ≤ length) × (length ≤ LONGEST_MATCH) × (line.now ≡ length_line length)) }
+    ensures found { IfOk result (λ length. (SHORTEST_MATCH ≤ length) × (length ≤ LONGEST_MATCH)
+        × (line.now ≡ length_line length)) }
     ensures fault { IfErr result (λ fault. IsLengthFault fault (line.now ∷ [])) }
 {
     match line.strip_prefix(b"length ") {
@@ -67,7 +67,8 @@ pub(crate) fn parse_length(line: &[u8]) -> Result<u8, LineFault>
 
 /// The length that one to three digits say.
 fn parse_digits(digits: &[u8]) -> Result<u8, LineFault>
-    ensures found { IfOk result (λ length. (SHORTEST_MATCH ≤ length) × (length ≤ LONGEST_MATCH) × (digits.now ≡ decimal length)) }
+    ensures found { IfOk result (λ length. (SHORTEST_MATCH ≤ length) × (length ≤ LONGEST_MATCH)
+        × (digits.now ≡ decimal length)) }
     ensures fault { IfErr result (λ fault. IsDigitsFault fault digits.now) }
 {
     match (parse_numeral(digits), digits) {

@@ -5,8 +5,8 @@ use crate::{
     transcript_text,
 };
 use arrayvec::ArrayVec;
-use bg_board::{Die, Step};
-use bg_match::{Entry, Record};
+use bg_board::{Board, Die, Player, Step};
+use bg_match::{Cube, Entry, Phase, Record, Standing};
 use bg_turns::Turn;
 use std::alloc::Global;
 use std::io::{self, Read, Write};
@@ -47,6 +47,20 @@ fn picture(
     phase: &str,
     last: &str,
 ) -> Result<Vec<u8>, Fail> {
+    let mut text = board_picture(alloc, header, upper, lower, ASIDE, phase)?;
+    text.extend_from_slice(&lines(alloc, &[last])?)?;
+    Ok(text)
+}
+
+/// A picture of a board alone.
+fn board_picture(
+    alloc: Global,
+    header: &str,
+    upper: &str,
+    lower: &str,
+    aside: &str,
+    phase: &str,
+) -> Result<Vec<u8>, Fail> {
     lines(
         alloc,
         &[
@@ -55,11 +69,21 @@ fn picture(
             upper,
             lower,
             LOWER_NUMBERS,
-            ASIDE,
+            aside,
             phase,
-            last,
         ],
     )
+}
+
+/// How many checkers stand on each point, of the points that have some.
+fn counts(points: &[(usize, u8)]) -> [u8; 26] {
+    let mut counts = [0; 26];
+    for &(point, count) in points {
+        if point < 26 {
+            counts[point] = count;
+        }
+    }
+    counts
 }
 
 /// Some bytes, and one byte so many times.
@@ -223,10 +247,49 @@ fn text_of_a_record(rt: HostRuntime) -> Result<(), Fail> {
     let transcript = transcript_text(rt.alloc(), &record)?;
     assert_eq!(rt; transcript.as_slice(), MATCH.as_bytes());
     let board = board_text(rt.alloc(), &record.standing())?;
+    assert_eq!(rt;
+        board,
+        board_picture(rt.alloc(), HEADER, UPPER, OPENED, ASIDE, "O to roll")?
+    );
     let judged = judge_text(rt.alloc(), &transcript)?;
-    assert_eq!(rt; judged.verdict, Verdict::Fine(2));
-    let end = board.len();
-    assert!(rt; judged.text.starts_with(&board) && judged.text.len() == end + 5);
+    let (text, verdict) = (text_of_match(rt.alloc())?, Verdict::Fine(2));
+    assert_eq!(rt; judged, Judgement { text, verdict });
+    Ok(())
+}
+
+#[test]
+fn checkers_on_the_bar_and_off(rt: HostRuntime) -> Result<(), Fail> {
+    let x = counts(&[(25, 1), (6, 12), (0, 2)]);
+    let lower = "   .   .   .   .   .   . X12   .   .   .   .   .";
+    for (o, upper, aside) in [
+        (
+            counts(&[(1, 15)]),
+            "   .   .   .   .   .   .   .   .   .   .   . O15",
+            "bar X 1 O 0 off X 2 O 0",
+        ),
+        (
+            counts(&[(25, 3), (6, 8), (0, 4)]),
+            "   .   .   .   .   .   .  O8   .   .   .   .   .",
+            "bar X 1 O 3 off X 2 O 4",
+        ),
+    ] {
+        let standing = Standing::from_parts(
+            3,
+            Board::from_counts(x, o)?,
+            Phase::ToAct(Player::X),
+            Cube {
+                value: 1,
+                owner: None,
+            },
+            (0, 0),
+            false,
+            1,
+        );
+        let text = board_text(rt.alloc(), &standing.ok_or("standing")?)?;
+        let header = "length 3 game 1 score 0-0 cube 1 middle";
+        let expected = board_picture(rt.alloc(), header, upper, lower, aside, "X to roll")?;
+        assert_eq!(rt; text, expected, "{aside}");
+    }
     Ok(())
 }
 
@@ -458,12 +521,12 @@ fn readers_that_fail_or_never_end(rt: HostRuntime) -> Result<(), Fail> {
 
 #[test]
 fn longest_input_is_read(rt: HostRuntime) -> Result<(), Fail> {
-    for (length, verdict) in [
-        (MOST_BYTES, Verdict::Refused(1)),
-        (MOST_BYTES + 1, Verdict::TooLong),
+    for (length, steps, verdict) in [
+        (MOST_BYTES, [1, 4096], Verdict::Refused(1)),
+        (MOST_BYTES + 1, [1000, 4096], Verdict::TooLong),
     ] {
         let input = followed_by(rt.alloc(), "", b'X', length)?;
-        for step in [1, 4096] {
+        for step in steps {
             let mut reader = Fed::new(&input, step);
             let mut writer = Slow::new(rt.alloc(), 1000, 1000);
             assert_eq!(rt;

@@ -1,20 +1,21 @@
 //! The judge of a transcript.
-ghost use Rattle.std.specs.Prelude.{◌≡◌, ◌≢◌, ◌≤◌, ◌<◌, ◌↔◌, ◌++◌, ◌+◌, ℕ, length, List, Ok, IsTrue, OnOk, OnErr, IfOk, IfErr};
-ghost use Rattle.std.specs.Io.KnownBytes.{Appends};
+ghost use Rattle.std.specs.Prelude.{◌≡◌, ◌≢◌, ◌≤◌, ◌↔◌, ◌++◌, ◌+◌, ℕ, length, List, Ok, IsTrue, OnOk, OnErr, IfOk, IfErr, IfSome};
 ghost use Rattle.bg_match.specs.Match.{StandsAt};
 ghost use Rattle.bg_match.specs.State.{State};
 ghost use Rattle.bg_match.specs.declared.entries.Entry.{Entry};
 ghost use Rattle.bg_text.specs.BoardText.{line_text, board_text as text_of_board};
-ghost use Rattle.bg_text.specs.Judging.{lines_of, fault_reason, refused_line, fine_line, IsWrongSeat, IsLineFault, IsTooLong, IsJudged, IsJudgement, IsJudgementOf, TranscriptsAreFine, JudgementsAgree};
+ghost use Rattle.bg_text.specs.Judging.{lines_of, fault_reason, refused_line, fine_line, IsWrongSeat, IsLineFault, IsTooLong, IsJudged, IsJudgement, TranscriptsAreFine, JudgementsAgree};
 ghost use Rattle.bg_text.specs.EngineFault.{SourceFails, SinkFails};
+ghost use Rattle.bg_text.specs.Transfers.{ReadsInput, WritesText};
 ghost use Rattle.bg_text.specs.Reading.{IsReadAs, IsLineAt, AddsLine, RefusesLine};
 
 use crate::board_texts::board_text;
+use crate::faults::LineFault;
 use crate::inputs::{MOST_BYTES, parse_length, read_input, split_line};
 use crate::lines::parse_entry;
 use crate::printing::{push_number, push_text};
 use crate::reasons::reason_text;
-use crate::{EngineFault, LineFault, Sink, Source, Verdict};
+use crate::{EngineFault, Sink, Source, Verdict};
 use bg_board::Player;
 use bg_match::{Entry, EntryFault, Record, Standing};
 use std::alloc::{AllocError, Global};
@@ -49,8 +50,7 @@ fn push_refused(out: &mut Vec<u8>, number: u32, why: LineFault) -> Result<(), Al
     push_number(out, number.into())?;
     push_text(out, ": ")?;
     push_reason(out, why)?;
-    push_text(out, "\n")?;
-    Ok(())
+    push_text(out, "\n")
 }
 
 /// Adds the verdict line of a good transcript.
@@ -78,10 +78,7 @@ fn read_entry(standing: &Standing, line: &[u8]) -> Result<Entry, LineFault>
     ensures only { (entry : Entry) → IsLineAt standing.now line.now entry → result ≡ Ok entry }
     ensures fault { IfErr result (λ why. (entries : ℕ) → IsLineFault why entries standing.now line.now) }
 {
-    let (seat, entry) = match parse_entry(line) {
-        Ok(found) => found,
-        Err(fault) => return Err(LineFault::Text(fault)),
-    };
+    let (seat, entry) = parse_entry(line).map_err(LineFault::Text)?;
     if is_wrong_seat(seat, standing) {
         return Err(LineFault::WrongPlayer);
     }
@@ -108,7 +105,6 @@ impl From<LineFault> for AddFault {
 
 impl From<EntryFault> for AddFault {
     ghost use Rattle.std.specs.Prelude.{◌≡◌};
-    ghost use Rattle.bg_text.specs.EngineFault.{SourceFails, SinkFails};
     ghost use Rattle.bg_text.specs.Reading.{fault_of_push};
 
     ghost from_gives = { λ why fault. fault ≡ fault_of_push why };
@@ -230,8 +226,9 @@ pub fn transcripts_are_fine()
     ensures { TranscriptsAreFine }
 {}
 
-/// Judges a transcript: reads all of the input, and writes the board and the verdict, as docs/FORMATS.md, "The judge",
-/// says. The input has at most 4194304 bytes, which take at most 4194305 reads; a longer one is TooLong.
+/// Judges a transcript: reads all of the input, and writes the board and the verdict on what it read, as
+/// docs/FORMATS.md, "The judge", says. The input has at most 4194304 bytes, which take at most 4194305 reads; of a longer
+/// one 4194305 bytes are read, and it is TooLong.
 ///
 /// # Errors
 /// Read exactly where the source failed, and Memory where memory runs out: nothing was written then. Write exactly where
@@ -241,23 +238,19 @@ pub fn judge<S: Source, T: Sink>(
     source: &mut S,
     sink: &mut T,
 ) -> Result<Verdict, EngineFault>
-    ensures judged { IfOk result (λ verdict. (text : List ℕ) × IsJudgementOf (S.remaining source.old) text verdict
-        × Appends (T.contents sink.old) (T.contents sink.new) text) }
+    ensures judged { IfOk result (λ verdict. (input : List ℕ) × (text : List ℕ)
+        × ReadsInput S.Source source.old source.new input × IsJudgement input text verdict
+        × WritesText T.Sink sink.old sink.new text
+        × IfSome (S.remaining source.old) (λ bytes. IsJudgement bytes text verdict)) }
+    ensures untaken { IfErr result (λ _. T.taken sink.new ≡ T.taken sink.old) }
     ensures unwritten { IfErr result (λ fault. fault ≢ EngineFault.Write → sink.new ≡ sink.old) }
     ensures reads { S.reads source.new ≤ S.reads source.old + MOST_BYTES + 1 }
     ensures source { SourceFails result (S.failures source.old) (S.failures source.new) }
     ensures sink { SinkFails result (T.failures sink.old) (T.failures sink.new) }
 {
-    let input = match read_input(alloc, source) {
-        Ok(input) => input,
-        Err(fault) => return Err(fault),
-    };
-    let judgement = match judge_text(alloc, &input) {
-        Ok(judgement) => judgement,
-        Err(_) => return Err(EngineFault::Memory),
-    };
-    match sink.write_all(&judgement.text) {
-        Ok(()) => Ok(judgement.verdict),
-        Err(_) => Err(EngineFault::Write),
-    }
+    let input = read_input(alloc, source)?;
+    let judgement = judge_text(alloc, &input).map_err(|_| EngineFault::Memory)?;
+    sink.write_all(&judgement.text)
+        .map_err(|_| EngineFault::Write)?;
+    Ok(judgement.verdict)
 }

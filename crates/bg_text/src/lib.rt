@@ -5,6 +5,7 @@ mod board_texts;
 mod counts;
 mod devices;
 mod faults;
+mod histories;
 mod inputs;
 #[cfg(test)]
 mod judge_tests;
@@ -21,9 +22,8 @@ mod words;
 mod writing;
 
 pub use board_texts::board_text;
-pub use counts::Count;
 pub use devices::{DeviceFailure, Reading, Sink, Source, Writing};
-pub use faults::{LineFault, TextFault};
+pub use faults::TextFault;
 pub use inputs::MOST_BYTES;
 pub use judging::{Judgement, judge, judge_text, judgements_agree, transcripts_are_fine};
 pub use lines::{parse_action, parse_entry};

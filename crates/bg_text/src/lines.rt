@@ -1,5 +1,5 @@
 //! The lines of entries and actions.
-ghost use Rattle.std.specs.Prelude.{◌≡◌, ℕ, List, ◌∷◌, ◌++◌, Option, Ok, IfOk, IfErr, MatchOption, MatchResult};
+ghost use Rattle.std.specs.Prelude.{◌≡◌, ℕ, List, ◌∷◌, ◌++◌, Option, Ok, IfOk, IfErr, MatchOption};
 ghost use Rattle.bg_board.specs.declared.players.Player.{Player};
 ghost use Rattle.bg_match.specs.Entry.{IsEntry, IsAction};
 ghost use Rattle.bg_match.specs.declared.actions.Action.{Action};
@@ -91,11 +91,7 @@ fn read_seat_entry(line: &[u8]) -> Result<Entry, TextFault>
         return Ok(Entry::Rolled(Dice { first, second }));
     }
     // `roll` without dice is an action, and no entry
-    let action = read_action(line)?;
-    match entry_of(action, None) {
-        Some(entry) => Ok(entry),
-        None => Err(TextFault::NotALine),
-    }
+    entry_of(read_action(line)?, None).ok_or(TextFault::NotALine)
 }
 
 /// The player whose letter a line begins with, and what follows the letter and its space.

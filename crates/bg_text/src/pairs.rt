@@ -1,5 +1,5 @@
 //! The pairs of a move, and the numbers of two dice.
-ghost use Rattle.std.specs.Prelude.{◌≡◌, ◌⊎◌, ℕ, List, [], ◌∷◌, ◌++◌, Result, MatchOption, MatchResult, codes};
+ghost use Rattle.std.specs.Prelude.{◌≡◌, ◌⊎◌, ℕ, List, [], ◌∷◌, ◌++◌, MatchOption, MatchResult, codes};
 ghost use Rattle.std.specs.List.{AllByRecursion};
 ghost use Rattle.bg_text.specs.Words.{words_of};
 ghost use Rattle.bg_text.specs.EntryText.{dice_words};

@@ -10,7 +10,7 @@ returns-in_err-first c =
 pub returns-in-Some : goal.returns-in-Some
 returns-in-Some c = (tt, tt, c.in-Some.ensures ∙ dice_line (codes "roll ") c.in-Some.numbers.now c.in_ok-first.first c.in_ok-first.second c.in_ok-first.ensures)
 
-pub returns-in_err-action : goal.returns-in_err-action
-returns-in_err-action c =
-    let same : c.from_residual-in_err-action.result ≡ Err c.in_err-action.field-0.0 = search rules in
-    rw same (seat_fault _ _ c.in_default.ensures c.in_err-action.ensures)
+pub returns-in_err-read_action : goal.returns-in_err-read_action
+returns-in_err-read_action c =
+    let same : c.from_residual-in_err-read_action.result ≡ Err c.in_err-read_action.field-0.0 = search rules in
+    rw same (seat_fault _ _ c.in_default.ensures c.in_err-read_action.ensures)

@@ -1,0 +1,40 @@
+-- What is read of known bytes.
+use Rattle.std.proofs.Common.{◌≡◌, ℕ, ◌+◌, ◌≤◌, List, [], ◌++◌, length, take, Option, Some, None, IfSome, sym, ◌∙◌, ap, subst, arith, append-nil, length-take, inl, inr}
+use Rattle.std.proofs.lemmas.List.{take_all, take_at}
+use Rattle.std.specs.Io.KnownBytes.{Consumes, IsAtEnd}
+use Rattle.bg_text.specs.Transfers.{IsReadOf}
+use Rattle.bg_text.specs.Judging.{IsJudgement, IsAnswerTo, lines_of}
+use Rattle.bg_text.specs.declared.inputs.TheConstants.{MOST_BYTES}
+use Rattle.bg_text.specs.declared.verdicts.Verdict.{Verdict}
+
+-- no byte is left
+pub read_to_end : (u v w : Option (List ℕ)) (input : List ℕ) → Consumes u v input → Consumes v w [] → IsAtEnd w → length input ≤ MOST_BYTES + 1 → IfSome u (IsReadOf input)
+read_to_end None v w input front none end most = tt
+read_to_end (Some xs) None w input front none end most = absurd front
+read_to_end (Some xs) (Some ys) None input front none end most = absurd none
+read_to_end (Some xs) (Some ys) (Some zs) input front none end most =
+    let whole : xs ≡ input = front ∙ ap (λ ys. input ++ ys) (none ∙ end) ∙ append-nil input in
+    sym (ap (take (MOST_BYTES + 1)) whole ∙ take_all (MOST_BYTES + 1) input most)
+
+-- as many bytes as are read at most
+pub read_to_limit : (u v : Option (List ℕ)) (input : List ℕ) → Consumes u v input → length input ≡ MOST_BYTES + 1 → IfSome u (IsReadOf input)
+read_to_limit None v input front most = tt
+read_to_limit (Some xs) None input front most = absurd front
+read_to_limit (Some xs) (Some ys) input front most = sym (ap (take (MOST_BYTES + 1)) front ∙ take_at input ys (MOST_BYTES + 1) most)
+
+-- the judgement of what is read is that of the bytes
+pub judged_whole : (bytes input text : List ℕ) (verdict : Verdict) → IsReadOf input bytes → IsJudgement input text verdict → IsJudgement bytes text verdict
+judged_whole bytes input text verdict read judged =
+    let long : length input ≡ length (take (MOST_BYTES + 1) bytes) = ap length read in
+    let front = length-take (MOST_BYTES + 1) bytes in
+    elim judged [
+      | inl too_long ↦ inl (omega (arith, too_long.0, long, front), too_long.1)
+      | inr answer ↦
+          let few : length bytes ≤ MOST_BYTES = omega (arith, answer.0, long, front) in
+          let same : input ≡ bytes = read ∙ take_all (MOST_BYTES + 1) bytes (omega (arith, few)) in
+          inr (few, subst (λ (input : List ℕ). IsAnswerTo (lines_of input) text verdict) same answer.1)
+    ]
+
+pub judged_known : (u : Option (List ℕ)) (input text : List ℕ) (verdict : Verdict) → IfSome u (IsReadOf input) → IsJudgement input text verdict → IfSome u (λ bytes. IsJudgement bytes text verdict)
+judged_known None input text verdict read judged = tt
+judged_known (Some bytes) input text verdict read judged = judged_whole bytes input text verdict read judged
