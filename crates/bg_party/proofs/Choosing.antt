@@ -1,15 +1,10 @@
 -- A claim is in its ranges.
-use Rattle.std.proofs.Common.{◌≡◌, ◌↔◌, ◌++◌, ◌∷◌, [], ℕ, ◌+◌, ◌≤◌, Result, Ok, Err, Some, length, length-append, refl, subst, arith}
-use Rattle.std.specs.Prelude.{IsOk}
+use Rattle.std.proofs.Common.{◌≡◌, ◌++◌, ◌∷◌, [], ℕ, ◌+◌, ◌≤◌, Some, length, length-append, arith}
 use Rattle.bg_match.specs.declared.actions.Action.{Action}
-use Rattle.bg_match.specs.declared.entries.Entry.{Entry}
-use Rattle.bg_match.specs.Match.{IsLegalRecord}
-use Rattle.bg_match.proofs.Answering.{one_answer, action_in_range}
+use Rattle.bg_match.proofs.Answering.{action_in_range}
 use Rattle.bg_wire.specs.SavedText.{IsKeptClaim}
-use Rattle.bg_party.specs.declared.outcomes.ChooseFault.{ChooseFault}
-use Rattle.bg_party.specs.declared.outcomes.ChooseFault.TheVariants as fault
 use Rattle.bg_party.specs.Views.{SeatView}
-use Rattle.bg_party.specs.Claims.{CanClaim, MayClaim, IsChooseFault, trial_dice}
+use Rattle.bg_party.specs.Claims.{CanClaim, trial_dice}
 
 -- a claim is in its ranges
 pub kept_claim : (s : SeatView) (a : Action) (n : ℕ) → CanClaim s.log.match_length s.player s.log.entries s.claim a

@@ -4,8 +4,8 @@ use Rattle.bg_board.specs.declared.players.Player.{Player}
 use Rattle.bg_match.specs.declared.actions.Action.{Action}
 use Rattle.bg_match.specs.Match.{Log, IsLegalRecord}
 use Rattle.bg_wire.specs.SavedText.{IsKeptClaim}
-use Rattle.bg_wire.specs.declared.parties.TheConstants.{FIRST_WATCHER, LAST_PARTY}
-use Rattle.bg_wire.specs.declared.saves.TheConstants.{FIRST_SAVE, LAST_SAVE}
+use Rattle.bg_wire.specs.Codes.{least_save, greatest_save, last_watcher}
+use Rattle.bg_wire.specs.declared.parties.TheConstants.{FIRST_WATCHER}
 
 -- its party, and its record
 pub record WatcherView : Type 0 where
@@ -14,7 +14,7 @@ pub record WatcherView : Type 0 where
 
 pub record IsWatcher (w : WatcherView) : Type 0 where
   pub first : FIRST_WATCHER ≤ w.party
-  pub last : w.party ≤ LAST_PARTY
+  pub last : w.party ≤ last_watcher
   pub legal : IsLegalRecord w.log.match_length w.log.entries
 
 -- its player, its record, its last claim (the number of the entry that shall answer the action), whether that is saved,
@@ -30,5 +30,5 @@ pub record SeatView : Type 0 where
 pub record IsSeat (s : SeatView) : Type 0 where
   pub legal : IsLegalRecord s.log.match_length s.log.entries
   pub claim : IsKeptClaim s.claim
-  pub first_save : FIRST_SAVE ≤ s.next_save
-  pub last_save : s.next_save ≤ LAST_SAVE + 1
+  pub first_save : least_save ≤ s.next_save
+  pub last_save : s.next_save ≤ greatest_save + 1

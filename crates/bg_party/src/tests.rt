@@ -35,21 +35,22 @@ const FIRST_SAVE: [u8; 32] = [
     0x06, 0x02, 0x08, 0x05, 0x06, 0x05, 0, 0x01, 0x01, 0x03, 0x01,
 ];
 
+fn add(bytes: &mut ArrayVec<u8, 128>, part: &[u8]) -> Result<(), Fail> {
+    if bytes.try_extend_from_slice(part).is_err() {
+        return Err(Fail::from("a long packet"));
+    }
+    Ok(())
+}
+
 /// The packet of this kind in match `id`, with these bytes.
 fn packet(kind: u8, id: u8, head: &[u8], first: &[u8], second: &[u8]) -> Result<Packet, Fail>
     ensures { IfOk result IsPacket }
 {
-    let mut bytes: ArrayVec<u8, 128> = ArrayVec::new();
-    for part in [
-        &[0x42, 0x47, 1, kind, 0, 0, 0, 0, 0, 0, 0, id],
-        head,
-        first,
-        second,
-    ] {
-        if bytes.try_extend_from_slice(part).is_err() {
-            return Err(Fail::from("a long packet"));
-        }
-    }
+    let mut bytes = ArrayVec::new();
+    add(&mut bytes, &[0x42, 0x47, 1, kind, 0, 0, 0, 0, 0, 0, 0, id])?;
+    add(&mut bytes, head)?;
+    add(&mut bytes, first)?;
+    add(&mut bytes, second)?;
     Ok(decode(bytes.as_slice())?)
 }
 

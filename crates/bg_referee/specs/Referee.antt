@@ -3,8 +3,7 @@ use Rattle.std.specs.Prelude.{◌≡◌, ℕ, ◌+◌, ◌-◌, ◌<◌, ◌≤�
 use Rattle.bg_match.specs.declared.entries.Entry.{Entry}
 use Rattle.bg_match.specs.Match.{Log, IsLegalRecord}
 use Rattle.bg_wire.specs.Runs.{IsRun}
-use Rattle.bg_wire.specs.declared.packets.TheConstants.{MOST_ENTRIES_IN_PACKET}
-use Rattle.bg_wire.specs.declared.saves.TheConstants.{FIRST_SAVE, LAST_SAVE}
+use Rattle.bg_wire.specs.Codes.{least_save, greatest_save, most_in_packet}
 
 -- the record, how many of its entries are saved, and the number of the next save
 pub record RefereeView : Type 0 where
@@ -16,8 +15,8 @@ pub record RefereeView : Type 0 where
 pub record IsReferee (r : RefereeView) : Type 0 where
   pub legal : IsLegalRecord r.log.match_length r.log.entries
   pub saved : r.saved ≤ length r.log.entries
-  pub first_save : FIRST_SAVE ≤ r.next_save
-  pub last_save : r.next_save ≤ LAST_SAVE + 1
+  pub first_save : least_save ≤ r.next_save
+  pub last_save : r.next_save ≤ greatest_save + 1
 
 -- the entries that are saved: the first ones, so many
 abbrev pub saved_entries : RefereeView → List Entry
@@ -26,7 +25,7 @@ saved_entries r = take r.saved r.log.entries
 -- saved entries under their own numbers, from `start` on: all there are, but eight at most
 pub record IsShown (r : RefereeView) (start : ℕ) (list : List Entry) : Type 0 where
   pub run : IsRun (saved_entries r) start list
-  pub many : length list ≡ min MOST_ENTRIES_IN_PACKET (r.saved + 1 - start)
+  pub many : length list ≡ min most_in_packet (r.saved + 1 - start)
 
 -- the record has grown by the entry, which took one of its spare room where there was any; all else is as before
 pub record Appends (old : RefereeView) (e : Entry) (new : RefereeView) : Type 0 where
