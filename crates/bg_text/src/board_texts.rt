@@ -6,7 +6,7 @@ ghost use Rattle.bg_text.specs.EntryText.{letter as letter_of, level_word as wor
 ghost use Rattle.bg_text.specs.BoardText.{board_text as text_of_board, line_text, header_line, game_part, score_part, cube_part, crawford_mark as mark, owner_word, in_four, cell, cells_line, numbers_line, counts_part, aside_line, phase_line, is_point};
 
 use crate::printing::{push_number, push_text};
-use bg_board::{Board, Player};
+use bg_board::{BAR, Board, OFF, Player};
 use bg_match::{Cube, Level, Phase, Standing};
 use std::alloc::{AllocError, Global};
 
@@ -119,7 +119,7 @@ fn push_cell(out: &mut Vec<u8>, board: &Board, point: u8) -> Result<(), AllocErr
     ensures { OnOk result (out.new.items ≡ out.old.items ++ in_four (cell board.now point)) }
 {
     let x = board.count(Player::X, point);
-    let o = board.count(Player::O, 25 - point);
+    let o = board.count(Player::O, BAR - point);
     if x > 0 {
         push_in_four(out, "X", x.into())
     } else if o > 0 {
@@ -158,9 +158,9 @@ fn push_aside(out: &mut Vec<u8>, board: &Board) -> Result<(), AllocError>
     ensures { OnOk result (out.new.items ≡ out.old.items ++ line_text (aside_line board.now)) }
 {
     push_text(out, "bar")?;
-    push_counts(out, board, 25)?;
+    push_counts(out, board, BAR)?;
     push_text(out, " off")?;
-    push_counts(out, board, 0)?;
+    push_counts(out, board, OFF)?;
     push_text(out, "\n")
 }
 

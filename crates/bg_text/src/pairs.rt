@@ -9,7 +9,7 @@ ghost use Rattle.bg_text.specs.Pairs.{IsWorth, IsSource, IsTarget, IsStepOf, IsT
 use crate::TextFault;
 use crate::words::{Pieces, halves};
 use arrayvec::ArrayVec;
-use bg_board::{Die, Step};
+use bg_board::{BAR, Die, OFF, Step};
 use bg_turns::Turn;
 
 /// The turn that the pairs of a move write, one space between each two.
@@ -60,10 +60,10 @@ fn parse_source(word: &[u8]) -> Option<u8>
     ensures { MatchOption result ((word.now ≡ codes "bar") ⊎ IsNumeral word.now → ⊥) (IsSource word.now) }
 {
     if let b"bar" = word {
-        return Some(25);
+        return Some(BAR);
     }
     let point = parse_numeral(word)?;
-    Some(if point <= 24 { point } else { 0 })
+    Some(if point < BAR { point } else { OFF })
 }
 
 /// The point where a step ends, 0 for off. A numeral that names no point gives 25 or more, where no step ends.
@@ -71,10 +71,10 @@ fn parse_target(word: &[u8]) -> Option<u8>
     ensures { MatchOption result ((word.now ≡ codes "off") ⊎ IsNumeral word.now → ⊥) (IsTarget word.now) }
 {
     if let b"off" = word {
-        return Some(0);
+        return Some(OFF);
     }
     let point = parse_numeral(word)?;
-    Some(if point > 0 { point } else { 25 })
+    Some(if point > OFF { point } else { BAR })
 }
 
 /// The dice that two numbers write, one space between them.
