@@ -13,13 +13,17 @@ fn counts(points: &[(usize, u8)]) -> [u8; 26] {
 }
 
 #[test]
-fn ranges(rt: HostRuntime) -> Result<(), Fail> {
+fn dice_of_numbers(rt: HostRuntime) {
     for (number, shown) in [(0, None), (1, Some(1)), (6, Some(6)), (7, None)] {
         assert!(rt;
             Die::new(number).map(|die| die.pips()) == shown,
             "die {number}"
         );
     }
+}
+
+#[test]
+fn steps_between_points(rt: HostRuntime) {
     for (from, to, good) in [
         (25, 24, true),
         (26, 25, false),
@@ -30,22 +34,25 @@ fn ranges(rt: HostRuntime) -> Result<(), Fail> {
     ] {
         assert!(rt; Step::new(from, to).is_some() == good, "{from}-{to}");
     }
+}
+
+#[test]
+fn counts_at_the_start(rt: HostRuntime) {
     let start = Board::start();
     for (point, count, above) in [(0, 0, 15), (6, 5, 10), (8, 3, 7), (13, 5, 2), (24, 2, 0)] {
-        assert_eq!(rt; start.count(Player::O, point), count, "on {point}");
-        assert_eq!(rt; start.count_above(Player::O, point), above, "above {point}");
+        let found = (
+            start.count(Player::O, point),
+            start.count_above(Player::O, point),
+        );
+        assert_eq!(rt; found, (count, above), "at {point}");
     }
-    Ok(())
 }
 
 #[test]
 fn printed(rt: HostRuntime) -> Result<(), Fail> {
-    let alloc = rt.alloc();
-    let players = format!(in alloc; "{} {}", Player::X, Player::O)?;
-    assert_eq!(rt; players.as_str(), "X O");
     let fault = StepFault::BarFirst;
-    let reason = format!(in alloc; "{fault}")?;
-    assert_eq!(rt; reason.as_str(), "a checker on the bar must enter first");
+    let text = format!(in rt.alloc(); "{} {} {fault}", Player::X, Player::O)?;
+    assert_eq!(rt; text.as_str(), "X O a checker on the bar must enter first");
     Ok(())
 }
 
@@ -68,6 +75,18 @@ fn counts_refused(rt: HostRuntime) -> Result<(), Fail> {
     Ok(())
 }
 
+/// What a step of X by this die is refused for.
+fn fault_of_step(
+    x: [u8; 26],
+    o: [u8; 26],
+    (from, to): (u8, u8),
+    die: Die,
+) -> Result<Option<StepFault>, Fail> {
+    let board = Board::from_counts(x, o)?;
+    let step = Step::new(from, to).ok_or("step")?;
+    Ok(board.play_step(Player::X, step, die).err())
+}
+
 /// Each refusal, in their order, by steps that the later ones would refuse too where that can be.
 #[test]
 fn steps_refused(rt: HostRuntime) -> Result<(), Fail> {
@@ -75,40 +94,37 @@ fn steps_refused(rt: HostRuntime) -> Result<(), Fail> {
     let on_bar = counts(&[(25, 1), (24, 1), (13, 5), (8, 3), (6, 5)]);
     let one_outside = counts(&[(13, 1), (5, 1), (3, 1), (0, 12)]);
     let home = counts(&[(5, 1), (3, 1), (0, 13)]);
+    let away = counts(&[(0, 15)]);
+    for (x, o, step, die, why) in [
+        (on_bar, start, (12, 11), Die::Six, StepFault::NoChecker),
+        (on_bar, start, (24, 18), Die::Six, StepFault::BarFirst),
+        (start, start, (24, 19), Die::Six, StepFault::WrongLanding),
+        (start, start, (24, 19), Die::Five, StepFault::Blocked),
+        (one_outside, away, (3, 0), Die::Four, StepFault::NotAllHome),
+        (home, away, (3, 0), Die::Four, StepFault::HigherChecker),
+    ] {
+        let fault = fault_of_step(x, o, step, die)?;
+        assert!(rt; fault == Some(why), "{step:?}");
+    }
+    Ok(())
+}
+
+/// Steps beside those that are refused.
+#[test]
+fn steps_allowed(rt: HostRuntime) -> Result<(), Fail> {
+    let start = counts(&[(24, 2), (13, 5), (8, 3), (6, 5)]);
+    let on_bar = counts(&[(25, 1), (24, 1), (13, 5), (8, 3), (6, 5)]);
+    let home = counts(&[(5, 1), (3, 1), (0, 13)]);
     let low = counts(&[(3, 2), (1, 1), (0, 12)]);
     let away = counts(&[(0, 15)]);
-    for (x, o, from, to, die, fault) in [
-        (on_bar, start, 12, 11, Die::Six, Some(StepFault::NoChecker)),
-        (on_bar, start, 24, 18, Die::Six, Some(StepFault::BarFirst)),
-        (
-            start,
-            start,
-            24,
-            19,
-            Die::Six,
-            Some(StepFault::WrongLanding),
-        ),
-        (start, start, 24, 19, Die::Five, Some(StepFault::Blocked)),
-        (
-            one_outside,
-            away,
-            3,
-            0,
-            Die::Four,
-            Some(StepFault::NotAllHome),
-        ),
-        (home, away, 3, 0, Die::Four, Some(StepFault::HigherChecker)),
-        (home, away, 3, 0, Die::Three, None),
-        (low, away, 3, 0, Die::Four, None),
-        (on_bar, start, 25, 20, Die::Five, None),
-        (start, start, 24, 18, Die::Six, None),
+    for (x, o, step, die) in [
+        (home, away, (3, 0), Die::Three),
+        (low, away, (3, 0), Die::Four),
+        (on_bar, start, (25, 20), Die::Five),
+        (start, start, (24, 18), Die::Six),
     ] {
-        let board = Board::from_counts(x, o)?;
-        let step = Step::new(from, to).ok_or("step")?;
-        assert!(rt;
-            board.play_step(Player::X, step, die).err() == fault,
-            "{from}-{to}"
-        );
+        let fault = fault_of_step(x, o, step, die)?;
+        assert!(rt; fault.is_none(), "{step:?}");
     }
     Ok(())
 }

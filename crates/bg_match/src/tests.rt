@@ -1,12 +1,13 @@
 //! Worked matches. The numbers are those of the rules, worked out by hand.
 use crate::{
-    Action, Actor, Cube, Entry, EntryFault, LengthFault, Level, MOST_ENTRIES, NoDouble, Phase,
-    Record, Standing, entry_of, level_of,
+    Action, Actor, Cube, Entry, EntryFault, LengthFault, Level, MOST_ENTRIES, NoDouble, Number,
+    Phase, Record, Standing, entry_of, level_of,
 };
 use arrayvec::ArrayVec;
 use bg_board::{Board, Die, Player, Step};
 use bg_turns::{Dice, Turn, TurnFault};
 use std::alloc::Global;
+use std::process::Abort;
 use std::test::Fail;
 
 const MIDDLE: Cube = Cube {
@@ -14,20 +15,8 @@ const MIDDLE: Cube = Cube {
     owner: None,
 };
 
-fn dice(first: u8, second: u8) -> Result<Dice, Fail> {
-    Ok(Dice {
-        first: Die::new(first).ok_or("die")?,
-        second: Die::new(second).ok_or("die")?,
-    })
-}
-
-fn opening(x: u8, o: u8) -> Result<Entry, Fail> {
-    let Dice { first, second } = dice(x, o)?;
-    Ok(Entry::Opening(first, second))
-}
-
-fn rolled(first: u8, second: u8) -> Result<Entry, Fail> {
-    Ok(Entry::Rolled(dice(first, second)?))
+fn dice(first: Die, second: Die) -> Dice {
+    Dice { first, second }
 }
 
 fn turn(steps: &[(u8, u8)]) -> Result<Turn, Fail> {
@@ -66,6 +55,14 @@ fn opened() -> Result<Board, Fail> {
     )
 }
 
+/// The board after O has moved so too.
+fn both_opened() -> Result<Board, Fail> {
+    board(
+        &[(24, 2), (13, 5), (8, 2), (6, 4), (5, 2)],
+        &[(24, 2), (13, 5), (8, 2), (6, 4), (5, 2)],
+    )
+}
+
 fn cube(value: u8, owner: Player) -> Cube {
     Cube {
         value,
@@ -82,28 +79,66 @@ fn record(alloc: Global, length: u8, entries: &[Entry]) -> Result<Record, Fail> 
     Ok(record)
 }
 
+/// A match of one point in which X opened with 8-5 6-5.
+fn short_record(alloc: Global) -> Result<Record, Fail> {
+    let moved = moved(&[(8, 5), (6, 5)])?;
+    record(alloc, 1, &[Entry::Opening(Die::Three, Die::One), moved])
+}
+
 #[test]
-fn calls_of_a_short_record(rt: HostRuntime) -> Result<(), Fail> {
-    let entries = [opening(3, 1)?, moved(&[(8, 5), (6, 5)])?];
-    let mut record = record(rt.alloc(), 1, &entries)?;
+fn entries_of_a_short_record(rt: HostRuntime) -> Result<(), Fail> {
+    let moved = moved(&[(8, 5), (6, 5)])?;
+    let record = short_record(rt.alloc())?;
+    let opening = Entry::Opening(Die::Three, Die::One);
+    assert!(rt; record.entry(0).is_none() && record.entry(3).is_none());
+    assert!(rt; record.entry(1) == Some(&opening) && record.entry(2) == Some(&moved));
+    assert_eq!(rt; record.actor(), Actor::Seat(Player::O));
+    Ok(())
+}
+
+#[test]
+fn size_of_a_short_record(rt: HostRuntime) -> Result<(), Fail> {
+    let record = short_record(rt.alloc())?;
     assert_eq!(rt; (record.id(), record.length(), record.len()), (1, 1, 2));
     assert!(rt; !record.is_empty());
+    Ok(())
+}
+
+#[test]
+fn seats_of_a_short_record(rt: HostRuntime) -> Result<(), Fail> {
+    let record = short_record(rt.alloc())?;
     for (number, by) in [(0, None), (1, None), (2, Some(Player::X)), (3, None)] {
         assert_eq!(rt; record.by(number), by, "at {number}");
     }
-    assert!(rt; record.entry(0).is_none() && record.entry(3).is_none());
-    assert!(rt; record.entry(1) == Some(&entries[0]) && record.entry(2) == Some(&entries[1]));
-    assert_eq!(rt; record.actor(), Actor::Seat(Player::O));
-    assert!(rt; record.check(&rolled(6, 6)?).is_ok());
+    Ok(())
+}
+
+#[test]
+fn what_follows_a_short_record(rt: HostRuntime) -> Result<(), Fail> {
+    let mut record = short_record(rt.alloc())?;
+    let rolled = Entry::Rolled(dice(Die::Six, Die::Six));
+    assert!(rt; record.check(&rolled).is_ok());
     assert_eq!(rt; record.check(&Entry::Taken), Err(EntryFault::WrongPhase));
     assert_eq!(rt;
         record.push(Entry::Doubled),
         Err(EntryFault::NoDouble(NoDouble::Crawford))
     );
+    assert_eq!(rt; record.len(), 2);
+    Ok(())
+}
+
+/// Whether a copy has the same entry of this number, made by the same seat.
+fn is_copied(record: &Record, copy: &Record, number: Number) -> bool {
+    copy.entry(number) == record.entry(number) && copy.by(number) == record.by(number)
+}
+
+#[test]
+fn copy_of_a_short_record(rt: HostRuntime) -> Result<(), Fail> {
+    let mut record = short_record(rt.alloc())?;
     assert!(rt; record.reserve(40).is_ok());
     let copy = record.copy()?;
     assert_eq!(rt; (copy.id(), copy.length(), copy.len()), (1, 1, 2));
-    assert!(rt; copy.entry(1) == record.entry(1) && copy.entry(2) == record.entry(2));
+    assert!(rt; is_copied(&record, &copy, 1) && is_copied(&record, &copy, 2));
     assert!(rt; copy.standing() == record.standing() && copy.by(2) == Some(Player::X));
     Ok(())
 }
@@ -120,18 +155,26 @@ fn lengths(rt: HostRuntime) {
     }
 }
 
+/// A match of one point that opens with 3-1, after other entries were refused.
+fn opened_record(rt: &(impl AllocGlobal + Abort)) -> Result<Record, Fail> {
+    let mut record = record(rt.alloc(), 1, &[])?;
+    let equal = Entry::Opening(Die::Three, Die::Three);
+    assert_eq!(rt; record.push(equal), Err(EntryFault::EqualOpening));
+    assert_eq!(rt; record.push(Entry::Taken), Err(EntryFault::WrongPhase));
+    record.push(Entry::Opening(Die::Three, Die::One))?;
+    Ok(record)
+}
+
 #[test]
 fn refused_openings_and_turns(rt: HostRuntime) -> Result<(), Fail> {
-    let mut record = record(rt.alloc(), 1, &[])?;
-    assert_eq!(rt; record.push(opening(3, 3)?), Err(EntryFault::EqualOpening));
-    assert_eq!(rt; record.push(Entry::Taken), Err(EntryFault::WrongPhase));
-    record.push(opening(3, 1)?)?;
     let part = moved(&[(8, 5)])?;
+    let mut record = opened_record(&rt)?;
     assert_eq!(rt;
         record.push(part),
         Err(EntryFault::Turn(TurnFault::MoreCanBePlayed))
     );
-    assert_eq!(rt; record.push(opening(3, 3)?), Err(EntryFault::WrongPhase));
+    let equal = Entry::Opening(Die::Three, Die::Three);
+    assert_eq!(rt; record.push(equal), Err(EntryFault::WrongPhase));
     assert_eq!(rt; record.len(), 1);
     Ok(())
 }
@@ -159,12 +202,13 @@ fn refused_doubles(rt: HostRuntime) -> Result<(), Fail> {
 
 #[test]
 fn crawford_game(rt: HostRuntime) -> Result<(), Fail> {
+    let moved = moved(&[(8, 5), (6, 5)])?;
     let entries = [
-        opening(1, 3)?,
+        Entry::Opening(Die::One, Die::Three),
         Entry::Resigned(Level::Gammon),
         Entry::Accepted,
-        opening(3, 1)?,
-        moved(&[(8, 5), (6, 5)])?,
+        Entry::Opening(Die::Three, Die::One),
+        moved,
     ];
     let mut record = record(rt.alloc(), 3, &entries)?;
     let to_act = Phase::ToAct(Player::O);
@@ -180,15 +224,16 @@ fn crawford_game(rt: HostRuntime) -> Result<(), Fail> {
 
 #[test]
 fn after_the_crawford_game(rt: HostRuntime) -> Result<(), Fail> {
+    let moved = moved(&[(8, 5), (6, 5)])?;
     let entries = [
-        opening(1, 3)?,
+        Entry::Opening(Die::One, Die::Three),
         Entry::Resigned(Level::Gammon),
         Entry::Accepted,
-        opening(3, 1)?,
+        Entry::Opening(Die::Three, Die::One),
         Entry::Resigned(Level::Normal),
         Entry::Accepted,
-        opening(3, 1)?,
-        moved(&[(8, 5), (6, 5)])?,
+        Entry::Opening(Die::Three, Die::One),
+        moved,
         Entry::Doubled,
     ];
     let record = record(rt.alloc(), 3, &entries)?;
@@ -199,61 +244,86 @@ fn after_the_crawford_game(rt: HostRuntime) -> Result<(), Fail> {
     Ok(())
 }
 
-#[test]
-fn doubles_taken_and_dropped(rt: HostRuntime) -> Result<(), Fail> {
-    let both = board(
-        &[(24, 2), (13, 5), (8, 2), (6, 4), (5, 2)],
-        &[(24, 2), (13, 5), (8, 2), (6, 4), (5, 2)],
-    )?;
-    let (start, opened, throw) = (Board::start(), opened()?, dice(3, 1)?);
-    let (by_x, by_o) = (cube(2, Player::X), cube(4, Player::O));
+/// Appends the entries in turn. Each leads to its board, phase and cube, at 0-0 in a match of five points.
+fn push_rows(
+    rt: &impl Abort,
+    record: &mut Record,
+    rows: &[(Entry, Board, Phase, Cube)],
+) -> Result<(), Fail> {
+    for (entry, board, phase, cube) in rows {
+        record.push(entry.copy())?;
+        let standing = Standing::from_parts(5, *board, *phase, *cube, (0, 0), false, 1);
+        assert!(rt; Some(record.standing()) == standing, "at {}", record.len());
+    }
+    Ok(())
+}
+
+/// A match of five points in which X has taken a double and then doubles.
+fn doubled_twice(rt: &(impl AllocGlobal + Abort)) -> Result<Record, Fail> {
+    let (start, opened, both) = (Board::start(), opened()?, both_opened()?);
+    let throw = dice(Die::Three, Die::One);
+    let by_x = cube(2, Player::X);
+    let moved = moved(&[(8, 5), (6, 5)])?;
+    let mut record = record(rt.alloc(), 5, &[])?;
     let rows = [
         (
-            opening(3, 1)?,
+            Entry::Opening(Die::Three, Die::One),
             start,
             Phase::ToMove(Player::X, throw),
             MIDDLE,
         ),
-        (
-            moved(&[(8, 5), (6, 5)])?,
-            opened,
-            Phase::ToAct(Player::O),
-            MIDDLE,
-        ),
+        (moved.copy(), opened, Phase::ToAct(Player::O), MIDDLE),
         (Entry::Doubled, opened, Phase::Doubled(Player::X), MIDDLE),
         (Entry::Taken, opened, Phase::ToAct(Player::O), by_x),
-        (rolled(3, 1)?, opened, Phase::ToMove(Player::O, throw), by_x),
         (
-            moved(&[(8, 5), (6, 5)])?,
-            both,
-            Phase::ToAct(Player::X),
+            Entry::Rolled(throw),
+            opened,
+            Phase::ToMove(Player::O, throw),
             by_x,
         ),
+        (moved, both, Phase::ToAct(Player::X), by_x),
         (Entry::Doubled, both, Phase::Doubled(Player::O), by_x),
     ];
-    let mut record = record(rt.alloc(), 5, &[])?;
-    for (entry, board, phase, cube) in rows {
-        record.push(entry)?;
-        let standing = Standing::from_parts(5, board, phase, cube, (0, 0), false, 1);
-        assert!(rt; Some(record.standing()) == standing, "at {}", record.len());
-    }
+    push_rows(rt, &mut record, &rows)?;
+    Ok(record)
+}
+
+/// The double is dropped in a copy of the record.
+#[test]
+fn doubles_dropped(rt: HostRuntime) -> Result<(), Fail> {
+    let record = doubled_twice(&rt)?;
     let mut dropped = record.copy()?;
     dropped.push(Entry::Dropped)?;
+    let start = Board::start();
     let won = Standing::from_parts(5, start, Phase::Opening, MIDDLE, (2, 0), false, 2);
     assert!(rt; Some(dropped.standing()) == won);
     assert_eq!(rt; dropped.by(8), Some(Player::O));
+    Ok(())
+}
+
+#[test]
+fn doubles_taken(rt: HostRuntime) -> Result<(), Fail> {
+    let both = both_opened()?;
+    let mut record = doubled_twice(&rt)?;
     record.push(Entry::Taken)?;
+    let by_o = cube(4, Player::O);
     let taken = Standing::from_parts(5, both, Phase::ToAct(Player::X), by_o, (0, 0), false, 1);
     assert!(rt; Some(record.standing()) == taken);
     Ok(())
 }
 
+/// X bears off his last checker while O has one on the bar: three times the cube of 2 win the match of seven points.
+fn won_by_a_backgammon() -> Result<Standing, Fail> {
+    let before = board(&[(1, 1), (0, 14)], &[(25, 1), (1, 14)])?;
+    let phase = Phase::ToMove(Player::X, dice(Die::Six, Die::Five));
+    let standing = Standing::from_parts(7, before, phase, cube(2, Player::O), (3, 2), false, 4);
+    let moved = moved(&[(1, 0)])?;
+    Ok(standing.ok_or("standing")?.next(&moved)?)
+}
+
 #[test]
 fn match_won_by_a_backgammon(rt: HostRuntime) -> Result<(), Fail> {
-    let before = board(&[(1, 1), (0, 14)], &[(25, 1), (1, 14)])?;
-    let phase = Phase::ToMove(Player::X, dice(6, 5)?);
-    let standing = Standing::from_parts(7, before, phase, cube(2, Player::O), (3, 2), false, 4);
-    let over = standing.ok_or("standing")?.next(&moved(&[(1, 0)])?)?;
+    let over = won_by_a_backgammon()?;
     assert_eq!(rt; over.score(), (9, 2));
     assert_eq!(rt; over.phase(), Phase::Over(Player::X));
     assert_eq!(rt;
@@ -261,11 +331,18 @@ fn match_won_by_a_backgammon(rt: HostRuntime) -> Result<(), Fail> {
         (7, 4, false)
     );
     assert!(rt; over.cube() == cube(2, Player::O) && over.actor() == Actor::Nobody);
+    Ok(())
+}
+
+#[test]
+fn board_after_a_backgammon(rt: HostRuntime) -> Result<(), Fail> {
+    let over = won_by_a_backgammon()?;
     let after = board(&[(0, 15)], &[(25, 1), (1, 14)])?;
     assert!(rt; over.board() == after);
     assert_eq!(rt; level_of(&after, Player::X), Some(Level::Backgammon));
     assert_eq!(rt; level_of(&after, Player::O), None);
-    assert!(rt; over.next(&opening(3, 1)?) == Err(EntryFault::MatchOver));
+    let opening = Entry::Opening(Die::Three, Die::One);
+    assert!(rt; over.next(&opening) == Err(EntryFault::MatchOver));
     Ok(())
 }
 
@@ -305,13 +382,14 @@ fn games_after_wins(rt: HostRuntime) -> Result<(), Fail> {
 
 #[test]
 fn entries_of_actions(rt: HostRuntime) -> Result<(), Fail> {
-    let throw = dice(6, 5)?;
+    let throw = dice(Die::Six, Die::Five);
+    let (turn, moved) = (turn(&[(13, 7)])?, moved(&[(13, 7)])?);
     let rows = [
         (Action::Roll, Entry::Rolled(throw)),
         (Action::Double, Entry::Doubled),
         (Action::Take, Entry::Taken),
         (Action::Drop, Entry::Dropped),
-        (Action::Move(turn(&[(13, 7)])?), moved(&[(13, 7)])?),
+        (Action::Move(turn), moved),
         (
             Action::Resign(Level::Gammon),
             Entry::Resigned(Level::Gammon),
@@ -327,46 +405,69 @@ fn entries_of_actions(rt: HostRuntime) -> Result<(), Fail> {
     Ok(())
 }
 
-#[test]
-fn longest_record(rt: HostRuntime) -> Result<(), Fail> {
-    let mut record = record(rt.alloc(), 1, &[opening(3, 1)?])?;
+/// After the opening X offers to resign again and again, until there is no room for more.
+fn full_record(alloc: Global) -> Result<Record, Fail> {
+    let mut record = record(alloc, 1, &[Entry::Opening(Die::Three, Die::One)])?;
     for _ in 0..32767 {
         record.push(Entry::Resigned(Level::Normal))?;
         record.push(Entry::Rejected)?;
     }
-    assert_eq!(rt; record.len(), MOST_ENTRIES);
-    let offer = Entry::Resigned(Level::Normal);
-    assert_eq!(rt; record.check(&offer), Err(EntryFault::RecordFull));
-    assert_eq!(rt; record.push(offer), Err(EntryFault::RecordFull));
+    Ok(record)
+}
+
+fn check_full_copy(rt: &impl Abort, record: &Record) -> Result<(), Fail> {
     let copy = record.copy()?;
     assert_eq!(rt; copy.len(), MOST_ENTRIES);
     for number in 1..=MOST_ENTRIES {
-        assert!(rt; copy.entry(number) == record.entry(number), "at {number}");
-        assert!(rt; copy.by(number) == record.by(number), "at {number}");
+        assert!(rt; is_copied(record, &copy, number), "at {number}");
     }
     assert!(rt; copy.standing() == record.standing());
     Ok(())
 }
 
-/// Where memory is refused nothing has changed, and the same call then succeeds. No run of the tests refuses any, but
-/// `rt try --test --fail-alloc` refuses each growth in turn.
 #[test]
-fn refused_growths(rt: HostRuntime) -> Result<(), Fail> {
+fn longest_record(rt: HostRuntime) -> Result<(), Fail> {
+    let mut record = full_record(rt.alloc())?;
+    assert_eq!(rt; record.len(), MOST_ENTRIES);
+    let offer = Entry::Resigned(Level::Normal);
+    assert_eq!(rt; record.check(&offer), Err(EntryFault::RecordFull));
+    assert_eq!(rt; record.push(offer), Err(EntryFault::RecordFull));
+    check_full_copy(&rt, &record)
+}
+
+/// Appends an entry to a record of so many, again where memory is refused: then nothing has changed.
+fn push_again(
+    rt: &impl Abort,
+    record: &mut Record,
+    entry: Entry,
+    pushed: Number,
+) -> Result<(), Fail> {
+    let (before, by) = (record.standing(), record.by(pushed));
+    if record.push(entry.copy()).is_err() {
+        assert_eq!(rt; record.len(), pushed);
+        assert!(rt; record.standing() == before && record.by(pushed) == by);
+        record.push(entry)?;
+    }
+    Ok(())
+}
+
+/// A record of twenty entries.
+fn grown(rt: &(impl AllocGlobal + Abort)) -> Result<Record, Fail> {
     let mut record = Record::new(rt.alloc(), 1, 1)?;
     for pushed in 0..20 {
         let entry = match pushed {
-            0 => opening(3, 1)?,
+            0 => Entry::Opening(Die::Three, Die::One),
             odd if odd % 2 == 1 => Entry::Resigned(Level::Normal),
             _ => Entry::Rejected,
         };
-        let (before, by) = (record.standing(), record.by(pushed));
-        if record.push(entry.copy()).is_err() {
-            assert_eq!(rt; record.len(), pushed);
-            assert!(rt; record.standing() == before && record.by(pushed) == by);
-            record.push(entry)?;
-        }
+        push_again(rt, &mut record, entry, pushed)?;
         assert_eq!(rt; record.len(), pushed + 1);
     }
+    Ok(record)
+}
+
+/// Makes room in a record of twenty entries, again where memory is refused: then nothing has changed.
+fn reserve_again(rt: &impl Abort, record: &mut Record) -> Result<(), Fail> {
     let (before, by) = (record.standing(), record.by(20));
     if record.reserve(100).is_err() {
         assert_eq!(rt; record.len(), 20);
@@ -374,6 +475,15 @@ fn refused_growths(rt: HostRuntime) -> Result<(), Fail> {
         assert!(rt; record.entry(20) == Some(&Entry::Resigned(Level::Normal)));
         record.reserve(100)?;
     }
+    Ok(())
+}
+
+/// Where memory is refused nothing has changed, and the same call then succeeds. No run of the tests refuses any, but
+/// `rt try --test --fail-alloc` refuses each growth in turn.
+#[test]
+fn refused_growths(rt: HostRuntime) -> Result<(), Fail> {
+    let mut record = grown(&rt)?;
+    reserve_again(&rt, &mut record)?;
     let copy = match record.copy() {
         Ok(copy) => copy,
         Err(_) => record.copy()?,
