@@ -109,14 +109,8 @@ fn claim_is_illegal(
     word: u32,
     fault: EntryFault,
 ) -> bool {
-    claim_gives(
-        referee,
-        party,
-        number,
-        action,
-        word,
-        TakeOutcome::Illegal(fault),
-    )
+    let illegal = TakeOutcome::Illegal(fault);
+    claim_gives(referee, party, number, action, word, illegal)
 }
 
 /// Whether the packet of this kind with these bytes is of another match than match 1, if it is in match 2.
@@ -131,19 +125,20 @@ fn own_entries_give_nothing(referee: &mut Referee) -> bool {
 
 /// Whether a party is told these entries of match 1, from a number on.
 fn tells(answer: Option<TakeOutcome>, party: u8, start: Number, entries: &[Entry]) -> bool {
-    match answer {
-        Some(
-            TakeOutcome::Answer(
-                to,
-                Packet::Entries {
-                    id: 1,
-                    start: first,
-                    list,
-                },
-            ),
-        ) => { to == party && first == start && list.entries.as_slice() == entries }
-        _ => false,
-    }
+    let Some(
+        TakeOutcome::Answer(
+            to,
+            Packet::Entries {
+                id: 1,
+                start: first,
+                list,
+            },
+        ),
+    ) = answer
+    else {
+        return false;
+    };
+    to == party && first == start && list.entries.as_slice() == entries
 }
 
 /// Whether a party is told the opening, and no more.
@@ -321,16 +316,8 @@ fn other_matches(rt: HostRuntime) -> Result<(), Fail> {
 #[test]
 fn repeated_claims_count_once(rt: HostRuntime) -> Result<(), Fail> {
     let mut referee = after_the_move(rt.alloc())?;
-    assert!(rt;
-        claim_gives(
-            &mut referee,
-            O,
-            3,
-            &ROLL,
-            THREE_ONE,
-            TakeOutcome::Accepted(3)
-        )
-    );
+    let accepted = TakeOutcome::Accepted(3);
+    assert!(rt; claim_gives(&mut referee, O, 3, &ROLL, THREE_ONE, accepted));
     // Not saved yet, so it is not told: neither these dice nor others.
     assert!(rt; claim_gives(&mut referee, O, 3, &ROLL, TWO_THREE, TakeOutcome::Nothing));
     assert!(rt; save(&mut referee) == Ok((Slot::Zero, 2)));
