@@ -1,5 +1,9 @@
 //! Followers of match 1, of length 1, packet by packet. The packets are read from bytes, as they come from the referee.
-ghost use Rattle.std.specs.Prelude.{IfOk};
+//!
+//! A test is a list of assertions on short functions with no contract, each of which makes a call and compares what it
+//! gives. So neither what the call ensures nor the values that it makes burden the proof of the test.
+
+ghost use Rattle.std.specs.Prelude.{IfSome};
 ghost use Rattle.bg_wire.specs.PacketText.{IsPacket};
 
 use crate::{ChooseFault, Learned, Seat, Watcher};
@@ -35,65 +39,168 @@ const FIRST_SAVE: [u8; 32] = [
     0x06, 0x02, 0x08, 0x05, 0x06, 0x05, 0, 0x01, 0x01, 0x03, 0x01,
 ];
 
-fn add(bytes: &mut ArrayVec<u8, 128>, part: &[u8]) -> Result<(), Fail> {
-    if bytes.try_extend_from_slice(part).is_err() {
-        return Err(Fail::from("a long packet"));
-    }
-    Ok(())
+fn add(bytes: &mut ArrayVec<u8, 128>, part: &[u8]) -> Option<()> {
+    bytes.try_extend_from_slice(part).ok()
 }
 
-/// The packet of this kind in match `id`, with these bytes.
-fn packet(kind: u8, id: u8, head: &[u8], first: &[u8], second: &[u8]) -> Result<Packet, Fail>
-    ensures { IfOk result IsPacket }
+/// The packet of this kind in match `id`, with these bytes; `None` where they are no packet.
+fn packet(kind: u8, id: u8, head: &[u8], first: &[u8], second: &[u8]) -> Option<Packet>
+    ensures { IfSome result IsPacket }
 {
     let mut bytes = ArrayVec::new();
     add(&mut bytes, &[0x42, 0x47, 1, kind, 0, 0, 0, 0, 0, 0, 0, id])?;
     add(&mut bytes, head)?;
     add(&mut bytes, first)?;
     add(&mut bytes, second)?;
-    Ok(decode(bytes.as_slice())?)
+    decode(bytes.as_slice()).ok()
 }
 
-fn one_entry(number: u8, entry: &[u8]) -> Result<Packet, Fail>
-    ensures { IfOk result IsPacket }
+/// The packet that tells an entry under a number, and another one behind it unless that has no bytes.
+fn entries(number: u8, first: &[u8], second: &[u8]) -> Option<Packet>
+    ensures { IfSome result IsPacket }
 {
-    packet(3, 1, &[0, number, 1], entry, &[])
+    let count = if second.is_empty() { 1 } else { 2 };
+    packet(3, 1, &[0, number, count], first, second)
 }
 
-fn two_entries(number: u8, first: &[u8], second: &[u8]) -> Result<Packet, Fail>
-    ensures { IfOk result IsPacket }
-{
-    packet(3, 1, &[0, number, 2], first, second)
+/// What a seat learns from these entries.
+fn told(seat: &mut Seat, number: u8, first: &[u8], second: &[u8]) -> Option<Learned> {
+    let packet = entries(number, first, second)?;
+    Some(seat.take(&packet))
 }
 
-fn want(sender: u8, held: Number) -> Option<Packet> {
-    Some(Packet::Want {
+/// Whether a seat learns this from an entry.
+fn one_gives(seat: &mut Seat, number: u8, entry: &[u8], learned: Learned) -> bool {
+    told(seat, number, entry, &[]) == Some(learned)
+}
+
+/// Whether a seat learns this from two entries.
+fn two_give(seat: &mut Seat, number: u8, first: &[u8], second: &[u8], learned: Learned) -> bool {
+    told(seat, number, first, second) == Some(learned)
+}
+
+/// Whether a seat learns this from the packet of this kind in match `id`, with these bytes.
+fn packet_gives(
+    seat: &mut Seat,
+    kind: u8,
+    id: u8,
+    head: &[u8],
+    tail: &[u8],
+    learned: Learned,
+) -> bool {
+    let Some(packet) = packet(kind, id, head, tail, &[]) else {
+        return false;
+    };
+    seat.take(&packet) == learned
+}
+
+/// Whether a watcher learns this from these entries.
+fn watcher_learns(
+    watcher: &mut Watcher,
+    number: u8,
+    first: &[u8],
+    second: &[u8],
+    learned: Learned,
+) -> bool {
+    let Some(packet) = entries(number, first, second) else {
+        return false;
+    };
+    watcher.take(&packet) == learned
+}
+
+fn want(sender: u8, held: Number) -> Packet {
+    Packet::Want {
         id: 1,
         sender,
         held,
-    })
-}
-
-fn turn(steps: &[(u8, u8)]) -> Result<Turn, Fail> {
-    let mut list = ArrayVec::new();
-    for &(from, to) in steps {
-        if list.try_push(Step::new(from, to).ok_or("step")?).is_err() {
-            return Err(Fail::from("more than four steps"));
-        }
     }
-    Ok(Turn { steps: list })
 }
 
-fn opening_move() -> Result<Turn, Fail> {
-    turn(&[(8, 5), (6, 5)])
+/// Whether a seat asks for the entries after this many.
+fn asks(seat: &mut Seat, sender: u8, held: Number) -> bool {
+    seat.tick() == Some(want(sender, held))
+}
+
+/// Whether watcher 3 asks for the entries after this many.
+fn watcher_asks(watcher: &mut Watcher, held: Number) -> bool {
+    watcher.tick() == Some(want(3, held))
+}
+
+/// Whether the seat of X sends the claim of the opening move as entry 2.
+fn sends_the_claim(seat: &mut Seat) -> bool {
+    let Some(claim) = packet(2, 1, &[1, 0, 2], &MOVED, &[]) else {
+        return false;
+    };
+    seat.tick() == Some(claim)
+}
+
+fn half_a_move() -> Turn {
+    let mut steps = ArrayVec::new();
+    steps.push(Step::new(8, 5).unwrap());
+    Turn { steps }
+}
+
+fn opening_move() -> Turn {
+    let mut steps = ArrayVec::new();
+    steps.push(Step::new(8, 5).unwrap());
+    steps.push(Step::new(6, 5).unwrap());
+    Turn { steps }
+}
+
+fn claims_a_roll(seat: &mut Seat) -> Result<Number, ChooseFault> {
+    seat.choose(Action::Roll)
+}
+
+fn claims_a_move(seat: &mut Seat, turn: Turn) -> Result<Number, ChooseFault> {
+    seat.choose(Action::Move(turn))
+}
+
+fn has_no_claim(seat: &Seat) -> bool {
+    seat.claim().is_none()
+}
+
+/// Whether the last claim is the opening move as entry 2.
+fn has_the_claim(seat: &Seat) -> bool {
+    seat.claim() == Some((2, Action::Move(opening_move())))
+}
+
+/// Whether the record is the opening 3 1, and no more.
+fn holds_the_opening(seat: &Seat) -> bool {
+    let opening = Entry::Opening(Die::Three, Die::One);
+    seat.held().len() == 1 && seat.held().entry(1) == Some(&opening)
+}
+
+/// Whether entry 2 is the opening move.
+fn watcher_holds_the_move(watcher: &Watcher) -> bool {
+    watcher.held().entry(2) == Some(&Entry::Moved(opening_move()))
+}
+
+/// Whether the next save is the first, with its text.
+fn is_first_save(seat: &Seat) -> Result<bool, SaveRefusal> {
+    let (slot, save, text) = seat.to_save()?;
+    Ok((slot, save) == (Slot::One, 1) && text.as_slice() == FIRST_SAVE.as_slice())
+}
+
+/// The slot, the number and the length of the next save, also where the memory for it is refused once.
+fn size_of_save(seat: &Seat) -> Result<(Slot, u32, usize), SaveRefusal> {
+    let (slot, save, text) = match seat.to_save() {
+        Err(SaveRefusal::Memory) => seat.to_save()?,
+        other => other?,
+    };
+    Ok((slot, save, text.len()))
+}
+
+fn save(seat: &mut Seat) -> Result<(Slot, u32), SaveRefusal> {
+    let (slot, save, _text) = seat.to_save()?;
+    seat.mark_saved(save);
+    Ok((slot, save))
 }
 
 /// A seat that holds the opening 3 1, also where the memory for it is refused once.
-fn after_the_opening(alloc: Global, player: Player) -> Result<Seat, Fail> {
+fn after_the_opening(alloc: Global, player: Player) -> Result<Seat, LengthFault> {
     let mut seat = Seat::fresh(alloc, player, 1, 1)?;
-    let told = one_entry(1, &OPENING)?;
-    if seat.take(&told) == Learned::Memory {
-        seat.take(&told);
+    if told(&mut seat, 1, &OPENING, &[]) == Some(Learned::Memory) {
+        told(&mut seat, 1, &OPENING, &[]);
     }
     Ok(seat)
 }
@@ -102,100 +209,103 @@ fn after_the_opening(alloc: Global, player: Player) -> Result<Seat, Fail> {
 fn what_a_seat_claims(rt: HostRuntime) -> Result<(), Fail> {
     let mut seat = after_the_opening(rt.alloc(), Player::X)?;
     let wrong_phase = ChooseFault::Illegal(EntryFault::WrongPhase);
-    assert!(rt; seat.choose(Action::Roll) == Err(wrong_phase));
     let more = ChooseFault::Illegal(EntryFault::Turn(TurnFault::MoreCanBePlayed));
-    assert!(rt; seat.choose(Action::Move(turn(&[(8, 5)])?)) == Err(more));
-    assert!(rt; seat.claim().is_none());
-    assert!(rt; seat.choose(Action::Move(opening_move()?)) == Ok(2));
-    assert!(rt; seat.claim() == Some((2, Action::Move(opening_move()?))));
-    assert!(rt; seat.choose(Action::Roll) == Err(ChooseFault::AlreadyClaimed));
-    let again = seat.choose(Action::Move(opening_move()?));
-    assert!(rt; again == Err(ChooseFault::AlreadyClaimed));
-    assert!(rt; seat.claim() == Some((2, Action::Move(opening_move()?))));
+    assert!(rt; claims_a_roll(&mut seat) == Err(wrong_phase));
+    assert!(rt; claims_a_move(&mut seat, half_a_move()) == Err(more));
+    assert!(rt; has_no_claim(&seat));
+    assert!(rt; claims_a_move(&mut seat, opening_move()) == Ok(2));
+    assert!(rt; has_the_claim(&seat));
+    assert!(rt; claims_a_roll(&mut seat) == Err(ChooseFault::AlreadyClaimed));
+    assert!(rt; claims_a_move(&mut seat, opening_move()) == Err(ChooseFault::AlreadyClaimed));
+    assert!(rt; has_the_claim(&seat));
+    Ok(())
+}
+
+#[test]
+fn nobody_claims_before_the_opening(rt: HostRuntime) -> Result<(), Fail> {
+    let mut fresh = Seat::fresh(rt.alloc(), Player::X, 1, 1)?;
+    assert!(rt; claims_a_roll(&mut fresh) == Err(ChooseFault::NotYourTurn));
     Ok(())
 }
 
 #[test]
 fn whose_turn_it_is(rt: HostRuntime) -> Result<(), Fail> {
-    let mut fresh = Seat::fresh(rt.alloc(), Player::X, 1, 1)?;
-    assert!(rt; fresh.choose(Action::Roll) == Err(ChooseFault::NotYourTurn));
     let mut other = after_the_opening(rt.alloc(), Player::O)?;
-    let refused = other.choose(Action::Move(opening_move()?));
-    assert!(rt; refused == Err(ChooseFault::NotYourTurn));
-    assert!(rt; other.claim().is_none());
-    assert!(rt; other.take(&one_entry(2, &MOVED)?) == Learned::Grew(1));
-    assert!(rt; other.choose(Action::Roll) == Ok(3));
+    assert!(rt; claims_a_move(&mut other, opening_move()) == Err(ChooseFault::NotYourTurn));
+    assert!(rt; has_no_claim(&other));
+    assert!(rt; one_gives(&mut other, 2, &MOVED, Learned::Grew(1)));
+    assert!(rt; claims_a_roll(&mut other) == Ok(3));
     Ok(())
 }
 
 #[test]
 fn claims_are_sent_once_they_are_saved(rt: HostRuntime) -> Result<(), Fail> {
     let mut seat = after_the_opening(rt.alloc(), Player::X)?;
-    assert!(rt; seat.tick() == want(1, 1));
-    assert!(rt; seat.choose(Action::Move(opening_move()?)) == Ok(2));
-    assert!(rt; seat.tick() == want(1, 1));
-    let (slot, save, text) = seat.to_save()?;
-    assert!(rt; (slot, save) == (Slot::One, 1));
-    assert_eq!(rt; text.as_slice(), FIRST_SAVE.as_slice());
-    assert!(rt; seat.tick() == want(1, 1));
-    seat.mark_saved(save);
-    let claim = packet(2, 1, &[1, 0, 2], &MOVED, &[])?;
-    assert!(rt; seat.tick().as_ref() == Some(&claim));
-    assert!(rt; seat.tick().as_ref() == Some(&claim));
+    assert!(rt; asks(&mut seat, 1, 1));
+    assert!(rt; claims_a_move(&mut seat, opening_move()) == Ok(2));
+    assert!(rt; asks(&mut seat, 1, 1));
+    assert!(rt; is_first_save(&seat) == Ok(true));
+    assert!(rt; asks(&mut seat, 1, 1));
+    assert!(rt; save(&mut seat) == Ok((Slot::One, 1)));
+    assert!(rt; sends_the_claim(&mut seat));
+    assert!(rt; sends_the_claim(&mut seat));
     // Once the record answers it the claim stays, and is no longer sent.
-    assert!(rt; seat.take(&one_entry(2, &MOVED)?) == Learned::Grew(1));
-    assert!(rt; seat.tick() == want(1, 2));
-    assert!(rt; seat.claim() == Some((2, Action::Move(opening_move()?))));
-    let (slot, save, _text) = seat.to_save()?;
-    assert!(rt; (slot, save) == (Slot::Zero, 2));
+    assert!(rt; one_gives(&mut seat, 2, &MOVED, Learned::Grew(1)));
+    assert!(rt; asks(&mut seat, 1, 2));
+    assert!(rt; has_the_claim(&seat));
+    assert!(rt; save(&mut seat) == Ok((Slot::Zero, 2)));
     Ok(())
 }
 
 #[test]
-fn what_changes_no_record(rt: HostRuntime) -> Result<(), Fail> {
+fn entries_that_change_no_record(rt: HostRuntime) -> Result<(), Fail> {
     let mut seat = after_the_opening(rt.alloc(), Player::X)?;
-    assert!(rt; seat.take(&one_entry(1, &OTHER_OPENING)?) == Learned::Conflict(1));
-    let differing = two_entries(1, &OTHER_OPENING, &MOVED)?;
-    assert!(rt; seat.take(&differing) == Learned::Conflict(1));
-    assert!(rt; seat.take(&one_entry(2, &HALF_A_MOVE)?) == Learned::Illegal(2));
-    assert!(rt; seat.take(&two_entries(2, &MOVED, &REJECTED)?) == Learned::Illegal(3));
-    assert!(rt; seat.take(&one_entry(3, &DOUBLED)?) == Learned::Gap);
-    assert!(rt; seat.take(&one_entry(255, &DOUBLED)?) == Learned::Gap);
-    assert!(rt; seat.take(&one_entry(1, &OPENING)?) == Learned::Nothing);
-    assert!(rt; seat.take(&packet(1, 1, &[3, 0, 0], &[], &[])?) == Learned::Nothing);
-    assert!(rt; seat.take(&packet(2, 1, &[1, 0, 2], &MOVED, &[])?) == Learned::Nothing);
-    assert!(rt; seat.take(&packet(1, 2, &[3, 0, 0], &[], &[])?) == Learned::OtherMatch);
-    assert!(rt; seat.take(&packet(3, 2, &[0, 2, 1], &MOVED, &[])?) == Learned::OtherMatch);
-    let opening = Entry::Opening(Die::Three, Die::One);
-    assert_eq!(rt; seat.held().len(), 1);
-    assert!(rt; seat.held().entry(1) == Some(&opening));
+    assert!(rt; one_gives(&mut seat, 1, &OTHER_OPENING, Learned::Conflict(1)));
+    assert!(rt; two_give(&mut seat, 1, &OTHER_OPENING, &MOVED, Learned::Conflict(1)));
+    assert!(rt; one_gives(&mut seat, 2, &HALF_A_MOVE, Learned::Illegal(2)));
+    assert!(rt; two_give(&mut seat, 2, &MOVED, &REJECTED, Learned::Illegal(3)));
+    assert!(rt; one_gives(&mut seat, 3, &DOUBLED, Learned::Gap));
+    assert!(rt; one_gives(&mut seat, 255, &DOUBLED, Learned::Gap));
+    assert!(rt; one_gives(&mut seat, 1, &OPENING, Learned::Nothing));
+    assert!(rt; holds_the_opening(&seat));
+    Ok(())
+}
+
+#[test]
+fn packets_that_change_no_record(rt: HostRuntime) -> Result<(), Fail> {
+    let mut seat = after_the_opening(rt.alloc(), Player::X)?;
+    assert!(rt; packet_gives(&mut seat, 1, 1, &[3, 0, 0], &[], Learned::Nothing));
+    assert!(rt; packet_gives(&mut seat, 2, 1, &[1, 0, 2], &MOVED, Learned::Nothing));
+    assert!(rt; packet_gives(&mut seat, 1, 2, &[3, 0, 0], &[], Learned::OtherMatch));
+    assert!(rt; packet_gives(&mut seat, 3, 2, &[0, 2, 1], &MOVED, Learned::OtherMatch));
+    assert!(rt; holds_the_opening(&seat));
     Ok(())
 }
 
 #[test]
 fn entries_after_a_gap(rt: HostRuntime) -> Result<(), Fail> {
     let mut watcher = Watcher::fresh(rt.alloc(), FIRST_WATCHER, 1, 1)?;
-    assert!(rt; watcher.tick() == want(3, 0));
-    assert!(rt; watcher.take(&one_entry(2, &MOVED)?) == Learned::Gap);
+    assert!(rt; watcher_asks(&mut watcher, 0));
+    assert!(rt; watcher_learns(&mut watcher, 2, &MOVED, &[], Learned::Gap));
     assert!(rt; watcher.held().is_empty());
-    assert!(rt; watcher.take(&one_entry(1, &OPENING)?) == Learned::Grew(1));
-    assert!(rt; watcher.tick() == want(3, 1));
-    assert!(rt; watcher.take(&one_entry(2, &MOVED)?) == Learned::Grew(1));
-    assert!(rt; watcher.tick() == want(3, 2));
-    assert!(rt; watcher.held().entry(2) == Some(&Entry::Moved(opening_move()?)));
+    assert!(rt; watcher_learns(&mut watcher, 1, &OPENING, &[], Learned::Grew(1)));
+    assert!(rt; watcher_asks(&mut watcher, 1));
+    assert!(rt; watcher_learns(&mut watcher, 2, &MOVED, &[], Learned::Grew(1)));
+    assert!(rt; watcher_asks(&mut watcher, 2));
+    assert!(rt; watcher_holds_the_move(&watcher));
     Ok(())
 }
 
 #[test]
 fn packets_that_overlap(rt: HostRuntime) -> Result<(), Fail> {
     let mut watcher = Watcher::fresh(rt.alloc(), 255, 1, 1)?;
-    assert!(rt; watcher.take(&one_entry(1, &OPENING)?) == Learned::Grew(1));
-    assert!(rt; watcher.take(&two_entries(1, &OPENING, &MOVED)?) == Learned::Grew(1));
-    assert!(rt; watcher.take(&two_entries(1, &OPENING, &MOVED)?) == Learned::Nothing);
-    assert!(rt; watcher.take(&two_entries(2, &MOVED, &OFFERED)?) == Learned::Grew(1));
-    let other = two_entries(2, &MOVED, &OFFERED_A_GAMMON)?;
-    assert!(rt; watcher.take(&other) == Learned::Conflict(3));
-    assert_eq!(rt; watcher.held().len(), 3);
+    let conflict = Learned::Conflict(3);
+    assert!(rt; watcher_learns(&mut watcher, 1, &OPENING, &[], Learned::Grew(1)));
+    assert!(rt; watcher_learns(&mut watcher, 1, &OPENING, &MOVED, Learned::Grew(1)));
+    assert!(rt; watcher_learns(&mut watcher, 1, &OPENING, &MOVED, Learned::Nothing));
+    assert!(rt; watcher_learns(&mut watcher, 2, &MOVED, &OFFERED, Learned::Grew(1)));
+    assert!(rt; watcher_learns(&mut watcher, 2, &MOVED, &OFFERED_A_GAMMON, conflict));
+    assert!(rt; watcher.held().len() == 3);
     assert!(rt; watcher.held().by(3) == Some(Player::O));
     Ok(())
 }
@@ -212,28 +322,36 @@ fn lengths(rt: HostRuntime) -> Result<(), Fail> {
     Ok(())
 }
 
+/// Whether a seat learns an offer to resign under this number, and its rejection. Entries that lack memory are told again.
+fn learns_an_offer(seat: &mut Seat, number: u8) -> bool {
+    let grew = Some(Learned::Grew(2));
+    let learned = told(seat, number, &OFFERED, &REJECTED);
+    if learned == Some(Learned::Memory) {
+        let unchanged = seat.held().len() == Number::from(number).wrapping_sub(1);
+        return unchanged && told(seat, number, &OFFERED, &REJECTED) == grew;
+    }
+    learned == grew
+}
+
+/// Whether a seat that holds the opening learns eleven offers to resign, each rejected.
+fn learns_eleven_offers(seat: &mut Seat) -> bool {
+    for offers in 1..12 {
+        if !learns_an_offer(seat, 2 * offers) {
+            return false;
+        }
+    }
+    true
+}
+
 /// Where memory is refused nothing has changed, and the same call then succeeds. No run of the tests refuses any, but
 /// `rt try --test --fail-alloc` refuses each growth in turn.
 #[test]
 fn refused_growths(rt: HostRuntime) -> Result<(), Fail> {
     let mut seat = after_the_opening(rt.alloc(), Player::X)?;
-    for offers in 1..12 {
-        let told = two_entries(2 * offers, &OFFERED, &REJECTED)?;
-        let mut learned = seat.take(&told);
-        if learned == Learned::Memory {
-            assert_eq!(rt; seat.held().len(), 2 * Number::from(offers) - 1);
-            learned = seat.take(&told);
-        }
-        assert!(rt; learned == Learned::Grew(2));
-    }
-    assert!(rt; seat.choose(Action::Move(opening_move()?)) == Ok(24));
-    let (slot, save, text) = match seat.to_save() {
-        Err(SaveRefusal::Memory) => seat.to_save()?,
-        other => other?,
-    };
-    assert!(rt; (slot, save) == (Slot::One, 1));
+    assert!(rt; learns_eleven_offers(&mut seat));
+    assert!(rt; claims_a_move(&mut seat, opening_move()) == Ok(24));
     // What stands before the entries has 29 bytes, the opening three, each of eleven offers two, each rejection one.
-    assert_eq!(rt; text.len(), 65);
-    assert!(rt; seat.tick() == want(1, 23));
+    assert!(rt; size_of_save(&seat) == Ok((Slot::One, 1, 65)));
+    assert!(rt; asks(&mut seat, 1, 23));
     Ok(())
 }

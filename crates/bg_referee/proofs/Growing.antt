@@ -1,7 +1,12 @@
 -- A referee whose record grows.
-use Rattle.std.proofs.Common.{◌≡◌, ℕ, ◌+◌, ◌<◌, ◌++◌, ◌∷◌, [], ap}
+use Rattle.std.proofs.Common.{◌≡◌, ℕ, ◌+◌, ◌<◌, ◌++◌, ◌∷◌, [], Some, Ok, length, ap, ◌∙◌}
+use Rattle.std.proofs.lemmas.List.{length_push}
+use Rattle.bg_turns.specs.declared.throws.Dice.{Dice}
+use Rattle.bg_turns.specs.Dice.{dice_of}
 use Rattle.bg_match.specs.declared.entries.Entry.{Entry}
-use Rattle.bg_match.specs.Match.{Log}
+use Rattle.bg_match.specs.declared.entries.Entry.TheVariants.{Opening}
+use Rattle.bg_match.specs.Match.{Log, IsLegalRecord}
+use Rattle.bg_referee.specs.Dues.{Dues}
 use Rattle.bg_referee.specs.Referee.{Appends}
 
 pub Appends-log : (log new : Log) (saved next_save : ℕ) (e : Entry) → (0 < log.spare → new.spare + 1 ≡ log.spare)
@@ -11,3 +16,14 @@ Appends-log log new saved next_save e room grown = record {
   spare = room;
   grown = ap (λ (l : Log). record { log = l; saved = saved; next_save = next_save }) grown;
 }
+
+-- a game is opened where the entry by which the record has grown is the opening with the dice of the word
+pub opened : (log new : Log) (saved next_save word n : ℕ) (dice : Dice) (e : Entry)
+    → new ≡ record log { entries = log.entries ++ e ∷ []; spare = new.spare } → (0 < log.spare → new.spare + 1 ≡ log.spare)
+    → IsLegalRecord new.match_length new.entries → n ≡ length new.entries → dice_of word ≡ Some dice
+    → e ≡ Opening dice.first dice.second
+    → Dues (record { log = log; saved = saved; next_save = next_save }) word (Ok n) (record { log = new; saved = saved; next_save = next_save })
+opened log new saved next_save word n dice e grown room legal many thrown same = (
+  many ∙ ap (λ (l : Log). length l.entries) grown ∙ length_push log.entries e,
+  (e, (dice, thrown, same, rw grown at legal), Appends-log log new saved next_save e room grown),
+)

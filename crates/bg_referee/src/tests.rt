@@ -1,13 +1,14 @@
 //! A referee of match 1, of length 1, packet by packet. The packets are read from bytes, as they come from a party.
-ghost use Rattle.std.specs.Prelude.{IfOk};
-ghost use Rattle.bg_wire.specs.PacketText.{IsPacket};
+//!
+//! A test is a list of assertions on short functions with no contract, each of which makes a call and compares what it
+//! gives. So neither what the call ensures nor the values that it makes burden the proof of the test.
 
 use crate::{DueFault, Referee, TakeOutcome};
 use arrayvec::ArrayVec;
 use bg_board::{Die, Step};
 use bg_match::{Entry, EntryFault, LengthFault, Number};
 use bg_turns::{Dice, Turn, TurnFault};
-use bg_wire::{EntryList, Packet, SaveRefusal, Slot, decode};
+use bg_wire::{Packet, SaveRefusal, Slot, decode};
 use std::alloc::Global;
 use std::test::Fail;
 
@@ -49,81 +50,189 @@ const SECOND_SAVE: [u8; 30] = [
     0x03, 0x01, 0x06, 0x02, 0x08, 0x05, 0x06, 0x05,
 ];
 
-/// The packet of this kind in match `id`, with these bytes.
-fn packet(kind: u8, id: u8, head: &[u8], tail: &[u8]) -> Result<Packet, Fail>
-    ensures { IfOk result IsPacket }
-{
+/// What the referee makes of the packet of this kind in match `id`, with these bytes; `None` where they are no packet.
+fn taken(
+    referee: &mut Referee,
+    kind: u8,
+    id: u8,
+    head: &[u8],
+    tail: &[u8],
+    word: u32,
+) -> Option<TakeOutcome> {
     let mut bytes: ArrayVec<u8, 128> = ArrayVec::new();
     for part in [&[0x42, 0x47, 1, kind, 0, 0, 0, 0, 0, 0, 0, id], head, tail] {
-        if bytes.try_extend_from_slice(part).is_err() {
-            return Err(Fail::from("a long packet"));
-        }
+        bytes.try_extend_from_slice(part).ok()?;
     }
-    Ok(decode(bytes.as_slice())?)
+    let packet = decode(bytes.as_slice()).ok()?;
+    Some(referee.take(&packet, word))
 }
 
-fn want(party: u8, held: u8) -> Result<Packet, Fail>
-    ensures { IfOk result IsPacket }
-{
-    packet(1, 1, &[party, 0, held], &[])
+/// What a party that holds so many entries is answered.
+fn wanted(referee: &mut Referee, party: u8, held: u8) -> Option<TakeOutcome> {
+    taken(referee, 1, 1, &[party, 0, held], &[], 0)
 }
 
-fn claim(party: u8, number: u8, action: &[u8]) -> Result<Packet, Fail>
-    ensures { IfOk result IsPacket }
-{
-    packet(2, 1, &[party, 0, number], action)
+/// What a party that claims an action under a number is answered.
+fn claimed(
+    referee: &mut Referee,
+    party: u8,
+    number: u8,
+    action: &[u8],
+    word: u32,
+) -> Option<TakeOutcome> {
+    taken(referee, 2, 1, &[party, 0, number], action, word)
 }
 
-/// These entries, told in match 1 from a number on.
-fn told(start: Number, list: &[Entry]) -> Result<Packet, Fail> {
-    let mut entries = ArrayVec::new();
-    for entry in list {
-        if entries.try_push(entry.copy()).is_err() {
-            return Err(Fail::from("more than eight entries"));
-        }
-    }
-    Ok(Packet::Entries {
-        id: 1,
-        start,
-        list: EntryList { entries },
+/// Whether this comes of a want.
+fn want_gives(referee: &mut Referee, party: u8, held: u8, outcome: TakeOutcome) -> bool {
+    wanted(referee, party, held) == Some(outcome)
+}
+
+/// Whether this comes of a claim.
+fn claim_gives(
+    referee: &mut Referee,
+    party: u8,
+    number: u8,
+    action: &[u8],
+    word: u32,
+    outcome: TakeOutcome,
+) -> bool {
+    claimed(referee, party, number, action, word) == Some(outcome)
+}
+
+/// Whether a claim does not follow, for this reason.
+fn claim_is_illegal(
+    referee: &mut Referee,
+    party: u8,
+    number: u8,
+    action: &[u8],
+    word: u32,
+    fault: EntryFault,
+) -> bool {
+    let illegal = TakeOutcome::Illegal(fault);
+    claim_gives(referee, party, number, action, word, illegal)
+}
+
+/// Whether the packet of this kind with these bytes is of another match than match 1, if it is in match 2.
+fn is_of_another_match(referee: &mut Referee, kind: u8, head: &[u8], tail: &[u8]) -> bool {
+    taken(referee, kind, 2, head, tail, THREE_ONE) == Some(TakeOutcome::OtherMatch)
+}
+
+/// Whether nothing comes of the opening, told by the referee.
+fn own_entries_give_nothing(referee: &mut Referee) -> bool {
+    taken(referee, 3, 1, &[0, 1, 1], &[3], NO_DICE) == Some(TakeOutcome::Nothing)
+}
+
+/// Whether a party is told these entries of match 1, from a number on.
+fn tells(answer: Option<TakeOutcome>, party: u8, start: Number, entries: &[Entry]) -> bool {
+    let Some(
+        TakeOutcome::Answer(
+            to,
+            Packet::Entries {
+                id: 1,
+                start: first,
+                list,
+            },
+        ),
+    ) = answer
+    else {
+        return false;
+    };
+    to == party && first == start && list.entries.as_slice() == entries
+}
+
+/// Whether a party is told the opening, and no more.
+fn tells_the_opening(answer: Option<TakeOutcome>, party: u8) -> bool {
+    tells(answer, party, 1, &[opening()])
+}
+
+/// Whether a party is told the roll, and no more.
+fn tells_the_roll(answer: Option<TakeOutcome>, party: u8) -> bool {
+    tells(answer, party, 3, &[rolled()])
+}
+
+/// Whether a party is told the move and the roll.
+fn tells_the_move_and_the_roll(answer: Option<TakeOutcome>, party: u8) -> bool {
+    tells(answer, party, 2, &[moved(), rolled()])
+}
+
+fn opening() -> Entry {
+    Entry::Opening(Die::Three, Die::One)
+}
+
+fn rolled() -> Entry {
+    Entry::Rolled(Dice {
+        first: Die::Three,
+        second: Die::One,
     })
 }
 
-fn die(number: u8) -> Result<Die, Fail> {
-    Ok(Die::new(number).ok_or("die")?)
-}
-
-fn opening() -> Result<Entry, Fail> {
-    Ok(Entry::Opening(die(3)?, die(1)?))
-}
-
-fn moved() -> Result<Entry, Fail> {
+fn moved() -> Entry {
     let mut steps = ArrayVec::new();
-    for (from, to) in [(8, 5), (6, 5)] {
-        if steps.try_push(Step::new(from, to).ok_or("step")?).is_err() {
-            return Err(Fail::from("more than four steps"));
-        }
-    }
-    Ok(Entry::Moved(Turn { steps }))
+    steps.push(Step::new(8, 5).unwrap());
+    steps.push(Step::new(6, 5).unwrap());
+    Entry::Moved(Turn { steps })
 }
 
-fn rolled() -> Result<Entry, Fail> {
-    Ok(Entry::Rolled(Dice {
-        first: die(3)?,
-        second: die(1)?,
-    }))
+fn opened(referee: &mut Referee, word: u32) -> Result<Number, DueFault> {
+    referee.due(word)
 }
 
-fn save(referee: &mut Referee) -> Result<(Slot, u32), Fail> {
+/// Whether a referee with no entry opens no game with this word, for this reason.
+fn refuses(referee: &mut Referee, word: u32, fault: DueFault) -> bool {
+    opened(referee, word) == Err(fault) && referee.held().is_empty()
+}
+
+/// Whether nothing is to be sent unasked.
+fn sends_nothing(referee: &mut Referee) -> bool {
+    referee.tick().is_empty()
+}
+
+/// Whether entry 1 is the opening.
+fn holds_the_opening(referee: &Referee) -> bool {
+    referee.held().entry(1) == Some(&opening())
+}
+
+/// Whether the next save has this slot, this number and this text.
+fn is_next_save(
+    referee: &Referee,
+    slot: Slot,
+    save: u32,
+    text: &[u8],
+) -> Result<bool, SaveRefusal> {
+    let (next_slot, next_save, next_text) = referee.to_save()?;
+    Ok((next_slot, next_save) == (slot, save) && next_text.as_slice() == text)
+}
+
+/// The slot, the number and the length of the next save, also where the memory for it is refused once.
+fn size_of_save(referee: &Referee) -> Result<(Slot, u32, usize), SaveRefusal> {
+    let (slot, save, text) = match referee.to_save() {
+        Err(SaveRefusal::Memory) => referee.to_save()?,
+        other => other?,
+    };
+    Ok((slot, save, text.len()))
+}
+
+fn save(referee: &mut Referee) -> Result<(Slot, u32), SaveRefusal> {
     let (slot, save, _text) = referee.to_save()?;
     referee.mark_saved(save);
     Ok((slot, save))
 }
 
+fn fresh(alloc: Global) -> Result<Referee, LengthFault> {
+    Referee::fresh(alloc, 1, 1)
+}
+
+/// A referee who has opened the game with 3 1, and saved nothing.
+fn with_the_opening(alloc: Global) -> Result<Referee, Fail> {
+    let mut referee = fresh(alloc)?;
+    opened(&mut referee, THREE_ONE)?;
+    Ok(referee)
+}
+
 /// A referee who has opened the game with 3 1, and saved that.
 fn after_the_opening(alloc: Global) -> Result<Referee, Fail> {
-    let mut referee = Referee::fresh(alloc, 1, 1)?;
-    referee.due(THREE_ONE)?;
+    let mut referee = with_the_opening(alloc)?;
     save(&mut referee)?;
     Ok(referee)
 }
@@ -131,7 +240,7 @@ fn after_the_opening(alloc: Global) -> Result<Referee, Fail> {
 /// A referee who holds the opening 3 1 and 8-5 6-5, and has saved the first.
 fn after_the_move(alloc: Global) -> Result<Referee, Fail> {
     let mut referee = after_the_opening(alloc)?;
-    if referee.take(&claim(X, 2, &MOVE)?, NO_DICE) != TakeOutcome::Accepted(2) {
+    if !claim_gives(&mut referee, X, 2, &MOVE, NO_DICE, TakeOutcome::Accepted(2)) {
         return Err(Fail::from("not accepted"));
     }
     Ok(referee)
@@ -139,22 +248,17 @@ fn after_the_move(alloc: Global) -> Result<Referee, Fail> {
 
 #[test]
 fn openings(rt: HostRuntime) -> Result<(), Fail> {
-    let mut referee = Referee::fresh(rt.alloc(), 1, 1)?;
-    for (word, fault) in [
-        (0, DueFault::EqualOpening),
-        (SIX_SIX, DueFault::EqualOpening),
-        (NO_DICE, DueFault::WordRefused),
-        (u32::MAX, DueFault::WordRefused),
-    ] {
-        assert!(rt; referee.due(word) == Err(fault));
-        assert!(rt; referee.held().is_empty());
-    }
-    assert!(rt; referee.due(THREE_ONE) == Ok(1));
-    assert!(rt; referee.held().entry(1) == Some(&opening()?));
-    assert!(rt; referee.due(THREE_ONE) == Err(DueFault::NothingDue));
-    assert!(rt; referee.due(NO_DICE) == Err(DueFault::NothingDue));
-    assert_eq!(rt; referee.held().len(), 1);
-    assert_eq!(rt; referee.saved(), 0);
+    let mut referee = fresh(rt.alloc())?;
+    assert!(rt; refuses(&mut referee, 0, DueFault::EqualOpening));
+    assert!(rt; refuses(&mut referee, SIX_SIX, DueFault::EqualOpening));
+    assert!(rt; refuses(&mut referee, NO_DICE, DueFault::WordRefused));
+    assert!(rt; refuses(&mut referee, u32::MAX, DueFault::WordRefused));
+    assert!(rt; opened(&mut referee, THREE_ONE) == Ok(1));
+    assert!(rt; holds_the_opening(&referee));
+    assert!(rt; opened(&mut referee, THREE_ONE) == Err(DueFault::NothingDue));
+    assert!(rt; opened(&mut referee, NO_DICE) == Err(DueFault::NothingDue));
+    assert!(rt; referee.held().len() == 1);
+    assert!(rt; referee.saved() == 0);
     Ok(())
 }
 
@@ -170,150 +274,145 @@ fn lengths(rt: HostRuntime) -> Result<(), Fail> {
 
 #[test]
 fn nothing_unsaved_is_told(rt: HostRuntime) -> Result<(), Fail> {
-    let mut referee = Referee::fresh(rt.alloc(), 1, 1)?;
-    referee.due(THREE_ONE)?;
-    assert!(rt; referee.take(&want(WATCHER, 0)?, 0) == TakeOutcome::Nothing);
-    assert!(rt; referee.take(&claim(X, 1, &ROLL)?, 0) == TakeOutcome::Nothing);
-    assert!(rt; save(&mut referee)? == (Slot::One, 1));
-    assert_eq!(rt; referee.saved(), 1);
-    let answer = referee.take(&want(WATCHER, 0)?, 0);
-    assert!(rt; answer == TakeOutcome::Answer(WATCHER, told(1, &[opening()?])?));
-    let answer = referee.take(&claim(O, 1, &ROLL)?, 0);
-    assert!(rt; answer == TakeOutcome::Answer(O, told(1, &[opening()?])?));
-    assert!(rt; referee.take(&want(WATCHER, 1)?, 0) == TakeOutcome::Nothing);
-    assert!(rt; referee.take(&want(WATCHER, 2)?, 0) == TakeOutcome::Ahead);
-    assert!(rt; referee.tick().is_empty());
+    let mut referee = with_the_opening(rt.alloc())?;
+    assert!(rt; want_gives(&mut referee, WATCHER, 0, TakeOutcome::Nothing));
+    assert!(rt; claim_gives(&mut referee, X, 1, &ROLL, 0, TakeOutcome::Nothing));
+    assert!(rt; save(&mut referee) == Ok((Slot::One, 1)));
+    assert!(rt; referee.saved() == 1);
+    assert!(rt; tells_the_opening(wanted(&mut referee, WATCHER, 0), WATCHER));
+    assert!(rt; tells_the_opening(claimed(&mut referee, O, 1, &ROLL, 0), O));
+    assert!(rt; want_gives(&mut referee, WATCHER, 1, TakeOutcome::Nothing));
+    assert!(rt; want_gives(&mut referee, WATCHER, 2, TakeOutcome::Ahead));
+    assert!(rt; sends_nothing(&mut referee));
     Ok(())
 }
 
 #[test]
 fn refused_claims(rt: HostRuntime) -> Result<(), Fail> {
     let mut referee = after_the_opening(rt.alloc())?;
-    let outcome = referee.take(&claim(O, 2, &MOVE)?, NO_DICE);
-    assert!(rt; outcome == TakeOutcome::NotYourTurn);
-    let outcome = referee.take(&claim(X, 2, &HALF_A_MOVE)?, NO_DICE);
     let more = EntryFault::Turn(TurnFault::MoreCanBePlayed);
-    assert!(rt; outcome == TakeOutcome::Illegal(more));
-    let outcome = referee.take(&claim(X, 2, &TAKE)?, NO_DICE);
-    assert!(rt; outcome == TakeOutcome::Illegal(EntryFault::WrongPhase));
-    let outcome = referee.take(&claim(X, 2, &ROLL)?, NO_DICE);
-    assert!(rt; outcome == TakeOutcome::WordRefused);
-    let outcome = referee.take(&claim(X, 2, &ROLL)?, THREE_ONE);
-    assert!(rt; outcome == TakeOutcome::Illegal(EntryFault::WrongPhase));
-    let outcome = referee.take(&claim(X, 3, &MOVE)?, NO_DICE);
-    assert!(rt; outcome == TakeOutcome::Ahead);
-    let outcome = referee.take(&packet(3, 1, &[0, 1, 1], &[3])?, NO_DICE);
-    assert!(rt; outcome == TakeOutcome::Nothing);
-    assert_eq!(rt; referee.held().len(), 1);
+    let wrong_phase = EntryFault::WrongPhase;
+    assert!(rt; claim_gives(&mut referee, O, 2, &MOVE, NO_DICE, TakeOutcome::NotYourTurn));
+    assert!(rt; claim_is_illegal(&mut referee, X, 2, &HALF_A_MOVE, NO_DICE, more));
+    assert!(rt; claim_is_illegal(&mut referee, X, 2, &TAKE, NO_DICE, wrong_phase));
+    assert!(rt; claim_gives(&mut referee, X, 2, &ROLL, NO_DICE, TakeOutcome::WordRefused));
+    assert!(rt; claim_is_illegal(&mut referee, X, 2, &ROLL, THREE_ONE, wrong_phase));
+    assert!(rt; claim_gives(&mut referee, X, 3, &MOVE, NO_DICE, TakeOutcome::Ahead));
+    assert!(rt; own_entries_give_nothing(&mut referee));
+    assert!(rt; referee.held().len() == 1);
     Ok(())
 }
 
 #[test]
 fn other_matches(rt: HostRuntime) -> Result<(), Fail> {
     let mut referee = after_the_opening(rt.alloc())?;
-    for other in [
-        packet(1, 2, &[WATCHER, 0, 0], &[])?,
-        packet(2, 2, &[X, 0, 2], &MOVE)?,
-        packet(3, 2, &[0, 1, 1], &[3])?,
-    ] {
-        assert!(rt; referee.take(&other, THREE_ONE) == TakeOutcome::OtherMatch);
-    }
-    assert_eq!(rt; referee.held().len(), 1);
+    assert!(rt; is_of_another_match(&mut referee, 1, &[WATCHER, 0, 0], &[]));
+    assert!(rt; is_of_another_match(&mut referee, 2, &[X, 0, 2], &MOVE));
+    assert!(rt; is_of_another_match(&mut referee, 3, &[0, 1, 1], &[3]));
+    assert!(rt; referee.held().len() == 1);
     Ok(())
 }
 
 #[test]
 fn repeated_claims_count_once(rt: HostRuntime) -> Result<(), Fail> {
     let mut referee = after_the_move(rt.alloc())?;
-    assert!(rt; referee.take(&claim(O, 3, &ROLL)?, THREE_ONE) == TakeOutcome::Accepted(3));
+    let accepted = TakeOutcome::Accepted(3);
+    assert!(rt; claim_gives(&mut referee, O, 3, &ROLL, THREE_ONE, accepted));
     // Not saved yet, so it is not told: neither these dice nor others.
-    assert!(rt; referee.take(&claim(O, 3, &ROLL)?, TWO_THREE) == TakeOutcome::Nothing);
-    assert!(rt; save(&mut referee)? == (Slot::Zero, 2));
-    let answer = referee.take(&claim(O, 3, &ROLL)?, TWO_THREE);
-    assert!(rt; answer == TakeOutcome::Answer(O, told(3, &[rolled()?])?));
-    let answer = referee.take(&claim(X, 2, &MOVE)?, 0);
-    assert!(rt; answer == TakeOutcome::Answer(X, told(2, &[moved()?, rolled()?])?));
-    assert_eq!(rt; referee.held().len(), 3);
+    assert!(rt; claim_gives(&mut referee, O, 3, &ROLL, TWO_THREE, TakeOutcome::Nothing));
+    assert!(rt; save(&mut referee) == Ok((Slot::Zero, 2)));
+    assert!(rt; tells_the_roll(claimed(&mut referee, O, 3, &ROLL, TWO_THREE), O));
+    assert!(rt; tells_the_move_and_the_roll(claimed(&mut referee, X, 2, &MOVE, 0), X));
+    assert!(rt; referee.held().len() == 3);
     Ok(())
 }
 
-/// Appends the entries from 2 to `last`: offers to resign by X, each rejected by O. A claim that lacks memory is sent again.
-fn offers(referee: &mut Referee, last: u8) -> Result<(), Fail> {
+/// Appends the entry of this number: an offer to resign by X, or its rejection by O. A claim that lacks memory is sent again.
+fn offer(referee: &mut Referee, number: u8) -> bool {
+    let (party, action) = if number % 2 == 0 {
+        (X, OFFER.as_slice())
+    } else {
+        (O, REJECT.as_slice())
+    };
+    let accepted = Some(TakeOutcome::Accepted(Number::from(number)));
+    let outcome = claimed(referee, party, number, action, 0);
+    if outcome == Some(TakeOutcome::Memory) {
+        let unchanged = referee.held().len() == Number::from(number).wrapping_sub(1);
+        return unchanged && claimed(referee, party, number, action, 0) == accepted;
+    }
+    outcome == accepted
+}
+
+/// Appends the entries from 2 to `last`.
+fn offers(referee: &mut Referee, last: u8) -> bool {
     for number in 2..=last {
-        let offer = claim(X, number, &OFFER)?;
-        let rejection = claim(O, number, &REJECT)?;
-        let claimed = if number % 2 == 0 { offer } else { rejection };
-        let mut outcome = referee.take(&claimed, 0);
-        if outcome == TakeOutcome::Memory {
-            if referee.held().len() != Number::from(number) - 1 {
-                return Err(Fail::from("changed by a refused growth"));
-            }
-            outcome = referee.take(&claimed, 0);
-        }
-        if outcome != TakeOutcome::Accepted(Number::from(number)) {
-            return Err(Fail::from("not accepted"));
+        if !offer(referee, number) {
+            return false;
         }
     }
-    Ok(())
+    true
+}
+
+/// Whether a party that holds so many entries is told the next ones, this many.
+fn tells_next(referee: &mut Referee, held: u8, count: usize) -> bool {
+    let answer = wanted(referee, 255, held);
+    let Some(TakeOutcome::Answer(255, Packet::Entries { id: 1, start, list })) = answer else {
+        return false;
+    };
+    let mut number = start;
+    for entry in list.entries.as_slice() {
+        if referee.held().entry(number) != Some(entry) {
+            return false;
+        }
+        number = number.wrapping_add(1);
+    }
+    start == Number::from(held) + 1 && list.entries.len() == count
 }
 
 #[test]
 fn eight_entries_at_once(rt: HostRuntime) -> Result<(), Fail> {
     let mut referee = after_the_opening(rt.alloc())?;
-    offers(&mut referee, 12)?;
-    save(&mut referee)?;
-    for (held, count) in [(0, 8), (3, 8), (4, 8), (5, 7), (11, 1)] {
-        let answer = referee.take(&want(255, held)?, 0);
-        let TakeOutcome::Answer(255, Packet::Entries { id: 1, start, list }) = answer else {
-            return Err(Fail::from("no answer"));
-        };
-        assert_eq!(rt; start, Number::from(held) + 1);
-        assert_eq!(rt; list.entries.len(), count);
-        let mut number = Number::from(held);
-        for entry in list.entries.as_slice() {
-            number = number.wrapping_add(1);
-            assert!(rt; referee.held().entry(number) == Some(entry));
-        }
-    }
+    assert!(rt; offers(&mut referee, 12));
+    assert!(rt; save(&mut referee).is_ok());
+    assert!(rt; tells_next(&mut referee, 0, 8));
+    assert!(rt; tells_next(&mut referee, 3, 8));
+    assert!(rt; tells_next(&mut referee, 4, 8));
+    assert!(rt; tells_next(&mut referee, 5, 7));
+    assert!(rt; tells_next(&mut referee, 11, 1));
     Ok(())
 }
 
 #[test]
 fn saves(rt: HostRuntime) -> Result<(), Fail> {
     let mut referee = after_the_move(rt.alloc())?;
-    let (slot, save, text) = referee.to_save()?;
-    assert!(rt; (slot, save) == (Slot::Zero, 2));
-    assert_eq!(rt; text.as_slice(), SECOND_SAVE.as_slice());
+    assert!(rt; is_next_save(&referee, Slot::Zero, 2, &SECOND_SAVE) == Ok(true));
     // It changes nothing, so it gives the same again.
-    let (slot, save, text) = referee.to_save()?;
-    assert!(rt; (slot, save) == (Slot::Zero, 2));
-    assert_eq!(rt; text.as_slice(), SECOND_SAVE.as_slice());
-    assert_eq!(rt; referee.saved(), 1);
-    referee.mark_saved(save);
-    assert_eq!(rt; referee.saved(), 2);
-    let (slot, save, _text) = referee.to_save()?;
-    assert!(rt; (slot, save) == (Slot::One, 3));
+    assert!(rt; is_next_save(&referee, Slot::Zero, 2, &SECOND_SAVE) == Ok(true));
+    assert!(rt; referee.saved() == 1);
+    assert!(rt; save(&mut referee) == Ok((Slot::Zero, 2)));
+    assert!(rt; referee.saved() == 2);
+    assert!(rt; save(&mut referee) == Ok((Slot::One, 3)));
     Ok(())
+}
+
+/// Whether the opening 3 1 is entry 1, also where the memory for it is refused once.
+fn opens(referee: &mut Referee) -> bool {
+    match opened(referee, THREE_ONE) {
+        Err(DueFault::Memory) => referee.held().is_empty() && opened(referee, THREE_ONE) == Ok(1),
+        first => first == Ok(1),
+    }
 }
 
 /// Where memory is refused nothing has changed, and the same call then succeeds. No run of the tests refuses any, but
 /// `rt try --test --fail-alloc` refuses each growth in turn.
 #[test]
 fn refused_growths(rt: HostRuntime) -> Result<(), Fail> {
-    let mut referee = Referee::fresh(rt.alloc(), 1, 1)?;
-    if referee.due(THREE_ONE) == Err(DueFault::Memory) {
-        assert!(rt; referee.held().is_empty());
-        assert!(rt; referee.due(THREE_ONE) == Ok(1));
-    }
-    offers(&mut referee, 20)?;
-    let (slot, save, text) = match referee.to_save() {
-        Err(SaveRefusal::Memory) => referee.to_save()?,
-        other => other?,
-    };
-    assert!(rt; (slot, save) == (Slot::One, 1));
+    let mut referee = fresh(rt.alloc())?;
+    assert!(rt; opens(&mut referee));
+    assert!(rt; offers(&mut referee, 20));
     // What stands before the entries has 21 bytes, the opening three, each of ten offers two, each rejection one.
-    assert_eq!(rt; text.len(), 53);
-    assert_eq!(rt; referee.saved(), 0);
-    assert!(rt; referee.take(&claim(X, 22, &OFFER_A_GAMMON)?, 0) == TakeOutcome::Ahead);
+    assert!(rt; size_of_save(&referee) == Ok((Slot::One, 1, 53)));
+    assert!(rt; referee.saved() == 0);
+    assert!(rt; claim_gives(&mut referee, X, 22, &OFFER_A_GAMMON, 0, TakeOutcome::Ahead));
     Ok(())
 }
