@@ -13,33 +13,38 @@ fn judge_is_a_command(rt: HostRuntime) -> Result<(), Fail> {
     Ok(())
 }
 
-#[test]
-fn other_words_are_refused(rt: HostRuntime) -> Result<(), Fail> {
-    let help: &[&str] = &["bg_relay", "--help"];
-    let help_of_judge: &[&str] = &["bg_relay", "judge", "--help"];
-    let nothing: &[&str] = &["bg_relay"];
-    let unknown_command: &[&str] = &["bg_relay", "walk"];
-    let unknown_option: &[&str] = &["bg_relay", "judge", "--loud"];
-    for (words, kind, on_stderr) in [
-        (help, ErrorKind::DisplayHelp, false),
-        (help_of_judge, ErrorKind::DisplayHelp, false),
-        (
-            nothing,
-            ErrorKind::DisplayHelpOnMissingArgumentOrSubcommand,
-            true,
-        ),
-        (unknown_command, ErrorKind::InvalidSubcommand, true),
-        (unknown_option, ErrorKind::UnknownArgument, true),
-    ] {
-        match command(rt.alloc())?.try_get_matches_from(words) {
-            Ok(_) => return Err(Fail::from("accepted")),
-            Err(error) => {
-                assert!(rt; error.kind() == kind);
-                assert!(rt; error.use_stderr() == on_stderr);
-            }
+/// These words are refused so.
+fn check_refused(
+    rt: &(impl AllocGlobal + Abort),
+    words: &[&str],
+    kind: ErrorKind,
+    on_stderr: bool,
+) -> Result<(), Fail> {
+    match command(rt.alloc())?.try_get_matches_from(words) {
+        Ok(_) => Err(Fail::from("accepted")),
+        Err(error) => {
+            assert!(rt; error.kind() == kind);
+            assert!(rt; error.use_stderr() == on_stderr);
+            Ok(())
         }
     }
-    Ok(())
+}
+
+#[test]
+fn help_is_shown(rt: HostRuntime) -> Result<(), Fail> {
+    let help = ErrorKind::DisplayHelp;
+    check_refused(&rt, &["bg_relay", "--help"], help, false)?;
+    check_refused(&rt, &["bg_relay", "judge", "--help"], help, false)
+}
+
+#[test]
+fn other_words_are_refused(rt: HostRuntime) -> Result<(), Fail> {
+    let missing = ErrorKind::DisplayHelpOnMissingArgumentOrSubcommand;
+    check_refused(&rt, &["bg_relay"], missing, true)?;
+    let unknown_command = ErrorKind::InvalidSubcommand;
+    check_refused(&rt, &["bg_relay", "walk"], unknown_command, true)?;
+    let unknown_option = ErrorKind::UnknownArgument;
+    check_refused(&rt, &["bg_relay", "judge", "--loud"], unknown_option, true)
 }
 
 /// Save 2 of the referee of match 1, length 1: an opening and its move.
@@ -95,16 +100,13 @@ fn check_shown(
 }
 
 #[test]
-fn shown_files(rt: HostRuntime) -> Result<(), Fail> {
-    let referee = "file 0: party 0 match 1 length 1 save 2 entries 2\n";
-    let seat = "file 0: party 1 match 1 length 1 save 1 entries 1 claim 2\n";
-    let newer = "file 1: party 0 match 1 length 1 save 3 entries 1\n";
-    let equal = "file 1: party 0 match 1 length 1 save 2 entries 2\n";
+fn shown_files_of_which_one_loads(rt: HostRuntime) -> Result<(), Fail> {
     check_shown(
         &rt,
         &REFEREE,
         b"",
-        &format!(in rt.alloc(); "{referee}file 1: short\n")?,
+        "file 0: party 0 match 1 length 1 save 2 entries 2\n\
+         file 1: short\n",
         AFTER_THE_MOVE,
         true,
     )?;
@@ -112,15 +114,21 @@ fn shown_files(rt: HostRuntime) -> Result<(), Fail> {
         &rt,
         &SEAT,
         b"BGS0",
-        &format!(in rt.alloc(); "{seat}file 1: bad magic\n")?,
+        "file 0: party 1 match 1 length 1 save 1 entries 1 claim 2\n\
+         file 1: bad magic\n",
         AFTER_THE_OPENING,
         true,
-    )?;
+    )
+}
+
+#[test]
+fn shown_files_that_both_load(rt: HostRuntime) -> Result<(), Fail> {
     check_shown(
         &rt,
         &REFEREE,
         &OPENING,
-        &format!(in rt.alloc(); "{referee}{newer}")?,
+        "file 0: party 0 match 1 length 1 save 2 entries 2\n\
+         file 1: party 0 match 1 length 1 save 3 entries 1\n",
         AFTER_THE_OPENING,
         true,
     )?;
@@ -128,16 +136,16 @@ fn shown_files(rt: HostRuntime) -> Result<(), Fail> {
         &rt,
         &REFEREE,
         &REFEREE,
-        &format!(in rt.alloc(); "{referee}{equal}")?,
+        "file 0: party 0 match 1 length 1 save 2 entries 2\n\
+         file 1: party 0 match 1 length 1 save 2 entries 2\n",
         AFTER_THE_MOVE,
         true,
-    )?;
-    check_shown(&rt, b"", b"B", "file 0: short\nfile 1: short\n", "", false)?;
-    Ok(())
+    )
 }
 
 #[test]
 fn files_that_do_not_load(rt: HostRuntime) -> Result<(), Fail> {
+    check_shown(&rt, b"", b"B", "file 0: short\nfile 1: short\n", "", false)?;
     let mut illegal = SEAT;
     illegal[31] = 3;
     let mut field = SEAT;
@@ -149,9 +157,13 @@ fn files_that_do_not_load(rt: HostRuntime) -> Result<(), Fail> {
         "file 0: illegal entry 1\nfile 1: bad field at 13\n",
         "",
         false,
-    )?;
-    let mut extra = Vec::from_slice(rt.alloc(), &REFEREE)?;
-    extra.push(0)?;
+    )
+}
+
+#[test]
+fn longer_file_does_not_load(rt: HostRuntime) -> Result<(), Fail> {
+    let mut extra = [0; 31];
+    extra[..30].copy_from_slice(&REFEREE);
     check_shown(
         &rt,
         &extra,

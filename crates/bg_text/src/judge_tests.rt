@@ -10,9 +10,14 @@ use bg_match::{Cube, Entry, Phase, Record, Standing};
 use bg_turns::Turn;
 use std::alloc::Global;
 use std::io::{self, Read, Write};
+use std::process::Abort;
 use std::test::Fail;
 
 const MATCH: &str = "length 1\nopen 3 1\nX move 8-5 6-5\n";
+
+const FIRST_TURN: &str = "open 3 1\nX move 8-5 6-5\n";
+
+const TOO_LONG: &str = "refused: input too long\n";
 
 const HEADER: &str = "length 1 game 1 score 0-0 cube 1 middle crawford";
 
@@ -38,41 +43,67 @@ fn lines(alloc: Global, lines: &[&str]) -> Result<Vec<u8>, Fail> {
     Ok(text)
 }
 
-/// A picture of a board with no checker on the bar or off, and one line more.
-fn picture(
-    alloc: Global,
-    header: &str,
-    upper: &str,
-    lower: &str,
-    phase: &str,
-    last: &str,
-) -> Result<Vec<u8>, Fail> {
-    let mut text = board_picture(alloc, header, upper, lower, ASIDE, phase)?;
-    text.extend_from_slice(&lines(alloc, &[last])?)?;
+/// The picture of a board: the header, the upper and the lower points, the bar and what is off, and the phase.
+fn picture(alloc: Global, board: [&str; 5]) -> Result<Vec<u8>, Fail> {
+    let [header, upper, lower, aside, phase] = board;
+    let parts = [
+        header,
+        UPPER_NUMBERS,
+        upper,
+        lower,
+        LOWER_NUMBERS,
+        aside,
+        phase,
+    ];
+    lines(alloc, &parts)
+}
+
+/// The judge says this of an input.
+fn check_judged(
+    rt: &(impl AllocGlobal + Abort),
+    input: &[u8],
+    text: Vec<u8>,
+    verdict: Verdict,
+) -> Result<(), Fail> {
+    let judged = judge_text(rt.alloc(), input)?;
+    assert!(rt; judged == Judgement { text, verdict }, "{}", input.len());
+    Ok(())
+}
+
+/// The picture of a board with no checker on the bar or off, and one line more.
+fn picture_and_line(alloc: Global, board: [&str; 4], last: &str) -> Result<Vec<u8>, Fail> {
+    let [header, upper, lower, phase] = board;
+    let mut text = picture(alloc, [header, upper, lower, ASIDE, phase])?;
+    text.extend_from_slice(last.as_bytes())?;
+    text.push(b'\n')?;
     Ok(text)
 }
 
-/// A picture of a board alone.
-fn board_picture(
-    alloc: Global,
-    header: &str,
-    upper: &str,
-    lower: &str,
-    aside: &str,
-    phase: &str,
-) -> Result<Vec<u8>, Fail> {
-    lines(
-        alloc,
-        &[
-            header,
-            UPPER_NUMBERS,
-            upper,
-            lower,
-            LOWER_NUMBERS,
-            aside,
-            phase,
-        ],
-    )
+/// The judge draws this board of an input, with no checker on the bar or off, and says this last.
+fn check_board(
+    rt: &(impl AllocGlobal + Abort),
+    input: &[u8],
+    board: [&str; 4],
+    last: &str,
+    verdict: Verdict,
+) -> Result<(), Fail> {
+    let text = picture_and_line(rt.alloc(), board, last)?;
+    check_judged(rt, input, text, verdict)
+}
+
+/// The same, of an input in parts.
+fn check_parts(
+    rt: &(impl AllocGlobal + Abort),
+    parts: [&str; 3],
+    board: [&str; 4],
+    last: &str,
+    verdict: Verdict,
+) -> Result<(), Fail> {
+    let mut input = Vec::new(rt.alloc());
+    for part in parts {
+        input.extend_from_slice(part.as_bytes())?;
+    }
+    check_board(rt, &input, board, last, verdict)
 }
 
 /// How many checkers stand on each point, of the points that have some.
@@ -95,171 +126,181 @@ fn followed_by(alloc: Global, start: &str, byte: u8, count: usize) -> Result<Vec
     Ok(text)
 }
 
-/// The record of MATCH.
-fn record(alloc: Global) -> Result<Record, Fail> {
+/// The first turn of MATCH.
+fn first_turn(rt: &impl Abort) -> Turn {
     let mut steps = ArrayVec::new();
     for (from, to) in [(8, 5), (6, 5)] {
-        if steps.try_push(Step::new(from, to).ok_or("step")?).is_err() {
-            return Err(Fail::from("long"));
-        }
+        let step = Step::new(from, to).expect(rt, "a step");
+        assert!(rt; steps.try_push(step).is_ok());
     }
-    let mut record = Record::new(alloc, 1, 1)?;
+    Turn { steps }
+}
+
+/// The record of MATCH.
+fn record(rt: &(impl AllocGlobal + Abort)) -> Result<Record, Fail> {
+    let mut record = Record::new(rt.alloc(), 1, 1)?;
     record.push(Entry::Opening(Die::Three, Die::One))?;
-    record.push(Entry::Moved(Turn { steps }))?;
+    record.push(Entry::Moved(first_turn(rt)))?;
     Ok(record)
 }
 
 #[test]
-fn boards_and_verdicts(rt: HostRuntime) -> Result<(), Fail> {
-    let first = "open 3 1\nX move 8-5 6-5\n";
-    let cubes =
-        "open 3 1\nX move 8-5 6-5\nO double\nX take\nO roll 3 1\nO move 8-5 6-5\nX double\n";
-    let crawford = "open 1 3\nO resign gammon\nX accept\nopen 3 1\n";
-    for (length, inputs, header, upper, lower, phase, last, verdict) in [
+fn boards_of_good_openings(rt: HostRuntime) -> Result<(), Fail> {
+    let opened = [HEADER, UPPER, OPENED, "O to roll"];
+    let parts = ["length 1\n", FIRST_TURN, ""];
+    check_parts(&rt, parts, opened, "ok 2", Verdict::Fine(2))?;
+    let answered = [
+        HEADER,
+        "  X5   .   .   .  O3  O2  O5   .   .   .   .  X2",
+        "  O3   .   .   .  X2  O2  X4  X2   .   .   .   .",
+        "X to roll",
+    ];
+    let double_six = "O roll 6 6\nO move 24-18 24-18 13-7 13-7\n";
+    let parts = ["length 1\n", FIRST_TURN, double_six];
+    check_parts(&rt, parts, answered, "ok 4", Verdict::Fine(4))
+}
+
+#[test]
+fn boards_of_refused_openings(rt: HostRuntime) -> Result<(), Fail> {
+    let to_move = [HEADER, UPPER, LOWER, "X to move 3 1"];
+    let equal = [HEADER, UPPER, LOWER, "opening"];
+    for (opening, turn, board, last, line) in [
         (
-            "length 1",
-            [first, ""],
-            HEADER,
-            UPPER,
-            OPENED,
-            "O to roll",
-            "ok 2",
-            Verdict::Fine(2),
-        ),
-        (
-            "length 1",
-            ["open 3 1\n", "X move 8-5"],
-            HEADER,
-            UPPER,
-            LOWER,
-            "X to move 3 1",
+            "open 3 1\n",
+            "X move 8-5",
+            to_move,
             "refused at line 3: more can be played",
-            Verdict::Refused(3),
+            3,
         ),
         (
-            "length 1",
-            ["open 3 3\n", ""],
-            HEADER,
-            UPPER,
-            LOWER,
-            "opening",
+            "open 3 3\n",
+            "",
+            equal,
             "refused at line 2: equal opening",
-            Verdict::Refused(2),
+            2,
         ),
         (
-            "length 1",
-            [first, "O roll 6 6\nO move 24-18 24-18 13-7 13-7\n"],
-            HEADER,
-            "  X5   .   .   .  O3  O2  O5   .   .   .   .  X2",
-            "  O3   .   .   .  X2  O2  X4  X2   .   .   .   .",
-            "X to roll",
-            "ok 4",
-            Verdict::Fine(4),
-        ),
-        (
-            "length 1",
-            ["open 3 1\n", "O move 8-5 6-5\n"],
-            HEADER,
-            UPPER,
-            LOWER,
-            "X to move 3 1",
+            "open 3 1\n",
+            "O move 8-5 6-5\n",
+            to_move,
             "refused at line 3: wrong player",
-            Verdict::Refused(3),
-        ),
-        (
-            "length 3",
-            [crawford, "X move 8-5 6-5\nO double\n"],
-            "length 3 game 2 score 2-0 cube 1 middle crawford",
-            UPPER,
-            OPENED,
-            "O to roll",
-            "refused at line 7: no double: crawford",
-            Verdict::Refused(7),
-        ),
-        (
-            "length 3",
-            [
-                crawford,
-                "X resign normal\nO accept\nopen 3 1\nX move 8-5 6-5\nO double\n",
-            ],
-            "length 3 game 3 score 2-1 cube 1 middle",
-            UPPER,
-            OPENED,
-            "X to answer the double",
-            "ok 9",
-            Verdict::Fine(9),
-        ),
-        (
-            "length 5",
-            [cubes, "O drop\n"],
-            "length 5 game 2 score 2-0 cube 1 middle",
-            UPPER,
-            LOWER,
-            "opening",
-            "ok 8",
-            Verdict::Fine(8),
-        ),
-        (
-            "length 5",
-            [cubes, "O take\n"],
-            "length 5 game 1 score 0-0 cube 4 O",
-            "  X5   .   .   .  O2   .  O4  O2   .   .   .  X2",
-            OPENED,
-            "X to roll",
-            "ok 8",
-            Verdict::Fine(8),
-        ),
-        (
-            "length 3",
-            ["open 1 3\nO resign gammon\n", "O accept\n"],
-            "length 3 game 1 score 0-0 cube 1 middle",
-            UPPER,
-            LOWER,
-            "O resigns gammon",
-            "refused at line 4: wrong player",
-            Verdict::Refused(4),
-        ),
-        (
-            "length 1",
-            ["open 1 3\nO resign normal\nX accept\n", "O take\n"],
-            "length 1 game 1 score 1-0 cube 1 middle crawford",
-            UPPER,
-            LOWER,
-            "X wins the match",
-            "refused at line 5: match over",
-            Verdict::Refused(5),
+            3,
         ),
     ] {
-        let mut input = lines(rt.alloc(), &[length])?;
-        for part in inputs {
-            input.extend_from_slice(part.as_bytes())?;
-        }
-        let text = picture(rt.alloc(), header, upper, lower, phase, last)?;
-        let judgement = judge_text(rt.alloc(), &input)?;
-        assert_eq!(rt; judgement, Judgement { text, verdict }, "{last}");
+        let parts = ["length 1\n", opening, turn];
+        check_parts(&rt, parts, board, last, Verdict::Refused(line))?;
     }
     Ok(())
 }
 
 #[test]
-fn text_of_a_record(rt: HostRuntime) -> Result<(), Fail> {
-    let record = record(rt.alloc())?;
-    let transcript = transcript_text(rt.alloc(), &record)?;
-    assert_eq!(rt; transcript.as_slice(), MATCH.as_bytes());
-    let board = board_text(rt.alloc(), &record.standing())?;
-    assert_eq!(rt;
-        board,
-        board_picture(rt.alloc(), HEADER, UPPER, OPENED, ASIDE, "O to roll")?
-    );
-    let judged = judge_text(rt.alloc(), &transcript)?;
-    let (text, verdict) = (text_of_match(rt.alloc())?, Verdict::Fine(2));
-    assert_eq!(rt; judged, Judgement { text, verdict });
+fn boards_of_the_crawford_game(rt: HostRuntime) -> Result<(), Fail> {
+    let crawford = "length 3\nopen 1 3\nO resign gammon\nX accept\nopen 3 1\n";
+    let header = "length 3 game 2 score 2-0 cube 1 middle crawford";
+    check_parts(
+        &rt,
+        [crawford, "X move 8-5 6-5\nO double\n", ""],
+        [header, UPPER, OPENED, "O to roll"],
+        "refused at line 7: no double: crawford",
+        Verdict::Refused(7),
+    )?;
+    let lost = "X resign normal\nO accept\nopen 3 1\nX move 8-5 6-5\n";
+    let header = "length 3 game 3 score 2-1 cube 1 middle";
+    check_parts(
+        &rt,
+        [crawford, lost, "O double\n"],
+        [header, UPPER, OPENED, "X to answer the double"],
+        "ok 9",
+        Verdict::Fine(9),
+    )
+}
+
+#[test]
+fn boards_after_doubles(rt: HostRuntime) -> Result<(), Fail> {
+    let start = "length 5\nopen 3 1\nX move 8-5 6-5\n";
+    let doubles = "O double\nX take\nO roll 3 1\nO move 8-5 6-5\nX double\n";
+    let header = "length 5 game 2 score 2-0 cube 1 middle";
+    check_parts(
+        &rt,
+        [start, doubles, "O drop\n"],
+        [header, UPPER, LOWER, "opening"],
+        "ok 8",
+        Verdict::Fine(8),
+    )?;
+    let upper = "  X5   .   .   .  O2   .  O4  O2   .   .   .  X2";
+    let header = "length 5 game 1 score 0-0 cube 4 O";
+    check_parts(
+        &rt,
+        [start, doubles, "O take\n"],
+        [header, upper, OPENED, "X to roll"],
+        "ok 8",
+        Verdict::Fine(8),
+    )
+}
+
+#[test]
+fn boards_after_resignations(rt: HostRuntime) -> Result<(), Fail> {
+    let header = "length 3 game 1 score 0-0 cube 1 middle";
+    check_parts(
+        &rt,
+        ["length 3\nopen 1 3\n", "O resign gammon\n", "O accept\n"],
+        [header, UPPER, LOWER, "O resigns gammon"],
+        "refused at line 4: wrong player",
+        Verdict::Refused(4),
+    )?;
+    let header = "length 1 game 1 score 1-0 cube 1 middle crawford";
+    let resigned = "O resign normal\nX accept\n";
+    check_parts(
+        &rt,
+        ["length 1\nopen 1 3\n", resigned, "O take\n"],
+        [header, UPPER, LOWER, "X wins the match"],
+        "refused at line 5: match over",
+        Verdict::Refused(5),
+    )
+}
+
+/// The board of a standing is drawn so.
+fn check_picture(
+    rt: &(impl AllocGlobal + Abort),
+    standing: &Standing,
+    board: [&str; 5],
+) -> Result<(), Fail> {
+    let expected = picture(rt.alloc(), board)?;
+    let text = board_text(rt.alloc(), standing)?;
+    assert_eq!(rt; text, expected);
     Ok(())
+}
+
+#[test]
+fn board_of_a_record(rt: HostRuntime) -> Result<(), Fail> {
+    let standing = record(&rt)?.standing();
+    check_picture(&rt, &standing, [HEADER, UPPER, OPENED, ASIDE, "O to roll"])
+}
+
+#[test]
+fn transcript_of_a_record(rt: HostRuntime) -> Result<(), Fail> {
+    let transcript = transcript_text(rt.alloc(), &record(&rt)?)?;
+    assert_eq!(rt; transcript.as_slice(), MATCH.as_bytes());
+    let text = text_of_match(rt.alloc())?;
+    check_judged(&rt, &transcript, text, Verdict::Fine(2))
+}
+
+/// The standing of the first game of a match of length 3 where X is to act, with these checkers.
+fn standing_of(x: [u8; 26], o: [u8; 26]) -> Result<Standing, Fail> {
+    let cube = Cube {
+        value: 1,
+        owner: None,
+    };
+    let board = Board::from_counts(x, o)?;
+    let phase = Phase::ToAct(Player::X);
+    let standing = Standing::from_parts(3, board, phase, cube, (0, 0), false, 1);
+    Ok(standing.ok_or("standing")?)
 }
 
 #[test]
 fn checkers_on_the_bar_and_off(rt: HostRuntime) -> Result<(), Fail> {
     let x = counts(&[(25, 1), (6, 12), (0, 2)]);
+    let header = "length 3 game 1 score 0-0 cube 1 middle";
     let lower = "   .   .   .   .   .   . X12   .   .   .   .   .";
     for (o, upper, aside) in [
         (
@@ -273,93 +314,98 @@ fn checkers_on_the_bar_and_off(rt: HostRuntime) -> Result<(), Fail> {
             "bar X 1 O 3 off X 2 O 4",
         ),
     ] {
-        let standing = Standing::from_parts(
-            3,
-            Board::from_counts(x, o)?,
-            Phase::ToAct(Player::X),
-            Cube {
-                value: 1,
-                owner: None,
-            },
-            (0, 0),
-            false,
-            1,
-        );
-        let text = board_text(rt.alloc(), &standing.ok_or("standing")?)?;
-        let header = "length 3 game 1 score 0-0 cube 1 middle";
-        let expected = board_picture(rt.alloc(), header, upper, lower, aside, "X to roll")?;
-        assert_eq!(rt; text, expected, "{aside}");
+        let standing = standing_of(x, o)?;
+        check_picture(&rt, &standing, [header, upper, lower, aside, "X to roll"])?;
     }
     Ok(())
 }
 
+/// The first line is refused, for this reason.
+fn check_line_1(rt: &(impl AllocGlobal + Abort), input: &[u8], why: &str) -> Result<(), Fail> {
+    let mut text = Vec::from_slice(rt.alloc(), b"refused at line 1: ")?;
+    text.extend_from_slice(why.as_bytes())?;
+    text.push(b'\n')?;
+    check_judged(rt, input, text, Verdict::Refused(1))
+}
+
+/// Inputs whose first line is of another shape.
+const NO_LENGTH_LINES: [&[u8]; 15] = [
+    b"",
+    b"\n",
+    b"\0",
+    b"\xff\xfe\n",
+    b"open 3 1\n",
+    b"length",
+    b"length \n",
+    b"length 1\r\n",
+    b"length 1\0\n",
+    b"length 1 \n",
+    b"length  1\n",
+    b" length 1\n",
+    b"Length 1\n",
+    b"length +1\n",
+    b"length 1000\n",
+];
+
 #[test]
-fn line_1_refused(rt: HostRuntime) -> Result<(), Fail> {
+fn no_length_lines_refused(rt: HostRuntime) -> Result<(), Fail> {
+    for input in &NO_LENGTH_LINES {
+        check_line_1(&rt, input, "not a length line")?;
+    }
     let many_digits = followed_by(rt.alloc(), "length ", b'1', 300)?;
+    check_line_1(&rt, &many_digits, "not a length line")?;
     let long_line = followed_by(rt.alloc(), "", b'X', MOST_BYTES)?;
-    let (shape, range) = ("not a length line", "length out of range");
-    for (input, why) in [
-        (b"".as_slice(), shape),
-        (b"\n", shape),
-        (b"\0", shape),
-        (b"\xff\xfe\n", shape),
-        (b"open 3 1\n", shape),
-        (b"length", shape),
-        (b"length \n", shape),
-        (b"length 1\r\n", shape),
-        (b"length 1\0\n", shape),
-        (b"length 1 \n", shape),
-        (b"length  1\n", shape),
-        (b" length 1\n", shape),
-        (b"Length 1\n", shape),
-        (b"length +1\n", shape),
-        (b"length 1000\n", shape),
-        (many_digits.as_slice(), shape),
-        (long_line.as_slice(), shape),
-        (b"length 0\n", range),
-        (b"length 000\n", range),
-        (b"length 01\nopen 3 1\n", range),
-        (b"length 100", range),
-        (b"length 999\n", range),
+    check_line_1(&rt, &long_line, "not a length line")
+}
+
+#[test]
+fn other_lengths_refused(rt: HostRuntime) -> Result<(), Fail> {
+    for input in [
+        "length 0\n",
+        "length 000\n",
+        "length 01\nopen 3 1\n",
+        "length 100",
+        "length 999\n",
     ] {
-        let judged = judge_text(rt.alloc(), input)?;
-        let mut text = Vec::from_slice(rt.alloc(), b"refused at line 1: ")?;
-        text.extend_from_slice(why.as_bytes())?;
-        text.push(b'\n')?;
-        let verdict = Verdict::Refused(1);
-        assert!(rt; judged == Judgement { text, verdict }, "{}", input.len());
+        check_line_1(&rt, input.as_bytes(), "length out of range")?;
     }
     Ok(())
+}
+
+/// Only the first line of the input is good, and the second is no line.
+fn check_line_2(rt: &(impl AllocGlobal + Abort), input: &[u8]) -> Result<(), Fail> {
+    let board = [HEADER, UPPER, LOWER, "opening"];
+    let last = "refused at line 2: not a line";
+    check_board(rt, input, board, last, Verdict::Refused(2))
+}
+
+#[test]
+fn lone_length_lines(rt: HostRuntime) -> Result<(), Fail> {
+    let shortest = [HEADER, UPPER, LOWER, "opening"];
+    check_board(&rt, b"length 1", shortest, "ok 0", Verdict::Fine(0))?;
+    check_board(&rt, b"length 1\n", shortest, "ok 0", Verdict::Fine(0))?;
+    let header = "length 99 game 1 score 0-0 cube 1 middle";
+    let longest = [header, UPPER, LOWER, "opening"];
+    check_board(&rt, b"length 99\n", longest, "ok 0", Verdict::Fine(0))
 }
 
 #[test]
 fn later_lines_refused(rt: HostRuntime) -> Result<(), Fail> {
-    let many_digits = followed_by(rt.alloc(), "length 1\nopen 3 ", b'1', 300)?;
-    let long_line = followed_by(rt.alloc(), "length 1\n", b'X', MOST_BYTES - 9)?;
-    let empty_lines = followed_by(rt.alloc(), "length 1\n", b'\n', MOST_BYTES - 9)?;
-    let header = "length 99 game 1 score 0-0 cube 1 middle";
-    let (fine, refused) = ("ok 0", "refused at line 2: not a line");
-    for (input, header, last) in [
-        (b"length 1".as_slice(), HEADER, fine),
-        (b"length 1\n", HEADER, fine),
-        (b"length 99\n", header, fine),
-        (b"length 1\n\n", HEADER, refused),
-        (b"length 1\n\nopen 3 1\n", HEADER, refused),
-        (b"length 1\n\0\n", HEADER, refused),
-        (b"length 1\n\xff", HEADER, refused),
-        (b"length 1\nopen 3 1\r\nX move 8-5 6-5\r\n", HEADER, refused),
-        (many_digits.as_slice(), HEADER, refused),
-        (long_line.as_slice(), HEADER, refused),
-        (empty_lines.as_slice(), HEADER, refused),
+    check_line_2(&rt, b"length 1\n\n")?;
+    check_line_2(&rt, b"length 1\n\nopen 3 1\n")?;
+    check_line_2(&rt, b"length 1\n\0\n")?;
+    check_line_2(&rt, b"length 1\n\xff")?;
+    check_line_2(&rt, b"length 1\nopen 3 1\r\nX move 8-5 6-5\r\n")
+}
+
+#[test]
+fn long_later_lines_refused(rt: HostRuntime) -> Result<(), Fail> {
+    for (start, byte, count) in [
+        ("length 1\nopen 3 ", b'1', 300),
+        ("length 1\n", b'X', MOST_BYTES - 9),
+        ("length 1\n", b'\n', MOST_BYTES - 9),
     ] {
-        let judged = judge_text(rt.alloc(), input)?;
-        let text = picture(rt.alloc(), header, UPPER, LOWER, "opening", last)?;
-        let verdict = if last == fine {
-            Verdict::Fine(0)
-        } else {
-            Verdict::Refused(2)
-        };
-        assert!(rt; judged == Judgement { text, verdict }, "{}", input.len());
+        check_line_2(&rt, &followed_by(rt.alloc(), start, byte, count)?)?;
     }
     Ok(())
 }
@@ -368,12 +414,8 @@ fn later_lines_refused(rt: HostRuntime) -> Result<(), Fail> {
 fn inputs_that_are_too_long(rt: HostRuntime) -> Result<(), Fail> {
     for start in ["", "length 1\n", "length 0\n"] {
         let input = followed_by(rt.alloc(), start, b'X', MOST_BYTES + 1 - start.len())?;
-        let judged = judge_text(rt.alloc(), &input)?;
-        assert_eq!(rt; judged.verdict, Verdict::TooLong);
-        assert_eq!(rt;
-            judged.text.as_slice(),
-            b"refused: input too long\n".as_slice()
-        );
+        let text = Vec::from_slice(rt.alloc(), TOO_LONG.as_bytes())?;
+        check_judged(&rt, &input, text, Verdict::TooLong)?;
     }
     Ok(())
 }
@@ -471,9 +513,23 @@ fn verdict_on<R: Read, W: Write>(
     judge(alloc, &mut Reading::new(reader), &mut Writing::new(writer))
 }
 
+/// What a reader gives is judged so, and this is written, at most so many bytes in a write.
+fn check_read(
+    rt: &(impl AllocGlobal + Abort),
+    reader: &mut Fed<'_>,
+    step: usize,
+    verdict: Result<Verdict, EngineFault>,
+    text: &[u8],
+) {
+    let mut writer = Slow::new(rt.alloc(), step, 1000);
+    let found = verdict_on(rt.alloc(), reader, &mut writer);
+    assert_eq!(rt; found, verdict);
+    assert_eq!(rt; writer.taken.as_slice(), text);
+}
+
 /// The picture of MATCH, and its verdict.
 fn text_of_match(alloc: Global) -> Result<Vec<u8>, Fail> {
-    picture(alloc, HEADER, UPPER, OPENED, "O to roll", "ok 2")
+    picture_and_line(alloc, [HEADER, UPPER, OPENED, "O to roll"], "ok 2")
 }
 
 #[test]
@@ -481,12 +537,15 @@ fn read_and_written_in_parts(rt: HostRuntime) -> Result<(), Fail> {
     let text = text_of_match(rt.alloc())?;
     for (read, written) in [(1, 1), (1, 1000), (7, 3), (1000, 1000)] {
         let mut reader = Fed::new(MATCH.as_bytes(), read);
-        let mut writer = Slow::new(rt.alloc(), written, 1000);
-        let verdict = verdict_on(rt.alloc(), &mut reader, &mut writer);
-        assert_eq!(rt; verdict, Ok(Verdict::Fine(2)));
-        assert_eq!(rt; writer.taken, text);
+        check_read(&rt, &mut reader, written, Ok(Verdict::Fine(2)), &text);
         assert_eq!(rt; reader.given, MATCH.len());
     }
+    Ok(())
+}
+
+#[test]
+fn read_and_written_by_slices(rt: HostRuntime) -> Result<(), Fail> {
+    let text = text_of_match(rt.alloc())?;
     let (mut reader, mut written) = (MATCH.as_bytes(), Vec::new(rt.alloc()));
     let verdict = verdict_on(rt.alloc(), &mut reader, &mut written);
     assert_eq!(rt; verdict, Ok(Verdict::Fine(2)));
@@ -495,89 +554,117 @@ fn read_and_written_in_parts(rt: HostRuntime) -> Result<(), Fail> {
 }
 
 #[test]
-fn readers_that_fail_or_never_end(rt: HostRuntime) -> Result<(), Fail> {
+fn readers_that_fail(rt: HostRuntime) {
     for fails_at in [1, 2, 20, 33, 34] {
         let mut reader = Fed::new(MATCH.as_bytes(), 1);
         reader.fails_at = fails_at;
-        let mut writer = Slow::new(rt.alloc(), 1000, 1000);
-        let verdict = verdict_on(rt.alloc(), &mut reader, &mut writer);
-        assert_eq!(rt; verdict, Err(EngineFault::Read), "{fails_at}");
-        assert!(rt; writer.taken.is_empty() && reader.reads == fails_at);
+        check_read(&rt, &mut reader, 1000, Err(EngineFault::Read), b"");
+        assert_eq!(rt; reader.reads, fails_at);
     }
+}
+
+#[test]
+fn readers_that_never_end(rt: HostRuntime) {
     for step in [1, 1000, 10_000_000] {
         let mut reader = Fed::new(b"", step);
         reader.endless = true;
-        let mut writer = Slow::new(rt.alloc(), 1000, 1000);
-        let verdict = verdict_on(rt.alloc(), &mut reader, &mut writer);
-        assert_eq!(rt; verdict, Ok(Verdict::TooLong));
-        assert_eq!(rt;
-            writer.taken.as_slice(),
-            b"refused: input too long\n".as_slice()
-        );
+        let verdict = Ok(Verdict::TooLong);
+        check_read(&rt, &mut reader, 1000, verdict, TOO_LONG.as_bytes());
         assert!(rt; reader.reads <= 4_194_305 && reader.given == 4_194_305);
     }
-    Ok(())
+}
+
+/// An input of one long line is read whole, at most so many bytes in a read.
+fn check_long_input(
+    rt: &(impl AllocGlobal + Abort),
+    input: &[u8],
+    step: usize,
+    verdict: Verdict,
+    text: &str,
+) {
+    let mut reader = Fed::new(input, step);
+    check_read(rt, &mut reader, 1000, Ok(verdict), text.as_bytes());
+    assert!(rt; reader.reads <= 4_194_305 && reader.given == input.len());
 }
 
 #[test]
 fn longest_input_is_read(rt: HostRuntime) -> Result<(), Fail> {
-    for (length, steps, verdict) in [
-        (MOST_BYTES, [1, 4096], Verdict::Refused(1)),
-        (MOST_BYTES + 1, [1000, 4096], Verdict::TooLong),
-    ] {
-        let input = followed_by(rt.alloc(), "", b'X', length)?;
-        for step in steps {
-            let mut reader = Fed::new(&input, step);
-            let mut writer = Slow::new(rt.alloc(), 1000, 1000);
-            assert_eq!(rt;
-                verdict_on(rt.alloc(), &mut reader, &mut writer),
-                Ok(verdict)
-            );
-            assert!(rt; reader.reads <= 4_194_305 && reader.given == length);
-        }
-    }
+    let longest = followed_by(rt.alloc(), "", b'X', MOST_BYTES)?;
+    let text = "refused at line 1: not a length line\n";
+    check_long_input(&rt, &longest, 1, Verdict::Refused(1), text);
+    check_long_input(&rt, &longest, 4096, Verdict::Refused(1), text);
+    let longer = followed_by(rt.alloc(), "", b'X', MOST_BYTES + 1)?;
+    check_long_input(&rt, &longer, 1000, Verdict::TooLong, TOO_LONG);
+    check_long_input(&rt, &longer, 4096, Verdict::TooLong, TOO_LONG);
     Ok(())
+}
+
+/// A writer with less room than the text, or one that fails as it is flushed, has taken what it has room for.
+fn check_failing_writer(rt: &(impl AllocGlobal + Abort), text: &[u8], room: usize) {
+    let mut writer = Slow::new(rt.alloc(), 50, room);
+    writer.flushes = room < text.len();
+    let verdict = verdict_on(rt.alloc(), &mut MATCH.as_bytes(), &mut writer);
+    assert_eq!(rt; verdict, Err(EngineFault::Write), "{room}");
+    assert!(rt; text.starts_with(&writer.taken) && writer.taken.len() == room);
 }
 
 #[test]
 fn writers_that_fail(rt: HostRuntime) -> Result<(), Fail> {
     let text = text_of_match(rt.alloc())?;
     for room in [0, 1, 100, text.len().saturating_sub(1), text.len()] {
-        let mut writer = Slow::new(rt.alloc(), 50, room);
-        writer.flushes = room < text.len();
-        let verdict = verdict_on(rt.alloc(), &mut MATCH.as_bytes(), &mut writer);
-        assert_eq!(rt; verdict, Err(EngineFault::Write), "{room}");
-        assert!(rt; text.starts_with(&writer.taken) && writer.taken.len() == room);
+        check_failing_writer(&rt, &text, room);
     }
     Ok(())
 }
 
-/// Where memory is refused nothing was written, and the same call then succeeds. No run of the tests refuses any, but
-/// `rt try --test --fail-alloc` refuses each growth in turn.
+/// Where memory is refused the same call then succeeds. No run of the tests refuses any, but `rt try --test --fail-alloc`
+/// refuses each growth in turn.
 #[test]
-fn refused_growths(rt: HostRuntime) -> Result<(), Fail> {
-    let (text, record) = (text_of_match(rt.alloc())?, record(rt.alloc())?);
-    let standing = record.standing();
+fn refused_growths_of_boards(rt: HostRuntime) -> Result<(), Fail> {
+    let standing = record(&rt)?.standing();
     let board = match board_text(rt.alloc(), &standing) {
         Ok(board) => board,
         Err(_) => board_text(rt.alloc(), &standing)?,
     };
+    assert!(rt; text_of_match(rt.alloc())?.starts_with(&board));
+    Ok(())
+}
+
+/// The same, of a transcript.
+#[test]
+fn refused_growths_of_transcripts(rt: HostRuntime) -> Result<(), Fail> {
+    let record = record(&rt)?;
     let transcript = match transcript_text(rt.alloc(), &record) {
         Ok(transcript) => transcript,
         Err(_) => transcript_text(rt.alloc(), &record)?,
     };
-    let judged = match judge_text(rt.alloc(), &transcript) {
+    assert_eq!(rt; transcript.as_slice(), MATCH.as_bytes());
+    Ok(())
+}
+
+/// The same, of a judgement.
+#[test]
+fn refused_growths_of_judgements(rt: HostRuntime) -> Result<(), Fail> {
+    let judged = match judge_text(rt.alloc(), MATCH.as_bytes()) {
         Ok(judged) => judged,
-        Err(_) => judge_text(rt.alloc(), &transcript)?,
+        Err(_) => judge_text(rt.alloc(), MATCH.as_bytes())?,
     };
+    assert_eq!(rt; judged.verdict, Verdict::Fine(2));
+    assert_eq!(rt; judged.text, text_of_match(rt.alloc())?);
+    Ok(())
+}
+
+/// The same, of the judge between devices, who then has written nothing.
+#[test]
+fn refused_growths_between_devices(rt: HostRuntime) -> Result<(), Fail> {
+    let text = text_of_match(rt.alloc())?;
     let mut written = Vec::with_capacity(rt.alloc(), 1000)?;
-    let mut verdict = verdict_on(rt.alloc(), &mut transcript.as_slice(), &mut written);
+    let mut verdict = verdict_on(rt.alloc(), &mut MATCH.as_bytes(), &mut written);
     if verdict == Err(EngineFault::Memory) {
         assert!(rt; written.is_empty());
-        verdict = verdict_on(rt.alloc(), &mut transcript.as_slice(), &mut written);
+        verdict = verdict_on(rt.alloc(), &mut MATCH.as_bytes(), &mut written);
     }
-    assert!(rt; text.starts_with(&board) && transcript.as_slice() == MATCH.as_bytes());
-    assert!(rt; judged.text == text && written == text);
-    assert!(rt; judged.verdict == Verdict::Fine(2) && verdict == Ok(Verdict::Fine(2)));
+    assert_eq!(rt; verdict, Ok(Verdict::Fine(2)));
+    assert_eq!(rt; written, text);
     Ok(())
 }

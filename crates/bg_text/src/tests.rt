@@ -4,116 +4,113 @@ use arrayvec::ArrayVec;
 use bg_board::{Die, Player, Step};
 use bg_match::{Action, Entry, EntryFault, Level, NoDouble};
 use bg_turns::{Dice, Turn, TurnFault};
-use std::test::Fail;
+use std::process::Abort;
 
-fn turn(steps: &[(u8, u8)]) -> Result<Turn, Fail> {
+fn turn(rt: &impl Abort, steps: &[(u8, u8)]) -> Turn {
     let mut list = ArrayVec::new();
     for &(from, to) in steps {
-        if list.try_push(Step::new(from, to).ok_or("step")?).is_err() {
-            return Err(Fail::from("long"));
-        }
+        let step = Step::new(from, to).expect(rt, "a step");
+        assert!(rt; list.try_push(step).is_ok());
     }
-    Ok(Turn { steps: list })
+    Turn { steps: list }
+}
+
+/// The line is read as this entry of this seat, which is written as the line.
+fn check_entry(rt: &impl Abort, line: &str, seat: Option<Player>, entry: Entry) {
+    let line = line.as_bytes();
+    let (by, found) = parse_entry(line).expect(rt, "a line");
+    assert_eq!(rt; by, seat);
+    assert_eq!(rt; found, entry);
+    assert_eq!(rt; entry_text(by, &found).as_str().as_bytes(), line);
+}
+
+/// The line is read as this turn of this seat.
+fn check_turn(rt: &impl Abort, line: &str, seat: Player, steps: &[(u8, u8)]) {
+    check_entry(rt, line, Some(seat), Entry::Moved(turn(rt, steps)));
 }
 
 #[test]
-fn lines_of_entries(rt: HostRuntime) -> Result<(), Fail> {
+fn lines_of_dice_and_doubles(rt: HostRuntime) {
     let dice = Dice {
         first: Die::Six,
         second: Die::Two,
     };
-    let bar = (25, 24);
-    for (line, seat, entry) in [
-        ("open 3 1", None, Entry::Opening(Die::Three, Die::One)),
-        ("open 4 4", None, Entry::Opening(Die::Four, Die::Four)),
-        ("O roll 6 2", Some(Player::O), Entry::Rolled(dice)),
-        ("X double", Some(Player::X), Entry::Doubled),
-        ("O take", Some(Player::O), Entry::Taken),
-        ("X drop", Some(Player::X), Entry::Dropped),
-        ("X move", Some(Player::X), Entry::Moved(turn(&[])?)),
-        (
-            "X move 8-5 6-5",
-            Some(Player::X),
-            Entry::Moved(turn(&[(8, 5), (6, 5)])?),
-        ),
-        (
-            "O move bar-off 1-off",
-            Some(Player::O),
-            Entry::Moved(turn(&[(25, 0), (1, 0)])?),
-        ),
-        (
-            "X move bar-24 bar-24 bar-24 bar-24",
-            Some(Player::X),
-            Entry::Moved(turn(&[bar, bar, bar, bar])?),
-        ),
-        (
-            "X resign normal",
-            Some(Player::X),
-            Entry::Resigned(Level::Normal),
-        ),
-        (
-            "O resign gammon",
-            Some(Player::O),
-            Entry::Resigned(Level::Gammon),
-        ),
-        (
-            "X resign backgammon",
-            Some(Player::X),
-            Entry::Resigned(Level::Backgammon),
-        ),
-        ("O accept", Some(Player::O), Entry::Accepted),
-        ("X reject", Some(Player::X), Entry::Rejected),
-    ] {
-        let line = line.as_bytes();
-        let (by, found) = parse_entry(line)?;
-        assert_eq!(rt; by, seat);
-        assert_eq!(rt; found, entry);
-        assert_eq!(rt; entry_text(by, &found).as_str().as_bytes(), line);
-    }
-    Ok(())
+    let opening = Entry::Opening(Die::Three, Die::One);
+    let equal = Entry::Opening(Die::Four, Die::Four);
+    check_entry(&rt, "open 3 1", None, opening);
+    check_entry(&rt, "open 4 4", None, equal);
+    check_entry(&rt, "O roll 6 2", Some(Player::O), Entry::Rolled(dice));
+    check_entry(&rt, "X double", Some(Player::X), Entry::Doubled);
+    check_entry(&rt, "O take", Some(Player::O), Entry::Taken);
+    check_entry(&rt, "X drop", Some(Player::X), Entry::Dropped);
 }
 
 #[test]
-fn refused_lines(rt: HostRuntime) {
-    for (line, fault) in [
-        ("X move 0-off", TextFault::BadNumber),
-        ("X move 25-20", TextFault::BadNumber),
-        ("X move 3-0", TextFault::BadNumber),
-        ("X move 03-1", TextFault::BadNumber),
-        ("X move 5-5", TextFault::BadNumber),
-        ("X move 5-8", TextFault::BadNumber),
-        ("X move 24-23 24-23 24-23 24-23 0-off", TextFault::BadNumber),
-        ("open 0 1", TextFault::BadNumber),
-        ("open 3 7", TextFault::BadNumber),
-        ("O roll 06 2", TextFault::BadNumber),
-        (
-            "X move 24-23 24-23 24-23 24-23 24-23",
-            TextFault::TooManySteps,
-        ),
-        ("", TextFault::NotALine),
-        ("X", TextFault::NotALine),
-        ("x take", TextFault::NotALine),
-        ("X open 3 1", TextFault::NotALine),
-        ("open 3", TextFault::NotALine),
-        ("open 3 1 1", TextFault::NotALine),
-        ("roll 6 2", TextFault::NotALine),
-        ("X roll", TextFault::NotALine),
-        ("X resign", TextFault::NotALine),
-        ("X moves 8-5", TextFault::NotALine),
-        ("X move 0-off bar", TextFault::NotALine),
-        ("X move off-3", TextFault::NotALine),
-        ("X move 8-bar", TextFault::NotALine),
-        ("X move 8-5-3", TextFault::NotALine),
-        ("X move 100-5", TextFault::NotALine),
-        ("X  take", TextFault::NotALine),
-        ("X move  8-5", TextFault::NotALine),
-        (" X take", TextFault::NotALine),
-        ("X take ", TextFault::NotALine),
-        ("X move 8-5 ", TextFault::NotALine),
-        ("X take\r", TextFault::NotALine),
-        ("X take\0", TextFault::NotALine),
-        ("X take\u{80}", TextFault::NotALine),
+fn lines_of_turns(rt: HostRuntime) {
+    check_turn(&rt, "X move", Player::X, &[]);
+    check_turn(&rt, "X move 8-5 6-5", Player::X, &[(8, 5), (6, 5)]);
+    check_turn(&rt, "O move bar-off 1-off", Player::O, &[(25, 0), (1, 0)]);
+    let four_entering = "X move bar-24 bar-24 bar-24 bar-24";
+    check_turn(&rt, four_entering, Player::X, &[(25, 24); 4]);
+}
+
+#[test]
+fn lines_of_resignations(rt: HostRuntime) {
+    for (line, seat, level) in [
+        ("X resign normal", Player::X, Level::Normal),
+        ("O resign gammon", Player::O, Level::Gammon),
+        ("X resign backgammon", Player::X, Level::Backgammon),
     ] {
+        check_entry(&rt, line, Some(seat), Entry::Resigned(level));
+    }
+    check_entry(&rt, "O accept", Some(Player::O), Entry::Accepted);
+    check_entry(&rt, "X reject", Some(Player::X), Entry::Rejected);
+}
+
+/// Lines that are no entry, and why.
+const NO_ENTRIES: [(&str, TextFault); 34] = [
+    ("X move 0-off", TextFault::BadNumber),
+    ("X move 25-20", TextFault::BadNumber),
+    ("X move 3-0", TextFault::BadNumber),
+    ("X move 03-1", TextFault::BadNumber),
+    ("X move 5-5", TextFault::BadNumber),
+    ("X move 5-8", TextFault::BadNumber),
+    ("X move 24-23 24-23 24-23 24-23 0-off", TextFault::BadNumber),
+    ("open 0 1", TextFault::BadNumber),
+    ("open 3 7", TextFault::BadNumber),
+    ("O roll 06 2", TextFault::BadNumber),
+    (
+        "X move 24-23 24-23 24-23 24-23 24-23",
+        TextFault::TooManySteps,
+    ),
+    ("", TextFault::NotALine),
+    ("X", TextFault::NotALine),
+    ("x take", TextFault::NotALine),
+    ("X open 3 1", TextFault::NotALine),
+    ("open 3", TextFault::NotALine),
+    ("open 3 1 1", TextFault::NotALine),
+    ("roll 6 2", TextFault::NotALine),
+    ("X roll", TextFault::NotALine),
+    ("X resign", TextFault::NotALine),
+    ("X moves 8-5", TextFault::NotALine),
+    ("X move 0-off bar", TextFault::NotALine),
+    ("X move off-3", TextFault::NotALine),
+    ("X move 8-bar", TextFault::NotALine),
+    ("X move 8-5-3", TextFault::NotALine),
+    ("X move 100-5", TextFault::NotALine),
+    ("X  take", TextFault::NotALine),
+    ("X move  8-5", TextFault::NotALine),
+    (" X take", TextFault::NotALine),
+    ("X take ", TextFault::NotALine),
+    ("X move 8-5 ", TextFault::NotALine),
+    ("X take\r", TextFault::NotALine),
+    ("X take\0", TextFault::NotALine),
+    ("X take\u{80}", TextFault::NotALine),
+];
+
+#[test]
+fn refused_lines(rt: HostRuntime) {
+    for &(line, fault) in &NO_ENTRIES {
         assert_eq!(rt; parse_entry(line.as_bytes()), Err(fault), "{line}");
     }
     assert_eq!(rt; parse_entry(b"X take\xff"), Err(TextFault::NotALine));
@@ -121,77 +118,87 @@ fn refused_lines(rt: HostRuntime) {
 }
 
 #[test]
-fn long_numbers(rt: HostRuntime) -> Result<(), Fail> {
-    let mut line = Vec::from_slice(rt.alloc(), b"open 3 ")?;
-    line.extend_from_slice(&[b'1'; 300])?;
+fn long_numbers(rt: HostRuntime) {
+    let mut line = [b'1'; 307];
+    line[..7].copy_from_slice(b"open 3 ");
     assert_eq!(rt; parse_entry(&line), Err(TextFault::NotALine));
-    Ok(())
+}
+
+/// The line is read as this action.
+fn check_action(rt: &impl Abort, line: &str, action: Action) {
+    assert_eq!(rt; parse_action(line.as_bytes()), Ok(action), "{line}");
 }
 
 #[test]
-fn lines_of_actions(rt: HostRuntime) -> Result<(), Fail> {
-    for (line, action) in [
-        ("roll", Ok(Action::Roll)),
-        ("double", Ok(Action::Double)),
-        ("take", Ok(Action::Take)),
-        ("drop", Ok(Action::Drop)),
-        ("move", Ok(Action::Move(turn(&[])?))),
-        (
-            "move bar-20 8-off",
-            Ok(Action::Move(turn(&[(25, 20), (8, 0)])?)),
-        ),
-        ("resign normal", Ok(Action::Resign(Level::Normal))),
-        ("resign gammon", Ok(Action::Resign(Level::Gammon))),
-        ("resign backgammon", Ok(Action::Resign(Level::Backgammon))),
-        ("accept", Ok(Action::Accept)),
-        ("reject", Ok(Action::Reject)),
-        ("open 3 1", Err(TextFault::NotALine)),
-        ("roll 3 1", Err(TextFault::NotALine)),
-        ("X roll", Err(TextFault::NotALine)),
-        ("move 03-1", Err(TextFault::BadNumber)),
-        ("move 6-5 6-5 6-5 6-5 6-5", Err(TextFault::TooManySteps)),
-    ] {
-        assert_eq!(rt; parse_action(line.as_bytes()), action, "{line}");
+fn lines_of_actions(rt: HostRuntime) {
+    check_action(&rt, "roll", Action::Roll);
+    check_action(&rt, "double", Action::Double);
+    check_action(&rt, "take", Action::Take);
+    check_action(&rt, "drop", Action::Drop);
+    check_action(&rt, "move", Action::Move(turn(&rt, &[])));
+    let steps = [(25, 20), (8, 0)];
+    check_action(&rt, "move bar-20 8-off", Action::Move(turn(&rt, &steps)));
+    check_action(&rt, "resign normal", Action::Resign(Level::Normal));
+    check_action(&rt, "resign gammon", Action::Resign(Level::Gammon));
+    check_action(&rt, "resign backgammon", Action::Resign(Level::Backgammon));
+    check_action(&rt, "accept", Action::Accept);
+    check_action(&rt, "reject", Action::Reject);
+}
+
+/// Lines that are no action, and why.
+const NO_ACTIONS: [(&str, TextFault); 5] = [
+    ("open 3 1", TextFault::NotALine),
+    ("roll 3 1", TextFault::NotALine),
+    ("X roll", TextFault::NotALine),
+    ("move 03-1", TextFault::BadNumber),
+    ("move 6-5 6-5 6-5 6-5 6-5", TextFault::TooManySteps),
+];
+
+#[test]
+fn lines_of_no_action(rt: HostRuntime) {
+    for &(line, fault) in &NO_ACTIONS {
+        assert_eq!(rt; parse_action(line.as_bytes()), Err(fault), "{line}");
     }
-    Ok(())
+}
+
+fn check_words(rt: &impl Abort, fault: EntryFault, words: &str) {
+    assert_eq!(rt; reason_text(&fault).as_str(), words);
 }
 
 #[test]
-fn refusals_in_words(rt: HostRuntime) {
+fn refusals_of_entries_in_words(rt: HostRuntime) {
+    check_words(&rt, EntryFault::RecordFull, "record full");
+    check_words(&rt, EntryFault::MatchOver, "match over");
+    check_words(&rt, EntryFault::WrongPhase, "wrong phase");
+    check_words(&rt, EntryFault::EqualOpening, "equal opening");
+    check_words(&rt, EntryFault::Memory, "out of memory");
+}
+
+#[test]
+fn refusals_of_turns_in_words(rt: HostRuntime) {
     for (fault, words) in [
-        (EntryFault::RecordFull, "record full"),
-        (EntryFault::MatchOver, "match over"),
-        (EntryFault::WrongPhase, "wrong phase"),
-        (EntryFault::EqualOpening, "equal opening"),
-        (
-            EntryFault::Turn(TurnFault::StepIllegal(0)),
-            "step 1 illegal",
-        ),
-        (
-            EntryFault::Turn(TurnFault::StepIllegal(3)),
-            "step 4 illegal",
-        ),
-        (
-            EntryFault::Turn(TurnFault::MoreCanBePlayed),
-            "more can be played",
-        ),
-        (
-            EntryFault::Turn(TurnFault::LargerMustBePlayed),
-            "larger die must be played",
-        ),
-        (
-            EntryFault::NoDouble(NoDouble::Crawford),
-            "no double: crawford",
-        ),
-        (
-            EntryFault::NoDouble(NoDouble::NotOwner),
-            "no double: not owner",
-        ),
-        (EntryFault::NoDouble(NoDouble::AtCap), "no double: at cap"),
-        (EntryFault::Memory, "out of memory"),
+        (TurnFault::StepIllegal(0), "step 1 illegal"),
+        (TurnFault::StepIllegal(3), "step 4 illegal"),
+        (TurnFault::MoreCanBePlayed, "more can be played"),
+        (TurnFault::LargerMustBePlayed, "larger die must be played"),
     ] {
-        assert_eq!(rt; reason_text(&fault).as_str(), words);
+        check_words(&rt, EntryFault::Turn(fault), words);
     }
+}
+
+#[test]
+fn refusals_of_doubles_in_words(rt: HostRuntime) {
+    for (fault, words) in [
+        (NoDouble::Crawford, "no double: crawford"),
+        (NoDouble::NotOwner, "no double: not owner"),
+        (NoDouble::AtCap, "no double: at cap"),
+    ] {
+        check_words(&rt, EntryFault::NoDouble(fault), words);
+    }
+}
+
+#[test]
+fn refusals_of_lines_in_words(rt: HostRuntime) {
     for (fault, words) in [
         (TextFault::NotALine, "not a line"),
         (TextFault::BadNumber, "bad number"),

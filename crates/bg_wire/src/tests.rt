@@ -1,14 +1,21 @@
 //! Worked packets and saved texts, byte by byte, and what becomes of them where bytes are missing or changed.
+ghost use Rattle.std.specs.Prelude.{IfOk};
+ghost use Rattle.bg_wire.specs.SavedText.{IsSavable, parts_of};
+
 use crate::{
-    Datagram, EntryList, LONGEST_PACKET, LoadFault, Packet, PacketBytes, Saved, WireFault, decode,
-    encode, load, save_text,
+    Datagram, EntryList, LONGEST_PACKET, LoadFault, MOST_DATAGRAM_BYTES, Packet, PacketBytes,
+    Saved, WireFault, decode, encode, load, save_text,
 };
 use arrayvec::ArrayVec;
 use bg_board::{Die, Step};
-use bg_match::{Action, Entry, Level, MOST_ENTRIES, Record};
+use bg_match::{Action, Entry, Level, MOST_ENTRIES, Number, Record};
 use bg_turns::{Dice, Turn};
-use std::alloc::Global;
+use std::alloc::{AllocError, Global};
+use std::process::Abort;
 use std::test::Fail;
+
+/// Bytes of a test, none of which takes memory.
+type Bytes = ArrayVec<u8, MOST_DATAGRAM_BYTES>;
 
 /// Party 3 holds nothing of match 1.
 const WANT: [u8; 15] = [
@@ -39,257 +46,325 @@ const SEAT_SAVE: [u8; 32] = [
     0x06, 0x02, 0x08, 0x05, 0x06, 0x05, 0, 0x01, 0x01, 0x03, 0x01,
 ];
 
-fn turn(steps: &[(u8, u8)]) -> Result<Turn, Fail> {
+fn turn(rt: &impl Abort, steps: &[(u8, u8)]) -> Turn {
     let mut list = ArrayVec::new();
     for &(from, to) in steps {
-        if list.try_push(Step::new(from, to).ok_or("step")?).is_err() {
-            return Err(Fail::from("long"));
-        }
+        let step = Step::new(from, to).expect(rt, "a step");
+        assert!(rt; list.try_push(step).is_ok());
     }
-    Ok(Turn { steps: list })
+    Turn { steps: list }
 }
 
-fn list(entries: &[Entry]) -> Result<EntryList, Fail> {
+fn list(rt: &impl Abort, entries: &[Entry]) -> EntryList {
     let mut list = ArrayVec::new();
     for entry in entries {
-        if list.try_push(entry.copy()).is_err() {
-            return Err(Fail::from("long"));
-        }
+        assert!(rt; list.try_push(entry.copy()).is_ok());
     }
-    Ok(EntryList { entries: list })
+    EntryList { entries: list }
+}
+
+fn extend(rt: &impl Abort, bytes: &mut Bytes, more: &[u8]) {
+    assert!(rt; bytes.try_extend_from_slice(more).is_ok());
 }
 
 /// The bytes with one of them changed.
-fn with_byte(alloc: Global, bytes: &[u8], offset: usize, byte: u8) -> Result<Vec<u8>, Fail> {
-    let mut changed = Vec::with_capacity(alloc, bytes.len())?;
-    changed.extend_from_slice(bytes)?;
-    if let Some(place) = changed.get_mut(offset) {
+fn with_byte(rt: &impl Abort, bytes: &[u8], offset: usize, byte: u8) -> Bytes {
+    let mut changed = ArrayVec::new();
+    extend(rt, &mut changed, bytes);
+    if let Some(place) = changed.as_mut_slice().get_mut(offset) {
         *place = byte;
     }
-    Ok(changed)
+    changed
+}
+
+/// The bytes and one more.
+fn with_more(rt: &impl Abort, bytes: &[u8]) -> Bytes {
+    let mut longer = ArrayVec::new();
+    extend(rt, &mut longer, bytes);
+    extend(rt, &mut longer, &[0]);
+    longer
 }
 
 /// The text of a packet of match 1: the kind, and what follows the match.
-fn packet_bytes(alloc: Global, kind: u8, rest: &[u8]) -> Result<Vec<u8>, Fail> {
-    let mut bytes = Vec::new(alloc);
-    bytes.extend_from_slice(&[0x42, 0x47, 0x01, kind, 0, 0, 0, 0, 0, 0, 0, 0x01])?;
-    bytes.extend_from_slice(rest)?;
-    Ok(bytes)
+fn packet_bytes(rt: &impl Abort, kind: u8, rest: &[u8]) -> Bytes {
+    let mut bytes = ArrayVec::new();
+    extend(
+        rt,
+        &mut bytes,
+        &[0x42, 0x47, 0x01, kind, 0, 0, 0, 0, 0, 0, 0, 0x01],
+    );
+    extend(rt, &mut bytes, rest);
+    bytes
 }
 
-#[test]
-fn worked_packets(rt: HostRuntime) -> Result<(), Fail> {
-    let opening = Entry::Opening(Die::Three, Die::One);
-    let moved = Entry::Moved(turn(&[(8, 5), (6, 5)])?);
-    for (bytes, packet) in [
-        (
-            WANT.as_slice(),
-            Packet::Want {
-                id: 1,
-                sender: 3,
-                held: 0,
-            },
-        ),
-        (
-            CLAIM.as_slice(),
-            Packet::Claim {
-                id: 1,
-                sender: 1,
-                number: 2,
-                action: Action::Move(turn(&[(8, 5), (6, 5)])?),
-            },
-        ),
-        (
-            ENTRIES.as_slice(),
-            Packet::Entries {
-                id: 1,
-                start: 1,
-                list: list(&[opening, moved])?,
-            },
-        ),
-    ] {
-        let found = decode(bytes)?;
-        assert!(rt; found == packet);
-        assert_eq!(rt; encode(&found).as_slice(), bytes);
-        let datagram = Datagram {
-            to: 3,
-            bytes: PacketBytes {
-                bytes: encode(&found),
-            },
-        };
-        assert!(rt; datagram.copy() == datagram);
+/// The packet is read of the bytes, and they are written of it.
+fn check_packet(rt: &impl Abort, bytes: &[u8], packet: &Packet) {
+    let found = decode(bytes).expect(rt, "a packet");
+    assert!(rt; found == *packet);
+    assert_eq!(rt; encode(&found).as_slice(), bytes);
+}
+
+/// A datagram of the bytes, to party 3, is copied whole.
+fn check_copy(rt: &impl Abort, bytes: &[u8]) {
+    let mut sent = ArrayVec::new();
+    extend(rt, &mut sent, bytes);
+    let datagram = Datagram {
+        to: 3,
+        bytes: PacketBytes { bytes: sent },
+    };
+    assert!(rt; datagram.copy() == datagram);
+}
+
+fn check_refused(rt: &impl Abort, bytes: &[u8], fault: WireFault) {
+    assert!(rt; decode(bytes) == Err(fault));
+}
+
+/// What is read of the bytes is spelled as they are.
+fn check_spelling(rt: &impl Abort, bytes: &[u8]) {
+    if let Ok(packet) = decode(bytes) {
+        assert_eq!(rt; encode(&packet).as_slice(), bytes);
     }
-    assert!(rt; decode(encode(&Packet::default()).as_slice()) == Ok(Packet::default()));
-    Ok(())
 }
 
 #[test]
-fn each_kind_of_action_and_entry(rt: HostRuntime) -> Result<(), Fail> {
+fn worked_want(rt: HostRuntime) {
+    let want = Packet::Want {
+        id: 1,
+        sender: 3,
+        held: 0,
+    };
+    check_packet(&rt, &WANT, &want);
+    check_copy(&rt, &WANT);
+}
+
+#[test]
+fn worked_claim(rt: HostRuntime) {
+    let claim = Packet::Claim {
+        id: 1,
+        sender: 1,
+        number: 2,
+        action: Action::Move(turn(&rt, &[(8, 5), (6, 5)])),
+    };
+    check_packet(&rt, &CLAIM, &claim);
+    check_copy(&rt, &CLAIM);
+}
+
+#[test]
+fn worked_entries(rt: HostRuntime) {
+    let opening = Entry::Opening(Die::Three, Die::One);
+    let moved = Entry::Moved(turn(&rt, &[(8, 5), (6, 5)]));
+    let entries = Packet::Entries {
+        id: 1,
+        start: 1,
+        list: list(&rt, &[opening, moved]),
+    };
+    check_packet(&rt, &ENTRIES, &entries);
+    check_copy(&rt, &ENTRIES);
+}
+
+#[test]
+fn default_packet(rt: HostRuntime) {
+    assert!(rt; decode(encode(&Packet::default()).as_slice()) == Ok(Packet::default()));
+}
+
+/// The text of an action, in the claim of it by party 2 as entry 65535.
+fn check_action(rt: &impl Abort, text: &[u8], action: Action) {
+    let mut bytes = packet_bytes(rt, 0x02, &[0x02, 0xff, 0xff]);
+    extend(rt, &mut bytes, text);
+    let claim = Packet::Claim {
+        id: 1,
+        sender: 2,
+        number: 65535,
+        action,
+    };
+    check_packet(rt, bytes.as_slice(), &claim);
+}
+
+/// The text of an entry, told as entry 65535.
+fn check_entry(rt: &impl Abort, text: &[u8], entry: Entry) {
+    let mut bytes = packet_bytes(rt, 0x03, &[0xff, 0xff, 1]);
+    extend(rt, &mut bytes, text);
+    let told = Packet::Entries {
+        id: 1,
+        start: 65535,
+        list: list(rt, &[entry]),
+    };
+    check_packet(rt, bytes.as_slice(), &told);
+}
+
+/// A turn of four steps, and its text.
+const LONG_TURN: [(u8, u8); 4] = [(25, 24), (24, 0), (1, 0), (6, 2)];
+
+const LONG_TURN_TEXT: [u8; 10] = [0x06, 4, 25, 24, 24, 0, 1, 0, 6, 2];
+
+#[test]
+fn each_kind_of_action(rt: HostRuntime) {
+    check_action(&rt, &[0x02], Action::Roll);
+    check_action(&rt, &[0x03], Action::Double);
+    check_action(&rt, &[0x04], Action::Take);
+    check_action(&rt, &[0x05], Action::Drop);
+    check_action(&rt, &[0x06, 0], Action::Move(turn(&rt, &[])));
+    let long = turn(&rt, &LONG_TURN);
+    check_action(&rt, &LONG_TURN_TEXT, Action::Move(long));
+    check_action(&rt, &[0x07, 1], Action::Resign(Level::Normal));
+    check_action(&rt, &[0x07, 2], Action::Resign(Level::Gammon));
+    check_action(&rt, &[0x07, 3], Action::Resign(Level::Backgammon));
+    check_action(&rt, &[0x08], Action::Accept);
+    check_action(&rt, &[0x09], Action::Reject);
+}
+
+#[test]
+fn each_kind_of_entry(rt: HostRuntime) {
     let dice = Dice {
         first: Die::Six,
         second: Die::Two,
     };
-    let off = || turn(&[(25, 24), (24, 0), (1, 0), (6, 2)]);
-    let long = [0x06, 4, 25, 24, 24, 0, 1, 0, 6, 2];
-    let actions = [
-        ([0x02].as_slice(), Action::Roll),
-        (&[0x03], Action::Double),
-        (&[0x04], Action::Take),
-        (&[0x05], Action::Drop),
-        (&[0x06, 0], Action::Move(turn(&[])?)),
-        (&long, Action::Move(off()?)),
-        (&[0x07, 1], Action::Resign(Level::Normal)),
-        (&[0x07, 2], Action::Resign(Level::Gammon)),
-        (&[0x07, 3], Action::Resign(Level::Backgammon)),
-        (&[0x08], Action::Accept),
-        (&[0x09], Action::Reject),
-    ];
-    for (text, action) in actions {
-        let mut bytes = packet_bytes(rt.alloc(), 0x02, &[0x02, 0xff, 0xff])?;
-        bytes.extend_from_slice(text)?;
-        let found = decode(&bytes)?;
-        assert_eq!(rt; encode(&found).as_slice(), bytes.as_slice());
-        let claim = Packet::Claim {
-            id: 1,
-            sender: 2,
-            number: 65535,
-            action,
-        };
-        assert!(rt; found == claim);
-    }
-    let entries = [
-        (
-            [0x01, 4, 4].as_slice(),
-            Entry::Opening(Die::Four, Die::Four),
-        ),
-        (&[0x02, 6, 2], Entry::Rolled(dice)),
-        (&[0x03], Entry::Doubled),
-        (&[0x04], Entry::Taken),
-        (&[0x05], Entry::Dropped),
-        (&long, Entry::Moved(off()?)),
-        (&[0x07, 2], Entry::Resigned(Level::Gammon)),
-        (&[0x08], Entry::Accepted),
-        (&[0x09], Entry::Rejected),
-    ];
-    for (text, entry) in entries {
-        let mut bytes = packet_bytes(rt.alloc(), 0x03, &[0xff, 0xff, 1])?;
-        bytes.extend_from_slice(text)?;
-        let found = decode(&bytes)?;
-        assert_eq!(rt; encode(&found).as_slice(), bytes.as_slice());
-        let told = Packet::Entries {
-            id: 1,
-            start: 65535,
-            list: list(&[entry])?,
-        };
-        assert!(rt; found == told);
-    }
-    Ok(())
+    check_entry(&rt, &[0x01, 4, 4], Entry::Opening(Die::Four, Die::Four));
+    check_entry(&rt, &[0x02, 6, 2], Entry::Rolled(dice));
+    check_entry(&rt, &[0x03], Entry::Doubled);
+    check_entry(&rt, &[0x04], Entry::Taken);
+    check_entry(&rt, &[0x05], Entry::Dropped);
+    let long = turn(&rt, &LONG_TURN);
+    check_entry(&rt, &LONG_TURN_TEXT, Entry::Moved(long));
+    check_entry(&rt, &[0x07, 2], Entry::Resigned(Level::Gammon));
+    check_entry(&rt, &[0x08], Entry::Accepted);
+    check_entry(&rt, &[0x09], Entry::Rejected);
 }
 
 #[test]
-fn longest_packet(rt: HostRuntime) -> Result<(), Fail> {
-    let mut bytes = packet_bytes(rt.alloc(), 0x03, &[0xff, 0xf8, 8])?;
+fn longest_packet(rt: HostRuntime) {
+    let mut bytes = packet_bytes(&rt, 0x03, &[0xff, 0xf8, 8]);
     for _ in 0..8 {
-        bytes.extend_from_slice(&[0x06, 4, 25, 0, 25, 24, 2, 1, 1, 0])?;
+        extend(&rt, &mut bytes, &[0x06, 4, 25, 0, 25, 24, 2, 1, 1, 0]);
     }
     assert_eq!(rt; (bytes.len(), LONGEST_PACKET), (95, 95));
-    assert_eq!(rt; encode(&decode(&bytes)?).as_slice(), bytes.as_slice());
-    Ok(())
+    assert!(rt; decode(bytes.as_slice()).is_ok());
+    check_spelling(&rt, bytes.as_slice());
+}
+
+/// The bytes are refused where the byte at an offset is another.
+fn check_changes(rt: &impl Abort, bytes: &[u8], changes: &[(usize, u8, WireFault)]) {
+    for &(offset, byte, fault) in changes {
+        check_refused(rt, with_byte(rt, bytes, offset, byte).as_slice(), fault);
+    }
+    check_refused(rt, with_more(rt, bytes).as_slice(), WireFault::Extra);
 }
 
 #[test]
-fn refused_packets(rt: HostRuntime) -> Result<(), Fail> {
-    for (bytes, offset, byte, fault) in [
-        (WANT.as_slice(), 0, 0x43, WireFault::Magic),
-        (&WANT, 1, 0x42, WireFault::Magic),
-        (&WANT, 2, 0, WireFault::Version),
-        (&WANT, 2, 2, WireFault::Version),
-        (&WANT, 3, 0, WireFault::Kind),
-        (&WANT, 3, 4, WireFault::Kind),
-        (&WANT, 12, 0, WireFault::Field(12)),
-        (&CLAIM, 12, 0, WireFault::Field(12)),
-        (&CLAIM, 12, 3, WireFault::Field(12)),
-        (&CLAIM, 14, 0, WireFault::Field(13)),
-        (&CLAIM, 15, 1, WireFault::Field(15)),
-        (&CLAIM, 15, 10, WireFault::Field(15)),
-        (&CLAIM, 16, 5, WireFault::Field(16)),
-        (&CLAIM, 17, 0, WireFault::Field(17)),
-        (&CLAIM, 17, 26, WireFault::Field(17)),
-        (&CLAIM, 18, 8, WireFault::Field(18)),
-        (&ENTRIES, 13, 0, WireFault::Field(12)),
-        (&ENTRIES, 14, 0, WireFault::Field(14)),
-        (&ENTRIES, 14, 9, WireFault::Field(14)),
-        (&ENTRIES, 15, 0, WireFault::Field(15)),
-        (&ENTRIES, 16, 0, WireFault::Field(16)),
-        (&ENTRIES, 17, 7, WireFault::Field(17)),
-        (&ENTRIES, 23, 6, WireFault::Field(23)),
-    ] {
-        let changed = with_byte(rt.alloc(), bytes, offset, byte)?;
-        assert!(rt; decode(&changed) == Err(fault), "{byte} at {offset}");
-    }
-    let last_two = packet_bytes(rt.alloc(), 0x03, &[0xff, 0xff, 2, 0x03, 0x03])?;
-    assert!(rt; decode(&last_two) == Err(WireFault::Field(14)));
-    assert!(rt; decode(&[0]) == Err(WireFault::Short));
-    for bytes in [WANT.as_slice(), &CLAIM, &ENTRIES] {
-        let mut longer = with_byte(rt.alloc(), bytes, 0, 0x42)?;
-        longer.push(0)?;
-        assert!(rt; decode(&longer) == Err(WireFault::Extra));
-    }
-    Ok(())
+fn refused_wants(rt: HostRuntime) {
+    let changes = [
+        (0, 0x43, WireFault::Magic),
+        (1, 0x42, WireFault::Magic),
+        (2, 0, WireFault::Version),
+        (2, 2, WireFault::Version),
+        (3, 0, WireFault::Kind),
+        (3, 4, WireFault::Kind),
+        (12, 0, WireFault::Field(12)),
+    ];
+    check_changes(&rt, &WANT, &changes);
+}
+
+#[test]
+fn refused_claims(rt: HostRuntime) {
+    let changes = [
+        (12, 0, WireFault::Field(12)),
+        (12, 3, WireFault::Field(12)),
+        (14, 0, WireFault::Field(13)),
+        (15, 1, WireFault::Field(15)),
+        (15, 10, WireFault::Field(15)),
+        (16, 5, WireFault::Field(16)),
+        (17, 0, WireFault::Field(17)),
+        (17, 26, WireFault::Field(17)),
+        (18, 8, WireFault::Field(18)),
+    ];
+    check_changes(&rt, &CLAIM, &changes);
+}
+
+#[test]
+fn refused_entries(rt: HostRuntime) {
+    let changes = [
+        (13, 0, WireFault::Field(12)),
+        (14, 0, WireFault::Field(14)),
+        (14, 9, WireFault::Field(14)),
+        (15, 0, WireFault::Field(15)),
+        (16, 0, WireFault::Field(16)),
+        (17, 7, WireFault::Field(17)),
+        (23, 6, WireFault::Field(23)),
+    ];
+    check_changes(&rt, &ENTRIES, &changes);
+    let last_two = packet_bytes(&rt, 0x03, &[0xff, 0xff, 2, 0x03, 0x03]);
+    check_refused(&rt, last_two.as_slice(), WireFault::Field(14));
+    check_refused(&rt, &[0], WireFault::Short);
 }
 
 /// A part of a packet's text is short, and what else is read of changed bytes is spelled as they are.
 #[test]
-fn cut_and_changed_packets(rt: HostRuntime) -> Result<(), Fail> {
+fn cut_and_changed_packets(rt: HostRuntime) {
     for bytes in [WANT.as_slice(), &CLAIM, &ENTRIES] {
         for offset in 0..bytes.len() {
-            assert!(rt;
-                decode(&bytes[..offset]) == Err(WireFault::Short),
-                "{offset}"
-            );
+            check_refused(&rt, &bytes[..offset], WireFault::Short);
             for byte in 0..=255 {
-                let changed = with_byte(rt.alloc(), bytes, offset, byte)?;
-                if let Ok(packet) = decode(&changed) {
-                    assert_eq!(rt; encode(&packet).as_slice(), changed.as_slice());
-                }
+                check_spelling(&rt, with_byte(&rt, bytes, offset, byte).as_slice());
             }
         }
     }
+}
+
+/// Loads a saved text. Of what is loaded the tests need to know that it can be saved.
+fn loaded(alloc: Global, bytes: &[u8]) -> Result<Saved, LoadFault>
+    ensures { IfOk result (λ saved. IsSavable (parts_of saved)) }
+{
+    load(alloc, bytes)
+}
+
+/// The text of what is saved is this one.
+fn check_text(
+    rt: &(impl AllocGlobal + Abort),
+    saved: &Saved,
+    bytes: &[u8],
+) -> Result<(), AllocError>
+    requires { IsSavable (parts_of saved.now) }
+{
+    let text = save_text(rt.alloc(), saved)?;
+    assert_eq!(rt; text.as_slice(), bytes);
+    Ok(())
+}
+
+/// A record of match 1, of length 1, with so many entries. The first is the opening 3 1.
+fn check_log(rt: &impl Abort, log: &Record, count: Number) {
+    assert_eq!(rt; (log.id(), log.length(), log.len()), (1, 1, count));
+    assert!(rt; log.entry(1) == Some(&Entry::Opening(Die::Three, Die::One)));
+}
+
+#[test]
+fn worked_save_of_the_referee(rt: HostRuntime) -> Result<(), Fail> {
+    let saved = loaded(rt.alloc(), &REFEREE_SAVE)?;
+    check_text(&rt, &saved, &REFEREE_SAVE)?;
+    assert_eq!(rt; (saved.party, saved.save), (0, 2));
+    assert!(rt; saved.claim.is_none());
+    check_log(&rt, &saved.log, 2);
+    let moved = Entry::Moved(turn(&rt, &[(8, 5), (6, 5)]));
+    assert!(rt; saved.log.entry(2) == Some(&moved));
     Ok(())
 }
 
 #[test]
-fn worked_saves(rt: HostRuntime) -> Result<(), Fail> {
-    let opening = Entry::Opening(Die::Three, Die::One);
-    let moved = Entry::Moved(turn(&[(8, 5), (6, 5)])?);
-    let claim = (2, Action::Move(turn(&[(8, 5), (6, 5)])?));
-
-    let referee = load(rt.alloc(), &REFEREE_SAVE)?;
-    assert_eq!(rt; (referee.party, referee.save), (0, 2));
-    assert!(rt; referee.claim.is_none());
-    let log = &referee.log;
-    assert_eq!(rt; (log.id(), log.length(), log.len()), (1, 1, 2));
-    assert!(rt; log.entry(1) == Some(&opening) && log.entry(2) == Some(&moved));
-    assert_eq!(rt;
-        save_text(rt.alloc(), &referee)?.as_slice(),
-        REFEREE_SAVE.as_slice()
-    );
-
-    let seat = load(rt.alloc(), &SEAT_SAVE)?;
-    assert_eq!(rt; (seat.party, seat.save), (1, 1));
-    assert!(rt; seat.claim == Some(claim));
-    let log = &seat.log;
-    assert_eq!(rt; (log.id(), log.length(), log.len()), (1, 1, 1));
-    assert!(rt; log.entry(1) == Some(&opening));
-    assert_eq!(rt;
-        save_text(rt.alloc(), &seat)?.as_slice(),
-        SEAT_SAVE.as_slice()
-    );
+fn worked_save_of_a_seat(rt: HostRuntime) -> Result<(), Fail> {
+    let saved = loaded(rt.alloc(), &SEAT_SAVE)?;
+    check_text(&rt, &saved, &SEAT_SAVE)?;
+    assert_eq!(rt; (saved.party, saved.save), (1, 1));
+    let claim = (2, Action::Move(turn(&rt, &[(8, 5), (6, 5)])));
+    assert!(rt; saved.claim == Some(claim));
+    check_log(&rt, &saved.log, 1);
     Ok(())
 }
 
+fn check_load_fault(rt: &(impl AllocGlobal + Abort), bytes: &[u8], fault: LoadFault) {
+    assert_eq!(rt; load(rt.alloc(), bytes).err(), Some(fault), "{bytes:?}");
+}
+
 #[test]
-fn refused_saves(rt: HostRuntime) -> Result<(), Fail> {
+fn changed_saves_refused(rt: HostRuntime) {
     for (offset, byte, fault) in [
         (31, 3, LoadFault::Illegal(1)),
         (13, 0, LoadFault::Field(13)),
@@ -306,29 +381,33 @@ fn refused_saves(rt: HostRuntime) -> Result<(), Fail> {
         (28, 0, LoadFault::Extra),
         (29, 10, LoadFault::Field(29)),
     ] {
-        let changed = with_byte(rt.alloc(), &SEAT_SAVE, offset, byte)?;
-        assert_eq!(rt;
-            load(rt.alloc(), &changed).err(),
-            Some(fault),
-            "{byte} at {offset}"
-        );
+        let changed = with_byte(&rt, &SEAT_SAVE, offset, byte);
+        check_load_fault(&rt, changed.as_slice(), fault);
     }
+}
+
+#[test]
+fn other_saves_refused(rt: HostRuntime) {
     // The entries are tried once the whole layout holds.
-    let mut longer = with_byte(rt.alloc(), &SEAT_SAVE, 31, 3)?;
-    longer.push(0)?;
-    assert_eq!(rt; load(rt.alloc(), &longer).err(), Some(LoadFault::Extra));
+    let illegal = with_byte(&rt, &SEAT_SAVE, 31, 3);
+    let longer = with_more(&rt, illegal.as_slice());
+    check_load_fault(&rt, longer.as_slice(), LoadFault::Extra);
     // So many entries are claimed, and none is there.
-    let mut claimed = Vec::new(rt.alloc());
-    claimed.extend_from_slice(&REFEREE_SAVE[..19])?;
-    claimed.extend_from_slice(&[0xff, 0xff])?;
-    assert_eq!(rt; load(rt.alloc(), &claimed).err(), Some(LoadFault::Short));
+    let mut claimed = ArrayVec::new();
+    extend(&rt, &mut claimed, &REFEREE_SAVE[..19]);
+    extend(&rt, &mut claimed, &[0xff, 0xff]);
+    check_load_fault(&rt, claimed.as_slice(), LoadFault::Short);
     // The second entry is the first that does not follow.
-    let changed = with_byte(rt.alloc(), &REFEREE_SAVE, 29, 4)?;
-    assert_eq!(rt;
-        load(rt.alloc(), &changed).err(),
-        Some(LoadFault::Illegal(2))
-    );
-    Ok(())
+    let changed = with_byte(&rt, &REFEREE_SAVE, 29, 4);
+    check_load_fault(&rt, changed.as_slice(), LoadFault::Illegal(2));
+}
+
+/// What is loaded of the bytes is spelled as they are.
+fn check_saved_spelling(rt: &(impl AllocGlobal + Abort), bytes: &[u8]) -> Result<(), AllocError> {
+    match loaded(rt.alloc(), bytes) {
+        Ok(saved) => check_text(rt, &saved, bytes),
+        Err(_) => Ok(()),
+    }
 }
 
 /// A part of a saved text is short, and what else is loaded of changed bytes is spelled as they are.
@@ -336,46 +415,58 @@ fn refused_saves(rt: HostRuntime) -> Result<(), Fail> {
 fn cut_and_changed_saves(rt: HostRuntime) -> Result<(), Fail> {
     for bytes in [REFEREE_SAVE.as_slice(), &SEAT_SAVE] {
         for offset in 0..bytes.len() {
-            let cut = load(rt.alloc(), &bytes[..offset]);
-            assert_eq!(rt; cut.err(), Some(LoadFault::Short), "{offset}");
+            check_load_fault(&rt, &bytes[..offset], LoadFault::Short);
             for byte in 0..=255 {
-                let changed = with_byte(rt.alloc(), bytes, offset, byte)?;
-                if let Ok(saved) = load(rt.alloc(), &changed) {
-                    let text = save_text(rt.alloc(), &saved)?;
-                    assert_eq!(rt; text.as_slice(), changed.as_slice());
-                }
+                let changed = with_byte(&rt, bytes, offset, byte);
+                check_saved_spelling(&rt, changed.as_slice())?;
             }
         }
     }
     Ok(())
 }
 
-#[test]
-fn longest_record_saved(rt: HostRuntime) -> Result<(), Fail> {
-    let mut log = Record::new(rt.alloc(), 1, 1)?;
+/// A record with as many entries as there can be.
+fn longest_record(alloc: Global) -> Result<Record, Fail> {
+    let mut log = Record::new(alloc, 1, 1)?;
     log.push(Entry::Opening(Die::Three, Die::One))?;
     for _ in 0..32767 {
         log.push(Entry::Resigned(Level::Normal))?;
         log.push(Entry::Rejected)?;
     }
-    assert_eq!(rt; log.len(), MOST_ENTRIES);
+    Ok(log)
+}
+
+fn check_entries(rt: &impl Abort, log: &Record, expected: &Record) {
+    for number in 1..=MOST_ENTRIES {
+        assert!(rt; log.entry(number) == expected.entry(number), "at {number}");
+    }
+}
+
+#[test]
+fn longest_record_saved(rt: HostRuntime) -> Result<(), Fail> {
     let saved = Saved {
         party: 2,
         save: 4294967295,
         claim: None,
-        log,
+        log: longest_record(rt.alloc())?,
     };
+    assert_eq!(rt; saved.log.len(), MOST_ENTRIES);
     let text = save_text(rt.alloc(), &saved)?;
     assert_eq!(rt; text.len(), 21 + 3 + 32767 * 3);
-    let loaded = load(rt.alloc(), &text)?;
-    assert_eq!(rt; (loaded.party, loaded.save), (2, 4294967295));
-    for number in 1..=MOST_ENTRIES {
-        assert!(rt;
-            loaded.log.entry(number) == saved.log.entry(number),
-            "at {number}"
-        );
-    }
+    let again = loaded(rt.alloc(), &text)?;
+    assert_eq!(rt; (again.party, again.save), (2, 4294967295));
+    check_entries(&rt, &again.log, &saved.log);
     Ok(())
+}
+
+/// Loads once more where memory is refused.
+fn loaded_at_last(alloc: Global, bytes: &[u8]) -> Result<Saved, LoadFault>
+    ensures { IfOk result (λ saved. IsSavable (parts_of saved)) }
+{
+    match loaded(alloc, bytes) {
+        Err(LoadFault::Memory) => loaded(alloc, bytes),
+        other => other,
+    }
 }
 
 /// Where memory is refused the same call then succeeds. No run of the tests refuses any, but `rt try --test --fail-alloc`
@@ -383,15 +474,10 @@ fn longest_record_saved(rt: HostRuntime) -> Result<(), Fail> {
 #[test]
 fn refused_growths(rt: HostRuntime) -> Result<(), Fail> {
     for bytes in [REFEREE_SAVE.as_slice(), &SEAT_SAVE] {
-        let saved = match load(rt.alloc(), bytes) {
-            Err(LoadFault::Memory) => load(rt.alloc(), bytes)?,
-            other => other?,
-        };
-        let text = match save_text(rt.alloc(), &saved) {
-            Ok(text) => text,
-            Err(_) => save_text(rt.alloc(), &saved)?,
-        };
-        assert_eq!(rt; text.as_slice(), bytes);
+        let saved = loaded_at_last(rt.alloc(), bytes)?;
+        if check_text(&rt, &saved, bytes).is_err() {
+            check_text(&rt, &saved, bytes)?;
+        }
     }
     Ok(())
 }
