@@ -101,8 +101,8 @@ impl Board {
         self.checkers(player)[usize::from(point)]
     }
 
-    /// How many checkers, 0 to 15, the player has above a point of his own numbering, those on the bar
-    /// included.
+    /// How many checkers, 0 to 15, the player has above a point of his own numbering, 0 to 25, those on
+    /// the bar included.
     pub fn count_above(&self, player: Player, point: u8) -> u8
         requires { point ≤ 25 }
         ensures value { result ≡ count_above self.now player point }
@@ -133,7 +133,7 @@ impl Board {
     ///    checkers.
     /// 5. [`StepFault::NotAllHome`]: the step bears off, and one of his checkers stands above 6.
     /// 6. [`StepFault::HigherChecker`]: the step bears off from below the die's number, and one of his
-    ///    checkers stands above it.
+    ///    checkers stands above the point where it begins.
     pub fn play_step(&self, player: Player, step: Step, die: Die) -> Result<Board, StepFault>
         ensures ok { IsOk result ↔ IsStep self.now player step (pips die) }
         ensures after { IfOk result (λ board. board ≡ after_step self.now player step) }

@@ -1,6 +1,6 @@
 //! The limits of a match (docs/RULES.md, "Limits").
 
-/// The number of an entry in its match. Numbers count from 1.
+/// The number of an entry in its match, from 1, or a count of entries, from 0.
 pub type Number = u16;
 
 /// The most entries of a match.

@@ -87,7 +87,7 @@ impl Record {
         self.made.is_empty()
     }
 
-    /// The entry of this number, from 1; `None` for 0 and above the length.
+    /// The entry of this number, from 1; `None` for 0 and above the number of entries.
     pub fn entry(&self, number: Number) -> Option<&Entry>
         ensures { option_copied result ≡ at_number self.now.entries number }
     {
@@ -96,7 +96,7 @@ impl Record {
     }
 
     /// The player whose seat made the entry of this number, from 1. `None` for an entry of the referee, for 0 and above
-    /// the length.
+    /// the number of entries.
     pub fn by(&self, number: Number) -> Option<Player>
         ensures seat { 1 ≤ number → number ≤ length self.now.entries → SeatAfter self.now.match_length (take (number - 1) self.now.entries) result }
         ensures none { (number ≡ 0) ⊎ (length self.now.entries < number) → result ≡ None }
@@ -187,6 +187,9 @@ impl Record {
     }
 
     /// The same record, with room for its entries alone.
+    ///
+    /// # Errors
+    /// AllocError where there is no memory for its entries.
     pub fn copy(&self) -> Result<Record, AllocError>
         ensures { IfOk result (λ copy. copy ≡ record self.now { spare = 0 }) }
     {

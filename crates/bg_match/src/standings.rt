@@ -47,7 +47,7 @@ impl Standing {
     ghost use Rattle.bg_match.specs.Follows.{Follows, CanFollow, IsEntryFault, IsNoDouble, IsDoubleFault, MayDouble, MovedFault, after_turn};
     ghost use Rattle.bg_turns.specs.Turn.{IsLegalTurn, after_steps};
 
-    /// Where a match of this length starts.
+    /// Where a match of this length starts, which is from 1 to 99 points.
     pub fn start(length: u8) -> Standing
         requires shortest { SHORTEST_MATCH ≤ length }
         requires longest { length ≤ LONGEST_MATCH }

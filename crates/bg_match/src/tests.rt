@@ -71,7 +71,7 @@ fn cube(value: u8, owner: Player) -> Cube {
 }
 
 fn record(alloc: Global, length: u8, entries: &[Entry]) -> Result<Record, Fail> {
-    let mut record = Record::new(alloc, 1, length)?;
+    let mut record = Record::new(alloc, 7, length)?;
     for entry in entries {
         record.check(entry)?;
         record.push(entry.copy())?;
@@ -99,7 +99,7 @@ fn entries_of_a_short_record(rt: HostRuntime) -> Result<(), Fail> {
 #[test]
 fn size_of_a_short_record(rt: HostRuntime) -> Result<(), Fail> {
     let record = short_record(rt.alloc())?;
-    assert_eq!(rt; (record.id(), record.length(), record.len()), (1, 1, 2));
+    assert_eq!(rt; (record.id(), record.length(), record.len()), (7, 1, 2));
     assert!(rt; !record.is_empty());
     Ok(())
 }
@@ -137,7 +137,7 @@ fn copy_of_a_short_record(rt: HostRuntime) -> Result<(), Fail> {
     let mut record = short_record(rt.alloc())?;
     assert!(rt; record.reserve(40).is_ok());
     let copy = record.copy()?;
-    assert_eq!(rt; (copy.id(), copy.length(), copy.len()), (1, 1, 2));
+    assert_eq!(rt; (copy.id(), copy.length(), copy.len()), (7, 1, 2));
     assert!(rt; is_copied(&record, &copy, 1) && is_copied(&record, &copy, 2));
     assert!(rt; copy.standing() == record.standing() && copy.by(2) == Some(Player::X));
     Ok(())
@@ -197,6 +197,89 @@ fn refused_doubles(rt: HostRuntime) -> Result<(), Fail> {
     let doubled = Phase::Doubled(Player::O);
     let cube = cube(128, Player::X);
     assert!(rt; Standing::from_parts(99, start, doubled, cube, (0, 0), false, 1).is_none());
+    Ok(())
+}
+
+/// Whether parts with the start board, of the first game and without a Crawford mark, are those of a standing.
+fn is_standing(length: u8, phase: Phase, cube: Cube, score: (u16, u16)) -> bool {
+    Standing::from_parts(length, Board::start(), phase, cube, score, false, 1).is_some()
+}
+
+#[test]
+fn cubes_of_standings(rt: HostRuntime) {
+    let doubled = Phase::Doubled(Player::O);
+    for (value, owner, is_cube) in [
+        (1, None, true),
+        (1, Some(Player::X), false),
+        (2, None, false),
+        (2, Some(Player::X), true),
+        (3, Some(Player::X), false),
+        (64, Some(Player::X), true),
+        (128, Some(Player::X), false),
+        (0, None, false),
+    ] {
+        let cube = Cube { value, owner };
+        assert!(rt;
+            is_standing(99, doubled, cube, (0, 0)) == is_cube,
+            "{value}"
+        );
+    }
+}
+
+#[test]
+fn scores_of_standings(rt: HostRuntime) {
+    let (opening, over) = (Phase::Opening, Phase::Over(Player::X));
+    for (length, phase, score, are_scores) in [
+        (0, opening, (0, 0), false),
+        (100, opening, (0, 0), false),
+        (7, opening, (6, 6), true),
+        (7, opening, (7, 6), false),
+        (7, opening, (6, 7), false),
+        (7, over, (6, 0), false),
+        (7, over, (7, 7), false),
+        (7, over, (7, 6), true),
+        (99, over, (482, 98), true),
+        (99, over, (483, 98), false),
+    ] {
+        assert!(rt;
+            is_standing(length, phase, MIDDLE, score) == are_scores,
+            "{score:?}"
+        );
+    }
+}
+
+#[test]
+fn games_of_standings(rt: HostRuntime) {
+    let start = Board::start();
+    for (score, game, is_game) in [
+        ((0, 0), 0, false),
+        ((0, 0), 1, true),
+        ((0, 0), 2, false),
+        ((1, 2), 4, true),
+        ((1, 2), 5, false),
+    ] {
+        let standing = Standing::from_parts(9, start, Phase::Opening, MIDDLE, score, false, game);
+        assert!(rt; standing.is_some() == is_game, "{game}");
+    }
+}
+
+/// Where a standing of a match of five points in this phase leads once an offer to resign has been rejected.
+fn after_a_rejected_offer(phase: Phase) -> Result<(Standing, Standing), Fail> {
+    let start = Board::start();
+    let standing = Standing::from_parts(5, start, phase, MIDDLE, (0, 0), false, 1);
+    let standing = standing.ok_or("standing")?;
+    let offered = standing.next(&Entry::Resigned(Level::Gammon))?;
+    Ok((standing, offered.next(&Entry::Rejected)?))
+}
+
+#[test]
+fn rejected_offers(rt: HostRuntime) -> Result<(), Fail> {
+    let (before, after) = after_a_rejected_offer(Phase::ToAct(Player::X))?;
+    assert!(rt; before == after);
+    let to_move = Phase::ToMove(Player::O, dice(Die::Six, Die::One));
+    let (before, after) = after_a_rejected_offer(to_move)?;
+    assert!(rt; before == after);
+    assert!(rt; after.phase() == to_move);
     Ok(())
 }
 
@@ -479,7 +562,7 @@ fn reserve_again(rt: &impl Abort, record: &mut Record) -> Result<(), Fail> {
 }
 
 /// Where memory is refused nothing has changed, and the same call then succeeds. No run of the tests refuses any, but
-/// `rt try --test --fail-alloc` refuses each growth in turn.
+/// `tools/refuse_growths` refuses each growth in turn.
 #[test]
 fn refused_growths(rt: HostRuntime) -> Result<(), Fail> {
     let mut record = grown(&rt)?;

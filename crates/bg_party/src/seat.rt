@@ -88,6 +88,7 @@ impl Seat {
     }
 
     /// Learns from a packet (docs/PROTOCOL.md, "What a follower learns"). Only `Grew` changes the record; the claim stays.
+    /// The packet is one that has a text, as each that `decode` gives.
     pub fn take(&mut self, packet: &Packet) -> Learned
         requires { IsPacket packet.now }
         // What is learned.

@@ -51,12 +51,14 @@ impl Watcher {
 
     /// The record, as far as the watcher knows it.
     pub fn held(&self) -> &Record
-        ensures { result.now ≡ self.now.log }
+        ensures value { result.now ≡ self.now.log }
+        ensures watcher { IsWatcher self.now }
     {
         &self.follower.log
     }
 
     /// Learns from a packet (docs/PROTOCOL.md, "What a follower learns"). Only `Grew` changes the record.
+    /// The packet is one that has a text, as each that `decode` gives.
     pub fn take(&mut self, packet: &Packet) -> Learned
         requires { IsPacket packet.now }
         // What is learned.

@@ -107,7 +107,7 @@ impl Referee {
     }
 
     /// Takes a packet (docs/PROTOCOL.md, "What the referee answers"). The word gives the dice where a roll is claimed. Only
-    /// `Accepted` changes the record.
+    /// `Accepted` changes the record. The packet is one that has a text, as each that `decode` gives.
     pub fn take(&mut self, packet: &Packet, word: u32) -> TakeOutcome
         requires { IsPacket packet.now }
         // Which answer it is.

@@ -276,6 +276,7 @@ fn lengths(rt: HostRuntime) -> Result<(), Fail> {
 fn nothing_unsaved_is_told(rt: HostRuntime) -> Result<(), Fail> {
     let mut referee = with_the_opening(rt.alloc())?;
     assert!(rt; want_gives(&mut referee, WATCHER, 0, TakeOutcome::Nothing));
+    assert!(rt; want_gives(&mut referee, WATCHER, 1, TakeOutcome::Ahead));
     assert!(rt; claim_gives(&mut referee, X, 1, &ROLL, 0, TakeOutcome::Nothing));
     assert!(rt; save(&mut referee) == Ok((Slot::One, 1)));
     assert!(rt; referee.saved() == 1);
@@ -300,6 +301,33 @@ fn refused_claims(rt: HostRuntime) -> Result<(), Fail> {
     assert!(rt; claim_gives(&mut referee, X, 3, &MOVE, NO_DICE, TakeOutcome::Ahead));
     assert!(rt; own_entries_give_nothing(&mut referee));
     assert!(rt; referee.held().len() == 1);
+    Ok(())
+}
+
+#[test]
+fn no_seat_acts_before_the_opening(rt: HostRuntime) -> Result<(), Fail> {
+    let mut referee = fresh(rt.alloc())?;
+    assert!(rt;
+        claim_gives(
+            &mut referee,
+            X,
+            1,
+            &ROLL,
+            THREE_ONE,
+            TakeOutcome::NotYourTurn
+        )
+    );
+    assert!(rt;
+        claim_gives(
+            &mut referee,
+            O,
+            1,
+            &ROLL,
+            THREE_ONE,
+            TakeOutcome::NotYourTurn
+        )
+    );
+    assert!(rt; referee.held().is_empty());
     Ok(())
 }
 
@@ -404,7 +432,7 @@ fn opens(referee: &mut Referee) -> bool {
 }
 
 /// Where memory is refused nothing has changed, and the same call then succeeds. No run of the tests refuses any, but
-/// `rt try --test --fail-alloc` refuses each growth in turn.
+/// `tools/refuse_growths` refuses each growth in turn.
 #[test]
 fn refused_growths(rt: HostRuntime) -> Result<(), Fail> {
     let mut referee = fresh(rt.alloc())?;

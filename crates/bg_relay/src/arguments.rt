@@ -22,8 +22,9 @@ fn judge_command<'a>(alloc: Global) -> Command<'a> {
             "Judge the transcript of a match on standard input.\n\
              \n\
              Prints the board after the good lines, and then `ok N` with the number of entries, or\n\
-             `refused at line L: REASON`. Ends with status 0 where the transcript is good, 2 where it is\n\
-             refused, and 1 where reading, writing or memory failed.",
+             `refused at line L: REASON`. Where line 1 is refused it prints that line alone, and for an\n\
+             input of more than 4194304 bytes `refused: input too long`. Ends with status 0 where the\n\
+             transcript is good, 2 where it is refused, and 1 where reading, writing or memory failed.",
         )
 }
 

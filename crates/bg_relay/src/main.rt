@@ -21,7 +21,14 @@ use std::rt::Files;
 const MOST_SAVED_BYTES: u64 = LONGEST_SAVED_TEXT as u64 + 1;
 
 fn main(rt: HostRuntime) -> anyhow::Result<ExitCode> {
-    let words: Vec<String> = std::env::args(&rt)?.collect(rt.alloc())?;
+    let words: Vec<String> = match std::env::args(&rt) {
+        Ok(words) => words.collect(rt.alloc())?,
+        Err(error) if error.kind() == io::ErrorKind::InvalidData => {
+            eprintln!(rt; "bg_relay: an argument is not valid UTF-8")?;
+            return Ok(ExitCode::from(2));
+        }
+        Err(error) => return Err(error.into()),
+    };
     let matches = match command(rt.alloc())?.try_get_matches_from(words.as_slice()) {
         Ok(matches) => matches,
         Err(error) => return refuse(&rt, &error),

@@ -174,8 +174,8 @@ fn longer_file_does_not_load(rt: HostRuntime) -> Result<(), Fail> {
     )
 }
 
-/// Want of memory is answered and harms nothing: asked again, the answer is the same. Under `rt try --test --fail-alloc N`
-/// the Nth growth is refused.
+/// Want of memory is answered and harms nothing: asked again, the answer is the same. No run of the tests refuses any, but
+/// `tools/refuse_growths` refuses each growth in turn.
 #[test]
 fn refused_growths(rt: HostRuntime) -> Result<(), Fail> {
     for _ in 0..2 {

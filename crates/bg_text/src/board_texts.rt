@@ -17,6 +17,9 @@ const UPPER: [u8; 12] = [13, 14, 15, 16, 17, 18, 19, 20, 21, 22, 23, 24];
 const LOWER: [u8; 12] = [12, 11, 10, 9, 8, 7, 6, 5, 4, 3, 2, 1];
 
 /// The board text of a standing: seven lines, as docs/FORMATS.md, "Board text", says.
+///
+/// # Errors
+/// AllocError where there is no memory for it.
 pub fn board_text(alloc: Global, standing: &Standing) -> Result<Vec<u8>, AllocError>
     ensures { IfOk result (λ text. text.items ≡ text_of_board standing.now) }
 {

@@ -47,7 +47,7 @@ impl fmt::Display for TextFault {
 
 impl std::error::Error for TextFault {}
 
-/// Why a line of a transcript is refused (docs/FORMATS.md, "Transcripts").
+/// Why a line of a transcript is refused (docs/FORMATS.md, "The judge").
 #[derive(Clone, Copy, Debug, PartialEq, Eq)]
 pub(crate) enum LineFault {
     /// The first line is missing, or has not the shape of a length line.

@@ -15,6 +15,18 @@ use std::test::Fail;
 
 const MATCH: &str = "length 1\nopen 3 1\nX move 8-5 6-5\n";
 
+/// The picture of MATCH, and its verdict.
+const TEXT_OF_MATCH: &str = "\
+length 1 game 1 score 0-0 cube 1 middle crawford
+  13  14  15  16  17  18  19  20  21  22  23  24
+  X5   .   .   .  O3   .  O5   .   .   .   .  X2
+  O5   .   .   .  X2   .  X4  X2   .   .   .  O2
+  12  11  10   9   8   7   6   5   4   3   2   1
+bar X 0 O 0 off X 0 O 0
+O to roll
+ok 2
+";
+
 const FIRST_TURN: &str = "open 3 1\nX move 8-5 6-5\n";
 
 const TOO_LONG: &str = "refused: input too long\n";
@@ -136,11 +148,15 @@ fn first_turn(rt: &impl Abort) -> Turn {
     Turn { steps }
 }
 
-/// The record of MATCH.
+/// The record of MATCH, also where memory for an entry is refused once.
 fn record(rt: &(impl AllocGlobal + Abort)) -> Result<Record, Fail> {
     let mut record = Record::new(rt.alloc(), 1, 1)?;
-    record.push(Entry::Opening(Die::Three, Die::One))?;
-    record.push(Entry::Moved(first_turn(rt)))?;
+    let moved = Entry::Moved(first_turn(rt));
+    for entry in [Entry::Opening(Die::Three, Die::One), moved] {
+        if record.push(entry.copy()).is_err() {
+            record.push(entry)?;
+        }
+    }
     Ok(record)
 }
 
@@ -281,7 +297,7 @@ fn board_of_a_record(rt: HostRuntime) -> Result<(), Fail> {
 fn transcript_of_a_record(rt: HostRuntime) -> Result<(), Fail> {
     let transcript = transcript_text(rt.alloc(), &record(&rt)?)?;
     assert_eq!(rt; transcript.as_slice(), MATCH.as_bytes());
-    let text = text_of_match(rt.alloc())?;
+    let text = Vec::from_slice(rt.alloc(), TEXT_OF_MATCH.as_bytes())?;
     check_judged(&rt, &transcript, text, Verdict::Fine(2))
 }
 
@@ -527,17 +543,17 @@ fn check_read(
     assert_eq!(rt; writer.taken.as_slice(), text);
 }
 
-/// The picture of MATCH, and its verdict.
-fn text_of_match(alloc: Global) -> Result<Vec<u8>, Fail> {
-    picture_and_line(alloc, [HEADER, UPPER, OPENED, "O to roll"], "ok 2")
-}
-
 #[test]
 fn read_and_written_in_parts(rt: HostRuntime) -> Result<(), Fail> {
-    let text = text_of_match(rt.alloc())?;
     for (read, written) in [(1, 1), (1, 1000), (7, 3), (1000, 1000)] {
         let mut reader = Fed::new(MATCH.as_bytes(), read);
-        check_read(&rt, &mut reader, written, Ok(Verdict::Fine(2)), &text);
+        check_read(
+            &rt,
+            &mut reader,
+            written,
+            Ok(Verdict::Fine(2)),
+            TEXT_OF_MATCH.as_bytes(),
+        );
         assert_eq!(rt; reader.given, MATCH.len());
     }
     Ok(())
@@ -545,11 +561,10 @@ fn read_and_written_in_parts(rt: HostRuntime) -> Result<(), Fail> {
 
 #[test]
 fn read_and_written_by_slices(rt: HostRuntime) -> Result<(), Fail> {
-    let text = text_of_match(rt.alloc())?;
     let (mut reader, mut written) = (MATCH.as_bytes(), Vec::new(rt.alloc()));
     let verdict = verdict_on(rt.alloc(), &mut reader, &mut written);
     assert_eq!(rt; verdict, Ok(Verdict::Fine(2)));
-    assert_eq!(rt; written, text);
+    assert_eq!(rt; written.as_slice(), TEXT_OF_MATCH.as_bytes());
     Ok(())
 }
 
@@ -610,15 +625,15 @@ fn check_failing_writer(rt: &(impl AllocGlobal + Abort), text: &[u8], room: usiz
 
 #[test]
 fn writers_that_fail(rt: HostRuntime) -> Result<(), Fail> {
-    let text = text_of_match(rt.alloc())?;
+    let text = TEXT_OF_MATCH.as_bytes();
     for room in [0, 1, 100, text.len().saturating_sub(1), text.len()] {
-        check_failing_writer(&rt, &text, room);
+        check_failing_writer(&rt, text, room);
     }
     Ok(())
 }
 
-/// Where memory is refused the same call then succeeds. No run of the tests refuses any, but `rt try --test --fail-alloc`
-/// refuses each growth in turn.
+/// Where memory is refused the same call then succeeds. No run of the tests refuses any, but `tools/refuse_growths` refuses
+/// each growth in turn.
 #[test]
 fn refused_growths_of_boards(rt: HostRuntime) -> Result<(), Fail> {
     let standing = record(&rt)?.standing();
@@ -626,7 +641,10 @@ fn refused_growths_of_boards(rt: HostRuntime) -> Result<(), Fail> {
         Ok(board) => board,
         Err(_) => board_text(rt.alloc(), &standing)?,
     };
-    assert!(rt; text_of_match(rt.alloc())?.starts_with(&board));
+    assert_eq!(rt;
+        Some(board.as_slice()),
+        TEXT_OF_MATCH.as_bytes().strip_suffix(b"ok 2\n")
+    );
     Ok(())
 }
 
@@ -650,21 +668,23 @@ fn refused_growths_of_judgements(rt: HostRuntime) -> Result<(), Fail> {
         Err(_) => judge_text(rt.alloc(), MATCH.as_bytes())?,
     };
     assert_eq!(rt; judged.verdict, Verdict::Fine(2));
-    assert_eq!(rt; judged.text, text_of_match(rt.alloc())?);
+    assert_eq!(rt; judged.text.as_slice(), TEXT_OF_MATCH.as_bytes());
     Ok(())
 }
 
 /// The same, of the judge between devices, who then has written nothing.
 #[test]
 fn refused_growths_between_devices(rt: HostRuntime) -> Result<(), Fail> {
-    let text = text_of_match(rt.alloc())?;
-    let mut written = Vec::with_capacity(rt.alloc(), 1000)?;
+    let mut written = match Vec::with_capacity(rt.alloc(), 1000) {
+        Ok(written) => written,
+        Err(_) => Vec::with_capacity(rt.alloc(), 1000)?,
+    };
     let mut verdict = verdict_on(rt.alloc(), &mut MATCH.as_bytes(), &mut written);
     if verdict == Err(EngineFault::Memory) {
         assert!(rt; written.is_empty());
         verdict = verdict_on(rt.alloc(), &mut MATCH.as_bytes(), &mut written);
     }
     assert_eq!(rt; verdict, Ok(Verdict::Fine(2)));
-    assert_eq!(rt; written, text);
+    assert_eq!(rt; written.as_slice(), TEXT_OF_MATCH.as_bytes());
     Ok(())
 }

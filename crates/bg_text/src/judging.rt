@@ -190,7 +190,10 @@ fn refused_at_once(alloc: Global, why: LineFault) -> Result<Judgement, AllocErro
 }
 
 /// What the judge says of an input: the board after its longest legal part, and the verdict, as docs/FORMATS.md,
-/// "The judge", says. Memory is the only fault.
+/// "The judge", says.
+///
+/// # Errors
+/// AllocError where there is no memory for the text or the record.
 pub fn judge_text(alloc: Global, input: &[u8]) -> Result<Judgement, AllocError>
     ensures { IfOk result (λ judgement. IsJudgement input.now judgement.text.items judgement.verdict) }
 {

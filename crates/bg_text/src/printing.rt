@@ -7,7 +7,7 @@ use std::alloc::AllocError;
 /// Adds a text to the end of another.
 ///
 /// # Errors
-/// AllocError where memory runs out.
+/// AllocError where memory runs out. What `out` holds then is not said.
 pub fn push_text(out: &mut Vec<u8>, text: &str) -> Result<(), AllocError>
     ensures { OnOk result (out.new.items ≡ out.old.items ++ text.now) }
 {
@@ -17,7 +17,7 @@ pub fn push_text(out: &mut Vec<u8>, text: &str) -> Result<(), AllocError>
 /// Adds a number in decimal, without leading zeros, to the end of a text.
 ///
 /// # Errors
-/// AllocError where memory runs out.
+/// AllocError where memory runs out. What `out` holds then is not said.
 pub fn push_number(out: &mut Vec<u8>, number: u64) -> Result<(), AllocError>
     ensures { OnOk result (out.new.items ≡ out.old.items ++ decimal number) }
 {

@@ -3,8 +3,9 @@ ghost use Rattle.std.specs.Prelude.{IfOk};
 ghost use Rattle.bg_wire.specs.SavedText.{IsSavable, parts_of};
 
 use crate::{
-    Datagram, EntryList, LONGEST_PACKET, LoadFault, MOST_DATAGRAM_BYTES, Packet, PacketBytes,
-    Saved, WireFault, decode, encode, load, save_text,
+    Datagram, EntryList, LONGEST_PACKET, LONGEST_SAVED_TEXT, LoadFault, MOST_DATAGRAM_BYTES,
+    Packet, PacketBytes, SaveRefusal, Saved, Slot, WireFault, decode, encode, load, next_save,
+    save_text,
 };
 use arrayvec::ArrayVec;
 use bg_board::{Die, Step};
@@ -164,7 +165,8 @@ fn worked_entries(rt: HostRuntime) {
 
 #[test]
 fn default_packet(rt: HostRuntime) {
-    assert!(rt; decode(encode(&Packet::default()).as_slice()) == Ok(Packet::default()));
+    let bytes = [0x42, 0x47, 0x01, 0x01, 0, 0, 0, 0, 0, 0, 0, 0, 0x01, 0, 0];
+    check_packet(&rt, &bytes, &Packet::default());
 }
 
 /// The text of an action, in the claim of it by party 2 as entry 65535.
@@ -459,6 +461,32 @@ fn longest_record_saved(rt: HostRuntime) -> Result<(), Fail> {
     Ok(())
 }
 
+/// What stands before the entries has at most 33 bytes, with the claim of a turn of four steps; an entry has at most ten.
+#[test]
+fn longest_texts(rt: HostRuntime) {
+    assert_eq!(rt;
+        (LONGEST_SAVED_TEXT, MOST_DATAGRAM_BYTES),
+        (33 + 65535 * 10, 128)
+    );
+}
+
+/// The slot and the number of the save that follows one of the referee's, who holds nothing.
+fn slot_after(alloc: Global, last: u32) -> Result<(Slot, u32), SaveRefusal> {
+    let Ok(log) = Record::new(alloc, 1, 1) else {
+        return Err(SaveRefusal::Memory);
+    };
+    let (slot, save, _text) = next_save(alloc, last, 0, &None, &log)?;
+    Ok((slot, save))
+}
+
+#[test]
+fn first_and_last_saves(rt: HostRuntime) {
+    assert!(rt; slot_after(rt.alloc(), 0) == Ok((Slot::One, 1)));
+    assert!(rt; slot_after(rt.alloc(), 1) == Ok((Slot::Zero, 2)));
+    assert!(rt; slot_after(rt.alloc(), 4294967294) == Ok((Slot::One, 4294967295)));
+    assert!(rt; slot_after(rt.alloc(), 4294967295) == Err(SaveRefusal::SavesSpent));
+}
+
 /// Loads once more where memory is refused.
 fn loaded_at_last(alloc: Global, bytes: &[u8]) -> Result<Saved, LoadFault>
     ensures { IfOk result (λ saved. IsSavable (parts_of saved)) }
@@ -469,8 +497,8 @@ fn loaded_at_last(alloc: Global, bytes: &[u8]) -> Result<Saved, LoadFault>
     }
 }
 
-/// Where memory is refused the same call then succeeds. No run of the tests refuses any, but `rt try --test --fail-alloc`
-/// refuses each growth in turn.
+/// Where memory is refused the same call then succeeds. No run of the tests refuses any, but `tools/refuse_growths` refuses
+/// each growth in turn.
 #[test]
 fn refused_growths(rt: HostRuntime) -> Result<(), Fail> {
     for bytes in [REFEREE_SAVE.as_slice(), &SEAT_SAVE] {
