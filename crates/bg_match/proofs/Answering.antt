@@ -1,6 +1,7 @@
 -- The entries that answer actions.
 use Rattle.std.proofs.Common.{◌≡◌, ◌≢◌, ◌++◌, ◌∷◌, [], ℕ, List, Option, Some, None, refl, sym, ◌∙◌, ap, subst}
 use Rattle.std.specs.List.{AllByRecursion}
+use Rattle.bg_match.specs.Terms.{Terms}
 use Rattle.bg_turns.specs.declared.throws.Dice.{Dice}
 use Rattle.bg_match.specs.declared.actions.Action.{Action}
 use Rattle.bg_match.specs.declared.actions.Action.TheVariants as action
@@ -8,7 +9,7 @@ use Rattle.bg_match.specs.declared.entries.Entry.{Entry}
 use Rattle.bg_match.specs.declared.entries.Entry.TheVariants as entry
 use Rattle.bg_match.specs.Answers.{Answers, CanAnswer}
 use Rattle.bg_match.specs.Entry.{IsEntry, IsAction}
-use Rattle.bg_match.specs.Match.{IsLegalRecord}
+use Rattle.bg_match.specs.Match.{IsLegalRecord, IsNext}
 use Rattle.bg_match.proofs.Legal.{entries_in_range}
 
 -- a roll that is answered has dice
@@ -40,14 +41,14 @@ last_in_range [] e h = h.0
 last_in_range (x ∷ xs) e h = last_in_range xs e h.1
 
 -- the numbers of an action whose entry is legal are in their ranges
-pub action_in_range : (match_length : ℕ) (entries : List Entry) (a : Action) (dice : Option Dice) (e : Entry) → Answers a dice e
-    → IsLegalRecord match_length (entries ++ e ∷ []) → IsAction a
-action_in_range match_length entries (action.Move turn) dice e h legal =
-    subst IsEntry h (last_in_range entries e (entries_in_range match_length (entries ++ e ∷ []) legal))
-action_in_range match_length entries action.Roll dice e h legal = tt
-action_in_range match_length entries action.Double dice e h legal = tt
-action_in_range match_length entries action.Take dice e h legal = tt
-action_in_range match_length entries action.Drop dice e h legal = tt
-action_in_range match_length entries (action.Resign level) dice e h legal = tt
-action_in_range match_length entries action.Accept dice e h legal = tt
-action_in_range match_length entries action.Reject dice e h legal = tt
+pub action_in_range : (terms : Terms) (entries : List Entry) (a : Action) (dice : Option Dice) (e : Entry) → Answers a dice e
+    → IsNext terms entries e → IsAction a
+action_in_range terms entries (action.Move turn) dice e h legal =
+    subst IsEntry h (last_in_range entries e (entries_in_range terms (entries ++ e ∷ []) legal))
+action_in_range terms entries action.Roll dice e h legal = tt
+action_in_range terms entries action.Double dice e h legal = tt
+action_in_range terms entries action.Take dice e h legal = tt
+action_in_range terms entries action.Drop dice e h legal = tt
+action_in_range terms entries (action.Resign level) dice e h legal = tt
+action_in_range terms entries action.Accept dice e h legal = tt
+action_in_range terms entries action.Reject dice e h legal = tt

@@ -3,8 +3,9 @@ use Rattle.std.proofs.Common.{◌≡◌, ℕ, zero, suc, ◌-◌, ◌<◌, ◌�
 use Rattle.std.proofs.lemmas.List.{take-append-le}
 use Rattle.std.proofs.lemmas.Option.{slice_get-map}
 use Rattle.std.proofs.Math.Seq.{take-append_seam}
+use Rattle.bg_match.specs.Terms.{Terms}
 use Rattle.bg_board.specs.declared.players.Player.{Player}
-use Rattle.bg_match.specs.declared.limits.TheConstants.{MOST_ENTRIES, SHORTEST_MATCH, LONGEST_MATCH}
+use Rattle.bg_match.specs.Limits.{most_entries, shortest_match, longest_match}
 use Rattle.bg_match.specs.declared.entries.Entry.{Entry}
 use Rattle.bg_match.specs.Actor.{actor_of, seat_of}
 use Rattle.bg_match.specs.State.{State, start_of}
@@ -18,19 +19,19 @@ with_scores s scores (e ∷ rest) t h =
     let r = with_scores h.0 (scores_then s h.0 scores) rest t h.2 in
     (r.0, (h.0, h.1, r.1))
 
-pub marked_by_scores : (match_length : ℕ) (entries : List Entry) (t : State) → StandsAt match_length entries t → IsMarkedByScores match_length entries t
-marked_by_scores match_length entries t h =
-    let r = with_scores (start_of match_length) (0 ∷ []) entries t h in
-    (r.0, r.1, marks_crawford match_length entries t r.0 r.1)
+pub marked_by_scores : (terms : Terms) (entries : List Entry) (t : State) → StandsAt terms entries t → IsMarkedByScores terms entries t
+marked_by_scores terms entries t h =
+    let r = with_scores (start_of terms) (0 ∷ []) entries t h in
+    (r.0, r.1, marks_crawford terms entries t r.0 r.1)
 
 -- a match with no entry
-pub IsKept-empty : (match_length : ℕ) → SHORTEST_MATCH ≤ match_length → match_length ≤ LONGEST_MATCH → IsKept match_length [] [] (start_of match_length)
-IsKept-empty match_length shortest longest = record {
+pub IsKept-empty : (terms : Terms) → shortest_match ≤ terms → terms ≤ longest_match → IsKept terms [] [] (start_of terms)
+IsKept-empty terms shortest longest = record {
   shortest = shortest;
   longest = longest;
   few = omega arith;
   stands = refl;
-  marked = marked_by_scores match_length [] (start_of match_length) refl;
+  marked = marked_by_scores terms [] (start_of terms) refl;
   made = λ i seat h. cc;
 }
 
@@ -40,10 +41,10 @@ at_number-map f xs zero = refl
 at_number-map f xs (suc i) = slice_get-map f xs i
 
 -- the seat that is kept under a number
-pub SeatAfter-at_number : (match_length : ℕ) (entries : List Entry) (seats : List (Option Player)) (t : State) → IsKept match_length entries seats t
-    → (n : ℕ) (seat : Option Player) → at_number seats n ≡ Some seat → SeatAfter match_length (take (n - 1) entries) seat
-SeatAfter-at_number match_length entries seats t kept zero seat h = absurd (cc)
-SeatAfter-at_number match_length entries seats t kept (suc i) seat h = rw sub-one (kept.made i seat h)
+pub SeatAfter-at_number : (terms : Terms) (entries : List Entry) (seats : List (Option Player)) (t : State) → IsKept terms entries seats t
+    → (n : ℕ) (seat : Option Player) → at_number seats n ≡ Some seat → SeatAfter terms (take (n - 1) entries) seat
+SeatAfter-at_number terms entries seats t kept zero seat h = absurd (cc)
+SeatAfter-at_number terms entries seats t kept (suc i) seat h = rw sub-one (kept.made i seat h)
 
 -- an element of a list with one more is that one, or stood there before
 slice_get-push : {X : Type 0} (xs : List X) (x : X) (i : ℕ) (y : X) → slice_get (xs ++ x ∷ []) i ≡ Some y
@@ -57,16 +58,16 @@ slice_get-push (w ∷ xs) x (suc i) y h = elim (slice_get-push xs x i y h) [
 ]
 
 -- one more entry, made by the seat that acts
-pub IsKept-push : (match_length : ℕ) (entries : List Entry) (seats : List (Option Player)) (s : State) (e : Entry) (t : State)
-    → IsKept match_length entries seats s → length seats ≡ length entries → length entries < MOST_ENTRIES
-    → StandsAt match_length (entries ++ e ∷ []) t
-    → IsKept match_length (entries ++ e ∷ []) (seats ++ seat_of (actor_of s.phase) ∷ []) t
-IsKept-push match_length entries seats s e t kept same few stands = record {
+pub IsKept-push : (terms : Terms) (entries : List Entry) (seats : List (Option Player)) (s : State) (e : Entry) (t : State)
+    → IsKept terms entries seats s → length seats ≡ length entries → length entries < most_entries
+    → StandsAt terms (entries ++ e ∷ []) t
+    → IsKept terms (entries ++ e ∷ []) (seats ++ seat_of (actor_of s.phase) ∷ []) t
+IsKept-push terms entries seats s e t kept same few stands = record {
   shortest = kept.shortest;
   longest = kept.longest;
   few = omega (arith, length-append entries (e ∷ []));
   stands = stands;
-  marked = marked_by_scores match_length (entries ++ e ∷ []) t stands;
+  marked = marked_by_scores terms (entries ++ e ∷ []) t stands;
   made = λ i seat h. elim (slice_get-push seats (seat_of (actor_of s.phase)) i seat h) [
     | inl before ↦
         let within : i ≤ length entries = omega (arith, before.0) in

@@ -1,6 +1,7 @@
 -- The laws of legal records and of the entries that answer actions.
 use Rattle.std.proofs.Common.{◌≡◌, ◌↔◌, ℕ, ◌≤◌, Option, Some, None, List, [], ◌∷◌, ◌++◌, length, length-append, refl, sym, ◌∙◌, ap, subst, arith}
 use Rattle.std.specs.List.{AllByRecursion}
+use Rattle.bg_match.specs.Terms.{Terms}
 use Rattle.bg_board.specs.declared.players.Player.{Player}
 use Rattle.bg_turns.specs.declared.throws.Dice.{Dice}
 use Rattle.bg_match.specs.declared.actions.Action.TheVariants as action
@@ -12,7 +13,7 @@ use Rattle.bg_match.specs.Entry.{IsEntry, IsOpening}
 use Rattle.bg_match.specs.State.{State, start_of}
 use Rattle.bg_match.specs.Follows.{Follows, CanFollow, phase_back}
 use Rattle.bg_match.specs.declared.phases.Actor.{Actor}
-use Rattle.bg_match.specs.Match.{Leads, IsLegalRecord, ActsAfter}
+use Rattle.bg_match.specs.Match.{Leads, IsLegalRecord, ActsAfter, IsNext}
 use Rattle.bg_match.specs.Laws.{HasLegalFronts, HasOneStanding, HasEntriesInRange, OpensByReferee, OpensWithoutSeat, RollsAnyDice}
 use Rattle.bg_match.proofs.PlayableTurns.{legal_in_range}
 use Rattle.bg_match.proofs.Runs.{Follows-same, Leads-push}
@@ -27,9 +28,9 @@ Leads-append s [] rest m t h k = subst (λ (u : State). Leads u rest t) h k
 Leads-append s (e ∷ front) rest m t h k = (h.0, h.1, Leads-append h.0 front rest m t h.2 k)
 
 pub legal_fronts : HasLegalFronts
-legal_fronts match_length front rest h =
+legal_fronts terms front rest h =
     let few : length front ≤ length (front ++ rest) = omega (arith, length-append front rest) in
-    let at = Leads-front (start_of match_length) front rest h.1.0 h.1.1 in
+    let at = Leads-front (start_of terms) front rest h.1.0 h.1.1 in
     (omega (arith, h.0), (at.0, at.1))
 
 Leads-same : (s : State) (entries : List Entry) (t u : State) → Leads s entries t → Leads s entries u → t ≡ u
@@ -39,13 +40,13 @@ Leads-same s (e ∷ rest) t u h k =
     Leads-same h.0 rest t u h.2 (subst (λ (x : State). Leads x rest u) same k.2)
 
 pub one_standing : HasOneStanding
-one_standing match_length entries s t h k = Leads-same (start_of match_length) entries s t h k
+one_standing terms entries s t h k = Leads-same (start_of terms) entries s t h k
 
 -- one actor acts
-pub one_actor : (match_length : ℕ) (entries : List Entry) (a b : Actor)
-    → ActsAfter match_length entries a → ActsAfter match_length entries b → a ≡ b
-one_actor match_length entries a b h k =
-    h.2 ∙ ap (λ (s : State). actor_of s.phase) (one_standing match_length entries h.0 k.0 h.1 k.1) ∙ sym k.2
+pub one_actor : (terms : Terms) (entries : List Entry) (a b : Actor)
+    → ActsAfter terms entries a → ActsAfter terms entries b → a ≡ b
+one_actor terms entries a b h k =
+    h.2 ∙ ap (λ (s : State). actor_of s.phase) (one_standing terms entries h.0 k.0 h.1 k.1) ∙ sym k.2
 
 pub Follows_in_range : (s : State) (e : Entry) (t : State) → Follows s e t → IsEntry e
 Follows_in_range s (entry.Opening x o) t h = tt
@@ -63,42 +64,42 @@ Leads_in_range s [] t h = tt
 Leads_in_range s (e ∷ rest) t h = (Follows_in_range s e h.0 h.1, Leads_in_range h.0 rest t h.2)
 
 pub entries_in_range : HasEntriesInRange
-entries_in_range match_length entries h = Leads_in_range (start_of match_length) entries h.1.0 h.1.1
+entries_in_range terms entries h = Leads_in_range (start_of terms) entries h.1.0 h.1.1
 
 pub opens_by_referee : OpensByReferee
-opens_by_referee match_length entries x o h =
-    let at = Leads-front (start_of match_length) entries (entry.Opening x o ∷ []) h.1.0 h.1.1 in
+opens_by_referee terms entries x o h =
+    let at = Leads-front (start_of terms) entries (entry.Opening x o ∷ []) h.1.0 h.1.1 in
     (at.0, at.1, sym (ap actor_of at.2.1.0))
 
 -- another entry in place of the last one
-last_instead : (match_length : ℕ) (entries : List Entry) (e f : Entry) → ((m : State) → CanFollow m e → CanFollow m f)
-    → IsLegalRecord match_length (entries ++ e ∷ []) → IsLegalRecord match_length (entries ++ f ∷ [])
-last_instead match_length entries e f instead h =
-    let at = Leads-front (start_of match_length) entries (e ∷ []) h.1.0 h.1.1 in
+last_instead : (terms : Terms) (entries : List Entry) (e f : Entry) → ((m : State) → CanFollow m e → CanFollow m f)
+    → IsNext terms entries e → IsNext terms entries f
+last_instead terms entries e f instead h =
+    let at = Leads-front (start_of terms) entries (e ∷ []) h.1.0 h.1.1 in
     let next = instead at.0 (at.2.0, at.2.1) in (
       omega (arith, h.0, length-append entries (e ∷ []), length-append entries (f ∷ [])),
-      (next.0, Leads-push (start_of match_length) entries f at.0 next.0 at.1 next.1),
+      (next.0, Leads-push (start_of terms) entries f at.0 next.0 at.1 next.1),
     )
 
 rolls_alike : (m : State) (dice other : Dice) → CanFollow m (entry.Rolled dice) → CanFollow m (entry.Rolled other)
 rolls_alike m dice other h = (record m { phase = phase.ToMove h.1.0 other }, (h.1.0, h.1.1, refl))
 
-same_legal : (match_length : ℕ) (entries : List Entry) (e f : Entry) → e ≡ f
-    → IsLegalRecord match_length (entries ++ e ∷ []) → IsLegalRecord match_length (entries ++ f ∷ [])
-same_legal match_length entries e f same h = subst (λ (x : Entry). IsLegalRecord match_length (entries ++ x ∷ [])) same h
+same_legal : (terms : Terms) (entries : List Entry) (e f : Entry) → e ≡ f
+    → IsNext terms entries e → IsNext terms entries f
+same_legal terms entries e f same h = subst (λ (x : Entry). IsNext terms entries x) same h
 
 pub rolls_any_dice : RollsAnyDice
-rolls_any_dice match_length entries action.Roll dice other e f h k legal =
-    let rolled = same_legal match_length entries e (entry.Rolled h.0) h.2 legal in
-    let again = last_instead match_length entries (entry.Rolled h.0) (entry.Rolled k.0) (λ m. rolls_alike m h.0 k.0) rolled in
-    same_legal match_length entries (entry.Rolled k.0) f (sym k.2) again
-rolls_any_dice match_length entries action.Double dice other e f h k legal = same_legal match_length entries e f (h ∙ sym k) legal
-rolls_any_dice match_length entries action.Take dice other e f h k legal = same_legal match_length entries e f (h ∙ sym k) legal
-rolls_any_dice match_length entries action.Drop dice other e f h k legal = same_legal match_length entries e f (h ∙ sym k) legal
-rolls_any_dice match_length entries (action.Move turn) dice other e f h k legal = same_legal match_length entries e f (h ∙ sym k) legal
-rolls_any_dice match_length entries (action.Resign level) dice other e f h k legal = same_legal match_length entries e f (h ∙ sym k) legal
-rolls_any_dice match_length entries action.Accept dice other e f h k legal = same_legal match_length entries e f (h ∙ sym k) legal
-rolls_any_dice match_length entries action.Reject dice other e f h k legal = same_legal match_length entries e f (h ∙ sym k) legal
+rolls_any_dice terms entries action.Roll dice other e f h k legal =
+    let rolled = same_legal terms entries e (entry.Rolled h.0) h.2 legal in
+    let again = last_instead terms entries (entry.Rolled h.0) (entry.Rolled k.0) (λ m. rolls_alike m h.0 k.0) rolled in
+    same_legal terms entries (entry.Rolled k.0) f (sym k.2) again
+rolls_any_dice terms entries action.Double dice other e f h k legal = same_legal terms entries e f (h ∙ sym k) legal
+rolls_any_dice terms entries action.Take dice other e f h k legal = same_legal terms entries e f (h ∙ sym k) legal
+rolls_any_dice terms entries action.Drop dice other e f h k legal = same_legal terms entries e f (h ∙ sym k) legal
+rolls_any_dice terms entries (action.Move turn) dice other e f h k legal = same_legal terms entries e f (h ∙ sym k) legal
+rolls_any_dice terms entries (action.Resign level) dice other e f h k legal = same_legal terms entries e f (h ∙ sym k) legal
+rolls_any_dice terms entries action.Accept dice other e f h k legal = same_legal terms entries e f (h ∙ sym k) legal
+rolls_any_dice terms entries action.Reject dice other e f h k legal = same_legal terms entries e f (h ∙ sym k) legal
 
 -- the seat that acts before an entry, if a seat does
 acts_before : (s : State) (e : Entry) (t : State) → Follows s e t → (seat_of (actor_of s.phase) ≡ None) ↔ IsOpening e
@@ -116,8 +117,8 @@ acts_before s entry.Accepted t h = rw h.3 (λ none. cc, λ opening. absurd openi
 acts_before s entry.Rejected t h = rw h.3 (λ none. cc, λ opening. absurd opening)
 
 pub opens_without_seat : OpensWithoutSeat
-opens_without_seat match_length front rest e seat legal after =
-    let at = Leads-front (start_of match_length) front (e ∷ rest) legal.1.0 legal.1.1 in
-    let same = one_standing match_length front at.0 after.0 at.1 after.1 in
+opens_without_seat terms front rest e seat legal after =
+    let at = Leads-front (start_of terms) front (e ∷ rest) legal.1.0 legal.1.1 in
+    let same = one_standing terms front at.0 after.0 at.1 after.1 in
     let acts = acts_before at.0 e at.2.0 at.2.1 in
     rw (after.2, ← same) acts

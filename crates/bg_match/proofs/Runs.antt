@@ -7,7 +7,7 @@ use Rattle.bg_board.specs.Die.{pips}
 use Rattle.bg_board.specs.declared.dice.Die.{Die}
 use Rattle.bg_turns.specs.Turn.{IsLegalTurn, after_steps}
 use Rattle.bg_board.specs.FromTo.{FromTo}
-use Rattle.bg_match.specs.declared.limits.TheConstants.{MOST_ENTRIES}
+use Rattle.bg_match.specs.Limits.{most_entries}
 use Rattle.bg_match.specs.declared.levels.Level.{Level}
 use Rattle.bg_match.specs.declared.phases.Phase.TheVariants as phase
 use Rattle.bg_match.specs.declared.entries.Entry.{Entry}
@@ -18,7 +18,8 @@ use Rattle.bg_match.specs.Follows.{Follows, CanFollow, IsEntryFault, MayDouble, 
 use Rattle.bg_match.specs.declared.entries.EntryFault.{EntryFault}
 use Rattle.bg_match.specs.declared.entries.EntryFault.TheVariants as fault
 use Rattle.std.specs.Prelude.{Result, Ok, Err, IfOk, IfErr}
-use Rattle.bg_match.specs.Match.{Leads, StandsAt, IsLegalRecord, IsRecordFault}
+use Rattle.bg_match.specs.Terms.{Terms}
+use Rattle.bg_match.specs.Match.{Leads, StandsAt, IsLegalRecord, IsRecordFault, IsNext}
 
 phase_back-player : (p q : Player) (a b : Option Dice) → phase_back p a ≡ phase_back q b → p ≡ q
 phase_back-player p q None None h = cc
@@ -78,18 +79,18 @@ Leads-last s (d ∷ entries) e m t h k =
     Leads-last h.0 entries e m t h.2 (subst (λ (x : State). Leads x (entries ++ e ∷ []) t) same k.2)
 
 -- what the standing says of an entry, said of the record
-module _ (match_length : ℕ) (entries : List Entry) (e : Entry) (m : State) (at : StandsAt match_length entries m) (few : length entries < MOST_ENTRIES) where
-  pub legal_follow : IsLegalRecord match_length (entries ++ e ∷ []) ↔ CanFollow m e
+module _ (terms : Terms) (entries : List Entry) (e : Entry) (m : State) (at : StandsAt terms entries m) (few : length entries < most_entries) where
+  pub legal_follow : IsNext terms entries e ↔ CanFollow m e
   legal_follow = (
-    λ legal. (legal.1.0, Leads-last (start_of match_length) entries e m legal.1.0 at legal.1.1),
-    λ can. (omega (arith, length-append entries (e ∷ [])), (can.0, Leads-push (start_of match_length) entries e m can.0 at can.1)),
+    λ legal. (legal.1.0, Leads-last (start_of terms) entries e m legal.1.0 at legal.1.1),
+    λ can. (omega (arith, length-append entries (e ∷ [])), (can.0, Leads-push (start_of terms) entries e m can.0 at can.1)),
   )
 
-  pub after_follow : (r : Result State EntryFault) → IfOk r (λ t. Follows m e t) → IfOk r (λ t. (length entries < MOST_ENTRIES) × StandsAt match_length (entries ++ e ∷ []) t)
-  after_follow (Ok t) h = (few, Leads-push (start_of match_length) entries e m t at h)
+  pub after_follow : (r : Result State EntryFault) → IfOk r (λ t. Follows m e t) → IfOk r (λ t. (length entries < most_entries) × StandsAt terms (entries ++ e ∷ []) t)
+  after_follow (Ok t) h = (few, Leads-push (start_of terms) entries e m t at h)
   after_follow (Err why) h = tt
 
-  record_fault : (why : EntryFault) (id spare : ℕ) → IsEntryFault why m e → IsRecordFault why (record { id = id; match_length = match_length; entries = entries; spare = spare }) e
+  record_fault : (why : EntryFault) (id spare : ℕ) → IsEntryFault why m e → IsRecordFault why (record { id = id; terms = terms; entries = entries; spare = spare }) e
   record_fault fault.RecordFull id spare h = absurd h
   record_fault fault.Memory id spare h = absurd h
   record_fault fault.MatchOver id spare h = (few, (m, at, h))
@@ -98,7 +99,7 @@ module _ (match_length : ℕ) (entries : List Entry) (e : Entry) (m : State) (at
   record_fault (fault.Turn why) id spare h = (few, (m, at, h))
   record_fault (fault.NoDouble why) id spare h = (few, (m, at, h))
 
-  pub after_fault : (r : Result State EntryFault) (id spare : ℕ) → IfErr r (λ why. IsEntryFault why m e) → IfErr r (λ why. IsRecordFault why (record { id = id; match_length = match_length; entries = entries; spare = spare }) e)
+  pub after_fault : (r : Result State EntryFault) (id spare : ℕ) → IfErr r (λ why. IsEntryFault why m e) → IfErr r (λ why. IsRecordFault why (record { id = id; terms = terms; entries = entries; spare = spare }) e)
   after_fault (Ok t) id spare h = tt
   after_fault (Err why) id spare h = record_fault why id spare h
 

@@ -74,7 +74,7 @@ six_five = record { first = Six; second = Five }
 
 abbrev at_three_two : State
 at_three_two = record {
-  match_length = 7;
+  terms = 7;
   board = start_position;
   phase = phase.ToMove X six_five;
   cube = record { value = 2; owner = Some O };

@@ -4,7 +4,8 @@ use Rattle.std.specs.List.{AllByRecursion}
 use Rattle.bg_board.specs.declared.dice.Die.{Die}
 use Rattle.bg_board.specs.declared.players.Player.{Player}
 use Rattle.bg_turns.specs.declared.throws.Dice.{Dice}
-use Rattle.bg_match.specs.declared.limits.TheConstants.{SHORTEST_MATCH, LONGEST_MATCH}
+use Rattle.bg_match.specs.Limits.{IsMatchLength}
+use Rattle.bg_match.specs.Terms.{Terms, match_length}
 use Rattle.bg_match.specs.declared.phases.Actor.TheVariants.{Referee}
 use Rattle.bg_match.specs.declared.actions.Action.{Action}
 use Rattle.bg_match.specs.declared.entries.Entry.{Entry}
@@ -13,37 +14,37 @@ use Rattle.bg_match.specs.contracts.actions.ActionPartialEq.TheImpl.{ghosts as o
 use Rattle.bg_match.specs.contracts.entries.EntryPartialEq.TheImpl.{ghosts as of_entries}
 use Rattle.bg_match.specs.State.{State}
 use Rattle.bg_match.specs.Entry.{IsEntry, IsAction, IsOpening}
-use Rattle.bg_match.specs.Match.{StandsAt, IsLegalRecord, ActsAfter, SeatAfter}
+use Rattle.bg_match.specs.Match.{StandsAt, IsLegalRecord, IsNext, ActsAfter, SeatAfter}
 use Rattle.bg_match.specs.Answers.{IsAnswer, Answers}
 
--- a match of any length may begin
+-- a match of any terms may begin
 abbrev pub MayBegin : Type 0
-MayBegin = (match_length : ℕ) → SHORTEST_MATCH ≤ match_length → match_length ≤ LONGEST_MATCH → IsLegalRecord match_length []
+MayBegin = (terms : Terms) → IsMatchLength (match_length terms) → IsLegalRecord terms []
 
 -- a front part of a legal record is legal
 abbrev pub HasLegalFronts : Type 0
-HasLegalFronts = (match_length : ℕ) (front rest : List Entry)
-    → IsLegalRecord match_length (front ++ rest) → IsLegalRecord match_length front
+HasLegalFronts = (terms : Terms) (front rest : List Entry)
+    → IsLegalRecord terms (front ++ rest) → IsLegalRecord terms front
 
 -- a match stands at one place
 abbrev pub HasOneStanding : Type 0
-HasOneStanding = (match_length : ℕ) (entries : List Entry) (s t : State)
-    → StandsAt match_length entries s → StandsAt match_length entries t → s ≡ t
+HasOneStanding = (terms : Terms) (entries : List Entry) (s t : State)
+    → StandsAt terms entries s → StandsAt terms entries t → s ≡ t
 
 -- the numbers of every entry of a legal record are in their ranges
 abbrev pub HasEntriesInRange : Type 0
-HasEntriesInRange = (match_length : ℕ) (entries : List Entry)
-    → IsLegalRecord match_length entries → AllByRecursion IsEntry entries
+HasEntriesInRange = (terms : Terms) (entries : List Entry)
+    → IsLegalRecord terms entries → AllByRecursion IsEntry entries
 
 -- where a game may open, the referee acts
 abbrev pub OpensByReferee : Type 0
-OpensByReferee = (match_length : ℕ) (entries : List Entry) (x o : Die)
-    → IsLegalRecord match_length (entries ++ entry.Opening x o ∷ []) → ActsAfter match_length entries Referee
+OpensByReferee = (terms : Terms) (entries : List Entry) (x o : Die)
+    → IsLegalRecord terms (entries ++ entry.Opening x o ∷ []) → ActsAfter terms entries Referee
 
 -- every entry of a legal record is made by a seat, but for the openings
 abbrev pub OpensWithoutSeat : Type 0
-OpensWithoutSeat = (match_length : ℕ) (front rest : List Entry) (e : Entry) (seat : Option Player)
-    → IsLegalRecord match_length (front ++ e ∷ rest) → SeatAfter match_length front seat → (seat ≡ None) ↔ IsOpening e
+OpensWithoutSeat = (terms : Terms) (front rest : List Entry) (e : Entry) (seat : Option Player)
+    → IsLegalRecord terms (front ++ e ∷ rest) → SeatAfter terms front seat → (seat ≡ None) ↔ IsOpening e
 
 -- an entry answers one action
 abbrev pub AnswersOneAction : Type 0
@@ -59,9 +60,9 @@ AnswersInRange = (a : Action) (e : Entry) → IsAnswer a e → IsAction a → Is
 
 -- whether the entry of an action is legal does not depend on the dice of a roll
 abbrev pub RollsAnyDice : Type 0
-RollsAnyDice = (match_length : ℕ) (entries : List Entry) (a : Action) (dice other : Option Dice) (e f : Entry)
+RollsAnyDice = (terms : Terms) (entries : List Entry) (a : Action) (dice other : Option Dice) (e f : Entry)
     → Answers a dice e → Answers a other f
-    → IsLegalRecord match_length (entries ++ e ∷ []) → IsLegalRecord match_length (entries ++ f ∷ [])
+    → IsNext terms entries e → IsNext terms entries f
 
 -- `==` of entries says whether they are the same
 abbrev pub ComparesEntries : Type 0

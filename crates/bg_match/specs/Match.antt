@@ -1,7 +1,8 @@
 -- A whole match, entry by entry.
 use Rattle.std.specs.Prelude.{◌≡◌, ◌==◌, ◌↔◌, ℕ, zero, suc, ◌+◌, ◌<◌, ◌≤◌, true, Option, Some, None, List, [], ◌∷◌, ◌++◌, length, take, slice_get, if◌then◌else◌}
 use Rattle.bg_board.specs.declared.players.Player.{Player}
-use Rattle.bg_match.specs.declared.limits.TheConstants.{MOST_ENTRIES, SHORTEST_MATCH, LONGEST_MATCH}
+use Rattle.bg_match.specs.Limits.{most_entries, shortest_match, longest_match}
+use Rattle.bg_match.specs.Terms.{Terms, match_length}
 use Rattle.bg_match.specs.declared.phases.Actor.{Actor}
 use Rattle.bg_match.specs.declared.entries.Entry.{Entry}
 use Rattle.bg_match.specs.declared.entries.EntryFault.{EntryFault}
@@ -15,21 +16,25 @@ abbrev pub Leads : State → List Entry → State → Type 0
 Leads s [] t = t ≡ s
 Leads s (e ∷ rest) t = (next : State) × Follows s e next × Leads next rest t
 
--- the entries of a match of this length lead to t
-abbrev pub StandsAt : ℕ → List Entry → State → Type 0
-StandsAt match_length entries t = Leads (start_of match_length) entries t
+-- the entries of a match of these terms lead to t
+abbrev pub StandsAt : Terms → List Entry → State → Type 0
+StandsAt terms entries t = Leads (start_of terms) entries t
 
 -- a legal match so far
-abbrev pub IsLegalRecord : ℕ → List Entry → Type 0
-IsLegalRecord match_length entries = (length entries ≤ MOST_ENTRIES) × ((t : State) × StandsAt match_length entries t)
+abbrev pub IsLegalRecord : Terms → List Entry → Type 0
+IsLegalRecord terms entries = (length entries ≤ most_entries) × ((t : State) × StandsAt terms entries t)
+
+-- the entry may follow: with it the match is legal so far
+abbrev pub IsNext : Terms → List Entry → Entry → Type 0
+IsNext terms entries e = IsLegalRecord terms (entries ++ e ∷ [])
 
 -- who acts after the entries
-abbrev pub ActsAfter : ℕ → List Entry → Actor → Type 0
-ActsAfter match_length entries actor = (s : State) × StandsAt match_length entries s × (actor ≡ actor_of s.phase)
+abbrev pub ActsAfter : Terms → List Entry → Actor → Type 0
+ActsAfter terms entries actor = (s : State) × StandsAt terms entries s × (actor ≡ actor_of s.phase)
 
 -- the player whose seat acts after the entries, if a seat does
-abbrev pub SeatAfter : ℕ → List Entry → Option Player → Type 0
-SeatAfter match_length entries seat = (s : State) × StandsAt match_length entries s × (seat ≡ seat_of (actor_of s.phase))
+abbrev pub SeatAfter : Terms → List Entry → Option Player → Type 0
+SeatAfter terms entries seat = (s : State) × StandsAt terms entries s × (seat ≡ seat_of (actor_of s.phase))
 
 -- the greater scores before the games so far, the latest first, where one entry leads from s to t
 abbrev pub scores_then : State → State → List ℕ → List ℕ
@@ -41,44 +46,48 @@ LeadsWithScores s scores [] t all = (t ≡ s) × (all ≡ scores)
 LeadsWithScores s scores (e ∷ rest) t all =
     (next : State) × Follows s e next × LeadsWithScores next (scores_then s next scores) rest t all
 
--- the entries of a match of this length lead to t, and these are the greater scores before its games, the latest first
-abbrev pub StandsWithScores : ℕ → List Entry → State → List ℕ → Type 0
-StandsWithScores match_length entries t scores = LeadsWithScores (start_of match_length) (0 ∷ []) entries t scores
+-- the entries of a match of these terms lead to t, and these are the greater scores before its games, the latest first
+abbrev pub StandsWithScores : Terms → List Entry → State → List ℕ → Type 0
+StandsWithScores terms entries t scores = LeadsWithScores (start_of terms) (0 ∷ []) entries t scores
 
 -- the latest game is the Crawford game: the greater score before it is one point short of the match, and it is the
 -- first game or the greater score before the game before it was less
 abbrev pub IsCrawfordGame : ℕ → List ℕ → Type 0
-IsCrawfordGame match_length [] = ⊥
-IsCrawfordGame match_length (latest ∷ []) = latest + 1 ≡ match_length
-IsCrawfordGame match_length (latest ∷ before ∷ rest) = (latest + 1 ≡ match_length) × (before < latest)
+IsCrawfordGame points [] = ⊥
+IsCrawfordGame points (latest ∷ []) = latest + 1 ≡ points
+IsCrawfordGame points (latest ∷ before ∷ rest) = (latest + 1 ≡ points) × (before < latest)
 
 -- the Crawford mark of t, where the entries lead, is that of the scores before the games
-abbrev pub IsMarkedByScores : ℕ → List Entry → State → Type 0
-IsMarkedByScores match_length entries t =
-    (scores : List ℕ) × StandsWithScores match_length entries t scores
-    × ((t.crawford ≡ true) ↔ IsCrawfordGame match_length scores)
+abbrev pub IsMarkedByScores : Terms → List Entry → State → Type 0
+IsMarkedByScores terms entries t =
+    (scores : List ℕ) × StandsWithScores terms entries t scores
+    × ((t.crawford ≡ true) ↔ IsCrawfordGame (match_length terms) scores)
 
 -- every Crawford mark is that of the scores before the games
 abbrev pub MarksCrawford : Type 0
-MarksCrawford = (match_length : ℕ) (entries : List Entry) (t : State) (scores : List ℕ)
-    → StandsWithScores match_length entries t scores → (t.crawford ≡ true) ↔ IsCrawfordGame match_length scores
+MarksCrawford = (terms : Terms) (entries : List Entry) (t : State) (scores : List ℕ)
+    → StandsWithScores terms entries t scores → (t.crawford ≡ true) ↔ IsCrawfordGame (match_length terms) scores
 
 -- what a `Record` keeps: where the entries stand, and beside each one the seat that made it, which is the one that
 -- acts after the entries before it
-pub record IsKept (match_length : ℕ) (entries : List Entry) (seats : List (Option Player)) (t : State) : Type 0 where
-  pub shortest : SHORTEST_MATCH ≤ match_length
-  pub longest : match_length ≤ LONGEST_MATCH
-  pub few : length entries ≤ MOST_ENTRIES
-  pub stands : StandsAt match_length entries t
-  pub marked : IsMarkedByScores match_length entries t
-  pub made : (i : ℕ) (seat : Option Player) → slice_get seats i ≡ Some seat → SeatAfter match_length (take i entries) seat
+pub record IsKept (terms : Terms) (entries : List Entry) (seats : List (Option Player)) (t : State) : Type 0 where
+  pub shortest : shortest_match ≤ match_length terms
+  pub longest : match_length terms ≤ longest_match
+  pub few : length entries ≤ most_entries
+  pub stands : StandsAt terms entries t
+  pub marked : IsMarkedByScores terms entries t
+  pub made : (i : ℕ) (seat : Option Player) → slice_get seats i ≡ Some seat → SeatAfter terms (take i entries) seat
 
 -- what contracts see of a `Record`: spare is its room for further entries
 pub record Log : Type 0 where
   pub id : ℕ
-  pub match_length : ℕ
+  pub terms : Terms
   pub entries : List Entry
   pub spare : ℕ
+
+-- the record of a match with no entry, and no room for one
+abbrev pub empty_log : ℕ → Terms → Log
+empty_log id terms = record { id = id; terms = terms; entries = []; spare = 0 }
 
 -- the element of a number, which counts from 1
 abbrev pub at_number : {X : Type 0} → List X → ℕ → Option X
@@ -87,7 +96,7 @@ at_number xs (suc i) = slice_get xs i
 
 -- the fault names the first test that fails; want of memory comes last, and only where no room is left
 abbrev pub IsRecordFault : EntryFault → Log → Entry → Type 0
-IsRecordFault fault.RecordFull r e = MOST_ENTRIES ≤ length r.entries
-IsRecordFault fault.Memory r e = (r.spare ≡ 0) × IsLegalRecord r.match_length (r.entries ++ e ∷ [])
+IsRecordFault fault.RecordFull r e = most_entries ≤ length r.entries
+IsRecordFault fault.Memory r e = (r.spare ≡ 0) × IsNext r.terms r.entries e
 IsRecordFault why r e =
-    (length r.entries < MOST_ENTRIES) × ((s : State) × StandsAt r.match_length r.entries s × IsEntryFault why s e)
+    (length r.entries < most_entries) × ((s : State) × StandsAt r.terms r.entries s × IsEntryFault why s e)

@@ -3,6 +3,9 @@
 /// The number of an entry in its match, from 1, or a count of entries, from 0.
 pub type Number = u16;
 
+/// What the players agree on before a match: today its length alone, in points, from 1 to 99.
+pub type Terms = u8;
+
 /// The most entries of a match.
 pub const MOST_ENTRIES: Number = 65535;
 

@@ -1,10 +1,11 @@
 //! The record of a match.
 ghost use Rattle.std.specs.Prelude.{◌≡◌, ◌≢◌, ◌≤◌, ◌<◌, ◌+◌, ◌-◌, ◌↔◌, ◌⊎◌, ◌++◌, ◌∷◌, [], length, take, IsOk, IfOk, OnOk, OnErr, IfErr, IsTrue, option_copied, vec_len, vec_capacity};
 ghost use Rattle.std.specs.List.{AllByRecursion};
+ghost use Rattle.bg_match.specs.Limits.{IsMatchLength, longest_match, most_entries, shortest_match};
 ghost use Rattle.bg_match.specs.Match.{at_number};
 
 use crate::{
-    Actor, Entry, EntryFault, LONGEST_MATCH, MOST_ENTRIES, Number, SHORTEST_MATCH, Standing,
+    Actor, Entry, EntryFault, LONGEST_MATCH, MOST_ENTRIES, Number, SHORTEST_MATCH, Standing, Terms,
 };
 use bg_board::Player;
 use std::alloc::{AllocError, Global};
@@ -32,7 +33,7 @@ struct Made {
 #[derive(Debug, Drop)]
 pub struct Record {
     id: u64,
-    length: u8,
+    terms: Terms,
     made: Vec<Made>,
     standing: Standing,
 }
@@ -43,29 +44,29 @@ impl Model for Record {
 
     ghost Value = { Log };
 
-    ghost view = { λ r. record { id = r.id; match_length = r.length; entries = map (λ m. m.entry) r.made.items; spare = vec_capacity r.made - vec_len r.made } };
+    ghost view = { λ r. record { id = r.id; terms = r.terms; entries = map (λ m. m.entry) r.made.items; spare = vec_capacity r.made - vec_len r.made } };
 
-    ghost invariant = { λ r. IsKept r.length (map (λ m. m.entry) r.made.items) (map (λ m. m.seat) r.made.items) r.standing };
+    ghost invariant = { λ r. IsKept r.terms (map (λ m. m.entry) r.made.items) (map (λ m. m.seat) r.made.items) r.standing };
 }
 
 impl Record {
     ghost use Rattle.bg_match.specs.Entry.{IsEntry};
-    ghost use Rattle.bg_match.specs.Match.{StandsAt, IsLegalRecord, ActsAfter, SeatAfter, IsMarkedByScores, IsRecordFault};
+    ghost use Rattle.bg_match.specs.Match.{StandsAt, IsLegalRecord, IsNext, empty_log, ActsAfter, SeatAfter, IsMarkedByScores, IsRecordFault};
 
     /// A match with no entry.
     ///
     /// # Errors
     /// `LengthOutOfRange` where the length is not from 1 to 99.
     pub fn new(alloc: Global, id: u64, length: u8) -> Result<Record, LengthFault>
-        ensures ok { IsOk result ↔ ((SHORTEST_MATCH ≤ length) × (length ≤ LONGEST_MATCH)) }
-        ensures value { IfOk result (λ r. r ≡ record { id = id; match_length = length; entries = []; spare = 0 }) }
+        ensures ok { IsOk result ↔ IsMatchLength length }
+        ensures value { IfOk result (λ r. r ≡ empty_log id length) }
     {
         if !(SHORTEST_MATCH..=LONGEST_MATCH).contains(&length) {
             return Err(LengthFault::LengthOutOfRange);
         }
         Ok(Record {
             id,
-            length,
+            terms: length,
             made: Vec::new(alloc),
             standing: Standing::start(length),
         })
@@ -74,7 +75,7 @@ impl Record {
     /// How many entries there are, which is the number of the last one.
     pub fn len(&self) -> Number
         ensures value { result ≡ length self.now.entries }
-        ensures legal { IsLegalRecord self.now.match_length self.now.entries }
+        ensures legal { IsLegalRecord self.now.terms self.now.entries }
         ensures in_range { AllByRecursion IsEntry self.now.entries }
     {
         self.made.len() as Number
@@ -98,7 +99,7 @@ impl Record {
     /// The player whose seat made the entry of this number, from 1. `None` for an entry of the referee, for 0 and above
     /// the number of entries.
     pub fn by(&self, number: Number) -> Option<Player>
-        ensures seat { 1 ≤ number → number ≤ length self.now.entries → SeatAfter self.now.match_length (take (number - 1) self.now.entries) result }
+        ensures seat { 1 ≤ number → number ≤ length self.now.entries → SeatAfter self.now.terms (take (number - 1) self.now.entries) result }
         ensures none { (number ≡ 0) ⊎ (length self.now.entries < number) → result ≡ None }
     {
         let made = made_at(&self.made, number)?;
@@ -114,25 +115,25 @@ impl Record {
 
     /// The length of the match in points, from 1 to 99.
     pub fn length(&self) -> u8
-        ensures value { result ≡ self.now.match_length }
-        ensures shortest { SHORTEST_MATCH ≤ result }
-        ensures longest { result ≤ LONGEST_MATCH }
+        ensures value { result ≡ self.now.terms }
+        ensures shortest { shortest_match ≤ result }
+        ensures longest { result ≤ longest_match }
     {
-        self.length
+        self.terms
     }
 
     /// Where the match stands after its entries.
     pub fn standing(&self) -> Standing
-        ensures stands { StandsAt self.now.match_length self.now.entries result }
-        ensures length { result.match_length ≡ self.now.match_length }
-        ensures crawford { IsMarkedByScores self.now.match_length self.now.entries result }
+        ensures stands { StandsAt self.now.terms self.now.entries result }
+        ensures length { result.terms ≡ self.now.terms }
+        ensures crawford { IsMarkedByScores self.now.terms self.now.entries result }
     {
         self.standing
     }
 
     /// Who acts next.
     pub fn actor(&self) -> Actor
-        ensures { ActsAfter self.now.match_length self.now.entries result }
+        ensures { ActsAfter self.now.terms self.now.entries result }
     {
         self.standing.actor()
     }
@@ -142,7 +143,7 @@ impl Record {
     /// # Errors
     /// `RecordFull` where there are 65535 entries, else as [`Standing::next`].
     pub fn check(&self, entry: &Entry) -> Result<(), EntryFault>
-        ensures ok { IsOk result ↔ IsLegalRecord self.now.match_length (self.now.entries ++ entry.now ∷ []) }
+        ensures ok { IsOk result ↔ IsNext self.now.terms self.now.entries entry.now }
         ensures fault { IfErr result (λ fault. IsRecordFault fault self.now entry.now) }
         ensures memory { result ≢ Err EntryFault.Memory }
     {
@@ -156,10 +157,10 @@ impl Record {
     /// `RecordFull` where there are 65535 entries, else as [`Standing::next`]; at last `Memory` where there is no room,
     /// and no memory for more.
     pub fn push(&mut self, entry: Entry) -> Result<(), EntryFault>
-        ensures ok { result ≢ Err EntryFault.Memory → (IsOk result ↔ IsLegalRecord self.old.match_length (self.old.entries ++ entry ∷ [])) }
+        ensures ok { result ≢ Err EntryFault.Memory → (IsOk result ↔ IsNext self.old.terms self.old.entries entry) }
         ensures appended { OnOk result (self.new ≡ record self.old { entries = self.old.entries ++ entry ∷ []; spare = self.new.spare }) }
         ensures spare { OnOk result (0 < self.old.spare → self.new.spare + 1 ≡ self.old.spare) }
-        ensures legal { OnOk result (IsLegalRecord self.new.match_length self.new.entries) }
+        ensures legal { OnOk result (IsLegalRecord self.new.terms self.new.entries) }
         ensures err { OnErr result (self.new ≡ self.old) }
         ensures fault { IfErr result (λ fault. IsRecordFault fault self.old entry) }
     {
@@ -202,7 +203,7 @@ impl Record {
         }
         Ok(Record {
             id: self.id,
-            length: self.length,
+            terms: self.terms,
             made,
             standing: self.standing,
         })
@@ -210,9 +211,9 @@ impl Record {
 
     /// Where the match would stand after an entry.
     fn after(&self, entry: &Entry) -> Result<Standing, EntryFault>
-        ensures ok { IsOk result ↔ IsLegalRecord self.now.match_length (self.now.entries ++ entry.now ∷ []) }
-        ensures after { IfOk result (λ after. (length self.now.entries < MOST_ENTRIES)
-            × StandsAt self.now.match_length (self.now.entries ++ entry.now ∷ []) after) }
+        ensures ok { IsOk result ↔ IsNext self.now.terms self.now.entries entry.now }
+        ensures after { IfOk result (λ after. (length self.now.entries < most_entries)
+            × StandsAt self.now.terms (self.now.entries ++ entry.now ∷ []) after) }
         ensures fault { IfErr result (λ fault. IsRecordFault fault self.now entry.now) }
         ensures memory { result ≢ Err EntryFault.Memory }
     {

@@ -1,6 +1,7 @@
 //! Where a match stands.
 ghost use Rattle.std.specs.Prelude.{◌≡◌, ◌≢◌, ◌≤◌, ◌*◌, ◌↔◌, IfOk, IfErr, MatchOption, IsSome, IfSome, IsTrue, IsOk};
 ghost use Rattle.std.specs.Int.{IsPowerOfTwo};
+ghost use Rattle.bg_match.specs.Limits.{longest_match, shortest_match};
 ghost use Rattle.bg_match.specs.State.{IsCubeOf, AreScoresOf};
 ghost use Rattle.bg_board.specs.Die.{pips};
 ghost use Rattle.bg_board.specs.Position.{opponent};
@@ -9,7 +10,7 @@ ghost use Rattle.bg_match.specs.Follows.{phase_back as back_phase, opener as ope
 use crate::limits::GREATEST_WIN;
 use crate::{
     Actor, Cube, Entry, EntryFault, GREATEST_CUBE, GREATEST_SCORE, LONGEST_MATCH, Level, NoDouble,
-    Phase, SHORTEST_MATCH, level_of,
+    Phase, SHORTEST_MATCH, Terms, level_of,
 };
 use bg_board::{Board, Die, Player};
 use bg_turns::{Dice, Turn, judge_turn};
@@ -19,7 +20,7 @@ use std::marker::Model;
 /// of O, whether that game is the Crawford game, and its number, from 1.
 #[derive(Clone, Copy, Debug, PartialEq, Eq)]
 pub struct Standing {
-    length: u8,
+    terms: Terms,
     game: u8,
     crawford: bool,
     board: Board,
@@ -33,11 +34,11 @@ impl Model for Standing {
 
     ghost Value = { State };
 
-    ghost view = { λ s. state_of s.length s.board s.phase s.cube s.score s.crawford s.game };
+    ghost view = { λ s. state_of s.terms s.board s.phase s.cube s.score s.crawford s.game };
 
-    ghost invariant = { λ s. IsState (state_of s.length s.board s.phase s.cube s.score s.crawford s.game) };
+    ghost invariant = { λ s. IsState (state_of s.terms s.board s.phase s.cube s.score s.crawford s.game) };
 
-    ghost inverse = { λ v. record { length = v.match_length; board = v.board; phase = v.phase; cube = v.cube; score = (v.x_score, v.o_score); crawford = v.crawford; game = v.game } };
+    ghost inverse = { λ v. record { terms = v.terms; board = v.board; phase = v.phase; cube = v.cube; score = (v.x_score, v.o_score); crawford = v.crawford; game = v.game } };
 }
 
 impl Standing {
@@ -49,12 +50,12 @@ impl Standing {
 
     /// Where a match of this length starts, which is from 1 to 99 points.
     pub fn start(length: u8) -> Standing
-        requires shortest { SHORTEST_MATCH ≤ length }
-        requires longest { length ≤ LONGEST_MATCH }
+        requires shortest { shortest_match ≤ length }
+        requires longest { length ≤ longest_match }
         ensures { result ≡ start_of length }
     {
         Standing {
-            length,
+            terms: length,
             board: Board::start(),
             phase: Phase::Opening,
             cube: Cube {
@@ -69,10 +70,10 @@ impl Standing {
 
     /// The length of the match in points, from 1 to 99.
     pub fn length(&self) -> u8
-        ensures value { result ≡ self.now.match_length }
+        ensures value { result ≡ self.now.terms }
         ensures standing { IsState self.now }
     {
-        self.length
+        self.terms
     }
 
     /// The board of the game that is played, or of the last game where the match is over.
@@ -151,7 +152,7 @@ impl Standing {
             return None;
         }
         Some(Standing {
-            length,
+            terms: length,
             board,
             phase,
             cube,
@@ -300,7 +301,7 @@ impl Standing {
             Player::X => score.0,
             Player::O => score.1,
         };
-        let length = u16::from(self.length);
+        let length = u16::from(self.terms);
         if reached >= length {
             return Standing {
                 phase: Phase::Over(winner),
@@ -310,7 +311,7 @@ impl Standing {
         }
         let greater = score.0.max(score.1);
         Standing {
-            length: self.length,
+            terms: self.terms,
             board: Board::start(),
             phase: Phase::Opening,
             cube: Cube {

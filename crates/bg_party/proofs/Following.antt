@@ -3,11 +3,12 @@ use Rattle.std.proofs.Common.{◌≡◌, ◌≢◌, ◌↔◌, ℕ, suc, ◌+◌
 use Rattle.std.specs.Prelude.{IsOk, IfErr}
 use Rattle.std.proofs.Math.Seq.{take-suc, split_at}
 use Rattle.std.proofs.lemmas.List.{take_all}
+use Rattle.bg_match.specs.Terms.{Terms}
 use Rattle.bg_match.specs.declared.entries.Entry.{Entry}
 use Rattle.bg_match.specs.declared.entries.EntryFault.{EntryFault}
 use Rattle.bg_match.specs.declared.entries.EntryFault.TheVariants as fault
 use Rattle.bg_match.specs.Follows.{Follows, CanFollow}
-use Rattle.bg_match.specs.Match.{Log, IsLegalRecord, IsRecordFault, StandsAt}
+use Rattle.bg_match.specs.Match.{Log, IsLegalRecord, IsRecordFault, StandsAt, IsNext}
 use Rattle.bg_match.specs.State.{State, start_of}
 use Rattle.bg_match.proofs.Legal.{legal_fronts}
 use Rattle.bg_match.proofs.Runs.{Leads-push, legal_follow}
@@ -34,41 +35,41 @@ rest_of entries new i x within is =
     ∙ sym (append_assoc (entries ++ take i new) (x ∷ []) (drop (suc i) new))
 
 -- an entry that follows leads on
-pub goes_on : (match_length : ℕ) (entries new : List Entry) (i : ℕ) (x : Entry) (s t : State) → i < length new → x ≡ get_or new i x
-    → StandsAt match_length (entries ++ take i new) s → Follows s x t → StandsAt match_length (entries ++ take (i + 1) new) t
-goes_on match_length entries new i x s t within is at follows =
-    subst (λ (l : List Entry). StandsAt match_length l t) (sym (more entries new i x within is))
-    (Leads-push (start_of match_length) (entries ++ take i new) x s t at follows)
+pub goes_on : (terms : Terms) (entries new : List Entry) (i : ℕ) (x : Entry) (s t : State) → i < length new → x ≡ get_or new i x
+    → StandsAt terms (entries ++ take i new) s → Follows s x t → StandsAt terms (entries ++ take (i + 1) new) t
+goes_on terms entries new i x s t within is at follows =
+    subst (λ (l : List Entry). StandsAt terms l t) (sym (more entries new i x within is))
+    (Leads-push (start_of terms) (entries ++ take i new) x s t at follows)
 
 -- an entry that does not follow is the first such one
-pub stops : (match_length len : ℕ) (entries new : List Entry) (i : ℕ) (x : Entry) (s : State) → i < length new → x ≡ get_or new i x
+pub stops : (terms len : ℕ) (entries new : List Entry) (i : ℕ) (x : Entry) (s : State) → i < length new → x ≡ get_or new i x
     → len ≡ length entries → length entries + length new ≤ 65535 → length (take i new) ≡ i
-    → StandsAt match_length (entries ++ take i new) s → (CanFollow s x → ⊥)
-    → IsFirstIllegal match_length (entries ++ new) (len + i + 1)
-stops match_length len entries new i x s within is many few taken at stuck =
+    → StandsAt terms (entries ++ take i new) s → (CanFollow s x → ⊥)
+    → IsFirstIllegal terms (entries ++ new) (len + i + 1)
+stops terms len entries new i x s within is many few taken at stuck =
     let front = entries ++ take i new in
     let size = length-append entries (take i new) in
     let room : length front < 65535 = omega arith in
-    is_first_illegal match_length (len + i + 1) front (drop (suc i) new) (entries ++ new) x (omega arith) (rest_of entries new i x within is)
-    (omega arith, (s, at)) (λ legal. stuck ((legal_follow match_length front x s at room).0 legal))
+    is_first_illegal terms (len + i + 1) front (drop (suc i) new) (entries ++ new) x (omega arith) (rest_of entries new i x within is)
+    (omega arith, (s, at)) (λ legal. stuck ((legal_follow terms front x s at room).0 legal))
 
 -- all of them follow
-pub all_follow : (match_length : ℕ) (entries new : List Entry) (i : ℕ) (s : State) → length new ≤ i
-    → length entries + length new ≤ 65535 → StandsAt match_length (entries ++ take i new) s → IsLegalRecord match_length (entries ++ new)
-all_follow match_length entries new i s all few at =
-    (omega (arith, length-append entries new), (s, subst (λ (l : List Entry). StandsAt match_length (entries ++ l) s) (take_all i new all) at))
+pub all_follow : (terms : Terms) (entries new : List Entry) (i : ℕ) (s : State) → length new ≤ i
+    → length entries + length new ≤ 65535 → StandsAt terms (entries ++ take i new) s → IsLegalRecord terms (entries ++ new)
+all_follow terms entries new i s all few at =
+    (omega (arith, length-append entries new), (s, subst (λ (l : List Entry). StandsAt terms (entries ++ l) s) (take_all i new all) at))
 
 -- up to each of them the record is legal, where it is with all of them
-pub legal_so_far : (match_length : ℕ) (entries new : List Entry) (i : ℕ) (x : Entry) → i < length new → x ≡ get_or new i x
-    → IsLegalRecord match_length (entries ++ new) → IsLegalRecord match_length ((entries ++ take i new) ++ x ∷ [])
-legal_so_far match_length entries new i x within is legal =
-    legal_fronts match_length ((entries ++ take i new) ++ x ∷ []) (drop (suc i) new)
-    (subst (IsLegalRecord match_length) (rest_of entries new i x within is) legal)
+pub legal_so_far : (terms : Terms) (entries new : List Entry) (i : ℕ) (x : Entry) → i < length new → x ≡ get_or new i x
+    → IsLegalRecord terms (entries ++ new) → IsLegalRecord terms ((entries ++ take i new) ++ x ∷ [])
+legal_so_far terms entries new i x within is legal =
+    legal_fronts terms ((entries ++ take i new) ++ x ∷ []) (drop (suc i) new)
+    (subst (IsLegalRecord terms) (rest_of entries new i x within is) legal)
 
 -- where there is room, an entry that follows is appended
 pub appended : {A : Type 0} (r : Result A EntryFault) (log : Log) (e : Entry) → IfErr r (λ why. IsRecordFault why log e) → 0 < log.spare
-    → (r ≢ Err fault.Memory → (IsOk r) ↔ IsLegalRecord log.match_length (log.entries ++ e ∷ []))
-    → IsLegalRecord log.match_length (log.entries ++ e ∷ []) → IsOk r
+    → (r ≢ Err fault.Memory → (IsOk r) ↔ IsNext log.terms log.entries e)
+    → IsNext log.terms log.entries e → IsOk r
 appended (Ok x) log e why room ok legal = refl
 appended (Err fault.RecordFull) log e why room ok legal = (ok (λ h. absurd (cc h))).1 legal
 appended (Err fault.Memory) log e why room ok legal = absurd (omega (arith, why.0))

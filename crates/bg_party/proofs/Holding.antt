@@ -73,7 +73,7 @@ grown_holds entries start list low agrees joins i e at = elim (nat_order (start 
       ∙ get_drop (length entries + 1 - start) list i j (omega arith) ∙ at
 ]
 
-keeps_none : (old : Log) (p : Packet) (l : Learned) (new : Log) → (Continues old.id old.match_length old.entries p → ⊥) → Keeps old p l new
+keeps_none : (old : Log) (p : Packet) (l : Learned) (new : Log) → (Continues old.id old.terms old.entries p → ⊥) → Keeps old p l new
 keeps_none old p learned.OtherMatch new h = λ k. absurd (h k)
 keeps_none old p learned.Nothing new h = λ k. absurd (h k)
 keeps_none old p (learned.Conflict n) new h = λ k. absurd (h k)
@@ -94,7 +94,7 @@ keeps_entries old id start list (learned.Conflict n) new low h after =
 keeps_entries old id start list learned.Gap new low h after = λ k. absurd (omega (arith, h.1.1, k.1.1))
 keeps_entries old id start list (learned.Illegal n) new low h after =
     λ k. let all = old.entries ++ new_entries old.entries start list in
-    absurd (h.1.1.illegal (legal_fronts old.match_length (take n all) (drop n all) (subst (IsLegalRecord old.match_length) (sym (take-append-drop n all)) k.2)))
+    absurd (h.1.1.illegal (legal_fronts old.terms (take n all) (drop n all) (subst (IsLegalRecord old.terms) (sym (take-append-drop n all)) k.2)))
 keeps_entries old id start list learned.Memory new low h after = tt
 keeps_entries old id start list (learned.Grew n) new low h after =
     λ k. subst (λ (log : Log). IsRun log.entries start list) (sym after) (grown_holds old.entries start list low k.1.0 k.1.1)

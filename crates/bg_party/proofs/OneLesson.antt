@@ -67,7 +67,7 @@ none_follow : (m : ℕ) (entries new : List Entry) → IsLegalRecord m entries �
 none_follow m entries new legal none =
     subst (λ (l : List Entry). IsLegalRecord m (entries ++ l)) (sym none) (subst (IsLegalRecord m) (sym (append-nil entries)) legal)
 
-module _ (log : Log) (start : ℕ) (list : List Entry) (legal : IsLegalRecord log.match_length log.entries) where
+module _ (log : Log) (start : ℕ) (list : List Entry) (legal : IsLegalRecord log.terms log.entries) where
   -- the answers are tried in this order, so one of them excludes the later ones
   apart : (a b : Learned) → Teaches log start list a → Teaches log start list b → a ≢ learned.Memory → b ≢ learned.Memory → a ≡ b
   apart learned.OtherMatch b h k x y = absurd h
@@ -88,21 +88,21 @@ module _ (log : Log) (start : ℕ) (list : List Entry) (legal : IsLegalRecord lo
   apart learned.Nothing learned.Gap h k x y = absurd (omega (arith, k.1, h.0.1))
   apart learned.Nothing learned.Nothing h k x y = refl
   apart learned.Nothing (learned.Illegal m) h k x y =
-      absurd (not_all log.match_length m (log.entries ++ new_entries log.entries start list) k.1 (none_follow log.match_length log.entries (new_entries log.entries start list) legal h.1))
+      absurd (not_all log.terms m (log.entries ++ new_entries log.entries start list) k.1 (none_follow log.terms log.entries (new_entries log.entries start list) legal h.1))
   apart learned.Nothing (learned.Grew m) h k x y = absurd (k.0.1 h.1)
   apart (learned.Illegal n) (learned.Conflict m) h k x y = absurd (no_conflict log.entries start m list k h.0.0)
   apart (learned.Illegal n) learned.Gap h k x y = absurd (omega (arith, k.1, h.0.1))
   apart (learned.Illegal n) learned.Nothing h k x y =
-      absurd (not_all log.match_length n (log.entries ++ new_entries log.entries start list) h.1 (none_follow log.match_length log.entries (new_entries log.entries start list) legal k.1))
+      absurd (not_all log.terms n (log.entries ++ new_entries log.entries start list) h.1 (none_follow log.terms log.entries (new_entries log.entries start list) legal k.1))
   apart (learned.Illegal n) (learned.Illegal m) h k x y =
-      ap learned.Illegal (one_illegal log.match_length n m (log.entries ++ new_entries log.entries start list) h.1 k.1)
+      ap learned.Illegal (one_illegal log.terms n m (log.entries ++ new_entries log.entries start list) h.1 k.1)
   apart (learned.Illegal n) (learned.Grew m) h k x y =
-      absurd (not_all log.match_length n (log.entries ++ new_entries log.entries start list) h.1 k.0.2)
+      absurd (not_all log.terms n (log.entries ++ new_entries log.entries start list) h.1 k.0.2)
   apart (learned.Grew n) (learned.Conflict m) h k x y = absurd (no_conflict log.entries start m list k h.0.0.0)
   apart (learned.Grew n) learned.Gap h k x y = absurd (omega (arith, k.1, h.0.0.1))
   apart (learned.Grew n) learned.Nothing h k x y = absurd (h.0.1 k.1)
   apart (learned.Grew n) (learned.Illegal m) h k x y =
-      absurd (not_all log.match_length m (log.entries ++ new_entries log.entries start list) k.1 h.0.2)
+      absurd (not_all log.terms m (log.entries ++ new_entries log.entries start list) k.1 h.0.2)
   apart (learned.Grew n) (learned.Grew m) h k x y = ap learned.Grew (h.1 ∙ sym k.1)
 
 -- of another match, or of this one

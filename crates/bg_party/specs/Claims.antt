@@ -1,5 +1,6 @@
 -- What a seat claims, and what it sends.
 use Rattle.std.specs.Prelude.{◌≡◌, ℕ, ◌+◌, ◌<◌, ◌≤◌, false, nat_lt, Option, Some, None, List, [], ◌∷◌, ◌++◌, length, Result, Ok, Err, if◌then◌else◌, ◌&&◌}
+use Rattle.bg_match.specs.Terms.{Terms}
 use Rattle.bg_board.specs.declared.dice.Die.TheVariants.{One}
 use Rattle.bg_board.specs.declared.players.Player.{Player}
 use Rattle.bg_turns.specs.declared.throws.Dice.{Dice}
@@ -7,7 +8,7 @@ use Rattle.bg_match.specs.declared.actions.Action.{Action}
 use Rattle.bg_match.specs.declared.entries.Entry.{Entry}
 use Rattle.bg_match.specs.declared.phases.Actor.TheVariants.{Seat}
 use Rattle.bg_match.specs.Answers.{Answers}
-use Rattle.bg_match.specs.Match.{Log, ActsAfter, IsLegalRecord, IsRecordFault}
+use Rattle.bg_match.specs.Match.{Log, ActsAfter, IsLegalRecord, IsRecordFault, IsNext}
 use Rattle.bg_wire.specs.Parties.{party_of}
 use Rattle.bg_wire.specs.declared.packets.Packet.{Packet}
 use Rattle.bg_wire.specs.declared.packets.Packet.TheVariants as packet
@@ -25,25 +26,25 @@ abbrev pub trial_dice : Dice
 trial_dice = record { first = One; second = One }
 
 -- the seat of the player acts after the entries, its last claim is answered by them, and the entry of the action follows
-abbrev pub CanClaim : ℕ → Player → List Entry → Option (ℕ × Action) → Action → Type 0
-CanClaim match_length player entries claim action =
-    ActsAfter match_length entries (Seat player) × (claim_number claim ≤ length entries)
-    × ((e : Entry) × Answers action (Some trial_dice) e × IsLegalRecord match_length (entries ++ e ∷ []))
+abbrev pub CanClaim : Terms → Player → List Entry → Option (ℕ × Action) → Action → Type 0
+CanClaim terms player entries claim action =
+    ActsAfter terms entries (Seat player) × (claim_number claim ≤ length entries)
+    × ((e : Entry) × Answers action (Some trial_dice) e × IsNext terms entries e)
 
 -- the fault names the first test that fails
 abbrev pub IsChooseFault : ChooseFault → SeatView → Action → Type 0
-IsChooseFault fault.NotYourTurn s action = ActsAfter s.log.match_length s.log.entries (Seat s.player) → ⊥
+IsChooseFault fault.NotYourTurn s action = ActsAfter s.log.terms s.log.entries (Seat s.player) → ⊥
 IsChooseFault fault.AlreadyClaimed s action =
-    ActsAfter s.log.match_length s.log.entries (Seat s.player) × (length s.log.entries < claim_number s.claim)
+    ActsAfter s.log.terms s.log.entries (Seat s.player) × (length s.log.entries < claim_number s.claim)
 IsChooseFault (fault.Illegal why) s action =
-    ActsAfter s.log.match_length s.log.entries (Seat s.player) × (claim_number s.claim ≤ length s.log.entries)
+    ActsAfter s.log.terms s.log.entries (Seat s.player) × (claim_number s.claim ≤ length s.log.entries)
     × ((e : Entry) × Answers action (Some trial_dice) e
-    × (IsLegalRecord s.log.match_length (s.log.entries ++ e ∷ []) → ⊥) × IsRecordFault why s.log e)
+    × (IsNext s.log.terms s.log.entries e → ⊥) × IsRecordFault why s.log e)
 
 -- the action can be claimed, as the next entry; or why not
 abbrev pub MayClaim : SeatView → Action → Result ℕ ChooseFault → Type 0
 MayClaim s action (Ok n) =
-    CanClaim s.log.match_length s.player s.log.entries s.claim action × (n ≡ length s.log.entries + 1)
+    CanClaim s.log.terms s.player s.log.entries s.claim action × (n ≡ length s.log.entries + 1)
 MayClaim s action (Err why) = IsChooseFault why s action
 
 -- the action is claimed as the next entry, and not saved yet; or nothing changes

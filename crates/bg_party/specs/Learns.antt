@@ -1,5 +1,6 @@
 -- What a packet teaches the holder of a record.
 use Rattle.std.specs.Prelude.{◌≡◌, ◌≢◌, ℕ, ◌+◌, ◌-◌, ◌<◌, ◌≤◌, Some, List, [], ◌++◌, length, take, drop, slice_get}
+use Rattle.bg_match.specs.Terms.{Terms}
 use Rattle.bg_match.specs.declared.entries.Entry.{Entry}
 use Rattle.bg_match.specs.Match.{Log, IsLegalRecord, at_number}
 use Rattle.bg_wire.specs.PacketText.{id_of}
@@ -30,10 +31,10 @@ abbrev pub Joins : List Entry → ℕ → List Entry → Type 0
 Joins entries start list = Agrees entries start list × (start ≤ length entries + 1)
 
 -- the list joins what is held, and its new entries, of which there are some, follow
-abbrev pub Extends : ℕ → List Entry → ℕ → List Entry → Type 0
-Extends match_length entries start list =
+abbrev pub Extends : Terms → List Entry → ℕ → List Entry → Type 0
+Extends terms entries start list =
     Joins entries start list × (new_entries entries start list ≢ [])
-    × IsLegalRecord match_length (entries ++ new_entries entries start list)
+    × IsLegalRecord terms (entries ++ new_entries entries start list)
 
 -- what a list of entries teaches: a case for each answer. Want of memory comes only where the room is too small
 abbrev pub Teaches : Log → ℕ → List Entry → Learned → Type 0
@@ -43,11 +44,11 @@ Teaches log start list learned.Gap = Agrees log.entries start list × (length lo
 Teaches log start list learned.Nothing = Joins log.entries start list × (new_entries log.entries start list ≡ [])
 Teaches log start list (learned.Illegal n) =
     Joins log.entries start list
-    × IsFirstIllegal log.match_length (log.entries ++ new_entries log.entries start list) n
+    × IsFirstIllegal log.terms (log.entries ++ new_entries log.entries start list) n
 Teaches log start list learned.Memory =
-    Extends log.match_length log.entries start list × (log.spare < length (new_entries log.entries start list))
+    Extends log.terms log.entries start list × (log.spare < length (new_entries log.entries start list))
 Teaches log start list (learned.Grew k) =
-    Extends log.match_length log.entries start list × (k ≡ length (new_entries log.entries start list))
+    Extends log.terms log.entries start list × (k ≡ length (new_entries log.entries start list))
 
 -- what a packet teaches; only entries of this match do
 abbrev pub Learns : Log → Packet → Learned → Type 0
@@ -68,10 +69,10 @@ IsAfter old p (learned.Grew k) new = new ≡ grown old p new.spare
 IsAfter old p _ new = new ≡ old
 
 -- entries of this match that join what is held, and follow where they are new
-abbrev pub Continues : ℕ → ℕ → List Entry → Packet → Type 0
-Continues match_id match_length entries (packet.Entries id start list) =
-    (id ≡ match_id) × Joins entries start list × IsLegalRecord match_length (entries ++ new_entries entries start list)
-Continues match_id match_length entries _ = ⊥
+abbrev pub Continues : ℕ → Terms → List Entry → Packet → Type 0
+Continues match_id terms entries (packet.Entries id start list) =
+    (id ≡ match_id) × Joins entries start list × IsLegalRecord terms (entries ++ new_entries entries start list)
+Continues match_id terms entries _ = ⊥
 
 -- all entries of the packet are held under their own numbers
 abbrev pub Holds : List Entry → Packet → Type 0
@@ -81,9 +82,9 @@ Holds entries _ = ⊥
 -- entries that continue the record are held afterwards, want of memory aside
 abbrev pub Keeps : Log → Packet → Learned → Log → Type 0
 Keeps old p learned.Memory new = Unit {0}
-Keeps old p l new = Continues old.id old.match_length old.entries p → Holds new.entries p
+Keeps old p l new = Continues old.id old.terms old.entries p → Holds new.entries p
 
 -- a packet teaches the holder of a record one thing, want of memory aside
 abbrev pub TeachesOneThing : Type 0
-TeachesOneThing = (log : Log) (p : Packet) (a b : Learned) → IsLegalRecord log.match_length log.entries
+TeachesOneThing = (log : Log) (p : Packet) (a b : Learned) → IsLegalRecord log.terms log.entries
     → Learns log p a → Learns log p b → a ≢ learned.Memory → b ≢ learned.Memory → a ≡ b

@@ -1,9 +1,9 @@
 //! What seats and watchers have in common: a record that grows by what the referee tells.
 ghost use Rattle.std.specs.Prelude.{◌≡◌, ◌≤◌, ◌<◌, ◌+◌, ◌↔◌, [], ◌++◌, length, IsOk, IfOk, MatchOption};
 ghost use Rattle.std.specs.List.{AllByRecursion};
-ghost use Rattle.bg_match.specs.declared.limits.TheConstants.{SHORTEST_MATCH, LONGEST_MATCH};
+ghost use Rattle.bg_match.specs.Limits.{shortest_match, longest_match, IsMatchLength};
 ghost use Rattle.bg_match.specs.Entry.{IsEntry};
-ghost use Rattle.bg_match.specs.Match.{IsLegalRecord};
+ghost use Rattle.bg_match.specs.Match.{IsLegalRecord, empty_log};
 ghost use Rattle.bg_wire.specs.PacketText.{IsPacket};
 ghost use Rattle.bg_wire.specs.SavedText.{IsFirstIllegal};
 ghost use Rattle.bg_party.specs.Learns.{Learns, Teaches, IsAfter, IsConflict, Agrees, new_entries};
@@ -23,9 +23,9 @@ pub(crate) struct Follower {
 impl Follower {
     /// Of a match with no entry.
     pub(crate) fn fresh(alloc: Global, id: u64, length: u8) -> Result<Follower, LengthFault>
-        ensures ok { IsOk result ↔ ((SHORTEST_MATCH ≤ length) × (length ≤ LONGEST_MATCH)) }
-        ensures value { IfOk result (λ f. f.log ≡ record { id = id; match_length = length; entries = []; spare = 0 }) }
-        ensures legal { IfOk result (λ f. IsLegalRecord (f.log).match_length (f.log).entries) }
+        ensures ok { IsOk result ↔ IsMatchLength length }
+        ensures value { IfOk result (λ f. f.log ≡ empty_log id length) }
+        ensures legal { IfOk result (λ f. IsLegalRecord (f.log).terms (f.log).entries) }
     {
         Ok(Follower {
             log: Record::new(alloc, id, length)?,
@@ -110,8 +110,8 @@ impl Follower {
     fn first_illegal(&self, new: &[Entry]) -> Option<Number>
         requires few { length self.now.log.entries + length new.now ≤ 65535 }
         ensures { MatchOption result
-            (IsLegalRecord self.now.log.match_length (self.now.log.entries ++ new.now))
-            (λ n. IsFirstIllegal self.now.log.match_length (self.now.log.entries ++ new.now) n) }
+            (IsLegalRecord self.now.log.terms (self.now.log.entries ++ new.now))
+            (λ n. IsFirstIllegal self.now.log.terms (self.now.log.entries ++ new.now) n) }
     {
         let mut standing = self.log.standing();
         for (index, entry) in new.iter().enumerate() {
@@ -125,7 +125,7 @@ impl Follower {
 
     /// Appends entries that follow, for which there is room.
     fn append(&mut self, new: &[Entry])
-        requires legal { IsLegalRecord self.old.log.match_length (self.old.log.entries ++ new.now) }
+        requires legal { IsLegalRecord self.old.log.terms (self.old.log.entries ++ new.now) }
         requires room { length new.now ≤ self.old.log.spare }
         ensures { self.new.log ≡ record (self.old.log) { entries = self.old.log.entries ++ new.now; spare = self.new.log.spare } }
     {

@@ -1,6 +1,7 @@
 //! The seat of a player.
 ghost use Rattle.std.specs.Prelude.{◌≡◌, ◌≤◌, ◌<◌, ◌+◌, ◌↔◌, true, false, [], Some, None, option_copied, length, IsOk, IfOk};
-ghost use Rattle.bg_match.specs.declared.limits.TheConstants.{SHORTEST_MATCH, LONGEST_MATCH};
+ghost use Rattle.bg_match.specs.Match.{empty_log};
+ghost use Rattle.bg_match.specs.Limits.{shortest_match, longest_match, IsMatchLength};
 ghost use Rattle.bg_wire.specs.PacketText.{IsPacket};
 ghost use Rattle.bg_wire.specs.Parties.{party_of};
 ghost use Rattle.bg_wire.specs.Saves.{IsNextSave};
@@ -55,8 +56,8 @@ impl Seat {
     /// # Errors
     /// `LengthOutOfRange` where the length is not from 1 to 99.
     pub fn fresh(alloc: Global, player: Player, id: u64, length: u8) -> Result<Seat, LengthFault>
-        ensures ok { IsOk result ↔ ((SHORTEST_MATCH ≤ length) × (length ≤ LONGEST_MATCH)) }
-        ensures value { IfOk result (λ s. s ≡ record { player = player; log = record { id = id; match_length = length; entries = []; spare = 0 }; claim = None; claim_saved = true; next_save = 1 }) }
+        ensures ok { IsOk result ↔ IsMatchLength length }
+        ensures value { IfOk result (λ s. s ≡ record { player = player; log = empty_log id length; claim = None; claim_saved = true; next_save = 1 }) }
     {
         Ok(Seat {
             alloc,
@@ -112,7 +113,7 @@ impl Seat {
         // What is claimed, or why nothing is.
         ensures chooses { Chooses self.old action result self.new }
         // What can be claimed is claimed.
-        ensures can { IsOk result ↔ CanClaim self.old.log.match_length self.old.player self.old.log.entries self.old.claim action }
+        ensures can { IsOk result ↔ CanClaim self.old.log.terms self.old.player self.old.log.entries self.old.claim action }
     {
         let number = self.next_claim(&action)?;
         self.claim = Some((number, action));

@@ -1,6 +1,8 @@
 //! A party that only watches.
 ghost use Rattle.std.specs.Prelude.{◌≡◌, ◌≤◌, ◌<◌, ◌↔◌, [], Some, length, IsOk, IfOk};
-ghost use Rattle.bg_match.specs.declared.limits.TheConstants.{SHORTEST_MATCH, LONGEST_MATCH};
+ghost use Rattle.bg_wire.specs.Codes.{first_watcher};
+ghost use Rattle.bg_match.specs.Match.{empty_log};
+ghost use Rattle.bg_match.specs.Limits.{shortest_match, longest_match, IsMatchLength};
 ghost use Rattle.bg_wire.specs.PacketText.{IsPacket};
 
 use crate::Learned;
@@ -39,9 +41,9 @@ impl Watcher {
     /// # Errors
     /// `LengthOutOfRange` where the length is not from 1 to 99.
     pub fn fresh(alloc: Global, party: u8, id: u64, length: u8) -> Result<Watcher, LengthFault>
-        requires { FIRST_WATCHER ≤ party }
-        ensures ok { IsOk result ↔ ((SHORTEST_MATCH ≤ length) × (length ≤ LONGEST_MATCH)) }
-        ensures value { IfOk result (λ w. w ≡ record { party = party; log = record { id = id; match_length = length; entries = []; spare = 0 } }) }
+        requires { first_watcher ≤ party }
+        ensures ok { IsOk result ↔ IsMatchLength length }
+        ensures value { IfOk result (λ w. w ≡ record { party = party; log = empty_log id length }) }
     {
         Ok(Watcher {
             party,

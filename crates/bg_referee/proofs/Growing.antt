@@ -20,7 +20,7 @@ Appends-log log new saved next_save e room grown = record {
 -- a game is opened where the entry by which the record has grown is the opening with the dice of the word
 pub opened : (log new : Log) (saved next_save word n : ℕ) (dice : Dice) (e : Entry)
     → new ≡ record log { entries = log.entries ++ e ∷ []; spare = new.spare } → (0 < log.spare → new.spare + 1 ≡ log.spare)
-    → IsLegalRecord new.match_length new.entries → n ≡ length new.entries → dice_of word ≡ Some dice
+    → IsLegalRecord new.terms new.entries → n ≡ length new.entries → dice_of word ≡ Some dice
     → e ≡ Opening dice.first dice.second
     → Dues (record { log = log; saved = saved; next_save = next_save }) word (Ok n) (record { log = new; saved = saved; next_save = next_save })
 opened log new saved next_save word n dice e grown room legal many thrown same = (

@@ -13,7 +13,7 @@ pub record RefereeView : Type 0 where
 
 -- what every referee keeps; after the last save there is no number for a next one
 pub record IsReferee (r : RefereeView) : Type 0 where
-  pub legal : IsLegalRecord r.log.match_length r.log.entries
+  pub legal : IsLegalRecord r.log.terms r.log.entries
   pub saved : r.saved ≤ length r.log.entries
   pub first_save : least_save ≤ r.next_save
   pub last_save : r.next_save ≤ greatest_save + 1

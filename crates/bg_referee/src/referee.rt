@@ -1,9 +1,10 @@
 //! The referee's core.
 ghost use Rattle.std.specs.Prelude.{◌≡◌, ◌≤◌, ◌<◌, ◌+◌, ◌↔◌, [], ℕ, List, length, IsOk, IfOk};
 ghost use Rattle.std.specs.List.{AllByRecursion};
+ghost use Rattle.bg_match.specs.Match.{empty_log};
 ghost use Rattle.bg_match.specs.Entry.{IsEntry};
 ghost use Rattle.bg_match.specs.declared.entries.Entry.{Entry};
-ghost use Rattle.bg_match.specs.declared.limits.TheConstants.{SHORTEST_MATCH, LONGEST_MATCH};
+ghost use Rattle.bg_match.specs.Limits.{shortest_match, longest_match, IsMatchLength};
 ghost use Rattle.bg_wire.specs.PacketText.{IsPacket};
 ghost use Rattle.bg_wire.specs.Saves.{IsNextSave};
 ghost use Rattle.bg_wire.specs.SavedText.{parts_with};
@@ -55,8 +56,8 @@ impl Referee {
     /// # Errors
     /// `LengthOutOfRange` where the length is not from 1 to 99.
     pub fn fresh(alloc: Global, id: u64, length: u8) -> Result<Referee, LengthFault>
-        ensures ok { IsOk result ↔ ((SHORTEST_MATCH ≤ length) × (length ≤ LONGEST_MATCH)) }
-        ensures value { IfOk result (λ r. r ≡ record { log = record { id = id; match_length = length; entries = []; spare = 0 }; saved = 0; next_save = 1 }) }
+        ensures ok { IsOk result ↔ IsMatchLength length }
+        ensures value { IfOk result (λ r. r ≡ record { log = empty_log id length; saved = 0; next_save = 1 }) }
     {
         Ok(Referee {
             alloc,

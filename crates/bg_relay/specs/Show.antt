@@ -33,7 +33,7 @@ claim_part (Some claim) = codes " claim " ++ decimal claim.0
 abbrev pub match_part : SavedParts → List ℕ
 match_part saved =
     codes "party " ++ decimal saved.party ++ codes " match " ++ decimal saved.id
-    ++ codes " length " ++ decimal saved.match_length
+    ++ codes " length " ++ decimal saved.terms
 
 abbrev pub save_part : SavedParts → List ℕ
 save_part saved =
@@ -58,7 +58,7 @@ newer_of (Err why) (Err other) = None
 abbrev pub IsBoardOf : Option SavedParts → List ℕ → Type 0
 IsBoardOf None text = text ≡ []
 IsBoardOf (Some saved) text =
-    (t : State) × StandsAt saved.match_length saved.entries t × (text ≡ board_text t)
+    (t : State) × StandsAt saved.terms saved.entries t × (text ≡ board_text t)
 
 -- what `show` prints of two files, and whether one of them holds a saved text
 pub record IsShown (file0 file1 text : List ℕ) (loads : Bool) : Type 0 where

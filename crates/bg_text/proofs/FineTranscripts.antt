@@ -20,7 +20,7 @@ use Rattle.bg_match.specs.declared.entries.Entry.{Entry}
 use Rattle.bg_match.specs.declared.entries.Entry.TheVariants as entry
 use Rattle.bg_match.specs.declared.levels.Level.{Level}
 use Rattle.bg_match.specs.declared.levels.Level.TheVariants.{Normal, Gammon, Backgammon}
-use Rattle.bg_match.specs.declared.limits.TheConstants.{MOST_ENTRIES, SHORTEST_MATCH, LONGEST_MATCH}
+use Rattle.bg_match.specs.Limits.{most_entries, shortest_match, longest_match}
 use Rattle.bg_match.proofs.Legal.{Follows_in_range, one_standing}
 use Rattle.bg_text.specs.BoardText.{board_text, line_text, lines_text}
 use Rattle.bg_text.specs.EntryText.{letter, level_word, step_text, source_text, target_text, entry_words, entry_text}
@@ -30,7 +30,7 @@ use Rattle.bg_text.specs.Transcript.{AreLinesOf, length_line}
 use Rattle.bg_text.specs.Judging.{lines_of, fine_line, IsLengthFault, StandsAfter, IsVerdict, IsJudged, IsAnswerTo, IsJudgement, TranscriptsAreFine}
 use Rattle.bg_text.specs.declared.faults.LineFault.{LineFault}
 use Rattle.bg_text.specs.declared.faults.LineFault.TheVariants as fault
-use Rattle.bg_text.specs.declared.inputs.TheConstants.{MOST_BYTES}
+use Rattle.bg_text.specs.Limits.{most_bytes}
 use Rattle.bg_text.specs.declared.verdicts.Verdict.{Verdict}
 use Rattle.bg_text.specs.declared.verdicts.Verdict.TheVariants.{Fine, Refused, TooLong}
 use Rattle.bg_text.proofs.EntryTexts.{pips_small}
@@ -195,7 +195,7 @@ length_line_short n below =
     )
 
 -- a length line is not at fault
-pub no_length_fault : (n : ℕ) (lines : List (List ℕ)) (why : LineFault) → SHORTEST_MATCH ≤ n → n ≤ LONGEST_MATCH → IsLengthFault why (length_line n ∷ lines) → ⊥
+pub no_length_fault : (n : ℕ) (lines : List (List ℕ)) (why : LineFault) → shortest_match ≤ n → n ≤ longest_match → IsLengthFault why (length_line n ∷ lines) → ⊥
 no_length_fault n lines fault.NotALengthLine low high h =
     let number = numeral_decimal n (omega arith) in
     h (decimal n) refl (record { decimal_digits = number.digits; some = number.some; three = omega (arith, number.two) })
@@ -206,10 +206,10 @@ no_length_fault n lines (fault.Text why) low high h = h
 no_length_fault n lines fault.WrongPlayer low high h = h
 no_length_fault n lines (fault.Entry why) low high h = h
 
-pub one_length : (m n : ℕ) → m ≤ LONGEST_MATCH → n ≤ LONGEST_MATCH → length_line m ≡ length_line n → m ≡ n
+pub one_length : (m n : ℕ) → m ≤ longest_match → n ≤ longest_match → length_line m ≡ length_line n → m ≡ n
 one_length m n low high same = decimal_injective m n (omega arith) (omega arith) (ap (drop 7) same)
 
-module _ (n : ℕ) (entries : List Entry) (lines : List (List ℕ)) (t : State) (few : length entries ≤ MOST_ENTRIES) (each : AreLinesOf (start_of n) entries lines t) where
+module _ (n : ℕ) (entries : List Entry) (lines : List (List ℕ)) (t : State) (few : length entries ≤ most_entries) (each : AreLinesOf (start_of n) entries lines t) where
   -- all lines are the longest part
   all_lines : (text : List ℕ) (verdict : Verdict) (judged : IsJudged n lines text verdict) → judged.count ≡ length lines
   all_lines text verdict judged =
@@ -239,7 +239,7 @@ module _ (n : ℕ) (entries : List Entry) (lines : List (List ℕ)) (t : State) 
       let named = fine_verdict verdict judged.line judged.count judged.state (all_lines text verdict judged) judged.named in
       (named.0, judged.printed ∙ (ap (λ s. board_text s ++ line_text judged.line) (all_stand text verdict judged) ∙ ap (λ line. board_text t ++ line_text line) named.1))
 
-  answered_fine : (text : List ℕ) (verdict : Verdict) → SHORTEST_MATCH ≤ n → n ≤ LONGEST_MATCH → IsAnswerTo (length_line n ∷ lines) text verdict → (verdict ≡ Fine (length entries)) × (text ≡ board_text t ++ line_text (fine_line (length entries)))
+  answered_fine : (text : List ℕ) (verdict : Verdict) → shortest_match ≤ n → n ≤ longest_match → IsAnswerTo (length_line n ∷ lines) text verdict → (verdict ≡ Fine (length entries)) × (text ≡ board_text t ++ line_text (fine_line (length entries)))
   answered_fine text verdict low high (inl refused) = absurd (no_length_fault n lines refused.why low high refused.fault)
   answered_fine text verdict low high (inr answer) =
       let same : answer.0 ≡ n = one_length answer.0 n answer.2 high (sym answer.3) in
@@ -252,12 +252,12 @@ transcripts_are_fine n entries t input text verdict low high few stands transcri
     let same : transcript.1 ≡ t = one_standing n entries transcript.1 t (AreLinesOf-Leads (start_of n) entries lines transcript.1 each) stands in
     let shorts : AllByRecursion IsShortLine (length_line n ∷ lines) = (length_line_short n (omega arith), lines_short (start_of n) entries lines transcript.1 each) in
     let long = AreLinesOf-length (start_of n) entries lines transcript.1 each in
-    let bytes : length input ≤ MOST_BYTES = rw transcript.3 (omega (arith, few, long, text_length (length_line n ∷ lines) shorts)) in
+    let bytes : length input ≤ most_bytes = rw transcript.3 (omega (arith, few, long, text_length (length_line n ∷ lines) shorts)) in
     let split : lines_of input ≡ length_line n ∷ lines = ap lines_of transcript.3 ∙ lines_of-text (length_line n ∷ lines) shorts in
     subst (λ (s : State). (verdict ≡ Fine (length entries)) × (text ≡ board_text s ++ line_text (fine_line (length entries)))) same
     (answer lines each bytes split judgement)
   where
-    answer : (lines : List (List ℕ)) → AreLinesOf (start_of n) entries lines transcript.1 → length input ≤ MOST_BYTES → lines_of input ≡ length_line n ∷ lines
+    answer : (lines : List (List ℕ)) → AreLinesOf (start_of n) entries lines transcript.1 → length input ≤ most_bytes → lines_of input ≡ length_line n ∷ lines
         → IsJudgement input text verdict → (verdict ≡ Fine (length entries)) × (text ≡ board_text transcript.1 ++ line_text (fine_line (length entries)))
     answer lines each bytes split (inl long) = absurd (omega (arith, long.0))
     answer lines each bytes split (inr short) = answered_fine n entries lines transcript.1 few each text verdict low high (rw split at short.1)

@@ -1,6 +1,7 @@
 -- An input has one judgement.
 use Rattle.std.proofs.Common.{◌≡◌, ◌⊎◌, ℕ, ◌<◌, ◌≤◌, true, false, List, [], ◌∷◌, ◌++◌, take, map, slice_index_or, Option, Some, None, refl, sym, ◌∙◌, ap, subst, arith, inl, inr}
 use Rattle.std.specs.List.{AllByRecursion}
+use Rattle.bg_match.specs.Terms.{Terms}
 use Rattle.bg_board.specs.FromTo.{FromTo}
 use Rattle.bg_board.specs.Position.{Position, opponent}
 use Rattle.bg_board.specs.declared.players.Player.{Player}
@@ -17,7 +18,7 @@ use Rattle.bg_match.specs.declared.entries.EntryFault.{EntryFault}
 use Rattle.bg_match.specs.declared.entries.EntryFault.TheVariants.{RecordFull, MatchOver, WrongPhase, EqualOpening, Turn, NoDouble, Memory}
 use Rattle.bg_match.specs.declared.entries.NoDouble.{NoDouble as NoDoubleFault}
 use Rattle.bg_match.specs.declared.entries.NoDouble.TheVariants.{Crawford, NotOwner, AtCap}
-use Rattle.bg_match.specs.declared.limits.TheConstants.{MOST_ENTRIES, SHORTEST_MATCH, LONGEST_MATCH}
+use Rattle.bg_match.specs.Limits.{most_entries, shortest_match, longest_match}
 use Rattle.bg_match.specs.declared.phases.Phase.TheVariants as phase
 use Rattle.bg_text.specs.BoardText.{board_text, line_text}
 use Rattle.bg_text.specs.EntryText.{letter, step_text, entry_words}
@@ -134,7 +135,7 @@ module _ (s : State) (e : Entry) where
   one_entry_fault (NoDouble why) (NoDouble other) h k = same_double why other h k
 
   -- a refusal is that of a full record, or the entry's
-  refusal_parts : (why : EntryFault) (n : ℕ) → IsRefusal why n s e → ((why ≡ RecordFull) × (MOST_ENTRIES ≤ n)) ⊎ ((n < MOST_ENTRIES) × IsEntryFault why s e)
+  refusal_parts : (why : EntryFault) (n : ℕ) → IsRefusal why n s e → ((why ≡ RecordFull) × (most_entries ≤ n)) ⊎ ((n < most_entries) × IsEntryFault why s e)
   refusal_parts RecordFull n h = inl (refl, h)
   refusal_parts MatchOver n h = inr h
   refusal_parts WrongPhase n h = inr h
@@ -146,7 +147,7 @@ module _ (s : State) (e : Entry) where
   one_refusal : (why other : EntryFault) (n : ℕ) → IsRefusal why n s e → IsRefusal other n s e → why ≡ other
   one_refusal why other n h k = of (refusal_parts why n h) (refusal_parts other n k)
     where
-      of : ((why ≡ RecordFull) × (MOST_ENTRIES ≤ n)) ⊎ ((n < MOST_ENTRIES) × IsEntryFault why s e) → ((other ≡ RecordFull) × (MOST_ENTRIES ≤ n)) ⊎ ((n < MOST_ENTRIES) × IsEntryFault other s e) → why ≡ other
+      of : ((why ≡ RecordFull) × (most_entries ≤ n)) ⊎ ((n < most_entries) × IsEntryFault why s e) → ((other ≡ RecordFull) × (most_entries ≤ n)) ⊎ ((n < most_entries) × IsEntryFault other s e) → why ≡ other
       of (inl full) (inl also) = full.0 ∙ sym also.0
       of (inl full) (inr room) = absurd (omega (arith, full.1, room.0))
       of (inr room) (inl full) = absurd (omega (arith, full.1, room.0))
@@ -221,15 +222,15 @@ one_length_fault lines fault.WrongPlayer other h k = absurd h
 one_length_fault lines (fault.Entry why) other h k = absurd h
 
 -- the longest part is one, and stands at one state
-module _ (match_length : ℕ) (lines : List (List ℕ)) where
-  one_count : (m n : ℕ) (s t : State) → IsLongestPart match_length lines m s → IsLongestPart match_length lines n t → m ≡ n
+module _ (terms : Terms) (lines : List (List ℕ)) where
+  one_count : (m n : ℕ) (s t : State) → IsLongestPart terms lines m s → IsLongestPart terms lines n t → m ≡ n
   one_count m n s t h k =
       let up = k.longest m s h.stands in
       let down = h.longest n t k.stands in
       omega (arith, up, down)
 
-  one_state : (n : ℕ) (s t : State) → IsLongestPart match_length lines n s → IsLongestPart match_length lines n t → s ≡ t
-  one_state n s t h k = AreLinesOf-same (start_of match_length) h.stands.2.0 k.stands.2.0 (take n lines) s t h.stands.2.1 k.stands.2.1
+  one_state : (n : ℕ) (s t : State) → IsLongestPart terms lines n s → IsLongestPart terms lines n t → s ≡ t
+  one_state n s t h k = AreLinesOf-same (start_of terms) h.stands.2.0 k.stands.2.0 (take n lines) s t h.stands.2.1 k.stands.2.1
 
   one_verdict : (n : ℕ) (s : State) (line other : List ℕ) (verdict another : Verdict) → IsVerdict verdict line lines n s → IsVerdict another other lines n s → (line ≡ other) × (verdict ≡ another)
   one_verdict n s line other (Fine a) (Fine b) h k = (h.2 ∙ sym k.2, ap Fine (h.1 ∙ sym k.1))
@@ -243,10 +244,10 @@ module _ (match_length : ℕ) (lines : List (List ℕ)) where
   one_verdict n s line other (Refused a) TooLong h k = absurd k
   one_verdict n s line other TooLong another h k = absurd h
 
-  one_judged : (text other : List ℕ) (verdict another : Verdict) → IsJudged match_length lines text verdict → IsJudged match_length lines other another → (text ≡ other) × (verdict ≡ another)
+  one_judged : (text other : List ℕ) (verdict another : Verdict) → IsJudged terms lines text verdict → IsJudged terms lines other another → (text ≡ other) × (verdict ≡ another)
   one_judged text other verdict another h k =
       let count = one_count h.count k.count h.state k.state h.longest k.longest in
-      let part : IsLongestPart match_length lines k.count h.state = subst (λ (n : ℕ). IsLongestPart match_length lines n h.state) count h.longest in
+      let part : IsLongestPart terms lines k.count h.state = subst (λ (n : ℕ). IsLongestPart terms lines n h.state) count h.longest in
       let state = one_state k.count h.state k.state part k.longest in
       let named : IsVerdict verdict h.line lines k.count k.state = rw (count, state) at h.named in
       let same = one_verdict k.count k.state h.line k.line verdict another named k.named in
@@ -258,7 +259,7 @@ refused_once lines text other verdict another h k =
     (h.printed ∙ (ap (λ w. line_text (refused_line 1 w)) why ∙ sym k.printed), h.first ∙ sym k.first)
 
 -- no input is refused at line 1 and judged as well
-not_both : (line : List ℕ) (lines : List (List ℕ)) (n : ℕ) (why : LineFault) → SHORTEST_MATCH ≤ n → n ≤ LONGEST_MATCH → line ≡ length_line n → IsLengthFault why (line ∷ lines) → ⊥
+not_both : (line : List ℕ) (lines : List (List ℕ)) (n : ℕ) (why : LineFault) → shortest_match ≤ n → n ≤ longest_match → line ≡ length_line n → IsLengthFault why (line ∷ lines) → ⊥
 not_both line lines n why low high is h = no_length_fault n lines why low high (subst (λ (l : List ℕ). IsLengthFault why (l ∷ lines)) is h)
 
 one_answer : (lines : List (List ℕ)) (text other : List ℕ) (verdict another : Verdict) → IsAnswerTo lines text verdict → IsAnswerTo lines other another → (text ≡ other) × (verdict ≡ another)

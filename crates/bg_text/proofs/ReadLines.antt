@@ -7,8 +7,8 @@ use Rattle.bg_match.specs.Actor.{actor_of, seat_of}
 use Rattle.bg_match.specs.Entry.{IsEntry}
 use Rattle.bg_turns.specs.declared.throws.Dice.{Dice}
 use Rattle.bg_match.specs.Follows.{Follows, IsEntryFault, phase_back}
-use Rattle.bg_match.specs.Match.{Leads, Log, StandsAt, IsLegalRecord, IsRecordFault}
-use Rattle.bg_match.specs.declared.limits.TheConstants.{MOST_ENTRIES}
+use Rattle.bg_match.specs.Match.{Leads, Log, StandsAt, IsLegalRecord, IsRecordFault, IsNext}
+use Rattle.bg_match.specs.Limits.{most_entries}
 use Rattle.bg_match.specs.declared.entries.EntryFault.{EntryFault}
 use Rattle.bg_match.specs.declared.entries.EntryFault.TheVariants as entry_fault
 use Rattle.bg_match.specs.State.{State, start_of}
@@ -133,12 +133,12 @@ line_at s line e t read follows =
     let same : read.0 ≡ acting = same_makers read.0 acting e read.1 (seat_acts s e t follows) (λ p q named acts differ. read.4 (p, q, named, acts, differ)) in
     (subst (λ (seat : Option Player). line ≡ entry_text seat e) same read.3, (t, follows))
 
-module _ (r : Log) (s : State) (line : List ℕ) (stands : StandsAt r.match_length r.entries s) where
+module _ (r : Log) (s : State) (line : List ℕ) (stands : StandsAt r.terms r.entries s) where
   -- a line whose entry was added
-  pub line_added : (e : Entry) (new : Log) → IsReadAs s line e → new.entries ≡ r.entries ++ e ∷ [] → new.match_length ≡ r.match_length → IsLegalRecord new.match_length new.entries → AddsLine r new line
+  pub line_added : (e : Entry) (new : Log) → IsReadAs s line e → new.entries ≡ r.entries ++ e ∷ [] → new.terms ≡ r.terms → IsLegalRecord new.terms new.entries → AddsLine r new line
   line_added e new read is same legal =
-      let legal_here : IsLegalRecord r.match_length (r.entries ++ e ∷ []) = rw (is, same) at legal in
-      let follows = Leads-last (start_of r.match_length) r.entries e s legal_here.1.0 stands legal_here.1.1 in
+      let legal_here : IsNext r.terms r.entries e = rw (is, same) at legal in
+      let follows = Leads-last (start_of r.terms) r.entries e s legal_here.1.0 stands legal_here.1.1 in
       let more = length-append r.entries (e ∷ []) in
       (e, s, stands, line_at s line e legal_here.1.0 read follows, omega (arith, legal_here.0, more), is, same)
 
@@ -146,30 +146,30 @@ module _ (r : Log) (s : State) (line : List ℕ) (stands : StandsAt r.match_leng
   refusal_of : (why : EntryFault) (e : Entry) → why ≢ entry_fault.Memory → IsRecordFault why r e → IsRefusal why (length r.entries) s e
   refusal_of entry_fault.RecordFull e other h = h
   refusal_of entry_fault.Memory e other h = absurd (other refl)
-  refusal_of entry_fault.MatchOver e other h = (h.0, subst (λ (x : State). IsEntryFault entry_fault.MatchOver x e) (one_standing r.match_length r.entries h.1.0 s h.1.1 stands) h.1.2)
-  refusal_of entry_fault.WrongPhase e other h = (h.0, subst (λ (x : State). IsEntryFault entry_fault.WrongPhase x e) (one_standing r.match_length r.entries h.1.0 s h.1.1 stands) h.1.2)
-  refusal_of entry_fault.EqualOpening e other h = (h.0, subst (λ (x : State). IsEntryFault entry_fault.EqualOpening x e) (one_standing r.match_length r.entries h.1.0 s h.1.1 stands) h.1.2)
-  refusal_of (entry_fault.Turn turn) e other h = (h.0, subst (λ (x : State). IsEntryFault (entry_fault.Turn turn) x e) (one_standing r.match_length r.entries h.1.0 s h.1.1 stands) h.1.2)
-  refusal_of (entry_fault.NoDouble double) e other h = (h.0, subst (λ (x : State). IsEntryFault (entry_fault.NoDouble double) x e) (one_standing r.match_length r.entries h.1.0 s h.1.1 stands) h.1.2)
+  refusal_of entry_fault.MatchOver e other h = (h.0, subst (λ (x : State). IsEntryFault entry_fault.MatchOver x e) (one_standing r.terms r.entries h.1.0 s h.1.1 stands) h.1.2)
+  refusal_of entry_fault.WrongPhase e other h = (h.0, subst (λ (x : State). IsEntryFault entry_fault.WrongPhase x e) (one_standing r.terms r.entries h.1.0 s h.1.1 stands) h.1.2)
+  refusal_of entry_fault.EqualOpening e other h = (h.0, subst (λ (x : State). IsEntryFault entry_fault.EqualOpening x e) (one_standing r.terms r.entries h.1.0 s h.1.1 stands) h.1.2)
+  refusal_of (entry_fault.Turn turn) e other h = (h.0, subst (λ (x : State). IsEntryFault (entry_fault.Turn turn) x e) (one_standing r.terms r.entries h.1.0 s h.1.1 stands) h.1.2)
+  refusal_of (entry_fault.NoDouble double) e other h = (h.0, subst (λ (x : State). IsEntryFault (entry_fault.NoDouble double) x e) (one_standing r.terms r.entries h.1.0 s h.1.1 stands) h.1.2)
 
   -- an entry that follows makes a legal record
-  follows_legal : (e : Entry) → length r.entries < MOST_ENTRIES → IsLineAt s line e → IsLegalRecord r.match_length (r.entries ++ e ∷ [])
+  follows_legal : (e : Entry) → length r.entries < most_entries → IsLineAt s line e → IsNext r.terms r.entries e
   follows_legal e few at =
       let more = length-append r.entries (e ∷ []) in
-      (omega (arith, more), (at.1.0, Leads-push (start_of r.match_length) r.entries e s at.1.0 stands at.1.1))
+      (omega (arith, more), (at.1.0, Leads-push (start_of r.terms) r.entries e s at.1.0 stands at.1.1))
 
   refused : (e : Entry) (why : EntryFault) → why ≢ entry_fault.Memory → IsReadAs s line e → ((f : Entry) → IsLineAt s line f → e ≡ f) → IsRecordFault why r e
-      → (why ≢ entry_fault.Memory → IsLegalRecord r.match_length (r.entries ++ e ∷ []) → ⊥) → RefusesLine (Refused (RefusedEntry why)) r line
+      → (why ≢ entry_fault.Memory → IsNext r.terms r.entries e → ⊥) → RefusesLine (Refused (RefusedEntry why)) r line
   refused e why other read only fault illegal = (
     s,
     stands,
     (read.0, e, read.1, read.2, read.3, read.4, refusal_of why e other fault),
-    λ f few at. illegal other (subst (λ (x : Entry). IsLegalRecord r.match_length (r.entries ++ x ∷ [])) (sym (only f at)) (follows_legal f few at)),
+    λ f few at. illegal other (subst (λ (x : Entry). IsNext r.terms r.entries x) (sym (only f at)) (follows_legal f few at)),
   )
 
   -- a line whose entry was refused
   pub line_refused : (e : Entry) (why : EntryFault) → IsReadAs s line e → ((f : Entry) → IsLineAt s line f → e ≡ f) → IsRecordFault why r e
-      → (why ≢ entry_fault.Memory → IsLegalRecord r.match_length (r.entries ++ e ∷ []) → ⊥) → RefusesLine (fault_of_push why) r line
+      → (why ≢ entry_fault.Memory → IsNext r.terms r.entries e → ⊥) → RefusesLine (fault_of_push why) r line
   line_refused e entry_fault.Memory read only fault illegal = tt
   line_refused e entry_fault.RecordFull read only fault illegal = refused e entry_fault.RecordFull (λ same. cc) read only fault illegal
   line_refused e entry_fault.MatchOver read only fault illegal = refused e entry_fault.MatchOver (λ same. cc) read only fault illegal

@@ -4,34 +4,34 @@ use Rattle.std.proofs.lemmas.List.{take_all, take_at}
 use Rattle.std.specs.Io.KnownBytes.{Consumes, IsAtEnd}
 use Rattle.bg_text.specs.Transfers.{IsReadOf}
 use Rattle.bg_text.specs.Judging.{IsJudgement, IsAnswerTo, lines_of}
-use Rattle.bg_text.specs.declared.inputs.TheConstants.{MOST_BYTES}
+use Rattle.bg_text.specs.Limits.{most_bytes}
 use Rattle.bg_text.specs.declared.verdicts.Verdict.{Verdict}
 
 -- no byte is left
-pub read_to_end : (u v w : Option (List ℕ)) (input : List ℕ) → Consumes u v input → Consumes v w [] → IsAtEnd w → length input ≤ MOST_BYTES + 1 → IfSome u (IsReadOf input)
+pub read_to_end : (u v w : Option (List ℕ)) (input : List ℕ) → Consumes u v input → Consumes v w [] → IsAtEnd w → length input ≤ most_bytes + 1 → IfSome u (IsReadOf input)
 read_to_end None v w input front none end most = tt
 read_to_end (Some xs) None w input front none end most = absurd front
 read_to_end (Some xs) (Some ys) None input front none end most = absurd none
 read_to_end (Some xs) (Some ys) (Some zs) input front none end most =
     let whole : xs ≡ input = front ∙ ap (λ ys. input ++ ys) (none ∙ end) ∙ append-nil input in
-    sym (ap (take (MOST_BYTES + 1)) whole ∙ take_all (MOST_BYTES + 1) input most)
+    sym (ap (take (most_bytes + 1)) whole ∙ take_all (most_bytes + 1) input most)
 
 -- as many bytes as are read at most
-pub read_to_limit : (u v : Option (List ℕ)) (input : List ℕ) → Consumes u v input → length input ≡ MOST_BYTES + 1 → IfSome u (IsReadOf input)
+pub read_to_limit : (u v : Option (List ℕ)) (input : List ℕ) → Consumes u v input → length input ≡ most_bytes + 1 → IfSome u (IsReadOf input)
 read_to_limit None v input front most = tt
 read_to_limit (Some xs) None input front most = absurd front
-read_to_limit (Some xs) (Some ys) input front most = sym (ap (take (MOST_BYTES + 1)) front ∙ take_at input ys (MOST_BYTES + 1) most)
+read_to_limit (Some xs) (Some ys) input front most = sym (ap (take (most_bytes + 1)) front ∙ take_at input ys (most_bytes + 1) most)
 
 -- the judgement of what is read is that of the bytes
 pub judged_whole : (bytes input text : List ℕ) (verdict : Verdict) → IsReadOf input bytes → IsJudgement input text verdict → IsJudgement bytes text verdict
 judged_whole bytes input text verdict read judged =
-    let long : length input ≡ length (take (MOST_BYTES + 1) bytes) = ap length read in
-    let front = length-take (MOST_BYTES + 1) bytes in
+    let long : length input ≡ length (take (most_bytes + 1) bytes) = ap length read in
+    let front = length-take (most_bytes + 1) bytes in
     elim judged [
       | inl too_long ↦ inl (omega (arith, too_long.0, long, front), too_long.1)
       | inr answer ↦
-          let few : length bytes ≤ MOST_BYTES = omega (arith, answer.0, long, front) in
-          let same : input ≡ bytes = read ∙ take_all (MOST_BYTES + 1) bytes (omega (arith, few)) in
+          let few : length bytes ≤ most_bytes = omega (arith, answer.0, long, front) in
+          let same : input ≡ bytes = read ∙ take_all (most_bytes + 1) bytes (omega (arith, few)) in
           inr (few, subst (λ (input : List ℕ). IsAnswerTo (lines_of input) text verdict) same answer.1)
     ]
 

@@ -2,6 +2,7 @@
 use Rattle.std.proofs.Common.{◌≡◌, ℕ, zero, suc, ◌+◌, ◌-◌, ◌≤◌, List, [], ◌∷◌, ◌++◌, length, take, Option, Some, refl, sym, ◌∙◌, ap, subst, arith, append-nil, append_assoc}
 use Rattle.std.specs.Prelude.{slice_get}
 use Rattle.std.proofs.Math.Seq.{take-length}
+use Rattle.bg_match.specs.Terms.{Terms}
 use Rattle.bg_match.specs.Actor.{actor_of, seat_of}
 use Rattle.bg_match.specs.Follows.{Follows}
 use Rattle.bg_board.specs.declared.players.Player.{Player}
@@ -32,50 +33,50 @@ entry_at s (f ∷ entries) t (suc i) e h at =
     (rest.0, rest.1, (h.0, h.1, rest.2), rest.3, ap (λ xs. f ∷ xs) rest.4)
 
 -- the seat that acts before an entry of a legal record is the one that made it
-pub seat_of_entry : (match_length : ℕ) (entries : List Entry) (number : ℕ) (seat : Option Player) (e : Entry) → IsLegalRecord match_length entries → 1 ≤ number
-    → SeatAfter match_length (take (number - 1) entries) seat → at_number entries number ≡ Some e → IsSeatOf seat e
-seat_of_entry match_length entries zero seat e legal first acts at = absurd (omega arith)
-seat_of_entry match_length entries (suc i) seat e legal first acts at =
-    let here = entry_at (start_of match_length) entries legal.1.0 i e legal.1.1 at in
+pub seat_of_entry : (terms : Terms) (entries : List Entry) (number : ℕ) (seat : Option Player) (e : Entry) → IsLegalRecord terms entries → 1 ≤ number
+    → SeatAfter terms (take (number - 1) entries) seat → at_number entries number ≡ Some e → IsSeatOf seat e
+seat_of_entry terms entries zero seat e legal first acts at = absurd (omega arith)
+seat_of_entry terms entries (suc i) seat e legal first acts at =
+    let here = entry_at (start_of terms) entries legal.1.0 i e legal.1.1 at in
     let back : suc i - 1 ≡ i = omega arith in
-    let stands : StandsAt match_length (take i entries) acts.0 = subst (λ (n : ℕ). StandsAt match_length (take n entries) acts.0) back acts.1 in
-    let same = one_standing match_length (take i entries) here.0 acts.0 here.2 stands in
+    let stands : StandsAt terms (take i entries) acts.0 = subst (λ (n : ℕ). StandsAt terms (take n entries) acts.0) back acts.1 in
+    let same = one_standing terms (take i entries) here.0 acts.0 here.2 stands in
     let follows : Follows acts.0 e here.1 = subst (λ (x : State). Follows x e here.1) same here.3 in
     subst (λ (x : Option Player). IsSeatOf x e) (sym acts.2) (seat_acts acts.0 e here.1 follows)
 
 -- nothing but the length is written yet
-pub none_written : (r : Log) (text : List ℕ) → text ≡ line_text (length_line r.match_length) → IsPartWritten r 1 text
+pub none_written : (r : Log) (text : List ℕ) → text ≡ line_text (length_line r.terms) → IsPartWritten r 1 text
 none_written r text is = record {
   lines = [];
-  state = start_of r.match_length;
+  state = start_of r.terms;
   each = refl;
-  written = is ∙ sym (append-nil (line_text (length_line r.match_length)));
+  written = is ∙ sym (append-nil (line_text (length_line r.terms)));
 }
 
 -- one more line is written
-pub more_written : (r : Log) (number : ℕ) (old new : List ℕ) → IsLegalRecord r.match_length r.entries → 1 ≤ number → IsPartWritten r number old → AddsLineOf r number old new → IsPartWritten r (number + 1) new
+pub more_written : (r : Log) (number : ℕ) (old new : List ℕ) → IsLegalRecord r.terms r.entries → 1 ≤ number → IsPartWritten r number old → AddsLineOf r number old new → IsPartWritten r (number + 1) new
 more_written r zero old new legal first part added = absurd (omega arith)
 more_written r (suc i) old new legal first part added =
-    let here = entry_at (start_of r.match_length) r.entries legal.1.0 i added.1 legal.1.1 added.3 in
+    let here = entry_at (start_of r.terms) r.entries legal.1.0 i added.1 legal.1.1 added.3 in
     let back : suc i - 1 ≡ i = omega arith in
     let on : suc i + 1 - 1 ≡ suc i = omega arith in
-    let each : AreLinesOf (start_of r.match_length) (take i r.entries) part.lines part.state = subst (λ (n : ℕ). AreLinesOf (start_of r.match_length) (take n r.entries) part.lines part.state) back part.each in
-    let adds : StandsAt r.match_length (take i r.entries) added.0 = subst (λ (n : ℕ). StandsAt r.match_length (take n r.entries) added.0) back added.2 in
-    let at_part = one_standing r.match_length (take i r.entries) here.0 part.state here.2 (AreLinesOf-Leads (start_of r.match_length) (take i r.entries) part.lines part.state each) in
-    let at_added = one_standing r.match_length (take i r.entries) part.state added.0 (AreLinesOf-Leads (start_of r.match_length) (take i r.entries) part.lines part.state each) adds in
+    let each : AreLinesOf (start_of r.terms) (take i r.entries) part.lines part.state = subst (λ (n : ℕ). AreLinesOf (start_of r.terms) (take n r.entries) part.lines part.state) back part.each in
+    let adds : StandsAt r.terms (take i r.entries) added.0 = subst (λ (n : ℕ). StandsAt r.terms (take n r.entries) added.0) back added.2 in
+    let at_part = one_standing r.terms (take i r.entries) here.0 part.state here.2 (AreLinesOf-Leads (start_of r.terms) (take i r.entries) part.lines part.state each) in
+    let at_added = one_standing r.terms (take i r.entries) part.state added.0 (AreLinesOf-Leads (start_of r.terms) (take i r.entries) part.lines part.state each) adds in
     let line = entry_text (seat_of (actor_of added.0.phase)) added.1 in
     let named : line ≡ entry_text (seat_of (actor_of part.state.phase)) added.1 = ap (λ (x : State). entry_text (seat_of (actor_of x.phase)) added.1) (sym at_added) in
     let follows : Follows part.state added.1 here.1 = subst (λ (x : State). Follows x added.1 here.1) at_part here.3 in
     record {
       lines = part.lines ++ line ∷ [];
       state = here.1;
-      each = rw (on, here.4) (AreLinesOf-push (start_of r.match_length) (take i r.entries) part.lines part.state added.1 line here.1 each named follows);
-      written = added.4 ∙ (ap (λ text. text ++ line_text line) part.written ∙ sym (lines_text-push (length_line r.match_length ∷ part.lines) line));
+      each = rw (on, here.4) (AreLinesOf-push (start_of r.terms) (take i r.entries) part.lines part.state added.1 line here.1 each named follows);
+      written = added.4 ∙ (ap (λ text. text ++ line_text line) part.written ∙ sym (lines_text-push (length_line r.terms ∷ part.lines) line));
     }
 
 -- all lines are written
-pub all_written : (r : Log) (number : ℕ) (text : List ℕ) → number ≡ length r.entries + 1 → IsPartWritten r number text → IsTranscript r.match_length r.entries text
+pub all_written : (r : Log) (number : ℕ) (text : List ℕ) → number ≡ length r.entries + 1 → IsPartWritten r number text → IsTranscript r.terms r.entries text
 all_written r number text end part =
     let on : number - 1 ≡ length r.entries = omega arith in
     let all : take (number - 1) r.entries ≡ r.entries = ap (λ n. take n r.entries) on ∙ take-length r.entries in
-    (part.lines, part.state, subst (λ (xs : List Entry). AreLinesOf (start_of r.match_length) xs part.lines part.state) all part.each, part.written)
+    (part.lines, part.state, subst (λ (xs : List Entry). AreLinesOf (start_of r.terms) xs part.lines part.state) all part.each, part.written)

@@ -28,7 +28,7 @@ crawford_mark true = codes " crawford"
 crawford_mark false = []
 
 abbrev pub game_part : State → List ℕ
-game_part s = codes "length " ++ decimal s.match_length ++ codes " game " ++ decimal s.game
+game_part s = codes "length " ++ decimal s.terms ++ codes " game " ++ decimal s.game
 
 abbrev pub score_part : State → List ℕ
 score_part s = codes " score " ++ decimal s.x_score ++ codes "-" ++ decimal s.o_score

@@ -3,9 +3,10 @@ use Rattle.std.specs.Prelude.{◌≡◌, ◌≢◌, ◌==◌, ◌⊎◌, ℕ, �
 use Rattle.std.specs.List.{onto_first}
 use Rattle.std.specs.Fmt.{decimal}
 use Rattle.std.specs.Str.{all_ascii_digits}
+use Rattle.bg_match.specs.Terms.{Terms}
 use Rattle.bg_board.specs.declared.players.Player.{Player}
 use Rattle.bg_match.specs.State.{State, start_of}
-use Rattle.bg_match.specs.declared.limits.TheConstants.{MOST_ENTRIES, SHORTEST_MATCH, LONGEST_MATCH}
+use Rattle.bg_match.specs.Limits.{most_entries, shortest_match, longest_match}
 use Rattle.bg_match.specs.Actor.{actor_of, seat_of}
 use Rattle.bg_match.specs.Follows.{IsEntryFault}
 use Rattle.bg_match.specs.Entry.{IsEntry}
@@ -18,7 +19,7 @@ use Rattle.bg_text.specs.EntryText.{entry_text, IsSeatOf}
 use Rattle.bg_text.specs.EntryShape.{IsEntryTextFault}
 use Rattle.bg_text.specs.Reason.{reason, text_reason}
 use Rattle.bg_text.specs.Transcript.{AreLinesOf, IsTranscript, length_line}
-use Rattle.bg_text.specs.declared.inputs.TheConstants.{MOST_BYTES}
+use Rattle.bg_text.specs.Limits.{most_bytes}
 use Rattle.bg_text.specs.declared.faults.LineFault.{LineFault}
 use Rattle.bg_text.specs.declared.faults.LineFault.TheVariants as fault
 use Rattle.bg_text.specs.declared.verdicts.Verdict.{Verdict}
@@ -39,7 +40,7 @@ pub record AreLengthDigits (digits : List ℕ) : Type 0 where
 abbrev pub IsDigitsFault : LineFault → List ℕ → Type 0
 IsDigitsFault fault.NotALengthLine digits = AreLengthDigits digits → ⊥
 IsDigitsFault fault.LengthOutOfRange digits =
-    AreLengthDigits digits × ((n : ℕ) → SHORTEST_MATCH ≤ n → n ≤ LONGEST_MATCH → digits ≡ decimal n → ⊥)
+    AreLengthDigits digits × ((n : ℕ) → shortest_match ≤ n → n ≤ longest_match → digits ≡ decimal n → ⊥)
 IsDigitsFault _ digits = ⊥
 
 -- what is wrong with line 1, or that there is none: the word length, a space and one to three digits are its shape
@@ -57,8 +58,8 @@ IsWrongSeat seat s = (p q : Player) × (seat ≡ Some p) × (seat_of (actor_of s
 
 -- why an entry can't follow n entries that lead to s
 abbrev pub IsRefusal : EntryFault → ℕ → State → Entry → Type 0
-IsRefusal RecordFull n s e = MOST_ENTRIES ≤ n
-IsRefusal why n s e = (n < MOST_ENTRIES) × IsEntryFault why s e
+IsRefusal RecordFull n s e = most_entries ≤ n
+IsRefusal why n s e = (n < most_entries) × IsEntryFault why s e
 
 -- why a line can't follow n entries that lead to s, by the first of three tests that fails: its text, its seat, its entry
 abbrev pub IsLineFault : LineFault → ℕ → State → List ℕ → Type 0
@@ -71,15 +72,15 @@ IsLineFault (fault.Entry why) n s line =
 IsLineFault _ n s line = ⊥
 
 -- the first n lines are those of a legal record of a match of this length, which stands at t
-abbrev pub StandsAfter : ℕ → List (List ℕ) → ℕ → State → Type 0
-StandsAfter match_length lines n t =
-    (n ≤ length lines) × (n ≤ MOST_ENTRIES)
-    × ((entries : List Entry) × AreLinesOf (start_of match_length) entries (take n lines) t)
+abbrev pub StandsAfter : Terms → List (List ℕ) → ℕ → State → Type 0
+StandsAfter terms lines n t =
+    (n ≤ length lines) × (n ≤ most_entries)
+    × ((entries : List Entry) × AreLinesOf (start_of terms) entries (take n lines) t)
 
 -- n is the greatest number of first lines that are those of a legal record
-pub record IsLongestPart (match_length : ℕ) (lines : List (List ℕ)) (n : ℕ) (t : State) : Type 0 where
-  pub stands : StandsAfter match_length lines n t
-  pub longest : (m : ℕ) (s : State) → StandsAfter match_length lines m s → m ≤ n
+pub record IsLongestPart (terms : Terms) (lines : List (List ℕ)) (n : ℕ) (t : State) : Type 0 where
+  pub stands : StandsAfter terms lines n t
+  pub longest : (m : ℕ) (s : State) → StandsAfter terms lines m s → m ≤ n
 
 abbrev pub fault_reason : LineFault → List ℕ
 fault_reason fault.NotALengthLine = codes "not a length line"
@@ -104,10 +105,10 @@ IsVerdict (Refused number) line lines n t =
 IsVerdict TooLong line lines n t = ⊥
 
 -- the text and the verdict on a transcript: the board after its longest legal part, and the verdict line
-pub record IsJudged (match_length : ℕ) (lines : List (List ℕ)) (text : List ℕ) (verdict : Verdict) : Type 0 where
+pub record IsJudged (terms : Terms) (lines : List (List ℕ)) (text : List ℕ) (verdict : Verdict) : Type 0 where
   pub count : ℕ
   pub state : State
-  pub longest : IsLongestPart match_length lines count state
+  pub longest : IsLongestPart terms lines count state
   pub line : List ℕ
   pub named : IsVerdict verdict line lines count state
   pub printed : text ≡ board_text state ++ line_text line
@@ -129,19 +130,19 @@ abbrev pub IsAnswerTo : List (List ℕ) → List ℕ → Verdict → Type 0
 IsAnswerTo [] text verdict = IsRefusedAtOnce [] text verdict
 IsAnswerTo (line ∷ lines) text verdict =
     IsRefusedAtOnce (line ∷ lines) text verdict
-    ⊎ ((n : ℕ) × (SHORTEST_MATCH ≤ n) × (n ≤ LONGEST_MATCH) × (line ≡ length_line n) × IsJudged n lines text verdict)
+    ⊎ ((n : ℕ) × (shortest_match ≤ n) × (n ≤ longest_match) × (line ≡ length_line n) × IsJudged n lines text verdict)
 
 abbrev pub IsJudgement : List ℕ → List ℕ → Verdict → Type 0
 IsJudgement input text verdict =
-    ((MOST_BYTES < length input) × IsTooLong text verdict)
-    ⊎ ((length input ≤ MOST_BYTES) × IsAnswerTo (lines_of input) text verdict)
+    ((most_bytes < length input) × IsTooLong text verdict)
+    ⊎ ((length input ≤ most_bytes) × IsAnswerTo (lines_of input) text verdict)
 
 -- the judge finds every transcript fine, counts its entries, and shows the board where they lead
 abbrev pub TranscriptsAreFine : Type 0
 TranscriptsAreFine =
-    (match_length : ℕ) (entries : List Entry) (t : State) (input text : List ℕ) (verdict : Verdict)
-    → SHORTEST_MATCH ≤ match_length → match_length ≤ LONGEST_MATCH → length entries ≤ MOST_ENTRIES
-    → StandsAt match_length entries t → IsTranscript match_length entries input → IsJudgement input text verdict
+    (terms : Terms) (entries : List Entry) (t : State) (input text : List ℕ) (verdict : Verdict)
+    → shortest_match ≤ terms → terms ≤ longest_match → length entries ≤ most_entries
+    → StandsAt terms entries t → IsTranscript terms entries input → IsJudgement input text verdict
     → (verdict ≡ Fine (length entries)) × (text ≡ board_text t ++ line_text (fine_line (length entries)))
 
 -- an input has one judgement

@@ -1,3 +1,4 @@
+pub mod Limits
 pub mod Devices
 pub mod DeviceParts
 pub mod Words

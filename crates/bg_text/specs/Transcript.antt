@@ -1,6 +1,7 @@
 -- The transcript of a match: its length, and a line for each entry.
 use Rattle.std.specs.Prelude.{◌≡◌, ℕ, List, [], ◌∷◌, ◌++◌, codes}
 use Rattle.std.specs.Fmt.{decimal}
+use Rattle.bg_match.specs.Terms.{Terms}
 use Rattle.bg_match.specs.State.{State, start_of}
 use Rattle.bg_match.specs.Actor.{actor_of, seat_of}
 use Rattle.bg_match.specs.Follows.{Follows}
@@ -8,8 +9,8 @@ use Rattle.bg_match.specs.declared.entries.Entry.{Entry}
 use Rattle.bg_text.specs.BoardText.{lines_text}
 use Rattle.bg_text.specs.EntryText.{entry_text}
 
-abbrev pub length_line : ℕ → List ℕ
-length_line match_length = codes "length " ++ decimal match_length
+abbrev pub length_line : Terms → List ℕ
+length_line terms = codes "length " ++ decimal terms
 
 -- each line is that of its entry, by the seat that acts or the referee, and the entries lead from s to t
 abbrev pub AreLinesOf : State → List Entry → List (List ℕ) → State → Type 0
@@ -20,7 +21,7 @@ AreLinesOf s [] (line ∷ lines) t = ⊥
 AreLinesOf s (e ∷ entries) [] t = ⊥
 
 -- the text is the transcript of a match of this length with these entries
-abbrev pub IsTranscript : ℕ → List Entry → List ℕ → Type 0
-IsTranscript match_length entries text =
-    (lines : List (List ℕ)) × (t : State) × AreLinesOf (start_of match_length) entries lines t
-    × (text ≡ lines_text (length_line match_length ∷ lines))
+abbrev pub IsTranscript : Terms → List Entry → List ℕ → Type 0
+IsTranscript terms entries text =
+    (lines : List (List ℕ)) × (t : State) × AreLinesOf (start_of terms) entries lines t
+    × (text ≡ lines_text (length_line terms ∷ lines))

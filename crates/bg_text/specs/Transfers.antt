@@ -3,17 +3,17 @@ use Rattle.std.specs.Prelude.{◌≡◌, ℕ, ◌+◌, ◌≤◌, List, ◌++◌
 use Rattle.std.specs.Io.KnownBytes.{Appends}
 use Rattle.bg_text.specs.declared.devices.Source.{Ghosts as SourceGhosts}
 use Rattle.bg_text.specs.declared.devices.Sink.{Ghosts as SinkGhosts}
-use Rattle.bg_text.specs.declared.inputs.TheConstants.{MOST_BYTES}
+use Rattle.bg_text.specs.Limits.{most_bytes}
 
 -- what is read of some bytes: all of them, but no more than one over the limit
 abbrev pub IsReadOf : List ℕ → List ℕ → Type 0
-IsReadOf input bytes = input ≡ take (MOST_BYTES + 1) bytes
+IsReadOf input bytes = input ≡ take (most_bytes + 1) bytes
 
 -- the source gave the input: all up to its end, or one byte over the limit
 pub record ReadsInput {S : Type 0} (source : SourceGhosts S) (before after : S) (input : List ℕ) : Type 0 where
   pub given : source.given after ≡ source.given before ++ input
-  pub most : length input ≤ MOST_BYTES + 1
-  pub ended : length input ≤ MOST_BYTES → source.ends after ≡ source.ends before + 1
+  pub most : length input ≤ most_bytes + 1
+  pub ended : length input ≤ most_bytes → source.ends after ≡ source.ends before + 1
   pub known : IfSome (source.remaining before) (IsReadOf input)
 
 -- the sink took the text

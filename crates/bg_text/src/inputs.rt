@@ -1,6 +1,8 @@
 //! The input of the judge: its bytes and lines, and the length of the match.
 ghost use Rattle.std.specs.Prelude.{◌≡◌, ◌≤◌, ◌+◌, ◌<◌, ◌↔◌, ◌∷◌, [], length, IsNone, IfSome, IfOk, IfErr};
 ghost use Rattle.std.specs.Fmt.{decimal};
+ghost use Rattle.bg_text.specs.Limits.{most_bytes};
+ghost use Rattle.bg_match.specs.Limits.{longest_match, shortest_match};
 ghost use Rattle.bg_text.specs.Judging.{lines_of, IsLengthFault, IsDigitsFault};
 ghost use Rattle.bg_text.specs.EngineFault.{ReadsFailOnce};
 ghost use Rattle.bg_text.specs.Transcript.{length_line};
@@ -19,7 +21,7 @@ pub const MOST_BYTES: usize = 4_194_304;
 /// Reads all of an input, or one byte more than the limit, in at most as many reads.
 pub(crate) fn read_input<S: Source>(alloc: Global, source: &mut S) -> Result<Vec<u8>, EngineFault>
     ensures read { IfOk result (λ input. ReadsInput S.Source source.old source.new input.items) }
-    ensures reads { S.reads source.new ≤ S.reads source.old + MOST_BYTES + 1 }
+    ensures reads { S.reads source.new ≤ S.reads source.old + most_bytes + 1 }
     ensures failed { ReadsFailOnce result (S.failures source.old) (S.failures source.new) }
 {
     let mut input = Vec::new(alloc);
@@ -55,7 +57,7 @@ pub(crate) fn split_line(input: &[u8]) -> Option<(&[u8], &[u8])>
 
 /// The length that line 1 says.
 pub(crate) fn parse_length(line: &[u8]) -> Result<u8, LineFault>
-    ensures found { IfOk result (λ length. (SHORTEST_MATCH ≤ length) × (length ≤ LONGEST_MATCH)
+    ensures found { IfOk result (λ length. (shortest_match ≤ length) × (length ≤ longest_match)
         × (line.now ≡ length_line length)) }
     ensures fault { IfErr result (λ fault. IsLengthFault fault (line.now ∷ [])) }
 {
@@ -67,7 +69,7 @@ pub(crate) fn parse_length(line: &[u8]) -> Result<u8, LineFault>
 
 /// The length that one to three digits say.
 fn parse_digits(digits: &[u8]) -> Result<u8, LineFault>
-    ensures found { IfOk result (λ length. (SHORTEST_MATCH ≤ length) × (length ≤ LONGEST_MATCH)
+    ensures found { IfOk result (λ length. (shortest_match ≤ length) × (length ≤ longest_match)
         × (digits.now ≡ decimal length)) }
     ensures fault { IfErr result (λ fault. IsDigitsFault fault digits.now) }
 {

@@ -1,5 +1,6 @@
 //! The judge of a transcript.
 ghost use Rattle.std.specs.Prelude.{◌≡◌, ◌≢◌, ◌≤◌, ◌↔◌, ◌++◌, ◌+◌, ℕ, length, List, Ok, IsTrue, OnOk, OnErr, IfOk, IfErr, IfSome};
+ghost use Rattle.bg_text.specs.Limits.{most_bytes};
 ghost use Rattle.bg_match.specs.Match.{StandsAt};
 ghost use Rattle.bg_match.specs.State.{State};
 ghost use Rattle.bg_match.specs.declared.entries.Entry.{Entry};
@@ -148,7 +149,7 @@ fn judge_lines(alloc: Global, length: u8, lines: &[u8]) -> Result<Judgement, All
 
 /// The judgement where a line after those of the record is refused.
 fn refused(alloc: Global, record: &Record, why: LineFault) -> Result<Judgement, AllocError>
-    ensures { IfOk result (λ judgement. (t : State) × StandsAt «record».now.match_length «record».now.entries t
+    ensures { IfOk result (λ judgement. (t : State) × StandsAt «record».now.terms «record».now.entries t
         × (judgement.text.items ≡ text_of_board t ++ line_text (refused_line (length «record».now.entries + 2) why))
         × (judgement.verdict ≡ Verdict.Refused (length «record».now.entries + 2))) }
 {
@@ -163,7 +164,7 @@ fn refused(alloc: Global, record: &Record, why: LineFault) -> Result<Judgement, 
 
 /// The judgement where all lines are those of the record.
 fn fine(alloc: Global, record: &Record) -> Result<Judgement, AllocError>
-    ensures { IfOk result (λ judgement. (t : State) × StandsAt «record».now.match_length «record».now.entries t
+    ensures { IfOk result (λ judgement. (t : State) × StandsAt «record».now.terms «record».now.entries t
         × (judgement.text.items ≡ text_of_board t ++ line_text (fine_line (length «record».now.entries)))
         × (judgement.verdict ≡ Verdict.Fine (length «record».now.entries))) }
 {
@@ -247,7 +248,7 @@ pub fn judge<S: Source, T: Sink>(
         × IfSome (S.remaining source.old) (λ bytes. IsJudgement bytes text verdict)) }
     ensures untaken { IfErr result (λ _. T.taken sink.new ≡ T.taken sink.old) }
     ensures unwritten { IfErr result (λ fault. fault ≢ EngineFault.Write → sink.new ≡ sink.old) }
-    ensures reads { S.reads source.new ≤ S.reads source.old + MOST_BYTES + 1 }
+    ensures reads { S.reads source.new ≤ S.reads source.old + most_bytes + 1 }
     ensures source { SourceFails result (S.failures source.old) (S.failures source.new) }
     ensures sink { SinkFails result (T.failures sink.old) (T.failures sink.new) }
 {

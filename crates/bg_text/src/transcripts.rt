@@ -15,7 +15,7 @@ use std::alloc::{AllocError, Global};
 /// # Errors
 /// AllocError where memory runs out.
 pub fn transcript_text(alloc: Global, record: &Record) -> Result<Vec<u8>, AllocError>
-    ensures { IfOk result (λ text. IsTranscript «record».now.match_length «record».now.entries text.items) }
+    ensures { IfOk result (λ text. IsTranscript «record».now.terms «record».now.entries text.items) }
 {
     let mut text = Vec::new(alloc);
     push_length(&mut text, record.length())?;
@@ -38,7 +38,7 @@ fn push_length(out: &mut Vec<u8>, length: u8) -> Result<(), AllocError>
 fn push_entry(out: &mut Vec<u8>, record: &Record, number: Number) -> Result<(), AllocError>
     requires first { 1 ≤ number }
     requires last { number ≤ length «record».now.entries }
-    requires legal { IsLegalRecord «record».now.match_length «record».now.entries }
+    requires legal { IsLegalRecord «record».now.terms «record».now.entries }
     ensures { OnOk result (AddsLineOf «record».now number out.old.items out.new.items) }
 {
     let Some(entry) = record.entry(number) else {

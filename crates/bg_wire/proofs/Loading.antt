@@ -3,7 +3,7 @@ use Rattle.std.proofs.Common.{◌≡◌, ◌≢◌, ℕ, ◌+◌, ◌-◌, ◌<�
 use Rattle.std.specs.Prelude.{◌==◌, is_err, IsOk, IfOk, IfErr, OnOk, OnErr, ◌↔◌}
 use Rattle.std.proofs.lemmas.Bool.{cases_lt}
 use Rattle.std.proofs.lemmas.List.{length-append, take_at, take-take, take-append-drop}
-use Rattle.bg_match.specs.Match.{Log, IsLegalRecord, IsRecordFault}
+use Rattle.bg_match.specs.Match.{Log, IsLegalRecord, IsRecordFault, IsNext}
 use Rattle.bg_match.specs.declared.entries.Entry.{Entry}
 use Rattle.bg_match.specs.declared.entries.EntryFault.{EntryFault}
 use Rattle.bg_match.specs.declared.entries.EntryFault.TheVariants as entry_fault
@@ -44,7 +44,7 @@ one_first m n k entries p q = elim (cases_lt n k) [
   ]
 ]
 
-pub is_first_illegal : (m n : ℕ) (front rest all : List Entry) (x : Entry) → n ≡ length front + 1 → all ≡ (front ++ x ∷ []) ++ rest → IsLegalRecord m front → (IsLegalRecord m (front ++ x ∷ []) → ⊥) → IsFirstIllegal m all n
+pub is_first_illegal : (m n : ℕ) (front rest all : List Entry) (x : Entry) → n ≡ length front + 1 → all ≡ (front ++ x ∷ []) ++ rest → IsLegalRecord m front → (IsNext m front x → ⊥) → IsFirstIllegal m all n
 is_first_illegal m n front rest all x len is legal illegal =
     let more : length (front ++ x ∷ []) ≡ n = length-append front (x ∷ []) ∙ sym len in
     let taken : take n all ≡ front ++ x ∷ [] = ap (take n) is ∙ take_at (front ++ x ∷ []) rest n more in
@@ -149,7 +149,7 @@ module _ (bytes : List ℕ) (result : Result Saved LoadFault) (loads : Loads res
       go : (r : Result Saved LoadFault) → Loads r (Ok p) → r ≢ Err fault.Memory → IsOk r × IfOk r (λ s. parts_of s ≡ p)
       go (Ok s) h ample = (refl, h.0)
       go (Err fault.Memory) h ample = absurd (ample refl)
-      go (Err (fault.Illegal n)) h ample = absurd (not_legal p.match_length n p.entries h text.legal)
+      go (Err (fault.Illegal n)) h ample = absurd (not_legal p.terms n p.entries h text.legal)
       go (Err fault.Short) h ample = absurd h
       go (Err fault.Magic) h ample = absurd h
       go (Err (fault.Field n)) h ample = absurd h
@@ -181,9 +181,9 @@ module _ (bytes : List ℕ) (result : Result Saved LoadFault) (loads : Loads res
   only_illegal n at ample = go result (by_layout (Ok at.0) (laid bytes at.0 at.1)) ample
     where
       go : (r : Result Saved LoadFault) → Loads r (Ok at.0) → r ≢ Err fault.Memory → r ≡ Err (fault.Illegal n)
-      go (Ok s) h ample = absurd (not_legal (at.0).match_length n (at.0).entries at.2 h.1)
+      go (Ok s) h ample = absurd (not_legal (at.0).terms n (at.0).entries at.2 h.1)
       go (Err fault.Memory) h ample = absurd (ample refl)
-      go (Err (fault.Illegal k)) h ample = ap (λ (i : ℕ). Err (fault.Illegal i)) (one_first (at.0).match_length k n (at.0).entries h at.2)
+      go (Err (fault.Illegal k)) h ample = ap (λ (i : ℕ). Err (fault.Illegal i)) (one_first (at.0).terms k n (at.0).entries h at.2)
       go (Err fault.Short) h ample = absurd h
       go (Err fault.Magic) h ample = absurd h
       go (Err (fault.Field k)) h ample = absurd h
@@ -218,7 +218,7 @@ module _ (bytes : List ℕ) (result : Result Saved LoadFault) (loads : Loads res
           absurd (layout_never bytes fault.Memory never_memory (λ x. absurd (cc x)) (was ∙ ap (λ (x : LoadFault). Err x) same))
 
 -- where a replay stops, loading stops
-pub stopped : {A : Type 0} (r : Result A LoadFault) (f : LoadFault) (old new : Log) (p : SavedParts) → r ≡ Err f → old.match_length ≡ p.match_length → Replays r old new p.entries → Loads (Err f) (Ok p)
+pub stopped : {A : Type 0} (r : Result A LoadFault) (f : LoadFault) (old new : Log) (p : SavedParts) → r ≡ Err f → old.terms ≡ p.terms → Replays r old new p.entries → Loads (Err f) (Ok p)
 stopped {A} r f old new p e same h = go f (subst (λ (s : Result A LoadFault). Replays s old new p.entries) e h)
   where
     go : (f : LoadFault) → Replays (let s : Result A LoadFault = Err f in s) old new p.entries → Loads (Err f) (Ok p)
@@ -230,20 +230,20 @@ stopped {A} r f old new p e same h = go f (subst (λ (s : Result A LoadFault). R
     go fault.Extra h = absurd h
 
 -- a record that has all entries, and is otherwise as it was
-pub all_read : (old new : Log) (entries : List Entry) → entries ≡ new.entries → new ≡ record old { entries = new.entries; spare = new.spare } → IsLegalRecord old.match_length new.entries
-    → (new ≡ record old { entries = entries; spare = new.spare }) × IsLegalRecord old.match_length entries
+pub all_read : (old new : Log) (entries : List Entry) → entries ≡ new.entries → new ≡ record old { entries = new.entries; spare = new.spare } → IsLegalRecord old.terms new.entries
+    → (new ≡ record old { entries = entries; spare = new.spare }) × IsLegalRecord old.terms entries
 all_read old new entries e same legal =
-    (same ∙ ap (λ (es : List Entry). record old { entries = es; spare = new.spare }) (sym e), subst (IsLegalRecord old.match_length) (sym e) legal)
+    (same ∙ ap (λ (es : List Entry). record old { entries = es; spare = new.spare }) (sym e), subst (IsLegalRecord old.terms) (sym e) legal)
 
 -- a record that was appended to is otherwise as it was at first
 pub same_more : (first log new : Log) (entries : List Entry) → log ≡ record first { entries = log.entries; spare = log.spare } → new ≡ record log { entries = entries; spare = new.spare }
     → new ≡ record first { entries = new.entries; spare = new.spare }
 same_more first log new entries before added =
     let id : new.id ≡ first.id = ap (λ (l : Log). l.id) added ∙ ap (λ (l : Log). l.id) before in
-    let n : new.match_length ≡ first.match_length = ap (λ (l : Log). l.match_length) added ∙ ap (λ (l : Log). l.match_length) before in
+    let n : new.terms ≡ first.terms = ap (λ (l : Log). l.terms) added ∙ ap (λ (l : Log). l.terms) before in
     let left : new ≡ record new { id = first.id } = ap (λ (i : ℕ). record new { id = i }) id in
     let right : (let l : Log = record new { id = first.id } in l) ≡ record first { entries = new.entries; spare = new.spare } =
-    ap (λ (i : ℕ). record first { match_length = i; entries = new.entries; spare = new.spare }) n in
+    ap (λ (i : ℕ). record first { terms = i; entries = new.entries; spare = new.spare }) n in
     left ∙ right
 
 pub on_ok : {A E : Type 0} (r : Result A E) (P : Type 0) → is_err r ≡ false → OnOk r P → P

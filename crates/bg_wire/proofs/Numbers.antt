@@ -3,6 +3,7 @@ use Rattle.std.proofs.Common.{◌≡◌, ℕ, zero, suc, ◌+◌, ◌<◌, ◌�
 use Rattle.std.proofs.lemmas.Option.{same_Some}
 use Rattle.bg_match.specs.declared.entries.Entry.{Entry}
 use Rattle.std.specs.List.{AllByRecursion}
+use Rattle.bg_match.specs.Terms.{Terms}
 use Rattle.bg_match.specs.Entry.{IsEntry}
 use Rattle.bg_match.specs.Match.{at_number, IsLegalRecord}
 use Rattle.bg_match.proofs.Legal.{entries_in_range}
@@ -73,7 +74,7 @@ each_in_range [] h = tt
 each_in_range (x ∷ xs) h = (h 0 x refl, each_in_range xs (λ i e. h (suc i) e))
 
 -- the numbers of the entries of a run are in their ranges, since a legal record's are
-pub run_in_range : (match_length : ℕ) (entries : List Entry) (saved start : ℕ) (list : List Entry)
-    → IsLegalRecord match_length entries → IsRun (take saved entries) start list → AllByRecursion IsEntry list
-run_in_range match_length entries saved start list legal run =
-    each_in_range list (λ i e at. numbered_in_range saved entries (start + i) e (entries_in_range match_length entries legal) (run i e at))
+pub run_in_range : (terms : Terms) (entries : List Entry) (saved start : ℕ) (list : List Entry)
+    → IsLegalRecord terms entries → IsRun (take saved entries) start list → AllByRecursion IsEntry list
+run_in_range terms entries saved start list legal run =
+    each_in_range list (λ i e at. numbered_in_range saved entries (start + i) e (entries_in_range terms entries legal) (run i e at))

@@ -4,6 +4,7 @@ use Rattle.std.specs.Prelude.{◌==◌}
 use Rattle.std.specs.Int.{w16, w32, w64, to_be_bytes}
 use Rattle.std.proofs.lemmas.Bool.{eqb-true}
 use Rattle.std.proofs.lemmas.Bool.Decides.{nat_tests}
+use Rattle.bg_match.specs.Terms.{Terms}
 use Rattle.bg_match.specs.Entry.{IsEntry, IsAction}
 use Rattle.bg_match.specs.declared.actions.Action.{Action}
 use Rattle.bg_match.specs.declared.entries.Entry.{Entry}
@@ -104,9 +105,9 @@ has_claim party = (None, claim_text None, (tt, refl))
 
 -- ---- what stands before the entries
 
-abbrev front_with : ℕ → ℕ → ℕ → ℕ → Claim → ℕ → Front
-front_with party id match_length save claim count =
-    record { party = party; id = id; match_length = match_length; save = save; claim = claim; count = count }
+abbrev front_with : ℕ → ℕ → Terms → ℕ → Claim → ℕ → Front
+front_with party id terms save claim count =
+    record { party = party; id = id; terms = terms; save = save; claim = claim; count = count }
 
 module _ (party : ℕ) where
   abbrev from_claim : ℕ → ℕ → ℕ → Cursor → Read Front
@@ -175,8 +176,8 @@ front_parts_law =
 record IsFront (f : Front) : Type 0 where
   party : f.party ≤ seat_of_o
   id_fits : f.id < 2 ^ 64
-  shortest : shortest_match ≤ f.match_length
-  longest : f.match_length ≤ longest_match
+  shortest : shortest_match ≤ f.terms
+  longest : f.terms ≤ longest_match
   first_save : least_save ≤ f.save
   last_save : f.save ≤ greatest_save
   claim : IsClaimOf f.party f.claim
@@ -213,7 +214,7 @@ front_from f front h =
     let count_text = to_be_bytes w16 f.count in
     let from_claim_text = claim_text f.claim ++ count_text in
     let from_save_text = to_be_bytes w32 f.save ++ from_claim_text in
-    let from_length_text = f.match_length ∷ from_save_text in
+    let from_length_text = f.terms ∷ from_save_text in
     let from_id_text = to_be_bytes w64 f.id ++ from_length_text in
     let from_party_text = f.party ∷ from_id_text in (
       saved_magic,
@@ -231,8 +232,8 @@ front_from f front h =
           from_length_text,
           (r.id_fits, refl),
           (
-            f.match_length,
-            f.match_length ∷ [],
+            f.terms,
+            f.terms ∷ [],
             from_save_text,
             (r.shortest, r.longest, refl),
             (
@@ -266,7 +267,7 @@ parted_to p front h =
     let es = h.4.0 in
     let r = h.3.0 in
     let each = each_to IsEntry entry_text f.count es h.2 h.4.1 in
-    let counted : f ≡ front_of (parts_with f es) = ap (front_with f.party f.id f.match_length f.save f.claim) (sym each.0) in
+    let counted : f ≡ front_of (parts_with f es) = ap (front_with f.party f.id f.terms f.save f.claim) (sym each.0) in
     let text : front ≡ saved_text (parts_with f es) = join h.5 (h.3.1 ∙ ap front_text counted) each.2 in
     subst (λ (x : SavedParts). IsLayoutOf x front) h.4.2 (record {
       in_layout = record {
@@ -347,7 +348,7 @@ module _ (bytes : List ℕ) where
 
 has_saved : HasText IsLayoutOf
 has_saved =
-    let p : SavedParts = record { party = referee; id = 0; match_length = shortest_match; save = least_save; claim = None; entries = [] } in
+    let p : SavedParts = record { party = referee; id = 0; terms = shortest_match; save = least_save; claim = None; entries = [] } in
     let r : IsInLayout p = record {
       party = omega arith;
       id_fits = omega arith;

@@ -85,6 +85,9 @@ seat_of_x = 1
 abbrev pub seat_of_o : ℕ
 seat_of_o = 2
 
+abbrev pub first_watcher : ℕ
+first_watcher = 3
+
 abbrev pub last_watcher : ℕ
 last_watcher = 255
 

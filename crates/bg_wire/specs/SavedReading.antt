@@ -41,17 +41,17 @@ front_at c = do
   magic ← u32_at saved_magic saved_magic c
   party ← u8_at referee seat_of_o magic.1
   id ← u64_at party.1
-  match_length ← u8_at shortest_match longest_match id.1
-  save ← u32_at least_save greatest_save match_length.1
+  terms ← u8_at shortest_match longest_match id.1
+  save ← u32_at least_save greatest_save terms.1
   claim ← claim_at party.0 save.1
   count ← u16_at 0 last_number claim.1
-  Ok (record { party = party.0; id = id.0; match_length = match_length.0; save = save.0; claim = claim.0; count = count.0 }, count.1)
+  Ok (record { party = party.0; id = id.0; terms = terms.0; save = save.0; claim = claim.0; count = count.0 }, count.1)
 
 abbrev pub parts_with : Front → List Entry → SavedParts
 parts_with f entries = record {
   party = f.party;
   id = f.id;
-  match_length = f.match_length;
+  terms = f.terms;
   save = f.save;
   claim = f.claim;
   entries = entries;

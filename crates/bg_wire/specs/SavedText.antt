@@ -2,6 +2,7 @@
 use Rattle.std.specs.Prelude.{◌≡◌, ◌≢◌, ℕ, ◌-◌, ◌<◌, ◌≤◌, ◌^◌, List, [], ◌∷◌, ◌++◌, length, take, Option, Some, None, Result, Ok, Err}
 use Rattle.std.specs.List.{AllByRecursion}
 use Rattle.std.specs.Int.{w16, w32, w64, to_be_bytes}
+use Rattle.bg_match.specs.Terms.{Terms}
 use Rattle.bg_match.specs.Entry.{IsEntry, IsAction}
 use Rattle.bg_match.specs.Match.{Log, IsLegalRecord}
 use Rattle.bg_match.specs.declared.actions.Action.{Action}
@@ -17,7 +18,7 @@ use Rattle.bg_wire.specs.declared.saved_version_one.Front.{Front}
 pub record SavedParts : Type 0 where
   pub party : ℕ
   pub id : ℕ
-  pub match_length : ℕ
+  pub terms : Terms
   pub save : ℕ
   pub claim : Option (ℕ × Action)
   pub entries : List Entry
@@ -26,7 +27,7 @@ abbrev pub parts_with : ℕ → ℕ → Option (ℕ × Action) → Log → Saved
 parts_with party save claim log = record {
   party = party;
   id = log.id;
-  match_length = log.match_length;
+  terms = log.terms;
   save = save;
   claim = claim;
   entries = log.entries;
@@ -42,14 +43,14 @@ claim_text (Some claim) = claim_flag ∷ (to_be_bytes w16 claim.0 ++ action_text
 -- what stands before the entries, their count last
 abbrev pub front_text : Front → List ℕ
 front_text f =
-    to_be_bytes w32 saved_magic ++ (f.party ∷ (to_be_bytes w64 f.id ++ (f.match_length ∷ (to_be_bytes w32 f.save
+    to_be_bytes w32 saved_magic ++ (f.party ∷ (to_be_bytes w64 f.id ++ (f.terms ∷ (to_be_bytes w32 f.save
     ++ (claim_text f.claim ++ to_be_bytes w16 f.count)))))
 
 abbrev pub front_of : SavedParts → Front
 front_of p = record {
   party = p.party;
   id = p.id;
-  match_length = p.match_length;
+  terms = p.terms;
   save = p.save;
   claim = p.claim;
   count = length p.entries;
@@ -79,8 +80,8 @@ pub record IsSavable (p : SavedParts) : Type 0 where
 pub record IsInLayout (p : SavedParts) : Type 0 where
   pub party : p.party ≤ seat_of_o
   pub id_fits : p.id < 2 ^ 64
-  pub shortest : shortest_match ≤ p.match_length
-  pub longest : p.match_length ≤ longest_match
+  pub shortest : shortest_match ≤ p.terms
+  pub longest : p.terms ≤ longest_match
   pub first_save : least_save ≤ p.save
   pub last_save : p.save ≤ greatest_save
   pub claim : IsClaimOf p.party p.claim
@@ -95,18 +96,18 @@ pub record IsLayoutOf (p : SavedParts) (bytes : List ℕ) : Type 0 where
 -- the bytes are the saved text: the layout holds, and the entries are legal
 pub record IsSavedText (p : SavedParts) (bytes : List ℕ) : Type 0 where
   pub layout : IsLayoutOf p bytes
-  pub legal : IsLegalRecord p.match_length p.entries
+  pub legal : IsLegalRecord p.terms p.entries
 
 -- the entry of this number, from 1, is the first that does not follow the ones before it
-pub record IsFirstIllegal (match_length : ℕ) (entries : List Entry) (n : ℕ) : Type 0 where
+pub record IsFirstIllegal (terms : Terms) (entries : List Entry) (n : ℕ) : Type 0 where
   pub first : 1 ≤ n
   pub last : n ≤ length entries
-  pub before : IsLegalRecord match_length (take (n - 1) entries)
-  pub illegal : IsLegalRecord match_length (take n entries) → ⊥
+  pub before : IsLegalRecord terms (take (n - 1) entries)
+  pub illegal : IsLegalRecord terms (take n entries) → ⊥
 
 -- the layout holds, and the entry of this number is the first that does not follow
 abbrev pub IsIllegalAt : ℕ → List ℕ → Type 0
-IsIllegalAt n bytes = (p : SavedParts) × IsLayoutOf p bytes × IsFirstIllegal p.match_length p.entries n
+IsIllegalAt n bytes = (p : SavedParts) × IsLayoutOf p bytes × IsFirstIllegal p.terms p.entries n
 
 -- the layout holds, and there are entries
 abbrev pub HasEntries : List ℕ → Type 0
@@ -115,14 +116,14 @@ HasEntries bytes = (p : SavedParts) × IsLayoutOf p bytes × (p.entries ≢ [])
 -- the entries were appended to a record that had none, up to the first that does not follow
 abbrev pub Replays : {A : Type 0} → Result A LoadFault → Log → Log → List Entry → Type 0
 Replays (Ok _) old new entries =
-    (new ≡ record old { entries = entries; spare = new.spare }) × IsLegalRecord old.match_length entries
-Replays (Err (Illegal n)) old new entries = IsFirstIllegal old.match_length entries n
+    (new ≡ record old { entries = entries; spare = new.spare }) × IsLegalRecord old.terms entries
+Replays (Err (Illegal n)) old new entries = IsFirstIllegal old.terms entries n
 Replays (Err _) old new entries = ⊥
 
 -- what loading answers, by what the layout gives. Memory is wanted for entries alone
 abbrev pub Loads : Result Saved LoadFault → Result SavedParts LoadFault → Type 0
 Loads result (Err why) = result ≡ Err why
-Loads (Ok s) (Ok p) = (parts_of s ≡ p) × IsLegalRecord p.match_length p.entries
+Loads (Ok s) (Ok p) = (parts_of s ≡ p) × IsLegalRecord p.terms p.entries
 Loads (Err Memory) (Ok p) = p.entries ≢ []
-Loads (Err (Illegal n)) (Ok p) = IsFirstIllegal p.match_length p.entries n
+Loads (Err (Illegal n)) (Ok p) = IsFirstIllegal p.terms p.entries n
 Loads (Err _) (Ok p) = ⊥

@@ -23,7 +23,7 @@ pub use packets::{
     Datagram, EntryList, LONGEST_PACKET, MOST_DATAGRAM_BYTES, MOST_ENTRIES_IN_PACKET, Packet,
     PacketBytes,
 };
-pub use parties::{FIRST_PARTY, FIRST_WATCHER, LAST_PARTY, LAST_SEAT, REFEREE, party_of};
+pub use parties::{FIRST_WATCHER, LAST_WATCHER, REFEREE, SEAT_OF_O, SEAT_OF_X, party_of};
 pub use saves::{FIRST_SAVE, LAST_SAVE, LONGEST_SAVED_TEXT, Saved};
 pub use saving::{load, next_save, save_text, saved_texts_are_prefix_free};
 pub use slots::Slot;

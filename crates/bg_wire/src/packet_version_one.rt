@@ -2,6 +2,7 @@
 ghost use Rattle.std.specs.Prelude.{◌≡◌, ◌≤◌, ◌+◌, ◌++◌, length};
 ghost use Rattle.std.specs.Int.{w16, w64, to_be_bytes};
 ghost use Rattle.std.specs.List.{AllByRecursion};
+ghost use Rattle.bg_match.specs.Limits.{most_entries};
 ghost use Rattle.arrayvec.specs.ArrayVec.{array_vec_len};
 ghost use Rattle.bg_match.specs.Entry.{IsEntry};
 ghost use Rattle.bg_wire.specs.Reading.{Reads, many_at};
@@ -14,8 +15,8 @@ use crate::entry_reading::{action, entry};
 use crate::entry_writing::{Bytes, put_action, put_entry};
 use crate::reader::{ReadFault, Reader};
 use crate::{
-    EntryList, FIRST_PARTY, LAST_PARTY, LAST_SEAT, MOST_DATAGRAM_BYTES, MOST_ENTRIES_IN_PACKET,
-    Packet, WireFault,
+    EntryList, LAST_WATCHER, MOST_DATAGRAM_BYTES, MOST_ENTRIES_IN_PACKET, Packet, SEAT_OF_O,
+    SEAT_OF_X, WireFault,
 };
 use arrayvec::ArrayVec;
 use bg_match::{MOST_ENTRIES, Number};
@@ -63,7 +64,7 @@ impl WireFault {
 fn want(reader: &mut Reader<'_>, id: u64) -> Result<Packet, ReadFault>
     ensures { Reads result reader.new (want_at id reader.old) }
 {
-    let sender = reader.read_u8(FIRST_PARTY, LAST_PARTY)?;
+    let sender = reader.read_u8(SEAT_OF_X, LAST_WATCHER)?;
     let held = reader.read_u16(0, MOST_ENTRIES)?;
     Ok(Packet::Want { id, sender, held })
 }
@@ -72,7 +73,7 @@ fn want(reader: &mut Reader<'_>, id: u64) -> Result<Packet, ReadFault>
 fn claim(reader: &mut Reader<'_>, id: u64) -> Result<Packet, ReadFault>
     ensures { Reads result reader.new (claim_at id reader.old) }
 {
-    let sender = reader.read_u8(FIRST_PARTY, LAST_SEAT)?;
+    let sender = reader.read_u8(SEAT_OF_X, SEAT_OF_O)?;
     let number = reader.read_u16(FIRST_ENTRY, MOST_ENTRIES)?;
     let action = action(reader)?;
     Ok(Packet::Claim {
@@ -86,7 +87,7 @@ fn claim(reader: &mut Reader<'_>, id: u64) -> Result<Packet, ReadFault>
 /// How many entries one packet tells at most, from this number on.
 fn most_from(start: Number) -> u8
     requires first { 1 ≤ start }
-    requires last { start ≤ MOST_ENTRIES }
+    requires last { start ≤ most_entries }
     ensures value { result ≡ most_from start }
     ensures few { result ≤ MOST_ENTRIES_IN_PACKET }
 {
@@ -112,7 +113,7 @@ fn list_of(reader: &mut Reader<'_>, count: u8) -> Result<EntryList, ReadFault>
 #[tactic(auto, unfolding(crate::specs::PacketReading::list_at))]
 fn list(reader: &mut Reader<'_>, start: Number) -> Result<EntryList, ReadFault>
     requires first { 1 ≤ start }
-    requires last { start ≤ MOST_ENTRIES }
+    requires last { start ≤ most_entries }
     ensures { Reads result reader.new (list_at start reader.old) }
 {
     let count = reader.read_u8(1, most_from(start))?;

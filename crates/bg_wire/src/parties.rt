@@ -6,21 +6,21 @@ use bg_board::Player;
 
 /// The referee.
 pub const REFEREE: u8 = 0;
-/// The first party that is not the referee, which is the seat of X.
-pub const FIRST_PARTY: u8 = 1;
-/// The last party that is a seat, the seat of O.
-pub const LAST_SEAT: u8 = 2;
+/// The seat of X, the first party that is not the referee.
+pub const SEAT_OF_X: u8 = 1;
+/// The seat of O, the last party that is a seat.
+pub const SEAT_OF_O: u8 = 2;
 /// The first party that only watches.
 pub const FIRST_WATCHER: u8 = 3;
 /// The last party that may watch.
-pub const LAST_PARTY: u8 = u8::MAX;
+pub const LAST_WATCHER: u8 = u8::MAX;
 
 /// The party of a player's seat: 1 of X, 2 of O.
 pub fn party_of(player: Player) -> u8
     ensures { result ≡ party_of player }
 {
     match player {
-        Player::X => FIRST_PARTY,
-        Player::O => LAST_SEAT,
+        Player::X => SEAT_OF_X,
+        Player::O => SEAT_OF_O,
     }
 }

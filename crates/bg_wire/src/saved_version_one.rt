@@ -1,6 +1,7 @@
 //! The layout of saved texts, version 1 (docs/FORMATS.md, "Saved files").
 ghost use Rattle.std.specs.Prelude.{◌≡◌, ◌≤◌, ◌+◌, ◌++◌, IfOk};
 ghost use Rattle.arrayvec.specs.ArrayVec.{array_vec_len};
+ghost use Rattle.bg_match.specs.Limits.{longest_match, shortest_match};
 ghost use Rattle.bg_match.specs.Match.{IsLegalRecord};
 ghost use Rattle.bg_wire.specs.Reading.{Reads, Ends, passed_of, many_at};
 ghost use Rattle.bg_wire.specs.EntryReading.{entry_at};
@@ -11,9 +12,9 @@ use crate::codes::FIRST_ENTRY;
 use crate::entry_reading::{action, entry};
 use crate::entry_writing::{Bytes, put_action};
 use crate::reader::{ReadFault, Reader};
-use crate::{FIRST_SAVE, LAST_SAVE, LAST_SEAT, LoadFault, MOST_DATAGRAM_BYTES, REFEREE};
+use crate::{FIRST_SAVE, LAST_SAVE, LoadFault, MOST_DATAGRAM_BYTES, REFEREE, SEAT_OF_O};
 use arrayvec::ArrayVec;
-use bg_match::{Action, LONGEST_MATCH, MOST_ENTRIES, Number, Record, SHORTEST_MATCH};
+use bg_match::{Action, LONGEST_MATCH, MOST_ENTRIES, Number, Record, SHORTEST_MATCH, Terms};
 
 /// What every saved text of this version begins with, as a number of four bytes.
 pub(crate) const MAGIC: u32 = 0x4247_5331;
@@ -30,7 +31,7 @@ pub(crate) const KEPT_CLAIM: u8 = 1;
 pub(crate) struct Front {
     pub(crate) party: u8,
     pub(crate) id: u64,
-    pub(crate) match_length: u8,
+    pub(crate) terms: Terms,
     pub(crate) save: u32,
     pub(crate) claim: Option<(Number, Action)>,
     pub(crate) count: Number,
@@ -84,20 +85,20 @@ fn claim(reader: &mut Reader<'_>, party: u8) -> Result<Option<(Number, Action)>,
 #[tactic(auto, unfolding(crate::specs::SavedReading::front_at))]
 fn read_front(reader: &mut Reader<'_>) -> Result<Front, ReadFault>
     ensures reads { Reads result reader.new (front_at reader.old) }
-    ensures shortest { IfOk result (λ front. SHORTEST_MATCH ≤ front.match_length) }
-    ensures longest { IfOk result (λ front. front.match_length ≤ LONGEST_MATCH) }
+    ensures shortest { IfOk result (λ front. shortest_match ≤ front.terms) }
+    ensures longest { IfOk result (λ front. front.terms ≤ longest_match) }
 {
     reader.read_u32(MAGIC, MAGIC)?;
-    let party = reader.read_u8(REFEREE, LAST_SEAT)?;
+    let party = reader.read_u8(REFEREE, SEAT_OF_O)?;
     let id = reader.read_u64()?;
-    let match_length = reader.read_u8(SHORTEST_MATCH, LONGEST_MATCH)?;
+    let terms = reader.read_u8(SHORTEST_MATCH, LONGEST_MATCH)?;
     let save = reader.read_u32(FIRST_SAVE, LAST_SAVE)?;
     let claim = claim(reader, party)?;
     let count = reader.read_u16(0, MOST_ENTRIES)?;
     Ok(Front {
         party,
         id,
-        match_length,
+        terms,
         save,
         claim,
         count,
@@ -117,8 +118,8 @@ fn pass_entries(reader: &mut Reader<'_>, count: Number) -> Result<(), ReadFault>
 /// What stands before the entries, and a reader at the first of them, where the whole layout holds.
 pub(crate) fn lay_out(bytes: &[u8]) -> Result<(Front, Reader<'_>), LoadFault>
     ensures laid_out { IsLaidOut result bytes.now }
-    ensures shortest { IfOk result (λ parts. SHORTEST_MATCH ≤ (parts.0).match_length) }
-    ensures longest { IfOk result (λ parts. (parts.0).match_length ≤ LONGEST_MATCH) }
+    ensures shortest { IfOk result (λ parts. shortest_match ≤ (parts.0).terms) }
+    ensures longest { IfOk result (λ parts. (parts.0).terms ≤ longest_match) }
 {
     let mut reader = Reader::new(bytes);
     let front = match read_front(&mut reader) {
@@ -145,7 +146,7 @@ pub(crate) fn front_text(
     requires { IsSavable (parts_with party save claim.now log.now) }
     ensures text { result.items ≡ front_text (front_of (parts_with party save claim.now log.now)) }
     ensures in_layout { IsInLayout (parts_with party save claim.now log.now) }
-    ensures legal { IsLegalRecord log.now.match_length log.now.entries }
+    ensures legal { IsLegalRecord log.now.terms log.now.entries }
 {
     let mut out = ArrayVec::new();
     out.try_extend_from_slice(&MAGIC.to_be_bytes()).unwrap();

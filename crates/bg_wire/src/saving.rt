@@ -1,6 +1,7 @@
 //! Saved texts, written and read.
 ghost use Rattle.std.specs.Prelude.{◌≡◌, ◌≢◌, ◌↔◌, ◌<◌, ◌≤◌, ◌+◌, ◌++◌, [], List, ℕ, IsOk, IfOk, IfErr, OnOk, vec_len};
 ghost use Rattle.std.specs.List.{AllByRecursion};
+ghost use Rattle.bg_match.specs.Limits.{most_entries};
 ghost use Rattle.bg_match.specs.Entry.{IsEntry};
 ghost use Rattle.bg_match.specs.Match.{IsLegalRecord};
 ghost use Rattle.bg_match.specs.declared.entries.Entry.{Entry};
@@ -17,7 +18,7 @@ use crate::entry_reading::entry;
 use crate::entry_writing::{Bytes, put_entry};
 use crate::reader::Reader;
 use crate::{
-    LAST_SEAT, LONGEST_SAVED_TEXT, LoadFault, SaveRefusal, Saved, Slot, saved_version_one as layout,
+    LONGEST_SAVED_TEXT, LoadFault, SEAT_OF_O, SaveRefusal, Saved, Slot, saved_version_one as layout,
 };
 use arrayvec::ArrayVec;
 use bg_match::{Action, MOST_ENTRIES, Number, Record};
@@ -47,7 +48,7 @@ pub fn next_save(
     claim: &Option<(Number, Action)>,
     log: &Record,
 ) -> Result<(Slot, u32, Vec<u8>), SaveRefusal>
-    requires party { party ≤ LAST_SEAT }
+    requires party { party ≤ SEAT_OF_O }
     requires claim { IsClaimOf party claim.now }
     ensures next { IsNextSave (parts_with party (last + 1) claim.now log.now) result }
     ensures longest { IfOk result (λ next. vec_len (next.2) ≤ LONGEST_SAVED_TEXT) }
@@ -97,7 +98,7 @@ fn push_entries(text: &mut Vec<u8>, log: &Record) -> Result<(), AllocError>
 
 /// The text of the entry of this index, from 0; nothing past the end.
 fn entry_bytes(log: &Record, index: Number) -> Bytes
-    requires below { index < MOST_ENTRIES }
+    requires below { index < most_entries }
     requires in_range { AllByRecursion IsEntry log.now.entries }
     ensures { result.items ≡ text_at log.now.entries index }
 {
@@ -145,7 +146,7 @@ fn load_record(alloc: Global, bytes: &[u8]) -> Result<Saved, LoadFault>
     ensures { Loads result (layout_of bytes.now) }
 {
     let (front, mut entries) = layout::lay_out(bytes)?;
-    let mut log = Record::new(alloc, front.id, front.match_length).unwrap();
+    let mut log = Record::new(alloc, front.id, front.terms).unwrap();
     if log.reserve(front.count).is_err() {
         return Err(LoadFault::Memory);
     }
@@ -161,7 +162,7 @@ fn load_record(alloc: Global, bytes: &[u8]) -> Result<Saved, LoadFault>
 /// Appends so many entries to a record that has none, and has room for them.
 fn replay(log: &mut Record, reader: &mut Reader<'_>, count: Number) -> Result<(), LoadFault>
     requires none { log.old.entries ≡ [] }
-    requires legal { IsLegalRecord log.old.match_length [] }
+    requires legal { IsLegalRecord log.old.terms [] }
     requires room { count ≤ log.old.spare }
     ensures { (entries : List Entry) (end : Cursor) → many_at entry_at count reader.old ≡ Ok (entries, end)
         → Replays result log.old log.new entries }

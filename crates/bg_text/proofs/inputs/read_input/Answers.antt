@@ -1,5 +1,5 @@
 use Rattle.std.proofs.Common.{arith, rules, refl, ap, ◌∙◌, ◌≡◌, ◌<◌, ◌+◌, ◌≤◌, Ok, length, length-take, append-nil}
-use Rattle.bg_text.specs.declared.inputs.TheConstants.{MOST_BYTES}
+use Rattle.bg_text.specs.Limits.{most_bytes}
 use Rattle.bg_text.proofs.WholeInputs.{read_to_end, read_to_limit}
 use Rattle.bg_text.proofs.inputs.read_input.Goals as goal
 
@@ -13,7 +13,7 @@ returns-then-count-eq0-clause-read g c =
     let part = length-take c.min-room.result c.loop-chunk.chunk in
     let room : 0 < length c.read.new.buffer =
     omega (arith, part, c.min-room.array_long, c.read.auto.buffer, c.min-room.ensures, c.len-in-loop-chunk.ensures, c.loop-chunk-test.true, c.len.ensures) in
-    let most : length c.loop-chunk.input.items ≤ MOST_BYTES + 1 = omega (arith, c.loop-chunk.input.ok.0, so_far.within) in
+    let most : length c.loop-chunk.input.items ≤ most_bytes + 1 = omega (arith, c.loop-chunk.input.ok.0, so_far.within) in
     record {
       given = given ∙ append-nil _ ∙ so_far.given;
       most = most;
@@ -24,7 +24,7 @@ returns-then-count-eq0-clause-read g c =
 pub returns-clause-read : goal.returns-clause-read
 returns-clause-read g c =
     let so_far = c.loop-chunk.invariant in
-    let all : length c.loop-chunk.input.items ≡ MOST_BYTES + 1 = omega (arith, c.loop-chunk.input.ok.0, so_far.within, c.loop-chunk-test.false, c.len.ensures) in
+    let all : length c.loop-chunk.input.items ≡ most_bytes + 1 = omega (arith, c.loop-chunk.input.ok.0, so_far.within, c.loop-chunk-test.false, c.len.ensures) in
     record {
       given = so_far.given;
       most = omega (arith, all);

@@ -1,6 +1,6 @@
 use Rattle.std.proofs.Common.{◌≡◌, ◌≤◌, ◌+◌, ◌-◌, ◌++◌, vec_len}
 use Rattle.std.specs.Io.KnownBytes.{Consumes}
-use Rattle.bg_text.specs.declared.inputs.TheConstants.{MOST_BYTES}
+use Rattle.bg_text.specs.Limits.{most_bytes}
 use Rattle.bg_text.proofs.inputs.read_input.Given as goal
 
 -- what was given and what was read of the known bytes, a byte at least with each read, and no read failed
@@ -10,9 +10,9 @@ invariant-loop-chunk g l = record {
   given : g.S.Source.given l.source ≡ g.S.Source.given l.initial.source ++ l.input.items;
   ends : g.S.Source.ends l.source ≡ g.S.Source.ends l.initial.source;
   reads : g.S.Source.reads l.source ≤ g.S.Source.reads l.initial.source + vec_len l.input;
-  within : vec_len l.input ≤ MOST_BYTES + 1;
+  within : vec_len l.input ≤ most_bytes + 1;
   failures : g.S.Source.failures l.source ≡ g.S.Source.failures l.initial.source;
 }
 
 abbrev pub decreases-loop-chunk : goal.decreases-loop-chunk
-decreases-loop-chunk g l = MOST_BYTES + 1 - vec_len l.input
+decreases-loop-chunk g l = most_bytes + 1 - vec_len l.input

@@ -18,5 +18,5 @@ returns-in_err-push-clause-fault c =
 pub returns-clause-added : goal.returns-clause-added
 returns-clause-added c =
     line_added c.args.record.now c.standing.result c.args.line.now c.standing.ensures.stands c.in_ok-entry.entry c.push.new.self
-    c.in_ok-entry.ensures.found (ap (λ log. log.entries) c.in_ok-push.ensures.appended) (ap (λ log. log.match_length) c.in_ok-push.ensures.appended)
+    c.in_ok-entry.ensures.found (ap (λ log. log.entries) c.in_ok-push.ensures.appended) (ap (λ log. log.terms) c.in_ok-push.ensures.appended)
     c.in_ok-push.ensures.legal

@@ -7,7 +7,7 @@ use Rattle.bg_text.proofs.judging.judge_lines.Goals as goal
 pub loop-line-init : goal.loop-line-init
 loop-line-init c =
     let new = rw c.unwrap-record.ensures at c.new.ensures.value in
-    part_start c.args.length (lines_of c.args.lines.now) c.unwrap-record.result c.args.lines.now refl (ap (λ (r : Log). r.entries) new) (ap (λ (r : Log). r.match_length) new)
+    part_start c.args.length (lines_of c.args.lines.now) c.unwrap-record.result c.args.lines.now refl (ap (λ (r : Log). r.entries) new) (ap (λ (r : Log). r.terms) new)
 
 pub loop-line-preserved : goal.loop-line-preserved
 loop-line-preserved c =

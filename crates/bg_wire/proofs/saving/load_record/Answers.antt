@@ -20,5 +20,5 @@ returns-in_err-replay c =
     let laid = c.in_ok-front.ensures.laid_out in
     let p = err_from_is_err_and c.from_residual-in_err-replay.result c.from_residual-in_err-replay.ensures.1 in
     let made = of_ok c.new.result c.unwrap-log.result _ c.unwrap-log.ensures c.new.ensures.value in
-    let same : c.reserve.new.self.match_length ≡ c.in_ok-front.front.match_length = ap (λ (l : Log). l.match_length) c.reserve.ensures.same ∙ ap (λ (l : Log). l.match_length) made in
+    let same : c.reserve.new.self.terms ≡ c.in_ok-front.front.terms = ap (λ (l : Log). l.terms) c.reserve.ensures.same ∙ ap (λ (l : Log). l.terms) made in
     rw (p.1, p.2, laid.3) (stopped c.replay.result c.in_err-replay.field-0.0 c.reserve.new.self c.replay.new.log (parts_with c.in_ok-front.front laid.0) c.in_err-replay.was same (c.replay.ensures laid.0 laid.1 laid.2))

@@ -11,5 +11,5 @@ invariant-loop l = record {
   len : length l.log.entries ≡ l.counter;
   room : l.count ≤ l.log.spare + l.counter;
   same : l.log ≡ record l.fn.log { entries = l.log.entries; spare = l.log.spare };
-  legal : IsLegalRecord l.fn.log.match_length l.log.entries;
+  legal : IsLegalRecord l.fn.log.terms l.log.entries;
 }

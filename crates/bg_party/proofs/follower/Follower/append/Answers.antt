@@ -1,12 +1,12 @@
 use Rattle.std.proofs.Common.{◌≡◌, ◌++◌, ◌∷◌, [], take, ap, arith}
-use Rattle.bg_match.specs.Match.{Log, IsLegalRecord}
+use Rattle.bg_match.specs.Match.{Log, IsLegalRecord, IsNext}
 use Rattle.bg_party.proofs.Following.{appended, legal_so_far}
 use Rattle.bg_party.proofs.follower.Follower.append.Goals as goal
 
 pub unwrap-requires : goal.unwrap-requires
 unwrap-requires c =
     let entries : c.loop-entry.self.log.entries ≡ c.args.self.now.log.entries ++ take c.loop-entry.entry-index c.args.new.now = ap (λ (l : Log). l.entries) c.loop-entry.invariant.same in
-    let size : c.loop-entry.self.log.match_length ≡ c.args.self.now.log.match_length = ap (λ (l : Log). l.match_length) c.loop-entry.invariant.same in
-    let legal : IsLegalRecord c.loop-entry.self.log.match_length (c.loop-entry.self.log.entries ++ c.copy.result ∷ []) =
-    rw (entries, size, c.copy.ensures) (legal_so_far c.args.self.now.log.match_length c.args.self.now.log.entries c.args.new.now c.loop-entry.entry-index c.entry-item.result c.loop-entry-test.true c.entry-item.is c.requires.legal) in
+    let size : c.loop-entry.self.log.terms ≡ c.args.self.now.log.terms = ap (λ (l : Log). l.terms) c.loop-entry.invariant.same in
+    let legal : IsNext c.loop-entry.self.log.terms c.loop-entry.self.log.entries c.copy.result =
+    rw (entries, size, c.copy.ensures) (legal_so_far c.args.self.now.log.terms c.args.self.now.log.entries c.args.new.now c.loop-entry.entry-index c.entry-item.result c.loop-entry-test.true c.entry-item.is c.requires.legal) in
     appended c.push.result c.loop-entry.self.log c.copy.result c.push.ensures.fault (omega (arith, c.loop-entry.invariant.room, c.loop-entry-test.true)) c.push.ensures.ok legal

@@ -6,11 +6,11 @@ use Rattle.bg_party.proofs.follower.Follower.first_illegal.Goals as goal
 pub returns-in-Err : goal.returns-in-Err
 returns-in-Err c =
     let taken : length (take c.loop-index.index c.args.new.now) ≡ c.loop-index.index = length-take-le c.loop-index.index c.args.new.now (omega arith) in
-    stops c.args.self.now.log.match_length c.len.result c.args.self.now.log.entries c.args.new.now c.loop-index.index c.index-new-index.result c.loop-index.standing c.loop-index-test.true c.index-new-index.is c.len.ensures.value c.requires.few taken c.loop-index.invariant (λ can. let ok = c.in-Err.ensures.ok.1 can in cc)
+    stops c.args.self.now.log.terms c.len.result c.args.self.now.log.entries c.args.new.now c.loop-index.index c.index-new-index.result c.loop-index.standing c.loop-index-test.true c.index-new-index.is c.len.ensures.value c.requires.few taken c.loop-index.invariant (λ can. let ok = c.in-Err.ensures.ok.1 can in cc)
 
 pub loop-index-preserved : goal.loop-index-preserved
 loop-index-preserved c =
-    goes_on c.args.self.now.log.match_length c.args.self.now.log.entries c.args.new.now c.loop-index.index c.index-new-index.result c.loop-index.standing c.in-Ok.after c.loop-index-test.true c.index-new-index.is c.loop-index.invariant c.in-Ok.ensures.after
+    goes_on c.args.self.now.log.terms c.args.self.now.log.entries c.args.new.now c.loop-index.index c.index-new-index.result c.loop-index.standing c.in-Ok.after c.loop-index-test.true c.index-new-index.is c.loop-index.invariant c.in-Ok.ensures.after
 
 pub returns : goal.returns
-returns c = all_follow c.args.self.now.log.match_length c.args.self.now.log.entries c.args.new.now c.loop-index.index c.loop-index.standing c.loop-index-test.false c.requires.few c.loop-index.invariant
+returns c = all_follow c.args.self.now.log.terms c.args.self.now.log.entries c.args.new.now c.loop-index.index c.loop-index.standing c.loop-index-test.false c.requires.few c.loop-index.invariant

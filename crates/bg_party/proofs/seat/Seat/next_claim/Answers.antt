@@ -19,7 +19,7 @@ returns c =
     let number = rw (← c.self.view_is) at c.claim_number.ensures in
     rw (← c.self.view_is) (
       (
-        subst (λ (p : Player). ActsAfter c.self.inside.follower.log.match_length c.self.inside.follower.log.entries (Seat p)) same c.in-Seat.ensures,
+        subst (λ (p : Player). ActsAfter c.self.inside.follower.log.terms c.self.inside.follower.log.entries (Seat p)) same c.in-Seat.ensures,
         omega (arith, number, c.len.ensures.value),
         (c.unwrap-entry.result, rw c.copy.ensures at (rw c.unwrap-entry.ensures at c.entry_of.ensures.answers), c.in_default-check.ensures.ok.0 refl),
       ),

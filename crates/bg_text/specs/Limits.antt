@@ -1,0 +1,6 @@
+-- The number that limits an input.
+use Rattle.std.specs.Prelude.{ℕ}
+
+-- an input has so many bytes at most
+abbrev pub most_bytes : ℕ
+most_bytes = 4194304
