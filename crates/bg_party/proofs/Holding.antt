@@ -11,18 +11,19 @@ use Rattle.bg_wire.specs.declared.packets.Packet.{Packet}
 use Rattle.bg_wire.specs.declared.packets.Packet.TheVariants as packet
 use Rattle.bg_party.specs.declared.outcomes.Learned.{Learned}
 use Rattle.bg_party.specs.declared.outcomes.Learned.TheVariants as learned
+use Rattle.bg_party.specs.Views.{FollowerView}
 use Rattle.bg_party.specs.Learns.{Agrees, Continues, Keeps, Learns, Teaches, IsAfter, new_entries}
 
 -- what entries of this match teach
-pub learns_entries : (log : Log) (id start : ℕ) (list : List Entry) (l : Learned) → id ≡ log.id → Teaches log start list l
-    → Learns log (packet.Entries id start list) l
-learns_entries log id start list learned.OtherMatch same h = absurd h
-learns_entries log id start list learned.Nothing same h = (same, h)
-learns_entries log id start list (learned.Conflict n) same h = (same, h)
-learns_entries log id start list learned.Gap same h = (same, h)
-learns_entries log id start list (learned.Illegal n) same h = (same, h)
-learns_entries log id start list learned.Memory same h = (same, h)
-learns_entries log id start list (learned.Grew k) same h = (same, h)
+pub learns_entries : (f : FollowerView) (id start : ℕ) (list : List Entry) (l : Learned) → id ≡ f.log.id → Teaches f start list l
+    → Learns f (packet.Entries id start list) l
+learns_entries f id start list learned.OtherMatch same h = absurd h
+learns_entries f id start list learned.Nothing same h = (same, h)
+learns_entries f id start list (learned.Conflict n) same h = (same, h)
+learns_entries f id start list learned.Gap same h = (same, h)
+learns_entries f id start list (learned.Illegal n) same h = (same, h)
+learns_entries f id start list learned.Memory same h = (same, h)
+learns_entries f id start list (learned.Grew k) same h = (same, h)
 
 nat_order : (a b : ℕ) → (a ≤ b) ⊎ (b < a)
 nat_order zero b = inl (omega arith)
@@ -82,24 +83,24 @@ keeps_none old p (learned.Illegal n) new h = λ k. absurd (h k)
 keeps_none old p learned.Memory new h = tt
 keeps_none old p (learned.Grew k) new h = λ c. absurd (h c)
 
-keeps_entries : (old : Log) (id start : ℕ) (list : List Entry) (l : Learned) (new : Log) → 1 ≤ start
+keeps_entries : (old : FollowerView) (id start : ℕ) (list : List Entry) (l : Learned) (new : FollowerView) → 1 ≤ start
     → Learns old (packet.Entries id start list) l → IsAfter old (packet.Entries id start list) l new
-    → Keeps old (packet.Entries id start list) l new
+    → Keeps old.log (packet.Entries id start list) l new.log
 keeps_entries old id start list learned.OtherMatch new low h after = λ k. absurd (h k.0)
 keeps_entries old id start list learned.Nothing new low h after =
-    λ k. subst (λ (log : Log). IsRun log.entries start list) (sym after) (all_held old.entries start list k.1.0 k.1.1 h.1.1)
+    λ k. subst (λ (f : FollowerView). IsRun f.log.entries start list) (sym after) (all_held old.log.entries start list k.1.0 k.1.1 h.1.1)
 keeps_entries old id start list (learned.Conflict n) new low h after =
     λ k. let c = h.1 in
-    absurd (c.5 (subst (λ (m : ℕ). at_number old.entries m ≡ Some c.1) (sym c.2) (k.1.0 c.0 c.1 c.4 (omega (arith, c.2, c.3)))))
+    absurd (c.5 (subst (λ (m : ℕ). at_number old.log.entries m ≡ Some c.1) (sym c.2) (k.1.0 c.0 c.1 c.4 (omega (arith, c.2, c.3)))))
 keeps_entries old id start list learned.Gap new low h after = λ k. absurd (omega (arith, h.1.1, k.1.1))
 keeps_entries old id start list (learned.Illegal n) new low h after =
-    λ k. let all = old.entries ++ new_entries old.entries start list in
-    absurd (h.1.1.illegal (legal_fronts old.terms (take n all) (drop n all) (subst (IsLegalRecord old.terms) (sym (take-append-drop n all)) k.2)))
+    λ k. let all = old.log.entries ++ new_entries old.log.entries start list in
+    absurd (h.1.1.illegal (legal_fronts old.log.terms (take n all) (drop n all) (subst (IsLegalRecord old.log.terms) (sym (take-append-drop n all)) k.2)))
 keeps_entries old id start list learned.Memory new low h after = tt
 keeps_entries old id start list (learned.Grew n) new low h after =
-    λ k. subst (λ (log : Log). IsRun log.entries start list) (sym after) (grown_holds old.entries start list low k.1.0 k.1.1)
+    λ k. subst (λ (f : FollowerView). IsRun f.log.entries start list) (sym after.0) (grown_holds old.log.entries start list low k.1.0 k.1.1)
 
-pub keeps : (old : Log) (p : Packet) (l : Learned) (new : Log) → IsPacket p → Learns old p l → IsAfter old p l new → Keeps old p l new
-keeps old (packet.Want id sender held) l new is h after = keeps_none old (packet.Want id sender held) l new (λ k. k)
-keeps old (packet.Claim id sender number action) l new is h after = keeps_none old (packet.Claim id sender number action) l new (λ k. k)
+pub keeps : (old : FollowerView) (p : Packet) (l : Learned) (new : FollowerView) → IsPacket p → Learns old p l → IsAfter old p l new → Keeps old.log p l new.log
+keeps old (packet.Want id sender held) l new is h after = keeps_none old.log (packet.Want id sender held) l new.log (λ k. k)
+keeps old (packet.Claim id sender number action) l new is h after = keeps_none old.log (packet.Claim id sender number action) l new.log (λ k. k)
 keeps old (packet.Entries id start list) l new is h after = keeps_entries old id start list l new is.first_entry h after

@@ -1,15 +1,16 @@
--- A packet teaches the holder of a record one thing, want of memory aside.
+-- A packet teaches a follower one thing, want of memory aside.
 use Rattle.std.proofs.Common.{◌≡◌, ◌≢◌, ◌⊎◌, inl, inr, ℕ, zero, suc, ◌+◌, ◌-◌, ◌<◌, ◌≤◌, Some, List, [], ◌∷◌, ◌++◌, take, drop, refl, sym, ◌∙◌, ap, subst, arith}
 use Rattle.std.proofs.lemmas.List.{append-nil, take-append-drop}
 use Rattle.bg_match.specs.declared.actions.Action.{Action}
 use Rattle.bg_match.specs.declared.entries.Entry.{Entry}
-use Rattle.bg_match.specs.Match.{Log, IsLegalRecord, at_number}
+use Rattle.bg_match.specs.Match.{IsLegalRecord, at_number}
 use Rattle.bg_match.proofs.Legal.{legal_fronts}
 use Rattle.bg_wire.specs.SavedText.{IsFirstIllegal}
 use Rattle.bg_wire.specs.declared.packets.Packet.TheVariants as packet
 use Rattle.bg_wire.proofs.Numbers.{get_take}
 use Rattle.bg_party.specs.declared.outcomes.Learned.{Learned}
 use Rattle.bg_party.specs.declared.outcomes.Learned.TheVariants as learned
+use Rattle.bg_party.specs.Views.{FollowerView, IsFollower}
 use Rattle.bg_party.specs.Learns.{Agrees, IsConflict, Teaches, Learns, TeachesOneThing, new_entries}
 
 nat_order : (a b : ℕ) → (a < b) ⊎ (a ≡ b) ⊎ (b < a)
@@ -67,88 +68,88 @@ none_follow : (m : ℕ) (entries new : List Entry) → IsLegalRecord m entries �
 none_follow m entries new legal none =
     subst (λ (l : List Entry). IsLegalRecord m (entries ++ l)) (sym none) (subst (IsLegalRecord m) (sym (append-nil entries)) legal)
 
-module _ (log : Log) (start : ℕ) (list : List Entry) (legal : IsLegalRecord log.terms log.entries) where
+module _ (f : FollowerView) (start : ℕ) (list : List Entry) (is : IsFollower f) where
   -- the answers are tried in this order, so one of them excludes the later ones
-  apart : (a b : Learned) → Teaches log start list a → Teaches log start list b → a ≢ learned.Memory → b ≢ learned.Memory → a ≡ b
+  apart : (a b : Learned) → Teaches f start list a → Teaches f start list b → a ≢ learned.Memory → b ≢ learned.Memory → a ≡ b
   apart learned.OtherMatch b h k x y = absurd h
   apart a learned.OtherMatch h k x y = absurd k
   apart learned.Memory b h k x y = absurd (x refl)
   apart a learned.Memory h k x y = absurd (y refl)
-  apart (learned.Conflict n) (learned.Conflict m) h k x y = ap learned.Conflict (one_conflict log.entries start n m list h k)
-  apart (learned.Conflict n) learned.Gap h k x y = absurd (no_conflict log.entries start n list h k.0)
-  apart (learned.Conflict n) learned.Nothing h k x y = absurd (no_conflict log.entries start n list h k.0.0)
-  apart (learned.Conflict n) (learned.Illegal m) h k x y = absurd (no_conflict log.entries start n list h k.0.0)
-  apart (learned.Conflict n) (learned.Grew m) h k x y = absurd (no_conflict log.entries start n list h k.0.0.0)
-  apart learned.Gap (learned.Conflict m) h k x y = absurd (no_conflict log.entries start m list k h.0)
+  apart (learned.Conflict n) (learned.Conflict m) h k x y = ap learned.Conflict (one_conflict f.log.entries start n m list h k)
+  apart (learned.Conflict n) learned.Gap h k x y = absurd (no_conflict f.log.entries start n list h k.0)
+  apart (learned.Conflict n) learned.Nothing h k x y = absurd (no_conflict f.log.entries start n list h k.0.0)
+  apart (learned.Conflict n) (learned.Illegal m) h k x y = absurd (no_conflict f.log.entries start n list h k.0.0)
+  apart (learned.Conflict n) (learned.Grew m) h k x y = absurd (no_conflict f.log.entries start n list h k.0.0.0)
+  apart learned.Gap (learned.Conflict m) h k x y = absurd (no_conflict f.log.entries start m list k h.0)
   apart learned.Gap learned.Gap h k x y = refl
   apart learned.Gap learned.Nothing h k x y = absurd (omega (arith, h.1, k.0.1))
   apart learned.Gap (learned.Illegal m) h k x y = absurd (omega (arith, h.1, k.0.1))
   apart learned.Gap (learned.Grew m) h k x y = absurd (omega (arith, h.1, k.0.0.1))
-  apart learned.Nothing (learned.Conflict m) h k x y = absurd (no_conflict log.entries start m list k h.0.0)
+  apart learned.Nothing (learned.Conflict m) h k x y = absurd (no_conflict f.log.entries start m list k h.0.0)
   apart learned.Nothing learned.Gap h k x y = absurd (omega (arith, k.1, h.0.1))
   apart learned.Nothing learned.Nothing h k x y = refl
   apart learned.Nothing (learned.Illegal m) h k x y =
-      absurd (not_all log.terms m (log.entries ++ new_entries log.entries start list) k.1 (none_follow log.terms log.entries (new_entries log.entries start list) legal h.1))
+      absurd (not_all f.log.terms m (f.log.entries ++ new_entries f.log.entries start list) k.1 (none_follow f.log.terms f.log.entries (new_entries f.log.entries start list) is.legal h.1))
   apart learned.Nothing (learned.Grew m) h k x y = absurd (k.0.1 h.1)
-  apart (learned.Illegal n) (learned.Conflict m) h k x y = absurd (no_conflict log.entries start m list k h.0.0)
+  apart (learned.Illegal n) (learned.Conflict m) h k x y = absurd (no_conflict f.log.entries start m list k h.0.0)
   apart (learned.Illegal n) learned.Gap h k x y = absurd (omega (arith, k.1, h.0.1))
   apart (learned.Illegal n) learned.Nothing h k x y =
-      absurd (not_all log.terms n (log.entries ++ new_entries log.entries start list) h.1 (none_follow log.terms log.entries (new_entries log.entries start list) legal k.1))
+      absurd (not_all f.log.terms n (f.log.entries ++ new_entries f.log.entries start list) h.1 (none_follow f.log.terms f.log.entries (new_entries f.log.entries start list) is.legal k.1))
   apart (learned.Illegal n) (learned.Illegal m) h k x y =
-      ap learned.Illegal (one_illegal log.terms n m (log.entries ++ new_entries log.entries start list) h.1 k.1)
+      ap learned.Illegal (one_illegal f.log.terms n m (f.log.entries ++ new_entries f.log.entries start list) h.1 k.1)
   apart (learned.Illegal n) (learned.Grew m) h k x y =
-      absurd (not_all log.terms n (log.entries ++ new_entries log.entries start list) h.1 k.0.2)
-  apart (learned.Grew n) (learned.Conflict m) h k x y = absurd (no_conflict log.entries start m list k h.0.0.0)
+      absurd (not_all f.log.terms n (f.log.entries ++ new_entries f.log.entries start list) h.1 k.0.2)
+  apart (learned.Grew n) (learned.Conflict m) h k x y = absurd (no_conflict f.log.entries start m list k h.0.0.0)
   apart (learned.Grew n) learned.Gap h k x y = absurd (omega (arith, k.1, h.0.0.1))
   apart (learned.Grew n) learned.Nothing h k x y = absurd (h.0.1 k.1)
   apart (learned.Grew n) (learned.Illegal m) h k x y =
-      absurd (not_all log.terms m (log.entries ++ new_entries log.entries start list) k.1 h.0.2)
+      absurd (not_all f.log.terms m (f.log.entries ++ new_entries f.log.entries start list) k.1 h.0.2)
   apart (learned.Grew n) (learned.Grew m) h k x y = ap learned.Grew (h.1 ∙ sym k.1)
 
 -- of another match, or of this one
-of_entries : (log : Log) (id start : ℕ) (list : List Entry) (l : Learned) → Learns log (packet.Entries id start list) l
-    → ((l ≡ learned.OtherMatch) × (id ≢ log.id)) ⊎ ((id ≡ log.id) × Teaches log start list l)
-of_entries log id start list learned.OtherMatch h = inl (refl, h)
-of_entries log id start list learned.Nothing h = inr h
-of_entries log id start list (learned.Conflict n) h = inr h
-of_entries log id start list learned.Gap h = inr h
-of_entries log id start list (learned.Illegal n) h = inr h
-of_entries log id start list learned.Memory h = inr h
-of_entries log id start list (learned.Grew k) h = inr h
+of_entries : (f : FollowerView) (id start : ℕ) (list : List Entry) (l : Learned) → Learns f (packet.Entries id start list) l
+    → ((l ≡ learned.OtherMatch) × (id ≢ f.log.id)) ⊎ ((id ≡ f.log.id) × Teaches f start list l)
+of_entries f id start list learned.OtherMatch h = inl (refl, h)
+of_entries f id start list learned.Nothing h = inr h
+of_entries f id start list (learned.Conflict n) h = inr h
+of_entries f id start list learned.Gap h = inr h
+of_entries f id start list (learned.Illegal n) h = inr h
+of_entries f id start list learned.Memory h = inr h
+of_entries f id start list (learned.Grew k) h = inr h
 
-of_want : (log : Log) (id sender held : ℕ) (l : Learned) → Learns log (packet.Want id sender held) l
-    → ((l ≡ learned.OtherMatch) × (id ≢ log.id)) ⊎ ((id ≡ log.id) × (l ≡ learned.Nothing))
-of_want log id sender held learned.OtherMatch h = inl (refl, h)
-of_want log id sender held learned.Nothing h = inr h
-of_want log id sender held (learned.Conflict n) h = inr h
-of_want log id sender held learned.Gap h = inr h
-of_want log id sender held (learned.Illegal n) h = inr h
-of_want log id sender held learned.Memory h = inr h
-of_want log id sender held (learned.Grew k) h = inr h
+of_want : (f : FollowerView) (id sender held : ℕ) (l : Learned) → Learns f (packet.Want id sender held) l
+    → ((l ≡ learned.OtherMatch) × (id ≢ f.log.id)) ⊎ ((id ≡ f.log.id) × (l ≡ learned.Nothing))
+of_want f id sender held learned.OtherMatch h = inl (refl, h)
+of_want f id sender held learned.Nothing h = inr h
+of_want f id sender held (learned.Conflict n) h = inr h
+of_want f id sender held learned.Gap h = inr h
+of_want f id sender held (learned.Illegal n) h = inr h
+of_want f id sender held learned.Memory h = inr h
+of_want f id sender held (learned.Grew k) h = inr h
 
-of_claim : (log : Log) (id sender number : ℕ) (action : Action) (l : Learned) → Learns log (packet.Claim id sender number action) l
-    → ((l ≡ learned.OtherMatch) × (id ≢ log.id)) ⊎ ((id ≡ log.id) × (l ≡ learned.Nothing))
-of_claim log id sender number action learned.OtherMatch h = inl (refl, h)
-of_claim log id sender number action learned.Nothing h = inr h
-of_claim log id sender number action (learned.Conflict n) h = inr h
-of_claim log id sender number action learned.Gap h = inr h
-of_claim log id sender number action (learned.Illegal n) h = inr h
-of_claim log id sender number action learned.Memory h = inr h
-of_claim log id sender number action (learned.Grew k) h = inr h
+of_claim : (f : FollowerView) (id sender number : ℕ) (action : Action) (l : Learned) → Learns f (packet.Claim id sender number action) l
+    → ((l ≡ learned.OtherMatch) × (id ≢ f.log.id)) ⊎ ((id ≡ f.log.id) × (l ≡ learned.Nothing))
+of_claim f id sender number action learned.OtherMatch h = inl (refl, h)
+of_claim f id sender number action learned.Nothing h = inr h
+of_claim f id sender number action (learned.Conflict n) h = inr h
+of_claim f id sender number action learned.Gap h = inr h
+of_claim f id sender number action (learned.Illegal n) h = inr h
+of_claim f id sender number action learned.Memory h = inr h
+of_claim f id sender number action (learned.Grew k) h = inr h
 
 pub teaches_one_thing : TeachesOneThing
-teaches_one_thing log (packet.Entries id start list) a b legal h k x y = elim (of_entries log id start list a h) [
-  | inl other ↦ elim (of_entries log id start list b k) [ inl also ↦ other.0 ∙ sym also.0 | inr this ↦ absurd (other.1 this.0) ]
-  | inr this ↦ elim (of_entries log id start list b k) [
+teaches_one_thing f (packet.Entries id start list) a b is h k x y = elim (of_entries f id start list a h) [
+  | inl other ↦ elim (of_entries f id start list b k) [ inl also ↦ other.0 ∙ sym also.0 | inr this ↦ absurd (other.1 this.0) ]
+  | inr this ↦ elim (of_entries f id start list b k) [
     | inl other ↦ absurd (other.1 this.0)
-    | inr also ↦ apart log start list legal a b this.1 also.1 x y
+    | inr also ↦ apart f start list is a b this.1 also.1 x y
   ]
 ]
-teaches_one_thing log (packet.Want id sender held) a b legal h k x y = elim (of_want log id sender held a h) [
-  | inl other ↦ elim (of_want log id sender held b k) [ inl also ↦ other.0 ∙ sym also.0 | inr this ↦ absurd (other.1 this.0) ]
-  | inr this ↦ elim (of_want log id sender held b k) [ inl other ↦ absurd (other.1 this.0) | inr also ↦ this.1 ∙ sym also.1 ]
+teaches_one_thing f (packet.Want id sender held) a b is h k x y = elim (of_want f id sender held a h) [
+  | inl other ↦ elim (of_want f id sender held b k) [ inl also ↦ other.0 ∙ sym also.0 | inr this ↦ absurd (other.1 this.0) ]
+  | inr this ↦ elim (of_want f id sender held b k) [ inl other ↦ absurd (other.1 this.0) | inr also ↦ this.1 ∙ sym also.1 ]
 ]
-teaches_one_thing log (packet.Claim id sender number action) a b legal h k x y = elim (of_claim log id sender number action a h) [
-  | inl other ↦ elim (of_claim log id sender number action b k) [ inl also ↦ other.0 ∙ sym also.0 | inr this ↦ absurd (other.1 this.0) ]
-  | inr this ↦ elim (of_claim log id sender number action b k) [ inl other ↦ absurd (other.1 this.0) | inr also ↦ this.1 ∙ sym also.1 ]
+teaches_one_thing f (packet.Claim id sender number action) a b is h k x y = elim (of_claim f id sender number action a h) [
+  | inl other ↦ elim (of_claim f id sender number action b k) [ inl also ↦ other.0 ∙ sym also.0 | inr this ↦ absurd (other.1 this.0) ]
+  | inr this ↦ elim (of_claim f id sender number action b k) [ inl other ↦ absurd (other.1 this.0) | inr also ↦ this.1 ∙ sym also.1 ]
 ]

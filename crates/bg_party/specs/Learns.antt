@@ -1,4 +1,4 @@
--- What a packet teaches the holder of a record.
+-- What a packet teaches a follower.
 use Rattle.std.specs.Prelude.{◌≡◌, ◌≢◌, ℕ, ◌+◌, ◌-◌, ◌<◌, ◌≤◌, Some, List, [], ◌++◌, length, take, drop, slice_get}
 use Rattle.bg_match.specs.Terms.{Terms}
 use Rattle.bg_match.specs.declared.entries.Entry.{Entry}
@@ -8,6 +8,7 @@ use Rattle.bg_wire.specs.Runs.{IsRun}
 use Rattle.bg_wire.specs.SavedText.{IsFirstIllegal}
 use Rattle.bg_wire.specs.declared.packets.Packet.{Packet}
 use Rattle.bg_wire.specs.declared.packets.Packet.TheVariants as packet
+use Rattle.bg_party.specs.Views.{FollowerView, IsFollower}
 use Rattle.bg_party.specs.declared.outcomes.Learned.{Learned}
 use Rattle.bg_party.specs.declared.outcomes.Learned.TheVariants as learned
 
@@ -37,36 +38,46 @@ Extends terms entries start list =
     × IsLegalRecord terms (entries ++ new_entries entries start list)
 
 -- what a list of entries teaches: a case for each answer. Want of memory comes only where the room is too small
-abbrev pub Teaches : Log → ℕ → List Entry → Learned → Type 0
-Teaches log start list learned.OtherMatch = ⊥
-Teaches log start list (learned.Conflict n) = IsConflict log.entries start list n
-Teaches log start list learned.Gap = Agrees log.entries start list × (length log.entries + 1 < start)
-Teaches log start list learned.Nothing = Joins log.entries start list × (new_entries log.entries start list ≡ [])
-Teaches log start list (learned.Illegal n) =
-    Joins log.entries start list
-    × IsFirstIllegal log.terms (log.entries ++ new_entries log.entries start list) n
-Teaches log start list learned.Memory =
-    Extends log.terms log.entries start list × (log.spare < length (new_entries log.entries start list))
-Teaches log start list (learned.Grew k) =
-    Extends log.terms log.entries start list × (k ≡ length (new_entries log.entries start list))
+abbrev pub Teaches : FollowerView → ℕ → List Entry → Learned → Type 0
+Teaches f start list learned.OtherMatch = ⊥
+Teaches f start list (learned.Conflict n) = IsConflict f.log.entries start list n
+Teaches f start list learned.Gap = Agrees f.log.entries start list × (length f.log.entries + 1 < start)
+Teaches f start list learned.Nothing = Joins f.log.entries start list × (new_entries f.log.entries start list ≡ [])
+Teaches f start list (learned.Illegal n) =
+    Joins f.log.entries start list
+    × IsFirstIllegal f.log.terms (f.log.entries ++ new_entries f.log.entries start list) n
+Teaches f start list learned.Memory =
+    Extends f.log.terms f.log.entries start list × (f.log.spare < length (new_entries f.log.entries start list))
+Teaches f start list (learned.Grew k) =
+    Extends f.log.terms f.log.entries start list × (k ≡ length (new_entries f.log.entries start list))
 
 -- what a packet teaches; only entries of this match do
-abbrev pub Learns : Log → Packet → Learned → Type 0
-Learns log p learned.OtherMatch = id_of p ≢ log.id
-Learns log (packet.Entries id start list) l = (id ≡ log.id) × Teaches log start list l
-Learns log (packet.Want id sender held) l = (id ≡ log.id) × (l ≡ learned.Nothing)
-Learns log (packet.Claim id sender number action) l = (id ≡ log.id) × (l ≡ learned.Nothing)
+abbrev pub Learns : FollowerView → Packet → Learned → Type 0
+Learns f p learned.OtherMatch = id_of p ≢ f.log.id
+Learns f (packet.Entries id start list) l = (id ≡ f.log.id) × Teaches f start list l
+Learns f (packet.Want id sender held) l = (id ≡ f.log.id) × (l ≡ learned.Nothing)
+Learns f (packet.Claim id sender number action) l = (id ≡ f.log.id) × (l ≡ learned.Nothing)
 
--- the record with the new entries of the packet
-abbrev pub grown : Log → Packet → ℕ → Log
-grown log (packet.Entries id start list) spare =
-    record log { entries = log.entries ++ new_entries log.entries start list; spare = spare }
-grown log _ spare = log
+-- the follower whose record has the new entries of the packet, and this much spare room
+abbrev pub grown : FollowerView → Packet → ℕ → FollowerView
+grown f (packet.Entries id start list) spare =
+    record f { log = record (f.log) { entries = f.log.entries ++ new_entries f.log.entries start list; spare = spare } }
+grown f _ spare = f
 
--- the record afterwards: only `Grew` changes it
-abbrev pub IsAfter : Log → Packet → Learned → Log → Type 0
-IsAfter old p (learned.Grew k) new = new ≡ grown old p new.spare
+-- the follower afterwards: only `Grew` changes it, and takes no more of the spare room than it needs, where that is enough
+abbrev pub IsAfter : FollowerView → Packet → Learned → FollowerView → Type 0
+IsAfter old p (learned.Grew k) new =
+    (new ≡ grown old p new.log.spare) × (k ≤ old.log.spare → new.log.spare + k ≡ old.log.spare)
 IsAfter old p _ new = new ≡ old
+
+-- so many entries are appended; or there is no room for them, and nothing changes
+abbrev pub Appends : FollowerView → List Entry → Learned → FollowerView → Type 0
+Appends old new learned.Memory after = (old.log.spare < length new) × (after ≡ old)
+Appends old new (learned.Grew k) after =
+    (k ≡ length new)
+    × (after ≡ record old { log = record (old.log) { entries = old.log.entries ++ new; spare = after.log.spare } })
+    × (k ≤ old.log.spare → after.log.spare + k ≡ old.log.spare)
+Appends old new _ after = ⊥
 
 -- entries of this match that join what is held, and follow where they are new
 abbrev pub Continues : ℕ → Terms → List Entry → Packet → Type 0
@@ -84,7 +95,13 @@ abbrev pub Keeps : Log → Packet → Learned → Log → Type 0
 Keeps old p learned.Memory new = Unit {0}
 Keeps old p l new = Continues old.id old.terms old.entries p → Holds new.entries p
 
--- a packet teaches the holder of a record one thing, want of memory aside
+-- what a follower makes of a packet: what it learns, and what it has afterwards
+pub record FollowerTakes (old : FollowerView) (p : Packet) (l : Learned) (new : FollowerView) : Type 0 where
+  pub learns : Learns old p l
+  pub after : IsAfter old p l new
+  pub keeps : Keeps old.log p l new.log
+
+-- a packet teaches a follower one thing, want of memory aside
 abbrev pub TeachesOneThing : Type 0
-TeachesOneThing = (log : Log) (p : Packet) (a b : Learned) → IsLegalRecord log.terms log.entries
-    → Learns log p a → Learns log p b → a ≢ learned.Memory → b ≢ learned.Memory → a ≡ b
+TeachesOneThing = (f : FollowerView) (p : Packet) (a b : Learned) → IsFollower f
+    → Learns f p a → Learns f p b → a ≢ learned.Memory → b ≢ learned.Memory → a ≡ b

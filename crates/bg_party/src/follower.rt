@@ -1,35 +1,63 @@
 //! What seats and watchers have in common: a record that grows by what the referee tells.
-ghost use Rattle.std.specs.Prelude.{◌≡◌, ◌≤◌, ◌<◌, ◌+◌, ◌↔◌, [], ◌++◌, length, IsOk, IfOk, MatchOption};
-ghost use Rattle.std.specs.List.{AllByRecursion};
-ghost use Rattle.bg_match.specs.Limits.{shortest_match, longest_match, IsMatchLength};
-ghost use Rattle.bg_match.specs.Entry.{IsEntry};
-ghost use Rattle.bg_match.specs.Match.{IsLegalRecord, empty_log};
+ghost use Rattle.std.specs.Prelude.{◌≡◌, ◌≤◌, ◌+◌, ◌↔◌, ◌++◌, length, IsOk, IfOk};
+ghost use Rattle.bg_match.specs.Limits.{IsMatchLength};
+ghost use Rattle.bg_match.specs.Match.{IsLegalRecord};
 ghost use Rattle.bg_wire.specs.PacketText.{IsPacket};
-ghost use Rattle.bg_wire.specs.SavedText.{IsFirstIllegal};
-ghost use Rattle.bg_party.specs.Learns.{Learns, Teaches, IsAfter, IsConflict, Agrees, new_entries};
-ghost use Rattle.bg_party.specs.Claims.{want_of};
 
 use crate::Learned;
+use crate::told::{append, first_conflict, first_illegal, not_held};
 use bg_match::{Entry, LengthFault, Number, Record};
 use bg_wire::Packet;
 use std::alloc::Global;
+use std::marker::Model;
 
 /// The record of a match, as far as the referee told it.
 #[derive(Debug, Drop)]
 pub(crate) struct Follower {
-    pub(crate) log: Record,
+    log: Record,
+}
+
+impl Model for Follower {
+    ghost use Rattle.bg_party.specs.Views.{FollowerView, IsFollower};
+
+    ghost Value = { FollowerView };
+
+    ghost view = { λ f. record { log = f.log } };
+
+    ghost invariant = { λ f. IsFollower (record { log = f.log }) };
 }
 
 impl Follower {
+    ghost use Rattle.bg_party.specs.Views.{IsFollower, fresh_follower};
+    ghost use Rattle.bg_party.specs.Learns.{Learns, Teaches, IsAfter, Appends, FollowerTakes};
+    ghost use Rattle.bg_party.specs.Claims.{want_of};
+
     /// Of a match with no entry.
     pub(crate) fn fresh(alloc: Global, id: u64, length: u8) -> Result<Follower, LengthFault>
         ensures ok { IsOk result ↔ IsMatchLength length }
-        ensures value { IfOk result (λ f. f.log ≡ empty_log id length) }
-        ensures legal { IfOk result (λ f. IsLegalRecord (f.log).terms (f.log).entries) }
+        ensures value { IfOk result (λ f. f ≡ fresh_follower id length) }
     {
         Ok(Follower {
             log: Record::new(alloc, id, length)?,
         })
+    }
+
+    /// That has this record.
+    pub(crate) fn holding(log: Record) -> Follower
+        ensures value { result ≡ record { log = log } }
+        ensures follower { IsFollower result }
+    {
+        // What a record promises is said by its calls.
+        let _count = log.len();
+        Follower { log }
+    }
+
+    /// The record.
+    pub(crate) fn held(&self) -> &Record
+        ensures value { result.now ≡ self.now.log }
+        ensures follower { IsFollower self.now }
+    {
+        &self.log
     }
 
     /// What this party asks the referee for.
@@ -43,11 +71,21 @@ impl Follower {
         }
     }
 
-    /// Learns from a packet.
+    /// Takes a packet.
     pub(crate) fn take(&mut self, packet: &Packet) -> Learned
         requires { IsPacket packet.now }
-        ensures learns { Learns self.old.log packet.now result }
-        ensures after { IsAfter self.old.log packet.now result self.new.log }
+        ensures takes { FollowerTakes self.old packet.now result self.new }
+        ensures follower { IsFollower self.new }
+    {
+        self.learn_from(packet)
+    }
+
+    /// Learns from a packet.
+    fn learn_from(&mut self, packet: &Packet) -> Learned
+        requires { IsPacket packet.now }
+        ensures learns { Learns self.old packet.now result }
+        ensures after { IsAfter self.old packet.now result self.new }
+        ensures follower { IsFollower self.new }
     {
         match packet {
             Packet::Entries { id, start, list } if *id == self.log.id() => {
@@ -66,71 +104,36 @@ impl Follower {
         requires some { 1 ≤ length list.now }
         requires few { length list.now ≤ 8 }
         requires last { start + length list.now ≤ 65536 }
-        ensures teaches { Teaches self.old.log start list.now result }
-        ensures after { IsAfter self.old.log (Packet.Entries self.old.log.id start list.now) result self.new.log }
+        ensures teaches { Teaches self.old start list.now result }
+        ensures after { IsAfter self.old (Packet.Entries self.old.log.id start list.now) result self.new }
+        ensures follower { IsFollower self.new }
     {
-        if let Some(number) = self.first_conflict(start, list) {
+        if let Some(number) = first_conflict(&self.log, start, list) {
             return Learned::Conflict(number);
         }
-        let next = usize::from(self.log.len()) + 1;
-        let Some(held) = next.checked_sub(usize::from(start)) else {
+        let Some(new) = not_held(&self.log, start, list) else {
             return Learned::Gap;
         };
-        let Some(new @ [_, ..]) = list.get(held..) else {
+        if new.is_empty() {
             return Learned::Nothing;
-        };
-        if let Some(number) = self.first_illegal(new) {
+        }
+        if let Some(number) = first_illegal(&self.log, new) {
             return Learned::Illegal(number);
         }
+        self.grow(new)
+    }
+
+    /// Appends new entries that follow, where there is room or memory for them.
+    fn grow(&mut self, new: &[Entry]) -> Learned
+        requires few { length new.now ≤ 8 }
+        requires legal { IsLegalRecord self.old.log.terms (self.old.log.entries ++ new.now) }
+        ensures appends { Appends self.old new.now result self.new }
+        ensures follower { IsFollower self.new }
+    {
         if self.log.reserve(new.len() as Number).is_err() {
             return Learned::Memory;
         }
-        self.append(new);
+        append(&mut self.log, new);
         Learned::Grew(new.len() as u8)
-    }
-
-    /// The least number under which the list tells another entry than the one that is held.
-    fn first_conflict(&self, start: Number, list: &[Entry]) -> Option<Number>
-        requires first { 1 ≤ start }
-        requires last { start + length list.now ≤ 65536 }
-        ensures { MatchOption result (Agrees self.now.log.entries start list.now) (λ n. IsConflict self.now.log.entries start list.now n) }
-    {
-        for (index, told) in list.iter().enumerate() {
-            let number = start + index as Number;
-            match self.log.entry(number) {
-                Some(held) if held == told => {}
-                Some(_) => return Some(number),
-                None => return None,
-            }
-        }
-        None
-    }
-
-    /// The number of the first of the new entries that does not follow those before it.
-    fn first_illegal(&self, new: &[Entry]) -> Option<Number>
-        requires few { length self.now.log.entries + length new.now ≤ 65535 }
-        ensures { MatchOption result
-            (IsLegalRecord self.now.log.terms (self.now.log.entries ++ new.now))
-            (λ n. IsFirstIllegal self.now.log.terms (self.now.log.entries ++ new.now) n) }
-    {
-        let mut standing = self.log.standing();
-        for (index, entry) in new.iter().enumerate() {
-            match standing.next(entry) {
-                Ok(after) => standing = after,
-                Err(_) => return Some(self.log.len() + index as Number + 1),
-            }
-        }
-        None
-    }
-
-    /// Appends entries that follow, for which there is room.
-    fn append(&mut self, new: &[Entry])
-        requires legal { IsLegalRecord self.old.log.terms (self.old.log.entries ++ new.now) }
-        requires room { length new.now ≤ self.old.log.spare }
-        ensures { self.new.log ≡ record (self.old.log) { entries = self.old.log.entries ++ new.now; spare = self.new.log.spare } }
-    {
-        for entry in new {
-            self.log.push(entry.copy()).unwrap();
-        }
     }
 }

@@ -7,6 +7,7 @@ mod outcomes;
 mod seat;
 #[cfg(test)]
 mod tests;
+mod told;
 mod watcher;
 
 pub use laws::packets_teach_one_thing;

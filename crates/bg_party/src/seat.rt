@@ -5,14 +5,16 @@ ghost use Rattle.bg_match.specs.Limits.{shortest_match, longest_match, IsMatchLe
 ghost use Rattle.bg_wire.specs.PacketText.{IsPacket};
 ghost use Rattle.bg_wire.specs.Parties.{party_of};
 ghost use Rattle.bg_wire.specs.Saves.{IsNextSave};
-ghost use Rattle.bg_wire.specs.SavedText.{parts_with};
+ghost use Rattle.bg_wire.specs.SavedText.{IsSavable, parts_of, parts_with};
+ghost use Rattle.bg_wire.specs.Codes.{seat_of_x};
+ghost use Rattle.bg_party.specs.Views.{player_of};
 
 use crate::follower::Follower;
 use crate::{ChooseFault, Learned};
 use bg_board::{Die, Player};
 use bg_match::{Action, Actor, LengthFault, Number, Record, entry_of};
 use bg_turns::Dice;
-use bg_wire::{Packet, SaveRefusal, Slot, next_save, party_of};
+use bg_wire::{Packet, SEAT_OF_X, SaveRefusal, Saved, Slot, next_save, party_of};
 use std::alloc::Global;
 use std::marker::Model;
 
@@ -21,6 +23,17 @@ const TRIAL_DICE: Dice = Dice {
     first: Die::One,
     second: Die::One,
 };
+
+/// The player whose seat the party is.
+fn player_of(party: u8) -> Player
+    ensures { result ≡ player_of party }
+{
+    if party == SEAT_OF_X {
+        Player::X
+    } else {
+        Player::O
+    }
+}
 
 /// The seat of a player: it follows the match, and claims his actions, one under each number (docs/PROTOCOL.md, "Claims").
 ///
@@ -41,15 +54,15 @@ impl Model for Seat {
 
     ghost Value = { SeatView };
 
-    ghost view = { λ s. record { player = s.player; log = s.follower.log; claim = s.claim; claim_saved = s.claim_saved; next_save = s.last_save + 1 } };
+    ghost view = { λ s. record { player = s.player; follower = s.follower; claim = s.claim; claim_saved = s.claim_saved; next_save = s.last_save + 1 } };
 
-    ghost invariant = { λ s. IsSeat (record { player = s.player; log = s.follower.log; claim = s.claim; claim_saved = s.claim_saved; next_save = s.last_save + 1 }) };
+    ghost invariant = { λ s. IsSeat (record { player = s.player; follower = s.follower; claim = s.claim; claim_saved = s.claim_saved; next_save = s.last_save + 1 }) };
 }
 
 impl Seat {
-    ghost use Rattle.bg_party.specs.Views.{IsSeat};
-    ghost use Rattle.bg_party.specs.Learns.{Learns, IsAfter, Keeps};
-    ghost use Rattle.bg_party.specs.Claims.{CanClaim, MayClaim, Chooses, claim_number, packet_of_seat};
+    ghost use Rattle.bg_party.specs.Views.{IsSeat, fresh_seat, resumed_seat, seat_after_save};
+    ghost use Rattle.bg_party.specs.Learns.{FollowerTakes};
+    ghost use Rattle.bg_party.specs.Claims.{MayClaim, SeatChooses, SeatTicks, claim_number};
 
     /// The seat of a player with the empty record and no claim, which counts as saved.
     ///
@@ -57,7 +70,7 @@ impl Seat {
     /// `LengthOutOfRange` where the length is not from 1 to 99.
     pub fn fresh(alloc: Global, player: Player, id: u64, length: u8) -> Result<Seat, LengthFault>
         ensures ok { IsOk result ↔ IsMatchLength length }
-        ensures value { IfOk result (λ s. s ≡ record { player = player; log = empty_log id length; claim = None; claim_saved = true; next_save = 1 }) }
+        ensures value { IfOk result (λ s. s ≡ fresh_seat player id length) }
     {
         Ok(Seat {
             alloc,
@@ -69,11 +82,28 @@ impl Seat {
         })
     }
 
+    /// The seat that goes on from what was saved, which is of party 1 or 2 (docs/PROTOCOL.md, "Restarting"). Its claim
+    /// counts as saved.
+    pub fn resume(alloc: Global, saved: Saved) -> Seat
+        requires party { seat_of_x ≤ saved.party }
+        requires savable { IsSavable (parts_of saved) }
+        ensures { result ≡ resumed_seat saved }
+    {
+        Seat {
+            alloc,
+            player: player_of(saved.party),
+            follower: Follower::holding(saved.log),
+            claim: saved.claim,
+            claim_saved: true,
+            last_save: saved.save,
+        }
+    }
+
     /// The record, as far as the seat knows it.
     pub fn held(&self) -> &Record
-        ensures { result.now ≡ self.now.log }
+        ensures { result.now ≡ self.now.follower.log }
     {
-        &self.follower.log
+        self.follower.held()
     }
 
     /// The last claim: the number of the entry that shall answer the action, from 1, and the action. It stays until
@@ -92,13 +122,8 @@ impl Seat {
     /// The packet is one that has a text, as each that `decode` gives.
     pub fn take(&mut self, packet: &Packet) -> Learned
         requires { IsPacket packet.now }
-        // What is learned.
-        ensures learns { Learns self.old.log packet.now result }
-        // The record afterwards.
-        ensures after { IsAfter self.old.log packet.now result self.new.log }
-        ensures same { self.new ≡ record self.old { log = self.new.log } }
-        // Entries that continue the record are held afterwards.
-        ensures keeps { Keeps self.old.log packet.now result self.new.log }
+        ensures takes { FollowerTakes self.old.follower packet.now result self.new.follower }
+        ensures same { self.new ≡ record self.old { follower = self.new.follower } }
     {
         self.follower.take(packet)
     }
@@ -110,10 +135,7 @@ impl Seat {
     /// The first that holds: `NotYourTurn` where another party acts, or nobody; `AlreadyClaimed` where the seat has a claim
     /// whose number is above the length of its record; `Illegal` where the action does not follow.
     pub fn choose(&mut self, action: Action) -> Result<Number, ChooseFault>
-        // What is claimed, or why nothing is.
-        ensures chooses { Chooses self.old action result self.new }
-        // What can be claimed is claimed.
-        ensures can { IsOk result ↔ CanClaim self.old.log.terms self.old.player self.old.log.entries self.old.claim action }
+        ensures { SeatChooses self.old action result self.new }
     {
         let number = self.next_claim(&action)?;
         self.claim = Some((number, action));
@@ -123,9 +145,9 @@ impl Seat {
 
     /// The number under which an action can be claimed.
     fn next_claim(&self, action: &Action) -> Result<Number, ChooseFault>
-        ensures { MayClaim self.now action.now result }
+        ensures { MayClaim self.now.follower.log self.now.player self.now.claim action.now result }
     {
-        let log = &self.follower.log;
+        let log = self.follower.held();
         let Actor::Seat(player) = log.actor() else {
             return Err(ChooseFault::NotYourTurn);
         };
@@ -158,7 +180,7 @@ impl Seat {
     /// # Errors
     /// `SavesSpent` where the last save was that of number 4294967295, else `Memory` where there is no memory for the text.
     pub fn to_save(&self) -> Result<(Slot, u32, Vec<u8>), SaveRefusal>
-        ensures { IsNextSave (parts_with (party_of self.now.player) self.now.next_save self.now.claim self.now.log) result }
+        ensures { IsNextSave (parts_with (party_of self.now.player) self.now.next_save self.now.claim self.now.follower.log) result }
     {
         let party = party_of(self.player);
         next_save(
@@ -166,14 +188,14 @@ impl Seat {
             self.last_save,
             party,
             &self.claim,
-            &self.follower.log,
+            self.follower.held(),
         )
     }
 
     /// The next save was written: the claim is saved. `save` is the number that `to_save` gave.
     pub fn mark_saved(&mut self, save: u32)
         requires { save ≡ self.old.next_save }
-        ensures { self.new ≡ record self.old { claim_saved = true; next_save = save + 1 } }
+        ensures { self.new ≡ seat_after_save self.old save }
     {
         self.claim_saved = true;
         self.last_save = save;
@@ -182,15 +204,13 @@ impl Seat {
     /// What is to be sent to the referee: the claim, once it is saved and until the record answers it; else that the seat
     /// wants the entries after its own.
     pub fn tick(&mut self) -> Option<Packet>
-        ensures packet { result ≡ Some (packet_of_seat self.old) }
-        ensures fits { IsPacket (packet_of_seat self.old) }
-        ensures same { self.new ≡ self.old }
+        ensures { SeatTicks self.old result self.new }
     {
         let party = party_of(self.player);
         match &self.claim {
-            Some((number, action)) if self.claim_saved && *number > self.follower.log.len() => {
+            Some((number, action)) if self.claim_saved && *number > self.follower.held().len() => {
                 Some(Packet::Claim {
-                    id: self.follower.log.id(),
+                    id: self.follower.held().id(),
                     sender: party,
                     number: *number,
                     action: action.copy(),

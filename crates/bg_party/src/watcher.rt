@@ -26,15 +26,15 @@ impl Model for Watcher {
 
     ghost Value = { WatcherView };
 
-    ghost view = { λ w. record { party = w.party; log = w.follower.log } };
+    ghost view = { λ w. record { party = w.party; follower = w.follower } };
 
-    ghost invariant = { λ w. IsWatcher (record { party = w.party; log = w.follower.log }) };
+    ghost invariant = { λ w. IsWatcher (record { party = w.party; follower = w.follower }) };
 }
 
 impl Watcher {
-    ghost use Rattle.bg_party.specs.Views.{IsWatcher};
-    ghost use Rattle.bg_party.specs.Learns.{Learns, IsAfter, Keeps};
-    ghost use Rattle.bg_party.specs.Claims.{want_of};
+    ghost use Rattle.bg_party.specs.Views.{IsWatcher, fresh_watcher};
+    ghost use Rattle.bg_party.specs.Learns.{FollowerTakes};
+    ghost use Rattle.bg_party.specs.Claims.{WatcherTicks};
 
     /// A watcher with the empty record. `party` is its number, from 3.
     ///
@@ -43,7 +43,7 @@ impl Watcher {
     pub fn fresh(alloc: Global, party: u8, id: u64, length: u8) -> Result<Watcher, LengthFault>
         requires { first_watcher ≤ party }
         ensures ok { IsOk result ↔ IsMatchLength length }
-        ensures value { IfOk result (λ w. w ≡ record { party = party; log = empty_log id length }) }
+        ensures value { IfOk result (λ w. w ≡ fresh_watcher party id length) }
     {
         Ok(Watcher {
             party,
@@ -53,32 +53,25 @@ impl Watcher {
 
     /// The record, as far as the watcher knows it.
     pub fn held(&self) -> &Record
-        ensures value { result.now ≡ self.now.log }
+        ensures value { result.now ≡ self.now.follower.log }
         ensures watcher { IsWatcher self.now }
     {
-        &self.follower.log
+        self.follower.held()
     }
 
     /// Learns from a packet (docs/PROTOCOL.md, "What a follower learns"). Only `Grew` changes the record.
     /// The packet is one that has a text, as each that `decode` gives.
     pub fn take(&mut self, packet: &Packet) -> Learned
         requires { IsPacket packet.now }
-        // What is learned.
-        ensures learns { Learns self.old.log packet.now result }
-        // The record afterwards.
-        ensures after { IsAfter self.old.log packet.now result self.new.log }
-        ensures same { self.new ≡ record self.old { log = self.new.log } }
-        // Entries that continue the record are held afterwards.
-        ensures keeps { Keeps self.old.log packet.now result self.new.log }
+        ensures takes { FollowerTakes self.old.follower packet.now result self.new.follower }
+        ensures same { self.new ≡ record self.old { follower = self.new.follower } }
     {
         self.follower.take(packet)
     }
 
     /// What is to be sent to the referee: the watcher wants the entries after its own.
     pub fn tick(&mut self) -> Option<Packet>
-        ensures packet { result ≡ Some (want_of self.old.party self.old.log) }
-        ensures fits { IsPacket (want_of self.old.party self.old.log) }
-        ensures same { self.new ≡ self.old }
+        ensures { WatcherTicks self.old result self.new }
     {
         Some(self.follower.want(self.party))
     }

@@ -1,10 +1,7 @@
-use Rattle.std.proofs.Common.{◌≡◌, ◌∙◌, subst, List}
-use Rattle.bg_match.specs.declared.entries.Entry.{Entry}
-use Rattle.bg_party.specs.Learns.{Teaches}
-use Rattle.bg_party.proofs.Holding.{learns_entries}
+use Rattle.bg_party.proofs.Holding.{keeps}
 use Rattle.bg_party.proofs.follower.Follower.take.Goals as goal
 
-pub returns-in-Entries-clause-learns : goal.returns-in-Entries-clause-learns
-returns-in-Entries-clause-learns c =
-    let list : c.as_slice.result.now ≡ c.in-Entries.list = c.as_slice.ensures.value ∙ c.list.view_is in
-    rw c.in-Entries.is (learns_entries c.args.self.now.log c.in-Entries.id c.in-Entries.start c.in-Entries.list c.learn.result (c.if-id.true ∙ c.id.ensures) (subst (λ (l : List Entry). Teaches c.args.self.now.log c.in-Entries.start l c.learn.result) list c.learn.ensures.teaches))
+pub returns-clause-takes : goal.returns-clause-takes
+returns-clause-takes c =
+    let e = c.learn_from.ensures in
+    record { learns = e.learns; after = e.after; keeps = keeps c.args.self.now c.args.packet.now c.learn_from.result c.learn_from.new.self c.requires e.learns e.after }

@@ -1,6 +1,0 @@
-use Rattle.std.proofs.Common.{take, ◌++◌}
-use Rattle.bg_match.specs.Match.{StandsAt}
-use Rattle.bg_party.proofs.follower.Follower.first_illegal.Given as goal
-
-abbrev pub invariant-loop-index : goal.invariant-loop-index
-invariant-loop-index l = StandsAt l.self.log.terms (l.self.log.entries ++ take l.index l.new) l.standing
