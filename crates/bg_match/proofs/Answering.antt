@@ -7,7 +7,7 @@ use Rattle.bg_match.specs.declared.actions.Action.{Action}
 use Rattle.bg_match.specs.declared.actions.Action.TheVariants as action
 use Rattle.bg_match.specs.declared.entries.Entry.{Entry}
 use Rattle.bg_match.specs.declared.entries.Entry.TheVariants as entry
-use Rattle.bg_match.specs.Answers.{Answers, CanAnswer}
+use Rattle.bg_match.specs.Answers.{Answers, CanAnswer, IsAnswer}
 use Rattle.bg_match.specs.Entry.{IsEntry, IsAction}
 use Rattle.bg_match.specs.Match.{IsLegalRecord, IsNext}
 use Rattle.bg_match.proofs.Legal.{entries_in_range}
@@ -52,3 +52,14 @@ action_in_range terms entries action.Drop dice e h legal = tt
 action_in_range terms entries (action.Resign level) dice e h legal = tt
 action_in_range terms entries action.Accept dice e h legal = tt
 action_in_range terms entries action.Reject dice e h legal = tt
+
+-- what answers an action with some dice answers it
+pub is_answer : (a : Action) (dice : Option Dice) (e : Entry) → Answers a dice e → IsAnswer a e
+is_answer action.Roll dice e h = (h.0, h.2)
+is_answer action.Double dice e h = h
+is_answer action.Take dice e h = h
+is_answer action.Drop dice e h = h
+is_answer (action.Move turn) dice e h = h
+is_answer (action.Resign level) dice e h = h
+is_answer action.Accept dice e h = h
+is_answer action.Reject dice e h = h

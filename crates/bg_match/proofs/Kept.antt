@@ -9,7 +9,7 @@ use Rattle.bg_match.specs.Limits.{most_entries, shortest_match, longest_match}
 use Rattle.bg_match.specs.declared.entries.Entry.{Entry}
 use Rattle.bg_match.specs.Actor.{actor_of, seat_of}
 use Rattle.bg_match.specs.State.{State, start_of}
-use Rattle.bg_match.specs.Match.{Leads, StandsAt, LeadsWithScores, scores_then, IsMarkedByScores, SeatAfter, IsKept, at_number}
+use Rattle.bg_match.specs.Match.{Leads, StandsAt, LeadsWithScores, scores_then, IsMarkedByScores, SeatAfter, IsKept, IsLog, at_number}
 use Rattle.bg_match.proofs.Crawford.{marks_crawford}
 
 -- the scores before the games, as the entries go
@@ -34,6 +34,11 @@ IsKept-empty terms shortest longest = record {
   marked = marked_by_scores terms [] (start_of terms) refl;
   made = λ i seat h. cc;
 }
+
+-- what is kept is a legal match
+pub kept_log : (id spare : ℕ) (terms : Terms) (entries : List Entry) (seats : List (Option Player)) (t : State)
+    → IsKept terms entries seats t → IsLog (record { id = id; terms = terms; entries = entries; spare = spare })
+kept_log id spare terms entries seats t kept = record { points = (kept.shortest, kept.longest); legal = (kept.few, (t, kept.stands)) }
 
 -- a list that is kept part by part, under a number
 pub at_number-map : {X Y : Type 0} (f : X → Y) (xs : List X) (n : ℕ) → at_number (map f xs) n ≡ option_map f (at_number xs n)

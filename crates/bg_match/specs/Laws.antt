@@ -46,6 +46,10 @@ abbrev pub OpensWithoutSeat : Type 0
 OpensWithoutSeat = (terms : Terms) (front rest : List Entry) (e : Entry) (seat : Option Player)
     → IsLegalRecord terms (front ++ e ∷ rest) → SeatAfter terms front seat → (seat ≡ None) ↔ IsOpening e
 
+-- the entry that answers an action with some dice answers the action
+abbrev pub AnswersWithDice : Type 0
+AnswersWithDice = (a : Action) (dice : Option Dice) (e : Entry) → Answers a dice e → IsAnswer a e
+
 -- an entry answers one action
 abbrev pub AnswersOneAction : Type 0
 AnswersOneAction = (a b : Action) (e : Entry) → IsAnswer a e → IsAnswer b e → a ≡ b

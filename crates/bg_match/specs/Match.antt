@@ -1,7 +1,7 @@
 -- A whole match, entry by entry.
 use Rattle.std.specs.Prelude.{◌≡◌, ◌==◌, ◌↔◌, ℕ, zero, suc, ◌+◌, ◌<◌, ◌≤◌, true, Option, Some, None, List, [], ◌∷◌, ◌++◌, length, take, slice_get, if◌then◌else◌}
 use Rattle.bg_board.specs.declared.players.Player.{Player}
-use Rattle.bg_match.specs.Limits.{most_entries, shortest_match, longest_match}
+use Rattle.bg_match.specs.Limits.{most_entries, shortest_match, longest_match, IsMatchLength}
 use Rattle.bg_match.specs.Terms.{Terms, match_length}
 use Rattle.bg_match.specs.declared.phases.Actor.{Actor}
 use Rattle.bg_match.specs.declared.entries.Entry.{Entry}
@@ -85,6 +85,11 @@ pub record Log : Type 0 where
   pub entries : List Entry
   pub spare : ℕ
 
+-- what holds of every record: a match of such terms may be played, and its entries are a legal match so far
+pub record IsLog (log : Log) : Type 0 where
+  pub points : IsMatchLength (match_length log.terms)
+  pub legal : IsLegalRecord log.terms log.entries
+
 -- the record of a match with no entry, and no room for one
 abbrev pub empty_log : ℕ → Terms → Log
 empty_log id terms = record { id = id; terms = terms; entries = []; spare = 0 }
@@ -96,7 +101,7 @@ at_number xs (suc i) = slice_get xs i
 
 -- the fault names the first test that fails; want of memory comes last, and only where no room is left
 abbrev pub IsRecordFault : EntryFault → Log → Entry → Type 0
-IsRecordFault fault.RecordFull r e = most_entries ≤ length r.entries
-IsRecordFault fault.Memory r e = (r.spare ≡ 0) × IsNext r.terms r.entries e
-IsRecordFault why r e =
-    (length r.entries < most_entries) × ((s : State) × StandsAt r.terms r.entries s × IsEntryFault why s e)
+IsRecordFault fault.RecordFull log e = most_entries ≤ length log.entries
+IsRecordFault fault.Memory log e = (log.spare ≡ 0) × IsNext log.terms log.entries e
+IsRecordFault why log e =
+    (length log.entries < most_entries) × ((s : State) × StandsAt log.terms log.entries s × IsEntryFault why s e)

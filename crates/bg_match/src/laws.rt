@@ -1,7 +1,7 @@
 //! Laws of the definitions, for the crates above: each is the contract of a function that does nothing.
 ghost use Rattle.bg_match.specs.Match.{MarksCrawford};
 ghost use Rattle.bg_match.specs.Laws.{MayBegin, HasLegalFronts, HasOneStanding, HasEntriesInRange, OpensByReferee, OpensWithoutSeat};
-ghost use Rattle.bg_match.specs.Laws.{AnswersOneAction, OpeningAnswersNone, AnswersInRange, RollsAnyDice, ComparesEntries, ComparesActions};
+ghost use Rattle.bg_match.specs.Laws.{AnswersWithDice, AnswersOneAction, OpeningAnswersNone, AnswersInRange, RollsAnyDice, ComparesEntries, ComparesActions};
 
 /// The Crawford mark of a standing is that of the scores before the games of its match.
 pub fn crawford_by_scores()
@@ -20,6 +20,7 @@ pub fn laws_of_records()
 
 /// What holds of the entries that answer actions.
 pub fn laws_of_answers()
+    ensures answer { AnswersWithDice }
     ensures one_action { AnswersOneAction }
     ensures opening { OpeningAnswersNone }
     ensures in_range { AnswersInRange }

@@ -51,7 +51,7 @@ impl Model for Record {
 
 impl Record {
     ghost use Rattle.bg_match.specs.Entry.{IsEntry};
-    ghost use Rattle.bg_match.specs.Match.{StandsAt, IsLegalRecord, IsNext, empty_log, ActsAfter, SeatAfter, IsMarkedByScores, IsRecordFault};
+    ghost use Rattle.bg_match.specs.Match.{StandsAt, IsLegalRecord, IsNext, empty_log, ActsAfter, SeatAfter, IsMarkedByScores, IsRecordFault, IsLog};
 
     /// A match with no entry.
     ///
@@ -59,7 +59,8 @@ impl Record {
     /// `LengthOutOfRange` where the length is not from 1 to 99.
     pub fn new(alloc: Global, id: u64, length: u8) -> Result<Record, LengthFault>
         ensures ok { IsOk result ↔ IsMatchLength length }
-        ensures value { IfOk result (λ r. r ≡ empty_log id length) }
+        ensures value { IfOk result (λ log. log ≡ empty_log id length) }
+        ensures log { IfOk result (λ log. IsLog log) }
     {
         if !(SHORTEST_MATCH..=LONGEST_MATCH).contains(&length) {
             return Err(LengthFault::LengthOutOfRange);
@@ -76,6 +77,7 @@ impl Record {
     pub fn len(&self) -> Number
         ensures value { result ≡ length self.now.entries }
         ensures legal { IsLegalRecord self.now.terms self.now.entries }
+        ensures log { IsLog self.now }
         ensures in_range { AllByRecursion IsEntry self.now.entries }
     {
         self.made.len() as Number
@@ -118,6 +120,7 @@ impl Record {
         ensures value { result ≡ self.now.terms }
         ensures shortest { shortest_match ≤ result }
         ensures longest { result ≤ longest_match }
+        ensures log { IsLog self.now }
     {
         self.terms
     }
@@ -151,7 +154,8 @@ impl Record {
         Ok(())
     }
 
-    /// Appends an entry. A refusal changes nothing.
+    /// Appends an entry. A refusal changes nothing. Where there was no room, room is made for as many entries again, so
+    /// that a record of any length is written in linear time.
     ///
     /// # Errors
     /// `RecordFull` where there are 65535 entries, else as [`Standing::next`]; at last `Memory` where there is no room,
@@ -160,7 +164,9 @@ impl Record {
         ensures ok { result ≢ Err EntryFault.Memory → (IsOk result ↔ IsNext self.old.terms self.old.entries entry) }
         ensures appended { OnOk result (self.new ≡ record self.old { entries = self.old.entries ++ entry ∷ []; spare = self.new.spare }) }
         ensures spare { OnOk result (0 < self.old.spare → self.new.spare + 1 ≡ self.old.spare) }
+        ensures room { OnOk result (self.old.spare ≡ 0 → length self.old.entries ≤ self.new.spare + 1) }
         ensures legal { OnOk result (IsLegalRecord self.new.terms self.new.entries) }
+        ensures log { IsLog self.new }
         ensures err { OnErr result (self.new ≡ self.old) }
         ensures fault { IfErr result (λ fault. IsRecordFault fault self.old entry) }
     {
@@ -174,13 +180,16 @@ impl Record {
         Ok(())
     }
 
-    /// Makes room for this many more entries. Where it is there already nothing is done.
+    /// Makes room for this many more entries, and for as many again as there are. Where there is room for this many
+    /// already nothing is done.
     ///
     /// # Errors
     /// `AllocError` where there is no memory for it, and then nothing has changed.
     pub fn reserve(&mut self, count: Number) -> Result<(), AllocError>
         ensures room { OnOk result (count ≤ self.new.spare) }
+        ensures again { OnOk result (self.old.spare < count → length self.old.entries ≤ self.new.spare) }
         ensures same { self.new ≡ record self.old { spare = self.new.spare } }
+        ensures log { IsLog self.new }
         ensures there { count ≤ self.old.spare → IsOk result × (self.new ≡ self.old) }
         ensures err { OnErr result (self.new ≡ self.old) }
     {
@@ -192,7 +201,8 @@ impl Record {
     /// # Errors
     /// AllocError where there is no memory for its entries.
     pub fn copy(&self) -> Result<Record, AllocError>
-        ensures { IfOk result (λ copy. copy ≡ record self.now { spare = 0 }) }
+        ensures value { IfOk result (λ copy. copy ≡ record self.now { spare = 0 }) }
+        ensures log { IfOk result (λ copy. IsLog copy) }
     {
         let mut made = Vec::with_capacity(*self.made.allocator(), self.made.len())?;
         for Made { entry, seat } in &self.made {
@@ -231,12 +241,13 @@ fn made_at(made: &[Made], number: Number) -> Option<&Made>
     made.get(usize::from(number).checked_sub(1)?)
 }
 
-/// Makes room for this many more entries, at least twice as much room as before. Where it is there already nothing is
-/// done.
+/// Makes room for this many more entries, and for as many again as there are. Where there is room for this many already
+/// nothing is done.
 fn make_room(made: &mut Vec<Made>, count: usize) -> Result<(), AllocError>
     ensures items { made.new.items ≡ made.old.items }
     ensures len { vec_len made.new ≡ vec_len made.old }
     ensures room { OnOk result (vec_len made.new + count ≤ vec_capacity made.new) }
+    ensures again { OnOk result (vec_capacity made.old < vec_len made.old + count → vec_len made.new + vec_len made.old ≤ vec_capacity made.new) }
     ensures there { vec_len made.old + count ≤ vec_capacity made.old → IsOk result × (vec_capacity made.new ≡ vec_capacity made.old) }
     ensures full { OnErr result (vec_capacity made.old < vec_len made.old + count) }
     ensures err { OnErr result (vec_capacity made.new ≡ vec_capacity made.old) }
@@ -244,5 +255,5 @@ fn make_room(made: &mut Vec<Made>, count: usize) -> Result<(), AllocError>
     if count <= made.capacity() - made.len() {
         return Ok(());
     }
-    made.reserve(count)
+    made.reserve(count.max(made.len()))
 }
