@@ -4,3 +4,4 @@ pub mod Growing
 pub mod Accepting
 pub mod Answering
 pub mod Refusing
+pub mod DueRefusals

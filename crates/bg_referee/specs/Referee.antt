@@ -1,8 +1,10 @@
 -- What contracts see of a referee.
 use Rattle.std.specs.Prelude.{◌≡◌, ℕ, ◌+◌, ◌-◌, ◌<◌, ◌≤◌, List, [], ◌∷◌, ◌++◌, length, take, min}
 use Rattle.bg_match.specs.declared.entries.Entry.{Entry}
-use Rattle.bg_match.specs.Match.{Log, IsLegalRecord}
+use Rattle.bg_match.specs.Terms.{Terms}
+use Rattle.bg_match.specs.Match.{Log, IsLegalRecord, empty_log}
 use Rattle.bg_wire.specs.Runs.{IsRun}
+use Rattle.bg_wire.specs.declared.saves.Saved.{Saved}
 use Rattle.bg_wire.specs.Codes.{least_save, greatest_save, most_in_packet}
 
 -- the record, how many of its entries are saved, and the number of the next save
@@ -17,6 +19,18 @@ pub record IsReferee (r : RefereeView) : Type 0 where
   pub saved : r.saved ≤ length r.log.entries
   pub first_save : least_save ≤ r.next_save
   pub last_save : r.next_save ≤ greatest_save + 1
+
+-- of a match with no entry, and no save
+abbrev pub fresh_referee : ℕ → Terms → RefereeView
+fresh_referee id terms = record { log = empty_log id terms; saved = 0; next_save = least_save }
+
+-- the referee that goes on from what was saved: all of its entries are saved
+abbrev pub resumed_referee : Saved → RefereeView
+resumed_referee s = record { log = s.log; saved = length (s.log).entries; next_save = s.save + 1 }
+
+-- the referee after its save of this number was written
+abbrev pub referee_after_save : RefereeView → ℕ → RefereeView
+referee_after_save r save = record r { saved = length r.log.entries; next_save = save + 1 }
 
 -- the entries that are saved: the first ones, so many
 abbrev pub saved_entries : RefereeView → List Entry
