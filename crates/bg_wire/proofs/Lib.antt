@@ -8,3 +8,5 @@ pub mod SavedLaws
 pub mod SavedEntries
 pub mod Loading
 pub mod Numbers
+pub mod OneText
+pub mod SlotTurns

@@ -11,3 +11,6 @@ pub mod Faults
 pub mod Parties
 pub mod Runs
 pub mod Saves
+pub mod Restoring
+pub mod SlotReading
+pub mod SlotLaws

@@ -33,3 +33,7 @@ pub record IsWrongAt {A : Type 0} (IsTextOf : A → List ℕ → Type 0) (bytes 
   pub small : length wrong ≤ 4
   pub begins : IsFront IsTextOf before
   pub breaks : IsFront IsTextOf (before ++ wrong) → ⊥
+
+-- bytes are the text of one value
+abbrev pub IsOneText : {A : Type 0} → (A → List ℕ → Type 0) → Type 0
+IsOneText {A} IsTextOf = (x y : A) (bytes : List ℕ) → IsTextOf x bytes → IsTextOf y bytes → x ≡ y

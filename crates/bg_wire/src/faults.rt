@@ -60,3 +60,18 @@ pub enum SaveRefusal {
     #[error("out of memory")]
     Memory,
 }
+
+/// Why nothing is restored of two slots, in the order in which the refusals are tested; want of memory comes in place of
+/// any other answer (docs/FORMATS.md, "Saved files").
+#[derive(Clone, Copy, Debug, PartialEq, Eq, Error)]
+pub enum RestoreRefusal {
+    /// Neither slot has a saved text, and slot 0 is not empty.
+    #[error("damaged")]
+    Damaged,
+    /// The saved text is of another party, or of another match.
+    #[error("wrong match")]
+    WrongMatch,
+    /// There is no memory for the entries.
+    #[error("out of memory")]
+    Memory,
+}

@@ -10,20 +10,26 @@ mod packet_version_one;
 mod packets;
 mod parties;
 mod reader;
+mod restoring;
+#[cfg(test)]
+mod restoring_tests;
 mod saved_version_one;
 mod saves;
 mod saving;
+mod slot_laws;
 mod slots;
 #[cfg(test)]
 mod tests;
 
 pub use codec::{decode, encode, packet_texts_are_prefix_free};
-pub use faults::{LoadFault, SaveRefusal, WireFault};
+pub use faults::{LoadFault, RestoreRefusal, SaveRefusal, WireFault};
 pub use packets::{
     Datagram, EntryList, LONGEST_PACKET, MOST_DATAGRAM_BYTES, MOST_ENTRIES_IN_PACKET, Packet,
     PacketBytes,
 };
 pub use parties::{FIRST_WATCHER, LAST_WATCHER, REFEREE, SEAT_OF_O, SEAT_OF_X, party_of};
+pub use restoring::restore;
 pub use saves::{FIRST_SAVE, LAST_SAVE, LONGEST_SAVED_TEXT, Saved};
 pub use saving::{load, next_save, save_text, saved_texts_are_prefix_free};
+pub use slot_laws::{laws_of_loading, laws_of_restoring, laws_of_saving, laws_of_texts};
 pub use slots::Slot;

@@ -1,0 +1,34 @@
+//! Laws of texts and of slots, for the crates above: each is the contract of a function that does nothing.
+ghost use Rattle.bg_wire.specs.PacketText.{IsText};
+ghost use Rattle.bg_wire.specs.SavedText.{IsSavedText};
+ghost use Rattle.bg_wire.specs.Texts.{IsOneText};
+ghost use Rattle.bg_wire.specs.SlotLaws.{FrontsLoadAsNothing, EmptyLoadsAsNothing, LoadAsOneThing, RestoreOneThing, RestoreOneOfBoth};
+ghost use Rattle.bg_wire.specs.SlotLaws.{GoesByTurns, NextGoesToTheOther, WrittenIsRestored, TornIsNotRestored, GivesWhatSlotsRestore};
+
+/// Bytes are the text of one packet, and of one saved match.
+pub fn laws_of_texts()
+    ensures packets { IsOneText IsText }
+    ensures saved { IsOneText IsSavedText }
+{}
+
+/// What bytes load as: one thing, and nothing where they are empty, or a saved text that was cut short.
+pub fn laws_of_loading()
+    ensures once { LoadAsOneThing }
+    ensures cut { FrontsLoadAsNothing }
+    ensures empty { EmptyLoadsAsNothing }
+{}
+
+/// What two slots restore is one thing, by the saved text in one of them, and restoring gives it back.
+pub fn laws_of_restoring()
+    ensures once { RestoreOneThing }
+    ensures one { RestoreOneOfBoth }
+    ensures back { GivesWhatSlotsRestore }
+{}
+
+/// Saves go to the two slots by turns. After a save the slots restore it; after one that was cut short, what they did.
+pub fn laws_of_saving()
+    ensures turns { GoesByTurns }
+    ensures other { NextGoesToTheOther }
+    ensures written { WrittenIsRestored }
+    ensures torn { TornIsNotRestored }
+{}
