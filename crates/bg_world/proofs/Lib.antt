@@ -1,0 +1,6 @@
+pub mod Lists
+pub mod Saving
+pub mod Invariant
+pub mod Rows
+pub mod Growth
+pub mod Reached
