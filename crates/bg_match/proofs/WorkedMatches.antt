@@ -12,7 +12,7 @@ use Rattle.bg_match.specs.declared.entries.Entry.TheVariants as entry
 use Rattle.bg_match.specs.declared.entries.EntryFault.TheVariants as fault
 use Rattle.bg_match.specs.declared.entries.NoDouble.TheVariants as no_double
 use Rattle.bg_match.specs.Level.{level_of}
-use Rattle.bg_match.specs.State.{State, start_of, start_cube, after_win}
+use Rattle.bg_match.specs.State.{State, start_of, middle_cube, after_win}
 use Rattle.bg_match.specs.Follows.{Follows, IsEntryFault, after_turn}
 use Rattle.bg_match.proofs.Legal.{Leads-append}
 use Rattle.bg_match.specs.Match.{StandsAt, StandsWithScores, IsCrawfordGame, ActsAfter, SeatAfter}
@@ -89,15 +89,15 @@ unfolding bar_win
 backgammon_wins_match = refl
 
 -- one point does not win it: the next game opens, and 4-2 is no Crawford score
-next_game_opens : after_win at_three_two X 1 ≡ record at_three_two { phase = phase.Opening; cube = start_cube; x_score = 4; game = 5 }
+next_game_opens : after_win at_three_two X 1 ≡ record at_three_two { phase = phase.Opening; cube = middle_cube; x_score = 4; game = 5 }
 next_game_opens = refl
 
 -- three points lead to 6-2 and to the Crawford game
-crawford_game_opens : after_win at_three_two X 3 ≡ record at_three_two { phase = phase.Opening; cube = start_cube; x_score = 6; crawford = true; game = 5 }
+crawford_game_opens : after_win at_three_two X 3 ≡ record at_three_two { phase = phase.Opening; cube = middle_cube; x_score = 6; crawford = true; game = 5 }
 crawford_game_opens = refl
 
 -- four points of O lead to 3-6 and to the Crawford game too
-crawford_game_of_o : after_win at_three_two O 4 ≡ record at_three_two { phase = phase.Opening; cube = start_cube; o_score = 6; crawford = true; game = 5 }
+crawford_game_of_o : after_win at_three_two O 4 ≡ record at_three_two { phase = phase.Opening; cube = middle_cube; o_score = 6; crawford = true; game = 5 }
 crawford_game_of_o = refl
 
 -- Doubles in a match of five points.

@@ -20,6 +20,10 @@ IsMatchLength points = (shortest_match ≤ points) × (points ≤ longest_match)
 abbrev pub greatest_cube : ℕ
 greatest_cube = 128
 
--- one point short of the longest match, and then a backgammon with the greatest cube
+-- what a won game counts at most: a backgammon with the greatest cube
+abbrev pub greatest_win : ℕ
+greatest_win = 384
+
+-- one point short of the longest match, and then the greatest win
 abbrev pub greatest_score : ℕ
 greatest_score = 482

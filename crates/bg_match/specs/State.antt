@@ -71,8 +71,9 @@ abbrev pub is_crawford : ℕ → Option ℕ → ℕ → Bool
 is_crawford points None greater = greater + 1 == points
 is_crawford points (Some before) greater = greater + 1 == points && nat_lt before greater
 
-abbrev pub start_cube : Cube
-start_cube = record { value = 1; owner = None }
+-- the cube in the middle: so a game starts
+abbrev pub middle_cube : Cube
+middle_cube = record { value = 1; owner = None }
 
 -- the start of a match of these terms
 abbrev pub start_of : Terms → State
@@ -80,7 +81,7 @@ start_of terms = record {
   terms = terms;
   board = start_position;
   phase = Opening;
-  cube = start_cube;
+  cube = middle_cube;
   x_score = 0;
   o_score = 0;
   crawford = is_crawford (match_length terms) None 0;
@@ -100,7 +101,7 @@ abbrev pub next_game : State → ℕ → State
 next_game s before = record s {
   board = start_position;
   phase = Opening;
-  cube = start_cube;
+  cube = middle_cube;
   crawford = is_crawford (match_length s.terms) (Some before) (greater_score s);
   game = s.game + 1;
 }

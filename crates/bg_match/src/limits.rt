@@ -20,6 +20,3 @@ pub const GREATEST_CUBE: u8 = 128;
 
 /// The greatest score: one point short of the longest match, and then a backgammon with the greatest cube.
 pub const GREATEST_SCORE: u16 = 482;
-
-/// What a won game counts at most: a backgammon with the greatest cube.
-pub(crate) const GREATEST_WIN: u16 = 384;

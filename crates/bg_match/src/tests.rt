@@ -10,11 +10,6 @@ use std::alloc::Global;
 use std::process::Abort;
 use std::test::Fail;
 
-const MIDDLE: Cube = Cube {
-    value: 1,
-    owner: None,
-};
-
 fn dice(first: Die, second: Die) -> Dice {
     Dice { first, second }
 }
@@ -186,7 +181,7 @@ fn refused_doubles(rt: HostRuntime) -> Result<(), Fail> {
     let rows = [
         (cube(128, Player::X), false, NoDouble::AtCap),
         (cube(128, Player::O), false, NoDouble::NotOwner),
-        (MIDDLE, true, NoDouble::Crawford),
+        (Cube::MIDDLE, true, NoDouble::Crawford),
         (cube(128, Player::O), true, NoDouble::Crawford),
     ];
     for (cube, crawford, why) in rows {
@@ -224,6 +219,13 @@ fn cubes_of_standings(rt: HostRuntime) {
             "{value}"
         );
     }
+    for (value, is_cube) in [(128, true), (129, false), (255, false)] {
+        let cube = cube(value, Player::X);
+        assert!(rt;
+            is_standing(99, Phase::Opening, cube, (0, 0)) == is_cube,
+            "{value}"
+        );
+    }
 }
 
 #[test]
@@ -242,7 +244,7 @@ fn scores_of_standings(rt: HostRuntime) {
         (99, over, (483, 98), false),
     ] {
         assert!(rt;
-            is_standing(length, phase, MIDDLE, score) == are_scores,
+            is_standing(length, phase, Cube::MIDDLE, score) == are_scores,
             "{score:?}"
         );
     }
@@ -258,7 +260,15 @@ fn games_of_standings(rt: HostRuntime) {
         ((1, 2), 4, true),
         ((1, 2), 5, false),
     ] {
-        let standing = Standing::from_parts(9, start, Phase::Opening, MIDDLE, score, false, game);
+        let standing = Standing::from_parts(
+            9,
+            start,
+            Phase::Opening,
+            Cube::MIDDLE,
+            score,
+            false,
+            game,
+        );
         assert!(rt; standing.is_some() == is_game, "{game}");
     }
 }
@@ -266,7 +276,7 @@ fn games_of_standings(rt: HostRuntime) {
 /// Where a standing of a match of five points in this phase leads once an offer to resign has been rejected.
 fn after_a_rejected_offer(phase: Phase) -> Result<(Standing, Standing), Fail> {
     let start = Board::start();
-    let standing = Standing::from_parts(5, start, phase, MIDDLE, (0, 0), false, 1);
+    let standing = Standing::from_parts(5, start, phase, Cube::MIDDLE, (0, 0), false, 1);
     let standing = standing.ok_or("standing")?;
     let offered = standing.next(&Entry::Resigned(Level::Gammon))?;
     Ok((standing, offered.next(&Entry::Rejected)?))
@@ -295,7 +305,7 @@ fn crawford_game(rt: HostRuntime) -> Result<(), Fail> {
     ];
     let mut record = record(rt.alloc(), 3, &entries)?;
     let to_act = Phase::ToAct(Player::O);
-    let standing = Standing::from_parts(3, opened()?, to_act, MIDDLE, (2, 0), true, 2);
+    let standing = Standing::from_parts(3, opened()?, to_act, Cube::MIDDLE, (2, 0), true, 2);
     assert!(rt; Some(record.standing()) == standing);
     assert_eq!(rt;
         record.push(Entry::Doubled),
@@ -321,7 +331,7 @@ fn after_the_crawford_game(rt: HostRuntime) -> Result<(), Fail> {
     ];
     let record = record(rt.alloc(), 3, &entries)?;
     let doubled = Phase::Doubled(Player::X);
-    let standing = Standing::from_parts(3, opened()?, doubled, MIDDLE, (2, 1), false, 3);
+    let standing = Standing::from_parts(3, opened()?, doubled, Cube::MIDDLE, (2, 1), false, 3);
     assert!(rt; Some(record.standing()) == standing);
     assert_eq!(rt; record.len(), 9);
     Ok(())
@@ -353,10 +363,15 @@ fn doubled_twice(rt: &(impl AllocGlobal + Abort)) -> Result<Record, Fail> {
             Entry::Opening(Die::Three, Die::One),
             start,
             Phase::ToMove(Player::X, throw),
-            MIDDLE,
+            Cube::MIDDLE,
         ),
-        (moved.copy(), opened, Phase::ToAct(Player::O), MIDDLE),
-        (Entry::Doubled, opened, Phase::Doubled(Player::X), MIDDLE),
+        (moved.copy(), opened, Phase::ToAct(Player::O), Cube::MIDDLE),
+        (
+            Entry::Doubled,
+            opened,
+            Phase::Doubled(Player::X),
+            Cube::MIDDLE,
+        ),
         (Entry::Taken, opened, Phase::ToAct(Player::O), by_x),
         (
             Entry::Rolled(throw),
@@ -378,7 +393,7 @@ fn doubles_dropped(rt: HostRuntime) -> Result<(), Fail> {
     let mut dropped = record.copy()?;
     dropped.push(Entry::Dropped)?;
     let start = Board::start();
-    let won = Standing::from_parts(5, start, Phase::Opening, MIDDLE, (2, 0), false, 2);
+    let won = Standing::from_parts(5, start, Phase::Opening, Cube::MIDDLE, (2, 0), false, 2);
     assert!(rt; Some(dropped.standing()) == won);
     assert_eq!(rt; dropped.by(8), Some(Player::O));
     Ok(())
@@ -450,14 +465,22 @@ fn levels_of_wins(rt: HostRuntime) -> Result<(), Fail> {
 fn games_after_wins(rt: HostRuntime) -> Result<(), Fail> {
     let start = Board::start();
     for (player, level, cube, score, crawford) in [
-        (Player::O, Level::Normal, MIDDLE, (4, 2), false),
-        (Player::O, Level::Backgammon, MIDDLE, (6, 2), true),
+        (Player::O, Level::Normal, Cube::MIDDLE, (4, 2), false),
+        (Player::O, Level::Backgammon, Cube::MIDDLE, (6, 2), true),
         (Player::X, Level::Gammon, cube(2, Player::O), (3, 6), true),
     ] {
         let offered = Phase::Resigned(player, level, None);
         let before = Standing::from_parts(7, start, offered, cube, (3, 2), false, 4);
         let after = before.ok_or("standing")?.next(&Entry::Accepted)?;
-        let opening = Standing::from_parts(7, start, Phase::Opening, MIDDLE, score, crawford, 5);
+        let opening = Standing::from_parts(
+            7,
+            start,
+            Phase::Opening,
+            Cube::MIDDLE,
+            score,
+            crawford,
+            5,
+        );
         assert!(rt; Some(after) == opening, "at {score:?}");
     }
     Ok(())
@@ -485,6 +508,41 @@ fn entries_of_actions(rt: HostRuntime) -> Result<(), Fail> {
         assert!(rt; entry_of(action.copy(), None).is_none() == rolls);
         assert!(rt; entry_of(action, Some(throw)) == Some(entry));
     }
+    Ok(())
+}
+
+#[test]
+fn faults_printed(rt: HostRuntime) -> Result<(), Fail> {
+    for (fault, text) in [
+        (EntryFault::RecordFull, "record full"),
+        (EntryFault::MatchOver, "match over"),
+        (EntryFault::WrongPhase, "wrong phase"),
+        (EntryFault::EqualOpening, "equal opening"),
+        (
+            EntryFault::Turn(TurnFault::MoreCanBePlayed),
+            "more dice can be played",
+        ),
+        (
+            EntryFault::NoDouble(NoDouble::Crawford),
+            "no double: crawford",
+        ),
+        (
+            EntryFault::NoDouble(NoDouble::NotOwner),
+            "no double: not owner",
+        ),
+        (EntryFault::NoDouble(NoDouble::AtCap), "no double: at cap"),
+        (EntryFault::Memory, "out of memory"),
+    ] {
+        assert_eq!(rt; format!(in rt.alloc(); "{fault}")?.as_str(), text);
+    }
+    Ok(())
+}
+
+#[test]
+fn faults_of_lengths_printed(rt: HostRuntime) -> Result<(), Fail> {
+    let fault = LengthFault::LengthOutOfRange;
+    let text = format!(in rt.alloc(); "{fault}")?;
+    assert_eq!(rt; text.as_str(), "length out of range");
     Ok(())
 }
 

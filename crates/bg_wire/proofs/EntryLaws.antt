@@ -3,7 +3,7 @@ use Rattle.std.proofs.Common.{◌≡◌, ℕ, zero, suc, ◌-◌, ◌≤◌, Lis
 use Rattle.std.specs.Prelude.{◌==◌, Ok}
 use Rattle.std.specs.List.{flat_map, AllByRecursion}
 use Rattle.std.proofs.lemmas.List.Concat.{flat_map-cons}
-use Rattle.bg_board.specs.Die.{pips}
+use Rattle.bg_board.specs.Die.{pips, die_of}
 use Rattle.bg_board.specs.FromTo.{FromTo}
 use Rattle.bg_board.specs.declared.dice.Die.{Die}
 use Rattle.bg_board.specs.declared.dice.Die.TheVariants.{One, Two, Three, Four, Five, Six}
@@ -19,7 +19,7 @@ use Rattle.bg_match.specs.declared.levels.Level.TheVariants.{Normal, Gammon, Bac
 use Rattle.bg_wire.specs.Codes.{opening_code, rolled_code, doubled_code, taken_code, dropped_code, moved_code, resigned_code, accepted_code, rejected_code, normal_code, backgammon_code, least_pips, most_pips, lowest_start, bar, most_steps}
 use Rattle.bg_wire.specs.Reading.{◌>>=◌, Cursor, Read, u8_at, many_at, with}
 use Rattle.bg_wire.specs.EntryText.{step_text, turn_text, level_code, dice_text, action_text, entry_text}
-use Rattle.bg_wire.specs.EntryReading.{step_at, turn_at, level_of, level_at, die_of, die_at, dice_at, action_of, action_at, entry_of, entry_at}
+use Rattle.bg_wire.specs.EntryReading.{step_at, turn_at, level_of, level_at, die_at, dice_at, action_of, action_at, entry_of, entry_at}
 use Rattle.bg_wire.proofs.Laws.{Law, Then, Nothing, Mapped, Each, Choice, HasText, has_mapped, has_choice, has_each, then_law, done_law, with_law, other_text, many_law, choice_law}
 use Rattle.bg_wire.proofs.Fields.{Byte, has_byte, byte_law}
 

@@ -1,8 +1,8 @@
 -- Reading entries and actions.
 use Rattle.std.specs.Prelude.{◌==◌, ℕ, ◌-◌, List, Ok, if◌then◌else◌}
 use Rattle.bg_board.specs.FromTo.{FromTo}
+use Rattle.bg_board.specs.Die.{die_of}
 use Rattle.bg_board.specs.declared.dice.Die.{Die}
-use Rattle.bg_board.specs.declared.dice.Die.TheVariants.{One, Two, Three, Four, Five, Six}
 use Rattle.bg_turns.specs.declared.throws.Dice.{Dice}
 use Rattle.bg_match.specs.declared.actions.Action.{Action}
 use Rattle.bg_match.specs.declared.actions.Action.TheVariants as action
@@ -31,16 +31,6 @@ unfoldable pub level_at : Cursor → Read Level
 level_at c = do
   code ← u8_at normal_code backgammon_code c
   Ok (level_of code.0, code.1)
-
--- the die that shows so much
-abbrev pub die_of : ℕ → Die
-die_of n =
-    if n == 1 then One
-    else if n == 2 then Two
-    else if n == 3 then Three
-    else if n == 4 then Four
-    else if n == 5 then Five
-    else Six
 
 unfoldable pub die_at : Cursor → Read Die
 die_at c = do
