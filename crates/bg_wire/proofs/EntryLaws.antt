@@ -18,8 +18,8 @@ use Rattle.bg_match.specs.declared.levels.Level.{Level}
 use Rattle.bg_match.specs.declared.levels.Level.TheVariants.{Normal, Gammon, Backgammon}
 use Rattle.bg_wire.specs.Codes.{opening_code, rolled_code, doubled_code, taken_code, dropped_code, moved_code, resigned_code, accepted_code, rejected_code, normal_code, backgammon_code, least_pips, most_pips, lowest_start, bar, most_steps}
 use Rattle.bg_wire.specs.Reading.{◌>>=◌, Cursor, Read, u8_at, many_at, with}
-use Rattle.bg_wire.specs.EntryText.{step_text, turn_text, level_code, dice_text, action_text, entry_text}
-use Rattle.bg_wire.specs.EntryReading.{step_at, turn_at, level_of, level_at, die_at, dice_at, action_of, action_at, entry_of, entry_at}
+use Rattle.bg_wire.specs.EntryText.{step_bytes, turn_bytes, level_code, dice_bytes, action_bytes, entry_bytes}
+use Rattle.bg_wire.specs.EntryReading.{step_at, turn_at, level_of_code, level_at, die_at, dice_at, action_of, action_at, entry_of, entry_at}
 use Rattle.bg_wire.proofs.Laws.{Law, Then, Nothing, Mapped, Each, Choice, HasText, has_mapped, has_choice, has_each, then_law, done_law, with_law, other_text, many_law, choice_law}
 use Rattle.bg_wire.proofs.Fields.{Byte, has_byte, byte_law}
 
@@ -38,13 +38,13 @@ step_of from to = record { from = from; to = to }
 abbrev StepParts : FromTo → List ℕ → Type 0
 StepParts = Then (Byte lowest_start bar) (λ from. Mapped (step_of from) (Byte 0 (from - 1)))
 
-step_to : (s : FromTo) (front : List ℕ) → StepParts s front → Spells IsDownward step_text s front
+step_to : (s : FromTo) (front : List ℕ) → StepParts s front → Spells IsDownward step_bytes s front
 step_to s front h =
     let from = h.0 in let to = h.4.0 in
-    let text : front ≡ step_text (step_of from to) = h.5 ∙ ap (λ (r : List ℕ). r ++ h.2) h.3.2 ∙ ap (λ (r : List ℕ). from ∷ r) h.4.1.2 in
-    subst (λ (x : FromTo). Spells IsDownward step_text x front) h.4.2 (record { starts = h.3.1; lower = omega (arith, h.3.0, h.4.1.1) }, text)
+    let text : front ≡ step_bytes (step_of from to) = h.5 ∙ ap (λ (r : List ℕ). r ++ h.2) h.3.2 ∙ ap (λ (r : List ℕ). from ∷ r) h.4.1.2 in
+    subst (λ (x : FromTo). Spells IsDownward step_bytes x front) h.4.2 (record { starts = h.3.1; lower = omega (arith, h.3.0, h.4.1.1) }, text)
 
-step_from : (s : FromTo) (front : List ℕ) → Spells IsDownward step_text s front → StepParts s front
+step_from : (s : FromTo) (front : List ℕ) → Spells IsDownward step_bytes s front → StepParts s front
 step_from s front h = (
   s.from,
   s.from ∷ [],
@@ -54,15 +54,15 @@ step_from s front h = (
   h.1,
 )
 
-pub step_law : Law step_at (Spells IsDownward step_text)
+pub step_law : Law step_at (Spells IsDownward step_bytes)
 unfolding step_at
 step_law = other_text _ step_to step_from
     (then_law (u8_at lowest_start bar) (λ from c. with (step_of from) (u8_at 0 (from - 1) c)) (byte_law lowest_start bar)
     (λ from. with_law (step_of from) (u8_at 0 (from - 1)) (byte_law 0 (from - 1)))
     (λ from first h. has_mapped (step_of from) (has_byte 0 (from - 1) (omega arith))))
 
-has_step : HasText (Spells IsDownward step_text)
-has_step = (step_of 1 0, step_text (step_of 1 0), (record { starts = omega arith; lower = omega arith }, refl))
+has_step : HasText (Spells IsDownward step_bytes)
+has_step = (step_of 1 0, step_bytes (step_of 1 0), (record { starts = omega arith; lower = omega arith }, refl))
 
 -- each has a text, one after the other
 pub each_to : {A : Type 0} (Valid : A → Type 0) (text : A → List ℕ) (n : ℕ) (xs : List A) (front : List ℕ) → Each (Spells Valid text) n xs front
@@ -105,12 +105,12 @@ pub counted_law : {A : Type 0} (low high : ℕ) (Valid : A → Type 0) (text : A
 counted_law low high Valid text one law some =
     other_text _ (counted_to low high Valid text) (counted_from low high Valid text) (then_law (u8_at low high) (λ n. many_at one n) (byte_law low high) (λ n. many_law one law n) (λ n first h. has_each some n))
 
-turn_law : Law turn_at (Spells IsTurn turn_text)
+turn_law : Law turn_at (Spells IsTurn turn_bytes)
 unfolding turn_at
-turn_law = other_text _ (λ t front h. (record { few = h.0.1; each = h.0.2 }, h.1)) (λ t front h. ((omega arith, h.0.few, h.0.each), h.1)) (counted_law 0 most_steps IsDownward step_text step_at step_law has_step)
+turn_law = other_text _ (λ t front h. (record { few = h.0.1; each = h.0.2 }, h.1)) (λ t front h. ((omega arith, h.0.few, h.0.each), h.1)) (counted_law 0 most_steps IsDownward step_bytes step_at step_law has_step)
 
-has_turn : HasText (Spells IsTurn turn_text)
-has_turn = ([], turn_text [], (record { few = omega arith; each = tt }, refl))
+has_turn : HasText (Spells IsTurn turn_bytes)
+has_turn = ([], turn_bytes [], (record { few = omega arith; each = tt }, refl))
 
 -- ---- one byte that names a value
 
@@ -127,14 +127,14 @@ module _ {A : Type 0} (low high : ℕ) (named : ℕ → A) (code : A → ℕ) (t
   code_law : Law (λ c. with named (u8_at low high c)) (Spells Always code_text)
   code_law = other_text _ code_to code_from (with_law named (u8_at low high) (byte_law low high))
 
-level_named : (n : ℕ) → normal_code ≤ n → n ≤ backgammon_code → level_code (level_of n) ≡ n
+level_named : (n : ℕ) → normal_code ≤ n → n ≤ backgammon_code → level_code (level_of_code n) ≡ n
 level_named zero low high = absurd (omega arith)
 level_named (suc zero) low high = refl
 level_named (suc (suc zero)) low high = refl
 level_named (suc (suc (suc zero))) low high = refl
 level_named (suc (suc (suc (suc n)))) low high = absurd (omega arith)
 
-level_in_range : (l : Level) → (normal_code ≤ level_code l) × (level_code l ≤ backgammon_code) × (level_of (level_code l) ≡ l)
+level_in_range : (l : Level) → (normal_code ≤ level_code l) × (level_code l ≤ backgammon_code) × (level_of_code (level_code l) ≡ l)
 level_in_range Normal = (omega arith, omega arith, refl)
 level_in_range Gammon = (omega arith, omega arith, refl)
 level_in_range Backgammon = (omega arith, omega arith, refl)
@@ -144,7 +144,7 @@ level_text l = level_code l ∷ []
 
 level_law : Law level_at (Spells Always level_text)
 unfolding level_at
-level_law = code_law normal_code backgammon_code level_of level_code level_named level_in_range
+level_law = code_law normal_code backgammon_code level_of_code level_code level_named level_in_range
 
 has_level : HasText (Spells Always level_text)
 has_level = (Normal, level_text Normal, (tt, refl))
@@ -181,7 +181,7 @@ abbrev dice_of : Die → Die → Dice
 dice_of first second = record { first = first; second = second }
 
 abbrev throw_text : Dice → List ℕ
-throw_text dice = dice_text dice.first dice.second
+throw_text dice = dice_bytes dice.first dice.second
 
 abbrev DiceParts : Dice → List ℕ → Type 0
 DiceParts = Then (Spells Always die_text) (λ first. Mapped (dice_of first) (Spells Always die_text))
@@ -218,7 +218,7 @@ ActionRest code =
     (Choice (code == doubled_code) (Nothing action.Double)
     (Choice (code == taken_code) (Nothing action.Take)
     (Choice (code == dropped_code) (Nothing action.Drop)
-    (Choice (code == moved_code) (Mapped action.Move (Spells IsTurn turn_text))
+    (Choice (code == moved_code) (Mapped action.Move (Spells IsTurn turn_bytes))
     (Choice (code == resigned_code) (Mapped action.Resign (Spells Always level_text))
     (Choice (code == accepted_code) (Nothing action.Accept)
     (Nothing action.Reject)))))))
@@ -245,43 +245,43 @@ has_action_rest code =
     (has_choice (code == accepted_code) (action.Accept, [], (refl, refl))
     (action.Reject, [], (refl, refl))))))))
 
-action_rest : (code : ℕ) (a : Action) (rest : List ℕ) → rolled_code ≤ code → code ≤ rejected_code → ActionRest code a rest → Spells IsAction action_text a (code ∷ rest)
+action_rest : (code : ℕ) (a : Action) (rest : List ℕ) → rolled_code ≤ code → code ≤ rejected_code → ActionRest code a rest → Spells IsAction action_bytes a (code ∷ rest)
 action_rest zero a rest low high h = absurd (omega arith)
 action_rest (suc zero) a rest low high h = absurd (omega arith)
-action_rest (suc (suc zero)) a rest low high h = nothing_follows IsAction action_text 2 action.Roll a rest tt refl h
-action_rest (suc (suc (suc zero))) a rest low high h = nothing_follows IsAction action_text 3 action.Double a rest tt refl h
-action_rest (suc (suc (suc (suc zero)))) a rest low high h = nothing_follows IsAction action_text 4 action.Take a rest tt refl h
-action_rest (suc (suc (suc (suc (suc zero))))) a rest low high h = nothing_follows IsAction action_text 5 action.Drop a rest tt refl h
-action_rest (suc (suc (suc (suc (suc (suc zero)))))) a rest low high h = follows IsAction action_text 6 action.Move IsTurn turn_text a rest (λ x v. v) (λ x. refl) h
-action_rest (suc (suc (suc (suc (suc (suc (suc zero))))))) a rest low high h = follows IsAction action_text 7 action.Resign Always level_text a rest (λ x v. tt) (λ x. refl) h
-action_rest (suc (suc (suc (suc (suc (suc (suc (suc zero)))))))) a rest low high h = nothing_follows IsAction action_text 8 action.Accept a rest tt refl h
-action_rest (suc (suc (suc (suc (suc (suc (suc (suc (suc zero))))))))) a rest low high h = nothing_follows IsAction action_text 9 action.Reject a rest tt refl h
+action_rest (suc (suc zero)) a rest low high h = nothing_follows IsAction action_bytes 2 action.Roll a rest tt refl h
+action_rest (suc (suc (suc zero))) a rest low high h = nothing_follows IsAction action_bytes 3 action.Double a rest tt refl h
+action_rest (suc (suc (suc (suc zero)))) a rest low high h = nothing_follows IsAction action_bytes 4 action.Take a rest tt refl h
+action_rest (suc (suc (suc (suc (suc zero))))) a rest low high h = nothing_follows IsAction action_bytes 5 action.Drop a rest tt refl h
+action_rest (suc (suc (suc (suc (suc (suc zero)))))) a rest low high h = follows IsAction action_bytes 6 action.Move IsTurn turn_bytes a rest (λ x v. v) (λ x. refl) h
+action_rest (suc (suc (suc (suc (suc (suc (suc zero))))))) a rest low high h = follows IsAction action_bytes 7 action.Resign Always level_text a rest (λ x v. tt) (λ x. refl) h
+action_rest (suc (suc (suc (suc (suc (suc (suc (suc zero)))))))) a rest low high h = nothing_follows IsAction action_bytes 8 action.Accept a rest tt refl h
+action_rest (suc (suc (suc (suc (suc (suc (suc (suc (suc zero))))))))) a rest low high h = nothing_follows IsAction action_bytes 9 action.Reject a rest tt refl h
 action_rest (suc (suc (suc (suc (suc (suc (suc (suc (suc (suc n)))))))))) a rest low high h = absurd (omega arith)
 
 abbrev ActionParts : Action → List ℕ → Type 0
 ActionParts = Then (Byte rolled_code rejected_code) ActionRest
 
-action_to : (a : Action) (front : List ℕ) → ActionParts a front → Spells IsAction action_text a front
+action_to : (a : Action) (front : List ℕ) → ActionParts a front → Spells IsAction action_bytes a front
 action_to a front h =
     let text : front ≡ h.0 ∷ h.2 = h.5 ∙ ap (λ (r : List ℕ). r ++ h.2) h.3.2 in
-    subst (λ (f : List ℕ). Spells IsAction action_text a f) (sym text) (action_rest h.0 a h.2 h.3.0 h.3.1 h.4)
+    subst (λ (f : List ℕ). Spells IsAction action_bytes a f) (sym text) (action_rest h.0 a h.2 h.3.0 h.3.1 h.4)
 
-action_from : (a : Action) (front : List ℕ) → Spells IsAction action_text a front → ActionParts a front
+action_from : (a : Action) (front : List ℕ) → Spells IsAction action_bytes a front → ActionParts a front
 action_from action.Roll front h = (2, 2 ∷ [], [], (omega arith, omega arith, refl), (refl, refl), h.1)
 action_from action.Double front h = (3, 3 ∷ [], [], (omega arith, omega arith, refl), (refl, refl), h.1)
 action_from action.Take front h = (4, 4 ∷ [], [], (omega arith, omega arith, refl), (refl, refl), h.1)
 action_from action.Drop front h = (5, 5 ∷ [], [], (omega arith, omega arith, refl), (refl, refl), h.1)
-action_from (action.Move t) front h = (6, 6 ∷ [], turn_text t, (omega arith, omega arith, refl), (t, (h.0, refl), refl), h.1)
+action_from (action.Move t) front h = (6, 6 ∷ [], turn_bytes t, (omega arith, omega arith, refl), (t, (h.0, refl), refl), h.1)
 action_from (action.Resign l) front h = (7, 7 ∷ [], level_text l, (omega arith, omega arith, refl), (l, (tt, refl), refl), h.1)
 action_from action.Accept front h = (8, 8 ∷ [], [], (omega arith, omega arith, refl), (refl, refl), h.1)
 action_from action.Reject front h = (9, 9 ∷ [], [], (omega arith, omega arith, refl), (refl, refl), h.1)
 
-pub action_law : Law action_at (Spells IsAction action_text)
+pub action_law : Law action_at (Spells IsAction action_bytes)
 unfolding action_at
 action_law = other_text _ action_to action_from (then_law (u8_at rolled_code rejected_code) action_of (byte_law rolled_code rejected_code) action_rest_law (λ code first h. has_action_rest code))
 
-pub has_action : HasText (Spells IsAction action_text)
-has_action = (action.Roll, action_text action.Roll, (tt, refl))
+pub has_action : HasText (Spells IsAction action_bytes)
+has_action = (action.Roll, action_bytes action.Roll, (tt, refl))
 
 -- ---- entries
 
@@ -295,7 +295,7 @@ EntryRest code =
     (Choice (code == doubled_code) (Nothing entry.Doubled)
     (Choice (code == taken_code) (Nothing entry.Taken)
     (Choice (code == dropped_code) (Nothing entry.Dropped)
-    (Choice (code == moved_code) (Mapped entry.Moved (Spells IsTurn turn_text))
+    (Choice (code == moved_code) (Mapped entry.Moved (Spells IsTurn turn_bytes))
     (Choice (code == resigned_code) (Mapped entry.Resigned (Spells Always level_text))
     (Choice (code == accepted_code) (Nothing entry.Accepted)
     (Nothing entry.Rejected))))))))
@@ -324,41 +324,41 @@ has_entry_rest code =
     (has_choice (code == accepted_code) (entry.Accepted, [], (refl, refl))
     (entry.Rejected, [], (refl, refl)))))))))
 
-entry_rest : (code : ℕ) (e : Entry) (rest : List ℕ) → opening_code ≤ code → code ≤ rejected_code → EntryRest code e rest → Spells IsEntry entry_text e (code ∷ rest)
+entry_rest : (code : ℕ) (e : Entry) (rest : List ℕ) → opening_code ≤ code → code ≤ rejected_code → EntryRest code e rest → Spells IsEntry entry_bytes e (code ∷ rest)
 entry_rest zero e rest low high h = absurd (omega arith)
-entry_rest (suc zero) e rest low high h = follows IsEntry entry_text 1 opening_of Always throw_text e rest (λ x v. tt) (λ x. refl) h
-entry_rest (suc (suc zero)) e rest low high h = follows IsEntry entry_text 2 entry.Rolled Always throw_text e rest (λ x v. tt) (λ x. refl) h
-entry_rest (suc (suc (suc zero))) e rest low high h = nothing_follows IsEntry entry_text 3 entry.Doubled e rest tt refl h
-entry_rest (suc (suc (suc (suc zero)))) e rest low high h = nothing_follows IsEntry entry_text 4 entry.Taken e rest tt refl h
-entry_rest (suc (suc (suc (suc (suc zero))))) e rest low high h = nothing_follows IsEntry entry_text 5 entry.Dropped e rest tt refl h
-entry_rest (suc (suc (suc (suc (suc (suc zero)))))) e rest low high h = follows IsEntry entry_text 6 entry.Moved IsTurn turn_text e rest (λ x v. v) (λ x. refl) h
-entry_rest (suc (suc (suc (suc (suc (suc (suc zero))))))) e rest low high h = follows IsEntry entry_text 7 entry.Resigned Always level_text e rest (λ x v. tt) (λ x. refl) h
-entry_rest (suc (suc (suc (suc (suc (suc (suc (suc zero)))))))) e rest low high h = nothing_follows IsEntry entry_text 8 entry.Accepted e rest tt refl h
-entry_rest (suc (suc (suc (suc (suc (suc (suc (suc (suc zero))))))))) e rest low high h = nothing_follows IsEntry entry_text 9 entry.Rejected e rest tt refl h
+entry_rest (suc zero) e rest low high h = follows IsEntry entry_bytes 1 opening_of Always throw_text e rest (λ x v. tt) (λ x. refl) h
+entry_rest (suc (suc zero)) e rest low high h = follows IsEntry entry_bytes 2 entry.Rolled Always throw_text e rest (λ x v. tt) (λ x. refl) h
+entry_rest (suc (suc (suc zero))) e rest low high h = nothing_follows IsEntry entry_bytes 3 entry.Doubled e rest tt refl h
+entry_rest (suc (suc (suc (suc zero)))) e rest low high h = nothing_follows IsEntry entry_bytes 4 entry.Taken e rest tt refl h
+entry_rest (suc (suc (suc (suc (suc zero))))) e rest low high h = nothing_follows IsEntry entry_bytes 5 entry.Dropped e rest tt refl h
+entry_rest (suc (suc (suc (suc (suc (suc zero)))))) e rest low high h = follows IsEntry entry_bytes 6 entry.Moved IsTurn turn_bytes e rest (λ x v. v) (λ x. refl) h
+entry_rest (suc (suc (suc (suc (suc (suc (suc zero))))))) e rest low high h = follows IsEntry entry_bytes 7 entry.Resigned Always level_text e rest (λ x v. tt) (λ x. refl) h
+entry_rest (suc (suc (suc (suc (suc (suc (suc (suc zero)))))))) e rest low high h = nothing_follows IsEntry entry_bytes 8 entry.Accepted e rest tt refl h
+entry_rest (suc (suc (suc (suc (suc (suc (suc (suc (suc zero))))))))) e rest low high h = nothing_follows IsEntry entry_bytes 9 entry.Rejected e rest tt refl h
 entry_rest (suc (suc (suc (suc (suc (suc (suc (suc (suc (suc n)))))))))) e rest low high h = absurd (omega arith)
 
 abbrev EntryParts : Entry → List ℕ → Type 0
 EntryParts = Then (Byte opening_code rejected_code) EntryRest
 
-entry_to : (e : Entry) (front : List ℕ) → EntryParts e front → Spells IsEntry entry_text e front
+entry_to : (e : Entry) (front : List ℕ) → EntryParts e front → Spells IsEntry entry_bytes e front
 entry_to e front h =
     let text : front ≡ h.0 ∷ h.2 = h.5 ∙ ap (λ (r : List ℕ). r ++ h.2) h.3.2 in
-    subst (λ (f : List ℕ). Spells IsEntry entry_text e f) (sym text) (entry_rest h.0 e h.2 h.3.0 h.3.1 h.4)
+    subst (λ (f : List ℕ). Spells IsEntry entry_bytes e f) (sym text) (entry_rest h.0 e h.2 h.3.0 h.3.1 h.4)
 
-entry_from : (e : Entry) (front : List ℕ) → Spells IsEntry entry_text e front → EntryParts e front
-entry_from (entry.Opening x o) front h = (1, 1 ∷ [], dice_text x o, (omega arith, omega arith, refl), (dice_of x o, (tt, refl), refl), h.1)
+entry_from : (e : Entry) (front : List ℕ) → Spells IsEntry entry_bytes e front → EntryParts e front
+entry_from (entry.Opening x o) front h = (1, 1 ∷ [], dice_bytes x o, (omega arith, omega arith, refl), (dice_of x o, (tt, refl), refl), h.1)
 entry_from (entry.Rolled d) front h = (2, 2 ∷ [], throw_text d, (omega arith, omega arith, refl), (d, (tt, refl), refl), h.1)
 entry_from entry.Doubled front h = (3, 3 ∷ [], [], (omega arith, omega arith, refl), (refl, refl), h.1)
 entry_from entry.Taken front h = (4, 4 ∷ [], [], (omega arith, omega arith, refl), (refl, refl), h.1)
 entry_from entry.Dropped front h = (5, 5 ∷ [], [], (omega arith, omega arith, refl), (refl, refl), h.1)
-entry_from (entry.Moved t) front h = (6, 6 ∷ [], turn_text t, (omega arith, omega arith, refl), (t, (h.0, refl), refl), h.1)
+entry_from (entry.Moved t) front h = (6, 6 ∷ [], turn_bytes t, (omega arith, omega arith, refl), (t, (h.0, refl), refl), h.1)
 entry_from (entry.Resigned l) front h = (7, 7 ∷ [], level_text l, (omega arith, omega arith, refl), (l, (tt, refl), refl), h.1)
 entry_from entry.Accepted front h = (8, 8 ∷ [], [], (omega arith, omega arith, refl), (refl, refl), h.1)
 entry_from entry.Rejected front h = (9, 9 ∷ [], [], (omega arith, omega arith, refl), (refl, refl), h.1)
 
-pub entry_law : Law entry_at (Spells IsEntry entry_text)
+pub entry_law : Law entry_at (Spells IsEntry entry_bytes)
 unfolding entry_at
 entry_law = other_text _ entry_to entry_from (then_law (u8_at opening_code rejected_code) entry_of (byte_law opening_code rejected_code) entry_rest_law (λ code first h. has_entry_rest code))
 
-pub has_entry : HasText (Spells IsEntry entry_text)
-has_entry = (entry.Doubled, entry_text entry.Doubled, (tt, refl))
+pub has_entry : HasText (Spells IsEntry entry_bytes)
+has_entry = (entry.Doubled, entry_bytes entry.Doubled, (tt, refl))

@@ -12,18 +12,19 @@ use Rattle.bg_match.specs.declared.entries.Entry.{Entry}
 use Rattle.bg_match.specs.declared.entries.Entry.TheVariants as entry
 use Rattle.bg_wire.specs.declared.packets.Packet.{Packet}
 use Rattle.bg_wire.specs.declared.packets.Packet.TheVariants as packet
-use Rattle.bg_wire.specs.EntryText.{step_text, turn_text, action_text, entry_text, entries_text}
+use Rattle.bg_wire.specs.EntryText.{step_bytes, turn_bytes, action_bytes, entry_bytes, entries_bytes}
 use Rattle.bg_wire.specs.PacketText.{packet_text, IsPacket}
-use Rattle.bg_wire.specs.SavedText.{SavedParts, claim_text, front_text, front_of, saved_text, IsClaimOf, IsInLayout}
+use Rattle.bg_wire.specs.SavedReading.{front_of, text_of_front}
+use Rattle.bg_wire.specs.SavedText.{SavedParts, claim_text, saved_text, IsClaimOf, IsInLayout}
 
-length-steps : (steps : List FromTo) → length (flat_map step_text steps) ≡ 2 * length steps
+length-steps : (steps : List FromTo) → length (flat_map step_bytes steps) ≡ 2 * length steps
 length-steps [] = refl
-length-steps (step ∷ steps) = omega (arith, ap length (flat_map-cons step_text step steps), length-steps steps)
+length-steps (step ∷ steps) = omega (arith, ap length (flat_map-cons step_bytes step steps), length-steps steps)
 
-length-turn_text : (steps : List FromTo) → IsTurn steps → length (turn_text steps) ≤ 9
+length-turn_text : (steps : List FromTo) → IsTurn steps → length (turn_bytes steps) ≤ 9
 length-turn_text steps turn = omega (arith, length-steps steps, turn.few)
 
-length-action_text : (a : Action) → IsAction a → length (action_text a) ≤ 10
+length-action_text : (a : Action) → IsAction a → length (action_bytes a) ≤ 10
 length-action_text (action.Move turn) h = omega (arith, length-turn_text turn h)
 length-action_text action.Roll h = omega arith
 length-action_text action.Double h = omega arith
@@ -33,7 +34,7 @@ length-action_text (action.Resign level) h = omega arith
 length-action_text action.Accept h = omega arith
 length-action_text action.Reject h = omega arith
 
-length-entry_text : (e : Entry) → IsEntry e → length (entry_text e) ≤ 10
+length-entry_text : (e : Entry) → IsEntry e → length (entry_bytes e) ≤ 10
 length-entry_text (entry.Moved turn) h = omega (arith, length-turn_text turn h)
 length-entry_text (entry.Opening x o) h = omega arith
 length-entry_text (entry.Rolled dice) h = omega arith
@@ -44,10 +45,10 @@ length-entry_text (entry.Resigned level) h = omega arith
 length-entry_text entry.Accepted h = omega arith
 length-entry_text entry.Rejected h = omega arith
 
-length-entries_text : (entries : List Entry) → AllByRecursion IsEntry entries → length (entries_text entries) ≤ 10 * length entries
+length-entries_text : (entries : List Entry) → AllByRecursion IsEntry entries → length (entries_bytes entries) ≤ 10 * length entries
 length-entries_text [] h = omega arith
 length-entries_text (e ∷ entries) h =
-    omega (arith, ap length (flat_map-cons entry_text e entries), length-append (entry_text e) (entries_text entries), length-entry_text e h.0, length-entries_text entries h.1)
+    omega (arith, ap length (flat_map-cons entry_bytes e entries), length-append (entry_bytes e) (entries_bytes entries), length-entry_text e h.0, length-entries_text entries h.1)
 
 pub length-packet_text : (p : Packet) → IsPacket p → length (packet_text p) ≤ 95
 length-packet_text (packet.Want id sender held) h = omega arith
@@ -58,9 +59,9 @@ length-claim_text : (party : ℕ) (claim : Option (ℕ × Action)) → IsClaimOf
 length-claim_text party None h = omega arith
 length-claim_text party (Some claim) h = omega (arith, length-action_text claim.1 h.1.2)
 
-length-front_text : (p : SavedParts) → IsInLayout p → length (front_text (front_of p)) ≤ 33
+length-front_text : (p : SavedParts) → IsInLayout p → length (text_of_front (front_of p)) ≤ 33
 length-front_text p h = omega (arith, length-append (claim_text p.claim) (to_be_bytes w16 (length p.entries)), length-claim_text p.party p.claim h.claim)
 
 pub length-saved_text : (p : SavedParts) → IsInLayout p → length (saved_text p) ≤ 655383
 length-saved_text p h =
-    omega (arith, length-append (front_text (front_of p)) (entries_text p.entries), length-front_text p h, length-entries_text p.entries h.in_range, h.few)
+    omega (arith, length-append (text_of_front (front_of p)) (entries_bytes p.entries), length-front_text p h, length-entries_text p.entries h.in_range, h.few)

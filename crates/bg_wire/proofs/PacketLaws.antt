@@ -5,13 +5,14 @@ use Rattle.std.specs.Int.{w16, w64, to_be_bytes}
 use Rattle.std.proofs.lemmas.Bool.{cases_lt, lt-ltb, le-ltb, eqb-true}
 use Rattle.bg_match.specs.Entry.{IsEntry, IsAction}
 use Rattle.bg_match.specs.declared.entries.Entry.{Entry}
-use Rattle.bg_wire.specs.Codes.{last_number, most_in_packet, packet_magic, packet_version, want_kind, claim_kind, entries_kind, magic_offset, version_offset, kind_offset, first_number, seat_of_x, seat_of_o, last_watcher}
+use Rattle.bg_match.specs.Limits.{most_entries}
+use Rattle.bg_wire.specs.Codes.{most_in_packet, packet_magic, packet_version, want_kind, claim_kind, entries_kind, magic_offset, version_offset, kind_offset, first_number, seat_of_x, seat_of_o, last_watcher}
 use Rattle.bg_wire.specs.declared.faults.WireFault.TheVariants as fault
 use Rattle.bg_wire.specs.declared.reader.ReadFault.{ReadFault}
 use Rattle.bg_wire.specs.declared.reader.ReadFault.TheVariants as read_fault
 use Rattle.bg_wire.specs.declared.packets.Packet.{Packet}
 use Rattle.bg_wire.specs.declared.packets.Packet.TheVariants as packet
-use Rattle.bg_wire.specs.EntryText.{action_text, entry_text}
+use Rattle.bg_wire.specs.EntryText.{action_bytes, entry_bytes}
 use Rattle.bg_wire.specs.PacketText.{header_text, list_text, packet_text, IsText}
 use Rattle.bg_wire.specs.Texts.{IsWrongAt}
 use Rattle.bg_wire.specs.Faults.{IsWireFault}
@@ -24,25 +25,25 @@ use Rattle.bg_wire.proofs.EntryLaws.{Spells, IsCounted, has_action, has_entry, c
 
 -- ---- how many entries a packet tells
 
-fits_room : (start n : ℕ) → n ≤ most_in_packet → start + n ≤ last_number + 1 → n ≤ most_from start
-fits_room start n le fits = elim (cases_lt (last_number + 1 - start) most_in_packet) [
-  | inl few ↦ let is : most_from start ≡ last_number + 1 - start = rw (lt-ltb _ _ few) refl in omega arith
+fits_room : (start n : ℕ) → n ≤ most_in_packet → start + n ≤ most_entries + 1 → n ≤ most_from start
+fits_room start n le fits = elim (cases_lt (most_entries + 1 - start) most_in_packet) [
+  | inl few ↦ let is : most_from start ≡ most_entries + 1 - start = rw (lt-ltb _ _ few) refl in omega arith
   | inr many ↦ let is : most_from start ≡ most_in_packet = rw (le-ltb _ _ many) refl in omega arith
 ]
 
-room_fits : (start n : ℕ) → start ≤ last_number → n ≤ most_from start → (n ≤ most_in_packet) × (start + n ≤ last_number + 1)
-room_fits start n fits le = elim (cases_lt (last_number + 1 - start) most_in_packet) [
-  | inl few ↦ let is : most_from start ≡ last_number + 1 - start = rw (lt-ltb _ _ few) refl in (omega arith, omega arith)
+room_fits : (start n : ℕ) → start ≤ most_entries → n ≤ most_from start → (n ≤ most_in_packet) × (start + n ≤ most_entries + 1)
+room_fits start n fits le = elim (cases_lt (most_entries + 1 - start) most_in_packet) [
+  | inl few ↦ let is : most_from start ≡ most_entries + 1 - start = rw (lt-ltb _ _ few) refl in (omega arith, omega arith)
   | inr many ↦ let is : most_from start ≡ most_in_packet = rw (le-ltb _ _ many) refl in (omega arith, omega arith)
 ]
 
 -- ---- what follows the header
 
 abbrev WantParts : ℕ → Packet → List ℕ → Type 0
-WantParts id = Then (Byte seat_of_x last_watcher) (λ s. Mapped (packet.Want id s) (Number 0 last_number))
+WantParts id = Then (Byte seat_of_x last_watcher) (λ s. Mapped (packet.Want id s) (Number 0 most_entries))
 
-has_held : (id s : ℕ) → HasText (Mapped (packet.Want id s) (Number 0 last_number))
-has_held id s = has_mapped (packet.Want id s) (has_number 0 last_number (omega arith) (omega arith))
+has_held : (id s : ℕ) → HasText (Mapped (packet.Want id s) (Number 0 most_entries))
+has_held id s = has_mapped (packet.Want id s) (has_number 0 most_entries (omega arith) (omega arith))
 
 has_want : (id : ℕ) → HasText (WantParts id)
 has_want id = has_then (has_byte seat_of_x last_watcher (omega arith)) (λ s first h. has_held id s)
@@ -50,17 +51,17 @@ has_want id = has_then (has_byte seat_of_x last_watcher (omega arith)) (λ s fir
 want_law : (id : ℕ) → Law (want_at id) (WantParts id)
 unfolding want_at
 want_law id =
-    then_law (u8_at seat_of_x last_watcher) (λ s c. with (packet.Want id s) (u16_at 0 last_number c)) (byte_law seat_of_x last_watcher)
-    (λ s. with_law (packet.Want id s) (u16_at 0 last_number) (u16_law 0 last_number)) (λ s first h. has_held id s)
+    then_law (u8_at seat_of_x last_watcher) (λ s c. with (packet.Want id s) (u16_at 0 most_entries c)) (byte_law seat_of_x last_watcher)
+    (λ s. with_law (packet.Want id s) (u16_at 0 most_entries) (u16_law 0 most_entries)) (λ s first h. has_held id s)
 
 abbrev ClaimParts : ℕ → Packet → List ℕ → Type 0
-ClaimParts id = Then (Byte seat_of_x seat_of_o) (λ s. Then (Number first_number last_number) (λ n. Mapped (packet.Claim id s n) (Spells IsAction action_text)))
+ClaimParts id = Then (Byte seat_of_x seat_of_o) (λ s. Then (Number first_number most_entries) (λ n. Mapped (packet.Claim id s n) (Spells IsAction action_bytes)))
 
-has_claimed : (id s n : ℕ) → HasText (Mapped (packet.Claim id s n) (Spells IsAction action_text))
+has_claimed : (id s n : ℕ) → HasText (Mapped (packet.Claim id s n) (Spells IsAction action_bytes))
 has_claimed id s n = has_mapped (packet.Claim id s n) has_action
 
-has_claim_of : (id s : ℕ) → HasText (Then (Number first_number last_number) (λ n. Mapped (packet.Claim id s n) (Spells IsAction action_text)))
-has_claim_of id s = has_then (has_number first_number last_number (omega arith) (omega arith)) (λ n first h. has_claimed id s n)
+has_claim_of : (id s : ℕ) → HasText (Then (Number first_number most_entries) (λ n. Mapped (packet.Claim id s n) (Spells IsAction action_bytes)))
+has_claim_of id s = has_then (has_number first_number most_entries (omega arith) (omega arith)) (λ n first h. has_claimed id s n)
 
 has_claim : (id : ℕ) → HasText (ClaimParts id)
 has_claim id = has_then (has_byte seat_of_x seat_of_o (omega arith)) (λ s first h. has_claim_of id s)
@@ -68,36 +69,36 @@ has_claim id = has_then (has_byte seat_of_x seat_of_o (omega arith)) (λ s first
 claim_law : (id : ℕ) → Law (claim_at id) (ClaimParts id)
 unfolding claim_at
 claim_law id =
-    then_law (u8_at seat_of_x seat_of_o) (λ s c. u16_at first_number last_number c >>= λ n. with (packet.Claim id s n.0) (action_at n.1)) (byte_law seat_of_x seat_of_o)
-    (λ s. then_law (u16_at first_number last_number) (λ n c. with (packet.Claim id s n) (action_at c)) (u16_law first_number last_number)
+    then_law (u8_at seat_of_x seat_of_o) (λ s c. u16_at first_number most_entries c >>= λ n. with (packet.Claim id s n.0) (action_at n.1)) (byte_law seat_of_x seat_of_o)
+    (λ s. then_law (u16_at first_number most_entries) (λ n c. with (packet.Claim id s n) (action_at c)) (u16_law first_number most_entries)
     (λ n. with_law (packet.Claim id s n) action_at action_law) (λ n first h. has_claimed id s n))
     (λ s first h. has_claim_of id s)
 
 abbrev ListText : ℕ → List Entry → List ℕ → Type 0
 ListText start = Spells (IsCounted 1 (most_from start) IsEntry) list_text
 
-has_list : (start : ℕ) → start ≤ last_number → HasText (ListText start)
+has_list : (start : ℕ) → start ≤ most_entries → HasText (ListText start)
 has_list start le =
     let one : List Entry = has_entry.0 ∷ [] in
     (one, list_text one, ((omega arith, fits_room start 1 (omega arith) (omega arith), (has_entry.2.0, tt)), refl))
 
 list_law : (start : ℕ) → Law (list_at start) (ListText start)
 unfolding list_at
-list_law start = counted_law 1 (most_from start) IsEntry entry_text entry_at entry_law has_entry
+list_law start = counted_law 1 (most_from start) IsEntry entry_bytes entry_at entry_law has_entry
 
 abbrev EntriesParts : ℕ → Packet → List ℕ → Type 0
-EntriesParts id = Then (Number first_number last_number) (λ start. Mapped (packet.Entries id start) (ListText start))
+EntriesParts id = Then (Number first_number most_entries) (λ start. Mapped (packet.Entries id start) (ListText start))
 
-has_told : (id start : ℕ) → start ≤ last_number → HasText (Mapped (packet.Entries id start) (ListText start))
+has_told : (id start : ℕ) → start ≤ most_entries → HasText (Mapped (packet.Entries id start) (ListText start))
 has_told id start le = has_mapped (packet.Entries id start) (has_list start le)
 
 has_entries : (id : ℕ) → HasText (EntriesParts id)
-has_entries id = has_then (has_number first_number last_number (omega arith) (omega arith)) (λ start first h. has_told id start h.1)
+has_entries id = has_then (has_number first_number most_entries (omega arith) (omega arith)) (λ start first h. has_told id start h.1)
 
 entries_law : (id : ℕ) → Law (entries_at id) (EntriesParts id)
 unfolding entries_at
 entries_law id =
-    then_law (u16_at first_number last_number) (λ start c. with (packet.Entries id start) (list_at start c)) (u16_law first_number last_number)
+    then_law (u16_at first_number most_entries) (λ start c. with (packet.Entries id start) (list_at start c)) (u16_law first_number most_entries)
     (λ start. with_law (packet.Entries id start) (list_at start) (list_law start)) (λ start first h. has_told id start h.1)
 
 abbrev Body : ℕ → ℕ → Packet → List ℕ → Type 0
@@ -167,16 +168,16 @@ module _ (id : ℕ) (p : Packet) (rest front : List ℕ) (id_fits : id < 2 ^ 64)
   claim_text : front ≡ header_text claim_kind id ++ rest → ClaimParts id p rest → IsText p front
   claim_text whole h =
       let n = h.4 in
-      let last : n.2 ≡ action_text n.4.0 = n.4.1.1 in
-      let text : rest ≡ h.0 ∷ (to_be_bytes w16 n.0 ++ action_text n.4.0) =
+      let last : n.2 ≡ action_bytes n.4.0 = n.4.1.1 in
+      let text : rest ≡ h.0 ∷ (to_be_bytes w16 n.0 ++ action_bytes n.4.0) =
       h.5 ∙ ap (λ (r : List ℕ). r ++ h.2) h.3.2 ∙ ap (λ (r : List ℕ). h.0 ∷ r) (n.5 ∙ ap (λ (r : List ℕ). r ++ n.2) n.3.3 ∙ ap (λ (r : List ℕ). to_be_bytes w16 n.0 ++ r) last) in
       subst (λ (q : Packet). IsText q front) n.4.2 (record {
         in_range = record { id_fits = id_fits; first_seat = h.3.0; last_seat = h.3.1; first_entry = n.3.0; last_entry = n.3.1; action_in_range = n.4.1.0 };
         spelled = whole ∙ ap (λ (r : List ℕ). header_text claim_kind id ++ r) text;
       })
 
-  entries_text : front ≡ header_text entries_kind id ++ rest → EntriesParts id p rest → IsText p front
-  entries_text whole h =
+  entries_bytes : front ≡ header_text entries_kind id ++ rest → EntriesParts id p rest → IsText p front
+  entries_bytes whole h =
       let list = h.4.0 in
       let counted = h.4.1.0 in
       let text : rest ≡ to_be_bytes w16 h.0 ++ list_text list = h.5 ∙ ap (λ (r : List ℕ). r ++ h.2) h.3.3 ∙ ap (λ (r : List ℕ). to_be_bytes w16 h.0 ++ r) h.4.1.1 in
@@ -190,7 +191,7 @@ body_text : (kind id : ℕ) (p : Packet) (rest front : List ℕ) → id < 2 ^ 64
 body_text zero id p rest front fits low high whole h = absurd (omega arith)
 body_text (suc zero) id p rest front fits low high whole h = want_text id p rest front fits whole h
 body_text (suc (suc zero)) id p rest front fits low high whole h = claim_text id p rest front fits whole h
-body_text (suc (suc (suc zero))) id p rest front fits low high whole h = entries_text id p rest front fits whole h
+body_text (suc (suc (suc zero))) id p rest front fits low high whole h = entries_bytes id p rest front fits whole h
 body_text (suc (suc (suc (suc kind)))) id p rest front fits low high whole h = absurd (omega arith)
 
 parts_text : (p : Packet) (front : List ℕ) → PacketParts p front → IsText p front
@@ -211,17 +212,17 @@ text_parts (packet.Want id sender held) front h =
     (sender, sender ∷ [], to_be_bytes w16 held, (r.first_party, r.last_party, refl), (held, (omega arith, r.held_at_most, omega (arith, r.held_at_most), refl), refl), refl)
 text_parts (packet.Claim id sender number action) front h =
     let r = h.in_range in
-    header_parts claim_kind id _ (sender ∷ (to_be_bytes w16 number ++ action_text action)) front (omega arith) (omega arith) r.id_fits h.spelled (
+    header_parts claim_kind id _ (sender ∷ (to_be_bytes w16 number ++ action_bytes action)) front (omega arith) (omega arith) r.id_fits h.spelled (
       sender,
       sender ∷ [],
-      to_be_bytes w16 number ++ action_text action,
+      to_be_bytes w16 number ++ action_bytes action,
       (r.first_seat, r.last_seat, refl),
-      (number, to_be_bytes w16 number, action_text action, (r.first_entry, r.last_entry, omega (arith, r.last_entry), refl), (action, (r.action_in_range, refl), refl), refl),
+      (number, to_be_bytes w16 number, action_bytes action, (r.first_entry, r.last_entry, omega (arith, r.last_entry), refl), (action, (r.action_in_range, refl), refl), refl),
       refl,
     )
 text_parts (packet.Entries id start list) front h =
     let r = h.in_range in
-    let last : start ≤ last_number = omega (arith, r.last_entry, r.some) in
+    let last : start ≤ most_entries = omega (arith, r.last_entry, r.some) in
     header_parts entries_kind id _ (to_be_bytes w16 start ++ list_text list) front (omega arith) (omega arith) r.id_fits h.spelled (
       start,
       to_be_bytes w16 start,

@@ -8,18 +8,19 @@ use Rattle.bg_match.specs.Terms.{Terms}
 use Rattle.bg_match.specs.Entry.{IsEntry, IsAction}
 use Rattle.bg_match.specs.declared.actions.Action.{Action}
 use Rattle.bg_match.specs.declared.entries.Entry.{Entry}
-use Rattle.bg_wire.specs.Codes.{last_number, shortest_match, longest_match, first_number, seat_of_x, referee, seat_of_o, saved_magic, magic_offset, no_claim_flag, claim_flag, least_save, greatest_save}
+use Rattle.bg_match.specs.Limits.{shortest_match, longest_match}
+use Rattle.bg_wire.specs.Codes.{last_saved_number, first_number, seat_of_x, referee, seat_of_o, saved_magic, magic_offset, no_claim_flag, claim_flag, least_save, greatest_save}
 use Rattle.bg_wire.specs.declared.faults.LoadFault.TheVariants as fault
 use Rattle.bg_wire.specs.declared.reader.ReadFault.{ReadFault}
 use Rattle.bg_wire.specs.declared.reader.ReadFault.TheVariants as read_fault
 use Rattle.bg_wire.specs.declared.saved_version_one.Front.{Front}
-use Rattle.bg_wire.specs.EntryText.{action_text, entry_text, entries_text}
-use Rattle.bg_wire.specs.SavedText.{SavedParts, claim_text, front_text, front_of, saved_text, IsClaimOf, IsInLayout, IsLayoutOf, IsSavedText}
+use Rattle.bg_wire.specs.EntryText.{action_bytes, entry_bytes, entries_bytes}
+use Rattle.bg_wire.specs.SavedText.{SavedParts, claim_text, saved_text, IsClaimOf, IsInLayout, IsLayoutOf, IsSavedText}
 use Rattle.bg_wire.specs.Faults.{IsLoadFault}
 use Rattle.bg_wire.specs.Texts.{ArePrefixFree, IsWrongAt}
 use Rattle.bg_wire.specs.Reading.{◌>>=◌, Cursor, Read, u8_at, u16_at, u32_at, u64_at, many_at, passed_of, with}
 use Rattle.bg_wire.specs.EntryReading.{action_at, entry_at}
-use Rattle.bg_wire.specs.SavedReading.{load_fault, most_flag, kept_claim_at, flagged_at, claim_at, front_at, parts_with, saved_at, layout_of, IsLaidOut}
+use Rattle.bg_wire.specs.SavedReading.{front_of, text_of_front, load_fault, most_flag, kept_claim_at, flagged_at, saved_claim_at, front_at, parts_of_front, saved_at, layout_of, IsLaidOut}
 use Rattle.bg_wire.proofs.Laws.{IsBytes, is_wrong_at, Law, Then, Nothing, Mapped, Each, Choice, HasText, has_then, has_mapped, has_choice, has_each, then_law, done_law, with_law, other_text, choice_law, many_law, from_front, prefix_free}
 use Rattle.bg_wire.proofs.Many.{passed_list, passed_not}
 use Rattle.bg_wire.proofs.Fields.{Byte, Number, Long, Word, has_byte, has_number, has_long, has_word, byte_law, u16_law, u32_law, u64_law}
@@ -34,16 +35,16 @@ abbrev claim_with : ℕ → Action → Claim
 claim_with n a = Some (n, a)
 
 abbrev KeptParts : Claim → List ℕ → Type 0
-KeptParts = Then (Number first_number last_number) (λ n. Mapped (claim_with n) (Spells IsAction action_text))
+KeptParts = Then (Number first_number last_saved_number) (λ n. Mapped (claim_with n) (Spells IsAction action_bytes))
 
 kept_law : Law kept_claim_at KeptParts
 unfolding kept_claim_at
 kept_law =
-    then_law (u16_at first_number last_number) (λ n c. with (claim_with n) (action_at c)) (u16_law first_number last_number)
+    then_law (u16_at first_number last_saved_number) (λ n c. with (claim_with n) (action_at c)) (u16_law first_number last_saved_number)
     (λ n. with_law (claim_with n) action_at action_law) (λ n first h. has_mapped (claim_with n) has_action)
 
 has_kept : HasText KeptParts
-has_kept = has_then (has_number first_number last_number (omega arith) (omega arith)) (λ n first h. has_mapped (claim_with n) has_action)
+has_kept = has_then (has_number first_number last_saved_number (omega arith) (omega arith)) (λ n first h. has_mapped (claim_with n) has_action)
 
 abbrev Flagged : ℕ → Claim → List ℕ → Type 0
 Flagged flag = Choice (flag == no_claim_flag) (Nothing None) KeptParts
@@ -84,7 +85,7 @@ claim_to party k front h = go h.0 refl
     go (suc zero) is =
         let rest = subst (λ (n : ℕ). Flagged n k h.2) is h.4 in
         let seat = flag_of_seat party (omega (arith, is, h.3.1)) in
-        let last : h.2 ≡ to_be_bytes w16 rest.0 ++ action_text rest.4.0 = rest.5 ∙ ap (λ (r : List ℕ). r ++ rest.2) rest.3.3 ∙ ap (λ (r : List ℕ). to_be_bytes w16 rest.0 ++ r) rest.4.1.1 in
+        let last : h.2 ≡ to_be_bytes w16 rest.0 ++ action_bytes rest.4.0 = rest.5 ∙ ap (λ (r : List ℕ). r ++ rest.2) rest.3.3 ∙ ap (λ (r : List ℕ). to_be_bytes w16 rest.0 ++ r) rest.4.1.1 in
         let text : front ≡ claim_text (claim_with rest.0 rest.4.0) = h.5 ∙ ap (λ (r : List ℕ). r ++ h.2) h.3.2 ∙ ap (λ (n : ℕ). n ∷ h.2) is ∙ ap (λ (r : List ℕ). claim_flag ∷ r) last in
         subst (λ (x : Claim). Spells (IsClaimOf party) claim_text x front) rest.4.2 ((seat, (rest.3.0, rest.3.1, rest.4.1.0)), text)
     go (suc (suc n)) is = absurd (omega (arith, is, h.3.1, most_flag_is party))
@@ -93,11 +94,11 @@ claim_from : (party : ℕ) (k : Claim) (front : List ℕ) → Spells (IsClaimOf 
 claim_from party None front h = (no_claim_flag, no_claim_flag ∷ [], [], (omega arith, omega arith, refl), (refl, refl), h.1)
 claim_from party (Some x) front h =
     let kept = h.0.1 in
-    let last = to_be_bytes w16 x.0 ++ action_text x.1 in
-    (claim_flag, claim_flag ∷ [], last, (omega arith, seat_may party h.0.0, refl), (x.0, to_be_bytes w16 x.0, action_text x.1, (kept.0, kept.1, omega (arith, kept.1), refl), (x.1, (kept.2, refl), refl), refl), h.1)
+    let last = to_be_bytes w16 x.0 ++ action_bytes x.1 in
+    (claim_flag, claim_flag ∷ [], last, (omega arith, seat_may party h.0.0, refl), (x.0, to_be_bytes w16 x.0, action_bytes x.1, (kept.0, kept.1, omega (arith, kept.1), refl), (x.1, (kept.2, refl), refl), refl), h.1)
 
-claim_law : (party : ℕ) → Law (claim_at party) (Spells (IsClaimOf party) claim_text)
-unfolding claim_at
+claim_law : (party : ℕ) → Law (saved_claim_at party) (Spells (IsClaimOf party) claim_text)
+unfolding saved_claim_at
 claim_law party = other_text _ (claim_to party) (claim_from party) (then_law (u8_at no_claim_flag (most_flag party)) flagged_at (byte_law no_claim_flag (most_flag party)) flagged_law (λ flag first h. has_flagged flag))
 
 has_claim : (party : ℕ) → HasText (Spells (IsClaimOf party) claim_text)
@@ -111,7 +112,7 @@ front_with party id terms save claim count =
 
 module _ (party : ℕ) where
   abbrev from_claim : ℕ → ℕ → ℕ → Cursor → Read Front
-  from_claim id n save c = claim_at party c >>= λ k. with (front_with party id n save k.0) (u16_at 0 last_number k.1)
+  from_claim id n save c = saved_claim_at party c >>= λ k. with (front_with party id n save k.0) (u16_at 0 last_saved_number k.1)
 
   abbrev from_save : ℕ → ℕ → Cursor → Read Front
   from_save id n c = u32_at least_save greatest_save c >>= λ save. from_claim id n save.0 save.1
@@ -123,7 +124,7 @@ module _ (party : ℕ) where
   from_id c = u64_at c >>= λ id. from_length id.0 id.1
 
   abbrev ClaimOn : ℕ → ℕ → ℕ → Front → List ℕ → Type 0
-  ClaimOn id n save = Then (Spells (IsClaimOf party) claim_text) (λ k. Mapped (front_with party id n save k) (Number 0 last_number))
+  ClaimOn id n save = Then (Spells (IsClaimOf party) claim_text) (λ k. Mapped (front_with party id n save k) (Number 0 last_saved_number))
 
   abbrev SaveOn : ℕ → ℕ → Front → List ℕ → Type 0
   SaveOn id n = Then (Long least_save greatest_save) (ClaimOn id n)
@@ -134,8 +135,8 @@ module _ (party : ℕ) where
   abbrev IdOn : Front → List ℕ → Type 0
   IdOn = Then Word LengthOn
 
-  has_count : (id n save : ℕ) (k : Claim) → HasText (Mapped (front_with party id n save k) (Number 0 last_number))
-  has_count id n save k = has_mapped (front_with party id n save k) (has_number 0 last_number (omega arith) (omega arith))
+  has_count : (id n save : ℕ) (k : Claim) → HasText (Mapped (front_with party id n save k) (Number 0 last_saved_number))
+  has_count id n save k = has_mapped (front_with party id n save k) (has_number 0 last_saved_number (omega arith) (omega arith))
 
   has_claim_on : (id n save : ℕ) → HasText (ClaimOn id n save)
   has_claim_on id n save = has_then (has_claim party) (λ k first h. has_count id n save k)
@@ -151,8 +152,8 @@ module _ (party : ℕ) where
 
   claim_on : (id n save : ℕ) → Law (from_claim id n save) (ClaimOn id n save)
   claim_on id n save =
-      then_law (claim_at party) (λ k c. with (front_with party id n save k) (u16_at 0 last_number c)) (claim_law party)
-      (λ k. with_law (front_with party id n save k) (u16_at 0 last_number) (u16_law 0 last_number)) (λ k first h. has_count id n save k)
+      then_law (saved_claim_at party) (λ k c. with (front_with party id n save k) (u16_at 0 last_saved_number c)) (claim_law party)
+      (λ k. with_law (front_with party id n save k) (u16_at 0 last_saved_number) (u16_law 0 last_saved_number)) (λ k first h. has_count id n save k)
 
   save_on : (id n : ℕ) → Law (from_save id n) (SaveOn id n)
   save_on id n = then_law (u32_at least_save greatest_save) (from_claim id n) (u32_law least_save greatest_save) (claim_on id n) (λ save first h. has_claim_on id n save)
@@ -181,20 +182,20 @@ record IsFront (f : Front) : Type 0 where
   first_save : least_save ≤ f.save
   last_save : f.save ≤ greatest_save
   claim : IsClaimOf f.party f.claim
-  few : f.count ≤ last_number
+  few : f.count ≤ last_saved_number
 
 -- two texts in a row, each said in another way
 join : {front first second a b : List ℕ} → front ≡ first ++ second → first ≡ a → second ≡ b → front ≡ a ++ b
 join {front} {first} {second} {a} {b} e p q = e ∙ ap (λ (r : List ℕ). r ++ second) p ∙ ap (λ (r : List ℕ). a ++ r) q
 
-front_to : (f : Front) (front : List ℕ) → FrontParts f front → Spells IsFront front_text f front
+front_to : (f : Front) (front : List ℕ) → FrontParts f front → Spells IsFront text_of_front f front
 front_to f front h =
     let party = h.4 in let id = party.4 in let n = id.4 in let save = n.4 in let claim = save.4 in
     let m : h.0 ≡ saved_magic = omega (arith, h.3.0, h.3.1) in
     let made : Front = front_with party.0 id.0 n.0 save.0 claim.0 claim.4.0 in
-    let text : front ≡ front_text made =
+    let text : front ≡ text_of_front made =
     join h.5 (h.3.3 ∙ ap (to_be_bytes w32) m) (join party.5 party.3.2 (join id.5 id.3.1 (join n.5 n.3.2 (join save.5 save.3.3 (join claim.5 claim.3.1 claim.4.1.3))))) in
-    subst (λ (x : Front). Spells IsFront front_text x front) claim.4.2 (
+    subst (λ (x : Front). Spells IsFront text_of_front x front) claim.4.2 (
       record {
         party = party.3.1;
         id_fits = id.3.0;
@@ -208,7 +209,7 @@ front_to f front h =
       text,
     )
 
-front_from : (f : Front) (front : List ℕ) → Spells IsFront front_text f front → FrontParts f front
+front_from : (f : Front) (front : List ℕ) → Spells IsFront text_of_front f front → FrontParts f front
 front_from f front h =
     let r = h.0 in
     let count_text = to_be_bytes w16 f.count in
@@ -253,22 +254,22 @@ front_from f front h =
       h.1,
     )
 
-front_law : Law front_at (Spells IsFront front_text)
+front_law : Law front_at (Spells IsFront text_of_front)
 front_law = other_text _ front_to front_from front_parts_law
 
 -- ---- the whole
 
 abbrev SavedParted : SavedParts → List ℕ → Type 0
-SavedParted = Then (Spells IsFront front_text) (λ f. Mapped (parts_with f) (Each (Spells IsEntry entry_text) f.count))
+SavedParted = Then (Spells IsFront text_of_front) (λ f. Mapped (parts_of_front f) (Each (Spells IsEntry entry_bytes) f.count))
 
 parted_to : (p : SavedParts) (front : List ℕ) → SavedParted p front → IsLayoutOf p front
 parted_to p front h =
     let f = h.0 in
     let es = h.4.0 in
     let r = h.3.0 in
-    let each = each_to IsEntry entry_text f.count es h.2 h.4.1 in
-    let counted : f ≡ front_of (parts_with f es) = ap (front_with f.party f.id f.terms f.save f.claim) (sym each.0) in
-    let text : front ≡ saved_text (parts_with f es) = join h.5 (h.3.1 ∙ ap front_text counted) each.2 in
+    let each = each_to IsEntry entry_bytes f.count es h.2 h.4.1 in
+    let counted : f ≡ front_of (parts_of_front f es) = ap (front_with f.party f.id f.terms f.save f.claim) (sym each.0) in
+    let text : front ≡ saved_text (parts_of_front f es) = join h.5 (h.3.1 ∙ ap text_of_front counted) each.2 in
     subst (λ (x : SavedParts). IsLayoutOf x front) h.4.2 (record {
       in_layout = record {
         party = r.party;
@@ -298,15 +299,15 @@ parted_from p front h =
       claim = r.claim;
       few = r.few;
     } in
-    (f, front_text f, entries_text p.entries, (is, refl), (p.entries, each_from IsEntry entry_text (length p.entries) p.entries (entries_text p.entries) refl r.in_range refl, refl), h.spelled)
+    (f, text_of_front f, entries_bytes p.entries, (is, refl), (p.entries, each_from IsEntry entry_bytes (length p.entries) p.entries (entries_bytes p.entries) refl r.in_range refl, refl), h.spelled)
 
 pub saved_law : Law saved_at IsLayoutOf
 unfolding saved_at
 saved_law =
     other_text _ parted_to parted_from
-    (then_law front_at (λ f c. with (parts_with f) (many_at entry_at f.count c)) front_law
-    (λ f. with_law (parts_with f) (many_at entry_at f.count) (many_law entry_at entry_law f.count))
-    (λ f first h. has_mapped (parts_with f) (has_each has_entry f.count)))
+    (then_law front_at (λ f c. with (parts_of_front f) (many_at entry_at f.count c)) front_law
+    (λ f. with_law (parts_of_front f) (many_at entry_at f.count) (many_law entry_at entry_law f.count))
+    (λ f first h. has_mapped (parts_of_front f) (has_each has_entry f.count)))
 
 pub not_extra : (f : ReadFault) → load_fault f ≢ fault.Extra
 not_extra read_fault.Short e = absurd cc
@@ -341,7 +342,7 @@ module _ (bytes : List ℕ) where
         let h = passed_list (many_at entry_at front.count c) d e in
         (h.0, d, h.1, whole h.0 h.1)
       where
-        whole : (entries : List Entry) → many_at entry_at front.count c ≡ Ok (entries, d) → layout_of bytes ≡ Ok (parts_with front entries)
+        whole : (entries : List Entry) → many_at entry_at front.count c ≡ Ok (entries, d) → layout_of bytes ≡ Ok (parts_of_front front entries)
         whole entries e = rw (read, e, none) refl
 
 -- ---- what the fault of a field says

@@ -6,7 +6,7 @@ use Rattle.std.proofs.lemmas.Bool.Decides.{nat_tests}
 use Rattle.std.proofs.lemmas.Option.{same_Some}
 use Rattle.bg_wire.specs.SavedText.{SavedParts, IsSavedText, parts_of}
 use Rattle.bg_wire.specs.Saves.{slot_of}
-use Rattle.bg_wire.specs.Restoring.{LoadsAs, newer, SlotsRestore, IsOfMatch}
+use Rattle.bg_wire.specs.Restoring.{LoadsAs, newer, SlotsRestore, IsSavedBy}
 use Rattle.bg_wire.specs.SlotLaws.{Slots, bytes_in, with_slot, slot_number, save_in, AreWritten, GoesByTurns, NextGoesToTheOther, WrittenIsRestored, TornIsNotRestored, GivesWhatSlotsRestore}
 use Rattle.bg_wire.specs.declared.slots.Slot.{Slot}
 use Rattle.bg_wire.specs.declared.slots.Slot.TheVariants.{Zero, One}
@@ -164,5 +164,5 @@ gives_back slots None party id terms (Err refusal.WrongMatch) h of_match r =
     let e = restores_once slots.zero slots.one (Some r.0) None r.1 h in absurd (cc e)
 gives_back slots (Some p) party id terms (Err refusal.WrongMatch) h of_match r =
     let e = restores_once slots.zero slots.one (Some p) (Some r.0) h r.1 in
-    r.2 (subst (IsOfMatch party id terms) (same_Some p r.0 e) of_match)
+    r.2 (subst (IsSavedBy party id terms) (same_Some p r.0 e) of_match)
 gives_back slots restored party id terms (Err refusal.Memory) h of_match r = tt

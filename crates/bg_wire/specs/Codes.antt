@@ -60,19 +60,10 @@ bar = 25
 abbrev pub most_steps : ℕ
 most_steps = 4
 
--- ---- the number of an entry, and the length of a match
+-- ---- the number of the first entry
 
 abbrev pub first_number : ℕ
 first_number = 1
-
-abbrev pub last_number : ℕ
-last_number = 65535
-
-abbrev pub shortest_match : ℕ
-shortest_match = 1
-
-abbrev pub longest_match : ℕ
-longest_match = 99
 
 -- ---- parties: the referee, the seats, and those that watch
 
@@ -112,6 +103,14 @@ entries_kind = 3
 abbrev pub most_in_packet : ℕ
 most_in_packet = 8
 
+-- how many bytes a packet's text has at most
+abbrev pub longest_packet : ℕ
+longest_packet = 95
+
+-- how many bytes a datagram has at most
+abbrev pub longest_datagram : ℕ
+longest_datagram = 128
+
 -- the offsets of the fields whose faults have names of their own
 
 abbrev pub magic_offset : ℕ
@@ -128,6 +127,14 @@ kind_offset = 3
 -- the bytes 42 47 53 31
 abbrev pub saved_magic : ℕ
 saved_magic = 0x42475331
+
+-- the greatest number of an entry that this layout tells
+abbrev pub last_saved_number : ℕ
+last_saved_number = 65535
+
+-- how many bytes a saved text has at most
+abbrev pub longest_saved_text : ℕ
+longest_saved_text = 655383
 
 abbrev pub least_save : ℕ
 least_save = 1

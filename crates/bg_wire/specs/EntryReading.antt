@@ -24,13 +24,13 @@ turn_at c = do
   count ← u8_at 0 most_steps c
   many_at step_at count.0 count.1
 
-abbrev pub level_of : ℕ → Level
-level_of code = if code == normal_code then Normal else if code == gammon_code then Gammon else Backgammon
+abbrev pub level_of_code : ℕ → Level
+level_of_code code = if code == normal_code then Normal else if code == gammon_code then Gammon else Backgammon
 
 unfoldable pub level_at : Cursor → Read Level
 level_at c = do
   code ← u8_at normal_code backgammon_code c
-  Ok (level_of code.0, code.1)
+  Ok (level_of_code code.0, code.1)
 
 unfoldable pub die_at : Cursor → Read Die
 die_at c = do

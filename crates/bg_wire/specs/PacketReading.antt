@@ -1,7 +1,8 @@
 -- Reading packets.
 use Rattle.std.specs.Prelude.{◌==◌, ℕ, ◌+◌, ◌-◌, List, Result, Ok, nat_lt, if◌then◌else◌}
 use Rattle.bg_match.specs.declared.entries.Entry.{Entry}
-use Rattle.bg_wire.specs.Codes.{last_number, most_in_packet, packet_magic, packet_version, want_kind, claim_kind, entries_kind, magic_offset, version_offset, kind_offset, first_number, seat_of_x, seat_of_o, last_watcher}
+use Rattle.bg_match.specs.Limits.{most_entries}
+use Rattle.bg_wire.specs.Codes.{most_in_packet, packet_magic, packet_version, want_kind, claim_kind, entries_kind, magic_offset, version_offset, kind_offset, first_number, seat_of_x, seat_of_o, last_watcher}
 use Rattle.bg_wire.specs.Reading.{◌>>=◌, Cursor, Read, u8_at, u16_at, u64_at, many_at, whole_of}
 use Rattle.bg_wire.specs.EntryReading.{action_at, entry_at}
 use Rattle.bg_wire.specs.declared.faults.WireFault.{WireFault}
@@ -23,20 +24,20 @@ wire_fault (read_fault.Field at) =
 unfoldable pub want_at : ℕ → Cursor → Read Packet
 want_at id c = do
   sender ← u8_at seat_of_x last_watcher c
-  held ← u16_at 0 last_number sender.1
+  held ← u16_at 0 most_entries sender.1
   Ok (packet.Want id sender.0 held.0, held.1)
 
 unfoldable pub claim_at : ℕ → Cursor → Read Packet
 claim_at id c = do
   sender ← u8_at seat_of_x seat_of_o c
-  number ← u16_at first_number last_number sender.1
+  number ← u16_at first_number most_entries sender.1
   action ← action_at number.1
   Ok (packet.Claim id sender.0 number.0 action.0, action.1)
 
 -- how many entries one packet tells at most, from this number on
 abbrev pub most_from : ℕ → ℕ
 most_from start =
-    if nat_lt (last_number + 1 - start) most_in_packet then last_number + 1 - start else most_in_packet
+    if nat_lt (most_entries + 1 - start) most_in_packet then most_entries + 1 - start else most_in_packet
 
 unfoldable pub list_at : ℕ → Cursor → Read (List Entry)
 list_at start c = do
@@ -45,7 +46,7 @@ list_at start c = do
 
 unfoldable pub entries_at : ℕ → Cursor → Read Packet
 entries_at id c = do
-  start ← u16_at first_number last_number c
+  start ← u16_at first_number most_entries c
   list ← list_at start.0 start.1
   Ok (packet.Entries id start.0 list.0, list.1)
 

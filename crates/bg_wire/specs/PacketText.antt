@@ -5,8 +5,9 @@ use Rattle.std.specs.Int.{w16, w64, to_be_bytes}
 use Rattle.bg_match.specs.Entry.{IsEntry, IsAction}
 use Rattle.bg_match.specs.declared.actions.Action.{Action}
 use Rattle.bg_match.specs.declared.entries.Entry.{Entry}
-use Rattle.bg_wire.specs.Codes.{last_number, most_in_packet, packet_magic, packet_version, want_kind, claim_kind, entries_kind, first_number, seat_of_x, seat_of_o, last_watcher}
-use Rattle.bg_wire.specs.EntryText.{action_text, entries_text}
+use Rattle.bg_match.specs.Limits.{most_entries}
+use Rattle.bg_wire.specs.Codes.{most_in_packet, packet_magic, packet_version, want_kind, claim_kind, entries_kind, first_number, seat_of_x, seat_of_o, last_watcher}
+use Rattle.bg_wire.specs.EntryText.{action_bytes, entries_bytes}
 use Rattle.bg_wire.specs.declared.packets.Packet.{Packet}
 use Rattle.bg_wire.specs.declared.packets.Packet.TheVariants as packet
 
@@ -15,26 +16,26 @@ header_text kind id = to_be_bytes w16 packet_magic ++ (packet_version ∷ kind �
 
 -- the count of the entries, then each
 abbrev pub list_text : List Entry → List ℕ
-list_text list = length list ∷ entries_text list
+list_text list = length list ∷ entries_bytes list
 
 abbrev pub packet_text : Packet → List ℕ
 packet_text (packet.Want id sender held) = header_text want_kind id ++ (sender ∷ to_be_bytes w16 held)
 packet_text (packet.Claim id sender number action) =
-    header_text claim_kind id ++ (sender ∷ (to_be_bytes w16 number ++ action_text action))
+    header_text claim_kind id ++ (sender ∷ (to_be_bytes w16 number ++ action_bytes action))
 packet_text (packet.Entries id start list) = header_text entries_kind id ++ (to_be_bytes w16 start ++ list_text list)
 
 pub record IsWant (id sender held : ℕ) : Type 0 where
   pub id_fits : id < 2 ^ 64
   pub first_party : seat_of_x ≤ sender
   pub last_party : sender ≤ last_watcher
-  pub held_at_most : held ≤ last_number
+  pub held_at_most : held ≤ most_entries
 
 pub record IsClaim (id sender number : ℕ) (action : Action) : Type 0 where
   pub id_fits : id < 2 ^ 64
   pub first_seat : seat_of_x ≤ sender
   pub last_seat : sender ≤ seat_of_o
   pub first_entry : first_number ≤ number
-  pub last_entry : number ≤ last_number
+  pub last_entry : number ≤ most_entries
   pub action_in_range : IsAction action
 
 -- so many entries from start on, so the last of them has the number start + length - 1
@@ -43,7 +44,7 @@ pub record IsEntries (id start : ℕ) (list : List Entry) : Type 0 where
   pub first_entry : first_number ≤ start
   pub some : 1 ≤ length list
   pub few : length list ≤ most_in_packet
-  pub last_entry : start + length list ≤ last_number + 1
+  pub last_entry : start + length list ≤ most_entries + 1
   pub in_range : AllByRecursion IsEntry list
 
 -- the fields of the packet are in their ranges
@@ -62,3 +63,7 @@ abbrev pub id_of : Packet → ℕ
 id_of (packet.Want id sender held) = id
 id_of (packet.Claim id sender number action) = id
 id_of (packet.Entries id start list) = id
+
+-- the packet is of the match with this id
+abbrev pub IsOfMatch : ℕ → Packet → Type 0
+IsOfMatch id p = id_of p ≡ id

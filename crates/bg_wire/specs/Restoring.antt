@@ -26,7 +26,7 @@ pub record SlotsRestore (slot0 slot1 : List ℕ) (restored : Option SavedParts) 
   pub is_newer : restored ≡ newer first second
 
 -- it is this party's, of the match with this id and these terms
-pub record IsOfMatch (of_party of_id : ℕ) (of_terms : Terms) (p : SavedParts) : Type 0 where
+pub record IsSavedBy (of_party of_id : ℕ) (of_terms : Terms) (p : SavedParts) : Type 0 where
   pub party : p.party ≡ of_party
   pub id : p.id ≡ of_id
   pub terms : p.terms ≡ of_terms
@@ -43,9 +43,9 @@ IsSavableIn found = IfSome found (λ saved. IsSavable (parts_of saved))
 -- what restoring answers to a party of a match. Memory is wanted for entries alone
 abbrev pub Restores : List ℕ → List ℕ → ℕ → ℕ → Terms → Result (Option Saved) RestoreRefusal → Type 0
 Restores slot0 slot1 party id terms (Ok (Some saved)) =
-    SlotsRestore slot0 slot1 (Some (parts_of saved)) × IsOfMatch party id terms (parts_of saved)
+    SlotsRestore slot0 slot1 (Some (parts_of saved)) × IsSavedBy party id terms (parts_of saved)
 Restores slot0 slot1 party id terms (Ok None) = SlotsRestore slot0 slot1 None × (slot0 ≡ [])
 Restores slot0 slot1 party id terms (Err Damaged) = SlotsRestore slot0 slot1 None × (slot0 ≢ [])
 Restores slot0 slot1 party id terms (Err WrongMatch) =
-    (p : SavedParts) × SlotsRestore slot0 slot1 (Some p) × (IsOfMatch party id terms p → ⊥)
+    (p : SavedParts) × SlotsRestore slot0 slot1 (Some p) × (IsSavedBy party id terms p → ⊥)
 Restores slot0 slot1 party id terms (Err Memory) = HasEntries slot0 ⊎ HasEntries slot1

@@ -1,11 +1,12 @@
 -- Reading saved texts.
-use Rattle.std.specs.Prelude.{◌≡◌, ◌==◌, ℕ, List, Option, Some, None, Result, Ok, Err, if◌then◌else◌}
+use Rattle.std.specs.Prelude.{◌≡◌, ◌==◌, ℕ, List, length, Option, Some, None, Result, Ok, Err, if◌then◌else◌}
 use Rattle.bg_match.specs.declared.actions.Action.{Action}
 use Rattle.bg_match.specs.declared.entries.Entry.{Entry}
-use Rattle.bg_wire.specs.Codes.{last_number, shortest_match, longest_match, first_number, referee, seat_of_o, saved_magic, magic_offset, no_claim_flag, claim_flag, least_save, greatest_save}
+use Rattle.bg_match.specs.Limits.{shortest_match, longest_match}
+use Rattle.bg_wire.specs.Codes.{last_saved_number, first_number, referee, seat_of_o, saved_magic, magic_offset, no_claim_flag, claim_flag, least_save, greatest_save}
 use Rattle.bg_wire.specs.Reading.{◌>>=◌, Cursor, Read, u8_at, u16_at, u32_at, u64_at, many_at, whole_of}
 use Rattle.bg_wire.specs.EntryReading.{action_at, entry_at}
-use Rattle.bg_wire.specs.SavedText.{SavedParts}
+use Rattle.bg_wire.specs.SavedText.{SavedParts, front_text}
 use Rattle.bg_wire.specs.declared.faults.LoadFault.{LoadFault}
 use Rattle.bg_wire.specs.declared.faults.LoadFault.TheVariants as fault
 use Rattle.bg_wire.specs.declared.reader.ReadFault.{ReadFault}
@@ -23,7 +24,7 @@ most_flag party = if party == referee then no_claim_flag else claim_flag
 
 unfoldable pub kept_claim_at : Cursor → Read (Option (ℕ × Action))
 kept_claim_at c = do
-  number ← u16_at first_number last_number c
+  number ← u16_at first_number last_saved_number c
   action ← action_at number.1
   Ok (Some (number.0, action.0), action.1)
 
@@ -31,10 +32,25 @@ kept_claim_at c = do
 abbrev pub flagged_at : ℕ → Cursor → Read (Option (ℕ × Action))
 flagged_at flag c = if flag == no_claim_flag then Ok (None, c) else kept_claim_at c
 
-unfoldable pub claim_at : ℕ → Cursor → Read (Option (ℕ × Action))
-claim_at party c = do
+unfoldable pub saved_claim_at : ℕ → Cursor → Read (Option (ℕ × Action))
+saved_claim_at party c = do
   flag ← u8_at no_claim_flag (most_flag party) c
   flagged_at flag.0 flag.1
+
+-- what stands before the entries, as its reader holds it
+abbrev pub front_of : SavedParts → Front
+front_of p = record {
+  party = p.party;
+  id = p.id;
+  terms = p.terms;
+  save = p.save;
+  claim = p.claim;
+  count = length p.entries;
+}
+
+-- its text
+abbrev pub text_of_front : Front → List ℕ
+text_of_front f = front_text f.party f.id f.terms f.save f.claim f.count
 
 unfoldable pub front_at : Cursor → Read Front
 front_at c = do
@@ -43,12 +59,12 @@ front_at c = do
   id ← u64_at party.1
   terms ← u8_at shortest_match longest_match id.1
   save ← u32_at least_save greatest_save terms.1
-  claim ← claim_at party.0 save.1
-  count ← u16_at 0 last_number claim.1
+  claim ← saved_claim_at party.0 save.1
+  count ← u16_at 0 last_saved_number claim.1
   Ok (record { party = party.0; id = id.0; terms = terms.0; save = save.0; claim = claim.0; count = count.0 }, count.1)
 
-abbrev pub parts_with : Front → List Entry → SavedParts
-parts_with f entries = record {
+abbrev pub parts_of_front : Front → List Entry → SavedParts
+parts_of_front f entries = record {
   party = f.party;
   id = f.id;
   terms = f.terms;
@@ -61,7 +77,7 @@ unfoldable pub saved_at : Cursor → Read SavedParts
 saved_at c = do
   front ← front_at c
   entries ← many_at entry_at (front.0).count front.1
-  Ok (parts_with front.0 entries.0, entries.1)
+  Ok (parts_of_front front.0 entries.0, entries.1)
 
 -- the fields where the layout holds, whatever the entries are
 unfoldable pub layout_of : List ℕ → Result SavedParts LoadFault
@@ -71,5 +87,5 @@ layout_of bytes = whole_of load_fault fault.Extra (saved_at (record { at = 0; re
 abbrev pub IsLaidOut : Result (Front × Cursor) LoadFault → List ℕ → Type 0
 IsLaidOut (Ok parts) bytes =
     (entries : List Entry) × (end : Cursor) × (many_at entry_at (parts.0).count parts.1 ≡ Ok (entries, end))
-    × (layout_of bytes ≡ Ok (parts_with parts.0 entries))
+    × (layout_of bytes ≡ Ok (parts_of_front parts.0 entries))
 IsLaidOut (Err why) bytes = layout_of bytes ≡ Err why

@@ -2,17 +2,17 @@
 use Rattle.std.specs.Prelude.{◌≡◌, ◌≢◌, ℕ, ◌-◌, ◌<◌, ◌≤◌, ◌^◌, List, [], ◌∷◌, ◌++◌, length, take, Option, Some, None, Result, Ok, Err}
 use Rattle.std.specs.List.{AllByRecursion}
 use Rattle.std.specs.Int.{w16, w32, w64, to_be_bytes}
-use Rattle.bg_match.specs.Terms.{Terms}
+use Rattle.bg_match.specs.Terms.{Terms, match_length}
 use Rattle.bg_match.specs.Entry.{IsEntry, IsAction}
 use Rattle.bg_match.specs.Match.{Log, IsLegalRecord}
 use Rattle.bg_match.specs.declared.actions.Action.{Action}
 use Rattle.bg_match.specs.declared.entries.Entry.{Entry}
-use Rattle.bg_wire.specs.Codes.{last_number, shortest_match, longest_match, first_number, seat_of_x, seat_of_o, saved_magic, no_claim_flag, claim_flag, least_save, greatest_save}
-use Rattle.bg_wire.specs.EntryText.{action_text, entries_text}
+use Rattle.bg_match.specs.Limits.{shortest_match, longest_match}
+use Rattle.bg_wire.specs.Codes.{last_saved_number, first_number, seat_of_x, seat_of_o, saved_magic, no_claim_flag, claim_flag, least_save, greatest_save}
+use Rattle.bg_wire.specs.EntryText.{action_bytes, entries_bytes}
 use Rattle.bg_wire.specs.declared.faults.LoadFault.{LoadFault}
 use Rattle.bg_wire.specs.declared.faults.LoadFault.TheVariants.{Illegal, Memory}
 use Rattle.bg_wire.specs.declared.saves.Saved.{Saved}
-use Rattle.bg_wire.specs.declared.saved_version_one.Front.{Front}
 
 -- what a saved text tells, which is all of a `Saved` but the room for further entries
 pub record SavedParts : Type 0 where
@@ -38,31 +38,22 @@ parts_of s = parts_with s.party s.save s.claim s.log
 
 abbrev pub claim_text : Option (ℕ × Action) → List ℕ
 claim_text None = no_claim_flag ∷ []
-claim_text (Some claim) = claim_flag ∷ (to_be_bytes w16 claim.0 ++ action_text claim.1)
+claim_text (Some claim) = claim_flag ∷ (to_be_bytes w16 claim.0 ++ action_bytes claim.1)
 
--- what stands before the entries, their count last
-abbrev pub front_text : Front → List ℕ
-front_text f =
-    to_be_bytes w32 saved_magic ++ (f.party ∷ (to_be_bytes w64 f.id ++ (f.terms ∷ (to_be_bytes w32 f.save
-    ++ (claim_text f.claim ++ to_be_bytes w16 f.count)))))
-
-abbrev pub front_of : SavedParts → Front
-front_of p = record {
-  party = p.party;
-  id = p.id;
-  terms = p.terms;
-  save = p.save;
-  claim = p.claim;
-  count = length p.entries;
-}
+-- what stands before the entries, field by field, their count last
+abbrev pub front_text : ℕ → ℕ → Terms → ℕ → Option (ℕ × Action) → ℕ → List ℕ
+front_text party id terms save claim count =
+    to_be_bytes w32 saved_magic ++ (party ∷ (to_be_bytes w64 id ++ (terms ∷ (to_be_bytes w32 save
+    ++ (claim_text claim ++ to_be_bytes w16 count)))))
 
 abbrev pub saved_text : SavedParts → List ℕ
-saved_text p = front_text (front_of p) ++ entries_text p.entries
+saved_text p =
+    front_text p.party p.id p.terms p.save p.claim (length p.entries) ++ entries_bytes p.entries
 
 -- the number and the action of a claim are in their ranges
 abbrev pub IsKeptClaim : Option (ℕ × Action) → Type 0
 IsKeptClaim None = Unit {0}
-IsKeptClaim (Some claim) = (first_number ≤ claim.0) × (claim.0 ≤ last_number) × IsAction claim.1
+IsKeptClaim (Some claim) = (first_number ≤ claim.0) × (claim.0 ≤ last_saved_number) × IsAction claim.1
 
 -- the referee keeps no claim
 abbrev pub IsClaimOf : ℕ → Option (ℕ × Action) → Type 0
@@ -80,12 +71,12 @@ pub record IsSavable (p : SavedParts) : Type 0 where
 pub record IsInLayout (p : SavedParts) : Type 0 where
   pub party : p.party ≤ seat_of_o
   pub id_fits : p.id < 2 ^ 64
-  pub shortest : shortest_match ≤ p.terms
-  pub longest : p.terms ≤ longest_match
+  pub shortest : shortest_match ≤ match_length p.terms
+  pub longest : match_length p.terms ≤ longest_match
   pub first_save : least_save ≤ p.save
   pub last_save : p.save ≤ greatest_save
   pub claim : IsClaimOf p.party p.claim
-  pub few : length p.entries ≤ last_number
+  pub few : length p.entries ≤ last_saved_number
   pub in_range : AllByRecursion IsEntry p.entries
 
 -- the layout holds, and these are its fields
@@ -97,6 +88,10 @@ pub record IsLayoutOf (p : SavedParts) (bytes : List ℕ) : Type 0 where
 pub record IsSavedText (p : SavedParts) (bytes : List ℕ) : Type 0 where
   pub layout : IsLayoutOf p bytes
   pub legal : IsLegalRecord p.terms p.entries
+
+-- the bytes are the text that a save writes
+abbrev pub IsWrittenText : SavedParts → List ℕ → Type 0
+IsWrittenText p bytes = IsSavedText p bytes
 
 -- the entry of this number, from 1, is the first that does not follow the ones before it
 pub record IsFirstIllegal (terms : Terms) (entries : List Entry) (n : ℕ) : Type 0 where

@@ -1,9 +1,9 @@
 -- What holds of saved texts and of slots: each is proved.
 use Rattle.std.specs.Prelude.{◌≡◌, ◌≢◌, ◌⊎◌, ℕ, ◌+◌, ◌%◌, List, [], ◌++◌, Option, Some, None, Result, Ok, Err}
 use Rattle.bg_match.specs.Terms.{Terms}
-use Rattle.bg_wire.specs.SavedText.{SavedParts, IsSavedText}
+use Rattle.bg_wire.specs.SavedText.{SavedParts, IsSavedText, IsWrittenText}
 use Rattle.bg_wire.specs.Saves.{slot_of}
-use Rattle.bg_wire.specs.Restoring.{LoadsAs, SlotsRestore, IsOfMatch, Restores, parts_in}
+use Rattle.bg_wire.specs.Restoring.{LoadsAs, SlotsRestore, IsSavedBy, Restores, parts_in}
 use Rattle.bg_wire.specs.declared.slots.Slot.{Slot}
 use Rattle.bg_wire.specs.declared.slots.Slot.TheVariants.{Zero, One}
 use Rattle.bg_wire.specs.declared.saves.Saved.{Saved}
@@ -81,7 +81,7 @@ pub record AreWritten (slots : Slots) (restored : Option SavedParts) : Type 0 wh
 pub record IsSaveAfter (slots : Slots) (old : Option SavedParts) (p : SavedParts) (text : List ℕ) : Type 0 where
   pub written : AreWritten slots old
   pub next : p.save ≡ save_in old + 1
-  pub spelled : IsSavedText p text
+  pub spelled : IsWrittenText p text
 
 -- once the text of the next save is written, the slots restore it
 abbrev pub WrittenIsRestored : Type 0
@@ -105,7 +105,7 @@ GivesBack restored (Err Memory) = Unit {0}
 -- the party of a match may have these slots: what they restore is of that match, and slot 0 is empty where that is nothing
 abbrev pub AreOfMatch : ℕ → ℕ → Terms → Slots → Option SavedParts → Type 0
 AreOfMatch party id terms slots None = slots.zero ≡ []
-AreOfMatch party id terms slots (Some p) = IsOfMatch party id terms p
+AreOfMatch party id terms slots (Some p) = IsSavedBy party id terms p
 
 -- want of memory aside, restoring gives what the slots restore
 abbrev pub GivesWhatSlotsRestore : Type 0

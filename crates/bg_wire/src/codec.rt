@@ -2,20 +2,21 @@
 ghost use Rattle.std.specs.Prelude.{◌≡◌, ◌≢◌, ◌↔◌, ◌≤◌, ◌++◌, [], List, ℕ, IfOk, IfErr};
 ghost use Rattle.arrayvec.specs.ArrayVec.{array_vec_len};
 ghost use Rattle.bg_wire.specs.declared.packets.Packet.{Packet};
+ghost use Rattle.bg_wire.specs.Codes.{longest_packet};
 ghost use Rattle.bg_wire.specs.PacketText.{IsPacket, IsText};
 ghost use Rattle.bg_wire.specs.Texts.{HasMore, ArePrefixFree};
 ghost use Rattle.bg_wire.specs.Faults.{IsWireFault};
 ghost use Rattle.bg_wire.specs.PacketReading.{packet_of};
 
 use crate::reader::Reader;
-use crate::{LONGEST_PACKET, MOST_DATAGRAM_BYTES, Packet, WireFault, packet_version_one as layout};
+use crate::{MOST_DATAGRAM_BYTES, Packet, WireFault, packet_version_one as layout};
 use arrayvec::ArrayVec;
 
 /// The text of a packet, at most 95 bytes (docs/FORMATS.md, "Packets").
 pub fn encode(packet: &Packet) -> ArrayVec<u8, MOST_DATAGRAM_BYTES>
     requires { IsPacket packet.now }
     ensures text { IsText packet.now result.items }
-    ensures longest { array_vec_len result ≤ LONGEST_PACKET }
+    ensures longest { array_vec_len result ≤ longest_packet }
 {
     layout::text(packet)
 }

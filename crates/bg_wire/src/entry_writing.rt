@@ -2,7 +2,7 @@
 ghost use Rattle.std.specs.Prelude.{◌≡◌, ◌+◌, ◌≤◌, ◌∷◌, ◌++◌, length};
 ghost use Rattle.arrayvec.specs.ArrayVec.{array_vec_len};
 ghost use Rattle.bg_match.specs.Entry.{IsEntry, IsAction};
-ghost use Rattle.bg_wire.specs.EntryText.{turn_text, level_code, dice_text, action_text, entry_text};
+ghost use Rattle.bg_wire.specs.EntryText.{turn_bytes, level_code, dice_bytes, action_bytes, entry_bytes};
 
 use crate::MOST_DATAGRAM_BYTES;
 use crate::codes::{
@@ -20,7 +20,7 @@ pub(crate) type Bytes = ArrayVec<u8, MOST_DATAGRAM_BYTES>;
 fn put_turn(out: &mut Bytes, turn: &Turn)
     requires few { length turn.now ≤ MOST_STEPS }
     requires room { array_vec_len out.old + 9 ≤ MOST_DATAGRAM_BYTES }
-    ensures text { out.new.items ≡ out.old.items ++ turn_text turn.now }
+    ensures text { out.new.items ≡ out.old.items ++ turn_bytes turn.now }
     ensures len { array_vec_len out.new ≤ array_vec_len out.old + 9 }
 {
     let steps = turn.steps.as_slice();
@@ -44,7 +44,7 @@ fn level_code(level: Level) -> u8
 /// A code, and two dice.
 fn put_dice(out: &mut Bytes, code: u8, first: Die, second: Die)
     requires { array_vec_len out.old + 3 ≤ MOST_DATAGRAM_BYTES }
-    ensures text { out.new.items ≡ out.old.items ++ code ∷ dice_text first second }
+    ensures text { out.new.items ≡ out.old.items ++ code ∷ dice_bytes first second }
     ensures len { array_vec_len out.new ≤ array_vec_len out.old + 3 }
 {
     out.push(code);
@@ -56,7 +56,7 @@ fn put_dice(out: &mut Bytes, code: u8, first: Die, second: Die)
 pub(crate) fn put_action(out: &mut Bytes, action: &Action)
     requires in_range { IsAction action.now }
     requires room { array_vec_len out.old + 10 ≤ MOST_DATAGRAM_BYTES }
-    ensures text { out.new.items ≡ out.old.items ++ action_text action.now }
+    ensures text { out.new.items ≡ out.old.items ++ action_bytes action.now }
     ensures len { array_vec_len out.new ≤ array_vec_len out.old + 10 }
 {
     match action {
@@ -81,7 +81,7 @@ pub(crate) fn put_action(out: &mut Bytes, action: &Action)
 pub(crate) fn put_entry(out: &mut Bytes, entry: &Entry)
     requires in_range { IsEntry entry.now }
     requires room { array_vec_len out.old + 10 ≤ MOST_DATAGRAM_BYTES }
-    ensures text { out.new.items ≡ out.old.items ++ entry_text entry.now }
+    ensures text { out.new.items ≡ out.old.items ++ entry_bytes entry.now }
     ensures len { array_vec_len out.new ≤ array_vec_len out.old + 10 }
 {
     match entry {

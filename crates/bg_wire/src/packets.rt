@@ -70,6 +70,19 @@ pub enum Packet {
     },
 }
 
+impl Packet {
+    ghost use Rattle.bg_wire.specs.PacketText.{id_of};
+
+    /// The number of the match that it is of.
+    pub fn id(&self) -> u64
+        ensures { result ≡ id_of self.now }
+    {
+        match self {
+            Packet::Want { id, .. } | Packet::Claim { id, .. } | Packet::Entries { id, .. } => *id,
+        }
+    }
+}
+
 /// A place in a list that is not full holds a Want of party 1 in match 0, which holds nothing.
 impl Default for Packet {
     ghost use Rattle.std.specs.Prelude.{◌≡◌};

@@ -1,7 +1,7 @@
 //! What the two slots of a party restore.
 ghost use Rattle.std.specs.Prelude.{◌≡◌, ◌↔◌, IsTrue, IfOk};
 ghost use Rattle.bg_wire.specs.SavedText.{parts_of};
-ghost use Rattle.bg_wire.specs.Restoring.{Restores, IsOfMatch, IsSavableIn, newer as newer_of, parts_in};
+ghost use Rattle.bg_wire.specs.Restoring.{Restores, IsSavedBy, IsSavableIn, newer as newer_of, parts_in};
 ghost use Rattle.bg_wire.specs.SlotReading.{ReadsSlot};
 
 use crate::{LoadFault, RestoreRefusal, Saved, load};
@@ -29,7 +29,7 @@ pub fn restore(
     let first = read_slot(alloc, slot0)?;
     let second = read_slot(alloc, slot1)?;
     match newer(first, second) {
-        Some(saved) if is_of_match(&saved, party, id, terms) => Ok(Some(saved)),
+        Some(saved) if is_saved_by(&saved, party, id, terms) => Ok(Some(saved)),
         Some(_) => Err(RestoreRefusal::WrongMatch),
         None if slot0.is_empty() => Ok(None),
         None => Err(RestoreRefusal::Damaged),
@@ -63,8 +63,8 @@ fn newer(first: Option<Saved>, second: Option<Saved>) -> Option<Saved>
 }
 
 /// Whether a saved match is this party's, of the match with this id and these terms.
-fn is_of_match(saved: &Saved, party: u8, id: u64, terms: Terms) -> bool
-    ensures { IsTrue result ↔ IsOfMatch party id terms (parts_of saved.now) }
+fn is_saved_by(saved: &Saved, party: u8, id: u64, terms: Terms) -> bool
+    ensures { IsTrue result ↔ IsSavedBy party id terms (parts_of saved.now) }
 {
     saved.party == party && saved.log.id() == id && saved.log.length() == terms
 }

@@ -1,12 +1,12 @@
 //! The layout of saved texts, version 1 (docs/FORMATS.md, "Saved files").
-ghost use Rattle.std.specs.Prelude.{◌≡◌, ◌≤◌, ◌+◌, ◌++◌, IfOk};
+ghost use Rattle.std.specs.Prelude.{◌≡◌, ◌≤◌, ◌+◌, ◌++◌, length, IfOk};
 ghost use Rattle.arrayvec.specs.ArrayVec.{array_vec_len};
 ghost use Rattle.bg_match.specs.Limits.{longest_match, shortest_match};
 ghost use Rattle.bg_match.specs.Match.{IsLegalRecord};
 ghost use Rattle.bg_wire.specs.Reading.{Reads, Ends, passed_of, many_at};
 ghost use Rattle.bg_wire.specs.EntryReading.{entry_at};
-ghost use Rattle.bg_wire.specs.SavedText.{IsSavable, IsKeptClaim, IsInLayout, parts_with, front_of, front_text, claim_text};
-ghost use Rattle.bg_wire.specs.SavedReading.{most_flag, kept_claim_at, claim_at, front_at, load_fault, IsLaidOut};
+ghost use Rattle.bg_wire.specs.SavedText.{IsSavable, IsKeptClaim, IsInLayout, parts_with, front_text, claim_text};
+ghost use Rattle.bg_wire.specs.SavedReading.{most_flag, kept_claim_at, saved_claim_at, front_at, load_fault, IsLaidOut};
 
 use crate::codes::FIRST_ENTRY;
 use crate::entry_reading::{action, entry};
@@ -70,9 +70,9 @@ fn most_flag(party: u8) -> u8
     }
 }
 
-#[tactic(auto, unfolding(crate::specs::SavedReading::claim_at))]
+#[tactic(auto, unfolding(crate::specs::SavedReading::saved_claim_at))]
 fn claim(reader: &mut Reader<'_>, party: u8) -> Result<Option<(Number, Action)>, ReadFault>
-    ensures { Reads result reader.new (claim_at party reader.old) }
+    ensures { Reads result reader.new (saved_claim_at party reader.old) }
 {
     let flag = reader.read_u8(NO_CLAIM, most_flag(party))?;
     if flag == NO_CLAIM {
@@ -144,7 +144,7 @@ pub(crate) fn front_text(
     log: &Record,
 ) -> Bytes
     requires { IsSavable (parts_with party save claim.now log.now) }
-    ensures text { result.items ≡ front_text (front_of (parts_with party save claim.now log.now)) }
+    ensures text { result.items ≡ front_text party log.now.id log.now.terms save claim.now (length log.now.entries) }
     ensures in_layout { IsInLayout (parts_with party save claim.now log.now) }
     ensures legal { IsLegalRecord log.now.terms log.now.entries }
 {

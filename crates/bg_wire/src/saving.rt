@@ -5,11 +5,12 @@ ghost use Rattle.bg_match.specs.Limits.{most_entries};
 ghost use Rattle.bg_match.specs.Entry.{IsEntry};
 ghost use Rattle.bg_match.specs.Match.{IsLegalRecord};
 ghost use Rattle.bg_match.specs.declared.entries.Entry.{Entry};
+ghost use Rattle.bg_wire.specs.Codes.{longest_saved_text, seat_of_o};
 ghost use Rattle.bg_wire.specs.Texts.{HasMore, ArePrefixFree};
 ghost use Rattle.bg_wire.specs.Reading.{Cursor, many_at};
 ghost use Rattle.bg_wire.specs.EntryReading.{entry_at};
-ghost use Rattle.bg_wire.specs.EntryText.{entries_text, text_at};
-ghost use Rattle.bg_wire.specs.SavedText.{SavedParts, IsSavable, IsLayoutOf, IsSavedText, IsIllegalAt, HasEntries, Loads, Replays, parts_of, parts_with, IsClaimOf};
+ghost use Rattle.bg_wire.specs.EntryText.{entries_bytes, bytes_at};
+ghost use Rattle.bg_wire.specs.SavedText.{SavedParts, IsSavable, IsLayoutOf, IsSavedText, IsWrittenText, IsIllegalAt, HasEntries, Loads, Replays, parts_of, parts_with, IsClaimOf};
 ghost use Rattle.bg_wire.specs.Faults.{IsLoadFault};
 ghost use Rattle.bg_wire.specs.Saves.{IsNextSave};
 ghost use Rattle.bg_wire.specs.SavedReading.{layout_of};
@@ -17,9 +18,7 @@ ghost use Rattle.bg_wire.specs.SavedReading.{layout_of};
 use crate::entry_reading::entry;
 use crate::entry_writing::{Bytes, put_entry};
 use crate::reader::Reader;
-use crate::{
-    LONGEST_SAVED_TEXT, LoadFault, SEAT_OF_O, SaveRefusal, Saved, Slot, saved_version_one as layout,
-};
+use crate::{LoadFault, SaveRefusal, Saved, Slot, saved_version_one as layout};
 use arrayvec::ArrayVec;
 use bg_match::{Action, MOST_ENTRIES, Number, Record};
 use std::alloc::{AllocError, Global};
@@ -30,8 +29,8 @@ use std::alloc::{AllocError, Global};
 /// AllocError where there is no memory for it.
 pub fn save_text(alloc: Global, saved: &Saved) -> Result<Vec<u8>, AllocError>
     requires { IsSavable (parts_of saved.now) }
-    ensures text { IfOk result (λ text. IsSavedText (parts_of saved.now) text.items) }
-    ensures longest { IfOk result (λ text. vec_len text ≤ LONGEST_SAVED_TEXT) }
+    ensures text { IfOk result (λ text. IsWrittenText (parts_of saved.now) text.items) }
+    ensures longest { IfOk result (λ text. vec_len text ≤ longest_saved_text) }
 {
     text_of(alloc, saved.party, saved.save, &saved.claim, &saved.log)
 }
@@ -48,10 +47,10 @@ pub fn next_save(
     claim: &Option<(Number, Action)>,
     log: &Record,
 ) -> Result<(Slot, u32, Vec<u8>), SaveRefusal>
-    requires party { party ≤ SEAT_OF_O }
+    requires party { party ≤ seat_of_o }
     requires claim { IsClaimOf party claim.now }
     ensures next { IsNextSave (parts_with party (last + 1) claim.now log.now) result }
-    ensures longest { IfOk result (λ next. vec_len (next.2) ≤ LONGEST_SAVED_TEXT) }
+    ensures longest { IfOk result (λ next. vec_len (next.2) ≤ longest_saved_text) }
 {
     let Some(save) = last.checked_add(1) else {
         return Err(SaveRefusal::SavesSpent);
@@ -72,8 +71,8 @@ fn text_of(
 ) -> Result<Vec<u8>, AllocError>
     requires { IsSavable (parts_with party save claim.now log.now) }
     ensures text { IfOk result (λ text.
-        IsSavedText (parts_with party save claim.now log.now) text.items) }
-    ensures longest { IfOk result (λ text. vec_len text ≤ LONGEST_SAVED_TEXT) }
+        IsWrittenText (parts_with party save claim.now log.now) text.items) }
+    ensures longest { IfOk result (λ text. vec_len text ≤ longest_saved_text) }
 {
     let mut text = Vec::new(alloc);
     text.extend_from_slice(layout::front_text(party, save, claim, log).as_slice())?;
@@ -88,19 +87,19 @@ pub fn saved_texts_are_prefix_free()
 
 /// Appends the texts of all entries.
 fn push_entries(text: &mut Vec<u8>, log: &Record) -> Result<(), AllocError>
-    ensures { OnOk result (text.new.items ≡ text.old.items ++ entries_text log.now.entries) }
+    ensures { OnOk result (text.new.items ≡ text.old.items ++ entries_bytes log.now.entries) }
 {
     for index in 0..log.len() {
-        text.extend_from_slice(entry_bytes(log, index).as_slice())?;
+        text.extend_from_slice(index_bytes(log, index).as_slice())?;
     }
     Ok(())
 }
 
 /// The text of the entry of this index, from 0; nothing past the end.
-fn entry_bytes(log: &Record, index: Number) -> Bytes
+fn index_bytes(log: &Record, index: Number) -> Bytes
     requires below { index < most_entries }
     requires in_range { AllByRecursion IsEntry log.now.entries }
-    ensures { result.items ≡ text_at log.now.entries index }
+    ensures { result.items ≡ bytes_at log.now.entries index }
 {
     let mut bytes = ArrayVec::new();
     let Some(entry) = log.entry(index + 1) else {

@@ -1,9 +1,21 @@
 //! Laws of texts and of slots, for the crates above: each is the contract of a function that does nothing.
+ghost use Rattle.std.specs.Prelude.{◌≡◌};
+ghost use Rattle.bg_wire.specs.Codes.{longest_packet, longest_datagram, longest_saved_text, first_watcher};
 ghost use Rattle.bg_wire.specs.PacketText.{IsText};
 ghost use Rattle.bg_wire.specs.SavedText.{IsSavedText};
 ghost use Rattle.bg_wire.specs.Texts.{IsOneText};
 ghost use Rattle.bg_wire.specs.SlotLaws.{FrontsLoadAsNothing, EmptyLoadsAsNothing, LoadAsOneThing, RestoreOneThing, RestoreOneOfBoth};
 ghost use Rattle.bg_wire.specs.SlotLaws.{GoesByTurns, NextGoesToTheOther, WrittenIsRestored, TornIsNotRestored, GivesWhatSlotsRestore};
+
+use crate::{FIRST_WATCHER, LONGEST_PACKET, LONGEST_SAVED_TEXT, MOST_DATAGRAM_BYTES};
+
+/// The constants are the numbers of the layouts.
+pub fn laws_of_constants()
+    ensures packet { LONGEST_PACKET ≡ longest_packet }
+    ensures datagram { MOST_DATAGRAM_BYTES ≡ longest_datagram }
+    ensures saved { LONGEST_SAVED_TEXT ≡ longest_saved_text }
+    ensures watcher { FIRST_WATCHER ≡ first_watcher }
+{}
 
 /// Bytes are the text of one packet, and of one saved match.
 pub fn laws_of_texts()

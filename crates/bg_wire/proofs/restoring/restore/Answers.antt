@@ -15,5 +15,5 @@ returns-in-Some-2-clause-restores c =
         second_loads = rw c.in_ok-second.was at c.read_slot-2.ensures.reads;
         is_newer = parts;
       },
-      λ h. let t : c.is_of_match.result ≡ true = c.is_of_match.ensures.1 h in absurd (cc (t, c.if-is_of_match.false)),
+      λ h. let t : c.is_saved_by.result ≡ true = c.is_saved_by.ensures.1 h in absurd (cc (t, c.if-is_saved_by.false)),
     )

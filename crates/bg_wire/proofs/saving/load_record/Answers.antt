@@ -3,7 +3,7 @@ use Rattle.bg_match.specs.Match.{Log}
 use Rattle.std.proofs.lemmas.Result.{err_from_is_err_and}
 use Rattle.bg_wire.proofs.Many.{many_len}
 use Rattle.bg_wire.specs.EntryReading.{entry_at}
-use Rattle.bg_wire.specs.SavedReading.{parts_with}
+use Rattle.bg_wire.specs.SavedReading.{parts_of_front}
 use Rattle.bg_wire.proofs.Loading.{stopped, not_both, of_ok}
 use Rattle.bg_wire.proofs.saving.load_record.Goals as goal
 
@@ -21,4 +21,4 @@ returns-in_err-replay c =
     let p = err_from_is_err_and c.from_residual-in_err-replay.result c.from_residual-in_err-replay.ensures.1 in
     let made = of_ok c.new.result c.unwrap-log.result _ c.unwrap-log.ensures c.new.ensures.value in
     let same : c.reserve.new.self.terms ≡ c.in_ok-front.front.terms = ap (λ (l : Log). l.terms) c.reserve.ensures.same ∙ ap (λ (l : Log). l.terms) made in
-    rw (p.1, p.2, laid.3) (stopped c.replay.result c.in_err-replay.field-0.0 c.reserve.new.self c.replay.new.log (parts_with c.in_ok-front.front laid.0) c.in_err-replay.was same (c.replay.ensures laid.0 laid.1 laid.2))
+    rw (p.1, p.2, laid.3) (stopped c.replay.result c.in_err-replay.field-0.0 c.reserve.new.self c.replay.new.log (parts_of_front c.in_ok-front.front laid.0) c.in_err-replay.was same (c.replay.ensures laid.0 laid.1 laid.2))

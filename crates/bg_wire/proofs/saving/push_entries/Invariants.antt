@@ -1,9 +1,9 @@
 use Rattle.std.proofs.Common.{◌≡◌, ◌++◌, length, take}
-use Rattle.bg_wire.specs.EntryText.{entries_text}
+use Rattle.bg_wire.specs.EntryText.{entries_bytes}
 use Rattle.bg_wire.proofs.saving.push_entries.Given as goal
 
 abbrev pub invariant-loop-index : goal.invariant-loop-index
 invariant-loop-index l = record {
-  text : l.text.items ≡ l.fn.text.items ++ entries_text (take l.index l.fn.log.entries);
+  text : l.text.items ≡ l.fn.text.items ++ entries_bytes (take l.index l.fn.log.entries);
   end : l.index-end ≡ length l.fn.log.entries;
 }

@@ -1,5 +1,5 @@
 use Rattle.std.proofs.Common.{◌∙◌, ◌++◌, ap, arith, length, List, ℕ}
-use Rattle.bg_wire.specs.EntryText.{entries_text}
+use Rattle.bg_wire.specs.EntryText.{entries_bytes}
 use Rattle.bg_wire.specs.SavedText.{parts_with}
 use Rattle.bg_wire.proofs.Lengths.{length-saved_text}
 use Rattle.bg_wire.proofs.saving.text_of.Goals as goal
@@ -8,7 +8,7 @@ pub returns-clause-text : goal.returns-clause-text
 returns-clause-text c = record {
   layout = record {
     in_layout = c.front_text.ensures.in_layout;
-    spelled = c.in_ok-push_entries.ensures ∙ ap (λ (r : List ℕ). r ++ entries_text c.args.log.now.entries) (c.in_ok-extend_from_slice.ensures.items ∙ ap (λ (r : List ℕ). r ++ c.as_slice.result.now) c.new-text.ensures.items ∙ c.as_slice.ensures.value ∙ c.front_text.ensures.text);
+    spelled = c.in_ok-push_entries.ensures ∙ ap (λ (r : List ℕ). r ++ entries_bytes c.args.log.now.entries) (c.in_ok-extend_from_slice.ensures.items ∙ ap (λ (r : List ℕ). r ++ c.as_slice.result.now) c.new-text.ensures.items ∙ c.as_slice.ensures.value ∙ c.front_text.ensures.text);
   };
   legal = c.front_text.ensures.legal;
 }
