@@ -21,12 +21,13 @@ use Rattle.bg_match.specs.declared.entries.Entry.TheVariants as entry
 use Rattle.bg_match.specs.declared.levels.Level.{Level}
 use Rattle.bg_match.specs.declared.levels.Level.TheVariants.{Normal, Gammon, Backgammon}
 use Rattle.bg_match.specs.Limits.{most_entries, shortest_match, longest_match}
+use Rattle.bg_match.specs.Match.{StandsAt}
 use Rattle.bg_match.proofs.Legal.{Follows_in_range, one_standing}
 use Rattle.bg_text.specs.BoardText.{board_text, line_text, lines_text}
 use Rattle.bg_text.specs.EntryText.{letter, level_word, step_text, source_text, target_text, entry_words, entry_text}
 use Rattle.bg_text.specs.EntryShape.{IsNumeral}
 use Rattle.bg_text.specs.Words.{spaced}
-use Rattle.bg_text.specs.Transcript.{AreLinesOf, length_line}
+use Rattle.bg_text.specs.Transcript.{AreLinesOf, IsTranscript, length_line}
 use Rattle.bg_text.specs.Judging.{lines_of, fine_line, IsLengthFault, StandsAfter, IsVerdict, IsJudged, IsAnswerTo, IsJudgement, TranscriptsAreFine}
 use Rattle.bg_text.specs.declared.faults.LineFault.{LineFault}
 use Rattle.bg_text.specs.declared.faults.LineFault.TheVariants as fault
@@ -210,13 +211,19 @@ pub one_length : (m n : ℕ) → m ≤ longest_match → n ≤ longest_match →
 one_length m n low high same = decimal_injective m n (omega arith) (omega arith) (ap (drop 7) same)
 
 module _ (n : ℕ) (entries : List Entry) (lines : List (List ℕ)) (t : State) (few : length entries ≤ most_entries) (each : AreLinesOf (start_of n) entries lines t) where
+  long : length entries ≡ length lines
+  long = AreLinesOf-length (start_of n) entries lines t each
+
+  -- all lines are those of a legal record
+  all_good : StandsAfter n lines (length lines) t
+  all_good =
+      let whole : AreLinesOf (start_of n) entries (take (length lines) lines) t = rw (take-length lines) each in
+      (omega arith, omega (arith, long, few), (entries, whole))
+
   -- all lines are the longest part
   all_lines : (text : List ℕ) (verdict : Verdict) (judged : IsJudged n lines text verdict) → judged.count ≡ length lines
   all_lines text verdict judged =
-      let long = AreLinesOf-length (start_of n) entries lines t each in
-      let whole : AreLinesOf (start_of n) entries (take (length lines) lines) t = rw (take-length lines) each in
-      let stands : StandsAfter n lines (length lines) t = (omega arith, omega (arith, long, few), (entries, whole)) in
-      omega (arith, judged.longest.longest (length lines) t stands, judged.longest.stands.0)
+      omega (arith, judged.longest.longest (length lines) t all_good, judged.longest.stands.0)
 
   -- they stand where the entries lead
   all_stand : (text : List ℕ) (verdict : Verdict) (judged : IsJudged n lines text verdict) → judged.state ≡ t
@@ -228,7 +235,6 @@ module _ (n : ℕ) (entries : List Entry) (lines : List (List ℕ)) (t : State) 
 
   fine_verdict : (verdict : Verdict) (line : List ℕ) (count : ℕ) (state : State) → count ≡ length lines → IsVerdict verdict line lines count state → (verdict ≡ Fine (length entries)) × (line ≡ fine_line (length entries))
   fine_verdict (Fine m) line count state all h =
-      let long = AreLinesOf-length (start_of n) entries lines t each in
       let same : count ≡ length entries = all ∙ sym long in
       (ap Fine (h.1 ∙ same), h.2 ∙ ap fine_line same)
   fine_verdict (Refused number) line count state all h = absurd (omega (arith, h.0, all))
@@ -245,19 +251,54 @@ module _ (n : ℕ) (entries : List Entry) (lines : List (List ℕ)) (t : State) 
       let same : answer.0 ≡ n = one_length answer.0 n answer.2 high (sym answer.3) in
       judged_fine text verdict (subst (λ (m : ℕ). IsJudged m lines text verdict) same answer.4)
 
-pub transcripts_are_fine : TranscriptsAreFine
-transcripts_are_fine n entries t input text verdict low high few stands transcript judgement =
+  -- that they are fine is what is said of them
+  fine_judged : (text : List ℕ) → text ≡ board_text t ++ line_text (fine_line (length entries)) → IsJudged n lines text (Fine (length entries))
+  fine_judged text printed = record {
+    count = length lines;
+    state = t;
+    longest = record { stands = all_good; longest = λ m s stands. stands.0 };
+    line = fine_line (length lines);
+    named = (refl, long, refl);
+    printed = printed ∙ ap (λ m. board_text t ++ line_text (fine_line m)) long;
+  }
+
+-- what is read of a transcript: its lines, which are those of its entries
+record IsReadTranscript (n : ℕ) (entries : List Entry) (t : State) (input : List ℕ) : Type 0 where
+  lines : List (List ℕ)
+  each : AreLinesOf (start_of n) entries lines t
+  bytes : length input ≤ most_bytes
+  split : lines_of input ≡ length_line n ∷ lines
+
+read_transcript : (n : ℕ) (entries : List Entry) (t : State) (input : List ℕ) → n ≤ longest_match → length entries ≤ most_entries
+    → StandsAt n entries t → IsTranscript n entries input → IsReadTranscript n entries t input
+read_transcript n entries t input high few stands transcript =
     let lines = transcript.0 in
-    let each = transcript.2 in
-    let same : transcript.1 ≡ t = one_standing n entries transcript.1 t (AreLinesOf-Leads (start_of n) entries lines transcript.1 each) stands in
-    let shorts : AllByRecursion IsShortLine (length_line n ∷ lines) = (length_line_short n (omega arith), lines_short (start_of n) entries lines transcript.1 each) in
-    let long = AreLinesOf-length (start_of n) entries lines transcript.1 each in
-    let bytes : length input ≤ most_bytes = rw transcript.3 (omega (arith, few, long, text_length (length_line n ∷ lines) shorts)) in
-    let split : lines_of input ≡ length_line n ∷ lines = ap lines_of transcript.3 ∙ lines_of-text (length_line n ∷ lines) shorts in
-    subst (λ (s : State). (verdict ≡ Fine (length entries)) × (text ≡ board_text s ++ line_text (fine_line (length entries)))) same
-    (answer lines each bytes split judgement)
+    let same : transcript.1 ≡ t = one_standing n entries transcript.1 t (AreLinesOf-Leads (start_of n) entries lines transcript.1 transcript.2) stands in
+    let shorts : AllByRecursion IsShortLine (length_line n ∷ lines) = (length_line_short n (omega arith), lines_short (start_of n) entries lines transcript.1 transcript.2) in
+    let long = AreLinesOf-length (start_of n) entries lines transcript.1 transcript.2 in
+    record {
+      lines = lines;
+      each = subst (λ (s : State). AreLinesOf (start_of n) entries lines s) same transcript.2;
+      bytes = rw transcript.3 (omega (arith, few, long, text_length (length_line n ∷ lines) shorts));
+      split = ap lines_of transcript.3 ∙ lines_of-text (length_line n ∷ lines) shorts;
+    }
+
+pub transcripts_are_fine : TranscriptsAreFine
+transcripts_are_fine n entries t input text verdict low high few stands transcript =
+    let read = read_transcript n entries t input high few stands transcript in
+    (only read, judged read)
   where
-    answer : (lines : List (List ℕ)) → AreLinesOf (start_of n) entries lines transcript.1 → length input ≤ most_bytes → lines_of input ≡ length_line n ∷ lines
-        → IsJudgement input text verdict → (verdict ≡ Fine (length entries)) × (text ≡ board_text transcript.1 ++ line_text (fine_line (length entries)))
-    answer lines each bytes split (inl long) = absurd (omega (arith, long.0))
-    answer lines each bytes split (inr short) = answered_fine n entries lines transcript.1 few each text verdict low high (rw split at short.1)
+    only : IsReadTranscript n entries t input → IsJudgement input text verdict
+        → (verdict ≡ Fine (length entries)) × (text ≡ board_text t ++ line_text (fine_line (length entries)))
+    only read (inl long) = absurd (omega (arith, long.0, read.bytes))
+    only read (inr short) = answered_fine n entries read.lines t few read.each text verdict low high (rw read.split at short.1)
+
+    judged : IsReadTranscript n entries t input → (verdict ≡ Fine (length entries)) × (text ≡ board_text t ++ line_text (fine_line (length entries)))
+        → IsJudgement input text verdict
+    judged read fine =
+        let answer : IsAnswerTo (length_line n ∷ read.lines) text (Fine (length entries)) =
+        inr (n, low, high, refl, fine_judged n entries read.lines t few read.each text fine.1) in
+        let said : IsAnswerTo (lines_of input) text verdict =
+        subst (λ (v : Verdict). IsAnswerTo (lines_of input) text v) (sym fine.0)
+        (subst (λ (ls : List (List ℕ)). IsAnswerTo ls text (Fine (length entries))) (sym read.split) answer) in
+        inr (read.bytes, said)

@@ -16,3 +16,4 @@ pub mod PartRead
 pub mod WrittenLines
 pub mod FineTranscripts
 pub mod OneJudgement
+pub mod WorkedTexts

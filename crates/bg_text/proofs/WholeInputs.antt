@@ -1,7 +1,7 @@
--- What is read of known bytes.
+-- What is read of known bytes, and written behind them.
 use Rattle.std.proofs.Common.{◌≡◌, ℕ, ◌+◌, ◌≤◌, List, [], ◌++◌, length, take, Option, Some, None, IfSome, sym, ◌∙◌, ap, subst, arith, append-nil, length-take, inl, inr}
 use Rattle.std.proofs.lemmas.List.{take_all, take_at}
-use Rattle.std.specs.Io.KnownBytes.{Consumes, IsAtEnd}
+use Rattle.std.specs.Io.KnownBytes.{Appends, Consumes, IsAtEnd, Keeps}
 use Rattle.bg_text.specs.Transfers.{IsReadOf}
 use Rattle.bg_text.specs.Judging.{IsJudgement, IsAnswerTo, lines_of}
 use Rattle.bg_text.specs.Limits.{most_bytes}
@@ -38,3 +38,10 @@ judged_whole bytes input text verdict read judged =
 pub judged_known : (u : Option (List ℕ)) (input text : List ℕ) (verdict : Verdict) → IfSome u (IsReadOf input) → IsJudgement input text verdict → IfSome u (λ bytes. IsJudgement bytes text verdict)
 judged_known None input text verdict read judged = tt
 judged_known (Some bytes) input text verdict read judged = judged_whole bytes input text verdict read judged
+
+-- a flush keeps what a write added
+pub added_kept : (u v w : Option (List ℕ)) (text : List ℕ) → Appends u v text → Keeps v w → Appends u w text
+added_kept None v w text added kept = tt
+added_kept (Some xs) None w text added kept = absurd added
+added_kept (Some xs) (Some ys) None text added kept = absurd kept
+added_kept (Some xs) (Some ys) (Some zs) text added kept = kept ∙ added

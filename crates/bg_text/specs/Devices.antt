@@ -11,10 +11,15 @@ abbrev pub Gives : {E : Type 0} → List ℕ → List ℕ → Result ℕ E → L
 Gives before after (Ok count) buffer = after ≡ before ++ take count buffer
 Gives before after (Err failure) buffer = after ≡ before
 
--- a write that succeeded took all of its bytes; one that failed counts as none
-abbrev pub Takes : {T E : Type 0} → List ℕ → List ℕ → Result T E → List ℕ → Type 0
-Takes before after (Ok value) bytes = after ≡ before ++ bytes
-Takes before after (Err failure) bytes = after ≡ before
+-- a write that succeeded wrote all of its bytes; one that failed counts as none
+abbrev pub WritesBytes : {T E : Type 0} → List ℕ → List ℕ → Result T E → List ℕ → Type 0
+WritesBytes before after (Ok value) bytes = after ≡ before ++ bytes
+WritesBytes before after (Err failure) bytes = after ≡ before
+
+-- a flush that succeeded has taken all that was written; one that failed counts as none
+abbrev pub TakesWritten : {T E : Type 0} → List ℕ → List ℕ → Result T E → List ℕ → Type 0
+TakesWritten before after (Ok value) written = after ≡ written
+TakesWritten before after (Err failure) written = after ≡ before
 
 -- a read that gave nothing, though there was room, is counted, and another is not
 abbrev pub CountsEnd : {E : Type 0} → ℕ → ℕ → Result ℕ E → List ℕ → Type 0

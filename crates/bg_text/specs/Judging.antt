@@ -1,5 +1,5 @@
 -- What the judge says of an input.
-use Rattle.std.specs.Prelude.{◌≡◌, ◌≢◌, ◌==◌, ◌⊎◌, ℕ, ◌+◌, ◌<◌, ◌≤◌, List, [], ◌∷◌, ◌++◌, length, take, slice_index_or, Option, Some, IsTrue, codes, if◌then◌else◌}
+use Rattle.std.specs.Prelude.{◌≡◌, ◌≢◌, ◌==◌, ◌⊎◌, ◌↔◌, ℕ, ◌+◌, ◌<◌, ◌≤◌, List, [], ◌∷◌, ◌++◌, length, take, slice_index_or, Option, Some, IsTrue, codes, if◌then◌else◌}
 use Rattle.std.specs.List.{onto_first}
 use Rattle.std.specs.Fmt.{decimal}
 use Rattle.std.specs.Str.{all_ascii_digits}
@@ -137,13 +137,14 @@ IsJudgement input text verdict =
     ((most_bytes < length input) × IsTooLong text verdict)
     ⊎ ((length input ≤ most_bytes) × IsAnswerTo (lines_of input) text verdict)
 
--- the judge finds every transcript fine, counts its entries, and shows the board where they lead
+-- what the judge says of a transcript is this alone: the board where its entries lead, and that they are fine, so many
 abbrev pub TranscriptsAreFine : Type 0
 TranscriptsAreFine =
     (terms : Terms) (entries : List Entry) (t : State) (input text : List ℕ) (verdict : Verdict)
     → shortest_match ≤ terms → terms ≤ longest_match → length entries ≤ most_entries
-    → StandsAt terms entries t → IsTranscript terms entries input → IsJudgement input text verdict
-    → (verdict ≡ Fine (length entries)) × (text ≡ board_text t ++ line_text (fine_line (length entries)))
+    → StandsAt terms entries t → IsTranscript terms entries input
+    → IsJudgement input text verdict
+    ↔ ((verdict ≡ Fine (length entries)) × (text ≡ board_text t ++ line_text (fine_line (length entries))))
 
 -- an input has one judgement
 abbrev pub JudgementsAgree : Type 0

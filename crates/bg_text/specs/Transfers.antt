@@ -16,7 +16,9 @@ pub record ReadsInput {S : Type 0} (source : SourceGhosts S) (before after : S) 
   pub ended : length input ≤ most_bytes → source.ends after ≡ source.ends before + 1
   pub known : IfSome (source.remaining before) (IsReadOf input)
 
--- the sink took the text
+-- the text was written to the sink, behind what was written before, and flushed once, so that all of it is taken
 pub record WritesText {T : Type 0} (sink : SinkGhosts T) (before after : T) (text : List ℕ) : Type 0 where
-  pub taken : sink.taken after ≡ sink.taken before ++ text
+  pub written : sink.written after ≡ sink.written before ++ text
+  pub taken : sink.taken after ≡ sink.written before ++ text
+  pub flushes : sink.flushes after ≡ sink.flushes before + 1
   pub known : Appends (sink.contents before) (sink.contents after) text

@@ -1,18 +1,18 @@
 //! What the judge reads from and writes to: devices whose bytes and failures contracts see.
 ghost use Rattle.std.specs.Prelude.{◌≡◌, ℕ, ◌+◌, List, [], Option, OnOk};
 ghost use Rattle.std.specs.Io.{ReadsAtMost};
-ghost use Rattle.std.specs.Io.KnownBytes.{Appends, ReadConsumes};
-ghost use Rattle.bg_text.specs.Devices.{CountsEnd, CountsFailure, Gives, Takes};
+ghost use Rattle.std.specs.Io.KnownBytes.{Appends, Keeps, ReadConsumes};
+ghost use Rattle.bg_text.specs.Devices.{CountsEnd, CountsFailure, Gives, TakesWritten, WritesBytes};
 
-use crate::counts::Count;
-use crate::histories::History;
+use crate::History;
+use std::io;
 use std::io::{Read, Write};
 use thiserror::Error;
 
-/// A device did not do what was asked of it.
+/// A source or a sink did not do what was asked of it.
 #[derive(Clone, Copy, Debug, PartialEq, Eq, Error)]
 #[error("the device failed")]
-pub struct DeviceFailure;
+pub struct StreamFault;
 
 /// What bytes come from. Contracts see what it gave, how often it was asked and how often it failed.
 pub trait Source {
@@ -32,7 +32,7 @@ pub trait Source {
     ghost failures: { Self → ℕ };
 
     /// Reads some bytes into the buffer, and says how many; none at the end.
-    fn read(&mut self, buffer: &mut [u8]) -> Result<usize, DeviceFailure>
+    fn read(&mut self, buffer: &mut [u8]) -> Result<usize, StreamFault>
         ensures bound { ReadsAtMost result buffer.new }
         ensures bytes { ReadConsumes (remaining self.old) (remaining self.new) result buffer.new }
         ensures given { Gives (given self.old) (given self.new) result buffer.new }
@@ -46,16 +46,33 @@ pub trait Sink {
     /// The bytes that it holds, where they are known.
     ghost contents: { Self → Option (List ℕ) };
 
-    /// All bytes of its writes that succeeded, in order.
+    /// All bytes of its writes that succeeded, in order. It may still hold some of them back.
+    ghost written: { Self → List ℕ };
+
+    /// All bytes that it has let go of: those that were written when it was last flushed, and the flush succeeded.
     ghost taken: { Self → List ℕ };
+
+    /// How often it was flushed.
+    ghost flushes: { Self → ℕ };
 
     /// How often it failed.
     ghost failures: { Self → ℕ };
 
-    /// Writes all of the bytes, so that none is held back. After a failure nothing is said of how many went out.
-    fn write_all(&mut self, bytes: &[u8]) -> Result<(), DeviceFailure>
+    /// Writes all of the bytes. After a failure nothing is said of how many went out.
+    fn write_all(&mut self, bytes: &[u8]) -> Result<(), StreamFault>
         ensures bytes { OnOk result (Appends (contents self.old) (contents self.new) bytes.now) }
-        ensures taken { Takes (taken self.old) (taken self.new) result bytes.now }
+        ensures written { WritesBytes (written self.old) (written self.new) result bytes.now }
+        ensures taken { taken self.new ≡ taken self.old }
+        ensures flushes { flushes self.new ≡ flushes self.old }
+        ensures cause { CountsFailure (failures self.old) (failures self.new) result };
+
+    /// Lets go of all that was written, so that nothing is held back. After a failure nothing is said of how many bytes
+    /// went out.
+    fn flush(&mut self) -> Result<(), StreamFault>
+        ensures bytes { OnOk result (Keeps (contents self.old) (contents self.new)) }
+        ensures written { written self.new ≡ written self.old }
+        ensures taken { TakesWritten (taken self.old) (taken self.new) result (written self.old) }
+        ensures flushes { flushes self.new ≡ flushes self.old + 1 }
         ensures cause { CountsFailure (failures self.old) (failures self.new) result };
 }
 
@@ -63,18 +80,21 @@ pub trait Sink {
 #[derive(Drop)]
 pub struct Reading<R> {
     reader: R,
+    error: Option<io::Error>,
     given: History,
-    ends: Count,
-    reads: Count,
-    failures: Count,
+    ends: History,
+    reads: History,
+    failures: History,
 }
 
 impl<R: Read> Reading<R> {
-    ghost use Rattle.bg_text.specs.DeviceParts.{reader_of, given_of, ends_of, reads_of, read_failures_of};
+    ghost use Rattle.std.specs.Prelude.{false, is_some};
+    ghost use Rattle.bg_text.specs.DeviceParts.{has_read_error, reader_of, given_of, ends_of, reads_of, read_failures_of};
 
     /// Reads from this reader. It has not been asked yet, so it has given nothing and has not failed.
     pub fn new(reader: R) -> Reading<R>
         ensures reader { reader_of result ≡ reader }
+        ensures error { has_read_error result ≡ false }
         ensures given { given_of result ≡ [] }
         ensures ends { ends_of result ≡ 0 }
         ensures reads { reads_of result ≡ 0 }
@@ -82,11 +102,19 @@ impl<R: Read> Reading<R> {
     {
         Reading {
             reader,
+            error: None,
             given: History::new(),
-            ends: Count::new(),
-            reads: Count::new(),
-            failures: Count::new(),
+            ends: History::new(),
+            reads: History::new(),
+            failures: History::new(),
         }
+    }
+
+    /// Why the reader failed last, if it did.
+    pub fn error(&self) -> Option<&io::Error>
+        ensures { is_some result ≡ has_read_error self.now }
+    {
+        self.error.as_ref()
     }
 }
 
@@ -103,19 +131,20 @@ impl<R: Read> Source for Reading<R> {
 
     ghost failures = { read_failures_of };
 
-    fn read(&mut self, buffer: &mut [u8]) -> Result<usize, DeviceFailure> {
-        self.reads = self.reads.next();
+    fn read(&mut self, buffer: &mut [u8]) -> Result<usize, StreamFault> {
+        self.reads = self.reads.marked();
         match self.reader.read(buffer) {
             Ok(count) => {
                 self.given = self.given.then(&buffer[..count]);
                 if count == 0 && !buffer.is_empty() {
-                    self.ends = self.ends.next();
+                    self.ends = self.ends.marked();
                 }
                 Ok(count)
             }
-            Err(_) => {
-                self.failures = self.failures.next();
-                Err(DeviceFailure)
+            Err(error) => {
+                self.failures = self.failures.marked();
+                self.error = Some(error);
+                Err(StreamFault)
             }
         }
     }
@@ -125,42 +154,75 @@ impl<R: Read> Source for Reading<R> {
 #[derive(Drop)]
 pub struct Writing<W> {
     writer: W,
+    error: Option<io::Error>,
+    written: History,
     taken: History,
-    failures: Count,
+    flushes: History,
+    failures: History,
 }
 
 impl<W: Write> Writing<W> {
-    ghost use Rattle.bg_text.specs.DeviceParts.{writer_of, taken_of, write_failures_of};
+    ghost use Rattle.std.specs.Prelude.{false, is_some};
+    ghost use Rattle.bg_text.specs.DeviceParts.{has_write_error, writer_of, written_of, taken_of, flushes_of, write_failures_of};
 
     /// Writes to this writer. It has taken nothing yet, and has not failed.
     pub fn new(writer: W) -> Writing<W>
         ensures writer { writer_of result ≡ writer }
+        ensures error { has_write_error result ≡ false }
+        ensures written { written_of result ≡ [] }
         ensures taken { taken_of result ≡ [] }
+        ensures flushes { flushes_of result ≡ 0 }
         ensures failures { write_failures_of result ≡ 0 }
     {
         Writing {
             writer,
+            error: None,
+            written: History::new(),
             taken: History::new(),
-            failures: Count::new(),
+            flushes: History::new(),
+            failures: History::new(),
         }
+    }
+
+    /// Why the writer failed last, if it did.
+    pub fn error(&self) -> Option<&io::Error>
+        ensures { is_some result ≡ has_write_error self.now }
+    {
+        self.error.as_ref()
     }
 }
 
 impl<W: Write> Sink for Writing<W> {
-    ghost use Rattle.bg_text.specs.DeviceParts.{writer_of, taken_of, write_failures_of};
+    ghost use Rattle.bg_text.specs.DeviceParts.{writer_of, written_of, taken_of, flushes_of, write_failures_of};
 
     ghost contents = { λ s. W.contents (writer_of s) };
 
+    ghost written = { written_of };
+
     ghost taken = { taken_of };
+
+    ghost flushes = { flushes_of };
 
     ghost failures = { write_failures_of };
 
-    fn write_all(&mut self, bytes: &[u8]) -> Result<(), DeviceFailure> {
-        if self.writer.write_all(bytes).is_err() || self.writer.flush().is_err() {
-            self.failures = self.failures.next();
-            return Err(DeviceFailure);
+    fn write_all(&mut self, bytes: &[u8]) -> Result<(), StreamFault> {
+        if let Err(error) = self.writer.write_all(bytes) {
+            self.failures = self.failures.marked();
+            self.error = Some(error);
+            return Err(StreamFault);
         }
-        self.taken = self.taken.then(bytes);
+        self.written = self.written.then(bytes);
+        Ok(())
+    }
+
+    fn flush(&mut self) -> Result<(), StreamFault> {
+        self.flushes = self.flushes.marked();
+        if let Err(error) = self.writer.flush() {
+            self.failures = self.failures.marked();
+            self.error = Some(error);
+            return Err(StreamFault);
+        }
+        self.taken = self.written.copy();
         Ok(())
     }
 }

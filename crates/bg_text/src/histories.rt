@@ -1,12 +1,14 @@
-//! Bytes that only clauses read.
-ghost use Rattle.std.specs.Prelude.{◌≡◌, ℕ, List, [], ◌++◌};
+//! What only clauses read.
+ghost use Rattle.std.specs.Prelude.{◌≡◌, ℕ, ◌+◌, List, [], ◌++◌, length};
 ghost use Rattle.std.specs.Borrow.{ftrue};
 
 use std::marker::Model;
 
-/// The bytes that went one way, in order. It takes no bytes itself; a clause reads them as `bytes`.
+/// What happened, in order: the bytes that went one way, or a byte as a mark for each time that something was done, so
+/// that its length says how often. It takes no memory and has no last value. A clause reads it as `bytes`; code reads
+/// nothing of it.
 #[derive(Drop)]
-pub(crate) struct History {
+pub struct History {
     pub ghost bytes: { List ℕ },
 }
 
@@ -15,17 +17,31 @@ impl Model for History {
 }
 
 impl History {
-    /// No byte yet.
-    pub(crate) fn new() -> History
+    /// Nothing yet.
+    pub fn new() -> History
         ensures { result.bytes ≡ [] }
     {
         History {}
     }
 
     /// These bytes more.
-    pub(crate) fn then(&self, _bytes: &[u8]) -> History
+    pub fn then(&self, _bytes: &[u8]) -> History
         ensures { result.bytes ≡ self.now.bytes ++ _bytes.now }
     {
         History {}
+    }
+
+    /// Once more.
+    pub fn marked(&self) -> History
+        ensures { length result.bytes ≡ length self.now.bytes + 1 }
+    {
+        self.then(&[0])
+    }
+
+    /// The same again.
+    pub fn copy(&self) -> History
+        ensures { result.bytes ≡ self.now.bytes }
+    {
+        self.then(&[])
     }
 }

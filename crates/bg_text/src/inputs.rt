@@ -18,8 +18,12 @@ use std::alloc::Global;
 /// The most bytes of an input.
 pub const MOST_BYTES: usize = 4_194_304;
 
-/// Reads all of an input, or one byte more than the limit, in at most as many reads.
-pub(crate) fn read_input<S: Source>(alloc: Global, source: &mut S) -> Result<Vec<u8>, EngineFault>
+/// Reads all of an input, up to the source's end, or 4194305 bytes of a longer one, which is one more than the limit
+/// ([`MOST_BYTES`]), in at most as many reads.
+///
+/// # Errors
+/// Read exactly where the source failed, and Memory where memory runs out. Write never comes.
+pub fn read_input<S: Source>(alloc: Global, source: &mut S) -> Result<Vec<u8>, EngineFault>
     ensures read { IfOk result (λ input. ReadsInput S.Source source.old source.new input.items) }
     ensures reads { S.reads source.new ≤ S.reads source.old + most_bytes + 1 }
     ensures failed { ReadsFailOnce result (S.failures source.old) (S.failures source.new) }
@@ -40,8 +44,9 @@ pub(crate) fn read_input<S: Source>(alloc: Global, source: &mut S) -> Result<Vec
     Ok(input)
 }
 
-/// The first line, without its line feed, and what follows it. None where nothing is left.
-pub(crate) fn split_line(input: &[u8]) -> Option<(&[u8], &[u8])>
+/// The first line of a text, without its line feed, and what follows it (docs/FORMATS.md, "The judge"). None where the
+/// text is empty. A line feed at the end opens no further line, and the last line may lack it.
+pub fn split_line(input: &[u8]) -> Option<(&[u8], &[u8])>
     ensures none { IsNone result ↔ (input.now ≡ []) }
     ensures lines { IfSome result (λ parts. lines_of input.now ≡ parts.0.now ∷ lines_of parts.1.now) }
     ensures shorter { IfSome result (λ parts. length parts.1.now < length input.now) }

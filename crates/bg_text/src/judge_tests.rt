@@ -6,7 +6,7 @@ use crate::{
 };
 use arrayvec::ArrayVec;
 use bg_board::{Board, Die, Player, Step};
-use bg_match::{Cube, Entry, Phase, Record, Standing};
+use bg_match::{Cube, Entry, Level, Phase, Record, Standing};
 use bg_turns::Turn;
 use std::alloc::Global;
 use std::io::{self, Read, Write};
@@ -302,6 +302,29 @@ fn transcript_of_a_record(rt: HostRuntime) -> Result<(), Fail> {
 }
 
 /// The standing of the first game of a match of length 3 where X is to act, with these checkers.
+/// A record that is full: an opening, offers and their replies, and an offer.
+fn full_record(alloc: Global) -> Result<Record, Fail> {
+    let mut record = Record::new(alloc, 1, 99)?;
+    record.push(Entry::Opening(Die::Three, Die::One))?;
+    for _ in 0..32767 {
+        record.push(Entry::Resigned(Level::Backgammon))?;
+        record.push(Entry::Rejected)?;
+    }
+    Ok(record)
+}
+
+#[test]
+fn transcript_of_a_full_record(rt: HostRuntime) -> Result<(), Fail> {
+    let record = full_record(rt.alloc())?;
+    assert!(rt; record.len() == 65535);
+    let text = transcript_text(rt.alloc(), &record)?;
+    assert!(rt; text.len() == 10 + 9 + 32767 * (20 + 9));
+    let judged = judge_text(rt.alloc(), &text)?;
+    assert!(rt; judged.verdict == Verdict::Fine(65535));
+    assert!(rt; judged.text.ends_with(b"X to move 3 1\nok 65535\n"));
+    Ok(())
+}
+
 fn standing_of(x: [u8; 26], o: [u8; 26]) -> Result<Standing, Fail> {
     let cube = Cube {
         value: 1,
@@ -488,6 +511,7 @@ struct Slow {
     step: usize,
     room: usize,
     flushes: bool,
+    flushed: usize,
 }
 
 impl Slow {
@@ -497,6 +521,7 @@ impl Slow {
             step,
             room,
             flushes: true,
+            flushed: 0,
         }
     }
 }
@@ -514,6 +539,7 @@ impl Write for Slow {
 
     fn flush(&mut self) -> io::Result<()> {
         if self.flushes {
+            self.flushed = self.taken.len();
             return Ok(());
         }
         Err(io::Error::other("lost"))
@@ -541,6 +567,7 @@ fn check_read(
     let found = verdict_on(rt.alloc(), reader, &mut writer);
     assert_eq!(rt; found, verdict);
     assert_eq!(rt; writer.taken.as_slice(), text);
+    assert_eq!(rt; writer.flushed, text.len());
 }
 
 #[test]

@@ -225,18 +225,18 @@ pub fn judgements_agree()
     ensures { JudgementsAgree }
 {}
 
-/// Every transcript is judged fine, with the number of its entries and the board where they lead.
+/// What is said of a transcript is that it is fine: the board where its entries lead, and how many they are.
 pub fn transcripts_are_fine()
     ensures { TranscriptsAreFine }
 {}
 
-/// Judges a transcript: reads all of the input, and writes the board and the verdict on what it read, as
+/// Judges a transcript: reads all of the input, writes the board and the verdict on what it read, and flushes them, as
 /// docs/FORMATS.md, "The judge", says. The input has at most 4194304 bytes, which take at most 4194305 reads; of a longer
-/// one 4194305 bytes are read, and it is TooLong.
+/// one 4194305 bytes are read, and it is TooLong. The sink is flushed once, at the end.
 ///
 /// # Errors
 /// Read exactly where the source failed, and Memory where memory runs out: nothing was written then. Write exactly where
-/// the sink failed: nothing is said of how much was written.
+/// the sink failed, as it was written to or flushed: nothing is said of how much went out.
 pub fn judge<S: Source, T: Sink>(
     alloc: Global,
     source: &mut S,
@@ -249,6 +249,7 @@ pub fn judge<S: Source, T: Sink>(
     ensures untaken { IfErr result (λ _. T.taken sink.new ≡ T.taken sink.old) }
     ensures unwritten { IfErr result (λ fault. fault ≢ EngineFault.Write → sink.new ≡ sink.old) }
     ensures reads { S.reads source.new ≤ S.reads source.old + most_bytes + 1 }
+    ensures flushes { T.flushes sink.new ≤ T.flushes sink.old + 1 }
     ensures source { SourceFails result (S.failures source.old) (S.failures source.new) }
     ensures sink { SinkFails result (T.failures sink.old) (T.failures sink.new) }
 {
@@ -256,5 +257,6 @@ pub fn judge<S: Source, T: Sink>(
     let judgement = judge_text(alloc, &input).map_err(|_| EngineFault::Memory)?;
     sink.write_all(&judgement.text)
         .map_err(|_| EngineFault::Write)?;
+    sink.flush().map_err(|_| EngineFault::Write)?;
     Ok(judgement.verdict)
 }

@@ -2,7 +2,6 @@
 #![tactic(auto)]
 
 mod board_texts;
-mod counts;
 mod devices;
 mod faults;
 mod histories;
@@ -22,13 +21,15 @@ mod words;
 mod writing;
 
 pub use board_texts::board_text;
-pub use devices::{DeviceFailure, Reading, Sink, Source, Writing};
+pub use devices::{Reading, Sink, Source, StreamFault, Writing};
 pub use faults::TextFault;
-pub use inputs::MOST_BYTES;
+pub use histories::History;
+pub use inputs::{MOST_BYTES, read_input, split_line};
 pub use judging::{Judgement, judge, judge_text, judgements_agree, transcripts_are_fine};
 pub use lines::{parse_action, parse_entry};
 pub use printing::{push_number, push_text};
 pub use reasons::reason_text;
 pub use transcripts::transcript_text;
 pub use verdicts::{EngineFault, Verdict};
+pub use words::thirds;
 pub use writing::{entry_text, entry_texts_differ};

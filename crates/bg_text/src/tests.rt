@@ -1,10 +1,14 @@
 //! Lines of each kind, lines of each fault, and the words of refusals.
-use crate::{TextFault, entry_text, parse_action, parse_entry, reason_text};
+use crate::{
+    EngineFault, StreamFault, TextFault, entry_text, parse_action, parse_entry, reason_text,
+};
 use arrayvec::ArrayVec;
 use bg_board::{Die, Player, Step};
 use bg_match::{Action, Entry, EntryFault, Level, NoDouble};
 use bg_turns::{Dice, Turn, TurnFault};
+use std::fmt::Display;
 use std::process::Abort;
+use std::test::Fail;
 
 fn turn(rt: &impl Abort, steps: &[(u8, u8)]) -> Turn {
     let mut list = ArrayVec::new();
@@ -206,4 +210,26 @@ fn refusals_of_lines_in_words(rt: HostRuntime) {
     ] {
         assert_eq!(rt; fault.reason(), words);
     }
+}
+
+/// A fault is printed so.
+fn check_printed<T: Display + Drop>(
+    rt: &(impl AllocGlobal + Abort),
+    fault: T,
+    words: &str,
+) -> Result<(), Fail> {
+    let text = format!(in rt.alloc(); "{fault}")?;
+    assert_eq!(rt; text.as_str(), words);
+    Ok(())
+}
+
+#[test]
+fn faults_are_printed(rt: HostRuntime) -> Result<(), Fail> {
+    check_printed(&rt, StreamFault, "the device failed")?;
+    check_printed(&rt, EngineFault::Read, "the input could not be read")?;
+    check_printed(&rt, EngineFault::Write, "the output could not be written")?;
+    check_printed(&rt, EngineFault::Memory, "out of memory")?;
+    check_printed(&rt, TextFault::NotALine, "not a line")?;
+    check_printed(&rt, TextFault::BadNumber, "bad number")?;
+    check_printed(&rt, TextFault::TooManySteps, "too many steps")
 }

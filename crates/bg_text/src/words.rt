@@ -78,3 +78,21 @@ pub(crate) fn halves(text: &[u8], separator: u8) -> Option<(&[u8], &[u8])>
         Some(_) => None,
     }
 }
+
+/// The three pieces of a text around its only two separators. None where it has more separators, or fewer.
+pub fn thirds(text: &[u8], separator: u8) -> Option<(&[u8], &[u8], &[u8])>
+    ensures { MatchOption result
+        ((first second third : List ℕ)
+        → slice_split (λ byte. byte == separator) text.now ≡ first ∷ second ∷ third ∷ [] → ⊥)
+        (λ parts. slice_split (λ byte. byte == separator) text.now
+        ≡ parts.0.now ∷ parts.1.now ∷ parts.2.now ∷ []) }
+{
+    let mut pieces = Pieces::new(text, separator);
+    let first = pieces.next_piece()?;
+    let second = pieces.next_piece()?;
+    let third = pieces.next_piece()?;
+    match pieces.next_piece() {
+        None => Some((first, second, third)),
+        Some(_) => None,
+    }
+}
