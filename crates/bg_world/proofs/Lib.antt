@@ -4,3 +4,4 @@ pub mod Invariant
 pub mod Rows
 pub mod Growth
 pub mod Reached
+pub mod WorkedRuns

@@ -44,7 +44,7 @@ use Rattle.bg_referee.specs.declared.outcomes.TakeOutcome.TheVariants as takes
 use Rattle.bg_party.specs.Claims.{CanClaim, claim_number}
 use Rattle.bg_party.specs.declared.outcomes.Learned.{Learned}
 use Rattle.bg_party.specs.declared.outcomes.Learned.TheVariants as learns
-use Rattle.bg_wire.specs.Restoring.{IsOfMatch}
+use Rattle.bg_wire.specs.Restoring.{IsSavedBy}
 use Rattle.bg_world.specs.declared.events.Event.{Event}
 use Rattle.bg_world.specs.declared.events.Event.TheVariants as events
 use Rattle.bg_world.specs.declared.events.Outcome.{Outcome}
@@ -286,10 +286,10 @@ restores_referee w slots restorable up inv ok p q = referee_steps w (restored_re
       answered = λ i e s h g. inv.referee.answered i e s (prefix_get (entries_in restorable) w.referee.log i e q h) (subst (λ (l : List Entry). ActsAfter w.terms l (Seat s)) (prefix_before (entries_in restorable) w.referee.log i e q h) g);
     }
 
-pub referee_of : (w : State) → IsOfMatch 0 w.id w.terms (to_save_referee w)
+pub referee_of : (w : State) → IsSavedBy 0 w.id w.terms (to_save_referee w)
 referee_of w = record { party = refl; id = refl; terms = refl }
 
-pub seat_of : (w : State) (q : Player) → IsOfMatch (party_of q) w.id w.terms (to_save_seat w.id w.terms q (seat w q))
+pub seat_of : (w : State) (q : Player) → IsSavedBy (party_of q) w.id w.terms (to_save_seat w.id w.terms q (seat w q))
 seat_of w q = record { party = refl; id = refl; terms = refl }
 
 saves_referee : (w : State) (slots : Slots) (restorable : Option SavedParts) → Inv w → SaveWritten (to_save_referee w) w.referee.slots slots restorable → Inv (record w { referee = record (w.referee) { saved = length w.referee.log; slots = slots; restorable = restorable } })

@@ -2,8 +2,8 @@
 use Rattle.std.proofs.Common.{◌≡◌, ◌⊎◌, inl, inr, ℕ, Option, Some, None, List, [], ◌∷◌, ◌++◌, refl, sym, ◌∙◌, ap, subst, arith}
 use Rattle.std.proofs.lemmas.List.{append-nil}
 use Rattle.bg_match.specs.Terms.{Terms}
-use Rattle.bg_wire.specs.Restoring.{IsOfMatch, SlotsRestore}
-use Rattle.bg_wire.specs.SavedText.{SavedParts, IsSavedText}
+use Rattle.bg_wire.specs.Restoring.{IsSavedBy, SlotsRestore}
+use Rattle.bg_wire.specs.SavedText.{SavedParts, IsWrittenText}
 use Rattle.bg_wire.specs.Saves.{slot_of}
 use Rattle.bg_wire.specs.SlotLaws.{Slots, bytes_in, with_slot, AreOfMatch, AreWritten, IsSaveAfter}
 use Rattle.bg_wire.specs.declared.slots.Slot.{Slot}
@@ -31,12 +31,12 @@ module _ (id : ℕ) (terms : Terms) (party : ℕ) (slots : Slots) (restorable : 
   of_match_stays (Some p) k bytes of next = of
 
   follows : (p : SavedParts) (text : List ℕ) → SlotsOk id terms party slots restorable → p.save ≡ next_number restorable
-      → IsSavedText p text → IsSaveAfter slots restorable p text
+      → IsWrittenText p text → IsSaveAfter slots restorable p text
   follows p text ok next spelled = record { written = ok.written; next = omega arith; spelled = spelled }
 
   -- the text of the next save was written
-  whole : (p : SavedParts) (text : List ℕ) → SlotsOk id terms party slots restorable → IsOfMatch party id terms p
-      → p.save ≡ next_number restorable → IsSavedText p text
+  whole : (p : SavedParts) (text : List ℕ) → SlotsOk id terms party slots restorable → IsSavedBy party id terms p
+      → p.save ≡ next_number restorable → IsWrittenText p text
       → SlotsOk id terms party (with_slot slots (slot_of p.save) text) (Some p)
   whole p text ok of next spelled =
       record { written = written_restores slots restorable p text (follows p text ok next spelled); of_match = of }
@@ -50,14 +50,14 @@ module _ (id : ℕ) (terms : Terms) (party : ℕ) (slots : Slots) (restorable : 
 
   -- a save that was written is restored
   pub after_whole : (p : SavedParts) (new : Slots) (after : Option SavedParts) → SlotsOk id terms party slots restorable
-      → IsOfMatch party id terms p → p.save ≡ next_number restorable → SaveWritten p slots new after
+      → IsSavedBy party id terms p → p.save ≡ next_number restorable → SaveWritten p slots new after
       → SlotsOk id terms party new after × (after ≡ Some p)
   after_whole p new after ok of next w =
       settled new after (Some p) w.after.restore
       (subst (λ (x : Slots). SlotsOk id terms party x (Some p)) (sym w.after.slots) (whole p w.text ok of next w.is_text))
 
-  torn_to : (p : SavedParts) (text left : List ℕ) → SlotsOk id terms party slots restorable → IsOfMatch party id terms p
-      → p.save ≡ next_number restorable → IsSavedText p text → IsTorn (bytes_in slots (slot_of p.save)) text left
+  torn_to : (p : SavedParts) (text left : List ℕ) → SlotsOk id terms party slots restorable → IsSavedBy party id terms p
+      → p.save ≡ next_number restorable → IsWrittenText p text → IsTorn (bytes_in slots (slot_of p.save)) text left
       → (after : Option SavedParts) × SlotsOk id terms party (with_slot slots (slot_of p.save) left) after
       × ((after ≡ restorable) ⊎ (after ≡ Some p))
   torn_to p text left ok of next spelled (inl e) =
@@ -69,9 +69,9 @@ module _ (id : ℕ) (terms : Terms) (party : ℕ) (slots : Slots) (restorable : 
       at_front : (rest : List ℕ) → left ++ rest ≡ text
           → (after : Option SavedParts) × SlotsOk id terms party (with_slot slots (slot_of p.save) left) after
           × ((after ≡ restorable) ⊎ (after ≡ Some p))
-      at_front [] e = (Some p, whole p left ok of next (subst (IsSavedText p) (sym e ∙ append-nil left) spelled), inr refl)
+      at_front [] e = (Some p, whole p left ok of next (subst (IsWrittenText p) (sym e ∙ append-nil left) spelled), inr refl)
       at_front (b ∷ rest) e =
-          let cut = subst (IsSavedText p) (sym e) spelled in (
+          let cut = subst (IsWrittenText p) (sym e) spelled in (
             restorable,
             record {
               written = torn_restores slots restorable p left (b ∷ rest) (follows p (left ++ b ∷ rest) ok next cut) (λ n. cc);
@@ -82,7 +82,7 @@ module _ (id : ℕ) (terms : Terms) (party : ℕ) (slots : Slots) (restorable : 
 
   -- after a save that was not written the slots restore what they did, or it
   pub after_torn : (p : SavedParts) (new : Slots) (after : Option SavedParts) → SlotsOk id terms party slots restorable
-      → IsOfMatch party id terms p → p.save ≡ next_number restorable → SaveTorn p slots new after
+      → IsSavedBy party id terms p → p.save ≡ next_number restorable → SaveTorn p slots new after
       → SlotsOk id terms party new after × ((after ≡ restorable) ⊎ (after ≡ Some p))
   after_torn p new after ok of next w =
       let left = torn_to p w.text w.left ok of next w.is_text w.torn in

@@ -3,7 +3,7 @@ use Rattle.std.specs.Prelude.{◌≡◌, ◌⊎◌, ℕ, suc, Option, Some, None
 use Rattle.bg_match.specs.declared.actions.Action.{Action}
 use Rattle.bg_match.specs.declared.entries.Entry.{Entry}
 use Rattle.bg_wire.specs.Restoring.{SlotsRestore}
-use Rattle.bg_wire.specs.SavedText.{SavedParts, IsSavedText}
+use Rattle.bg_wire.specs.SavedText.{SavedParts, IsWrittenText}
 use Rattle.bg_wire.specs.Saves.{slot_of}
 use Rattle.bg_wire.specs.SlotLaws.{Slots, bytes_in, with_slot, save_in}
 
@@ -39,13 +39,13 @@ pub record AfterWrite (old : Slots) (save : ℕ) (bytes : List ℕ) (new : Slots
 -- a save that was written: its text stands in its slot
 pub record SaveWritten (p : SavedParts) (old new : Slots) (restorable : Option SavedParts) : Type 0 where
   pub text : List ℕ
-  pub is_text : IsSavedText p text
+  pub is_text : IsWrittenText p text
   pub after : AfterWrite old p.save text new restorable
 
 -- a save that was not written: its slot is as it was, or has a front of the text
 pub record SaveTorn (p : SavedParts) (old new : Slots) (restorable : Option SavedParts) : Type 0 where
   pub text : List ℕ
-  pub is_text : IsSavedText p text
+  pub is_text : IsWrittenText p text
   pub left : List ℕ
   pub torn : IsTorn (bytes_in old (slot_of p.save)) text left
   pub after : AfterWrite old p.save left new restorable
