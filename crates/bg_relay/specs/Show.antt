@@ -61,7 +61,7 @@ IsBoardOf (Some saved) text =
     (t : State) × StandsAt saved.terms saved.entries t × (text ≡ board_text t)
 
 -- what `show` prints of two files, and whether one of them holds a saved text
-pub record IsShown (file0 file1 text : List ℕ) (loads : Bool) : Type 0 where
+pub record IsShowText (file0 file1 text : List ℕ) (loads : Bool) : Type 0 where
   pub zero : Result SavedParts LoadFault
   pub one : Result SavedParts LoadFault
   pub board : List ℕ

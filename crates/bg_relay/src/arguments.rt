@@ -3,11 +3,15 @@
 use clap::{Arg, Command, Error};
 use std::alloc::Global;
 
+/// The version that `--version` prints.
+const VERSION: &str = "0.1.0";
+
 /// The program's commands, with their help.
 pub(crate) fn command<'a>(alloc: Global) -> Result<Command<'a>, Error> {
     Ok(
         Command::new(alloc, "bg_relay")
             .about("A backgammon match relay, proved")
+            .version(VERSION)
             .subcommand_required(true)
             .arg_required_else_help(true)
             .subcommand(judge_command(alloc))?

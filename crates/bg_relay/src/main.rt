@@ -2,119 +2,140 @@
 #![tactic(auto)]
 
 mod arguments;
+mod endings;
+mod files;
 mod showing;
 #[cfg(test)]
 mod tests;
 
 use arguments::command;
-use bg_text::{Reading, Verdict, Writing, judge};
-use bg_wire::LONGEST_SAVED_TEXT;
+use bg_text::{EngineFault, Reading, Writing, judge};
+use clap::ArgMatches;
 use clap::error::ErrorKind;
+use endings::Ending;
+use files::{read_saved, write_text};
 use showing::show_text;
+use std::fmt::Display;
 use std::fs::File;
 use std::io;
-use std::io::{Read, Write};
 use std::process::ExitCode;
 use std::rt::Files;
 
-/// The most bytes that are read of a saved file: one more than the longest saved text has.
-const MOST_SAVED_BYTES: u64 = LONGEST_SAVED_TEXT as u64 + 1;
+/// The message where there is no memory.
+const NO_MEMORY: &str = "out of memory";
 
-fn main(rt: HostRuntime) -> anyhow::Result<ExitCode> {
-    let words: Vec<String> = match std::env::args(&rt) {
-        Ok(words) => words.collect(rt.alloc())?,
+fn main(rt: HostRuntime) -> ExitCode {
+    ExitCode::from(run(&rt).status())
+}
+
+/// Runs the command that the arguments name.
+fn run(rt: &HostRuntime) -> Ending {
+    let words: Vec<String> = match std::env::args(rt) {
+        Ok(words) => match words.collect(rt.alloc()) {
+            Ok(words) => words,
+            Err(_) => return failed(rt, NO_MEMORY),
+        },
         Err(error) if error.kind() == io::ErrorKind::InvalidData => {
-            eprintln!(rt; "bg_relay: an argument is not valid UTF-8")?;
-            return Ok(ExitCode::from(2));
+            return wrong(rt, "an argument is not valid UTF-8");
         }
-        Err(error) => return Err(error.into()),
+        Err(error) => return failed(rt, error),
     };
-    let matches = match command(rt.alloc())?.try_get_matches_from(words.as_slice()) {
-        Ok(matches) => matches,
-        Err(error) => return refuse(&rt, &error),
+    let Ok(command) = command(rt.alloc()) else {
+        return failed(rt, NO_MEMORY);
     };
-    if let Some(files) = matches.subcommand_matches("show") {
-        let file0 = files.get_str("FILE0").unwrap_or_default();
-        let file1 = files.get_str("FILE1").unwrap_or_default();
-        return Ok(run_show(&rt, file0, file1)?);
+    match command.try_get_matches_from(words.as_slice()) {
+        Ok(matches) => run_command(rt, &matches),
+        Err(error) => answer(rt, &error),
     }
-    Ok(run_judge(&rt)?)
 }
 
-/// Prints help, or what is wrong with the arguments: status 0 or 2, and 1 where memory ran out.
-fn refuse(rt: &(impl Print + Eprint), error: &clap::Error) -> anyhow::Result<ExitCode> {
+/// Says on the standard error what is wrong. Where that cannot be written, there is nobody to tell.
+fn say<D: Display + Drop>(rt: &impl Eprint, message: D) {
+    let _ = eprintln!(rt; "bg_relay: {message}");
+}
+
+/// Reading, writing or memory failed.
+fn failed<D: Display + Drop>(rt: &impl Eprint, message: D) -> Ending {
+    say(rt, message);
+    Ending::Failed
+}
+
+/// The arguments are refused.
+fn wrong<D: Display + Drop>(rt: &impl Eprint, message: D) -> Ending {
+    say(rt, message);
+    Ending::WrongArguments
+}
+
+/// Prints help or the version, or what is wrong with the arguments.
+fn answer(rt: &(impl Print + Eprint), error: &clap::Error) -> Ending {
     if let ErrorKind::OutOfMemory = error.kind() {
-        eprintln!(rt; "bg_relay: out of memory")?;
-        return Ok(ExitCode::from(1));
+        return failed(rt, NO_MEMORY);
     }
-    error.print(rt)?;
-    Ok(ExitCode::from(if error.use_stderr() { 2 } else { 0 }))
+    match error.print(rt) {
+        _ if error.use_stderr() => Ending::WrongArguments,
+        Ok(()) => Ending::Told,
+        Err(error) => failed(rt, format_args!("the output could not be written: {error}")),
+    }
 }
 
-/// Judges the transcript on the standard input: status 0 where it is fine, 2 where it is refused, 1 where a device or
-/// memory failed.
-fn run_judge(rt: &(impl Input + Print + Eprint + AllocGlobal)) -> io::Result<ExitCode> {
+/// Runs a subcommand.
+fn run_command(
+    rt: &(impl Input + Files<File = File> + Print + Eprint + AllocGlobal),
+    matches: &ArgMatches<'_>,
+) -> Ending {
+    match matches.subcommand() {
+        Some(("judge", _)) => run_judge(rt),
+        Some(("show", files)) => {
+            let file0 = files.get_str("FILE0").unwrap_or_default();
+            let file1 = files.get_str("FILE1").unwrap_or_default();
+            if file0.is_empty() || file1.is_empty() {
+                return wrong(rt, "the name of a file is empty");
+            }
+            run_show(rt, file0, file1)
+        }
+        _ => wrong(rt, "no such command"),
+    }
+}
+
+/// Judges the transcript on the standard input.
+fn run_judge(rt: &(impl Input + Print + Eprint + AllocGlobal)) -> Ending {
     let mut input = Reading::new(rt.reader());
     let mut output = Writing::new(io::writer(rt));
     match judge(rt.alloc(), &mut input, &mut output) {
-        Ok(Verdict::Fine(_)) => Ok(ExitCode::SUCCESS),
-        Ok(Verdict::Refused(_) | Verdict::TooLong) => Ok(ExitCode::from(2)),
-        Err(fault) => {
-            eprintln!(rt; "bg_relay: {fault}")?;
-            Ok(ExitCode::from(1))
-        }
+        Ok(verdict) => Ending::Judged(verdict),
+        Err(EngineFault::Read) => failed_for(rt, EngineFault::Read, input.error()),
+        Err(EngineFault::Write) => failed_for(rt, EngineFault::Write, output.error()),
+        Err(EngineFault::Memory) => failed(rt, EngineFault::Memory),
     }
 }
 
-/// Shows two saved files: status 0 where one of them loads, 2 where none does, 1 where a device or memory failed.
+/// Reading or writing failed, for this reason if it is known.
+fn failed_for(rt: &impl Eprint, fault: EngineFault, reason: Option<&io::Error>) -> Ending {
+    match reason {
+        Some(reason) => failed(rt, format_args!("{fault}: {reason}")),
+        None => failed(rt, fault),
+    }
+}
+
+/// Shows two saved files.
 fn run_show(
     rt: &(impl Files<File = File> + Print + Eprint + AllocGlobal),
     path0: &str,
     path1: &str,
-) -> io::Result<ExitCode> {
-    let Some(file0) = read_saved(rt, path0)? else {
-        return Ok(ExitCode::from(1));
+) -> Ending {
+    let file0 = match read_saved(rt, path0) {
+        Ok(file0) => file0,
+        Err(error) => return failed(rt, format_args!("{path0} could not be read: {error}")),
     };
-    let Some(file1) = read_saved(rt, path1)? else {
-        return Ok(ExitCode::from(1));
+    let file1 = match read_saved(rt, path1) {
+        Ok(file1) => file1,
+        Err(error) => return failed(rt, format_args!("{path1} could not be read: {error}")),
     };
     let Ok((text, loads)) = show_text(rt.alloc(), &file0, &file1) else {
-        eprintln!(rt; "bg_relay: out of memory")?;
-        return Ok(ExitCode::from(1));
+        return failed(rt, NO_MEMORY);
     };
-    if io::writer(rt).write_all(&text).is_err() {
-        eprintln!(rt; "bg_relay: the output could not be written")?;
-        return Ok(ExitCode::from(1));
+    match write_text(rt, &text) {
+        Ok(()) => Ending::Shown { loads },
+        Err(error) => failed(rt, format_args!("the output could not be written: {error}")),
     }
-    Ok(ExitCode::from(if loads { 0 } else { 2 }))
-}
-
-/// The bytes of a saved file, none where it is missing. Prints why it cannot be read.
-fn read_saved(
-    rt: &(impl Files<File = File> + Eprint + AllocGlobal),
-    path: &str,
-) -> io::Result<Option<Vec<u8>>> {
-    match read_bytes(rt, path) {
-        Ok(bytes) => Ok(Some(bytes)),
-        Err(error) => {
-            eprintln!(rt; "bg_relay: {path} could not be read: {error}")?;
-            Ok(None)
-        }
-    }
-}
-
-/// The bytes of a file, as far as a saved text goes, and none where it is missing.
-fn read_bytes(rt: &(impl Files<File = File> + AllocGlobal), path: &str) -> io::Result<Vec<u8>> {
-    let mut bytes = Vec::new(rt.alloc());
-    match File::open(rt, path) {
-        Ok(file) => {
-            file.take(MOST_SAVED_BYTES).read_to_end(&mut bytes)?;
-        }
-        Err(error) => {
-            if error.kind() != io::ErrorKind::NotFound {
-                return Err(error);
-            }
-        }
-    }
-    Ok(bytes)
 }

@@ -3,7 +3,7 @@ ghost use Rattle.std.specs.Prelude.{◌≡◌, ◌++◌, ℕ, List, Some, IfOk, 
 ghost use Rattle.std.specs.Fmt.{decimal};
 ghost use Rattle.bg_text.specs.BoardText.{line_text};
 ghost use Rattle.bg_wire.specs.SavedText.{parts_of};
-ghost use Rattle.bg_relay.specs.Show.{IsHeld, IsShown, IsBoardOf, claim_part as part_of_claim, fault_part as part_of_fault, file_line, held_of, held_part, match_part, newer_of, save_part};
+ghost use Rattle.bg_relay.specs.Show.{IsHeld, IsShowText, IsBoardOf, claim_part as part_of_claim, fault_part as part_of_fault, file_line, held_of, held_part, match_part, newer_of, save_part};
 
 use bg_match::{Action, Number};
 use bg_text::{board_text, push_number, push_text};
@@ -19,7 +19,7 @@ type Held = Result<Saved, LoadFault>;
 /// # Errors
 /// AllocError where memory runs out.
 pub fn show_text(alloc: Global, file0: &[u8], file1: &[u8]) -> Result<(Vec<u8>, bool), AllocError>
-    ensures { IfOk result (λ shown. IsShown file0.now file1.now shown.0.items shown.1) }
+    ensures { IfOk result (λ shown. IsShowText file0.now file1.now shown.0.items shown.1) }
 {
     let zero = hold(alloc, file0)?;
     let one = hold(alloc, file1)?;

@@ -1,0 +1,27 @@
+-- The exit status of the program.
+use Rattle.std.specs.Prelude.{ℕ, true, false}
+use Rattle.bg_text.specs.declared.verdicts.Verdict.TheVariants.{Fine, Refused, TooLong}
+use Rattle.bg_relay.specs.declared.endings.Ending.{Ending}
+use Rattle.bg_relay.specs.declared.endings.Ending.TheVariants.{Told, WrongArguments, Judged, Shown, Failed}
+
+-- the command was done, and has nothing to refuse
+abbrev pub done : ℕ
+done = 0
+
+-- reading, writing or memory failed
+abbrev pub failed : ℕ
+failed = 1
+
+-- the arguments, the transcript or both of the files are refused
+abbrev pub refused : ℕ
+refused = 2
+
+abbrev pub status_of : Ending → ℕ
+status_of Told = done
+status_of WrongArguments = refused
+status_of (Judged (Fine entries)) = done
+status_of (Judged (Refused line)) = refused
+status_of (Judged TooLong) = refused
+status_of (Shown true) = done
+status_of (Shown false) = refused
+status_of Failed = failed

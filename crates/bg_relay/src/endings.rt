@@ -1,0 +1,44 @@
+//! What a command came to, and the exit status that says so.
+ghost use Rattle.std.specs.Prelude.{◌≡◌};
+ghost use Rattle.bg_relay.specs.Ending.{status_of};
+
+use bg_text::Verdict;
+
+/// The status of a command that was done, and has nothing to refuse.
+pub const DONE: u8 = 0;
+
+/// The status where reading, writing or memory failed.
+pub const FAILED: u8 = 1;
+
+/// The status where the arguments, the transcript or both of the files are refused.
+pub const REFUSED: u8 = 2;
+
+/// What a command came to.
+#[derive(Clone, Copy, Debug, PartialEq, Eq)]
+pub enum Ending {
+    /// Help or the version was asked for, and printed.
+    Told,
+    /// The arguments are refused. Nothing was done.
+    WrongArguments,
+    /// A transcript was judged.
+    Judged(Verdict),
+    /// Two saved files were shown; whether one of them loads.
+    Shown { loads: bool },
+    /// Reading, writing or memory failed.
+    Failed,
+}
+
+impl Ending {
+    /// The exit status: [`DONE`], [`FAILED`] or [`REFUSED`].
+    pub fn status(self) -> u8
+        ensures { result ≡ status_of self }
+    {
+        match self {
+            Ending::Told | Ending::Judged(Verdict::Fine(_)) | Ending::Shown { loads: true } => DONE,
+            Ending::Failed => FAILED,
+            Ending::WrongArguments
+            | Ending::Judged(Verdict::Refused(_) | Verdict::TooLong)
+            | Ending::Shown { loads: false } => REFUSED,
+        }
+    }
+}

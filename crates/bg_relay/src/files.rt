@@ -1,0 +1,32 @@
+//! Saved files, and the standard output.
+use bg_wire::LONGEST_SAVED_TEXT;
+use std::fs::File;
+use std::io;
+use std::io::{Read, Write};
+use std::rt::Files;
+
+/// The most bytes that are read of a saved file: one more than the longest saved text has.
+const MOST_SAVED_BYTES: u64 = LONGEST_SAVED_TEXT as u64 + 1;
+
+/// The bytes of a saved file, as far as a saved text goes, and none where it is missing.
+pub(crate) fn read_saved(
+    rt: &(impl Files<File = File> + AllocGlobal),
+    path: &str,
+) -> io::Result<Vec<u8>> {
+    let mut bytes = Vec::new(rt.alloc());
+    match File::open(rt, path) {
+        Ok(file) => {
+            file.take(MOST_SAVED_BYTES).read_to_end(&mut bytes)?;
+        }
+        Err(error) if error.kind() == io::ErrorKind::NotFound => {}
+        Err(error) => return Err(error),
+    }
+    Ok(bytes)
+}
+
+/// Writes a text to the standard output.
+pub(crate) fn write_text(rt: &impl Print, text: &[u8]) -> io::Result<()> {
+    let mut output = io::writer(rt);
+    output.write_all(text)?;
+    output.flush()
+}
