@@ -1,5 +1,5 @@
 -- What a seat claims, and what followers send.
-use Rattle.std.specs.Prelude.{◌≡◌, ℕ, ◌+◌, ◌<◌, ◌≤◌, false, nat_lt, Option, Some, None, List, [], ◌∷◌, ◌++◌, length, Result, Ok, Err, IsOk, IfSome, ◌↔◌, if◌then◌else◌, ◌&&◌}
+use Rattle.std.specs.Prelude.{◌≡◌, ℕ, ◌+◌, ◌<◌, ◌≤◌, false, nat_lt, Option, Some, None, List, length, Result, Ok, Err, IsOk, IfSome, ◌↔◌, if◌then◌else◌, ◌&&◌}
 use Rattle.bg_match.specs.Terms.{Terms}
 use Rattle.bg_board.specs.declared.dice.Die.TheVariants.{One}
 use Rattle.bg_board.specs.declared.players.Player.{Player}
@@ -8,7 +8,7 @@ use Rattle.bg_match.specs.declared.actions.Action.{Action}
 use Rattle.bg_match.specs.declared.entries.Entry.{Entry}
 use Rattle.bg_match.specs.declared.phases.Actor.TheVariants.{Seat}
 use Rattle.bg_match.specs.Answers.{Answers}
-use Rattle.bg_match.specs.Match.{Log, ActsAfter, IsLegalRecord, IsRecordFault, IsNext}
+use Rattle.bg_match.specs.Match.{Log, ActsAfter, IsRecordFault, IsNext}
 use Rattle.bg_wire.specs.PacketText.{IsPacket}
 use Rattle.bg_wire.specs.Parties.{party_of}
 use Rattle.bg_wire.specs.declared.packets.Packet.{Packet}

@@ -3,7 +3,7 @@ use Rattle.std.specs.Prelude.{◌≡◌, ◌≢◌, ℕ, ◌+◌, ◌-◌, ◌<�
 use Rattle.bg_match.specs.Terms.{Terms}
 use Rattle.bg_match.specs.declared.entries.Entry.{Entry}
 use Rattle.bg_match.specs.Match.{Log, IsLegalRecord, at_number}
-use Rattle.bg_wire.specs.PacketText.{id_of}
+use Rattle.bg_wire.specs.PacketText.{IsOfMatch}
 use Rattle.bg_wire.specs.Runs.{IsRun}
 use Rattle.bg_wire.specs.SavedText.{IsFirstIllegal}
 use Rattle.bg_wire.specs.declared.packets.Packet.{Packet}
@@ -51,12 +51,16 @@ Teaches f start list learned.Memory =
 Teaches f start list (learned.Grew k) =
     Extends f.log.terms f.log.entries start list × (k ≡ length (new_entries f.log.entries start list))
 
--- what a packet teaches; only entries of this match do
+-- what a packet of this match teaches; only entries do
+abbrev pub TeachesWithin : FollowerView → Packet → Learned → Type 0
+TeachesWithin f (packet.Want id sender held) l = l ≡ learned.Nothing
+TeachesWithin f (packet.Claim id sender number action) l = l ≡ learned.Nothing
+TeachesWithin f (packet.Entries id start list) l = Teaches f start list l
+
+-- what a packet teaches
 abbrev pub Learns : FollowerView → Packet → Learned → Type 0
-Learns f p learned.OtherMatch = id_of p ≢ f.log.id
-Learns f (packet.Entries id start list) l = (id ≡ f.log.id) × Teaches f start list l
-Learns f (packet.Want id sender held) l = (id ≡ f.log.id) × (l ≡ learned.Nothing)
-Learns f (packet.Claim id sender number action) l = (id ≡ f.log.id) × (l ≡ learned.Nothing)
+Learns f p learned.OtherMatch = IsOfMatch f.log.id p → ⊥
+Learns f p l = IsOfMatch f.log.id p × TeachesWithin f p l
 
 -- the follower whose record has the new entries of the packet, and this much spare room
 abbrev pub grown : FollowerView → Packet → ℕ → FollowerView

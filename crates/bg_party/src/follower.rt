@@ -87,14 +87,12 @@ impl Follower {
         ensures after { IsAfter self.old packet.now result self.new }
         ensures follower { IsFollower self.new }
     {
+        if packet.id() != self.log.id() {
+            return Learned::OtherMatch;
+        }
         match packet {
-            Packet::Entries { id, start, list } if *id == self.log.id() => {
-                self.learn(*start, list.entries.as_slice())
-            }
-            Packet::Want { id, .. } | Packet::Claim { id, .. } if *id == self.log.id() => {
-                Learned::Nothing
-            }
-            _ => Learned::OtherMatch,
+            Packet::Entries { start, list, .. } => self.learn(*start, list.entries.as_slice()),
+            Packet::Want { .. } | Packet::Claim { .. } => Learned::Nothing,
         }
     }
 

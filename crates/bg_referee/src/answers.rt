@@ -32,16 +32,18 @@ impl Referee {
         ensures replies { Replies self.old word (reply_to self.old actor packet.now) result self.new }
         ensures fits { AnswerFits result }
     {
+        if packet.id() != self.log.id() {
+            return TakeOutcome::OtherMatch;
+        }
         match packet {
-            Packet::Want { id, sender, held } if *id == self.log.id() => self.want(*sender, *held),
+            Packet::Want { sender, held, .. } => self.want(*sender, *held),
             Packet::Claim {
-                id,
                 sender,
                 number,
                 action,
-            } if *id == self.log.id() => self.claim(actor, *sender, *number, action, word),
-            Packet::Entries { id, .. } if *id == self.log.id() => TakeOutcome::Nothing,
-            _ => TakeOutcome::OtherMatch,
+                ..
+            } => self.claim(actor, *sender, *number, action, word),
+            Packet::Entries { .. } => TakeOutcome::Nothing,
         }
     }
 

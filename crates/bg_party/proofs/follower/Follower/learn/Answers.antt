@@ -1,6 +1,5 @@
-use Rattle.std.proofs.Common.{◌≡◌, List, length, sym, ◌∙◌, subst, arith}
+use Rattle.std.proofs.Common.{◌≡◌, length, sym, ◌∙◌, arith}
 use Rattle.std.proofs.lemmas.Bool.Decides.{nat_tests}
-use Rattle.bg_match.specs.declared.entries.Entry.{Entry}
 use Rattle.bg_party.specs.Views.{FollowerView}
 use Rattle.bg_party.specs.Learns.{Appends, Extends}
 use Rattle.bg_party.proofs.Growing.{grows, nothing_in, something_in}

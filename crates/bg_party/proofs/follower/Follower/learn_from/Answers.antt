@@ -1,5 +1,6 @@
-use Rattle.std.proofs.Common.{◌≡◌, ◌∙◌, subst, List}
+use Rattle.std.proofs.Common.{◌≡◌, ◌∙◌, subst, sym, ap, List}
 use Rattle.bg_match.specs.declared.entries.Entry.{Entry}
+use Rattle.bg_wire.specs.PacketText.{id_of}
 use Rattle.bg_party.specs.Views.{FollowerView}
 use Rattle.bg_party.specs.Learns.{Teaches}
 use Rattle.bg_party.proofs.Holding.{learns_entries}
@@ -9,4 +10,6 @@ pub returns-in-Entries-clause-learns : goal.returns-in-Entries-clause-learns
 returns-in-Entries-clause-learns c =
     let f : FollowerView = record { log = c.self.inside.log } in
     let list : c.as_slice.result.now ≡ c.in-Entries.list = c.as_slice.ensures.value ∙ c.list.view_is in
-    rw (c.in-Entries.is, ← c.self.view_is) (learns_entries f c.in-Entries.id c.in-Entries.start c.in-Entries.list c.learn.result (c.if-id.true ∙ c.id.ensures) (subst (λ (l : List Entry). Teaches f c.in-Entries.start l c.learn.result) list (rw (← c.self.view_is) at c.learn.ensures.teaches)))
+    let same : c.in-Entries.id ≡ c.self.inside.log.id =
+    sym (ap id_of c.in-Entries.is) ∙ sym c.id.ensures ∙ c.if-id.false ∙ c.id-2.ensures in
+    rw (c.in-Entries.is, ← c.self.view_is) (learns_entries f c.in-Entries.id c.in-Entries.start c.in-Entries.list c.learn.result same (subst (λ (l : List Entry). Teaches f c.in-Entries.start l c.learn.result) list (rw (← c.self.view_is) at c.learn.ensures.teaches)))
