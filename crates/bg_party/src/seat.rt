@@ -192,7 +192,8 @@ impl Seat {
         )
     }
 
-    /// The next save was written: the claim is saved. `save` is the number that `to_save` gave.
+    /// The next save was written: the claim is saved. `save` is the number that `to_save` gave, and no other call may
+    /// come between the two (docs/PROTOCOL.md, "Saving").
     pub fn mark_saved(&mut self, save: u32)
         requires { save ≡ self.old.next_save }
         ensures { self.new ≡ seat_after_save self.old save }

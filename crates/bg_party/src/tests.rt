@@ -11,7 +11,7 @@ use arrayvec::ArrayVec;
 use bg_board::{Die, Player, Step};
 use bg_match::{Action, Entry, EntryFault, LengthFault, Number};
 use bg_turns::{Turn, TurnFault};
-use bg_wire::{FIRST_WATCHER, Packet, SaveRefusal, Slot, decode};
+use bg_wire::{FIRST_WATCHER, Packet, SEAT_OF_X, SaveRefusal, Slot, decode, restore};
 use std::alloc::Global;
 use std::test::Fail;
 
@@ -213,6 +213,46 @@ fn after_the_opening(alloc: Global, player: Player) -> Result<Seat, Fail> {
         return Err(Fail::from("no opening"));
     }
     Ok(seat)
+}
+
+/// The seat of X that goes on from these bytes in slot 1, where they are a saved text of match 1.
+fn resumed(alloc: Global, bytes: &[u8]) -> Option<Seat> {
+    match restore(alloc, &[], bytes, SEAT_OF_X, 1, 1) {
+        Ok(Some(saved)) => Some(Seat::resume(alloc, saved)),
+        _ => None,
+    }
+}
+
+/// Whether a seat that goes on from the first save has its record and its claim, which it sends and does not make again.
+fn goes_on_from_the_first_save(alloc: Global) -> bool {
+    let Some(mut seat) = resumed(alloc, &FIRST_SAVE) else {
+        return false;
+    };
+    holds_the_opening(&seat)
+        && has_the_claim(&seat)
+        && sends_the_claim(&mut seat)
+        && claims_a_roll(&mut seat) == Err(ChooseFault::AlreadyClaimed)
+}
+
+/// Whether a seat that goes on from the last save keeps all that it has, and saves no more.
+fn goes_on_from_the_last_save(alloc: Global) -> bool {
+    let mut last = FIRST_SAVE;
+    last[14..18].copy_from_slice(&[0xFF; 4]);
+    match resumed(alloc, &last) {
+        Some(seat) => {
+            size_of_save(&seat) == Err(SaveRefusal::SavesSpent)
+                && holds_the_opening(&seat)
+                && has_the_claim(&seat)
+        }
+        None => false,
+    }
+}
+
+#[test]
+fn resumes(rt: HostRuntime) -> Result<(), Fail> {
+    assert!(rt; goes_on_from_the_first_save(rt.alloc()));
+    assert!(rt; goes_on_from_the_last_save(rt.alloc()));
+    Ok(())
 }
 
 #[test]

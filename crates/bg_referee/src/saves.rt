@@ -21,7 +21,8 @@ impl Referee {
         next_save(self.alloc, self.last_save, REFEREE, &None, &self.log)
     }
 
-    /// The next save was written: all that is held is saved. `save` is the number that `to_save` gave.
+    /// The next save was written: all that is held is saved. `save` is the number that `to_save` gave, and no other call may
+    /// come between the two (docs/PROTOCOL.md, "Saving").
     pub fn mark_saved(&mut self, save: u32)
         requires { save ≡ self.old.next_save }
         ensures { self.new ≡ referee_after_save self.old save }

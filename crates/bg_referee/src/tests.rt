@@ -8,7 +8,7 @@ use arrayvec::ArrayVec;
 use bg_board::{Die, Step};
 use bg_match::{Entry, EntryFault, LengthFault, Number};
 use bg_turns::{Dice, Turn, TurnFault};
-use bg_wire::{Packet, SaveRefusal, Slot, decode};
+use bg_wire::{Packet, REFEREE, SaveRefusal, Slot, decode, restore};
 use std::alloc::Global;
 use std::test::Fail;
 
@@ -420,6 +420,47 @@ fn saves(rt: HostRuntime) -> Result<(), Fail> {
     assert!(rt; save(&mut referee) == Ok((Slot::Zero, 2)));
     assert!(rt; referee.saved() == 2);
     assert!(rt; save(&mut referee) == Ok((Slot::One, 3)));
+    Ok(())
+}
+
+/// The referee that goes on from these bytes in slot 0, where they are a saved text of match 1.
+fn resumed(alloc: Global, bytes: &[u8]) -> Option<Referee> {
+    match restore(alloc, bytes, &[], REFEREE, 1, 1) {
+        Ok(Some(saved)) => Some(Referee::resume(alloc, saved)),
+        _ => None,
+    }
+}
+
+/// Whether a referee that goes on from the second save has saved all of it, and saves it again as the third.
+fn goes_on_from_the_second_save(alloc: Global) -> bool {
+    let mut third = SECOND_SAVE;
+    third[17] = 3;
+    match resumed(alloc, &SECOND_SAVE) {
+        Some(referee) => {
+            referee.saved() == 2
+                && referee.held().len() == 2
+                && is_next_save(&referee, Slot::One, 3, &third) == Ok(true)
+        }
+        None => false,
+    }
+}
+
+/// Whether a referee that goes on from the last save keeps all that it has, and saves no more.
+fn goes_on_from_the_last_save(alloc: Global) -> bool {
+    let mut last = SECOND_SAVE;
+    last[14..18].copy_from_slice(&[0xFF; 4]);
+    match resumed(alloc, &last) {
+        Some(referee) => {
+            size_of_save(&referee) == Err(SaveRefusal::SavesSpent) && referee.held().len() == 2
+        }
+        None => false,
+    }
+}
+
+#[test]
+fn resumes(rt: HostRuntime) -> Result<(), Fail> {
+    assert!(rt; goes_on_from_the_second_save(rt.alloc()));
+    assert!(rt; goes_on_from_the_last_save(rt.alloc()));
     Ok(())
 }
 
