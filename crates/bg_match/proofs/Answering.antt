@@ -1,5 +1,5 @@
 -- The entries that answer actions.
-use Rattle.std.proofs.Common.{◌≡◌, ◌≢◌, ◌++◌, ◌∷◌, [], ℕ, List, Option, Some, None, refl, sym, ◌∙◌, ap, subst}
+use Rattle.std.proofs.Common.{◌≡◌, ◌++◌, ◌∷◌, [], List, Option, sym, ◌∙◌, ap, subst}
 use Rattle.std.specs.List.{AllByRecursion}
 use Rattle.bg_match.specs.Terms.{Terms}
 use Rattle.bg_turns.specs.declared.throws.Dice.{Dice}
@@ -9,7 +9,7 @@ use Rattle.bg_match.specs.declared.entries.Entry.{Entry}
 use Rattle.bg_match.specs.declared.entries.Entry.TheVariants as entry
 use Rattle.bg_match.specs.Answers.{Answers, CanAnswer, IsAnswer}
 use Rattle.bg_match.specs.Entry.{IsEntry, IsAction}
-use Rattle.bg_match.specs.Match.{IsLegalRecord, IsNext}
+use Rattle.bg_match.specs.Match.{IsNext}
 use Rattle.bg_match.proofs.Legal.{entries_in_range}
 
 -- a roll that is answered has dice

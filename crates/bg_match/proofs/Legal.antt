@@ -1,5 +1,5 @@
 -- The laws of legal records and of the entries that answer actions.
-use Rattle.std.proofs.Common.{◌≡◌, ◌↔◌, ℕ, ◌≤◌, Option, Some, None, List, [], ◌∷◌, ◌++◌, length, length-append, refl, sym, ◌∙◌, ap, subst, arith}
+use Rattle.std.proofs.Common.{◌≡◌, ◌↔◌, ◌≤◌, Option, Some, None, List, [], ◌∷◌, ◌++◌, length, length-append, refl, sym, ◌∙◌, ap, subst, arith}
 use Rattle.std.specs.List.{AllByRecursion}
 use Rattle.bg_match.specs.Terms.{Terms}
 use Rattle.bg_board.specs.declared.players.Player.{Player}
@@ -13,7 +13,7 @@ use Rattle.bg_match.specs.Entry.{IsEntry, IsOpening}
 use Rattle.bg_match.specs.State.{State, start_of}
 use Rattle.bg_match.specs.Follows.{Follows, CanFollow, phase_back}
 use Rattle.bg_match.specs.declared.phases.Actor.{Actor}
-use Rattle.bg_match.specs.Match.{Leads, IsLegalRecord, ActsAfter, IsNext}
+use Rattle.bg_match.specs.Match.{Leads, ActsAfter, IsNext}
 use Rattle.bg_match.specs.Laws.{HasLegalFronts, HasOneStanding, HasEntriesInRange, OpensByReferee, OpensWithoutSeat, RollsAnyDice}
 use Rattle.bg_match.proofs.PlayableTurns.{legal_in_range}
 use Rattle.bg_match.proofs.Runs.{Follows-same, Leads-push}

@@ -19,7 +19,7 @@ use Rattle.bg_match.specs.declared.entries.EntryFault.{EntryFault}
 use Rattle.bg_match.specs.declared.entries.EntryFault.TheVariants as fault
 use Rattle.std.specs.Prelude.{Result, Ok, Err, IfOk, IfErr}
 use Rattle.bg_match.specs.Terms.{Terms}
-use Rattle.bg_match.specs.Match.{Leads, StandsAt, IsLegalRecord, IsRecordFault, IsNext}
+use Rattle.bg_match.specs.Match.{Leads, StandsAt, IsRecordFault, IsNext}
 
 phase_back-player : (p q : Player) (a b : Option Dice) → phase_back p a ≡ phase_back q b → p ≡ q
 phase_back-player p q None None h = cc
