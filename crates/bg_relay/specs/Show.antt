@@ -5,18 +5,17 @@ use Rattle.bg_match.specs.Match.{StandsAt}
 use Rattle.bg_match.specs.State.{State}
 use Rattle.bg_match.specs.declared.actions.Action.{Action}
 use Rattle.bg_text.specs.BoardText.{line_text, board_text}
-use Rattle.bg_wire.specs.SavedText.{SavedParts, IsSavedText, IsIllegalAt, parts_of}
-use Rattle.bg_wire.specs.SavedReading.{layout_of}
+use Rattle.bg_wire.specs.Faults.{IsLoadFault}
+use Rattle.bg_wire.specs.SavedText.{SavedParts, IsSavedText, parts_of}
 use Rattle.bg_wire.specs.declared.saves.Saved.{Saved}
 use Rattle.bg_wire.specs.declared.faults.LoadFault.{LoadFault}
 use Rattle.bg_wire.specs.declared.faults.LoadFault.TheVariants.{Short, Magic, Field, Extra, Illegal, Memory}
 
--- what a file holds: a saved text, or the first fault of its bytes
+-- what a file holds: a saved text, or the fault of its bytes
 abbrev pub IsHeld : List ℕ → Result SavedParts LoadFault → Type 0
 IsHeld bytes (Ok saved) = IsSavedText saved bytes
-IsHeld bytes (Err (Illegal n)) = IsIllegalAt n bytes
 IsHeld bytes (Err Memory) = ⊥
-IsHeld bytes (Err why) = layout_of bytes ≡ Err why
+IsHeld bytes (Err why) = IsLoadFault why bytes
 
 abbrev pub fault_part : LoadFault → List ℕ
 fault_part Short = codes "short"

@@ -20,7 +20,7 @@ use Rattle.bg_wire.specs.Codes.{opening_code, rolled_code, doubled_code, taken_c
 use Rattle.bg_wire.specs.Reading.{◌>>=◌, Cursor, Read, u8_at, many_at, with}
 use Rattle.bg_wire.specs.EntryText.{step_bytes, turn_bytes, level_code, dice_bytes, action_bytes, entry_bytes}
 use Rattle.bg_wire.specs.EntryReading.{step_at, turn_at, level_of_code, level_at, die_at, dice_at, action_of, action_at, entry_of, entry_at}
-use Rattle.bg_wire.proofs.Laws.{Law, Then, Nothing, Mapped, Each, Choice, HasText, has_mapped, has_choice, has_each, then_law, done_law, with_law, other_text, many_law, choice_law}
+use Rattle.bg_wire.proofs.Laws.{OneByte, Law, Then, Nothing, Mapped, Each, Choice, HasText, has_mapped, has_choice, has_each, then_law, done_law, with_law, other_text, many_law, choice_law}
 use Rattle.bg_wire.proofs.Fields.{Byte, has_byte, byte_law}
 
 -- what is in its ranges has this text
@@ -54,7 +54,7 @@ step_from s front h = (
   h.1,
 )
 
-pub step_law : Law step_at (Spells IsDownward step_bytes)
+pub step_law : Law OneByte step_at (Spells IsDownward step_bytes)
 unfolding step_at
 step_law = other_text _ step_to step_from
     (then_law (u8_at lowest_start bar) (λ from c. with (step_of from) (u8_at 0 (from - 1) c)) (byte_law lowest_start bar)
@@ -100,12 +100,12 @@ counted_from : {A : Type 0} (low high : ℕ) (Valid : A → Type 0) (text : A �
 counted_from low high Valid text xs front h =
     (length xs, length xs ∷ [], flat_map text xs, (h.0.0, h.0.1, refl), each_from Valid text (length xs) xs (flat_map text xs) refl h.0.2 refl, h.1)
 
-pub counted_law : {A : Type 0} (low high : ℕ) (Valid : A → Type 0) (text : A → List ℕ) (one : Cursor → Read A) → Law one (Spells Valid text) → HasText (Spells Valid text)
-    → Law (λ c. u8_at low high c >>= λ n. many_at one n.0 n.1) (Spells (IsCounted low high Valid) (counted_text text))
+pub counted_law : {A : Type 0} (low high : ℕ) (Valid : A → Type 0) (text : A → List ℕ) (one : Cursor → Read A) → Law OneByte one (Spells Valid text) → HasText (Spells Valid text)
+    → Law OneByte (λ c. u8_at low high c >>= λ n. many_at one n.0 n.1) (Spells (IsCounted low high Valid) (counted_text text))
 counted_law low high Valid text one law some =
     other_text _ (counted_to low high Valid text) (counted_from low high Valid text) (then_law (u8_at low high) (λ n. many_at one n) (byte_law low high) (λ n. many_law one law n) (λ n first h. has_each some n))
 
-turn_law : Law turn_at (Spells IsTurn turn_bytes)
+turn_law : Law OneByte turn_at (Spells IsTurn turn_bytes)
 unfolding turn_at
 turn_law = other_text _ (λ t front h. (record { few = h.0.1; each = h.0.2 }, h.1)) (λ t front h. ((omega arith, h.0.few, h.0.each), h.1)) (counted_law 0 most_steps IsDownward step_bytes step_at step_law has_step)
 
@@ -124,7 +124,7 @@ module _ {A : Type 0} (low high : ℕ) (named : ℕ → A) (code : A → ℕ) (t
   code_from : (x : A) (front : List ℕ) → Spells Always code_text x front → Mapped named (Byte low high) x front
   code_from x front h = (code x, ((from x).0, (from x).1, h.1), (from x).2)
 
-  code_law : Law (λ c. with named (u8_at low high c)) (Spells Always code_text)
+  code_law : Law OneByte (λ c. with named (u8_at low high c)) (Spells Always code_text)
   code_law = other_text _ code_to code_from (with_law named (u8_at low high) (byte_law low high))
 
 level_named : (n : ℕ) → normal_code ≤ n → n ≤ backgammon_code → level_code (level_of_code n) ≡ n
@@ -142,7 +142,7 @@ level_in_range Backgammon = (omega arith, omega arith, refl)
 abbrev level_text : Level → List ℕ
 level_text l = level_code l ∷ []
 
-level_law : Law level_at (Spells Always level_text)
+level_law : Law OneByte level_at (Spells Always level_text)
 unfolding level_at
 level_law = code_law normal_code backgammon_code level_of_code level_code level_named level_in_range
 
@@ -170,7 +170,7 @@ die_in_range Six = (omega arith, omega arith, refl)
 abbrev die_text : Die → List ℕ
 die_text d = pips d ∷ []
 
-die_law : Law die_at (Spells Always die_text)
+die_law : Law OneByte die_at (Spells Always die_text)
 unfolding die_at
 die_law = code_law least_pips most_pips die_of pips die_named die_in_range
 
@@ -194,7 +194,7 @@ dice_to d front h =
 dice_from : (d : Dice) (front : List ℕ) → Spells Always throw_text d front → DiceParts d front
 dice_from d front h = (d.first, die_text d.first, die_text d.second, (tt, refl), (d.second, (tt, refl), refl), h.1)
 
-dice_law : Law dice_at (Spells Always throw_text)
+dice_law : Law OneByte dice_at (Spells Always throw_text)
 unfolding dice_at
 dice_law = other_text _ dice_to dice_from (then_law die_at (λ first c. with (dice_of first) (die_at c)) die_law (λ first. with_law (dice_of first) die_at die_law) (λ first text h. has_mapped (dice_of first) has_die))
 
@@ -223,7 +223,7 @@ ActionRest code =
     (Choice (code == accepted_code) (Nothing action.Accept)
     (Nothing action.Reject)))))))
 
-action_rest_law : (code : ℕ) → Law (action_of code) (ActionRest code)
+action_rest_law : (code : ℕ) → Law OneByte (action_of code) (ActionRest code)
 unfolding action_of
 action_rest_law code =
     choice_law (code == rolled_code) (λ c. Ok (action.Roll, c)) _ (done_law action.Roll)
@@ -276,7 +276,7 @@ action_from (action.Resign l) front h = (7, 7 ∷ [], level_text l, (omega arith
 action_from action.Accept front h = (8, 8 ∷ [], [], (omega arith, omega arith, refl), (refl, refl), h.1)
 action_from action.Reject front h = (9, 9 ∷ [], [], (omega arith, omega arith, refl), (refl, refl), h.1)
 
-pub action_law : Law action_at (Spells IsAction action_bytes)
+pub action_law : Law OneByte action_at (Spells IsAction action_bytes)
 unfolding action_at
 action_law = other_text _ action_to action_from (then_law (u8_at rolled_code rejected_code) action_of (byte_law rolled_code rejected_code) action_rest_law (λ code first h. has_action_rest code))
 
@@ -300,7 +300,7 @@ EntryRest code =
     (Choice (code == accepted_code) (Nothing entry.Accepted)
     (Nothing entry.Rejected))))))))
 
-entry_rest_law : (code : ℕ) → Law (entry_of code) (EntryRest code)
+entry_rest_law : (code : ℕ) → Law OneByte (entry_of code) (EntryRest code)
 unfolding entry_of
 entry_rest_law code =
     choice_law (code == opening_code) (λ c. with opening_of (dice_at c)) _ (with_law opening_of dice_at dice_law)
@@ -356,7 +356,7 @@ entry_from (entry.Resigned l) front h = (7, 7 ∷ [], level_text l, (omega arith
 entry_from entry.Accepted front h = (8, 8 ∷ [], [], (omega arith, omega arith, refl), (refl, refl), h.1)
 entry_from entry.Rejected front h = (9, 9 ∷ [], [], (omega arith, omega arith, refl), (refl, refl), h.1)
 
-pub entry_law : Law entry_at (Spells IsEntry entry_bytes)
+pub entry_law : Law OneByte entry_at (Spells IsEntry entry_bytes)
 unfolding entry_at
 entry_law = other_text _ entry_to entry_from (then_law (u8_at opening_code rejected_code) entry_of (byte_law opening_code rejected_code) entry_rest_law (λ code first h. has_entry_rest code))
 

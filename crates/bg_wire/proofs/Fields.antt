@@ -1,5 +1,5 @@
 -- The law of each field.
-use Rattle.std.proofs.Common.{◌≡◌, ◌≢◌, ℕ, ◌+◌, ◌^◌, ◌<◌, ◌≤◌, Bool, true, false, cond, List, [], ◌∷◌, ◌++◌, length, take, drop, Result, Ok, Err, refl, sym, ap, subst, ◌∙◌, arith, inl, inr}
+use Rattle.std.proofs.Common.{◌≡◌, ◌≢◌, ℕ, zero, suc, ◌+◌, ◌^◌, ◌<◌, ◌≤◌, Bool, true, false, cond, List, [], ◌∷◌, ◌++◌, length, take, drop, Result, Ok, Err, refl, sym, ap, subst, ◌∙◌, arith, inl, inr}
 use Rattle.std.specs.Prelude.{nat_lt, ◌||◌}
 use Rattle.std.specs.Int.{w16, w32, w64, from_be_bytes, to_be_bytes}
 use Rattle.std.proofs.lemmas.Bool.{cases_lt, ltb-false, ltb-true, lt-ltb, le-ltb}
@@ -8,8 +8,8 @@ use Rattle.std.proofs.lemmas.Nat.{be_bytes_2, be_bytes_4, be_bytes_8, from_be_by
 use Rattle.bg_wire.specs.declared.reader.ReadFault.{ReadFault}
 use Rattle.bg_wire.specs.declared.reader.ReadFault.TheVariants.{Short, Field}
 use Rattle.bg_wire.specs.Reading.{Cursor, is_outside, byte_of, u8_at, number_at, u16_at, u32_at, u64_at}
-use Rattle.bg_wire.specs.Texts.{IsCut}
-use Rattle.bg_wire.proofs.Laws.{IsBytes, longer, Grows, HasText, cursor, FailsAt, Law, other_text, ok_is}
+use Rattle.bg_wire.specs.Texts.{GoesOn}
+use Rattle.bg_wire.proofs.Laws.{IsBytes, longer, Grows, HasText, cursor, Single, OneByte, FailsAt, CutAt, Law, other_text, other_fields, ok_is}
 
 IsBytes-take : (n : ℕ) (bytes : List ℕ) → IsBytes bytes → IsBytes (take n bytes)
 IsBytes-take n bytes h i =
@@ -61,9 +61,9 @@ Grows-guard more false n x d = refl
 abbrev pub Byte : ℕ → ℕ → ℕ → List ℕ → Type 0
 Byte low high x front = (low ≤ x) × (x ≤ high) × (front ≡ x ∷ [])
 
-pub byte_law : (low high : ℕ) → Law (u8_at low high) (Byte low high)
+pub one_byte : (low high : ℕ) → Law (Single 1) (u8_at low high) (Byte low high)
 unfolding u8_at
-byte_law low high = record {
+one_byte low high = record {
   takes = λ c. takes c.at c.rest;
   again = λ c x front rest text e. (
     record { at = c.at + 1; rest = rest },
@@ -84,7 +84,10 @@ byte_law low high = record {
         let here : (front : List ℕ) × Byte low high b front × (b ∷ bytes ≡ front ++ bytes) × (at + 1 ≡ at + length front) = (b ∷ [], (in_range.0, in_range.1, refl), refl, refl) in
         subst (λ (p : ℕ × Cursor). (front : List ℕ) × Byte low high p.0 front × (b ∷ bytes ≡ front ++ (p.1).rest) × ((p.1).at ≡ at + length front)) (ok_is _ _ g.1) here
 
-    fails : (at : ℕ) (bytes : List ℕ) (n : ℕ) → HasText (Byte low high) → byte_of low high at bytes ≡ Err (Field n) → FailsAt (λ c. byte_of low high c.at c.rest) (Byte low high) (cursor at bytes) n
+    begins : HasText (Byte low high) → GoesOn (Byte low high) []
+    begins some = (some.0, some.1, some.2, λ none. let e = some.2.2 in absurd (cc (e, none)))
+
+    fails : (at : ℕ) (bytes : List ℕ) (n : ℕ) → HasText (Byte low high) → byte_of low high at bytes ≡ Err (Field n) → FailsAt (Single 1) (λ c. byte_of low high c.at c.rest) (Byte low high) (cursor at bytes) n
     fails at [] n some e = absurd cc
     fails at (b ∷ bytes) n some e =
         let g = guard_err (is_outside low high b) (Field at) (Field n) (b, record { at = at + 1; rest = bytes }) e in
@@ -95,18 +98,21 @@ byte_law low high = record {
           behind = bytes;
           split = refl;
           offset = omega (arith, same);
-          small = omega arith;
-          begins = some;
+          whole = (refl, refl);
+          begins = begins some;
           already = rw g.0 (ap (λ (i : ℕ). Err (Field i)) same);
         }
 
-    cuts : (at : ℕ) (bytes : List ℕ) → HasText (Byte low high) → byte_of low high at bytes ≡ Err Short → IsCut (Byte low high) bytes
-    cuts at [] some e = record { before = []; part = []; split = refl; small = omega arith; begins = some }
+    cuts : (at : ℕ) (bytes : List ℕ) → HasText (Byte low high) → byte_of low high at bytes ≡ Err Short → CutAt (Single 1) (Byte low high) bytes
+    cuts at [] some e = record { before = []; part = []; width = 1; split = refl; small = omega arith; whole = (refl, refl); begins = begins some }
     cuts at (b ∷ bytes) some e = absurd (not_short (is_outside low high b) at (b, record { at = at + 1; rest = bytes }) e)
 
     grows : (at : ℕ) (bytes : List ℕ) (more : List ℕ) → Grows more (byte_of low high at bytes) (byte_of low high at (bytes ++ more))
     grows at [] more = tt
     grows at (b ∷ bytes) more = Grows-guard more (is_outside low high b) at b (record { at = at + 1; rest = bytes })
+
+pub byte_law : (low high : ℕ) → Law OneByte (u8_at low high) (Byte low high)
+byte_law low high = other_fields (u8_at low high) (λ before w h. h.1) (one_byte low high)
 
 pub has_byte : (low high : ℕ) → low ≤ high → HasText (Byte low high)
 has_byte low high le = (low, low ∷ [], (omega arith, le, refl))
@@ -117,8 +123,11 @@ abbrev Spelled : ℕ → (ℕ → List ℕ) → (ℕ → Bool) → ℕ → List 
 Spelled limit bytes_of is_wrong n front = (is_wrong n ≡ false) × (n < limit) × (front ≡ bytes_of n)
 
 module _ (size limit : ℕ) (value_of : List ℕ → ℕ) (bytes_of : ℕ → List ℕ) (is_wrong : ℕ → Bool) (len : (n : ℕ) → length (bytes_of n) ≡ size)
-    (spelled : (bytes : List ℕ) → length bytes ≡ size → IsBytes bytes → (value_of bytes < limit) × (bytes_of (value_of bytes) ≡ bytes)) (valued : (n : ℕ) → n < limit → value_of (bytes_of n) ≡ n) (short : size ≤ 8) (small : (n : ℕ) → is_wrong n ≡ true → size ≤ 4) where
-  number_law : Law (number_at size value_of is_wrong) (Spelled limit bytes_of is_wrong)
+    (spelled : (bytes : List ℕ) → length bytes ≡ size → IsBytes bytes → (value_of bytes < limit) × (bytes_of (value_of bytes) ≡ bytes)) (valued : (n : ℕ) → n < limit → value_of (bytes_of n) ≡ n) (wide : 1 ≤ size) where
+  spelled_begins : HasText (Spelled limit bytes_of is_wrong) → GoesOn (Spelled limit bytes_of is_wrong) []
+  spelled_begins some = (some.0, some.1, some.2, λ none. let e = ap length some.2.2 in let l = len some.0 in absurd (omega (arith, e, l, wide, ap length none)))
+
+  number_law : Law (Single size) (number_at size value_of is_wrong) (Spelled limit bytes_of is_wrong)
   number_law = record {
     takes = λ c n d fits e.
         let front = take size c.rest in
@@ -158,8 +167,8 @@ module _ (size limit : ℕ) (value_of : List ℕ → ℕ) (bytes_of : ℕ → Li
           behind = drop size c.rest;
           split = sym (take-append-drop size c.rest);
           offset = omega (arith, same);
-          small = omega (arith, small (value_of front) g.0, len_is);
-          begins = some;
+          whole = (refl, len_is);
+          begins = spelled_begins some;
           already = rw (whole, again, g.0) (ap (λ (i : ℕ). Err (Field i)) same);
         };
     cuts = λ c some fits e.
@@ -167,7 +176,7 @@ module _ (size limit : ℕ) (value_of : List ℕ → ℕ) (bytes_of : ℕ → Li
         let is : nat_lt (length c.rest) size ≡ true =
         guard_short (nat_lt (length c.rest) size) _ (not_short (is_wrong (value_of front)) c.at (value_of front, record { at = c.at + size; rest = drop size c.rest })) e in
         let few : length c.rest < size = ltb-true _ _ is in
-        record { before = []; part = c.rest; split = refl; small = omega (arith, few, short); begins = some };
+        record { before = []; part = c.rest; width = size; split = refl; small = few; whole = (refl, refl); begins = spelled_begins some };
   }
 
 abbrev pub Number : ℕ → ℕ → ℕ → List ℕ → Type 0
@@ -179,11 +188,11 @@ has_number low high le fits = (low, to_be_bytes w16 low, (omega arith, le, omega
 two_bytes : (bytes : List ℕ) → length bytes ≡ 2 → IsBytes bytes → (from_be_bytes w16 bytes < 2 ^ 16) × (to_be_bytes w16 (from_be_bytes w16 bytes) ≡ bytes)
 two_bytes bytes len fits = (omega (arith, fits 0, fits 1), be_bytes_2 bytes (from_be_bytes w16 bytes) len fits refl)
 
-pub u16_law : (low high : ℕ) → Law (u16_at low high) (Number low high)
+pub u16_law : (low high : ℕ) → Law (Single 2) (u16_at low high) (Number low high)
 unfolding u16_at
 u16_law low high =
     other_text _ (λ n front h. let r = inside low high n h.0 in (r.0, r.1, h.1, h.2)) (λ n front h. (is_inside low high n h.0 h.1, h.2, h.3))
-    (number_law 2 (2 ^ 16) (from_be_bytes w16) (to_be_bytes w16) (is_outside low high) (λ n. refl) two_bytes from_be_bytes-to_be_bytes_2 (omega arith) (λ n e. omega arith))
+    (number_law 2 (2 ^ 16) (from_be_bytes w16) (to_be_bytes w16) (is_outside low high) (λ n. refl) two_bytes from_be_bytes-to_be_bytes_2 (omega arith))
 
 abbrev pub Long : ℕ → ℕ → ℕ → List ℕ → Type 0
 Long low high n front = (low ≤ n) × (n ≤ high) × (n < 2 ^ 32) × (front ≡ to_be_bytes w32 n)
@@ -194,11 +203,11 @@ has_long low high le fits = (low, to_be_bytes w32 low, (omega arith, le, omega a
 four_bytes : (bytes : List ℕ) → length bytes ≡ 4 → IsBytes bytes → (from_be_bytes w32 bytes < 2 ^ 32) × (to_be_bytes w32 (from_be_bytes w32 bytes) ≡ bytes)
 four_bytes bytes len fits = (omega (arith, fits 0, fits 1, fits 2, fits 3), be_bytes_4 bytes (from_be_bytes w32 bytes) len fits refl)
 
-pub u32_law : (low high : ℕ) → Law (u32_at low high) (Long low high)
+pub u32_law : (low high : ℕ) → Law (Single 4) (u32_at low high) (Long low high)
 unfolding u32_at
 u32_law low high =
     other_text _ (λ n front h. let r = inside low high n h.0 in (r.0, r.1, h.1, h.2)) (λ n front h. (is_inside low high n h.0 h.1, h.2, h.3))
-    (number_law 4 (2 ^ 32) (from_be_bytes w32) (to_be_bytes w32) (is_outside low high) (λ n. refl) four_bytes from_be_bytes-to_be_bytes_4 (omega arith) (λ n e. omega arith))
+    (number_law 4 (2 ^ 32) (from_be_bytes w32) (to_be_bytes w32) (is_outside low high) (λ n. refl) four_bytes from_be_bytes-to_be_bytes_4 (omega arith))
 
 abbrev pub Word : ℕ → List ℕ → Type 0
 Word n front = (n < 2 ^ 64) × (front ≡ to_be_bytes w64 n)
@@ -209,8 +218,61 @@ has_word = (0, to_be_bytes w64 0, (omega arith, refl))
 eight_bytes : (bytes : List ℕ) → length bytes ≡ 8 → IsBytes bytes → (from_be_bytes w64 bytes < 2 ^ 64) × (to_be_bytes w64 (from_be_bytes w64 bytes) ≡ bytes)
 eight_bytes bytes len fits = (omega (arith, fits 0, fits 1, fits 2, fits 3, fits 4, fits 5, fits 6, fits 7), be_bytes_8 bytes (from_be_bytes w64 bytes) len fits refl)
 
-pub u64_law : Law u64_at Word
+pub u64_law : Law (Single 8) u64_at Word
 unfolding u64_at
 u64_law =
     other_text _ (λ n front h. (h.1, h.2)) (λ n front h. (refl, h.0, h.1))
-    (number_law 8 (2 ^ 64) (from_be_bytes w64) (to_be_bytes w64) (λ n. false) (λ n. refl) eight_bytes from_be_bytes-to_be_bytes_8 (omega arith) (λ n e. absurd (cc e)))
+    (number_law 8 (2 ^ 64) (from_be_bytes w64) (to_be_bytes w64) (λ n. false) (λ n. refl) eight_bytes from_be_bytes-to_be_bytes_8 (omega arith))
+
+-- ---- a number of two bytes that may be any: each of its bytes may be any
+
+module _ (high : ℕ) (all : high + 1 ≡ 2 ^ 16) where
+  bytes_with_zero : (b : ℕ) → b < 256 → IsBytes (b ∷ 0 ∷ [])
+  bytes_with_zero b fits zero = fits
+  bytes_with_zero b fits (suc zero) = omega arith
+  bytes_with_zero b fits (suc (suc i)) = omega arith
+
+  any_cut : (bytes : List ℕ) → IsBytes bytes → length bytes < 2 → CutAt OneByte (Number 0 high) bytes
+  any_cut [] fits few = record {
+    before = [];
+    part = [];
+    width = 1;
+    split = refl;
+    small = omega arith;
+    whole = refl;
+    begins = (0, to_be_bytes w16 0, (omega arith, omega arith, omega arith, refl), λ none. let n = ap length none in absurd (omega (arith, n)));
+  }
+  any_cut (b ∷ []) fits few =
+      let s = two_bytes (b ∷ 0 ∷ []) refl (bytes_with_zero b (fits 0)) in
+      record {
+        before = b ∷ [];
+        part = [];
+        width = 1;
+        split = refl;
+        small = omega arith;
+        whole = refl;
+        begins = (from_be_bytes w16 (b ∷ 0 ∷ []), 0 ∷ [], (omega arith, omega (arith, all, s.0), s.0, sym s.1), λ none. let n = ap length none in absurd (omega (arith, n)));
+      }
+  any_cut (b ∷ d ∷ more) fits few = absurd (omega (arith, few))
+
+  pub any_law : Law OneByte (u16_at 0 high) (Number 0 high)
+  unfolding u16_at
+  any_law = record {
+    takes = (u16_law 0 high).takes;
+    again = (u16_law 0 high).again;
+    grows = (u16_law 0 high).grows;
+    fails = λ c n some fits e.
+        let front = take 2 c.rest in
+        let value = from_be_bytes w16 front in
+        let long = guard_long (nat_lt (length c.rest) 2) n _ e in
+        let g = guard_err (is_outside 0 high value) (Field c.at) (Field n) (value, record { at = c.at + 2; rest = drop 2 c.rest }) long.1 in
+        let enough : 2 ≤ length c.rest = ltb-false _ _ long.0 in
+        let s = two_bytes front (omega (arith, length-take 2 c.rest)) (IsBytes-take 2 c.rest fits) in
+        let in_range : is_outside 0 high value ≡ false = is_inside 0 high value (omega arith) (omega (arith, all, s.0)) in
+        absurd (cc (g.0, in_range));
+    cuts = λ c some fits e.
+        let value = from_be_bytes w16 (take 2 c.rest) in
+        let is : nat_lt (length c.rest) 2 ≡ true =
+        guard_short (nat_lt (length c.rest) 2) _ (not_short (is_outside 0 high value) c.at (value, record { at = c.at + 2; rest = drop 2 c.rest })) e in
+        any_cut c.rest fits (ltb-true _ _ is);
+  }

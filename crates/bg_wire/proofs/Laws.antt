@@ -1,6 +1,6 @@
 -- A reader reads just its texts, more bytes change nothing but a fault Short, a fault Short comes after the front of a
 -- text, and a fault Field names where bytes stop being one. Readers in a row do so too.
-use Rattle.std.proofs.Common.{◌≡◌, ◌≢◌, ℕ, zero, suc, ◌+◌, ◌<◌, ◌≤◌, ◌⊎◌, inl, inr, Bool, true, false, cond, List, [], ◌∷◌, ◌++◌, length, get_or, Result, Ok, Err, refl, sym, ap, subst, ◌∙◌, append_assoc, arith}
+use Rattle.std.proofs.Common.{◌≡◌, ◌≢◌, ℕ, zero, suc, ◌+◌, ◌<◌, ◌⊎◌, inl, inr, Bool, true, false, cond, List, [], ◌∷◌, ◌++◌, length, get_or, Result, Ok, Err, refl, sym, ap, subst, ◌∙◌, append_assoc, arith}
 use Rattle.std.specs.Prelude.{◌==◌, IfErr}
 use Rattle.std.proofs.lemmas.Bool.{eqb-true}
 use Rattle.std.proofs.lemmas.Bool.Decides.{nat_tests}
@@ -8,7 +8,7 @@ use Rattle.std.proofs.lemmas.List.{append-nil, length-append, nil_from_length}
 use Rattle.bg_wire.specs.declared.reader.ReadFault.{ReadFault}
 use Rattle.bg_wire.specs.declared.reader.ReadFault.TheVariants.{Short, Field}
 use Rattle.bg_wire.specs.Reading.{◌>>=◌, Cursor, Read, many_at, whole_of, with}
-use Rattle.bg_wire.specs.Texts.{HasMore, ArePrefixFree, IsCut, IsWrongAt}
+use Rattle.bg_wire.specs.Texts.{HasMore, ArePrefixFree, IsCut, IsWrongAt, GoesOn}
 
 abbrev pub IsBytes : List ℕ → Type 0
 IsBytes bytes = (i : ℕ) → get_or bytes i 0 < 256
@@ -33,23 +33,50 @@ HasText {A} Text = (x : A) × (front : List ℕ) × Text x front
 abbrev pub cursor : ℕ → List ℕ → Cursor
 cursor at rest = record { at = at; rest = rest }
 
+-- which field begins behind some bytes of a text, by its width: each is a byte
+abbrev pub OneByte : List ℕ → ℕ → Type 0
+OneByte before w = w ≡ 1
+
+-- the only field
+abbrev pub Single : ℕ → List ℕ → ℕ → Type 0
+Single size before w = (before ≡ []) × (w ≡ size)
+
+-- the one that a layout says
+abbrev pub By : (List ℕ → ℕ) → List ℕ → ℕ → Type 0
+By width before w = w ≡ width before
+
 -- the field of this offset is wrong: what stands before it begins a text, and what stands behind it does not matter
-pub record FailsAt {A : Type 0} (read : Cursor → Read A) (Text : A → List ℕ → Type 0) (c : Cursor) (n : ℕ) : Type 0 where
+pub record FailsAt {A : Type 0} (F : List ℕ → ℕ → Type 0) (read : Cursor → Read A) (Text : A → List ℕ → Type 0) (c : Cursor) (n : ℕ) : Type 0 where
   pub before : List ℕ
   pub wrong : List ℕ
   pub behind : List ℕ
   pub split : c.rest ≡ before ++ (wrong ++ behind)
   pub offset : n ≡ c.at + length before
-  pub small : length wrong ≤ 4
-  pub begins : (x : A) × (rest : List ℕ) × Text x (before ++ rest)
+  pub whole : F before (length wrong)
+  pub begins : GoesOn Text before
   pub already : read (cursor c.at (before ++ wrong)) ≡ Err (Field n)
 
-pub record Law {A : Type 0} (read : Cursor → Read A) (Text : A → List ℕ → Type 0) : Type 0 where
+-- the bytes end within a field, or before one
+pub record CutAt {A : Type 0} (F : List ℕ → ℕ → Type 0) (Text : A → List ℕ → Type 0) (bytes : List ℕ) : Type 0 where
+  pub before : List ℕ
+  pub part : List ℕ
+  pub width : ℕ
+  pub split : bytes ≡ before ++ part
+  pub small : length part < width
+  pub whole : F before width
+  pub begins : GoesOn Text before
+
+pub record Law {A : Type 0} (F : List ℕ → ℕ → Type 0) (read : Cursor → Read A) (Text : A → List ℕ → Type 0) : Type 0 where
   pub takes : (c : Cursor) (x : A) (d : Cursor) → IsBytes c.rest → read c ≡ Ok (x, d) → (front : List ℕ) × Text x front × (c.rest ≡ front ++ d.rest) × (d.at ≡ c.at + length front)
   pub again : (c : Cursor) (x : A) (front rest : List ℕ) → Text x front → c.rest ≡ front ++ rest → (d : Cursor) × (d.rest ≡ rest) × (read c ≡ Ok (x, d)) × (d.at ≡ c.at + length front)
   pub grows : (c : Cursor) (more : List ℕ) → Grows more (read c) (read (longer more c))
-  pub fails : (c : Cursor) (n : ℕ) → HasText Text → IsBytes c.rest → read c ≡ Err (Field n) → FailsAt read Text c n
-  pub cuts : (c : Cursor) → HasText Text → IsBytes c.rest → read c ≡ Err Short → IsCut Text c.rest
+  pub fails : (c : Cursor) (n : ℕ) → HasText Text → IsBytes c.rest → read c ≡ Err (Field n) → FailsAt F read Text c n
+  pub cuts : (c : Cursor) → HasText Text → IsBytes c.rest → read c ≡ Err Short → CutAt F Text c.rest
+
+-- bytes with some in front are some
+pub some_first : (a b : List ℕ) → a ≢ [] → (a ++ b) ≢ []
+some_first [] b h e = h refl
+some_first (x ∷ a) b h e = absurd (cc e)
 
 -- the value of a step that did not fail
 pub bind_ok : {A B : Type 0} (r : Result A ReadFault) (f : A → Result B ReadFault) (y : B) → (r >>= f) ≡ Ok y → (x : A) × (r ≡ Ok x) × (f x ≡ Ok y)
@@ -81,11 +108,13 @@ has_then first second =
     let u = second first.0 first.1 first.2 in
     (u.0, first.1 ++ u.1, (first.0, first.1, u.1, first.2, u.2, refl))
 
-module _ {A B : Type 0} {T : A → List ℕ → Type 0} {U : A → B → List ℕ → Type 0} (one : Cursor → Read A) (two : A → Cursor → Read B) (p : Law one T) (q : (x : A) → Law (two x) (U x)) (more : (x : A) (first : List ℕ) → T x first → HasText (U x)) where
+module _ {A B : Type 0} {T : A → List ℕ → Type 0} {U : A → B → List ℕ → Type 0} {F1 : List ℕ → ℕ → Type 0} {F2 : A → List ℕ → ℕ → Type 0} (F : List ℕ → ℕ → Type 0) (one : Cursor → Read A) (two : A → Cursor → Read B)
+    (p : Law F1 one T) (q : (x : A) → Law (F2 x) (two x) (U x)) (more : (x : A) (first : List ℕ) → T x first → HasText (U x))
+    (in_first : (before : List ℕ) (w : ℕ) → F1 before w → F before w) (in_second : (x : A) (first : List ℕ) → T x first → (before : List ℕ) (w : ℕ) → F2 x before w → F (first ++ before) w) where
   abbrev both : Cursor → Read B
   both c = one c >>= λ x. two x.0 x.1
 
-  first_fails : (c : Cursor) (n : ℕ) → HasText (Then T U) → IsBytes c.rest → one c ≡ Err (Field n) → FailsAt both (Then T U) c n
+  first_fails : (c : Cursor) (n : ℕ) → HasText (Then T U) → IsBytes c.rest → one c ≡ Err (Field n) → FailsAt F both (Then T U) c n
   first_fails c n some fits e =
       let t = some.2 in
       let h = p.fails c n (t.0, t.1, t.3) fits e in
@@ -97,12 +126,12 @@ module _ {A B : Type 0} {T : A → List ℕ → Type 0} {U : A → B → List �
         behind = h.behind;
         split = h.split;
         offset = h.offset;
-        small = h.small;
-        begins = (u.0, b.1 ++ u.1, (b.0, h.before ++ b.1, u.1, b.2, u.2, sym (append_assoc h.before b.1 u.1)));
+        whole = in_first h.before (length h.wrong) h.whole;
+        begins = (u.0, b.1 ++ u.1, (b.0, h.before ++ b.1, u.1, b.2, u.2, sym (append_assoc h.before b.1 u.1)), some_first b.1 u.1 b.3);
         already = rw h.already refl;
       }
 
-  second_fails : (c : Cursor) (n : ℕ) (x : A) (d : Cursor) → IsBytes c.rest → one c ≡ Ok (x, d) → two x d ≡ Err (Field n) → FailsAt both (Then T U) c n
+  second_fails : (c : Cursor) (n : ℕ) (x : A) (d : Cursor) → IsBytes c.rest → one c ≡ Ok (x, d) → two x d ≡ Err (Field n) → FailsAt F both (Then T U) c n
   second_fails c n x d fits was e =
       let s = p.takes c x d fits was in
       let h = (q x).fails d n (more x s.0 s.1) (IsBytes-rest s.0 d.rest (subst IsBytes s.2 fits)) e in
@@ -114,12 +143,12 @@ module _ {A B : Type 0} {T : A → List ℕ → Type 0} {U : A → B → List �
         behind = h.behind;
         split = s.2 ∙ ap (λ (r : List ℕ). s.0 ++ r) h.split ∙ sym (append_assoc s.0 h.before (h.wrong ++ h.behind));
         offset = omega (arith, h.offset, s.3, length-append s.0 h.before);
-        small = h.small;
-        begins = (h.begins.0, h.begins.1, (x, s.0, h.before ++ h.begins.1, s.1, h.begins.2, append_assoc s.0 h.before h.begins.1));
+        whole = in_second x s.0 s.1 h.before (length h.wrong) h.whole;
+        begins = (h.begins.0, h.begins.1, (x, s.0, h.before ++ h.begins.1, s.1, h.begins.2, append_assoc s.0 h.before h.begins.1), h.begins.3);
         already = rw (a.2, same) h.already;
       }
 
-  first_cuts : (c : Cursor) → HasText (Then T U) → IsBytes c.rest → one c ≡ Err Short → IsCut (Then T U) c.rest
+  first_cuts : (c : Cursor) → HasText (Then T U) → IsBytes c.rest → one c ≡ Err Short → CutAt F (Then T U) c.rest
   first_cuts c some fits e =
       let t = some.2 in
       let h = p.cuts c (t.0, t.1, t.3) fits e in
@@ -129,11 +158,13 @@ module _ {A B : Type 0} {T : A → List ℕ → Type 0} {U : A → B → List �
         before = h.before;
         part = h.part;
         split = h.split;
+        width = h.width;
         small = h.small;
-        begins = (u.0, b.1 ++ u.1, (b.0, h.before ++ b.1, u.1, b.2, u.2, sym (append_assoc h.before b.1 u.1)));
+        whole = in_first h.before h.width h.whole;
+        begins = (u.0, b.1 ++ u.1, (b.0, h.before ++ b.1, u.1, b.2, u.2, sym (append_assoc h.before b.1 u.1)), some_first b.1 u.1 b.3);
       }
 
-  second_cuts : (c : Cursor) (x : A) (d : Cursor) → IsBytes c.rest → one c ≡ Ok (x, d) → two x d ≡ Err Short → IsCut (Then T U) c.rest
+  second_cuts : (c : Cursor) (x : A) (d : Cursor) → IsBytes c.rest → one c ≡ Ok (x, d) → two x d ≡ Err Short → CutAt F (Then T U) c.rest
   second_cuts c x d fits was e =
       let s = p.takes c x d fits was in
       let h = (q x).cuts d (more x s.0 s.1) (IsBytes-rest s.0 d.rest (subst IsBytes s.2 fits)) e in
@@ -141,13 +172,17 @@ module _ {A B : Type 0} {T : A → List ℕ → Type 0} {U : A → B → List �
         before = s.0 ++ h.before;
         part = h.part;
         split = s.2 ∙ ap (λ (r : List ℕ). s.0 ++ r) h.split ∙ sym (append_assoc s.0 h.before h.part);
+        width = h.width;
         small = h.small;
-        begins = (h.begins.0, h.begins.1, (x, s.0, h.before ++ h.begins.1, s.1, h.begins.2, append_assoc s.0 h.before h.begins.1));
+        whole = in_second x s.0 s.1 h.before h.width h.whole;
+        begins = (h.begins.0, h.begins.1, (x, s.0, h.before ++ h.begins.1, s.1, h.begins.2, append_assoc s.0 h.before h.begins.1), h.begins.3);
       }
 
-pub then_law : {A B : Type 0} {T : A → List ℕ → Type 0} {U : A → B → List ℕ → Type 0} (one : Cursor → Read A) (two : A → Cursor → Read B)
-    → Law one T → ((x : A) → Law (two x) (U x)) → ((x : A) (first : List ℕ) → T x first → HasText (U x)) → Law (λ c. one c >>= λ x. two x.0 x.1) (Then T U)
-then_law {A} {B} {T} {U} one two p q more = record {
+pub then_of : {A B : Type 0} {T : A → List ℕ → Type 0} {U : A → B → List ℕ → Type 0} {F1 : List ℕ → ℕ → Type 0} {F2 : A → List ℕ → ℕ → Type 0} (F : List ℕ → ℕ → Type 0) (one : Cursor → Read A) (two : A → Cursor → Read B)
+    → Law F1 one T → ((x : A) → Law (F2 x) (two x) (U x)) → ((x : A) (first : List ℕ) → T x first → HasText (U x))
+    → ((before : List ℕ) (w : ℕ) → F1 before w → F before w) → ((x : A) (first : List ℕ) → T x first → (before : List ℕ) (w : ℕ) → F2 x before w → F (first ++ before) w)
+    → Law F (λ c. one c >>= λ x. two x.0 x.1) (Then T U)
+then_of {A} {B} {T} {U} F one two p q more in_first in_second = record {
   takes = λ c y d fits e.
       let a = bind_ok (one c) (λ x. two x.0 x.1) (y, d) e in
       let s = p.takes c a.0.0 a.0.1 fits a.1 in
@@ -159,27 +194,58 @@ then_law {A} {B} {T} {U} one two p q more = record {
       (t.0, t.1, rw s.2 t.2, omega (arith, s.3, t.3, ap length text.5, length-append text.1 text.2));
   grows = λ c more. Grows-bind more (one c) (one (longer more c)) (λ x. two x.0 x.1) (p.grows c more) (λ x d. (q x).grows d more);
   fails = λ c n some fits e. elim (bind_err (one c) (λ x. two x.0 x.1) (Field n) e) [
-    | inl h ↦ first_fails one two p q more c n some fits h
-    | inr h ↦ second_fails one two p q more c n h.0.0 h.0.1 fits h.1 h.2
+    | inl h ↦ first_fails F one two p q more in_first in_second c n some fits h
+    | inr h ↦ second_fails F one two p q more in_first in_second c n h.0.0 h.0.1 fits h.1 h.2
   ];
   cuts = λ c some fits e. elim (bind_err (one c) (λ x. two x.0 x.1) Short e) [
-    | inl h ↦ first_cuts one two p q more c some fits h
-    | inr h ↦ second_cuts one two p q more c h.0.0 h.0.1 fits h.1 h.2
+    | inl h ↦ first_cuts F one two p q more in_first in_second c some fits h
+    | inr h ↦ second_cuts F one two p q more in_first in_second c h.0.0 h.0.1 fits h.1 h.2
   ];
+}
+
+-- where each field is a byte
+pub then_law : {A B : Type 0} {T : A → List ℕ → Type 0} {U : A → B → List ℕ → Type 0} (one : Cursor → Read A) (two : A → Cursor → Read B)
+    → Law OneByte one T → ((x : A) → Law OneByte (two x) (U x)) → ((x : A) (first : List ℕ) → T x first → HasText (U x)) → Law OneByte (λ c. one c >>= λ x. two x.0 x.1) (Then T U)
+then_law one two p q more = then_of OneByte one two p q more (λ before w h. h) (λ x first t before w h. h)
+
+-- the fields said in another way
+pub other_fields : {A : Type 0} {T : A → List ℕ → Type 0} {F G : List ℕ → ℕ → Type 0} (read : Cursor → Read A) → ((before : List ℕ) (w : ℕ) → F before w → G before w) → Law F read T → Law G read T
+other_fields read to law = record {
+  takes = law.takes;
+  again = law.again;
+  grows = law.grows;
+  fails = λ c n some fits e.
+      let h = law.fails c n some fits e in
+      record {
+        before = h.before;
+        wrong = h.wrong;
+        behind = h.behind;
+        split = h.split;
+        offset = h.offset;
+        whole = to h.before (length h.wrong) h.whole;
+        begins = h.begins;
+        already = h.already;
+      };
+  cuts = λ c some fits e.
+      let h = law.cuts c some fits e in
+      record { before = h.before; part = h.part; width = h.width; split = h.split; small = h.small; whole = to h.before h.width h.whole; begins = h.begins };
 }
 
 -- nothing is read, and the value is this
 abbrev pub Nothing : {A : Type 0} → A → A → List ℕ → Type 0
 Nothing x y front = (x ≡ y) × (front ≡ [])
 
-pub done_law : {A : Type 0} (x : A) → Law (λ c. Ok (x, c)) (Nothing x)
-done_law {A} x = record {
+pub done_of : {A : Type 0} (F : List ℕ → ℕ → Type 0) (x : A) → Law F (λ c. Ok (x, c)) (Nothing x)
+done_of {A} F x = record {
   takes = λ c y d fits e. let same = ok_is (x, c) (y, d) e in ([], (ap (λ (p : A × Cursor). p.0) same, refl), ap (λ (p : A × Cursor). (p.1).rest) same, omega (arith, ap (λ (p : A × Cursor). (p.1).at) same));
   again = λ c y front rest text e. (c, e ∙ ap (λ (r : List ℕ). r ++ rest) text.1, ap (λ (z : A). Ok (z, c)) text.0, omega (arith, ap length text.1));
   grows = λ c more. refl;
   fails = λ c n some fits e. absurd (cc e);
   cuts = λ c some fits e. absurd (cc e);
 }
+
+pub done_law : {A : Type 0} (x : A) → Law OneByte (λ c. Ok (x, c)) (Nothing x)
+done_law x = done_of OneByte x
 
 -- the value is read as another
 abbrev pub Mapped : {A B : Type 0} → (A → B) → (A → List ℕ → Type 0) → B → List ℕ → Type 0
@@ -188,7 +254,7 @@ Mapped {A} f T y front = (x : A) × T x front × (f x ≡ y)
 pub has_mapped : {A B : Type 0} {T : A → List ℕ → Type 0} (f : A → B) → HasText T → HasText (Mapped f T)
 has_mapped f some = (f some.0, some.1, (some.0, some.2, refl))
 
-with_fails : {A B : Type 0} {T : A → List ℕ → Type 0} (f : A → B) (read : Cursor → Read A) → Law read T → (c : Cursor) (n : ℕ) → HasText (Mapped f T) → IsBytes c.rest → read c ≡ Err (Field n) → FailsAt (λ c. with f (read c)) (Mapped f T) c n
+with_fails : {A B : Type 0} {T : A → List ℕ → Type 0} {F : List ℕ → ℕ → Type 0} (f : A → B) (read : Cursor → Read A) → Law F read T → (c : Cursor) (n : ℕ) → HasText (Mapped f T) → IsBytes c.rest → read c ≡ Err (Field n) → FailsAt F (λ c. with f (read c)) (Mapped f T) c n
 with_fails f read law c n some fits e =
     let t = some.2 in
     let h = law.fails c n (t.0, some.1, t.1) fits e in
@@ -198,12 +264,12 @@ with_fails f read law c n some fits e =
       behind = h.behind;
       split = h.split;
       offset = h.offset;
-      small = h.small;
-      begins = (f h.begins.0, h.begins.1, (h.begins.0, h.begins.2, refl));
+      whole = h.whole;
+      begins = (f h.begins.0, h.begins.1, (h.begins.0, h.begins.2, refl), h.begins.3);
       already = rw h.already refl;
     }
 
-with_cuts : {A B : Type 0} {T : A → List ℕ → Type 0} (f : A → B) (read : Cursor → Read A) → Law read T → (c : Cursor) → HasText (Mapped f T) → IsBytes c.rest → read c ≡ Err Short → IsCut (Mapped f T) c.rest
+with_cuts : {A B : Type 0} {T : A → List ℕ → Type 0} {F : List ℕ → ℕ → Type 0} (f : A → B) (read : Cursor → Read A) → Law F read T → (c : Cursor) → HasText (Mapped f T) → IsBytes c.rest → read c ≡ Err Short → CutAt F (Mapped f T) c.rest
 with_cuts f read law c some fits e =
     let t = some.2 in
     let h = law.cuts c (t.0, some.1, t.1) fits e in
@@ -211,11 +277,13 @@ with_cuts f read law c some fits e =
       before = h.before;
       part = h.part;
       split = h.split;
+      width = h.width;
       small = h.small;
-      begins = (f h.begins.0, h.begins.1, (h.begins.0, h.begins.2, refl));
+      whole = h.whole;
+      begins = (f h.begins.0, h.begins.1, (h.begins.0, h.begins.2, refl), h.begins.3);
     }
 
-pub with_law : {A B : Type 0} {T : A → List ℕ → Type 0} (f : A → B) (read : Cursor → Read A) → Law read T → Law (λ c. with f (read c)) (Mapped f T)
+pub with_law : {A B : Type 0} {T : A → List ℕ → Type 0} {F : List ℕ → ℕ → Type 0} (f : A → B) (read : Cursor → Read A) → Law F read T → Law F (λ c. with f (read c)) (Mapped f T)
 with_law {A} {B} {T} f read law = record {
   takes = λ c y d fits e.
       let a = bind_ok (read c) (λ x. Ok (f x.0, x.1)) (y, d) e in
@@ -237,7 +305,7 @@ with_law {A} {B} {T} f read law = record {
 }
 
 -- the same reader, with its texts said in another way
-pub other_text : {A : Type 0} {T U : A → List ℕ → Type 0} (read : Cursor → Read A) → ((x : A) (front : List ℕ) → T x front → U x front) → ((x : A) (front : List ℕ) → U x front → T x front) → Law read T → Law read U
+pub other_text : {A : Type 0} {T U : A → List ℕ → Type 0} {F : List ℕ → ℕ → Type 0} (read : Cursor → Read A) → ((x : A) (front : List ℕ) → T x front → U x front) → ((x : A) (front : List ℕ) → U x front → T x front) → Law F read T → Law F read U
 other_text read to from law = record {
   takes = λ c x d fits e. let s = law.takes c x d fits e in (s.0, to x s.0 s.1, s.2, s.3);
   again = λ c x front rest text e. law.again c x front rest (from x front text) e;
@@ -250,8 +318,8 @@ other_text read to from law = record {
         behind = h.behind;
         split = h.split;
         offset = h.offset;
-        small = h.small;
-        begins = (h.begins.0, h.begins.1, to h.begins.0 (h.before ++ h.begins.1) h.begins.2);
+        whole = h.whole;
+        begins = (h.begins.0, h.begins.1, to h.begins.0 (h.before ++ h.begins.1) h.begins.2, h.begins.3);
         already = h.already;
       };
   cuts = λ c some fits e.
@@ -260,8 +328,10 @@ other_text read to from law = record {
         before = h.before;
         part = h.part;
         split = h.split;
+        width = h.width;
         small = h.small;
-        begins = (h.begins.0, h.begins.1, to h.begins.0 (h.before ++ h.begins.1) h.begins.2);
+        whole = h.whole;
+        begins = (h.begins.0, h.begins.1, to h.begins.0 (h.before ++ h.begins.1) h.begins.2, h.begins.3);
       };
 }
 
@@ -274,7 +344,7 @@ pub has_choice : {A : Type 0} {T U : A → List ℕ → Type 0} (b : Bool) → H
 has_choice true some other = some
 has_choice false some other = other
 
-pub choice_law : {A : Type 0} {T U : A → List ℕ → Type 0} (b : Bool) (one two : Cursor → Read A) → Law one T → Law two U → Law (λ c. cond b (one c) (two c)) (Choice b T U)
+pub choice_law : {A : Type 0} {T U : A → List ℕ → Type 0} {F : List ℕ → ℕ → Type 0} (b : Bool) (one two : Cursor → Read A) → Law F one T → Law F two U → Law F (λ c. cond b (one c) (two c)) (Choice b T U)
 choice_law true one two p q = record { takes = p.takes; again = p.again; grows = p.grows; fails = p.fails; cuts = p.cuts }
 choice_law false one two p q = record { takes = q.takes; again = q.again; grows = q.grows; fails = q.fails; cuts = q.cuts }
 
@@ -303,7 +373,7 @@ each_to : {A : Type 0} (T : A → List ℕ → Type 0) (n : ℕ) (ys : List A) (
 each_to T n [] front h = absurd h
 each_to T n (y ∷ ys) front h = (y, h.0, h.1, h.2, (ys, h.3, refl), h.4)
 
-pub many_law : {A : Type 0} {T : A → List ℕ → Type 0} (one : Cursor → Read A) → Law one T → (n : ℕ) → Law (many_at one n) (Each T n)
+pub many_law : {A : Type 0} {T : A → List ℕ → Type 0} (one : Cursor → Read A) → Law OneByte one T → (n : ℕ) → Law OneByte (many_at one n) (Each T n)
 unfolding many_at
 many_law {A} {T} one law zero = other_text (λ c. Ok ([], c)) none_to none_from (done_law [])
   where
@@ -323,7 +393,7 @@ many_law {A} {T} one law (suc n) =
 abbrev pub from_front : List ℕ → Cursor
 from_front bytes = record { at = 0; rest = bytes }
 
-module _ {A : Type 0} {Text : A → List ℕ → Type 0} (read : Cursor → Read A) (law : Law read Text) where
+module _ {A : Type 0} {Text : A → List ℕ → Type 0} {F : List ℕ → ℕ → Type 0} (read : Cursor → Read A) (law : Law F read Text) where
   pub reads_text : (bytes : List ℕ) (x : A) → Text x bytes → (d : Cursor) × (d.rest ≡ []) × (read (from_front bytes) ≡ Ok (x, d))
   reads_text bytes x h = let a = law.again (from_front bytes) x bytes [] h (sym (append-nil bytes)) in (a.0, a.1, a.2)
 
@@ -343,8 +413,8 @@ module _ {A : Type 0} {Text : A → List ℕ → Type 0} (read : Cursor → Read
       cut_short rest (read (from_front bytes)) (read (from_front (bytes ++ rest))) x a.0 (law.grows (from_front bytes) rest) a.2 a.1 some
 
   -- where a field is wrong, no text goes on
-  pub is_wrong_at : (bytes : List ℕ) (n : ℕ) → HasText Text → IsBytes bytes → read (from_front bytes) ≡ Err (Field n) → IsWrongAt Text bytes n
-  is_wrong_at bytes n some fits e =
+  pub is_wrong_at : (width : List ℕ → ℕ) → ((before : List ℕ) (w : ℕ) → F before w → w ≡ width before) → (bytes : List ℕ) (n : ℕ) → HasText Text → IsBytes bytes → read (from_front bytes) ≡ Err (Field n) → IsWrongAt Text width bytes n
+  is_wrong_at width by bytes n some fits e =
       let h = law.fails (from_front bytes) n some fits e in
       record {
         before = h.before;
@@ -352,8 +422,8 @@ module _ {A : Type 0} {Text : A → List ℕ → Type 0} (read : Cursor → Read
         behind = h.behind;
         split = h.split;
         offset = omega (arith, h.offset);
-        small = h.small;
-        begins = h.begins;
+        whole = by h.before (length h.wrong) h.whole;
+        goes_on = h.begins;
         breaks = λ t. no_text (h.before ++ h.wrong) t.1 t.0 n h.already t.2;
       }
     where
@@ -362,6 +432,12 @@ module _ {A : Type 0} {Text : A → List ℕ → Type 0} (read : Cursor → Read
           let a = reads_text (front ++ rest) x text in
           let wide : read (from_front (front ++ rest)) ≡ Err (Field n) = subst (λ (r : Read A). Grows rest r (read (from_front (front ++ rest)))) e (law.grows (from_front front) rest) in
           absurd (cc (wide, a.2))
+
+  -- where bytes are missing, the text goes on
+  pub is_cut : (width : List ℕ → ℕ) → ((before : List ℕ) (w : ℕ) → F before w → w ≡ width before) → (bytes : List ℕ) → HasText Text → IsBytes bytes → read (from_front bytes) ≡ Err Short → IsCut Text width bytes
+  is_cut width by bytes some fits e =
+      let h = law.cuts (from_front bytes) some fits e in
+      record { before = h.before; part = h.part; split = h.split; missing = omega (arith, h.small, by h.before h.width h.whole); goes_on = h.begins }
 
   pub nothing_behind : (x y : A) (text rest : List ℕ) → Text x text → Text y (text ++ rest) → rest ≡ []
   nothing_behind x y text [] h k = refl
@@ -392,7 +468,7 @@ ended_more : {A E : Type 0} (b : Bool) (x : A) (extra : E) → cond b (Ok x) (Er
 ended_more true x extra e = absurd cc
 ended_more false x extra e = refl
 
-module _ {A E : Type 0} {Text : A → List ℕ → Type 0} (read : Cursor → Read A) (law : Law read Text) (fault_of : ReadFault → E) (extra : E) where
+module _ {A E : Type 0} {Text : A → List ℕ → Type 0} {F : List ℕ → ℕ → Type 0} (read : Cursor → Read A) (law : Law F read Text) (fault_of : ReadFault → E) (extra : E) where
   abbrev whole : List ℕ → Result A E
   whole bytes = whole_of fault_of extra (read (from_front bytes))
 

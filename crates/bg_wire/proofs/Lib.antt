@@ -10,3 +10,7 @@ pub mod Loading
 pub mod Numbers
 pub mod OneText
 pub mod SlotTurns
+pub mod Widths
+pub mod OneFault
+pub mod PacketFaults
+pub mod SavedFaults

@@ -15,9 +15,9 @@ use Rattle.bg_wire.specs.declared.reader.ReadFault.TheVariants as read_fault
 use Rattle.bg_wire.specs.declared.saves.Saved.{Saved}
 use Rattle.bg_wire.specs.Texts.{HasMore}
 use Rattle.bg_wire.specs.Reading.{Read, whole_of}
-use Rattle.bg_wire.specs.SavedText.{SavedParts, IsSavable, IsLayoutOf, IsSavedText, IsFirstIllegal, IsIllegalAt, HasEntries, Replays, Loads, parts_of}
+use Rattle.bg_wire.specs.SavedText.{SavedParts, IsSavable, IsLayoutOf, IsSavedText, IsFirstIllegal, IsIllegalAt, HasEntries, parts_of}
 use Rattle.bg_wire.specs.Faults.{IsLoadFault}
-use Rattle.bg_wire.specs.SavedReading.{load_fault, saved_at, layout_of}
+use Rattle.bg_wire.specs.SavedReading.{load_fault, saved_at, layout_of, Replays, Loads}
 use Rattle.bg_wire.proofs.Laws.{IsBytes, from_front, is_found, is_read, is_short, has_more, is_extra, says_why}
 use Rattle.bg_wire.proofs.SavedLaws.{saved_law, says_field, not_extra}
 
@@ -27,7 +27,7 @@ use Rattle.bg_wire.proofs.SavedLaws.{saved_law, says_field, not_extra}
 legal_take : (m n : ℕ) (entries : List Entry) → IsLegalRecord m entries → IsLegalRecord m (take n entries)
 legal_take m n entries h = legal_fronts m (take n entries) (drop n entries) (subst (IsLegalRecord m) (sym (take-append-drop n entries)) h)
 
-not_legal : (m n : ℕ) (entries : List Entry) → IsFirstIllegal m entries n → IsLegalRecord m entries → ⊥
+pub not_legal : (m n : ℕ) (entries : List Entry) → IsFirstIllegal m entries n → IsLegalRecord m entries → ⊥
 not_legal m n entries first legal = first.illegal (legal_take m n entries legal)
 
 not_before : (m n k : ℕ) (entries : List Entry) → IsFirstIllegal m entries n → IsFirstIllegal m entries k → n < k → ⊥
@@ -35,7 +35,7 @@ not_before m n k entries p q lt =
     let le : n ≤ k - 1 = omega arith in
     p.illegal (subst (IsLegalRecord m) (take-take n (k - 1) entries le) (legal_take m n (take (k - 1) entries) q.before))
 
-one_first : (m n k : ℕ) (entries : List Entry) → IsFirstIllegal m entries n → IsFirstIllegal m entries k → n ≡ k
+pub one_first : (m n k : ℕ) (entries : List Entry) → IsFirstIllegal m entries n → IsFirstIllegal m entries k → n ≡ k
 one_first m n k entries p q = elim (cases_lt n k) [
   | inl lt ↦ absurd (not_before m n k entries p q lt)
   | inr le ↦ elim (cases_lt k n) [

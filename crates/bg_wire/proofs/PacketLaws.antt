@@ -1,8 +1,8 @@
 -- The law of packets, and what follows from it.
-use Rattle.std.proofs.Common.{◌≡◌, ◌≢◌, ℕ, zero, suc, ◌+◌, ◌-◌, ◌^◌, ◌<◌, ◌≤◌, Bool, true, false, cond, List, [], ◌∷◌, ◌++◌, length, Err, refl, ap, subst, ◌∙◌, arith, inl, inr}
+use Rattle.std.proofs.Common.{◌≡◌, ◌≢◌, ℕ, zero, suc, ◌+◌, ◌-◌, ◌^◌, ◌<◌, ◌≤◌, Bool, true, false, cond, List, [], ◌∷◌, ◌++◌, length, get_or, Err, refl, sym, ap, subst, ◌∙◌, arith, inl, inr}
 use Rattle.std.specs.Prelude.{◌==◌}
 use Rattle.std.specs.Int.{w16, w64, to_be_bytes}
-use Rattle.std.proofs.lemmas.Bool.{cases_lt, lt-ltb, le-ltb, eqb-true}
+use Rattle.std.proofs.lemmas.Bool.{cases_lt, lt-ltb, le-ltb, eqb-true, eqb-false}
 use Rattle.bg_match.specs.Entry.{IsEntry, IsAction}
 use Rattle.bg_match.specs.declared.entries.Entry.{Entry}
 use Rattle.bg_match.specs.Limits.{most_entries}
@@ -13,14 +13,15 @@ use Rattle.bg_wire.specs.declared.reader.ReadFault.TheVariants as read_fault
 use Rattle.bg_wire.specs.declared.packets.Packet.{Packet}
 use Rattle.bg_wire.specs.declared.packets.Packet.TheVariants as packet
 use Rattle.bg_wire.specs.EntryText.{action_bytes, entry_bytes}
-use Rattle.bg_wire.specs.PacketText.{header_text, list_text, packet_text, IsText}
-use Rattle.bg_wire.specs.Texts.{IsWrongAt}
+use Rattle.bg_wire.specs.PacketText.{header_text, list_text, packet_text, IsText, body_widths, packet_widths, packet_width}
+use Rattle.bg_wire.specs.Texts.{IsWrongAt, width_at}
 use Rattle.bg_wire.specs.Faults.{IsWireFault}
 use Rattle.bg_wire.specs.Reading.{◌>>=◌, u8_at, u16_at, u64_at, with}
 use Rattle.bg_wire.specs.EntryReading.{action_at, entry_at}
 use Rattle.bg_wire.specs.PacketReading.{wire_fault, want_at, claim_at, most_from, list_at, entries_at, kind_at, body_at, packet_at}
-use Rattle.bg_wire.proofs.Laws.{IsBytes, from_front, is_wrong_at, Law, Then, Mapped, Choice, HasText, has_then, has_mapped, has_choice, then_law, with_law, other_text, choice_law}
-use Rattle.bg_wire.proofs.Fields.{Byte, Number, Word, has_byte, has_number, has_word, byte_law, u16_law, u64_law}
+use Rattle.bg_wire.proofs.Laws.{IsBytes, from_front, is_wrong_at, is_cut, Law, Then, Mapped, Choice, HasText, OneByte, By, has_then, has_mapped, has_choice, then_of, with_law, other_text}
+use Rattle.bg_wire.proofs.Widths.{Wide, Inside, next_field, then_field, then_inside, last_field, last_inside, byte_fields, choice_wide}
+use Rattle.bg_wire.proofs.Fields.{Byte, Number, Word, has_byte, has_number, has_word, one_byte, u16_law, u64_law}
 use Rattle.bg_wire.proofs.EntryLaws.{Spells, IsCounted, has_action, has_entry, counted_law, action_law, entry_law}
 
 -- ---- how many entries a packet tells
@@ -48,11 +49,17 @@ has_held id s = has_mapped (packet.Want id s) (has_number 0 most_entries (omega 
 has_want : (id : ℕ) → HasText (WantParts id)
 has_want id = has_then (has_byte seat_of_x last_watcher (omega arith)) (λ s first h. has_held id s)
 
-want_law : (id : ℕ) → Law (want_at id) (WantParts id)
+byte_len : (low high x : ℕ) (front : List ℕ) → Byte low high x front → length front ≡ 1
+byte_len low high x front h = ap length h.2
+
+number_len : (low high n : ℕ) (front : List ℕ) → Number low high n front → length front ≡ 2
+number_len low high n front h = ap length h.3
+
+want_law : (id : ℕ) → Law (Wide (1 ∷ 2 ∷ [])) (want_at id) (WantParts id)
 unfolding want_at
 want_law id =
-    then_law (u8_at seat_of_x last_watcher) (λ s c. with (packet.Want id s) (u16_at 0 most_entries c)) (byte_law seat_of_x last_watcher)
-    (λ s. with_law (packet.Want id s) (u16_at 0 most_entries) (u16_law 0 most_entries)) (λ s first h. has_held id s)
+    then_field 1 (2 ∷ []) (u8_at seat_of_x last_watcher) (λ s c. with (packet.Want id s) (u16_at 0 most_entries c)) (omega arith) (one_byte seat_of_x last_watcher) (byte_len seat_of_x last_watcher)
+    (λ s. with_law (packet.Want id s) (u16_at 0 most_entries) (last_field 2 (u16_at 0 most_entries) (u16_law 0 most_entries))) (λ s first h. has_held id s)
 
 abbrev ClaimParts : ℕ → Packet → List ℕ → Type 0
 ClaimParts id = Then (Byte seat_of_x seat_of_o) (λ s. Then (Number first_number most_entries) (λ n. Mapped (packet.Claim id s n) (Spells IsAction action_bytes)))
@@ -66,12 +73,12 @@ has_claim_of id s = has_then (has_number first_number most_entries (omega arith)
 has_claim : (id : ℕ) → HasText (ClaimParts id)
 has_claim id = has_then (has_byte seat_of_x seat_of_o (omega arith)) (λ s first h. has_claim_of id s)
 
-claim_law : (id : ℕ) → Law (claim_at id) (ClaimParts id)
+claim_law : (id : ℕ) → Law (Wide (1 ∷ 2 ∷ [])) (claim_at id) (ClaimParts id)
 unfolding claim_at
 claim_law id =
-    then_law (u8_at seat_of_x seat_of_o) (λ s c. u16_at first_number most_entries c >>= λ n. with (packet.Claim id s n.0) (action_at n.1)) (byte_law seat_of_x seat_of_o)
-    (λ s. then_law (u16_at first_number most_entries) (λ n c. with (packet.Claim id s n) (action_at c)) (u16_law first_number most_entries)
-    (λ n. with_law (packet.Claim id s n) action_at action_law) (λ n first h. has_claimed id s n))
+    then_field 1 (2 ∷ []) (u8_at seat_of_x seat_of_o) (λ s c. u16_at first_number most_entries c >>= λ n. with (packet.Claim id s n.0) (action_at n.1)) (omega arith) (one_byte seat_of_x seat_of_o) (byte_len seat_of_x seat_of_o)
+    (λ s. then_field 2 [] (u16_at first_number most_entries) (λ n c. with (packet.Claim id s n) (action_at c)) (omega arith) (u16_law first_number most_entries) (number_len first_number most_entries)
+    (λ n. with_law (packet.Claim id s n) action_at (byte_fields action_at action_law)) (λ n first h. has_claimed id s n))
     (λ s first h. has_claim_of id s)
 
 abbrev ListText : ℕ → List Entry → List ℕ → Type 0
@@ -82,7 +89,7 @@ has_list start le =
     let one : List Entry = has_entry.0 ∷ [] in
     (one, list_text one, ((omega arith, fits_room start 1 (omega arith) (omega arith), (has_entry.2.0, tt)), refl))
 
-list_law : (start : ℕ) → Law (list_at start) (ListText start)
+list_law : (start : ℕ) → Law OneByte (list_at start) (ListText start)
 unfolding list_at
 list_law start = counted_law 1 (most_from start) IsEntry entry_bytes entry_at entry_law has_entry
 
@@ -95,18 +102,20 @@ has_told id start le = has_mapped (packet.Entries id start) (has_list start le)
 has_entries : (id : ℕ) → HasText (EntriesParts id)
 has_entries id = has_then (has_number first_number most_entries (omega arith) (omega arith)) (λ start first h. has_told id start h.1)
 
-entries_law : (id : ℕ) → Law (entries_at id) (EntriesParts id)
+entries_law : (id : ℕ) → Law (Wide (2 ∷ [])) (entries_at id) (EntriesParts id)
 unfolding entries_at
 entries_law id =
-    then_law (u16_at first_number most_entries) (λ start c. with (packet.Entries id start) (list_at start c)) (u16_law first_number most_entries)
-    (λ start. with_law (packet.Entries id start) (list_at start) (list_law start)) (λ start first h. has_told id start h.1)
+    then_field 2 [] (u16_at first_number most_entries) (λ start c. with (packet.Entries id start) (list_at start c)) (omega arith) (u16_law first_number most_entries) (number_len first_number most_entries)
+    (λ start. with_law (packet.Entries id start) (list_at start) (byte_fields (list_at start) (list_law start))) (λ start first h. has_told id start h.1)
 
 abbrev Body : ℕ → ℕ → Packet → List ℕ → Type 0
 Body kind id = Choice (kind == want_kind) (WantParts id) (Choice (kind == claim_kind) (ClaimParts id) (EntriesParts id))
 
-body_law : (kind id : ℕ) → Law (body_at kind id) (Body kind id)
+body_law : (kind id : ℕ) → Law (Wide (body_widths kind)) (body_at kind id) (Body kind id)
 unfolding body_at
-body_law kind id = choice_law (kind == want_kind) (want_at id) _ (want_law id) (choice_law (kind == claim_kind) (claim_at id) (entries_at id) (claim_law id) (entries_law id))
+body_law kind id =
+    choice_wide (kind == want_kind) (1 ∷ 2 ∷ []) _ (want_at id) _ (want_law id)
+    (choice_wide (kind == claim_kind) (1 ∷ 2 ∷ []) (2 ∷ []) (claim_at id) (entries_at id) (claim_law id) (entries_law id))
 
 has_body : (kind id : ℕ) → HasText (Body kind id)
 has_body kind id = has_choice (kind == want_kind) (has_want id) (has_choice (kind == claim_kind) (has_claim id) (has_entries id))
@@ -143,12 +152,13 @@ kind_from kind front h = (
 has_kind : HasText (Byte want_kind entries_kind)
 has_kind = has_byte want_kind entries_kind (omega arith)
 
-kind_law : Law kind_at KindText
+kind_law : Law (Inside (2 ∷ 1 ∷ 1 ∷ []) 4) kind_at KindText
 unfolding kind_at
 kind_law =
     other_text _ kind_to kind_from
-    (then_law (u16_at packet_magic packet_magic) (λ m c. u8_at packet_version packet_version c >>= λ v. u8_at want_kind entries_kind v.1) (u16_law packet_magic packet_magic)
-    (λ m. then_law (u8_at packet_version packet_version) (λ v. u8_at want_kind entries_kind) (byte_law packet_version packet_version) (λ v. byte_law want_kind entries_kind) (λ v first h. has_kind))
+    (then_inside 2 2 (1 ∷ 1 ∷ []) (u16_at packet_magic packet_magic) (λ m c. u8_at packet_version packet_version c >>= λ v. u8_at want_kind entries_kind v.1) (omega arith) (u16_law packet_magic packet_magic) (number_len packet_magic packet_magic)
+    (λ m. then_inside 1 1 (1 ∷ []) (u8_at packet_version packet_version) (λ v. u8_at want_kind entries_kind) (omega arith) (one_byte packet_version packet_version) (byte_len packet_version packet_version)
+    (λ v. last_inside 1 (u8_at want_kind entries_kind) (omega arith) (one_byte want_kind entries_kind)) (λ v first h. has_kind))
     (λ m first h. has_then (has_byte packet_version packet_version (omega arith)) (λ v first h. has_kind)))
 
 abbrev PacketParts : Packet → List ℕ → Type 0
@@ -232,10 +242,33 @@ text_parts (packet.Entries id start list) front h =
       refl,
     )
 
-pub packet_law : Law packet_at IsText
+-- the widths of the header do not depend on the kind
+header_width : (n k : ℕ) → n < 4 → width_at (2 ∷ 1 ∷ 1 ∷ []) n ≡ width_at (packet_widths k) n
+header_width zero k lt = refl
+header_width (suc zero) k lt = refl
+header_width (suc (suc zero)) k lt = refl
+header_width (suc (suc (suc zero))) k lt = refl
+header_width (suc (suc (suc (suc n)))) k lt = absurd (omega (arith, lt))
+
+in_header : (before : List ℕ) (w : ℕ) → Inside (2 ∷ 1 ∷ 1 ∷ []) 4 before w → w ≡ packet_width before
+in_header before w h = h.0 ∙ header_width (length before) (get_or before kind_offset 0) h.1
+
+behind_kind : (kind : ℕ) (before : List ℕ) (w : ℕ) → Wide (8 ∷ body_widths kind) before w → w ≡ packet_width (kind_text kind ++ before)
+behind_kind kind before w h =
+    let magic : List ℕ = to_be_bytes w16 packet_magic in
+    let from_kind = next_field 1 (8 ∷ body_widths kind) (kind ∷ []) before w (omega arith) refl h in
+    let from_version = next_field 1 (1 ∷ 8 ∷ body_widths kind) (packet_version ∷ []) (kind ∷ before) w (omega arith) refl from_kind in
+    next_field 2 (1 ∷ 1 ∷ 8 ∷ body_widths kind) magic (packet_version ∷ kind ∷ before) w (omega arith) refl from_version
+
+word_len : (n : ℕ) (front : List ℕ) → Word n front → length front ≡ 8
+word_len n front h = ap length h.1
+
+pub packet_law : Law (By packet_width) packet_at IsText
 unfolding packet_at
-packet_law = other_text _ parts_text text_parts (then_law kind_at (λ kind c. u64_at c >>= λ id. body_at kind id.0 id.1) kind_law (λ kind. then_law u64_at (body_at kind) u64_law (body_law kind) (λ id first h. has_body kind id))
-    (λ kind first h. has_then has_word (λ id first h. has_body kind id)))
+packet_law = other_text _ parts_text text_parts (then_of (By packet_width) kind_at (λ kind c. u64_at c >>= λ id. body_at kind id.0 id.1) kind_law
+    (λ kind. then_field 8 (body_widths kind) u64_at (body_at kind) (omega arith) u64_law word_len (body_law kind) (λ id first h. has_body kind id))
+    (λ kind first h. has_then has_word (λ id first h. has_body kind id)) in_header
+    (λ kind first t before w h. subst (λ (f : List ℕ). w ≡ packet_width (f ++ before)) (sym t.2) (behind_kind kind before w h)))
 
 pub not_extra : (f : ReadFault) → wire_fault f ≢ fault.Extra
 not_extra read_fault.Short e = absurd cc
@@ -254,14 +287,14 @@ has_packet =
 
 -- what the fault of a field says
 pub says_field : (bytes : List ℕ) → IsBytes bytes → (f : ReadFault) → packet_at (from_front bytes) ≡ Err f → IsWireFault (wire_fault f) bytes
-says_field bytes fits read_fault.Short e = packet_law.cuts (from_front bytes) has_packet fits e
+says_field bytes fits read_fault.Short e = is_cut packet_at packet_law packet_width (λ before w h. h) bytes has_packet fits e
 says_field bytes fits (read_fault.Field at) e = named (at == magic_offset) refl (at == version_offset) refl (at == kind_offset) refl
   where
-    wrong : IsWrongAt IsText bytes at
-    wrong = is_wrong_at packet_at packet_law bytes at has_packet fits e
+    wrong : IsWrongAt IsText packet_width bytes at
+    wrong = is_wrong_at packet_at packet_law packet_width (λ before w h. h) bytes at has_packet fits e
 
     named : (a : Bool) → (at == magic_offset) ≡ a → (b : Bool) → (at == version_offset) ≡ b → (c : Bool) → (at == kind_offset) ≡ c → IsWireFault (cond a fault.Magic (cond b fault.Version (cond c fault.Kind (fault.Field at)))) bytes
-    named true is b _ c _ = subst (IsWrongAt IsText bytes) (eqb-true _ _ is) wrong
-    named false _ true is c _ = subst (IsWrongAt IsText bytes) (eqb-true _ _ is) wrong
-    named false _ false _ true is = subst (IsWrongAt IsText bytes) (eqb-true _ _ is) wrong
-    named false _ false _ false _ = wrong
+    named true is b _ c _ = subst (IsWrongAt IsText packet_width bytes) (eqb-true _ _ is) wrong
+    named false _ true is c _ = subst (IsWrongAt IsText packet_width bytes) (eqb-true _ _ is) wrong
+    named false _ false _ true is = subst (IsWrongAt IsText packet_width bytes) (eqb-true _ _ is) wrong
+    named false no_magic false no_version false no_kind = (eqb-false _ _ no_magic, eqb-false _ _ no_version, eqb-false _ _ no_kind, wrong)

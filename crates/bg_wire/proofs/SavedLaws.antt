@@ -1,9 +1,10 @@
 -- The law of saved texts, and what follows from it.
-use Rattle.std.proofs.Common.{◌≡◌, ◌≢◌, ℕ, zero, suc, ◌^◌, ◌<◌, ◌≤◌, Bool, true, false, cond, List, [], ◌∷◌, ◌++◌, length, Option, Some, None, Ok, Err, refl, sym, ap, subst, ◌∙◌, arith}
+use Rattle.std.proofs.Common.{◌≡◌, ◌≢◌, ℕ, zero, suc, ◌^◌, ◌<◌, ◌≤◌, Bool, true, false, cond, List, [], ◌∷◌, ◌++◌, length, Option, Some, None, Ok, Err, refl, sym, ap, subst, ◌∙◌, arith, get_or, append_assoc, ◌+◌}
 use Rattle.std.specs.Prelude.{◌==◌}
 use Rattle.std.specs.Int.{w16, w32, w64, to_be_bytes}
-use Rattle.std.proofs.lemmas.Bool.{eqb-true}
+use Rattle.std.proofs.lemmas.Bool.{eqb-true, eqb-false}
 use Rattle.std.proofs.lemmas.Bool.Decides.{nat_tests}
+use Rattle.std.proofs.lemmas.List.{get_or-append-add}
 use Rattle.bg_match.specs.Terms.{Terms}
 use Rattle.bg_match.specs.Entry.{IsEntry, IsAction}
 use Rattle.bg_match.specs.declared.actions.Action.{Action}
@@ -15,15 +16,16 @@ use Rattle.bg_wire.specs.declared.reader.ReadFault.{ReadFault}
 use Rattle.bg_wire.specs.declared.reader.ReadFault.TheVariants as read_fault
 use Rattle.bg_wire.specs.declared.saved_version_one.Front.{Front}
 use Rattle.bg_wire.specs.EntryText.{action_bytes, entry_bytes, entries_bytes}
-use Rattle.bg_wire.specs.SavedText.{SavedParts, claim_text, saved_text, IsClaimOf, IsInLayout, IsLayoutOf, IsSavedText}
+use Rattle.bg_wire.specs.SavedText.{SavedParts, claim_text, saved_text, saved_width, IsClaimOf, IsInLayout, IsLayoutOf, IsSavedText}
 use Rattle.bg_wire.specs.Faults.{IsLoadFault}
-use Rattle.bg_wire.specs.Texts.{ArePrefixFree, IsWrongAt}
+use Rattle.bg_wire.specs.Texts.{ArePrefixFree, IsWrongAt, width_at}
 use Rattle.bg_wire.specs.Reading.{◌>>=◌, Cursor, Read, u8_at, u16_at, u32_at, u64_at, many_at, passed_of, with}
 use Rattle.bg_wire.specs.EntryReading.{action_at, entry_at}
 use Rattle.bg_wire.specs.SavedReading.{front_of, text_of_front, load_fault, most_flag, kept_claim_at, flagged_at, saved_claim_at, front_at, parts_of_front, saved_at, layout_of, IsLaidOut}
-use Rattle.bg_wire.proofs.Laws.{IsBytes, is_wrong_at, Law, Then, Nothing, Mapped, Each, Choice, HasText, has_then, has_mapped, has_choice, has_each, then_law, done_law, with_law, other_text, choice_law, many_law, from_front, prefix_free}
+use Rattle.bg_wire.proofs.Laws.{IsBytes, is_wrong_at, Law, Then, Nothing, Mapped, Each, Choice, HasText, has_then, has_mapped, has_choice, has_each, with_law, other_text, many_law, from_front, prefix_free, Single, By, then_of, done_of, is_cut}
+use Rattle.bg_wire.proofs.Widths.{Wide, next_field, then_field, byte_fields, choice_wide}
 use Rattle.bg_wire.proofs.Many.{passed_list, passed_not}
-use Rattle.bg_wire.proofs.Fields.{Byte, Number, Long, Word, has_byte, has_number, has_long, has_word, byte_law, u16_law, u32_law, u64_law}
+use Rattle.bg_wire.proofs.Fields.{Byte, Number, Long, Word, has_byte, has_number, has_long, has_word, one_byte, u16_law, u32_law, u64_law, any_law}
 use Rattle.bg_wire.proofs.EntryLaws.{Spells, each_to, each_from, action_law, entry_law, has_action, has_entry}
 
 -- ---- the claim
@@ -37,11 +39,23 @@ claim_with n a = Some (n, a)
 abbrev KeptParts : Claim → List ℕ → Type 0
 KeptParts = Then (Number first_number last_saved_number) (λ n. Mapped (claim_with n) (Spells IsAction action_bytes))
 
-kept_law : Law kept_claim_at KeptParts
+byte_len : (low high x : ℕ) (front : List ℕ) → Byte low high x front → length front ≡ 1
+byte_len low high x front h = ap length h.2
+
+number_len : (low high n : ℕ) (front : List ℕ) → Number low high n front → length front ≡ 2
+number_len low high n front h = ap length h.3
+
+long_len : (low high n : ℕ) (front : List ℕ) → Long low high n front → length front ≡ 4
+long_len low high n front h = ap length h.3
+
+word_len : (n : ℕ) (front : List ℕ) → Word n front → length front ≡ 8
+word_len n front h = ap length h.1
+
+kept_law : Law (Wide (2 ∷ [])) kept_claim_at KeptParts
 unfolding kept_claim_at
 kept_law =
-    then_law (u16_at first_number last_saved_number) (λ n c. with (claim_with n) (action_at c)) (u16_law first_number last_saved_number)
-    (λ n. with_law (claim_with n) action_at action_law) (λ n first h. has_mapped (claim_with n) has_action)
+    then_field 2 [] (u16_at first_number last_saved_number) (λ n c. with (claim_with n) (action_at c)) (omega arith) (u16_law first_number last_saved_number) (number_len first_number last_saved_number)
+    (λ n. with_law (claim_with n) action_at (byte_fields action_at action_law)) (λ n first h. has_mapped (claim_with n) has_action)
 
 has_kept : HasText KeptParts
 has_kept = has_then (has_number first_number last_saved_number (omega arith) (omega arith)) (λ n first h. has_mapped (claim_with n) has_action)
@@ -49,8 +63,29 @@ has_kept = has_then (has_number first_number last_saved_number (omega arith) (om
 abbrev Flagged : ℕ → Claim → List ℕ → Type 0
 Flagged flag = Choice (flag == no_claim_flag) (Nothing None) KeptParts
 
-flagged_law : (flag : ℕ) → Law (flagged_at flag) (Flagged flag)
-flagged_law flag = choice_law (flag == no_claim_flag) (λ c. Ok (None, c)) kept_claim_at (done_law None) kept_law
+-- the widths behind the flag
+abbrev flagged_widths : ℕ → List ℕ
+flagged_widths flag = cond (flag == no_claim_flag) [] (2 ∷ [])
+
+flagged_law : (flag : ℕ) → Law (Wide (flagged_widths flag)) (flagged_at flag) (Flagged flag)
+flagged_law flag = choice_wide (flag == no_claim_flag) [] (2 ∷ []) (λ c. Ok (None, c)) kept_claim_at (done_of (Wide []) None) kept_law
+
+-- the width of the field behind some bytes, where so many bytes stand before the flag, in fields of these widths
+abbrev staged : List ℕ → ℕ → List ℕ → ℕ
+staged widths skip before = width_at (widths ++ 1 ∷ flagged_widths (get_or before skip 0)) (length before)
+
+next_staged : (size skip : ℕ) (widths first before : List ℕ) (w : ℕ) → 0 < size → length first ≡ size → w ≡ staged widths skip before → w ≡ staged (size ∷ widths) (size + skip) (first ++ before)
+next_staged size skip widths first before w some len h =
+    let flag : get_or (first ++ before) (size + skip) 0 ≡ get_or before skip 0 = ap (λ (n : ℕ). get_or (first ++ before) (n + skip) 0) (sym len) ∙ get_or-append-add first before skip 0 in
+    next_field size (widths ++ 1 ∷ flagged_widths (get_or before skip 0)) first before w some len h
+    ∙ ap (λ (flag : ℕ). width_at (size ∷ (widths ++ 1 ∷ flagged_widths flag)) (length (first ++ before))) (sym flag)
+
+then_staged : {A B : Type 0} {T : A → List ℕ → Type 0} {U : A → B → List ℕ → Type 0} (size skip : ℕ) (widths : List ℕ) (one : Cursor → Read A) (two : A → Cursor → Read B) → 0 < size
+    → Law (Single size) one T → ((x : A) (first : List ℕ) → T x first → length first ≡ size) → ((x : A) → Law (By (staged widths skip)) (two x) (U x))
+    → ((x : A) (first : List ℕ) → T x first → HasText (U x)) → Law (By (staged (size ∷ widths) (size + skip))) (λ c. one c >>= λ x. two x.0 x.1) (Then T U)
+then_staged size skip widths one two some p len q more =
+    then_of (By (staged (size ∷ widths) (size + skip))) one two p q more (λ before w h. h.1 ∙ ap (staged (size ∷ widths) (size + skip)) (sym h.0))
+    (λ x first t before w h. next_staged size skip widths first before w some (len x first t) h)
 
 has_flagged : (flag : ℕ) → HasText (Flagged flag)
 has_flagged flag = has_choice (flag == no_claim_flag) (None, [], (refl, refl)) has_kept
@@ -97,9 +132,22 @@ claim_from party (Some x) front h =
     let last = to_be_bytes w16 x.0 ++ action_bytes x.1 in
     (claim_flag, claim_flag ∷ [], last, (omega arith, seat_may party h.0.0, refl), (x.0, to_be_bytes w16 x.0, action_bytes x.1, (kept.0, kept.1, omega (arith, kept.1), refl), (x.1, (kept.2, refl), refl), refl), h.1)
 
-claim_law : (party : ℕ) → Law (saved_claim_at party) (Spells (IsClaimOf party) claim_text)
+behind_flag : (flag : ℕ) (before : List ℕ) (w : ℕ) → Wide (flagged_widths flag) before w → w ≡ staged [] 0 (flag ∷ before)
+behind_flag flag before w h = next_field 1 (flagged_widths flag) (flag ∷ []) before w (omega arith) refl h
+
+-- behind a claim each byte is a field
+behind_claim : (k : Claim) (before : List ℕ) → 1 ≡ staged [] 0 (claim_text k ++ before)
+behind_claim None before = behind_flag no_claim_flag before 1 refl
+behind_claim (Some x) before =
+    let number = to_be_bytes w16 x.0 in
+    subst (λ (r : List ℕ). 1 ≡ staged [] 0 (claim_flag ∷ r)) (sym (append_assoc number (action_bytes x.1) before))
+    (behind_flag claim_flag (number ++ (action_bytes x.1 ++ before)) 1 (next_field 2 [] number (action_bytes x.1 ++ before) 1 (omega arith) refl refl))
+
+claim_law : (party : ℕ) → Law (By (staged [] 0)) (saved_claim_at party) (Spells (IsClaimOf party) claim_text)
 unfolding saved_claim_at
-claim_law party = other_text _ (claim_to party) (claim_from party) (then_law (u8_at no_claim_flag (most_flag party)) flagged_at (byte_law no_claim_flag (most_flag party)) flagged_law (λ flag first h. has_flagged flag))
+claim_law party =
+    other_text _ (claim_to party) (claim_from party) (then_of (By (staged [] 0)) (u8_at no_claim_flag (most_flag party)) flagged_at (one_byte no_claim_flag (most_flag party)) flagged_law (λ flag first h. has_flagged flag)
+    (λ before w h. h.1 ∙ ap (staged [] 0) (sym h.0)) (λ flag first t before w h. subst (λ (f : List ℕ). w ≡ staged [] 0 (f ++ before)) (sym t.2) (behind_flag flag before w h)))
 
 has_claim : (party : ℕ) → HasText (Spells (IsClaimOf party) claim_text)
 has_claim party = (None, claim_text None, (tt, refl))
@@ -150,28 +198,29 @@ module _ (party : ℕ) where
   has_id_on : HasText IdOn
   has_id_on = has_then has_word (λ id first h. has_length_on id)
 
-  claim_on : (id n save : ℕ) → Law (from_claim id n save) (ClaimOn id n save)
+  claim_on : (id n save : ℕ) → Law (By (staged [] 0)) (from_claim id n save) (ClaimOn id n save)
   claim_on id n save =
-      then_law (saved_claim_at party) (λ k c. with (front_with party id n save k) (u16_at 0 last_saved_number c)) (claim_law party)
-      (λ k. with_law (front_with party id n save k) (u16_at 0 last_saved_number) (u16_law 0 last_saved_number)) (λ k first h. has_count id n save k)
+      then_of (By (staged [] 0)) (saved_claim_at party) (λ k c. with (front_with party id n save k) (u16_at 0 last_saved_number c)) (claim_law party)
+      (λ k. with_law (front_with party id n save k) (u16_at 0 last_saved_number) (any_law last_saved_number refl)) (λ k first h. has_count id n save k)
+      (λ before w h. h) (λ k first t before w h. h ∙ subst (λ (f : List ℕ). 1 ≡ staged [] 0 (f ++ before)) (sym t.1) (behind_claim k before))
 
-  save_on : (id n : ℕ) → Law (from_save id n) (SaveOn id n)
-  save_on id n = then_law (u32_at least_save greatest_save) (from_claim id n) (u32_law least_save greatest_save) (claim_on id n) (λ save first h. has_claim_on id n save)
+  save_on : (id n : ℕ) → Law (By (staged (4 ∷ []) 4)) (from_save id n) (SaveOn id n)
+  save_on id n = then_staged 4 0 [] (u32_at least_save greatest_save) (from_claim id n) (omega arith) (u32_law least_save greatest_save) (long_len least_save greatest_save) (claim_on id n) (λ save first h. has_claim_on id n save)
 
-  length_on : (id : ℕ) → Law (from_length id) (LengthOn id)
-  length_on id = then_law (u8_at shortest_match longest_match) (from_save id) (byte_law shortest_match longest_match) (save_on id) (λ n first h. has_save_on id n)
+  length_on : (id : ℕ) → Law (By (staged (1 ∷ 4 ∷ []) 5)) (from_length id) (LengthOn id)
+  length_on id = then_staged 1 4 (4 ∷ []) (u8_at shortest_match longest_match) (from_save id) (omega arith) (one_byte shortest_match longest_match) (byte_len shortest_match longest_match) (save_on id) (λ n first h. has_save_on id n)
 
-  id_on : Law from_id IdOn
-  id_on = then_law u64_at from_length u64_law length_on (λ id first h. has_length_on id)
+  id_on : Law (By (staged (8 ∷ 1 ∷ 4 ∷ []) 13)) from_id IdOn
+  id_on = then_staged 8 5 (1 ∷ 4 ∷ []) u64_at from_length (omega arith) u64_law word_len length_on (λ id first h. has_length_on id)
 
 abbrev FrontParts : Front → List ℕ → Type 0
 FrontParts = Then (Long saved_magic saved_magic) (λ m. Then (Byte referee seat_of_o) IdOn)
 
-front_parts_law : Law front_at FrontParts
+front_parts_law : Law (By saved_width) front_at FrontParts
 unfolding front_at
 front_parts_law =
-    then_law (u32_at saved_magic saved_magic) (λ m c. u8_at referee seat_of_o c >>= λ party. from_id party.0 party.1) (u32_law saved_magic saved_magic)
-    (λ m. then_law (u8_at referee seat_of_o) from_id (byte_law referee seat_of_o) id_on (λ party first h. has_id_on party))
+    then_staged 4 14 (1 ∷ 8 ∷ 1 ∷ 4 ∷ []) (u32_at saved_magic saved_magic) (λ m c. u8_at referee seat_of_o c >>= λ party. from_id party.0 party.1) (omega arith) (u32_law saved_magic saved_magic) (long_len saved_magic saved_magic)
+    (λ m. then_staged 1 13 (8 ∷ 1 ∷ 4 ∷ []) (u8_at referee seat_of_o) from_id (omega arith) (one_byte referee seat_of_o) (byte_len referee seat_of_o) id_on (λ party first h. has_id_on party))
     (λ m first h. has_then (has_byte referee seat_of_o (omega arith)) (λ party first h. has_id_on party))
 
 record IsFront (f : Front) : Type 0 where
@@ -254,7 +303,7 @@ front_from f front h =
       h.1,
     )
 
-front_law : Law front_at (Spells IsFront text_of_front)
+front_law : Law (By saved_width) front_at (Spells IsFront text_of_front)
 front_law = other_text _ front_to front_from front_parts_law
 
 -- ---- the whole
@@ -301,13 +350,29 @@ parted_from p front h =
     } in
     (f, text_of_front f, entries_bytes p.entries, (is, refl), (p.entries, each_from IsEntry entry_bytes (length p.entries) p.entries (entries_bytes p.entries) refl r.in_range refl, refl), h.spelled)
 
-pub saved_law : Law saved_at IsLayoutOf
+-- behind what stands before the entries each byte is a field
+behind_front : (f : Front) (before : List ℕ) → 1 ≡ saved_width (text_of_front f ++ before)
+behind_front f before =
+    let magic = to_be_bytes w32 saved_magic in
+    let id = to_be_bytes w64 f.id in
+    let save = to_be_bytes w32 f.save in
+    let count = to_be_bytes w16 f.count in
+    let from_claim = claim_text f.claim ++ (count ++ before) in
+    let at_save = next_staged 4 0 [] save from_claim 1 (omega arith) refl (behind_claim f.claim (count ++ before)) in
+    let at_terms = next_staged 1 4 (4 ∷ []) (f.terms ∷ []) (save ++ from_claim) 1 (omega arith) refl at_save in
+    let at_id = next_staged 8 5 (1 ∷ 4 ∷ []) id (f.terms ∷ (save ++ from_claim)) 1 (omega arith) refl at_terms in
+    let at_party = next_staged 1 13 (8 ∷ 1 ∷ 4 ∷ []) (f.party ∷ []) (id ++ (f.terms ∷ (save ++ from_claim))) 1 (omega arith) refl at_id in
+    let at_magic = next_staged 4 14 (1 ∷ 8 ∷ 1 ∷ 4 ∷ []) magic (f.party ∷ (id ++ (f.terms ∷ (save ++ from_claim)))) 1 (omega arith) refl at_party in
+    subst (λ (r : List ℕ). 1 ≡ saved_width (magic ++ (f.party ∷ (id ++ (f.terms ∷ (save ++ r)))))) (sym (append_assoc (claim_text f.claim) count before)) at_magic
+
+pub saved_law : Law (By saved_width) saved_at IsLayoutOf
 unfolding saved_at
 saved_law =
     other_text _ parted_to parted_from
-    (then_law front_at (λ f c. with (parts_of_front f) (many_at entry_at f.count c)) front_law
+    (then_of (By saved_width) front_at (λ f c. with (parts_of_front f) (many_at entry_at f.count c)) front_law
     (λ f. with_law (parts_of_front f) (many_at entry_at f.count) (many_law entry_at entry_law f.count))
-    (λ f first h. has_mapped (parts_of_front f) (has_each has_entry f.count)))
+    (λ f first h. has_mapped (parts_of_front f) (has_each has_entry f.count))
+    (λ before w h. h) (λ f first t before w h. h ∙ subst (λ (r : List ℕ). 1 ≡ saved_width (r ++ before)) (sym t.1) (behind_front f before)))
 
 pub not_extra : (f : ReadFault) → load_fault f ≢ fault.Extra
 not_extra read_fault.Short e = absurd cc
@@ -364,12 +429,12 @@ has_saved =
     (p, saved_text p, record { in_layout = r; spelled = refl })
 
 pub says_field : (bytes : List ℕ) → IsBytes bytes → (f : ReadFault) → saved_at (from_front bytes) ≡ Err f → IsLoadFault (load_fault f) bytes
-says_field bytes fits read_fault.Short e = saved_law.cuts (from_front bytes) has_saved fits e
+says_field bytes fits read_fault.Short e = is_cut saved_at saved_law saved_width (λ before w h. h) bytes has_saved fits e
 says_field bytes fits (read_fault.Field at) e = named (at == magic_offset) refl
   where
-    wrong : IsWrongAt IsLayoutOf bytes at
-    wrong = is_wrong_at saved_at saved_law bytes at has_saved fits e
+    wrong : IsWrongAt IsLayoutOf saved_width bytes at
+    wrong = is_wrong_at saved_at saved_law saved_width (λ before w h. h) bytes at has_saved fits e
 
     named : (a : Bool) → (at == magic_offset) ≡ a → IsLoadFault (cond a fault.Magic (fault.Field at)) bytes
-    named true is = subst (IsWrongAt IsLayoutOf bytes) (eqb-true _ _ is) wrong
-    named false _ = wrong
+    named true is = subst (IsWrongAt IsLayoutOf saved_width bytes) (eqb-true _ _ is) wrong
+    named false no_magic = (eqb-false _ _ no_magic, wrong)

@@ -14,3 +14,4 @@ pub mod Saves
 pub mod Restoring
 pub mod SlotReading
 pub mod SlotLaws
+pub mod FaultLaws

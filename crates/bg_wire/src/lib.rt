@@ -32,6 +32,7 @@ pub use restoring::restore;
 pub use saves::{FIRST_SAVE, LAST_SAVE, LONGEST_SAVED_TEXT, Saved};
 pub use saving::{load, next_save, save_text, saved_texts_are_prefix_free};
 pub use slot_laws::{
-    laws_of_constants, laws_of_loading, laws_of_restoring, laws_of_saving, laws_of_texts,
+    laws_of_constants, laws_of_faults, laws_of_loading, laws_of_restoring, laws_of_saving,
+    laws_of_texts,
 };
 pub use slots::Slot;

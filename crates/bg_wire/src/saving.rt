@@ -10,10 +10,10 @@ ghost use Rattle.bg_wire.specs.Texts.{HasMore, ArePrefixFree};
 ghost use Rattle.bg_wire.specs.Reading.{Cursor, many_at};
 ghost use Rattle.bg_wire.specs.EntryReading.{entry_at};
 ghost use Rattle.bg_wire.specs.EntryText.{entries_bytes, bytes_at};
-ghost use Rattle.bg_wire.specs.SavedText.{SavedParts, IsSavable, IsLayoutOf, IsSavedText, IsWrittenText, IsIllegalAt, HasEntries, Loads, Replays, parts_of, parts_with, IsClaimOf};
+ghost use Rattle.bg_wire.specs.SavedText.{SavedParts, IsSavable, IsLayoutOf, IsSavedText, IsWrittenText, IsIllegalAt, HasEntries, parts_of, parts_with, IsClaimOf};
 ghost use Rattle.bg_wire.specs.Faults.{IsLoadFault};
 ghost use Rattle.bg_wire.specs.Saves.{IsNextSave};
-ghost use Rattle.bg_wire.specs.SavedReading.{layout_of};
+ghost use Rattle.bg_wire.specs.SavedReading.{layout_of, Loads, Replays};
 
 use crate::entry_reading::entry;
 use crate::entry_writing::{Bytes, put_entry};
@@ -132,10 +132,8 @@ pub fn load(alloc: Global, bytes: &[u8]) -> Result<Saved, LoadFault>
         → result ≡ Err (LoadFault.Illegal n) }
     // Memory is wanted for entries alone, once the layout holds.
     ensures memory { result ≡ Err LoadFault.Memory → HasEntries bytes.now }
-    // What a fault says of the bytes.
+    // What a fault says of the bytes: by `laws_of_faults` they have no other, want of memory aside.
     ensures why { IfErr result (λ fault. IsLoadFault fault bytes.now) }
-    // Which fault of the layout it is.
-    ensures exact { Loads result (layout_of bytes.now) }
 {
     load_record(alloc, bytes)
 }

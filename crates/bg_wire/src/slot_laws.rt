@@ -4,6 +4,7 @@ ghost use Rattle.bg_wire.specs.Codes.{longest_packet, longest_datagram, longest_
 ghost use Rattle.bg_wire.specs.PacketText.{IsText};
 ghost use Rattle.bg_wire.specs.SavedText.{IsSavedText};
 ghost use Rattle.bg_wire.specs.Texts.{IsOneText};
+ghost use Rattle.bg_wire.specs.FaultLaws.{HaveOneWireFault, PacketsHaveNoFault, HaveOneLoadFault, SavedTextsHaveNoFault};
 ghost use Rattle.bg_wire.specs.SlotLaws.{FrontsLoadAsNothing, EmptyLoadsAsNothing, LoadAsOneThing, RestoreOneThing, RestoreOneOfBoth};
 ghost use Rattle.bg_wire.specs.SlotLaws.{GoesByTurns, NextGoesToTheOther, WrittenIsRestored, TornIsNotRestored, GivesWhatSlotsRestore};
 
@@ -15,6 +16,14 @@ pub fn laws_of_constants()
     ensures datagram { MOST_DATAGRAM_BYTES ≡ longest_datagram }
     ensures saved { LONGEST_SAVED_TEXT ≡ longest_saved_text }
     ensures watcher { FIRST_WATCHER ≡ first_watcher }
+{}
+
+/// What is wrong with bytes is one thing, by the layouts alone, and with a text nothing is.
+pub fn laws_of_faults()
+    ensures packets { HaveOneWireFault }
+    ensures fine_packets { PacketsHaveNoFault }
+    ensures saved { HaveOneLoadFault }
+    ensures fine_saved { SavedTextsHaveNoFault }
 {}
 
 /// Bytes are the text of one packet, and of one saved match.
