@@ -6,7 +6,7 @@ ghost use Rattle.bg_wire.specs.SavedText.{parts_of};
 ghost use Rattle.bg_relay.specs.Show.{IsHeld, IsShowText, IsBoardOf, claim_part as part_of_claim, fault_part as part_of_fault, file_line, held_of, held_part, match_part, newer_of, save_part};
 
 use bg_match::{Action, Number};
-use bg_text::{board_text, push_number, push_text};
+use bg_text::{board_text, put_number, put_text};
 use bg_wire::{LoadFault, Saved, load};
 use std::alloc::{AllocError, Global};
 
@@ -24,9 +24,9 @@ pub fn show_text(alloc: Global, file0: &[u8], file1: &[u8]) -> Result<(Vec<u8>, 
     let zero = hold(alloc, file0)?;
     let one = hold(alloc, file1)?;
     let mut text = Vec::new(alloc);
-    push_file(&mut text, 0, &zero)?;
-    push_file(&mut text, 1, &one)?;
-    push_board(alloc, &mut text, &zero, &one)?;
+    put_file(&mut text, 0, &zero)?;
+    put_file(&mut text, 1, &one)?;
+    put_board(alloc, &mut text, &zero, &one)?;
     Ok((text, zero.is_ok() || one.is_ok()))
 }
 
@@ -41,103 +41,103 @@ fn hold(alloc: Global, bytes: &[u8]) -> Result<Held, AllocError>
 }
 
 /// Adds the line of a file.
-fn push_file(out: &mut Vec<u8>, file: u8, held: &Held) -> Result<(), AllocError>
+fn put_file(out: &mut Vec<u8>, file: u8, held: &Held) -> Result<(), AllocError>
     ensures { OnOk result (out.new.items ≡ out.old.items ++ line_text (file_line file (held_of held.now))) }
 {
-    push_text(out, "file ")?;
-    push_number(out, file.into())?;
-    push_text(out, ": ")?;
-    push_held(out, held)?;
-    push_text(out, "\n")?;
+    put_text(out, "file ")?;
+    put_number(out, file.into())?;
+    put_text(out, ": ")?;
+    put_held(out, held)?;
+    put_text(out, "\n")?;
     Ok(())
 }
 
 /// Adds what is said of a file.
-fn push_held(out: &mut Vec<u8>, held: &Held) -> Result<(), AllocError>
+fn put_held(out: &mut Vec<u8>, held: &Held) -> Result<(), AllocError>
     ensures { OnOk result (out.new.items ≡ out.old.items ++ held_part (held_of held.now)) }
 {
     match held {
         Ok(saved) => {
-            push_match(out, saved)?;
-            push_save(out, saved)
+            put_match(out, saved)?;
+            put_save(out, saved)
         }
-        Err(why) => push_fault(out, *why),
+        Err(why) => put_fault(out, *why),
     }
 }
 
 /// Adds whose the save is, and of which match.
-fn push_match(out: &mut Vec<u8>, saved: &Saved) -> Result<(), AllocError>
+fn put_match(out: &mut Vec<u8>, saved: &Saved) -> Result<(), AllocError>
     ensures { OnOk result (out.new.items ≡ out.old.items ++ match_part (parts_of saved.now)) }
 {
-    push_text(out, "party ")?;
-    push_number(out, saved.party.into())?;
-    push_text(out, " match ")?;
-    push_number(out, saved.log.id())?;
-    push_text(out, " length ")?;
-    push_number(out, saved.log.length().into())
+    put_text(out, "party ")?;
+    put_number(out, saved.party.into())?;
+    put_text(out, " match ")?;
+    put_number(out, saved.log.id())?;
+    put_text(out, " length ")?;
+    put_number(out, saved.log.length().into())
 }
 
 /// Adds the number of the save, and what it has.
-fn push_save(out: &mut Vec<u8>, saved: &Saved) -> Result<(), AllocError>
+fn put_save(out: &mut Vec<u8>, saved: &Saved) -> Result<(), AllocError>
     ensures { OnOk result (out.new.items ≡ out.old.items ++ save_part (parts_of saved.now)) }
 {
-    push_text(out, " save ")?;
-    push_number(out, saved.save.into())?;
-    push_text(out, " entries ")?;
-    push_number(out, saved.log.len().into())?;
-    push_claim(out, &saved.claim)
+    put_text(out, " save ")?;
+    put_number(out, saved.save.into())?;
+    put_text(out, " entries ")?;
+    put_number(out, saved.log.len().into())?;
+    put_claim(out, &saved.claim)
 }
 
 /// Adds the number of the claim, if one is kept.
-fn push_claim(out: &mut Vec<u8>, claim: &Option<(Number, Action)>) -> Result<(), AllocError>
+fn put_claim(out: &mut Vec<u8>, claim: &Option<(Number, Action)>) -> Result<(), AllocError>
     ensures { OnOk result (out.new.items ≡ out.old.items ++ part_of_claim claim.now) }
 {
     match claim {
         None => Ok(()),
         Some((number, _)) => {
-            push_text(out, " claim ")?;
-            push_number(out, (*number).into())
+            put_text(out, " claim ")?;
+            put_number(out, (*number).into())
         }
     }
 }
 
 /// Adds why a file does not load.
-fn push_fault(out: &mut Vec<u8>, why: LoadFault) -> Result<(), AllocError>
+fn put_fault(out: &mut Vec<u8>, why: LoadFault) -> Result<(), AllocError>
     ensures { OnOk result (out.new.items ≡ out.old.items ++ part_of_fault why) }
 {
     match why {
-        LoadFault::Short => push_text(out, "short"),
-        LoadFault::Magic => push_text(out, "bad magic"),
-        LoadFault::Field(offset) => push_numbered(out, "bad field at ", offset as u64),
-        LoadFault::Extra => push_text(out, "extra bytes"),
-        LoadFault::Illegal(number) => push_numbered(out, "illegal entry ", number.into()),
-        LoadFault::Memory => push_text(out, "out of memory"),
+        LoadFault::Short => put_text(out, "short"),
+        LoadFault::Magic => put_text(out, "bad magic"),
+        LoadFault::Field(offset) => put_numbered(out, "bad field at ", offset as u64),
+        LoadFault::Extra => put_text(out, "extra bytes"),
+        LoadFault::Illegal(number) => put_numbered(out, "illegal entry ", number.into()),
+        LoadFault::Memory => put_text(out, "out of memory"),
     }
 }
 
 /// Adds some words and a number.
-fn push_numbered(out: &mut Vec<u8>, words: &str, number: u64) -> Result<(), AllocError>
+fn put_numbered(out: &mut Vec<u8>, words: &str, number: u64) -> Result<(), AllocError>
     ensures { OnOk result (out.new.items ≡ out.old.items ++ (words.now ++ decimal number)) }
 {
-    push_text(out, words)?;
-    push_number(out, number)
+    put_text(out, words)?;
+    put_number(out, number)
 }
 
 /// Adds the board of the newer file that loads, if there is one.
-fn push_board(alloc: Global, out: &mut Vec<u8>, zero: &Held, one: &Held) -> Result<(), AllocError>
+fn put_board(alloc: Global, out: &mut Vec<u8>, zero: &Held, one: &Held) -> Result<(), AllocError>
     ensures { OnOk result ((board : List ℕ) × IsBoardOf (newer_of (held_of zero.now) (held_of one.now)) board
         × (out.new.items ≡ out.old.items ++ board)) }
 {
     match (zero, one) {
-        (Ok(zero), Ok(one)) if zero.save < one.save => push_board_of(alloc, out, one),
-        (Ok(zero), _) => push_board_of(alloc, out, zero),
-        (Err(_), Ok(one)) => push_board_of(alloc, out, one),
+        (Ok(zero), Ok(one)) if zero.save < one.save => put_board_of(alloc, out, one),
+        (Ok(zero), _) => put_board_of(alloc, out, zero),
+        (Err(_), Ok(one)) => put_board_of(alloc, out, one),
         (Err(_), Err(_)) => Ok(()),
     }
 }
 
 /// Adds the board of a saved match.
-fn push_board_of(alloc: Global, out: &mut Vec<u8>, saved: &Saved) -> Result<(), AllocError>
+fn put_board_of(alloc: Global, out: &mut Vec<u8>, saved: &Saved) -> Result<(), AllocError>
     ensures { OnOk result ((board : List ℕ) × IsBoardOf (Some (parts_of saved.now)) board
         × (out.new.items ≡ out.old.items ++ board)) }
 {

@@ -5,7 +5,7 @@ use Rattle.bg_board.specs.Die.{pips}
 use Rattle.bg_board.specs.FromTo.{FromTo}
 use Rattle.bg_board.specs.declared.dice.Die.{Die}
 use Rattle.bg_board.specs.declared.players.Player.{Player}
-use Rattle.bg_board.specs.declared.players.Player.TheVariants.{X, O}
+use Rattle.bg_board.specs.PlayerName.{player_name}
 use Rattle.bg_match.specs.Entry.{IsEntry}
 use Rattle.bg_match.specs.declared.actions.Action.{Action}
 use Rattle.bg_match.specs.declared.actions.Action.TheVariants as action
@@ -16,8 +16,7 @@ use Rattle.bg_match.specs.declared.levels.Level.TheVariants.{Normal, Gammon, Bac
 use Rattle.bg_text.specs.Words.{spaced}
 
 abbrev pub letter : Player → List ℕ
-letter X = codes "X"
-letter O = codes "O"
+letter player = player_name player
 
 abbrev pub level_word : Level → List ℕ
 level_word Normal = codes "normal"

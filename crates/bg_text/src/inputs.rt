@@ -9,7 +9,7 @@ ghost use Rattle.bg_text.specs.Transcript.{length_line};
 ghost use Rattle.bg_text.specs.Transfers.{ReadsInput};
 
 use crate::faults::LineFault;
-use crate::pairs::parse_numeral;
+use crate::pairs::read_numeral;
 use crate::{EngineFault, Source};
 use bg_match::{LONGEST_MATCH, SHORTEST_MATCH};
 use memchr::memchr;
@@ -61,24 +61,24 @@ pub fn split_line(input: &[u8]) -> Option<(&[u8], &[u8])>
 }
 
 /// The length that line 1 says.
-pub(crate) fn parse_length(line: &[u8]) -> Result<u8, LineFault>
+pub(crate) fn read_length(line: &[u8]) -> Result<u8, LineFault>
     ensures found { IfOk result (λ length. (shortest_match ≤ length) × (length ≤ longest_match)
         × (line.now ≡ length_line length)) }
     ensures fault { IfErr result (λ fault. IsLengthFault fault (line.now ∷ [])) }
 {
     match line.strip_prefix(b"length ") {
-        Some(digits) => parse_digits(digits),
+        Some(digits) => read_digits(digits),
         None => Err(LineFault::NotALengthLine),
     }
 }
 
 /// The length that one to three digits say.
-fn parse_digits(digits: &[u8]) -> Result<u8, LineFault>
+fn read_digits(digits: &[u8]) -> Result<u8, LineFault>
     ensures found { IfOk result (λ length. (shortest_match ≤ length) × (length ≤ longest_match)
         × (digits.now ≡ decimal length)) }
     ensures fault { IfErr result (λ fault. IsDigitsFault fault digits.now) }
 {
-    match (parse_numeral(digits), digits) {
+    match (read_numeral(digits), digits) {
         (Some(length @ SHORTEST_MATCH..=LONGEST_MATCH), _) => Ok(length),
         (Some(_), _) => Err(LineFault::LengthOutOfRange),
         (None, [b'0'..=b'9', b'0'..=b'9', b'0'..=b'9']) => Err(LineFault::LengthOutOfRange),

@@ -12,9 +12,9 @@ ghost use Rattle.bg_text.specs.Reading.{IsReadAs, IsLineAt, AddsLine, RefusesLin
 
 use crate::board_texts::board_text;
 use crate::faults::LineFault;
-use crate::inputs::{MOST_BYTES, parse_length, read_input, split_line};
+use crate::inputs::{MOST_BYTES, read_input, read_length, split_line};
 use crate::lines::parse_entry;
-use crate::printing::{push_number, push_text};
+use crate::printing::{put_number, put_text};
 use crate::reasons::reason_text;
 use crate::{EngineFault, Sink, Source, Verdict};
 use bg_board::Player;
@@ -31,36 +31,36 @@ pub struct Judgement {
 }
 
 /// Adds the reason why a line is refused.
-fn push_reason(out: &mut Vec<u8>, why: LineFault) -> Result<(), AllocError>
+fn put_reason(out: &mut Vec<u8>, why: LineFault) -> Result<(), AllocError>
     ensures { OnOk result (out.new.items ≡ out.old.items ++ fault_reason why) }
 {
     match why {
-        LineFault::NotALengthLine => push_text(out, "not a length line"),
-        LineFault::LengthOutOfRange => push_text(out, "length out of range"),
-        LineFault::Text(fault) => push_text(out, fault.reason()),
-        LineFault::WrongPlayer => push_text(out, "wrong player"),
-        LineFault::Entry(fault) => push_text(out, reason_text(&fault).as_str()),
+        LineFault::NotALengthLine => put_text(out, "not a length line"),
+        LineFault::LengthOutOfRange => put_text(out, "length out of range"),
+        LineFault::Text(fault) => put_text(out, fault.reason()),
+        LineFault::WrongPlayer => put_text(out, "wrong player"),
+        LineFault::Entry(fault) => put_text(out, reason_text(&fault).as_str()),
     }
 }
 
 /// Adds the verdict line of a refusal.
-fn push_refused(out: &mut Vec<u8>, number: u32, why: LineFault) -> Result<(), AllocError>
+fn put_refused(out: &mut Vec<u8>, number: u32, why: LineFault) -> Result<(), AllocError>
     ensures { OnOk result (out.new.items ≡ out.old.items ++ line_text (refused_line number why)) }
 {
-    push_text(out, "refused at line ")?;
-    push_number(out, number.into())?;
-    push_text(out, ": ")?;
-    push_reason(out, why)?;
-    push_text(out, "\n")
+    put_text(out, "refused at line ")?;
+    put_number(out, number.into())?;
+    put_text(out, ": ")?;
+    put_reason(out, why)?;
+    put_text(out, "\n")
 }
 
 /// Adds the verdict line of a good transcript.
-fn push_fine(out: &mut Vec<u8>, entries: u32) -> Result<(), AllocError>
+fn put_fine(out: &mut Vec<u8>, entries: u32) -> Result<(), AllocError>
     ensures { OnOk result (out.new.items ≡ out.old.items ++ line_text (fine_line entries)) }
 {
-    push_text(out, "ok ")?;
-    push_number(out, entries.into())?;
-    push_text(out, "\n")
+    put_text(out, "ok ")?;
+    put_number(out, entries.into())?;
+    put_text(out, "\n")
 }
 
 /// Whether a line names a seat where the other seat must act.
@@ -74,7 +74,7 @@ fn is_wrong_seat(seat: Option<Player>, standing: &Standing) -> bool
 }
 
 /// The entry of a line, unless it names the wrong seat.
-fn read_entry(standing: &Standing, line: &[u8]) -> Result<Entry, LineFault>
+fn read_line(standing: &Standing, line: &[u8]) -> Result<Entry, LineFault>
     ensures found { IfOk result (IsReadAs standing.now line.now) }
     ensures only { (entry : Entry) → IsLineAt standing.now line.now entry → result ≡ Ok entry }
     ensures fault { IfErr result (λ why. (entries : ℕ) → IsLineFault why entries standing.now line.now) }
@@ -119,13 +119,13 @@ impl From<EntryFault> for AddFault {
 }
 
 /// Adds the entry of a line.
-fn add_line(record: &mut Record, line: &[u8]) -> Result<(), AddFault>
-    ensures added { OnOk result (AddsLine «record».old «record».new line.now) }
-    ensures fault { IfErr result (λ fault. RefusesLine fault «record».old line.now) }
-    ensures err { OnErr result («record».new ≡ «record».old) }
+fn add_line(log: &mut Record, line: &[u8]) -> Result<(), AddFault>
+    ensures added { OnOk result (AddsLine log.old log.new line.now) }
+    ensures fault { IfErr result (λ fault. RefusesLine fault log.old line.now) }
+    ensures err { OnErr result (log.new ≡ log.old) }
 {
-    let entry = read_entry(&record.standing(), line)?;
-    record.push(entry)?;
+    let entry = read_line(&log.standing(), line)?;
+    log.push(entry)?;
     Ok(())
 }
 
@@ -135,42 +135,42 @@ fn judge_lines(alloc: Global, length: u8, lines: &[u8]) -> Result<Judgement, All
     requires longest { length ≤ 99 }
     ensures { IfOk result (λ judgement. IsJudged length (lines_of lines.now) judgement.text.items judgement.verdict) }
 {
-    let mut record = Record::new(alloc, 0, length).unwrap();
+    let mut log = Record::new(alloc, 0, length).unwrap();
     let mut rest = lines;
     while let Some((line, after)) = split_line(rest) {
-        match add_line(&mut record, line) {
+        match add_line(&mut log, line) {
             Ok(()) => rest = after,
-            Err(AddFault::Refused(why)) => return refused(alloc, &record, why),
+            Err(AddFault::Refused(why)) => return refused(alloc, &log, why),
             Err(AddFault::Memory) => return Err(AllocError),
         }
     }
-    fine(alloc, &record)
+    fine(alloc, &log)
 }
 
 /// The judgement where a line after those of the record is refused.
-fn refused(alloc: Global, record: &Record, why: LineFault) -> Result<Judgement, AllocError>
-    ensures { IfOk result (λ judgement. (t : State) × StandsAt «record».now.terms «record».now.entries t
-        × (judgement.text.items ≡ text_of_board t ++ line_text (refused_line (length «record».now.entries + 2) why))
-        × (judgement.verdict ≡ Verdict.Refused (length «record».now.entries + 2))) }
+fn refused(alloc: Global, log: &Record, why: LineFault) -> Result<Judgement, AllocError>
+    ensures { IfOk result (λ judgement. (t : State) × StandsAt log.now.terms log.now.entries t
+        × (judgement.text.items ≡ text_of_board t ++ line_text (refused_line (length log.now.entries + 2) why))
+        × (judgement.verdict ≡ Verdict.Refused (length log.now.entries + 2))) }
 {
-    let number = u32::from(record.len()) + 2;
-    let mut text = board_text(alloc, &record.standing())?;
-    push_refused(&mut text, number, why)?;
+    let number = u32::from(log.len()) + 2;
+    let mut text = board_text(alloc, &log.standing())?;
+    put_refused(&mut text, number, why)?;
     Ok(Judgement {
         text,
         verdict: Verdict::Refused(number),
     })
 }
 
-/// The judgement where all lines are those of the record.
-fn fine(alloc: Global, record: &Record) -> Result<Judgement, AllocError>
-    ensures { IfOk result (λ judgement. (t : State) × StandsAt «record».now.terms «record».now.entries t
-        × (judgement.text.items ≡ text_of_board t ++ line_text (fine_line (length «record».now.entries)))
-        × (judgement.verdict ≡ Verdict.Fine (length «record».now.entries))) }
+/// The judgement where all lines are those of the log.
+fn fine(alloc: Global, log: &Record) -> Result<Judgement, AllocError>
+    ensures { IfOk result (λ judgement. (t : State) × StandsAt log.now.terms log.now.entries t
+        × (judgement.text.items ≡ text_of_board t ++ line_text (fine_line (length log.now.entries)))
+        × (judgement.verdict ≡ Verdict.Fine (length log.now.entries))) }
 {
-    let entries = u32::from(record.len());
-    let mut text = board_text(alloc, &record.standing())?;
-    push_fine(&mut text, entries)?;
+    let entries = u32::from(log.len());
+    let mut text = board_text(alloc, &log.standing())?;
+    put_fine(&mut text, entries)?;
     Ok(Judgement {
         text,
         verdict: Verdict::Fine(entries),
@@ -183,7 +183,7 @@ fn refused_at_once(alloc: Global, why: LineFault) -> Result<Judgement, AllocErro
         × (judgement.verdict ≡ Verdict.Refused 1)) }
 {
     let mut text = Vec::new(alloc);
-    push_refused(&mut text, 1, why)?;
+    put_refused(&mut text, 1, why)?;
     Ok(Judgement {
         text,
         verdict: Verdict::Refused(1),
@@ -194,7 +194,7 @@ fn refused_at_once(alloc: Global, why: LineFault) -> Result<Judgement, AllocErro
 /// "The judge", says.
 ///
 /// # Errors
-/// AllocError where there is no memory for the text or the record.
+/// AllocError where there is no memory for the text or the log.
 pub fn judge_text(alloc: Global, input: &[u8]) -> Result<Judgement, AllocError>
     ensures { IfOk result (λ judgement. IsJudgement input.now judgement.text.items judgement.verdict) }
 {
@@ -204,7 +204,7 @@ pub fn judge_text(alloc: Global, input: &[u8]) -> Result<Judgement, AllocError>
     let Some((line, lines)) = split_line(input) else {
         return refused_at_once(alloc, LineFault::NotALengthLine);
     };
-    match parse_length(line) {
+    match read_length(line) {
         Ok(length) => judge_lines(alloc, length, lines),
         Err(why) => refused_at_once(alloc, why),
     }

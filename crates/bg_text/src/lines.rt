@@ -10,7 +10,7 @@ ghost use Rattle.bg_text.specs.EntryShape.{IsEntryTextFault, IsActionTextFault};
 ghost use Rattle.bg_text.specs.Lines.{IsFixed, IsReply, IsActionOf, IsSeatEntryOf, IsEntryOf};
 
 use crate::TextFault;
-use crate::pairs::{parse_dice, parse_turn};
+use crate::pairs::{read_dice, read_turn};
 use arrayvec::ArrayVec;
 use bg_board::Player;
 use bg_match::{Action, Entry, Level, entry_of};
@@ -25,7 +25,7 @@ fn rest_after<'a>(line: &'a [u8], start: &[u8]) -> Option<&'a [u8]>
 }
 
 /// The level that a word names.
-fn parse_level(word: &[u8]) -> Option<Level>
+fn read_level(word: &[u8]) -> Option<Level>
     ensures { MatchOption result ((level : Level) → word.now ≡ level_word level → ⊥)
         (λ level. word.now ≡ level_word level) }
 {
@@ -38,7 +38,7 @@ fn parse_level(word: &[u8]) -> Option<Level>
 }
 
 /// The reply that a line gives to an offer.
-fn parse_reply(line: &[u8]) -> Option<Action>
+fn read_reply(line: &[u8]) -> Option<Action>
     ensures { MatchOption result ((action : Action) → IsReply action → line.now ≡ action_text action → ⊥)
         (λ action. IsReply action × (line.now ≡ action_text action)) }
 {
@@ -52,12 +52,12 @@ fn parse_reply(line: &[u8]) -> Option<Action>
 }
 
 /// The action of a line without numbers.
-fn parse_fixed(line: &[u8]) -> Option<Action>
+fn read_fixed(line: &[u8]) -> Option<Action>
     ensures { MatchOption result ((action : Action) → IsFixed action → line.now ≡ action_text action → ⊥)
         (λ action. IsFixed action × (line.now ≡ action_text action)) }
 {
     if let Some(word) = rest_after(line, b"resign ") {
-        return parse_level(word).map(Action::Resign);
+        return read_level(word).map(Action::Resign);
     }
     match line {
         b"roll" => Some(Action::Roll),
@@ -65,7 +65,7 @@ fn parse_fixed(line: &[u8]) -> Option<Action>
         b"move" => Some(Action::Move(Turn {
             steps: ArrayVec::new(),
         })),
-        _ => parse_reply(line),
+        _ => read_reply(line),
     }
 }
 
@@ -74,9 +74,9 @@ fn read_action(line: &[u8]) -> Result<Action, TextFault>
     ensures { IsActionOf line.now result }
 {
     if let Some(pairs) = rest_after(line, b"move ") {
-        return Ok(Action::Move(parse_turn(pairs)?));
+        return Ok(Action::Move(read_turn(pairs)?));
     }
-    match parse_fixed(line) {
+    match read_fixed(line) {
         Some(action) => Ok(action),
         None => Err(TextFault::NotALine),
     }
@@ -87,7 +87,7 @@ fn read_seat_entry(line: &[u8]) -> Result<Entry, TextFault>
     ensures { IsSeatEntryOf line.now result }
 {
     if let Some(numbers) = rest_after(line, b"roll ") {
-        let (first, second) = parse_dice(numbers)?;
+        let (first, second) = read_dice(numbers)?;
         return Ok(Entry::Rolled(Dice { first, second }));
     }
     // `roll` without dice is an action, and no entry
@@ -112,7 +112,7 @@ fn read_entry(line: &[u8]) -> Result<(Option<Player>, Entry), TextFault>
     ensures { IsEntryOf line.now result }
 {
     if let Some(numbers) = rest_after(line, b"open ") {
-        let (x, o) = parse_dice(numbers)?;
+        let (x, o) = read_dice(numbers)?;
         return Ok((None, Entry::Opening(x, o)));
     }
     let Some((player, rest)) = split_player(line) else {

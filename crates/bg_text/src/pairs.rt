@@ -13,7 +13,7 @@ use bg_board::{BAR, Die, OFF, Step};
 use bg_turns::Turn;
 
 /// The turn that the pairs of a move write, one space between each two.
-pub(crate) fn parse_turn(pairs: &[u8]) -> Result<Turn, TextFault>
+pub(crate) fn read_turn(pairs: &[u8]) -> Result<Turn, TextFault>
     ensures { IsTurnOf (words_of pairs.now) result }
 {
     let mut words = Pieces::new(pairs, b' ');
@@ -21,7 +21,7 @@ pub(crate) fn parse_turn(pairs: &[u8]) -> Result<Turn, TextFault>
         steps: ArrayVec::new(),
     });
     while let Some(word) = words.next_piece() {
-        let Some(step) = parse_pair(word) else {
+        let Some(step) = read_pair(word) else {
             return Err(TextFault::NotALine);
         };
         turn = with_step(turn, step);
@@ -46,43 +46,43 @@ fn with_step(turn: Result<Turn, TextFault>, step: Option<Step>) -> Result<Turn, 
 }
 
 /// The step of a pair, if the word has a pair's shape, and none within where a number is wrong.
-fn parse_pair(word: &[u8]) -> Option<Option<Step>>
+fn read_pair(word: &[u8]) -> Option<Option<Step>>
     ensures { MatchOption result (IsPairShape word.now → ⊥) (IsStepOf word.now) }
 {
     let (start, end) = halves(word, b'-')?;
-    let from = parse_source(start)?;
-    let to = parse_target(end)?;
+    let from = read_source(start)?;
+    let to = read_target(end)?;
     Some(Step::new(from, to))
 }
 
 /// The point where a step begins, 25 for the bar. A numeral that names no point gives 0, where no step begins.
-fn parse_source(word: &[u8]) -> Option<u8>
+fn read_source(word: &[u8]) -> Option<u8>
     ensures { MatchOption result ((word.now ≡ codes "bar") ⊎ IsNumeral word.now → ⊥) (IsSource word.now) }
 {
     if let b"bar" = word {
         return Some(BAR);
     }
-    let point = parse_numeral(word)?;
+    let point = read_numeral(word)?;
     Some(if point < BAR { point } else { OFF })
 }
 
 /// The point where a step ends, 0 for off. A numeral that names no point gives 25 or more, where no step ends.
-fn parse_target(word: &[u8]) -> Option<u8>
+fn read_target(word: &[u8]) -> Option<u8>
     ensures { MatchOption result ((word.now ≡ codes "off") ⊎ IsNumeral word.now → ⊥) (IsTarget word.now) }
 {
     if let b"off" = word {
         return Some(OFF);
     }
-    let point = parse_numeral(word)?;
+    let point = read_numeral(word)?;
     Some(if point > OFF { point } else { BAR })
 }
 
 /// The dice that two numbers write, one space between them.
-pub(crate) fn parse_dice(numbers: &[u8]) -> Result<(Die, Die), TextFault>
+pub(crate) fn read_dice(numbers: &[u8]) -> Result<(Die, Die), TextFault>
     ensures { MatchResult result (λ dice. words_of numbers.now ≡ dice_words dice.0 dice.1)
         (λ fault. IsDiceFault fault (words_of numbers.now)) }
 {
-    let Some((first, second)) = parse_numerals(numbers) else {
+    let Some((first, second)) = read_numerals(numbers) else {
         return Err(TextFault::NotALine);
     };
     match (Die::new(first), Die::new(second)) {
@@ -92,16 +92,16 @@ pub(crate) fn parse_dice(numbers: &[u8]) -> Result<(Die, Die), TextFault>
 }
 
 /// The values of two numerals with a space between them.
-fn parse_numerals(text: &[u8]) -> Option<(u8, u8)>
+fn read_numerals(text: &[u8]) -> Option<(u8, u8)>
     ensures { MatchOption result (AreNumerals (words_of text.now) → ⊥)
         (λ values. AreWorth (words_of text.now) values.0 values.1) }
 {
     let (first, second) = halves(text, b' ')?;
-    Some((parse_numeral(first)?, parse_numeral(second)?))
+    Some((read_numeral(first)?, read_numeral(second)?))
 }
 
 /// The value of one or two digits, and 0 where a zero leads, since no number of a line may be 0.
-pub(crate) fn parse_numeral(word: &[u8]) -> Option<u8>
+pub(crate) fn read_numeral(word: &[u8]) -> Option<u8>
     ensures { MatchOption result (IsNumeral word.now → ⊥) (IsWorth word.now) }
 {
     match word {

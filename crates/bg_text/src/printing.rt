@@ -8,7 +8,7 @@ use std::alloc::AllocError;
 ///
 /// # Errors
 /// AllocError where memory runs out. What `out` holds then is not said.
-pub fn push_text(out: &mut Vec<u8>, text: &str) -> Result<(), AllocError>
+pub fn put_text(out: &mut Vec<u8>, text: &str) -> Result<(), AllocError>
     ensures { OnOk result (out.new.items ≡ out.old.items ++ text.now) }
 {
     out.extend_from_slice(text.as_bytes())
@@ -18,8 +18,8 @@ pub fn push_text(out: &mut Vec<u8>, text: &str) -> Result<(), AllocError>
 ///
 /// # Errors
 /// AllocError where memory runs out. What `out` holds then is not said.
-pub fn push_number(out: &mut Vec<u8>, number: u64) -> Result<(), AllocError>
+pub fn put_number(out: &mut Vec<u8>, number: u64) -> Result<(), AllocError>
     ensures { OnOk result (out.new.items ≡ out.old.items ++ decimal number) }
 {
-    push_text(out, itoa::Buffer::new().format(number))
+    put_text(out, itoa::Buffer::new().format(number))
 }

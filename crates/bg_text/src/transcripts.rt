@@ -1,11 +1,11 @@
-//! The transcript of a record.
+//! The transcript of a log.
 ghost use Rattle.std.specs.Prelude.{◌≡◌, ◌≤◌, ◌++◌, length, IfOk, OnOk};
 ghost use Rattle.bg_match.specs.Match.{IsLegalRecord};
 ghost use Rattle.bg_text.specs.BoardText.{line_text};
 ghost use Rattle.bg_text.specs.Reading.{AddsLineOf};
 ghost use Rattle.bg_text.specs.Transcript.{IsTranscript, length_line};
 
-use crate::printing::{push_number, push_text};
+use crate::printing::{put_number, put_text};
 use crate::writing::entry_text;
 use bg_match::{Number, Record};
 use std::alloc::{AllocError, Global};
@@ -14,36 +14,34 @@ use std::alloc::{AllocError, Global};
 ///
 /// # Errors
 /// AllocError where memory runs out.
-pub fn transcript_text(alloc: Global, record: &Record) -> Result<Vec<u8>, AllocError>
-    ensures { IfOk result (λ text. IsTranscript «record».now.terms «record».now.entries text.items) }
+pub fn transcript_text(alloc: Global, log: &Record) -> Result<Vec<u8>, AllocError>
+    ensures { IfOk result (λ text. IsTranscript log.now.terms log.now.entries text.items) }
 {
     let mut text = Vec::new(alloc);
-    push_length(&mut text, record.length())?;
-    for written in 0..record.len() {
-        push_entry(&mut text, record, written + 1)?;
+    put_length(&mut text, log.length())?;
+    for written in 0..log.len() {
+        put_line(&mut text, log, written + 1)?;
     }
     Ok(text)
 }
 
 /// Adds the length line.
-fn push_length(out: &mut Vec<u8>, length: u8) -> Result<(), AllocError>
+fn put_length(out: &mut Vec<u8>, length: u8) -> Result<(), AllocError>
     ensures { OnOk result (out.new.items ≡ out.old.items ++ line_text (length_line length)) }
 {
-    push_text(out, "length ")?;
-    push_number(out, length.into())?;
-    push_text(out, "\n")
+    put_text(out, "length ")?;
+    put_number(out, length.into())?;
+    put_text(out, "\n")
 }
 
 /// Adds the line of an entry.
-fn push_entry(out: &mut Vec<u8>, record: &Record, number: Number) -> Result<(), AllocError>
+fn put_line(out: &mut Vec<u8>, log: &Record, number: Number) -> Result<(), AllocError>
     requires first { 1 ≤ number }
-    requires last { number ≤ length «record».now.entries }
-    requires legal { IsLegalRecord «record».now.terms «record».now.entries }
-    ensures { OnOk result (AddsLineOf «record».now number out.old.items out.new.items) }
+    requires last { number ≤ length log.now.entries }
+    requires legal { IsLegalRecord log.now.terms log.now.entries }
+    ensures { OnOk result (AddsLineOf log.now number out.old.items out.new.items) }
 {
-    let Some(entry) = record.entry(number) else {
-        return Ok(());
-    };
-    push_text(out, entry_text(record.by(number), entry).as_str())?;
-    push_text(out, "\n")
+    let entry = log.entry(number).unwrap();
+    put_text(out, entry_text(log.by(number), entry).as_str())?;
+    put_text(out, "\n")
 }

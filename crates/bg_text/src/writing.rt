@@ -3,11 +3,12 @@ ghost use Rattle.std.specs.Prelude.{◌≡◌, ◌+◌, ◌≤◌, ◌∷◌, �
 ghost use Rattle.std.specs.Fmt.{decimal};
 ghost use Rattle.arrayvec.specs.ArrayString.{array_string_len};
 ghost use Rattle.bg_text.specs.Words.{spaced};
-ghost use Rattle.bg_text.specs.EntryText.{entry_text, entry_words, dice_words, step_text, source_text, target_text, level_word, IsSeatOf, EntryTextsDiffer};
+ghost use Rattle.bg_text.specs.EntryText.{entry_text, entry_words, dice_words, step_text, source_text, target_text, IsSeatOf, EntryTextsDiffer};
 
+use crate::names::level_word;
 use arrayvec::ArrayString;
 use bg_board::{Die, Player, Step};
-use bg_match::{Entry, Level};
+use bg_match::Entry;
 use bg_turns::Turn;
 use itoa::Buffer;
 
@@ -24,7 +25,7 @@ pub fn entry_text(seat: Option<Player>, entry: &Entry) -> ArrayString<40>
         Some(Player::O) => line.push_str("O "),
         None => {}
     }
-    push_entry(&mut line, entry);
+    put_words(&mut line, entry);
     line
 }
 
@@ -33,72 +34,61 @@ pub fn entry_texts_differ()
     ensures { EntryTextsDiffer }
 {}
 
-fn push_entry(line: &mut ArrayString<40>, entry: &Entry)
+fn put_words(line: &mut ArrayString<40>, entry: &Entry)
     requires { array_string_len line.old ≤ 2 }
     ensures { line.new.bytes ≡ line.old.bytes ++ spaced (entry_words entry.now) }
 {
     match entry {
-        Entry::Opening(x, o) => push_dice(line, "open", *x, *o),
-        Entry::Rolled(dice) => push_dice(line, "roll", dice.first, dice.second),
+        Entry::Opening(x, o) => put_dice(line, "open", *x, *o),
+        Entry::Rolled(dice) => put_dice(line, "roll", dice.first, dice.second),
         Entry::Doubled => line.push_str("double"),
         Entry::Taken => line.push_str("take"),
         Entry::Dropped => line.push_str("drop"),
-        Entry::Moved(turn) => push_turn(line, turn),
+        Entry::Moved(turn) => put_turn(line, turn),
         Entry::Resigned(level) => {
             line.push_str("resign ");
-            line.push_str(level_name(*level));
+            line.push_str(level_word(*level));
         }
         Entry::Accepted => line.push_str("accept"),
         Entry::Rejected => line.push_str("reject"),
     }
 }
 
-fn level_name(level: Level) -> &'static str
-    ensures name { result.now ≡ level_word level }
-    ensures fits { length result.now ≤ 10 }
-{
-    match level {
-        Level::Normal => "normal",
-        Level::Gammon => "gammon",
-        Level::Backgammon => "backgammon",
-    }
-}
-
-fn push_dice(line: &mut ArrayString<40>, word: &str, first: Die, second: Die)
+fn put_dice(line: &mut ArrayString<40>, word: &str, first: Die, second: Die)
     requires { array_string_len line.old + length word.now ≤ 6 }
     ensures { line.new.bytes ≡ line.old.bytes ++ spaced (word.now ∷ dice_words first second) }
 {
     line.push_str(word);
     line.push_str(" ");
-    push_number(line, first.pips());
+    put_digits(line, first.pips());
     line.push_str(" ");
-    push_number(line, second.pips());
+    put_digits(line, second.pips());
 }
 
-fn push_turn(line: &mut ArrayString<40>, turn: &Turn)
+fn put_turn(line: &mut ArrayString<40>, turn: &Turn)
     requires { array_string_len line.old ≤ 2 }
     ensures { line.new.bytes ≡ line.old.bytes ++ spaced (codes "move" ∷ map step_text turn.now) }
 {
     line.push_str("move");
     let steps = turn.steps.as_slice();
     for step in steps {
-        push_step(line, *step);
+        put_step(line, *step);
     }
 }
 
 /// A space, and the text of a step.
-fn push_step(line: &mut ArrayString<40>, step: Step)
+fn put_step(line: &mut ArrayString<40>, step: Step)
     requires { array_string_len line.old ≤ 32 }
     ensures bytes { line.new.bytes ≡ line.old.bytes ++ 32 ∷ step_text step }
     ensures fits { array_string_len line.new ≤ array_string_len line.old + 8 }
 {
     line.push_str(" ");
-    push_source(line, step.from());
+    put_source(line, step.from());
     line.push_str("-");
-    push_target(line, step.to());
+    put_target(line, step.to());
 }
 
-fn push_source(line: &mut ArrayString<40>, point: u8)
+fn put_source(line: &mut ArrayString<40>, point: u8)
     requires { array_string_len line.old ≤ 37 }
     ensures bytes { line.new.bytes ≡ line.old.bytes ++ source_text point }
     ensures fits { array_string_len line.new ≤ array_string_len line.old + 3 }
@@ -106,11 +96,11 @@ fn push_source(line: &mut ArrayString<40>, point: u8)
     if point == 25 {
         line.push_str("bar");
     } else {
-        push_number(line, point);
+        put_digits(line, point);
     }
 }
 
-fn push_target(line: &mut ArrayString<40>, point: u8)
+fn put_target(line: &mut ArrayString<40>, point: u8)
     requires { array_string_len line.old ≤ 37 }
     ensures bytes { line.new.bytes ≡ line.old.bytes ++ target_text point }
     ensures fits { array_string_len line.new ≤ array_string_len line.old + 3 }
@@ -118,11 +108,11 @@ fn push_target(line: &mut ArrayString<40>, point: u8)
     if point == 0 {
         line.push_str("off");
     } else {
-        push_number(line, point);
+        put_digits(line, point);
     }
 }
 
-fn push_number(line: &mut ArrayString<40>, number: u8)
+fn put_digits(line: &mut ArrayString<40>, number: u8)
     requires { array_string_len line.old ≤ 37 }
     ensures bytes { line.new.bytes ≡ line.old.bytes ++ decimal number }
     ensures fits { array_string_len line.new ≤ array_string_len line.old + 3 }

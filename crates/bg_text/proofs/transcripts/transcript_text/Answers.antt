@@ -4,9 +4,9 @@ use Rattle.bg_text.proofs.transcripts.transcript_text.Goals as goal
 
 pub loop-written-preserved : goal.loop-written-preserved
 loop-written-preserved c =
-    more_written c.args.record.now (c.loop-written.written + 1) c.loop-written.text.items c.push_entry.new.out.items c.len-written-end.ensures.legal (omega arith)
-    c.loop-written.invariant c.in_ok-push_entry.ensures
+    more_written c.args.log.now (c.loop-written.written + 1) c.loop-written.text.items c.put_line.new.out.items c.len-written-end.ensures.legal (omega arith)
+    c.loop-written.invariant c.in_ok-put_line.ensures
 
 pub returns : goal.returns
 returns c =
-    all_written c.args.record.now (c.loop-written.written + 1) c.loop-written.text.items (omega (arith, c.len-written-end.ensures.value)) c.loop-written.invariant
+    all_written c.args.log.now (c.loop-written.written + 1) c.loop-written.text.items (omega (arith, c.len-written-end.ensures.value)) c.loop-written.invariant

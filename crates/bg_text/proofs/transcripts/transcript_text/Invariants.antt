@@ -3,4 +3,4 @@ use Rattle.bg_text.specs.Reading.{IsPartWritten}
 use Rattle.bg_text.proofs.transcripts.transcript_text.Given as goal
 
 abbrev pub invariant-loop-written : goal.invariant-loop-written
-invariant-loop-written l = IsPartWritten l.record (l.written + 1) l.text.items
+invariant-loop-written l = IsPartWritten l.log (l.written + 1) l.text.items

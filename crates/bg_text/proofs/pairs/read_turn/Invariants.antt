@@ -1,7 +1,7 @@
 use Rattle.std.proofs.Common.{length}
 use Rattle.bg_text.specs.Words.{words_of}
 use Rattle.bg_text.proofs.Moves.{IsReadSoFar}
-use Rattle.bg_text.proofs.pairs.parse_turn.Given as goal
+use Rattle.bg_text.proofs.pairs.read_turn.Given as goal
 
 abbrev pub invariant-loop-word : goal.invariant-loop-word
 invariant-loop-word l = IsReadSoFar (words_of l.fn.pairs) l.words l.turn

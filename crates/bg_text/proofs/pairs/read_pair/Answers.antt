@@ -1,5 +1,5 @@
 use Rattle.bg_text.proofs.PairTexts.{no_halves, no_source, no_target, step_from_ends}
-use Rattle.bg_text.proofs.pairs.parse_pair.Goals as goal
+use Rattle.bg_text.proofs.pairs.read_pair.Goals as goal
 
 pub returns-in_err-start : goal.returns-in_err-start
 returns-in_err-start c = rw c.from_residual.ensures (no_halves _ c.in_err-start.ensures)

@@ -1,6 +1,6 @@
 use Rattle.std.proofs.Common.{arith}
 use Rattle.bg_text.proofs.Numbers.{worth_of_one, worth_of_zero, worth_of_two}
-use Rattle.bg_text.proofs.pairs.parse_numeral.Goals as goal
+use Rattle.bg_text.proofs.pairs.read_numeral.Goals as goal
 
 pub returns-in-48-to-57 : goal.returns-in-48-to-57
 returns-in-48-to-57 c = worth_of_one _ (omega arith) (omega arith) (omega arith)
