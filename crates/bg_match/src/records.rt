@@ -3,6 +3,7 @@ ghost use Rattle.std.specs.Prelude.{◌≡◌, ◌≢◌, ◌≤◌, ◌<◌, �
 ghost use Rattle.std.specs.List.{AllByRecursion};
 ghost use Rattle.bg_match.specs.Limits.{IsMatchLength, longest_match, most_entries, shortest_match};
 ghost use Rattle.bg_match.specs.Match.{at_number};
+ghost use Rattle.bg_match.specs.Terms.{match_length};
 
 use crate::{
     Actor, Entry, EntryFault, LONGEST_MATCH, MOST_ENTRIES, Number, SHORTEST_MATCH, Standing, Terms,
@@ -117,7 +118,7 @@ impl Record {
 
     /// The length of the match in points, from 1 to 99.
     pub fn length(&self) -> u8
-        ensures value { result ≡ self.now.terms }
+        ensures value { result ≡ match_length self.now.terms }
         ensures shortest { shortest_match ≤ result }
         ensures longest { result ≤ longest_match }
         ensures log { IsLog self.now }

@@ -1,5 +1,6 @@
 //! Where a match stands.
 ghost use Rattle.std.specs.Prelude.{◌≡◌, ◌≤◌};
+ghost use Rattle.bg_match.specs.Terms.{match_length};
 ghost use Rattle.bg_match.specs.Limits.{longest_match, shortest_match};
 
 mod parts;
@@ -57,7 +58,7 @@ impl Standing {
 
     /// The length of the match in points, from 1 to 99.
     pub fn length(&self) -> u8
-        ensures value { result ≡ self.now.terms }
+        ensures value { result ≡ match_length self.now.terms }
         ensures standing { IsState self.now }
     {
         self.terms

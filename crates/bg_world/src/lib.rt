@@ -4,6 +4,8 @@
 mod events;
 mod laws;
 mod roles;
+#[cfg(test)]
+mod tests;
 
 pub use events::{Event, Outcome, RestoreCause};
 pub use laws::{

@@ -1,0 +1,42 @@
+//! The parts of parties, and copies of events.
+use crate::{Event, Role};
+use bg_board::Player;
+use bg_match::Action;
+use std::test::Fail;
+
+#[test]
+fn parts_of_parties(rt: HostRuntime) -> Result<(), Fail> {
+    assert!(rt; Role::of(0) == Role::Referee);
+    assert!(rt; Role::of(1) == Role::Seat(Player::X));
+    assert!(rt; Role::of(2) == Role::Seat(Player::O));
+    assert!(rt; Role::of(3) == Role::Watcher(0));
+    assert!(rt; Role::of(255) == Role::Watcher(252));
+    Ok(())
+}
+
+/// Whether the copy of an event is that event.
+fn copies(event: &Event) -> bool {
+    event.copy() == *event
+}
+
+#[test]
+fn copies_of_events(rt: HostRuntime) -> Result<(), Fail> {
+    assert!(rt; copies(&Event::Due { word: 12 }));
+    assert!(rt;
+        copies(&Event::Take {
+            party: 3,
+            pick: 1,
+            word: 2
+        })
+    );
+    assert!(rt;
+        copies(&Event::Choose {
+            seat: Player::O,
+            action: Action::Double
+        })
+    );
+    assert!(rt; copies(&Event::Save { party: 1 }));
+    assert!(rt; copies(&Event::Tick { party: 2 }));
+    assert!(rt; copies(&Event::Restart { party: 0 }));
+    Ok(())
+}
