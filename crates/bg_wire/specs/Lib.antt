@@ -15,3 +15,4 @@ pub mod Restoring
 pub mod SlotReading
 pub mod SlotLaws
 pub mod FaultLaws
+pub mod FaultWords

@@ -14,12 +14,15 @@ use bg_board::Die;
 use bg_match::{Action, Entry, Level};
 use bg_turns::Turn;
 
-/// Room for the text of any packet, and of any one entry or action.
+/// Room for the text of any packet.
 pub(crate) type Bytes = ArrayVec<u8, MOST_DATAGRAM_BYTES>;
 
-fn put_turn(out: &mut Bytes, turn: &Turn)
+/// Room for the text of any one entry or action.
+pub(crate) type EntryBytes = ArrayVec<u8, 10>;
+
+fn put_turn<const N: usize>(out: &mut ArrayVec<u8, N>, turn: &Turn)
     requires few { length turn.now ≤ MOST_STEPS }
-    requires room { array_vec_len out.old + 9 ≤ MOST_DATAGRAM_BYTES }
+    requires room { array_vec_len out.old + 9 ≤ N }
     ensures text { out.new.items ≡ out.old.items ++ turn_bytes turn.now }
     ensures len { array_vec_len out.new ≤ array_vec_len out.old + 9 }
 {
@@ -42,8 +45,8 @@ fn level_code(level: Level) -> u8
 }
 
 /// A code, and two dice.
-fn put_dice(out: &mut Bytes, code: u8, first: Die, second: Die)
-    requires { array_vec_len out.old + 3 ≤ MOST_DATAGRAM_BYTES }
+fn put_dice<const N: usize>(out: &mut ArrayVec<u8, N>, code: u8, first: Die, second: Die)
+    requires { array_vec_len out.old + 3 ≤ N }
     ensures text { out.new.items ≡ out.old.items ++ code ∷ dice_bytes first second }
     ensures len { array_vec_len out.new ≤ array_vec_len out.old + 3 }
 {
@@ -53,9 +56,9 @@ fn put_dice(out: &mut Bytes, code: u8, first: Die, second: Die)
 }
 
 /// The text of an action.
-pub(crate) fn put_action(out: &mut Bytes, action: &Action)
+pub(crate) fn put_action<const N: usize>(out: &mut ArrayVec<u8, N>, action: &Action)
     requires in_range { IsAction action.now }
-    requires room { array_vec_len out.old + 10 ≤ MOST_DATAGRAM_BYTES }
+    requires room { array_vec_len out.old + 10 ≤ N }
     ensures text { out.new.items ≡ out.old.items ++ action_bytes action.now }
     ensures len { array_vec_len out.new ≤ array_vec_len out.old + 10 }
 {
@@ -78,9 +81,9 @@ pub(crate) fn put_action(out: &mut Bytes, action: &Action)
 }
 
 /// The text of an entry.
-pub(crate) fn put_entry(out: &mut Bytes, entry: &Entry)
+pub(crate) fn put_entry<const N: usize>(out: &mut ArrayVec<u8, N>, entry: &Entry)
     requires in_range { IsEntry entry.now }
-    requires room { array_vec_len out.old + 10 ≤ MOST_DATAGRAM_BYTES }
+    requires room { array_vec_len out.old + 10 ≤ N }
     ensures text { out.new.items ≡ out.old.items ++ entry_bytes entry.now }
     ensures len { array_vec_len out.new ≤ array_vec_len out.old + 10 }
 {

@@ -5,6 +5,9 @@ mod codec;
 mod codes;
 mod entry_reading;
 mod entry_writing;
+#[cfg(test)]
+mod fault_tests;
+mod fault_words;
 mod faults;
 mod packet_version_one;
 mod packets;

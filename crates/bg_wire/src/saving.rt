@@ -16,7 +16,7 @@ ghost use Rattle.bg_wire.specs.Saves.{IsNextSave};
 ghost use Rattle.bg_wire.specs.SavedReading.{layout_of, Loads, Replays};
 
 use crate::entry_reading::entry;
-use crate::entry_writing::{Bytes, put_entry};
+use crate::entry_writing::{EntryBytes, put_entry};
 use crate::reader::Reader;
 use crate::{LoadFault, SaveRefusal, Saved, Slot, saved_version_one as layout};
 use arrayvec::ArrayVec;
@@ -96,7 +96,7 @@ fn push_entries(text: &mut Vec<u8>, log: &Record) -> Result<(), AllocError>
 }
 
 /// The text of the entry of this index, from 0; nothing past the end.
-fn index_bytes(log: &Record, index: Number) -> Bytes
+fn index_bytes(log: &Record, index: Number) -> EntryBytes
     requires below { index < most_entries }
     requires in_range { AllByRecursion IsEntry log.now.entries }
     ensures { result.items ≡ bytes_at log.now.entries index }

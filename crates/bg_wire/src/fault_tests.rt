@@ -1,0 +1,69 @@
+//! The texts of faults.
+use crate::{LoadFault, RestoreRefusal, SaveRefusal, WireFault};
+use std::alloc::AllocError;
+use std::process::Abort;
+
+/// A fault of packets is printed so, and its words are the same.
+fn check_wire(
+    rt: &(impl AllocGlobal + Abort),
+    fault: WireFault,
+    text: &str,
+) -> Result<(), AllocError> {
+    let printed = format!(in rt.alloc(); "{fault}")?;
+    assert_eq!(rt; printed.as_str(), text);
+    let words = match fault.words() {
+        (words, None) => format!(in rt.alloc(); "{words}")?,
+        (words, Some(number)) => format!(in rt.alloc(); "{words}{number}")?,
+    };
+    assert_eq!(rt; words.as_str(), text);
+    Ok(())
+}
+
+/// A fault of saved texts is printed so, and its words are the same.
+fn check_load(
+    rt: &(impl AllocGlobal + Abort),
+    fault: LoadFault,
+    text: &str,
+) -> Result<(), AllocError> {
+    let printed = format!(in rt.alloc(); "{fault}")?;
+    assert_eq!(rt; printed.as_str(), text);
+    let words = match fault.words() {
+        (words, None) => format!(in rt.alloc(); "{words}")?,
+        (words, Some(number)) => format!(in rt.alloc(); "{words}{number}")?,
+    };
+    assert_eq!(rt; words.as_str(), text);
+    Ok(())
+}
+
+#[test]
+fn wire_faults(rt: HostRuntime) -> Result<(), AllocError> {
+    check_wire(&rt, WireFault::Short, "short")?;
+    check_wire(&rt, WireFault::Magic, "bad magic")?;
+    check_wire(&rt, WireFault::Version, "bad version")?;
+    check_wire(&rt, WireFault::Kind, "bad kind")?;
+    check_wire(&rt, WireFault::Field(94), "bad field at 94")?;
+    check_wire(&rt, WireFault::Extra, "extra bytes")
+}
+
+#[test]
+fn load_faults(rt: HostRuntime) -> Result<(), AllocError> {
+    check_load(&rt, LoadFault::Short, "short")?;
+    check_load(&rt, LoadFault::Magic, "bad magic")?;
+    check_load(&rt, LoadFault::Field(655382), "bad field at 655382")?;
+    check_load(&rt, LoadFault::Extra, "extra bytes")?;
+    check_load(&rt, LoadFault::Illegal(65535), "illegal entry 65535")?;
+    check_load(&rt, LoadFault::Memory, "out of memory")
+}
+
+#[test]
+fn refusals(rt: HostRuntime) -> Result<(), AllocError> {
+    let (spent, memory) = (SaveRefusal::SavesSpent, SaveRefusal::Memory);
+    let saves = format!(in rt.alloc(); "{spent}, {memory}")?;
+    assert_eq!(rt; saves.as_str(), "saves spent, out of memory");
+    let damaged = RestoreRefusal::Damaged;
+    let wrong = RestoreRefusal::WrongMatch;
+    let memory = RestoreRefusal::Memory;
+    let restores = format!(in rt.alloc(); "{damaged}, {wrong}, {memory}")?;
+    assert_eq!(rt; restores.as_str(), "damaged, wrong match, out of memory");
+    Ok(())
+}

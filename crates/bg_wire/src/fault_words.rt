@@ -1,0 +1,37 @@
+//! The words of faults, for the texts that name them.
+ghost use Rattle.std.specs.Prelude.{◌≡◌};
+ghost use Rattle.bg_wire.specs.FaultWords.{numbered, wire_fault_words, load_fault_words};
+
+use crate::{LoadFault, WireFault};
+
+impl WireFault {
+    /// The fault in words, and the number that stands behind them, if there is one.
+    pub fn words(self) -> (&'static str, Option<u64>)
+        ensures { numbered result.0.now result.1 ≡ wire_fault_words self }
+    {
+        match self {
+            WireFault::Short => ("short", None),
+            WireFault::Magic => ("bad magic", None),
+            WireFault::Version => ("bad version", None),
+            WireFault::Kind => ("bad kind", None),
+            WireFault::Field(at) => ("bad field at ", Some(at as u64)),
+            WireFault::Extra => ("extra bytes", None),
+        }
+    }
+}
+
+impl LoadFault {
+    /// The fault in words, and the number that stands behind them, if there is one.
+    pub fn words(self) -> (&'static str, Option<u64>)
+        ensures { numbered result.0.now result.1 ≡ load_fault_words self }
+    {
+        match self {
+            LoadFault::Short => ("short", None),
+            LoadFault::Magic => ("bad magic", None),
+            LoadFault::Field(at) => ("bad field at ", Some(at as u64)),
+            LoadFault::Extra => ("extra bytes", None),
+            LoadFault::Illegal(number) => ("illegal entry ", Some(number.into())),
+            LoadFault::Memory => ("out of memory", None),
+        }
+    }
+}
