@@ -110,4 +110,5 @@ next_game s before = record s {
 abbrev pub after_win : State → Player → ℕ → State
 after_win s winner n =
     let t = scored s winner n in
-    if nat_lt (score_of t winner) (match_length s.terms) then next_game t (greater_score s) else record t { phase = Over winner }
+    if nat_lt (score_of t winner) (match_length s.terms) then next_game t (greater_score s)
+    else record t { phase = Over winner }

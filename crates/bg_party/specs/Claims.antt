@@ -26,7 +26,8 @@ claim_number (Some claim) = claim.0
 abbrev pub trial_dice : Dice
 trial_dice = record { first = One; second = One }
 
--- the seat of the player acts after the entries, its last claim is answered by them, and the entry of the action follows
+-- the seat of the player acts after the entries, its last claim is answered by them, and the entry of the action
+-- follows
 abbrev pub CanClaim : Terms → Player → List Entry → Option (ℕ × Action) → Action → Type 0
 CanClaim terms player entries claim action =
     ActsAfter terms entries (Seat player) × (claim_number claim ≤ length entries)
@@ -39,11 +40,13 @@ IsChooseFault fault.AlreadyClaimed log player claim action =
     ActsAfter log.terms log.entries (Seat player) × (length log.entries < claim_number claim)
 IsChooseFault (fault.Illegal why) log player claim action =
     ActsAfter log.terms log.entries (Seat player) × (claim_number claim ≤ length log.entries)
-    × ((e : Entry) × Answers action (Some trial_dice) e × (IsNext log.terms log.entries e → ⊥) × IsRecordFault why log e)
+    × ((e : Entry) × Answers action (Some trial_dice) e
+    × (IsNext log.terms log.entries e → ⊥) × IsRecordFault why log e)
 
 -- the action can be claimed, as the next entry; or why not
 abbrev pub MayClaim : Log → Player → Option (ℕ × Action) → Action → Result ℕ ChooseFault → Type 0
-MayClaim log player claim action (Ok n) = CanClaim log.terms player log.entries claim action × (n ≡ length log.entries + 1)
+MayClaim log player claim action (Ok n) =
+    CanClaim log.terms player log.entries claim action × (n ≡ length log.entries + 1)
 MayClaim log player claim action (Err why) = IsChooseFault why log player claim action
 
 -- the action is claimed as the next entry, and not saved yet; or nothing changes
@@ -54,7 +57,8 @@ Chooses old action (Ok n) new =
 Chooses old action (Err why) new = MayClaim old.follower.log old.player old.claim action (Err why) × (new ≡ old)
 
 -- what a seat makes of an action that its player chooses: it is claimed exactly where it can be
-pub record SeatChooses (old : SeatView) (action : Action) (result : Result ℕ ChooseFault) (new : SeatView) : Type 0 where
+pub record SeatChooses
+    (old : SeatView) (action : Action) (result : Result ℕ ChooseFault) (new : SeatView) : Type 0 where
   pub chooses : Chooses old action result new
   pub can : IsOk result ↔ CanClaim old.follower.log.terms old.player old.follower.log.entries old.claim action
 

@@ -15,7 +15,8 @@ use Rattle.bg_party.specs.declared.outcomes.Learned.TheVariants as learned
 -- what the list tells under numbers that are held is what is held; its first entry has the number `start`
 abbrev pub Agrees : List Entry → ℕ → List Entry → Type 0
 Agrees entries start list =
-    (i : ℕ) (e : Entry) → slice_get list i ≡ Some e → start + i ≤ length entries → at_number entries (start + i) ≡ Some e
+    (i : ℕ) (e : Entry) → slice_get list i ≡ Some e → start + i ≤ length entries
+    → at_number entries (start + i) ≡ Some e
 
 -- under this number the list tells another entry than the one that is held, and under no smaller one
 abbrev pub IsConflict : List Entry → ℕ → List Entry → ℕ → Type 0
@@ -68,7 +69,8 @@ grown f (packet.Entries id start list) spare =
     record f { log = record (f.log) { entries = f.log.entries ++ new_entries f.log.entries start list; spare = spare } }
 grown f _ spare = f
 
--- the follower afterwards: only `Grew` changes it, and takes no more of the spare room than it needs, where that is enough
+-- the follower afterwards: only `Grew` changes it, and takes no more of the spare room than it needs, where that is
+-- enough
 abbrev pub IsAfter : FollowerView → Packet → Learned → FollowerView → Type 0
 IsAfter old p (learned.Grew k) new =
     (new ≡ grown old p new.log.spare) × (k ≤ old.log.spare → new.log.spare + k ≡ old.log.spare)

@@ -34,8 +34,8 @@ pub record IsWatcher (w : WatcherView) : Type 0 where
 abbrev pub fresh_watcher : ℕ → ℕ → Terms → WatcherView
 fresh_watcher party id terms = record { party = party; follower = fresh_follower id terms }
 
--- its player, what it has as a follower, its last claim (the number of the entry that shall answer the action), whether
--- that is saved, and the number of the next save
+-- its player, what it has as a follower, its last claim (the number of the entry that shall answer the action),
+-- whether that is saved, and the number of the next save
 pub record SeatView : Type 0 where
   pub player : Player
   pub follower : FollowerView
@@ -52,8 +52,13 @@ pub record IsSeat (s : SeatView) : Type 0 where
 
 -- no claim counts as saved
 abbrev pub fresh_seat : Player → ℕ → Terms → SeatView
-fresh_seat player id terms =
-    record { player = player; follower = fresh_follower id terms; claim = None; claim_saved = true; next_save = least_save }
+fresh_seat player id terms = record {
+  player = player;
+  follower = fresh_follower id terms;
+  claim = None;
+  claim_saved = true;
+  next_save = least_save;
+}
 
 -- whose seat the party is
 abbrev pub player_of : ℕ → Player

@@ -2,8 +2,8 @@
 use bg_match::{EntryFault, Number};
 use thiserror::Error;
 
-/// What a follower learns from a packet, in the order in which the cases are tested (docs/PROTOCOL.md, "What a follower
-/// learns").
+/// What a follower learns from a packet, in the order in which the cases are tested (docs/PROTOCOL.md, "What a
+/// follower learns").
 #[derive(Clone, Copy, Debug, PartialEq, Eq)]
 pub enum Learned {
     /// The packet is of another match.

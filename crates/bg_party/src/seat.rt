@@ -35,7 +35,8 @@ fn player_of(party: u8) -> Player
     }
 }
 
-/// The seat of a player: it follows the match, and claims his actions, one under each number (docs/PROTOCOL.md, "Claims").
+/// The seat of a player: it follows the match, and claims his actions, one under each number (docs/PROTOCOL.md,
+/// "Claims").
 ///
 /// Contracts see its player, its record, its last claim, whether that is saved, and the number of the next save.
 #[derive(Debug, Drop)]
@@ -82,8 +83,8 @@ impl Seat {
         })
     }
 
-    /// The seat that goes on from what was saved, which is of party 1 or 2 (docs/PROTOCOL.md, "Restarting"). Its claim
-    /// counts as saved.
+    /// The seat that goes on from what was saved, which is of party 1 or 2 (docs/PROTOCOL.md, "Restarting"). Its
+    /// claim counts as saved.
     pub fn resume(alloc: Global, saved: Saved) -> Seat
         requires party { seat_of_x ≤ saved.party }
         requires savable { IsSavable (parts_of saved) }
@@ -118,8 +119,8 @@ impl Seat {
         }
     }
 
-    /// Learns from a packet (docs/PROTOCOL.md, "What a follower learns"). Only `Grew` changes the record; the claim stays.
-    /// The packet is one that has a text, as each that `decode` gives.
+    /// Learns from a packet (docs/PROTOCOL.md, "What a follower learns"). Only `Grew` changes the record; the claim
+    /// stays. The packet is one that has a text, as each that `decode` gives.
     pub fn take(&mut self, packet: &Packet) -> Learned
         requires { IsPacket packet.now }
         ensures takes { FollowerTakes self.old.follower packet.now result self.new.follower }
@@ -128,12 +129,12 @@ impl Seat {
         self.follower.take(packet)
     }
 
-    /// Claims an action as the next entry, and gives its number (docs/PROTOCOL.md, "Claims"). The claim takes the place of
-    /// the last one, and is sent once it is saved. A refusal changes nothing.
+    /// Claims an action as the next entry, and gives its number (docs/PROTOCOL.md, "Claims"). The claim takes the
+    /// place of the last one, and is sent once it is saved. A refusal changes nothing.
     ///
     /// # Errors
-    /// The first that holds: `NotYourTurn` where another party acts, or nobody; `AlreadyClaimed` where the seat has a claim
-    /// whose number is above the length of its record; `Illegal` where the action does not follow.
+    /// The first that holds: `NotYourTurn` where another party acts, or nobody; `AlreadyClaimed` where the seat has
+    /// a claim whose number is above the length of its record; `Illegal` where the action does not follow.
     pub fn choose(&mut self, action: Action) -> Result<Number, ChooseFault>
         ensures { SeatChooses self.old action result self.new }
     {
@@ -178,7 +179,8 @@ impl Seat {
     /// "Saving"). It changes nothing: once the text is written, `mark_saved` says so.
     ///
     /// # Errors
-    /// `SavesSpent` where the last save was that of number 4294967295, else `Memory` where there is no memory for the text.
+    /// `SavesSpent` where the last save was that of number 4294967295, else `Memory` where there is no memory for
+    /// the text.
     pub fn to_save(&self) -> Result<(Slot, u32, Vec<u8>), SaveRefusal>
         ensures { IsNextSave (parts_with (party_of self.now.player) self.now.next_save self.now.claim self.now.follower.log) result }
     {
@@ -202,8 +204,8 @@ impl Seat {
         self.last_save = save;
     }
 
-    /// What is to be sent to the referee: the claim, once it is saved and until the record answers it; else that the seat
-    /// wants the entries after its own.
+    /// What is to be sent to the referee: the claim, once it is saved and until the record answers it; else that
+    /// the seat wants the entries after its own.
     pub fn tick(&mut self) -> Option<Packet>
         ensures { SeatTicks self.old result self.new }
     {

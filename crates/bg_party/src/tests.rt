@@ -1,7 +1,8 @@
-//! Followers of match 1, of length 1, packet by packet. The packets are read from bytes, as they come from the referee.
+//! Followers of match 1, of length 1, packet by packet. The packets are read from bytes, as they come from the
+//! referee.
 //!
-//! A test is a list of assertions on short functions with no contract, each of which makes a call and compares what it
-//! gives. So neither what the call ensures nor the values that it makes burden the proof of the test.
+//! A test is a list of assertions on short functions with no contract, each of which makes a call and compares what
+//! it gives. So neither what the call ensures nor the values that it makes burden the proof of the test.
 
 ghost use Rattle.std.specs.Prelude.{IfSome};
 ghost use Rattle.bg_wire.specs.PacketText.{IsPacket};
@@ -15,8 +16,8 @@ use bg_wire::{FIRST_WATCHER, Packet, SEAT_OF_X, SaveRefusal, Slot, decode, resto
 use std::alloc::Global;
 use std::test::Fail;
 
-/// Entries as bytes: the opening 3 1, the opening 5 1, 8-5 6-5, 8-5 alone, a double, an offer of a normal game, one of a
-/// gammon, a rejection.
+/// Entries as bytes: the opening 3 1, the opening 5 1, 8-5 6-5, 8-5 alone, a double, an offer of a normal game, one
+/// of a gammon, a rejection.
 const OPENING: [u8; 3] = [1, 3, 1];
 
 const OTHER_OPENING: [u8; 3] = [1, 5, 1];
@@ -223,7 +224,8 @@ fn resumed(alloc: Global, bytes: &[u8]) -> Option<Seat> {
     }
 }
 
-/// Whether a seat that goes on from the first save has its record and its claim, which it sends and does not make again.
+/// Whether a seat that goes on from the first save has its record and its claim, which it sends and does not make
+/// again.
 fn goes_on_from_the_first_save(alloc: Global) -> bool {
     let Some(mut seat) = resumed(alloc, &FIRST_SAVE) else {
         return false;
@@ -372,7 +374,8 @@ fn lengths(rt: HostRuntime) -> Result<(), Fail> {
     Ok(())
 }
 
-/// Whether a seat learns an offer to resign under this number, and its rejection. Entries that lack memory are told again.
+/// Whether a seat learns an offer to resign under this number, and its rejection. Entries that lack memory are told
+/// again.
 fn learns_an_offer(seat: &mut Seat, number: u8) -> bool {
     let grew = Some(Learned::Grew(2));
     let learned = told(seat, number, &OFFERED, &REJECTED);

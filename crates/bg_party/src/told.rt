@@ -6,8 +6,8 @@ ghost use Rattle.bg_party.specs.Learns.{Agrees, IsConflict, new_entries};
 
 use bg_match::{Entry, Number, Record};
 
-/// The least number under which the list, whose first entry has the number `start`, tells another entry than the one that
-/// is held.
+/// The least number under which the list, whose first entry has the number `start`, tells another entry than the
+/// one that is held.
 pub(crate) fn first_conflict(log: &Record, start: Number, list: &[Entry]) -> Option<Number>
     requires first { 1 ≤ start }
     requires last { start + length list.now ≤ 65536 }

@@ -12,7 +12,8 @@ use bg_wire::{FIRST_WATCHER, Packet};
 use std::alloc::Global;
 use std::marker::Model;
 
-/// One who watches a match (docs/PROTOCOL.md, "Followers"). A watcher saves nothing: after a restart it begins afresh.
+/// One who watches a match (docs/PROTOCOL.md, "Followers"). A watcher saves nothing: after a restart it begins
+/// afresh.
 ///
 /// Contracts see its party and its record.
 #[derive(Debug, Drop)]

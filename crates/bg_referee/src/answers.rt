@@ -16,8 +16,8 @@ impl Referee {
     ghost use Rattle.bg_referee.specs.Takes.{RefereeTakes, Replies, ComesOf, AnswerFits, reply_to, reply_to_want, reply_to_claim};
     ghost use Rattle.bg_turns.specs.Dice.{dice_of};
 
-    /// Takes a packet (docs/PROTOCOL.md, "What the referee answers"). The word gives the dice where a roll is claimed. Only
-    /// `Accepted` changes the record. The packet is one that has a text, as each that `decode` gives.
+    /// Takes a packet (docs/PROTOCOL.md, "What the referee answers"). The word gives the dice where a roll is
+    /// claimed. Only `Accepted` changes the record. The packet is one that has a text, as each that `decode` gives.
     pub fn take(&mut self, packet: &Packet, word: u32) -> TakeOutcome
         requires { IsPacket packet.now }
         ensures { RefereeTakes self.old packet.now word result self.new }

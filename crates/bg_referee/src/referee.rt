@@ -14,8 +14,8 @@ use std::marker::Model;
 
 /// The referee of a match: it alone decides which entries the match has (docs/PROTOCOL.md, "The referee").
 ///
-/// It has no input or output of its own: it is handed packets, and answers what is to be sent and what is to be saved.
-/// It tells the parties saved entries alone, so that a restart never takes back what anybody has seen.
+/// It has no input or output of its own: it is handed packets, and answers what is to be sent and what is to be
+/// saved. It tells the parties saved entries alone, so that a restart never takes back what anybody has seen.
 ///
 /// Contracts see the record, how many of its entries are saved, and the number of the next save.
 #[derive(Debug, Drop)]
@@ -58,8 +58,8 @@ impl Referee {
         })
     }
 
-    /// The referee that goes on from what was saved, which is of party 0 (docs/PROTOCOL.md, "Restarting"). All of its entries
-    /// count as saved.
+    /// The referee that goes on from what was saved, which is of party 0 (docs/PROTOCOL.md, "Restarting"). All of
+    /// its entries count as saved.
     pub fn resume(alloc: Global, saved: Saved) -> Referee
         requires party { saved.party ≡ referee }
         requires savable { IsSavable (parts_of saved) }
@@ -89,13 +89,13 @@ impl Referee {
         self.saved
     }
 
-    /// Opens a game with the dice of a random word, X's die first, and gives the number of that entry (docs/PROTOCOL.md,
-    /// "Opening a game"). A refusal changes nothing.
+    /// Opens a game with the dice of a random word, X's die first, and gives the number of that entry
+    /// (docs/PROTOCOL.md, "Opening a game"). A refusal changes nothing.
     ///
     /// # Errors
     /// The first that holds: `NothingDue` where no game is to be opened, `WordRefused` where the word has no dice,
-    /// `EqualOpening` where they are equal, `RecordFull` where there are 65535 entries, `Memory` where there is no room and
-    /// no memory for more.
+    /// `EqualOpening` where they are equal, `RecordFull` where there are 65535 entries, `Memory` where there is no
+    /// room and no memory for more.
     pub fn due(&mut self, word: u32) -> Result<Number, DueFault>
         ensures { RefereeDues self.old word result self.new }
     {

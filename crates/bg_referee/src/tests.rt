@@ -1,7 +1,7 @@
 //! A referee of match 1, of length 1, packet by packet. The packets are read from bytes, as they come from a party.
 //!
-//! A test is a list of assertions on short functions with no contract, each of which makes a call and compares what it
-//! gives. So neither what the call ensures nor the values that it makes burden the proof of the test.
+//! A test is a list of assertions on short functions with no contract, each of which makes a call and compares what
+//! it gives. So neither what the call ensures nor the values that it makes burden the proof of the test.
 
 use crate::{DueFault, Referee, TakeOutcome};
 use arrayvec::ArrayVec;
@@ -28,8 +28,8 @@ const O: u8 = 2;
 /// The first watcher.
 const WATCHER: u8 = 3;
 
-/// Actions as bytes: to roll, to take a double, to play 8-5 6-5, to play 8-5 alone, to offer a normal game or a gammon, to
-/// reject an offer.
+/// Actions as bytes: to roll, to take a double, to play 8-5 6-5, to play 8-5 alone, to offer a normal game or a
+/// gammon, to reject an offer.
 const ROLL: [u8; 1] = [2];
 
 const TAKE: [u8; 1] = [4];
@@ -50,7 +50,8 @@ const SECOND_SAVE: [u8; 30] = [
     0x03, 0x01, 0x06, 0x02, 0x08, 0x05, 0x06, 0x05,
 ];
 
-/// What the referee makes of the packet of this kind in match `id`, with these bytes; `None` where they are no packet.
+/// What the referee makes of the packet of this kind in match `id`, with these bytes; `None` where they are no
+/// packet.
 fn taken(
     referee: &mut Referee,
     kind: u8,
@@ -355,7 +356,8 @@ fn repeated_claims_count_once(rt: HostRuntime) -> Result<(), Fail> {
     Ok(())
 }
 
-/// Appends the entry of this number: an offer to resign by X, or its rejection by O. A claim that lacks memory is sent again.
+/// Appends the entry of this number: an offer to resign by X, or its rejection by O. A claim that lacks memory is
+/// sent again.
 fn offer(referee: &mut Referee, number: u8) -> bool {
     let (party, action) = if number % 2 == 0 {
         (X, OFFER.as_slice())

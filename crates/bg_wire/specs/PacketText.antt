@@ -59,8 +59,8 @@ pub record IsText (p : Packet) (bytes : List ℕ) : Type 0 where
   pub in_range : IsPacket p
   pub spelled : bytes ≡ packet_text p
 
--- the widths of the first fields behind the header, by the kind: the sender and a number, or the number where the entries
--- start. Behind them each byte is a field
+-- the widths of the first fields behind the header, by the kind: the sender and a number, or the number where the
+-- entries start. Behind them each byte is a field
 abbrev pub body_widths : ℕ → List ℕ
 body_widths kind =
     if kind == want_kind then 1 ∷ 2 ∷ [] else if kind == claim_kind then 1 ∷ 2 ∷ [] else 2 ∷ []

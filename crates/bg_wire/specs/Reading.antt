@@ -1,4 +1,5 @@
--- Reading fields from left to right, up to the first fault, as the code does it: words of private contracts, of which no public clause speaks.
+-- Reading fields from left to right, up to the first fault, as the code does it: words of private contracts, of
+-- which no public clause speaks.
 use Rattle.std.specs.Prelude.{◌≡◌, ℕ, zero, suc, ◌+◌, ◌==◌, Bool, false, List, [], ◌∷◌, length, take, drop, Result, Ok, Err, nat_lt, ◌||◌, if◌then◌else◌}
 use Rattle.std.specs.Int.{w16, w32, w64, from_be_bytes}
 use Rattle.bg_wire.specs.declared.reader.ReadFault.{ReadFault}
@@ -29,7 +30,8 @@ is_outside low high n = nat_lt n low || nat_lt high n
 
 abbrev pub byte_of : ℕ → ℕ → ℕ → List ℕ → Read ℕ
 byte_of low high at [] = Err Short
-byte_of low high at (b ∷ rest) = if is_outside low high b then Err (Field at) else Ok (b, record { at = at + 1; rest = rest })
+byte_of low high at (b ∷ rest) =
+    if is_outside low high b then Err (Field at) else Ok (b, record { at = at + 1; rest = rest })
 
 -- a byte from low to high
 unfoldable pub u8_at : ℕ → ℕ → Cursor → Read ℕ

@@ -49,8 +49,8 @@ abbrev pub saved_text : SavedParts → List ℕ
 saved_text p =
     front_text p.party p.id p.terms p.save p.claim (length p.entries) ++ entries_bytes p.entries
 
--- the widths of the first fields of a saved text: magic, party, match id, terms, save and claim flag; then a claim's number.
--- Behind them each byte is a field, also each of the two of the count: any two bytes are a count
+-- the widths of the first fields of a saved text: magic, party, match id, terms, save and claim flag; then a
+-- claim's number. Behind them each byte is a field, also each of the two of the count: any two bytes are a count
 abbrev pub saved_widths : ℕ → List ℕ
 saved_widths flag = 4 ∷ 1 ∷ 8 ∷ 1 ∷ 4 ∷ 1 ∷ (if flag == no_claim_flag then [] else 2 ∷ [])
 

@@ -72,7 +72,8 @@ abbrev pub save_in : Option SavedParts → ℕ
 save_in None = 0
 save_in (Some p) = p.save
 
--- the slots restore this, and its text stands in the slot of its save: so the next save goes over the older of two texts
+-- the slots restore this, and its text stands in the slot of its save: so the next save goes over the older of two
+-- texts
 pub record AreWritten (slots : Slots) (restored : Option SavedParts) : Type 0 where
   pub restore : SlotsRestore slots.zero slots.one restored
   pub in_its_slot : (p : SavedParts) → restored ≡ Some p → IsSavedText p (bytes_in slots (slot_of p.save))
@@ -102,7 +103,8 @@ GivesBack restored (Err Damaged) = ⊥
 GivesBack restored (Err WrongMatch) = ⊥
 GivesBack restored (Err Memory) = Unit {0}
 
--- the party of a match may have these slots: what they restore is of that match, and slot 0 is empty where that is nothing
+-- the party of a match may have these slots: what they restore is of that match, and slot 0 is empty where that is
+-- nothing
 abbrev pub AreOfMatch : ℕ → ℕ → Terms → Slots → Option SavedParts → Type 0
 AreOfMatch party id terms slots None = slots.zero ≡ []
 AreOfMatch party id terms slots (Some p) = IsSavedBy party id terms p
@@ -110,6 +112,7 @@ AreOfMatch party id terms slots (Some p) = IsSavedBy party id terms p
 -- want of memory aside, restoring gives what the slots restore
 abbrev pub GivesWhatSlotsRestore : Type 0
 GivesWhatSlotsRestore =
-    (slots : Slots) (restored : Option SavedParts) (party id : ℕ) (terms : Terms) (answer : Result (Option Saved) RestoreRefusal)
+    (slots : Slots) (restored : Option SavedParts) (party id : ℕ) (terms : Terms)
+    (answer : Result (Option Saved) RestoreRefusal)
     → SlotsRestore slots.zero slots.one restored → AreOfMatch party id terms slots restored
     → Restores slots.zero slots.one party id terms answer → GivesBack restored answer

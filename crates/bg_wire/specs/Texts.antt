@@ -19,8 +19,8 @@ IsFront {A} IsTextOf bytes = (x : A) × (rest : List ℕ) × IsTextOf x (bytes +
 abbrev pub GoesOn : {A : Type 0} → (A → List ℕ → Type 0) → List ℕ → Type 0
 GoesOn {A} IsTextOf bytes = (x : A) × (rest : List ℕ) × IsTextOf x (bytes ++ rest) × (rest ≢ [])
 
--- the width of the field that begins at this offset, where the first fields have these widths and each byte behind them
--- is a field; 0 where no field begins there
+-- the width of the field that begins at this offset, where the first fields have these widths and each byte behind
+-- them is a field; 0 where no field begins there
 abbrev pub width_at : List ℕ → ℕ → ℕ
 width_at [] at = 1
 width_at (width ∷ widths) at =
@@ -36,7 +36,8 @@ pub record IsCut {A : Type 0} (IsTextOf : A → List ℕ → Type 0) (width : Li
   pub goes_on : GoesOn IsTextOf before
 
 -- the field at this offset is wrong: what stands before it begins a text, and with the whole field it begins none
-pub record IsWrongAt {A : Type 0} (IsTextOf : A → List ℕ → Type 0) (width : List ℕ → ℕ) (bytes : List ℕ) (at : ℕ) : Type 0 where
+pub record IsWrongAt
+    {A : Type 0} (IsTextOf : A → List ℕ → Type 0) (width : List ℕ → ℕ) (bytes : List ℕ) (at : ℕ) : Type 0 where
   pub before : List ℕ
   pub wrong : List ℕ
   pub behind : List ℕ

@@ -1,5 +1,5 @@
-//! The codes and ranges that all layouts share (docs/FORMATS.md, "Entries and actions in bytes"). An action has the code
-//! of the entry that answers it.
+//! The codes and ranges that all layouts share (docs/FORMATS.md, "Entries and actions in bytes"). An action has the
+//! code of the entry that answers it.
 use bg_match::Number;
 
 /// An opening of a game: X's die and O's die follow.

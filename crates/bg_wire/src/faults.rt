@@ -26,8 +26,9 @@ pub enum WireFault {
     Extra,
 }
 
-/// Why bytes are no saved text. Bytes are read from left to right, a field is tested once all its bytes are there, and the
-/// first fault met is named; the entries are tried once the whole layout holds (docs/FORMATS.md, "Saved files").
+/// Why bytes are no saved text. Bytes are read from left to right, a field is tested once all its bytes are there,
+/// and the first fault met is named; the entries are tried once the whole layout holds (docs/FORMATS.md, "Saved
+/// files").
 #[derive(Clone, Copy, Debug, PartialEq, Eq, Error)]
 pub enum LoadFault {
     /// A byte that is needed is missing.
@@ -61,8 +62,8 @@ pub enum SaveRefusal {
     Memory,
 }
 
-/// Why nothing is restored of two slots, in the order in which the refusals are tested; want of memory comes in place of
-/// any other answer (docs/FORMATS.md, "Saved files").
+/// Why nothing is restored of two slots, in the order in which the refusals are tested; want of memory comes in
+/// place of any other answer (docs/FORMATS.md, "Saved files").
 #[derive(Clone, Copy, Debug, PartialEq, Eq, Error)]
 pub enum RestoreRefusal {
     /// Neither slot has a saved text, and slot 0 is not empty.

@@ -35,8 +35,8 @@ impl Model for EntryList {
     ghost inverse = { λ entries. record { entries = record { items = entries } } };
 }
 
-/// What the parties of a match send each other (docs/FORMATS.md, "Packets"). Parties are numbered: 0 is the referee, 1
-/// the seat of X, 2 the seat of O, and the others watch.
+/// What the parties of a match send each other (docs/FORMATS.md, "Packets"). Parties are numbered: 0 is the
+/// referee, 1 the seat of X, 2 the seat of O, and the others watch.
 #[derive(Debug, PartialEq, Eq, Drop)]
 pub enum Packet {
     /// A party asks the referee for the entries after those that it holds.

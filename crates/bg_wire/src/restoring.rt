@@ -8,13 +8,14 @@ use crate::{LoadFault, RestoreRefusal, Saved, load};
 use bg_match::Terms;
 use std::alloc::Global;
 
-/// What a party of a match comes back with, by the bytes of its two slots: of the saved texts among them the one whose
-/// save has the greater number, and that of slot 0 where they are equal; `None` where neither slot has a saved text and
-/// slot 0 is empty (docs/FORMATS.md, "Saved files").
+/// What a party of a match comes back with, by the bytes of its two slots: of the saved texts among them the one
+/// whose save has the greater number, and that of slot 0 where they are equal; `None` where neither slot has a
+/// saved text and slot 0 is empty (docs/FORMATS.md, "Saved files").
 ///
 /// # Errors
-/// `Damaged` where neither slot has a saved text and slot 0 is not empty; `WrongMatch` where the party, the id or the terms
-/// of the chosen text are others; `Memory` where there is none for the entries of a text, in place of any other answer.
+/// `Damaged` where neither slot has a saved text and slot 0 is not empty; `WrongMatch` where the party, the id or
+/// the terms of the chosen text are others; `Memory` where there is none for the entries of a text, in place of any
+/// other answer.
 pub fn restore(
     alloc: Global,
     slot0: &[u8],

@@ -112,8 +112,8 @@ fn index_bytes(log: &Record, index: Number) -> EntryBytes
 /// What the saved text says (docs/FORMATS.md, "Saved files"). The claim is not compared with the record.
 ///
 /// # Errors
-/// The first fault of the layout that is met from left to right. Where the layout holds, Illegal of the first entry that
-/// does not follow. Memory where there is none for the entries.
+/// The first fault of the layout that is met from left to right. Where the layout holds, Illegal of the first entry
+/// that does not follow. Memory where there is none for the entries.
 pub fn load(alloc: Global, bytes: &[u8]) -> Result<Saved, LoadFault>
     // What is loaded is spelled so.
     ensures found { IfOk result (λ saved. IsSavedText (parts_of saved) bytes.now) }
@@ -138,7 +138,8 @@ pub fn load(alloc: Global, bytes: &[u8]) -> Result<Saved, LoadFault>
     load_record(alloc, bytes)
 }
 
-/// The saved text as a record, once the whole layout is known to hold: so no count is trusted before its bytes are there.
+/// The saved text as a record, once the whole layout is known to hold: so no count is trusted before its bytes are
+/// there.
 fn load_record(alloc: Global, bytes: &[u8]) -> Result<Saved, LoadFault>
     ensures { Loads result (layout_of bytes.now) }
 {

@@ -46,7 +46,8 @@ pub fn laws_of_restoring()
     ensures back { GivesWhatSlotsRestore }
 {}
 
-/// Saves go to the two slots by turns. After a save the slots restore it; after one that was cut short, what they did.
+/// Saves go to the two slots by turns. After a save the slots restore it; after one that was cut short, what they
+/// did.
 pub fn laws_of_saving()
     ensures turns { GoesByTurns }
     ensures other { NextGoesToTheOther }

@@ -461,7 +461,8 @@ fn longest_record_saved(rt: HostRuntime) -> Result<(), Fail> {
     Ok(())
 }
 
-/// What stands before the entries has at most 33 bytes, with the claim of a turn of four steps; an entry has at most ten.
+/// What stands before the entries has at most 33 bytes, with the claim of a turn of four steps; an entry has at
+/// most ten.
 #[test]
 fn longest_texts(rt: HostRuntime) {
     assert_eq!(rt;
@@ -497,8 +498,8 @@ fn loaded_at_last(alloc: Global, bytes: &[u8]) -> Result<Saved, LoadFault>
     }
 }
 
-/// Where memory is refused the same call then succeeds. No run of the tests refuses any, but `tools/refuse_growths` refuses
-/// each growth in turn.
+/// Where memory is refused the same call then succeeds. No run of the tests refuses any, but `tools/refuse_growths`
+/// refuses each growth in turn.
 #[test]
 fn refused_growths(rt: HostRuntime) -> Result<(), Fail> {
     for bytes in [REFEREE_SAVE.as_slice(), &SEAT_SAVE] {

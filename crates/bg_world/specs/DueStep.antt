@@ -11,7 +11,8 @@ use Rattle.bg_world.specs.State.{State}
 abbrev pub with_entry : State → Entry → State
 with_entry w e = record w { referee = record (w.referee) { log = w.referee.log ++ e ∷ [] } }
 
--- The referee's record grows by the entry that is due with the word, exactly where there is one, want of memory aside.
+-- The referee's record grows by the entry that is due with the word, exactly where there is one, want of memory
+-- aside.
 abbrev pub DueStep : State → ℕ → Outcome → State → Type 0
 DueStep w word (outcomes.Due (Ok n)) v =
     (e : Entry) × IsDue w.terms w.referee.log word e × (v ≡ with_entry w e) × (n ≡ length w.referee.log + 1)

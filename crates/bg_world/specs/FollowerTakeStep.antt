@@ -13,7 +13,8 @@ use Rattle.bg_world.specs.declared.events.Outcome.TheVariants as outcomes
 use Rattle.bg_world.specs.Datagrams.{WasSent, WasShown}
 
 -- the record grows to a legal one, by entries each of which was shown to the party under its number
-pub record GrowsAsShown (id : ℕ) (terms : Terms) (sent : List Datagram) (party : ℕ) (old new : List Entry) : Type 0 where
+pub record GrowsAsShown
+    (id : ℕ) (terms : Terms) (sent : List Datagram) (party : ℕ) (old new : List Entry) : Type 0 where
   pub more : List Entry
   pub is : new ≡ old ++ more
   pub legal : IsLegalRecord terms new
@@ -23,10 +24,12 @@ pub record GrowsAsShown (id : ℕ) (terms : Terms) (sent : List Datagram) (party
 abbrev pub HoldsWhatContinues : ℕ → Terms → List Entry → Packet → List Entry → Type 0
 HoldsWhatContinues id terms old p new = Continues id terms old p → Holds new p
 
--- The record grows by k entries exactly where the party has learned k. What continues it is held, want of memory aside.
+-- The record grows by k entries exactly where the party has learned k. What continues it is held, want of memory
+-- aside.
 abbrev pub LearnStep : ℕ → Terms → List Datagram → ℕ → Packet → Learned → List Entry → List Entry → Type 0
 LearnStep id terms sent party p (learns.Grew k) old new =
-    (0 < k) × (length new ≡ length old + k) × GrowsAsShown id terms sent party old new × HoldsWhatContinues id terms old p new
+    (0 < k) × (length new ≡ length old + k) × GrowsAsShown id terms sent party old new
+    × HoldsWhatContinues id terms old p new
 LearnStep id terms sent party p learns.Memory old new = new ≡ old
 LearnStep id terms sent party p _ old new = HoldsWhatContinues id terms old p new × (new ≡ old)
 

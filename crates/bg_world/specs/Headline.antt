@@ -16,8 +16,8 @@ AreAnswered w =
     → SeatAfter w.terms (take (n - 1) w.referee.log) (Some player)
     → (action : Action) × IsOnlyClaim w.sent player n action × IsAnswer action e
 
--- every party's record is a prefix of the referee's; the referee's record is a legal match; and every entry of a seat in it
--- answers the one action that this seat ever claimed under that number
+-- every party's record is a prefix of the referee's; the referee's record is a legal match; and every entry of a
+-- seat in it answers the one action that this seat ever claimed under that number
 pub record Headline (w : State) : Type 0 where
   pub prefix : (party : ℕ) (log : List Entry) → log_of w party ≡ Some log → IsPrefix log w.referee.log
   pub legal : IsLegalRecord w.terms w.referee.log

@@ -31,16 +31,16 @@ pub record IsLegalClaim (terms : Terms) (saved : List Entry) (player : Player) (
   pub of_action : Answers action (Some trial_dice) entry
   pub legal : IsNext terms (take before saved) entry
 
--- the packet is of this match, and says what its sender may say: a party that exists asks for no more than is saved, a seat
--- claims what it could claim, and entries are saved ones under their own numbers
+-- the packet is of this match, and says what its sender may say: a party that exists asks for no more than is
+-- saved, a seat claims what it could claim, and entries are saved ones under their own numbers
 abbrev pub IsSound : State → Packet → Type 0
 IsSound w (packet.Want id sender held) = (id ≡ w.id) × Exists w sender × (held ≤ w.referee.saved)
 IsSound w (packet.Claim id sender n action) =
     (id ≡ w.id) × ((player : Player) × (sender ≡ party_of player) × IsLegalClaim w.terms (saved_log w) player n action)
 IsSound w (packet.Entries id start list) = (id ≡ w.id) × IsRun (saved_log w) start list
 
--- what the referee may be handed: a claim is no later than the next entry, and there it is of the seat that acts, and its
--- entry may follow, with any dice
+-- what the referee may be handed: a claim is no later than the next entry, and there it is of the seat that acts,
+-- and its entry may follow, with any dice
 pub record IsNoClaimRefused (w : State) : Type 0 where
   pub not_ahead : (id sender n : ℕ) (a : Action) → WasSent w.sent referee (packet.Claim id sender n a)
       → n ≤ length w.referee.log + 1
@@ -53,10 +53,10 @@ pub record IsNoClaimRefused (w : State) : Type 0 where
 
 -- what a follower may be handed: entries agree with its record, and where they join it they continue it legally
 pub record AreNoEntriesRefused (w : State) : Type 0 where
-  pub agree : (party : ℕ) (log : List Entry) (to id start : ℕ) (list : List Entry) → 0 < party → log_of w party ≡ Some log
-      → WasSent w.sent to (packet.Entries id start list) → Agrees log start list
-  pub follow : (party : ℕ) (log : List Entry) (to id start : ℕ) (list : List Entry) → 0 < party → log_of w party ≡ Some log
-      → WasSent w.sent to (packet.Entries id start list) → start ≤ length log + 1
+  pub agree : (party : ℕ) (log : List Entry) (to id start : ℕ) (list : List Entry)
+      → 0 < party → log_of w party ≡ Some log → WasSent w.sent to (packet.Entries id start list) → Agrees log start list
+  pub follow : (party : ℕ) (log : List Entry) (to id start : ℕ) (list : List Entry)
+      → 0 < party → log_of w party ≡ Some log → WasSent w.sent to (packet.Entries id start list) → start ≤ length log + 1
       → IsLegalRecord w.terms (log ++ new_entries log start list)
 
 -- no packet that was ever sent is refused for its match, its number, its turn or its rules
@@ -73,4 +73,5 @@ pub record AreWhole (id : ℕ) (terms : Terms) (party : ℕ) (slots : Slots) (re
 -- no slot is refused for its text
 pub record IsNoSlotRefused (w : State) : Type 0 where
   pub referee : AreWhole w.id w.terms referee w.referee.slots w.referee.restorable
-  pub seats : (player : Player) → AreWhole w.id w.terms (party_of player) (seat w player).slots (seat w player).restorable
+  pub seats : (player : Player)
+      → AreWhole w.id w.terms (party_of player) (seat w player).slots (seat w player).restorable

@@ -43,6 +43,8 @@ abbrev pub RestartStep : State → Role → Outcome → State → Type 0
 RestartStep w AsReferee o v =
     RestartsTo o (λ up. v ≡ record w { referee = restored_referee w.referee.slots w.referee.restorable up })
 RestartStep w (AsSeat player) o v =
-    SeatChanges w player v (λ new. RestartsTo o (λ up. new ≡ restored_seat (seat w player).slots (seat w player).restorable up))
+    SeatChanges w player v (λ new. RestartsTo o
+    (λ up. new ≡ restored_seat (seat w player).slots (seat w player).restorable up))
 RestartStep w (AsWatcher index) o v =
-    AtWatcher w index o v (λ log. (o ≡ outcomes.Restarted) × (v ≡ record w { watchers = slice_set w.watchers index [] }))
+    AtWatcher w index o v (λ log. (o ≡ outcomes.Restarted)
+    × (v ≡ record w { watchers = slice_set w.watchers index [] }))

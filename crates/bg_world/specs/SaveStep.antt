@@ -37,12 +37,16 @@ to_save_seat id terms player f = record {
   entries = f.log;
 }
 
--- Where the save is written, all entries count as saved. Where it is not, the referee is down, with what its slots restore.
+-- Where the save is written, all entries count as saved. Where it is not, the referee is down, with what its slots
+-- restore.
 abbrev pub RefereeSaveStep : State → Outcome → State → Type 0
 RefereeSaveStep w (outcomes.Saved k) v =
     (k ≡ next_number w.referee.restorable)
-    × ((slots : Slots) × (restorable : Option SavedParts) × SaveWritten (to_save_referee w) w.referee.slots slots restorable
-    × (v ≡ record w { referee = record (w.referee) { saved = length w.referee.log; slots = slots; restorable = restorable } }))
+    × ((slots : Slots) × (restorable : Option SavedParts)
+    × SaveWritten (to_save_referee w) w.referee.slots slots restorable
+    × (v ≡ record w {
+      referee = record (w.referee) { saved = length w.referee.log; slots = slots; restorable = restorable };
+    }))
 RefereeSaveStep w outcomes.SaveFault v =
     (slots : Slots) × (restorable : Option SavedParts) × SaveTorn (to_save_referee w) w.referee.slots slots restorable
     × (v ≡ record w { referee = restored_referee slots restorable false })
@@ -50,14 +54,17 @@ RefereeSaveStep w outcomes.SavesSpent v = v ≡ w
 RefereeSaveStep w outcomes.Memory v = v ≡ w
 RefereeSaveStep w _ v = ⊥
 
--- Where the save is written, the claim counts as saved. Where it is not, the seat is down, with what its slots restore.
+-- Where the save is written, the claim counts as saved. Where it is not, the seat is down, with what its slots
+-- restore.
 abbrev pub SeatSaveStep : ℕ → Terms → Player → Outcome → SeatState → SeatState → Type 0
 SeatSaveStep id terms player (outcomes.Saved k) old new =
     (k ≡ next_number old.restorable)
-    × ((slots : Slots) × (restorable : Option SavedParts) × SaveWritten (to_save_seat id terms player old) old.slots slots restorable
+    × ((slots : Slots) × (restorable : Option SavedParts)
+    × SaveWritten (to_save_seat id terms player old) old.slots slots restorable
     × (new ≡ record old { claim_saved = true; slots = slots; restorable = restorable }))
 SeatSaveStep id terms player outcomes.SaveFault old new =
-    (slots : Slots) × (restorable : Option SavedParts) × SaveTorn (to_save_seat id terms player old) old.slots slots restorable
+    (slots : Slots) × (restorable : Option SavedParts)
+    × SaveTorn (to_save_seat id terms player old) old.slots slots restorable
     × (new ≡ restored_seat slots restorable false)
 SeatSaveStep id terms player outcomes.SavesSpent old new = new ≡ old
 SeatSaveStep id terms player outcomes.Memory old new = new ≡ old

@@ -32,7 +32,8 @@ abbrev pub IsTorn : List ℕ → List ℕ → List ℕ → Type 0
 IsTorn old text left = (left ≡ old) ⊎ IsFrontOf left text
 
 -- the bytes stand in the slot of this save, the other slot is as it was, and this is what the slots restore then
-pub record AfterWrite (old : Slots) (save : ℕ) (bytes : List ℕ) (new : Slots) (restorable : Option SavedParts) : Type 0 where
+pub record AfterWrite
+    (old : Slots) (save : ℕ) (bytes : List ℕ) (new : Slots) (restorable : Option SavedParts) : Type 0 where
   pub slots : new ≡ with_slot old (slot_of save) bytes
   pub restore : SlotsRestore new.zero new.one restorable
 

@@ -32,7 +32,8 @@ pub record SeatState : Type 0 where
   pub slots : Slots
   pub restorable : Option SavedParts
 
--- a match, its parties, and every datagram that was ever sent; of a watcher, who is never down, there is its record alone
+-- a match, its parties, and every datagram that was ever sent; of a watcher, who is never down, there is its record
+-- alone
 pub record State : Type 0 where
   pub id : ℕ
   pub terms : Terms

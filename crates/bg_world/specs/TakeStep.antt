@@ -19,5 +19,6 @@ TakeStep w (AsSeat player) word o v =
     ((log : List Entry) × FollowerTakeStep w.id w.terms w.sent (party_of player) o (seat w player).log log
     × (new ≡ record (seat w player) { log = log })))
 TakeStep w (AsWatcher index) word o v =
-    AtWatcher w index o v (λ old. (new : List Entry) × FollowerTakeStep w.id w.terms w.sent (first_watcher + index) o old new
+    AtWatcher w index o v (λ old. (new : List Entry)
+    × FollowerTakeStep w.id w.terms w.sent (first_watcher + index) o old new
     × (v ≡ record w { watchers = slice_set w.watchers index new }))

@@ -16,7 +16,8 @@ use Rattle.bg_world.specs.Frames.{IfUp, AtWatcher, SendsAtMost}
 use Rattle.bg_world.specs.RefereeTakeStep.{ShowsSaved}
 use Rattle.bg_world.specs.State.{State, Exists, seat}
 
--- so many datagrams are sent as the outcome says, two at most; where the link or memory fails, those before and perhaps one more
+-- so many datagrams are sent as the outcome says, two at most; where the link or memory fails, those before and
+-- perhaps one more
 abbrev pub Sends : (Datagram → Type 0) → State → Outcome → State → Type 0
 Sends may w (outcomes.Sent n) v = (sends : SendsAtMost may 2 w v) × (length sends.out ≡ n)
 Sends may w outcomes.LinkFault v = SendsAtMost may 2 w v
@@ -33,12 +34,13 @@ seat_packet id party log (Some claim) true =
     if nat_lt (length log) claim.0 then packet.Claim id party claim.0 claim.1 else want_packet id party log
 seat_packet id party log _ _ = want_packet id party log
 
--- The referee sends saved entries, under their own numbers, to parties that exist. A follower sends to the referee what it
--- asks for, and a seat its saved claim.
+-- The referee sends saved entries, under their own numbers, to parties that exist. A follower sends to the referee
+-- what it asks for, and a seat its saved claim.
 abbrev pub TickStep : State → Role → Outcome → State → Type 0
 TickStep w AsReferee o v = IfUp w.referee.up w o v (Sends (λ d. Exists w d.to × ShowsSaved w d) w o v)
 TickStep w (AsSeat player) o v =
     let f = seat w player in
-    IfUp f.up w o v (Sends (λ d. Carries d referee (seat_packet w.id (party_of player) f.log f.claim f.claim_saved)) w o v)
+    IfUp f.up w o v
+    (Sends (λ d. Carries d referee (seat_packet w.id (party_of player) f.log f.claim f.claim_saved)) w o v)
 TickStep w (AsWatcher index) o v =
     AtWatcher w index o v (λ log. Sends (λ d. Carries d referee (want_packet w.id (first_watcher + index) log)) w o v)

@@ -1,4 +1,5 @@
-//! The protocol of all parties together: what may happen to them, what each event comes to, and what holds after any run.
+//! The protocol of all parties together: what may happen to them, what each event comes to, and what holds after
+//! any run.
 #![tactic(auto)]
 
 mod events;

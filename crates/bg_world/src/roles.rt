@@ -20,7 +20,8 @@ pub enum Role {
 impl Role {
     ghost use Rattle.bg_world.specs.Roles.{role};
 
-    /// The part of the party of this number: 0 is the referee, 1 the seat of X, 2 the seat of O, and the others watch.
+    /// The part of the party of this number: 0 is the referee, 1 the seat of X, 2 the seat of O, and the others
+    /// watch.
     pub fn of(party: u8) -> Role
         ensures value { result ≡ role party }
         ensures watcher { (index : ℕ) → result ≡ roles.Watcher index → first_watcher ≤ party }
