@@ -7,6 +7,7 @@ pub mod PacketLaws
 pub mod SavedLaws
 pub mod SavedEntries
 pub mod Loading
+pub mod Replaying
 pub mod Numbers
 pub mod OneText
 pub mod SlotTurns

@@ -17,7 +17,8 @@ use Rattle.bg_wire.specs.Texts.{HasMore}
 use Rattle.bg_wire.specs.Reading.{Read, whole_of}
 use Rattle.bg_wire.specs.SavedText.{SavedParts, IsSavable, IsLayoutOf, IsSavedText, IsFirstIllegal, IsIllegalAt, HasEntries, parts_of}
 use Rattle.bg_wire.specs.Faults.{IsLoadFault}
-use Rattle.bg_wire.specs.SavedReading.{load_fault, saved_at, layout_of, Replays, Loads}
+use Rattle.bg_wire.specs.SavedReading.{load_fault, saved_at, layout_of, fields_of, Replays, Loads}
+use Rattle.bg_wire.specs.declared.saved_version_one.Front.{Front}
 use Rattle.bg_wire.proofs.Laws.{IsBytes, from_front, is_found, is_read, is_short, has_more, is_extra, says_why}
 use Rattle.bg_wire.proofs.SavedLaws.{saved_law, says_field, not_extra}
 
@@ -218,16 +219,18 @@ module _ (bytes : List ℕ) (result : Result Saved LoadFault) (loads : Loads res
           absurd (layout_never bytes fault.Memory never_memory (λ x. absurd (cc x)) (was ∙ ap (λ (x : LoadFault). Err x) same))
 
 -- where a replay stops, loading stops
-pub stopped : {A : Type 0} (r : Result A LoadFault) (f : LoadFault) (old new : Log) (p : SavedParts) → r ≡ Err f → old.terms ≡ p.terms → Replays r old new p.entries → Loads (Err f) (Ok p)
-stopped {A} r f old new p e same h = go f (subst (λ (s : Result A LoadFault). Replays s old new p.entries) e h)
+pub stopped : {A : Type 0} (r : Result A LoadFault) (f : LoadFault) (old new : Log) (front : Front) (read : Result (List Entry) LoadFault) → r ≡ Err f → old.terms ≡ front.terms
+    → Replays r old new read → Loads (Err f) (fields_of front read)
+stopped {A} r f old new front read e same h = go f read (subst (λ (s : Result A LoadFault). Replays s old new read) e h)
   where
-    go : (f : LoadFault) → Replays (let s : Result A LoadFault = Err f in s) old new p.entries → Loads (Err f) (Ok p)
-    go (fault.Illegal n) h = subst (λ (m : ℕ). IsFirstIllegal m p.entries n) same h
-    go fault.Memory h = absurd h
-    go fault.Short h = absurd h
-    go fault.Magic h = absurd h
-    go (fault.Field n) h = absurd h
-    go fault.Extra h = absurd h
+    go : (f : LoadFault) (read : Result (List Entry) LoadFault) → Replays (let s : Result A LoadFault = Err f in s) old new read → Loads (Err f) (fields_of front read)
+    go f (Err why) h = let is : f ≡ why = cc in ap (λ (g : LoadFault). Err g) is
+    go (fault.Illegal n) (Ok entries) h = subst (λ (m : ℕ). IsFirstIllegal m entries n) same h
+    go fault.Memory (Ok entries) h = h
+    go fault.Short (Ok entries) h = absurd h
+    go fault.Magic (Ok entries) h = absurd h
+    go (fault.Field n) (Ok entries) h = absurd h
+    go fault.Extra (Ok entries) h = absurd h
 
 -- a record that has all entries, and is otherwise as it was
 pub all_read : (old new : Log) (entries : List Entry) → entries ≡ new.entries → new ≡ record old { entries = new.entries; spare = new.spare } → IsLegalRecord old.terms new.entries

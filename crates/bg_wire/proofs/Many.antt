@@ -3,7 +3,7 @@ use Rattle.std.proofs.Common.{◌≡◌, ℕ, suc, ◌-◌, ◌+◌, ◌≤◌, 
 use Rattle.std.proofs.lemmas.List.{append-nil}
 use Rattle.bg_wire.specs.declared.reader.ReadFault.{ReadFault}
 use Rattle.bg_wire.proofs.Laws.{ok_is}
-use Rattle.bg_wire.specs.Reading.{◌>>=◌, Cursor, Read, many_at, passed_of}
+use Rattle.bg_wire.specs.Reading.{◌>>=◌, Cursor, Read, many_at}
 
 -- what was read before, and what is still read
 abbrev pub with_front : {A : Type 0} → List A → Read (List A) → Read (List A)
@@ -59,6 +59,11 @@ many_len {A} one (suc n) c xs d e = go (λ c ys d e. many_len one n c ys d e) (o
     go : ((c : Cursor) (ys : List A) (d : Cursor) → many_at one n c ≡ Ok (ys, d) → length ys ≡ n) → (r : Read A) → one c ≡ r → (r >>= λ x. added x.0 (many_at one n x.1)) ≡ Ok (xs, d) → length xs ≡ suc n
     go shorter (Ok first) was e = next first (many_at one n first.1) (shorter first.1) e
     go shorter (Err f) was e = absurd cc
+
+-- where the reading goes on
+abbrev pub passed_of : {A : Type 0} → Read A → Result Cursor ReadFault
+passed_of (Ok read) = Ok read.1
+passed_of (Err why) = Err why
 
 -- passing over one thing after another
 

@@ -19,12 +19,11 @@ use Rattle.bg_wire.specs.EntryText.{action_bytes, entry_bytes, entries_bytes}
 use Rattle.bg_wire.specs.SavedText.{SavedParts, claim_text, saved_text, saved_width, IsClaimOf, IsInLayout, IsLayoutOf, IsSavedText}
 use Rattle.bg_wire.specs.Faults.{IsLoadFault}
 use Rattle.bg_wire.specs.Texts.{ArePrefixFree, IsWrongAt, width_at}
-use Rattle.bg_wire.specs.Reading.{◌>>=◌, Cursor, Read, u8_at, u16_at, u32_at, u64_at, many_at, passed_of, with}
+use Rattle.bg_wire.specs.Reading.{◌>>=◌, Cursor, Read, u8_at, u16_at, u32_at, u64_at, many_at, whole_of, with}
 use Rattle.bg_wire.specs.EntryReading.{action_at, entry_at}
-use Rattle.bg_wire.specs.SavedReading.{front_of, text_of_front, load_fault, most_flag, kept_claim_at, flagged_at, saved_claim_at, front_at, parts_of_front, saved_at, layout_of, IsLaidOut}
+use Rattle.bg_wire.specs.SavedReading.{front_of, text_of_front, load_fault, most_flag, kept_claim_at, flagged_at, saved_claim_at, front_at, parts_of_front, saved_at, layout_of, entries_of, fields_of}
 use Rattle.bg_wire.proofs.Laws.{IsBytes, is_wrong_at, Law, Then, Nothing, Mapped, Each, Choice, HasText, has_then, has_mapped, has_choice, has_each, with_law, other_text, many_law, from_front, prefix_free, Single, By, then_of, done_of, is_cut}
 use Rattle.bg_wire.proofs.Widths.{Wide, next_field, then_field, byte_fields, choice_wide}
-use Rattle.bg_wire.proofs.Many.{passed_list, passed_not}
 use Rattle.bg_wire.proofs.Fields.{Byte, Number, Long, Word, has_byte, has_number, has_long, has_word, one_byte, u16_law, u32_law, u64_law, any_law}
 use Rattle.bg_wire.proofs.EntryLaws.{Spells, each_to, each_from, action_law, entry_law, has_action, has_entry}
 
@@ -393,22 +392,17 @@ module _ (bytes : List ℕ) where
   front_fails f e = rw e refl
 
   module _ (front : Front) (c : Cursor) (read : front_at (from_front bytes) ≡ Ok (front, c)) where
-    pub entries_fail : (f : ReadFault) → passed_of (many_at entry_at front.count c) ≡ Err f → layout_of bytes ≡ Err (load_fault f)
+    pub by_entries : layout_of bytes ≡ fields_of front (entries_of front.count c)
     unfolding layout_of saved_at
-    entries_fail f e = rw (read, passed_not (many_at entry_at front.count c) f e) refl
-
-    pub more_left : (d : Cursor) → passed_of (many_at entry_at front.count c) ≡ Ok d → (length d.rest == 0) ≡ false → layout_of bytes ≡ Err fault.Extra
-    unfolding layout_of saved_at
-    more_left d e some = let h = passed_list (many_at entry_at front.count c) d e in rw (read, h.1, some) refl
-
-    pub is_laid_out : (d : Cursor) → passed_of (many_at entry_at front.count c) ≡ Ok d → (length d.rest == 0) ≡ true → IsLaidOut (Ok (front, c)) bytes
-    unfolding layout_of saved_at
-    is_laid_out d e none =
-        let h = passed_list (many_at entry_at front.count c) d e in
-        (h.0, d, h.1, whole h.0 h.1)
+    by_entries = rw read (go (many_at entry_at front.count c))
       where
-        whole : (entries : List Entry) → many_at entry_at front.count c ≡ Ok (entries, d) → layout_of bytes ≡ Ok (parts_of_front front entries)
-        whole entries e = rw (read, e, none) refl
+        ended : (entries : List Entry) (b : Bool) → cond b (Ok (parts_of_front front entries)) (Err fault.Extra) ≡ fields_of front (cond b (Ok entries) (Err fault.Extra))
+        ended entries true = refl
+        ended entries false = refl
+
+        go : (r : Read (List Entry)) → whole_of load_fault fault.Extra (r >>= λ x. Ok (parts_of_front front x.0, x.1)) ≡ fields_of front (whole_of load_fault fault.Extra r)
+        go (Ok x) = ended x.0 (length (x.1).rest == 0)
+        go (Err f) = refl
 
 -- ---- what the fault of a field says
 

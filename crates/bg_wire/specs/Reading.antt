@@ -72,13 +72,3 @@ many_at one (suc n) c = do
 abbrev pub whole_of : {A E : Type 0} → (ReadFault → E) → E → Read A → Result A E
 whole_of fault_of extra (Ok read) = if length (read.1).rest == 0 then Ok read.0 else Err extra
 whole_of fault_of extra (Err why) = Err (fault_of why)
-
--- where the reading goes on
-abbrev pub passed_of : {A : Type 0} → Read A → Result Cursor ReadFault
-passed_of (Ok read) = Ok read.1
-passed_of (Err why) = Err why
-
--- what a reader passed over, and where it stopped
-abbrev pub Ends : {A : Type 0} → Result A ReadFault → Cursor → Result Cursor ReadFault → Type 0
-Ends (Ok x) new passed = passed ≡ Ok new
-Ends (Err e) new passed = passed ≡ Err e

@@ -1,7 +1,9 @@
 -- Reading saved texts, as the code does it: words of private contracts, of which no public clause speaks.
-use Rattle.std.specs.Prelude.{◌≡◌, ◌≢◌, [], ◌==◌, ℕ, List, length, Option, Some, None, Result, Ok, Err, if◌then◌else◌}
+use Rattle.std.specs.Prelude.{◌≡◌, ◌≢◌, [], ◌==◌, ℕ, List, length, Option, Some, None, Result, Ok, Err, IsOk, if◌then◌else◌}
 use Rattle.bg_match.specs.declared.actions.Action.{Action}
 use Rattle.bg_match.specs.declared.entries.Entry.{Entry}
+use Rattle.bg_match.specs.declared.entries.EntryFault.{EntryFault}
+use Rattle.bg_match.specs.declared.entries.EntryFault.TheVariants as entry_fault
 use Rattle.bg_match.specs.Limits.{shortest_match, longest_match}
 use Rattle.bg_wire.specs.Codes.{last_saved_number, first_number, referee, seat_of_o, saved_magic, magic_offset, no_claim_flag, claim_flag, least_save, greatest_save}
 use Rattle.bg_wire.specs.Reading.{◌>>=◌, Cursor, Read, u8_at, u16_at, u32_at, u64_at, many_at, whole_of}
@@ -85,19 +87,39 @@ saved_at c = do
 unfoldable pub layout_of : List ℕ → Result SavedParts LoadFault
 layout_of bytes = whole_of load_fault fault.Extra (saved_at (record { at = 0; rest = bytes }))
 
--- where the layout holds, what stands before the entries, and where they begin
-abbrev pub IsLaidOut : Result (Front × Cursor) LoadFault → List ℕ → Type 0
-IsLaidOut (Ok parts) bytes =
-    (entries : List Entry) × (end : Cursor) × (many_at entry_at (parts.0).count parts.1 ≡ Ok (entries, end))
-    × (layout_of bytes ≡ Ok (parts_of_front parts.0 entries))
-IsLaidOut (Err why) bytes = layout_of bytes ≡ Err why
+-- the entries behind the front, where so many stand there and the text ends behind them
+abbrev pub entries_of : ℕ → Cursor → Result (List Entry) LoadFault
+entries_of count c = whole_of load_fault fault.Extra (many_at entry_at count c)
 
--- the entries were appended to a record that had none, up to the first that does not follow
-abbrev pub Replays : {A : Type 0} → Result A LoadFault → Log → Log → List Entry → Type 0
-Replays (Ok _) old new entries =
+-- the fields, by the front and what the entries behind it are
+abbrev pub fields_of : Front → Result (List Entry) LoadFault → Result SavedParts LoadFault
+fields_of f (Ok entries) = Ok (parts_of_front f entries)
+fields_of f (Err why) = Err why
+
+-- the front, and where the entries begin
+abbrev pub ReadsFront : Result (Front × Cursor) LoadFault → List ℕ → Type 0
+ReadsFront (Ok parts) bytes = layout_of bytes ≡ fields_of parts.0 (entries_of (parts.0).count parts.1)
+ReadsFront (Err why) bytes = layout_of bytes ≡ Err why
+
+-- entries that are passed over: whether they are there
+abbrev pub Passes : Result (Unit {0}) LoadFault → Result (List Entry) LoadFault → Type 0
+Passes (Ok done) read = IsOk read
+Passes (Err why) read = read ≡ Err why
+
+-- what appending an entry was refused for, as a fault of loading
+abbrev pub append_fault : ℕ → EntryFault → LoadFault
+append_fault n entry_fault.Memory = fault.Memory
+append_fault n _ = fault.Illegal n
+
+-- what is answered where entries are appended to a record that has none: the fault of the layout, where it has one,
+-- else the first entry that does not follow, want of memory aside
+abbrev pub Replays : {A : Type 0} → Result A LoadFault → Log → Log → Result (List Entry) LoadFault → Type 0
+Replays result old new (Err why) = result ≡ Err why
+Replays (Ok _) old new (Ok entries) =
     (new ≡ record old { entries = entries; spare = new.spare }) × IsLegalRecord old.terms entries
-Replays (Err (fault.Illegal n)) old new entries = IsFirstIllegal old.terms entries n
-Replays (Err _) old new entries = ⊥
+Replays (Err fault.Memory) old new (Ok entries) = entries ≢ []
+Replays (Err (fault.Illegal n)) old new (Ok entries) = IsFirstIllegal old.terms entries n
+Replays (Err _) old new (Ok entries) = ⊥
 
 -- what loading answers, by what the layout gives. Memory is wanted for entries alone
 abbrev pub Loads : Result Saved LoadFault → Result SavedParts LoadFault → Type 0

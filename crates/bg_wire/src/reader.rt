@@ -63,6 +63,13 @@ impl<'a> Reader<'a> {
         self.rest.is_empty()
     }
 
+    /// So many, and no more than there are bytes left.
+    pub(crate) fn at_most(&self, count: u16) -> u16
+        ensures { result ≤ count }
+    {
+        u16::try_from(self.rest.len()).unwrap_or(count).min(count)
+    }
+
     /// A byte from low to high.
     #[tactic(auto, unfolding(crate::specs::Reading::u8_at))]
     pub(crate) fn read_u8(&mut self, low: u8, high: u8) -> Result<u8, ReadFault>

@@ -1,12 +1,12 @@
 //! The layout of saved texts, version 1 (docs/FORMATS.md, "Saved files").
-ghost use Rattle.std.specs.Prelude.{◌≡◌, ◌≤◌, ◌+◌, ◌++◌, length, IfOk};
+ghost use Rattle.std.specs.Prelude.{◌≡◌, ◌≤◌, ◌+◌, ◌++◌, ◌==◌, Ok, Err, if◌then◌else◌, length, IfOk};
 ghost use Rattle.arrayvec.specs.ArrayVec.{array_vec_len};
 ghost use Rattle.bg_match.specs.Limits.{longest_match, shortest_match};
 ghost use Rattle.bg_match.specs.Match.{IsLegalRecord};
-ghost use Rattle.bg_wire.specs.Reading.{Reads, Ends, passed_of, many_at};
-ghost use Rattle.bg_wire.specs.EntryReading.{entry_at};
+ghost use Rattle.bg_wire.specs.Reading.{Reads};
+ghost use Rattle.bg_wire.specs.declared.faults.LoadFault.{LoadFault as Fault};
 ghost use Rattle.bg_wire.specs.SavedText.{IsSavable, IsKeptClaim, IsInLayout, parts_with, front_text, claim_text};
-ghost use Rattle.bg_wire.specs.SavedReading.{most_flag, kept_claim_at, saved_claim_at, front_at, load_fault, IsLaidOut};
+ghost use Rattle.bg_wire.specs.SavedReading.{most_flag, kept_claim_at, saved_claim_at, front_at, load_fault, entries_of, ReadsFront, Passes};
 
 use crate::codes::FIRST_ENTRY;
 use crate::entry_reading::{action, entry};
@@ -105,35 +105,40 @@ fn read_front(reader: &mut Reader<'_>) -> Result<Front, ReadFault>
     })
 }
 
-/// Passes over so many entries.
-fn pass_entries(reader: &mut Reader<'_>, count: Number) -> Result<(), ReadFault>
-    ensures { Ends result reader.new (passed_of (many_at entry_at count reader.old)) }
-{
-    for _ in 0..count {
-        entry(reader)?;
-    }
-    Ok(())
-}
-
-/// What stands before the entries, and a reader at the first of them, where the whole layout holds.
-pub(crate) fn lay_out(bytes: &[u8]) -> Result<(Front, Reader<'_>), LoadFault>
-    ensures laid_out { IsLaidOut result bytes.now }
+/// What stands before the entries, and a reader at the first of them.
+pub(crate) fn split_front(bytes: &[u8]) -> Result<(Front, Reader<'_>), LoadFault>
+    ensures reads { ReadsFront result bytes.now }
     ensures shortest { IfOk result (λ parts. shortest_match ≤ (parts.0).terms) }
     ensures longest { IfOk result (λ parts. (parts.0).terms ≤ longest_match) }
 {
     let mut reader = Reader::new(bytes);
-    let front = match read_front(&mut reader) {
-        Ok(front) => front,
-        Err(fault) => return Err(LoadFault::of(fault)),
-    };
-    let entries = reader.copy();
-    if let Err(fault) = pass_entries(&mut reader, front.count) {
-        return Err(LoadFault::of(fault));
+    match read_front(&mut reader) {
+        Ok(front) => Ok((front, reader)),
+        Err(fault) => Err(LoadFault::of(fault)),
     }
-    if !reader.is_empty() {
-        return Err(LoadFault::Extra);
+}
+
+/// Passes over so many entries, with which the text ends.
+pub(crate) fn pass_entries(reader: &mut Reader<'_>, count: Number) -> Result<(), LoadFault>
+    ensures { Passes result (entries_of count reader.old) }
+{
+    for _ in 0..count {
+        if let Err(fault) = entry(reader) {
+            return Err(LoadFault::of(fault));
+        }
     }
-    Ok((front, entries))
+    end(reader)
+}
+
+/// That the text ends here.
+pub(crate) fn end(reader: &Reader<'_>) -> Result<(), LoadFault>
+    ensures { result ≡ (if length reader.now.rest == 0 then Ok tt else Err LoadFault.Extra) }
+{
+    if reader.is_empty() {
+        Ok(())
+    } else {
+        Err(LoadFault::Extra)
+    }
 }
 
 /// The text of what stands before the entries.

@@ -4,23 +4,20 @@ ghost use Rattle.std.specs.List.{AllByRecursion};
 ghost use Rattle.bg_match.specs.Limits.{most_entries};
 ghost use Rattle.bg_match.specs.Entry.{IsEntry};
 ghost use Rattle.bg_match.specs.Match.{IsLegalRecord};
-ghost use Rattle.bg_match.specs.declared.entries.Entry.{Entry};
 ghost use Rattle.bg_wire.specs.Codes.{longest_saved_text, seat_of_o};
 ghost use Rattle.bg_wire.specs.Texts.{HasMore, ArePrefixFree};
-ghost use Rattle.bg_wire.specs.Reading.{Cursor, many_at};
-ghost use Rattle.bg_wire.specs.EntryReading.{entry_at};
 ghost use Rattle.bg_wire.specs.EntryText.{entries_bytes, bytes_at};
 ghost use Rattle.bg_wire.specs.SavedText.{SavedParts, IsSavable, IsLayoutOf, IsSavedText, IsWrittenText, IsIllegalAt, HasEntries, parts_of, parts_with, IsClaimOf};
 ghost use Rattle.bg_wire.specs.Faults.{IsLoadFault};
 ghost use Rattle.bg_wire.specs.Saves.{IsNextSave};
-ghost use Rattle.bg_wire.specs.SavedReading.{layout_of, Loads, Replays};
+ghost use Rattle.bg_wire.specs.SavedReading.{layout_of, entries_of, append_fault, Loads, Replays};
 
 use crate::entry_reading::entry;
 use crate::entry_writing::{EntryBytes, put_entry};
 use crate::reader::Reader;
 use crate::{LoadFault, SaveRefusal, Saved, Slot, saved_version_one as layout};
 use arrayvec::ArrayVec;
-use bg_match::{Action, MOST_ENTRIES, Number, Record};
+use bg_match::{Action, EntryFault, MOST_ENTRIES, Number, Record};
 use std::alloc::{AllocError, Global};
 
 /// The saved text, at most 655383 bytes (docs/FORMATS.md, "Saved files").
@@ -138,17 +135,17 @@ pub fn load(alloc: Global, bytes: &[u8]) -> Result<Saved, LoadFault>
     load_record(alloc, bytes)
 }
 
-/// The saved text as a record, once the whole layout is known to hold: so no count is trusted before its bytes are
-/// there.
+/// The saved text as a record. Room is made for no more entries than there are bytes for, so no count is trusted.
 fn load_record(alloc: Global, bytes: &[u8]) -> Result<Saved, LoadFault>
     ensures { Loads result (layout_of bytes.now) }
 {
-    let (front, mut entries) = layout::lay_out(bytes)?;
+    let (front, mut reader) = layout::split_front(bytes)?;
     let mut log = Record::new(alloc, front.id, front.terms).unwrap();
-    if log.reserve(front.count).is_err() {
+    if log.reserve(reader.at_most(front.count)).is_err() {
+        layout::pass_entries(&mut reader, front.count)?;
         return Err(LoadFault::Memory);
     }
-    replay(&mut log, &mut entries, front.count)?;
+    replay(&mut log, &mut reader, front.count)?;
     Ok(Saved {
         party: front.party,
         save: front.save,
@@ -157,22 +154,32 @@ fn load_record(alloc: Global, bytes: &[u8]) -> Result<Saved, LoadFault>
     })
 }
 
-/// Appends so many entries to a record that has none, and has room for them.
+/// Appends so many entries, with which the text ends, to a record that has none. What is wrong with the layout comes
+/// first, also behind an entry that does not follow.
 fn replay(log: &mut Record, reader: &mut Reader<'_>, count: Number) -> Result<(), LoadFault>
     requires none { log.old.entries ≡ [] }
     requires legal { IsLegalRecord log.old.terms [] }
-    requires room { count ≤ log.old.spare }
-    ensures { (entries : List Entry) (end : Cursor) → many_at entry_at count reader.old ≡ Ok (entries, end)
-        → Replays result log.old log.new entries }
+    ensures { Replays result log.old log.new (entries_of count reader.old) }
 {
-    for _ in 0..count {
+    for done in 0..count {
         let entry = match entry(reader) {
             Ok(entry) => entry,
             Err(fault) => return Err(LoadFault::of(fault)),
         };
-        if log.push(entry).is_err() {
-            return Err(LoadFault::Illegal(log.len() + 1));
+        if let Err(fault) = log.push(entry) {
+            layout::pass_entries(reader, count - (done + 1))?;
+            return Err(append_fault(done + 1, &fault));
         }
     }
-    Ok(())
+    layout::end(reader)
+}
+
+/// Why loading ends where the entry of this number was not appended.
+fn append_fault(number: Number, fault: &EntryFault) -> LoadFault
+    ensures { result ≡ append_fault number fault.now }
+{
+    match fault {
+        EntryFault::Memory => LoadFault::Memory,
+        _ => LoadFault::Illegal(number),
+    }
 }

@@ -1,16 +1,19 @@
-use Rattle.std.proofs.lemmas.Result.{err_from_is_err_and}
-use Rattle.bg_wire.specs.Reading.{many_at, passed_of}
+use Rattle.bg_wire.specs.Reading.{many_at}
 use Rattle.bg_wire.specs.EntryReading.{entry_at}
-use Rattle.bg_wire.proofs.Many.{passes, stops, passed_all}
+use Rattle.bg_wire.proofs.Many.{passed_of, passes, stops, passed_all}
+use Rattle.bg_wire.proofs.Replaying.{passes_not, passes_to}
 use Rattle.bg_wire.proofs.saved_version_one.pass_entries.Goals as goal
 
-pub returns-in_err-entry : goal.returns-in_err-entry
-returns-in_err-entry c =
-    let p = err_from_is_err_and c.from_residual.result c.from_residual.ensures.1 in
-    rw (p.1, p.2) (stops entry_at c.args.count c.loop.counter c.loop.reader (passed_of (many_at entry_at c.args.count c.args.reader.now)) c.in_err-entry.field-0.0 c.loop-test.true c.in_err-entry.ensures c.loop.invariant)
+pub returns-in-Err : goal.returns-in-Err
+returns-in-Err c =
+    let all = many_at entry_at c.args.count c.args.reader.now in
+    rw c.of.ensures (passes_not all c.in-Err.fault (stops entry_at c.args.count c.loop.counter c.loop.reader (passed_of all) c.in-Err.fault c.loop-test.true c.in-Err.ensures c.loop.invariant))
 
 pub loop-preserved : goal.loop-preserved
-loop-preserved c = passes entry_at c.args.count c.loop.counter c.loop.reader (passed_of (many_at entry_at c.args.count c.args.reader.now)) c.in_ok-entry.field-0 c.entry.new.reader c.loop-test.true c.in_ok-entry.ensures c.loop.invariant
+loop-preserved c =
+    passes entry_at c.args.count c.loop.counter c.loop.reader (passed_of (many_at entry_at c.args.count c.args.reader.now)) c.in_default.field-0 c.entry.new.reader c.loop-test.true c.in_default.ensures c.loop.invariant
 
 pub returns : goal.returns
-returns c = passed_all entry_at c.args.count c.loop.counter c.loop.reader (passed_of (many_at entry_at c.args.count c.args.reader.now)) c.loop-test.false c.loop.invariant
+returns c =
+    let all = many_at entry_at c.args.count c.args.reader.now in
+    passes_to all c.loop.reader c.end.result (passed_all entry_at c.args.count c.loop.counter c.loop.reader (passed_of all) c.loop-test.false c.loop.invariant) c.end.ensures

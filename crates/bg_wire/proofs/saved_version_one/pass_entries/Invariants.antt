@@ -1,5 +1,6 @@
 use Rattle.std.proofs.Common.{◌≡◌, ◌-◌}
-use Rattle.bg_wire.specs.Reading.{many_at, passed_of}
+use Rattle.bg_wire.specs.Reading.{many_at}
+use Rattle.bg_wire.proofs.Many.{passed_of}
 use Rattle.bg_wire.specs.EntryReading.{entry_at}
 use Rattle.bg_wire.proofs.saved_version_one.pass_entries.Given as goal
 

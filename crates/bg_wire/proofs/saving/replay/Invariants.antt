@@ -1,15 +1,14 @@
-use Rattle.std.proofs.Common.{◌≡◌, ◌-◌, ◌+◌, ◌≤◌, length}
+use Rattle.std.proofs.Common.{◌≡◌, ◌-◌, length}
 use Rattle.bg_match.specs.Match.{IsLegalRecord}
 use Rattle.bg_wire.specs.Reading.{many_at}
 use Rattle.bg_wire.specs.EntryReading.{entry_at}
 use Rattle.bg_wire.proofs.Many.{with_front}
 use Rattle.bg_wire.proofs.saving.replay.Given as goal
 
-abbrev pub invariant-loop : goal.invariant-loop
-invariant-loop l = record {
-  read : with_front l.log.entries (many_at entry_at (l.count - l.counter) l.reader) ≡ many_at entry_at l.count l.fn.reader;
-  len : length l.log.entries ≡ l.counter;
-  room : l.count ≤ l.log.spare + l.counter;
+abbrev pub invariant-loop-done : goal.invariant-loop-done
+invariant-loop-done l = record {
+  read : with_front l.log.entries (many_at entry_at (l.count - l.done) l.reader) ≡ many_at entry_at l.count l.fn.reader;
+  len : length l.log.entries ≡ l.done;
   same : l.log ≡ record l.fn.log { entries = l.log.entries; spare = l.log.spare };
   legal : IsLegalRecord l.fn.log.terms l.log.entries;
 }
