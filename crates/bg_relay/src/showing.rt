@@ -1,9 +1,10 @@
 //! What two saved files of a party hold.
 ghost use Rattle.std.specs.Prelude.{◌≡◌, ◌++◌, ℕ, List, Some, IfOk, OnOk};
-ghost use Rattle.std.specs.Fmt.{decimal};
 ghost use Rattle.bg_text.specs.BoardText.{line_text};
+ghost use Rattle.bg_wire.specs.FaultWords.{numbered};
+ghost use Rattle.bg_wire.specs.Restoring.{LoadsAs, newer};
 ghost use Rattle.bg_wire.specs.SavedText.{parts_of};
-ghost use Rattle.bg_relay.specs.Show.{IsHeld, IsShowText, IsBoardOf, claim_part as part_of_claim, fault_part as part_of_fault, file_line, held_of, held_part, match_part, newer_of, save_part};
+ghost use Rattle.bg_relay.specs.Show.{IsHeld, IsShowText, IsBoardOf, claim_part as part_of_claim, file_line, held_of, held_part, loaded_of, match_part, save_part};
 
 use bg_match::{Action, Number};
 use bg_text::{board_text, put_number, put_text};
@@ -13,7 +14,7 @@ use std::alloc::{AllocError, Global};
 /// What a file holds: what was saved, or why its bytes are no saved text.
 type Held = Result<Saved, LoadFault>;
 
-/// A line for each of two saved files of a party, and the board of the newer one that loads; and whether one loads
+/// A line for each of two saved files of a party, and the board of what the two restore; and whether one loads
 /// (docs/FORMATS.md, "Showing saved files").
 ///
 /// # Errors
@@ -32,7 +33,8 @@ pub fn show_text(alloc: Global, file0: &[u8], file1: &[u8]) -> Result<(Vec<u8>, 
 
 /// What a file holds.
 fn hold(alloc: Global, bytes: &[u8]) -> Result<Held, AllocError>
-    ensures { IfOk result (λ held. IsHeld bytes.now (held_of held)) }
+    ensures holds { IfOk result (λ held. IsHeld bytes.now (held_of held)) }
+    ensures loads { IfOk result (λ held. LoadsAs bytes.now (loaded_of held)) }
 {
     match load(alloc, bytes) {
         Err(LoadFault::Memory) => Err(AllocError),
@@ -61,7 +63,10 @@ fn put_held(out: &mut Vec<u8>, held: &Held) -> Result<(), AllocError>
             put_match(out, saved)?;
             put_save(out, saved)
         }
-        Err(why) => put_fault(out, *why),
+        Err(why) => {
+            let (words, number) = why.words();
+            put_numbered(out, words, number)
+        }
     }
 }
 
@@ -101,31 +106,20 @@ fn put_claim(out: &mut Vec<u8>, claim: &Option<(Number, Action)>) -> Result<(), 
     }
 }
 
-/// Adds why a file does not load.
-fn put_fault(out: &mut Vec<u8>, why: LoadFault) -> Result<(), AllocError>
-    ensures { OnOk result (out.new.items ≡ out.old.items ++ part_of_fault why) }
-{
-    match why {
-        LoadFault::Short => put_text(out, "short"),
-        LoadFault::Magic => put_text(out, "bad magic"),
-        LoadFault::Field(offset) => put_numbered(out, "bad field at ", offset as u64),
-        LoadFault::Extra => put_text(out, "extra bytes"),
-        LoadFault::Illegal(number) => put_numbered(out, "illegal entry ", number.into()),
-        LoadFault::Memory => put_text(out, "out of memory"),
-    }
-}
-
-/// Adds some words and a number.
-fn put_numbered(out: &mut Vec<u8>, words: &str, number: u64) -> Result<(), AllocError>
-    ensures { OnOk result (out.new.items ≡ out.old.items ++ (words.now ++ decimal number)) }
+/// Adds some words, and the number behind them, if there is one.
+fn put_numbered(out: &mut Vec<u8>, words: &str, number: Option<u64>) -> Result<(), AllocError>
+    ensures { OnOk result (out.new.items ≡ out.old.items ++ numbered words.now number) }
 {
     put_text(out, words)?;
-    put_number(out, number)
+    match number {
+        None => Ok(()),
+        Some(number) => put_number(out, number),
+    }
 }
 
 /// Adds the board of the newer file that loads, if there is one.
 fn put_board(alloc: Global, out: &mut Vec<u8>, zero: &Held, one: &Held) -> Result<(), AllocError>
-    ensures { OnOk result ((board : List ℕ) × IsBoardOf (newer_of (held_of zero.now) (held_of one.now)) board
+    ensures { OnOk result ((board : List ℕ) × IsBoardOf (newer (loaded_of zero.now) (loaded_of one.now)) board
         × (out.new.items ≡ out.old.items ++ board)) }
 {
     match (zero, one) {
