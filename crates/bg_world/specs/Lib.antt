@@ -19,3 +19,10 @@ pub mod Claims
 pub mod Headline
 pub mod Refusals
 pub mod Survival
+pub mod Views
+pub mod DeviceCalls
+pub mod LinkCalls
+pub mod KeeperCalls
+pub mod Calls
+pub mod WorldState
+pub mod WorldRuns
