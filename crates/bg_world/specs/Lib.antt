@@ -19,3 +19,8 @@ pub mod Claims
 pub mod Headline
 pub mod Refusals
 pub mod Survival
+pub mod Devices
+pub mod Handed
+pub mod Plan
+pub mod Places
+pub mod MemoryDevices
