@@ -5,3 +5,6 @@ pub mod Rows
 pub mod Growth
 pub mod Reached
 pub mod WorkedRuns
+pub mod SentPlaces
+pub mod Arrivals
+pub mod KeptTexts

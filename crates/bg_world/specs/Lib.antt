@@ -19,6 +19,11 @@ pub mod Claims
 pub mod Headline
 pub mod Refusals
 pub mod Survival
+pub mod Devices
+pub mod Handed
+pub mod Plan
+pub mod Places
+pub mod MemoryDevices
 pub mod Views
 pub mod DeviceCalls
 pub mod LinkCalls
