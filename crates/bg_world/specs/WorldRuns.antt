@@ -79,9 +79,15 @@ RunsProtocol old events outcomes new =
     → (after : IsReachedWorld new)
     × Run (state_of old before.restorable) (history_of events outcomes) (state_of new after.restorable)
 
+-- All events happen, in order, and the report counts what they come to.
+pub record RunsCalls (link_honest keepers_honest : Type 0) (old : WorldView) (events : List Event) (report : RunReport) (new : WorldView) : Type 0 where
+  pub outcomes : List Outcome
+  pub calls : CallsAll link_honest keepers_honest old events outcomes new
+  pub reports : Reports report events outcomes
+
 -- All events happen, in order; the report counts what they come to; and over honest devices they are a run of the protocol.
 pub record RunsAll (link_honest keepers_honest : Type 0) (old : WorldView) (events : List Event) (report : RunReport) (new : WorldView) : Type 0 where
   pub outcomes : List Outcome
   pub calls : CallsAll link_honest keepers_honest old events outcomes new
-  pub report : Reports report events outcomes
+  pub reports : Reports report events outcomes
   pub protocol : link_honest → keepers_honest → RunsProtocol old events outcomes new

@@ -73,7 +73,7 @@ pub record RefereeMatches (id : ℕ) (terms : Terms) (found : Option SavedParts)
   pub next : core.next_save ≡ next_number found
 
 pub record SeatMatches (id : ℕ) (terms : Terms) (player : Player) (found : Option SavedParts) (core : SeatView) : Type 0 where
-  pub player : core.player ≡ player
+  pub sits_for : core.player ≡ player
   pub log : IsLogOf id terms core.follower.log
   pub next : core.next_save ≡ next_number found
 
