@@ -8,3 +8,12 @@ pub mod WorkedRuns
 pub mod SentPlaces
 pub mod Arrivals
 pub mod KeptTexts
+pub mod Sides
+pub mod Hands
+pub mod RefereeRows
+pub mod FollowerRows
+pub mod ChooseRows
+pub mod SaveRows
+pub mod TickRows
+pub mod RestartRows
+pub mod Goes
