@@ -17,3 +17,5 @@ pub mod SaveRows
 pub mod TickRows
 pub mod RestartRows
 pub mod Goes
+pub mod RefereeRefusals
+pub mod FollowerRefusals

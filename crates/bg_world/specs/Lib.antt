@@ -31,3 +31,4 @@ pub mod KeeperCalls
 pub mod Calls
 pub mod WorldState
 pub mod WorldRuns
+pub mod NotRefused
