@@ -19,3 +19,4 @@ pub mod RestartRows
 pub mod Goes
 pub mod RefereeRefusals
 pub mod FollowerRefusals
+pub mod NoRefusals
