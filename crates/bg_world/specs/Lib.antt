@@ -31,3 +31,5 @@ pub mod KeeperCalls
 pub mod Calls
 pub mod WorldState
 pub mod WorldRuns
+pub mod World
+pub mod Starts
