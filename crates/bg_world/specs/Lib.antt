@@ -31,4 +31,6 @@ pub mod KeeperCalls
 pub mod Calls
 pub mod WorldState
 pub mod WorldRuns
+pub mod World
+pub mod Starts
 pub mod NotRefused

@@ -3,16 +3,26 @@
 
 mod devices;
 mod events;
+mod keeper_calls;
 mod laws;
+mod link_calls;
 mod memory_keeper;
 mod memory_net;
 mod notes;
 mod plans;
+mod restarts;
 mod roles;
+mod runs;
+mod saves;
 mod sent_datagrams;
+mod setups;
 mod slot_texts;
+mod steps;
+mod takes;
 #[cfg(test)]
 mod tests;
+mod ticks;
+mod worlds;
 
 pub use devices::{DeviceFault, Keeper, Link, Taken};
 pub use events::{Event, Outcome, RestoreCause};
@@ -24,3 +34,6 @@ pub use memory_keeper::MemoryKeeper;
 pub use memory_net::MemoryNet;
 pub use plans::{FailRead, FailSend, Plan, Tear};
 pub use roles::Role;
+pub use runs::RunReport;
+pub use setups::{Keepers, MOST_WATCHERS, Setup, WorldFault};
+pub use worlds::World;
