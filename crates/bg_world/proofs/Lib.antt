@@ -14,10 +14,16 @@ pub mod Hands
 pub mod RefereeRows
 pub mod FollowerRows
 pub mod ChooseRows
+pub mod SaveCases
 pub mod SaveRows
+pub mod SendCases
 pub mod TickRows
+pub mod RestartCases
 pub mod RestartRows
 pub mod Goes
 pub mod RefereeRefusals
 pub mod FollowerRefusals
+pub mod FineOutcomes
 pub mod NoRefusals
+pub mod Upheld
+pub mod Starting

@@ -34,3 +34,4 @@ pub mod WorldRuns
 pub mod World
 pub mod Starts
 pub mod NotRefused
+pub mod Upholds
