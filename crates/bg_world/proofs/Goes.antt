@@ -7,11 +7,12 @@ use Rattle.bg_world.specs.declared.events.Event.{Event}
 use Rattle.bg_world.specs.declared.events.Event.TheVariants as events
 use Rattle.bg_world.specs.declared.events.Outcome.{Outcome}
 use Rattle.bg_world.specs.declared.events.Outcome.TheVariants as outcomes
+use Rattle.bg_world.specs.declared.runs.RunReport.{RunReport}
 use Rattle.bg_world.specs.Calls.{Calls, RestartCalls, SaveCalls, TakeCalls, TickCalls}
 use Rattle.bg_world.specs.Roles.{role}
 use Rattle.bg_world.specs.Runs.{Run}
 use Rattle.bg_world.specs.Views.{WorldView}
-use Rattle.bg_world.specs.WorldRuns.{CallsAll, RunsProtocol, StepsProtocol}
+use Rattle.bg_world.specs.WorldRuns.{CallsAll, RunsAll, RunsCalls, RunsProtocol, StepsProtocol}
 use Rattle.bg_world.specs.WorldState.{CoresMatch, IsReachedWorld, Restorable, state_of}
 use Rattle.bg_world.proofs.Invariant.{Inv}
 use Rattle.bg_world.proofs.Reached.{reached, reached_more}
@@ -102,3 +103,13 @@ runs_protocol link_honest keepers_honest old (e ∷ es) (o ∷ os) new calls lin
     let first = goes link_honest keepers_honest old e o calls.0 calls.1 link keepers before in
     let rest = runs_protocol link_honest keepers_honest calls.0 es os new calls.2 link keepers first.0 in
     (rest.0, (state_of calls.0 (first.0).restorable, first.1, rest.1))
+
+-- the same of the calls that a report counts
+pub runs_all : (link_honest keepers_honest : Type 0) (old : WorldView) (events : List Event) (report : RunReport) (new : WorldView)
+    → RunsCalls link_honest keepers_honest old events report new → RunsAll link_honest keepers_honest old events report new
+runs_all link_honest keepers_honest old events report new h = record {
+  outcomes = h.outcomes;
+  calls = h.calls;
+  reports = h.reports;
+  protocol = λ link keepers. runs_protocol link_honest keepers_honest old events h.outcomes new h.calls link keepers;
+}
