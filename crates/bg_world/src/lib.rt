@@ -3,6 +3,8 @@
 
 mod devices;
 mod events;
+#[cfg(test)]
+mod fault_tests;
 mod keeper_calls;
 mod laws;
 mod link_calls;
@@ -12,6 +14,8 @@ mod notes;
 mod plans;
 mod restarts;
 mod roles;
+#[cfg(test)]
+mod row_tests;
 mod runs;
 mod saves;
 mod sent_datagrams;
@@ -19,6 +23,8 @@ mod setups;
 mod slot_texts;
 mod steps;
 mod takes;
+#[cfg(test)]
+mod test_rows;
 #[cfg(test)]
 mod tests;
 mod ticks;
