@@ -1,6 +1,8 @@
 //! The protocol of all parties together: what may happen to them, what each event comes to, and what holds after any run.
 #![tactic(auto)]
 
+#[cfg(test)]
+mod device_tests;
 mod devices;
 mod events;
 #[cfg(test)]
