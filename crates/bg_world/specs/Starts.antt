@@ -15,12 +15,12 @@ use Rattle.bg_world.specs.declared.setups.Setup.{Setup}
 use Rattle.bg_world.specs.declared.setups.WorldFault.{WorldFault}
 use Rattle.bg_world.specs.declared.setups.WorldFault.TheVariants as faults
 
--- the fault names the first test that fails; want of memory comes last
+-- the fault names the first test that fails; want of memory comes last, and only where there are watchers
 abbrev pub IsWorldFault : WorldFault → Setup → Type 0
 IsWorldFault faults.TooManyWatchers setup = most_watchers < setup.watchers
 IsWorldFault faults.LengthOutOfRange setup =
     (setup.watchers ≤ most_watchers) × (IsMatchLength (match_length setup.length) → ⊥)
-IsWorldFault faults.Memory setup = IsSetup setup.id setup.length setup.watchers
+IsWorldFault faults.Memory setup = IsSetup setup.id setup.length setup.watchers × (1 ≤ setup.watchers)
 
 -- so many watchers, who hold nothing; the party of the first is the first watcher's
 abbrev pub fresh_watchers : ℕ → Terms → ℕ → List WatcherView

@@ -45,10 +45,10 @@ impl<T: Drop> From<AllocFailed<T>> for DeviceFault {
 /// What a take answers: the bytes of a datagram, at most 256, or that the link has none for the party.
 pub type Taken = Result<Option<ArrayVec<u8, 256>>, DeviceFault>;
 
-/// Carries datagrams between the parties (docs/PROTOCOL.md, "Devices"). It may lose them, repeat them and change their order.
+/// Carries datagrams between the parties (docs/PROTOCOL.md, "Devices"). It may lose them, repeat them and change their
+/// order.
 pub trait Link {
-    /// Whether it is honest, for all of its calls or for none: what it hands over to a party was sent to that party, or is
-    /// no packet's text.
+    /// It is honest, in all of its calls: what it hands over to a party was sent to that party, or is no packet's text.
     ghost is_honest: { Type 0 };
 
     /// Which of its sends fail, where that is known.
@@ -72,7 +72,7 @@ pub trait Link {
     /// Sends a datagram.
     ///
     /// # Errors
-    /// `Failed` where the link failed, and then the datagram may have gone out or not; `Memory` where there was no memory.
+    /// `Failed` where the link failed, `Memory` where there was no memory. Then the datagram may have gone out or not.
     fn send(&mut self, datagram: &Datagram) -> Result<(), DeviceFault>
         ensures sends { sends self.new ≡ sends self.old + 1 }
         ensures takes { takes self.new ≡ takes self.old }
@@ -80,7 +80,8 @@ pub trait Link {
         ensures plan { plan self.new ≡ plan self.old }
         ensures cause { HasCause (faults self.old) (faults self.new) result }
         ensures honest { is_honest → Sends (sent self.old) datagram.now (sent self.new) result }
-        ensures planned { IfSome (plan self.old) (λ failing. SendsBy (failure_at failing (sends self.new)) (sent self.old) datagram.now (sent self.new) result) }
+        ensures planned { IfSome (plan self.old) (λ failing.
+            SendsBy (failure_at failing (sends self.new)) (sent self.old) datagram.now (sent self.new) result) }
         ensures counted { IfSome (plan self.old) (λ _. CountsFailed (faults self.old) (faults self.new) result) };
 
     /// Takes a datagram for the party, if there is one. A link in memory hands over the one that `pick` names.
@@ -94,14 +95,16 @@ pub trait Link {
         ensures plan { plan self.new ≡ plan self.old }
         ensures cause { HasCause (faults self.old) (faults self.new) result }
         ensures same { is_honest → sent self.new ≡ sent self.old }
-        ensures honest { is_honest → IfOk result (λ found. IfSome found (λ bytes. MayArrive (sent self.old) party bytes.items)) }
+        ensures honest { is_honest →
+            IfOk result (λ found. IfSome found (λ bytes. MayArrive (sent self.old) party bytes.items)) }
         ensures planned { IfSome (plan self.old) (λ _. result ≡ Ok (handed (sent self.old) party pick)) }
         ensures counted { IfSome (plan self.old) (λ _. CountsFailed (faults self.old) (faults self.new) result) };
 }
 
 /// Keeps the saved texts of one party in two slots (docs/PROTOCOL.md, "Devices").
 pub trait Keeper {
-    /// Whether it is honest, for all of its calls or for none: a slot has what was last written to it, whole or torn.
+    /// It is honest, in all of its calls: a slot has what was last written to it, and reads give that; of a write that
+    /// failed it may have the first bytes, or nothing.
     ghost is_honest: { Type 0 };
 
     /// Whose keeper it is, and which of its calls fail, where that is known.
@@ -125,8 +128,8 @@ pub trait Keeper {
     /// Writes bytes to a slot, in the place of those that it has.
     ///
     /// # Errors
-    /// `Failed` where the keeper failed, `Memory` where there was no memory. Then the slot may have what it had, or the first
-    /// of these bytes, any number of them.
+    /// `Failed` where the keeper failed, `Memory` where there was no memory. Then the slot may have what it had, or any
+    /// number of the first of these bytes.
     fn write(&mut self, slot: Slot, bytes: &[u8]) -> Result<(), DeviceFault>
         ensures writes { writes self.new ≡ writes self.old + 1 }
         ensures reads { reads self.new ≡ reads self.old }
@@ -134,7 +137,8 @@ pub trait Keeper {
         ensures plan { plan self.new ≡ plan self.old }
         ensures cause { HasCause (faults self.old) (faults self.new) result }
         ensures honest { is_honest → Writes (slots self.old) slot bytes.now (slots self.new) result }
-        ensures planned { IfSome (plan self.old) (λ p. WritesBy (tear_at p (writes self.new)) (slots self.old) slot bytes.now (slots self.new) result) }
+        ensures planned { IfSome (plan self.old) (λ known.
+            WritesBy (tear_at known (writes self.new)) (slots self.old) slot bytes.now (slots self.new) result) }
         ensures counted { IfSome (plan self.old) (λ _. CountsFailed (faults self.old) (faults self.new) result) };
 
     /// Reads the bytes of a slot.
@@ -149,6 +153,7 @@ pub trait Keeper {
         ensures cause { HasCause (faults self.old) (faults self.new) result }
         ensures same { is_honest → slots self.new ≡ slots self.old }
         ensures honest { is_honest → IfOk result (λ bytes. bytes.items ≡ bytes_in (slots self.old) slot) }
-        ensures planned { IfSome (plan self.old) (λ p. ReadsBy (read_failure_at p (reads self.new)) (slots self.old) slot result) }
+        ensures planned { IfSome (plan self.old) (λ known.
+            ReadsBy (read_failure_at known (reads self.new)) (slots self.old) slot result) }
         ensures counted { IfSome (plan self.old) (λ _. CountsFailed (faults self.old) (faults self.new) result) };
 }

@@ -1,8 +1,12 @@
 //! The protocol of all parties together: what may happen to them, what each event comes to, and what holds after any run.
 #![tactic(auto)]
 
+#[cfg(test)]
+mod device_tests;
 mod devices;
 mod events;
+#[cfg(test)]
+mod fault_tests;
 mod keeper_calls;
 mod laws;
 mod link_calls;
@@ -12,6 +16,8 @@ mod notes;
 mod plans;
 mod restarts;
 mod roles;
+#[cfg(test)]
+mod row_tests;
 mod runs;
 mod saves;
 mod sent_datagrams;
@@ -19,6 +25,8 @@ mod setups;
 mod slot_texts;
 mod steps;
 mod takes;
+#[cfg(test)]
+mod test_rows;
 #[cfg(test)]
 mod tests;
 mod ticks;

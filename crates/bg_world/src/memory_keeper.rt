@@ -32,7 +32,8 @@ impl MemoryKeeper {
     ghost use Rattle.bg_world.specs.Slots.{empty_slots};
     ghost use Rattle.bg_world.specs.MemoryDevices.{keeper_faults, keeper_plan, last_written, reads_of, slots_of, writes_of};
 
-    /// The keeper of a party, with empty slots, of which nothing was asked. The calls that the plan names for this party fail.
+    /// The keeper of a party, with empty slots, of which nothing was asked. The calls that the plan names for this party
+    /// fail.
     pub(crate) fn new(
         alloc: Global,
         party: u8,

@@ -2,18 +2,18 @@
 ghost use Rattle.std.specs.Prelude.{◌≡◌, []};
 ghost use Rattle.bg_world.specs.Plan.{failure_at, tear_at, read_failure_at, names_call};
 
-/// The number of a call that no entry names. Counts of calls stop there.
+/// Where the counts of calls stop. No entry names this call, nor any after it.
 const NO_CALL: u32 = u32::MAX;
 
 /// A write that fails.
 #[derive(Clone, Copy, Debug, PartialEq, Eq)]
 pub struct Tear {
-    /// Whose keeper: 0 the referee's, 1 that of the seat of X, 2 that of the seat of O. Any other party has none.
+    /// Whose keeper: that of the referee, 0, or of a seat, 1 or 2. Any other party has none.
     pub party: u8,
     /// Which of its writes, from 1 to 4294967294. Any other number names none.
     pub nth: u32,
-    /// How many of the first bytes it leaves in the slot, the whole text where it has no more; `None` leaves the slot as it
-    /// was.
+    /// How many of the first bytes it leaves in the slot, the whole text where it has no more; `None` leaves the slot as
+    /// it was.
     pub cut: Option<u32>,
 }
 
@@ -29,14 +29,14 @@ pub struct FailSend {
 /// A read that fails.
 #[derive(Clone, Copy, Debug, PartialEq, Eq)]
 pub struct FailRead {
-    /// Whose keeper: 0 the referee's, 1 that of the seat of X, 2 that of the seat of O. Any other party has none.
+    /// Whose keeper: that of the referee, 0, or of a seat, 1 or 2. Any other party has none.
     pub party: u8,
     /// Which of its reads, from 1 to 4294967294. Any other number names none.
     pub nth: u32,
 }
 
-/// Which calls of the devices in memory fail (docs/PROTOCOL.md, "Devices"). Each device counts its calls of a kind from 1
-/// over the whole run, those that failed included. Of two entries for one call the first counts.
+/// Which calls of the devices in memory fail (docs/PROTOCOL.md, "Devices"). Each device counts its calls of a kind from
+/// 1 over the whole run, those that failed included. Of two entries for one call the first counts.
 #[derive(Debug, Drop)]
 pub struct Plan {
     /// The writes that fail.
@@ -61,12 +61,10 @@ pub(crate) fn find_failure(plan: &[FailSend], nth: u32) -> Option<FailSend>
     if !names_call(nth) {
         return None;
     }
-    let mut rest = plan;
-    while let [failure, after @ ..] = rest {
+    for failure in plan {
         if failure.nth == nth {
             return Some(*failure);
         }
-        rest = after;
     }
     None
 }
@@ -78,12 +76,10 @@ pub(crate) fn find_tear(plan: &[Tear], party: u8, nth: u32) -> Option<Tear>
     if !names_call(nth) {
         return None;
     }
-    let mut rest = plan;
-    while let [tear, after @ ..] = rest {
+    for tear in plan {
         if tear.party == party && tear.nth == nth {
             return Some(*tear);
         }
-        rest = after;
     }
     None
 }
@@ -95,12 +91,10 @@ pub(crate) fn find_read_failure(plan: &[FailRead], party: u8, nth: u32) -> Optio
     if !names_call(nth) {
         return None;
     }
-    let mut rest = plan;
-    while let [failure, after @ ..] = rest {
+    for failure in plan {
         if failure.party == party && failure.nth == nth {
             return Some(*failure);
         }
-        rest = after;
     }
     None
 }

@@ -142,7 +142,8 @@ fn note_place(
     party: u8,
     place: usize,
 ) -> Result<(), AllocError>
-    ensures ok { OnOk result ((p : ℕ) → list_at lists.new.items p ≡ (if party == p then list_at lists.old.items p ++ place ∷ [] else list_at lists.old.items p)) }
+    ensures ok { OnOk result ((p : ℕ) → list_at lists.new.items p ≡
+        (if party == p then list_at lists.old.items p ++ place ∷ [] else list_at lists.old.items p)) }
     ensures err { OnErr result ((p : ℕ) → list_at lists.new.items p ≡ list_at lists.old.items p) }
 {
     make_lists(alloc, lists, party)?;

@@ -24,7 +24,7 @@ fn fresh_watchers(
     requires length_in_range { IsMatchLength (match_length terms) }
     ensures value { IfOk result (λ watchers. watchers.items ≡ fresh_watchers id terms count) }
     ensures many { IfOk result (λ watchers. vec_len watchers ≡ count) }
-    ensures memory { IfErr result (λ fault. fault ≡ WorldFault.Memory) }
+    ensures memory { IfErr result (λ fault. (fault ≡ WorldFault.Memory) × (1 ≤ count)) }
 {
     let mut watchers = Vec::new(alloc);
     for index in 0..count {

@@ -1,10 +1,7 @@
-use Rattle.std.proofs.Common.{◌≡◌, length}
+use Rattle.std.proofs.Common.{◌≡◌, drop}
 use Rattle.bg_world.specs.Plan.{failure_at}
 use Rattle.bg_world.proofs.plans.find_failure.Given as goal
 
--- the first entry for the send is in the rest, if there is one
-abbrev pub invariant-loop-rest : goal.invariant-loop-rest
-invariant-loop-rest l = failure_at l.rest l.nth ≡ failure_at l.plan l.nth
-
-abbrev pub decreases-loop-rest : goal.decreases-loop-rest
-decreases-loop-rest l = length l.rest
+-- the first entry for the send is among those that are left, if there is one
+abbrev pub invariant-loop-failure : goal.invariant-loop-failure
+invariant-loop-failure l = failure_at (drop l.failure-index l.plan) l.nth ≡ failure_at l.plan l.nth
