@@ -35,7 +35,7 @@ module _ (id : ℕ) (terms : Terms) (party : ℕ) (slots : Slots) (restorable : 
   follows p text ok next spelled = record { written = ok.written; next = omega arith; spelled = spelled }
 
   -- the text of the next save was written
-  whole : (p : SavedParts) (text : List ℕ) → SlotsOk id terms party slots restorable → IsSavedBy party id terms p
+  pub whole : (p : SavedParts) (text : List ℕ) → SlotsOk id terms party slots restorable → IsSavedBy party id terms p
       → p.save ≡ next_number restorable → IsWrittenText p text
       → SlotsOk id terms party (with_slot slots (slot_of p.save) text) (Some p)
   whole p text ok of next spelled =
@@ -56,7 +56,7 @@ module _ (id : ℕ) (terms : Terms) (party : ℕ) (slots : Slots) (restorable : 
       settled new after (Some p) w.after.restore
       (subst (λ (x : Slots). SlotsOk id terms party x (Some p)) (sym w.after.slots) (whole p w.text ok of next w.is_text))
 
-  torn_to : (p : SavedParts) (text left : List ℕ) → SlotsOk id terms party slots restorable → IsSavedBy party id terms p
+  pub torn_to : (p : SavedParts) (text left : List ℕ) → SlotsOk id terms party slots restorable → IsSavedBy party id terms p
       → p.save ≡ next_number restorable → IsWrittenText p text → IsTorn (bytes_in slots (slot_of p.save)) text left
       → (after : Option SavedParts) × SlotsOk id terms party (with_slot slots (slot_of p.save) left) after
       × ((after ≡ restorable) ⊎ (after ≡ Some p))

@@ -2,15 +2,47 @@
 //! any run.
 #![tactic(auto)]
 
+#[cfg(test)]
+mod device_tests;
+mod devices;
 mod events;
+#[cfg(test)]
+mod fault_tests;
+mod keeper_calls;
 mod laws;
+mod link_calls;
+mod memory_keeper;
+mod memory_net;
+mod notes;
+mod plans;
+mod restarts;
 mod roles;
 #[cfg(test)]
+mod row_tests;
+mod runs;
+mod saves;
+mod sent_datagrams;
+mod setups;
+mod slot_texts;
+mod steps;
+mod takes;
+#[cfg(test)]
+mod test_rows;
+#[cfg(test)]
 mod tests;
+mod ticks;
+mod worlds;
 
+pub use devices::{DeviceFault, Keeper, Link, Taken};
 pub use events::{Event, Outcome, RestoreCause};
 pub use laws::{
     claims_are_kept, nothing_is_refused, parties_agree, saved_entries_alone_are_shown,
     saves_survive,
 };
+pub use memory_keeper::MemoryKeeper;
+pub use memory_net::MemoryNet;
+pub use plans::{FailRead, FailSend, Plan, Tear};
 pub use roles::Role;
+pub use runs::RunReport;
+pub use setups::{Keepers, MOST_WATCHERS, Setup, WorldFault};
+pub use worlds::World;

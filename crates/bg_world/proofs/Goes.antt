@@ -1,0 +1,115 @@
+-- The calls of an event on honest devices, from a reached world, are a step of the protocol, and leave a reached world.
+use Rattle.std.specs.Prelude.{◌≡◌, ℕ, zero, suc, ◌+◌, List, [], ◌∷◌}
+use Rattle.std.proofs.Common.{refl, sym, subst, arith}
+use Rattle.bg_board.specs.declared.players.Player.TheVariants.{X, O}
+use Rattle.bg_wire.specs.Codes.{first_watcher}
+use Rattle.bg_world.specs.declared.events.Event.{Event}
+use Rattle.bg_world.specs.declared.events.Event.TheVariants as events
+use Rattle.bg_world.specs.declared.events.Outcome.{Outcome}
+use Rattle.bg_world.specs.declared.events.Outcome.TheVariants as outcomes
+use Rattle.bg_world.specs.declared.runs.RunReport.{RunReport}
+use Rattle.bg_world.specs.Calls.{Calls, RestartCalls, SaveCalls, TakeCalls, TickCalls}
+use Rattle.bg_world.specs.Roles.{role}
+use Rattle.bg_world.specs.Runs.{Run}
+use Rattle.bg_world.specs.Views.{WorldView}
+use Rattle.bg_world.specs.WorldRuns.{CallsAll, RunsAll, RunsCalls, RunsProtocol, StepsProtocol}
+use Rattle.bg_world.specs.WorldState.{CoresMatch, IsReachedWorld, Restorable, state_of}
+use Rattle.bg_world.proofs.Invariant.{Inv}
+use Rattle.bg_world.proofs.Reached.{reached, reached_more}
+use Rattle.bg_world.proofs.RefereeRows.{due_goes, take_referee_goes}
+use Rattle.bg_world.proofs.FollowerRows.{take_seat_goes, take_watcher_goes}
+use Rattle.bg_world.proofs.ChooseRows.{choose_goes}
+use Rattle.bg_world.proofs.SaveRows.{save_referee_goes, save_seat_goes}
+use Rattle.bg_world.proofs.TickRows.{tick_referee_goes, tick_seat_goes, tick_watcher_goes}
+use Rattle.bg_world.proofs.RestartRows.{restart_referee_goes, restart_seat_goes, restart_watcher_goes}
+use Rattle.bg_world.proofs.Sides.{StepsTo, goes_at}
+
+watching : (i : ℕ) → suc (suc (suc i)) ≡ first_watcher + i
+watching i = omega arith
+
+module _ (w : WorldView) (c : Restorable) (link_honest keepers_honest : Type 0) (link : link_honest) (keepers : keepers_honest)
+    (fits : CoresMatch w c) (inv : Inv (state_of w c)) where
+  take_goes : (party pick word : ℕ) (o : Outcome) (new : WorldView) → TakeCalls link_honest w (role party) party pick word o new
+      → StepsTo w c (events.Take party pick word) o new
+  take_goes zero pick word o new h = take_referee_goes w c link_honest link 0 pick word o new fits inv h
+  take_goes (suc zero) pick word o new h =
+      let t = take_seat_goes w c link_honest link X pick word o new fits h in record { restorable = c; step = t.0; cores = t.1 }
+  take_goes (suc (suc zero)) pick word o new h =
+      let t = take_seat_goes w c link_honest link O pick word o new fits h in record { restorable = c; step = t.0; cores = t.1 }
+  take_goes (suc (suc (suc i))) pick word o new h =
+      let t = take_watcher_goes w c link_honest link i (suc (suc (suc i))) pick word o new (watching i) fits h in
+      record { restorable = c; step = t.0; cores = t.1 }
+
+  save_goes : (party : ℕ) (o : Outcome) (new : WorldView) → SaveCalls keepers_honest w (role party) o new → StepsTo w c (events.Save party) o new
+  save_goes zero o new h = save_referee_goes w c keepers_honest keepers o new fits inv h
+  save_goes (suc zero) o new h =
+      let t = save_seat_goes w c keepers_honest keepers X o new fits inv h in record { restorable = t.0; step = t.1; cores = t.2 }
+  save_goes (suc (suc zero)) o new h =
+      let t = save_seat_goes w c keepers_honest keepers O o new fits inv h in record { restorable = t.0; step = t.1; cores = t.2 }
+  save_goes (suc (suc (suc i))) o new h =
+      goes_at w c (events.Save (suc (suc (suc i)))) o outcomes.NoSuchParty new w h.0 h.1 (record { restorable = c; step = (refl, refl); cores = fits })
+
+  tick_goes : (party : ℕ) (o : Outcome) (new : WorldView) → TickCalls link_honest w (role party) o new → StepsTo w c (events.Tick party) o new
+  tick_goes zero o new h = tick_referee_goes w c link_honest link o new fits h
+  tick_goes (suc zero) o new h =
+      let t = tick_seat_goes w c link_honest link X o new fits h in record { restorable = c; step = t.0; cores = t.1 }
+  tick_goes (suc (suc zero)) o new h =
+      let t = tick_seat_goes w c link_honest link O o new fits h in record { restorable = c; step = t.0; cores = t.1 }
+  tick_goes (suc (suc (suc i))) o new h =
+      let t = tick_watcher_goes w c link_honest link i o new fits h in record { restorable = c; step = t.0; cores = t.1 }
+
+  restart_goes : (party : ℕ) (o : Outcome) (new : WorldView) → RestartCalls keepers_honest w (role party) party o new
+      → StepsTo w c (events.Restart party) o new
+  restart_goes zero o new h =
+      let t = restart_referee_goes w c keepers_honest keepers o new fits inv h in record { restorable = c; step = t.0; cores = t.1 }
+  restart_goes (suc zero) o new h =
+      let t = restart_seat_goes w c keepers_honest keepers X o new fits inv h in record { restorable = c; step = t.0; cores = t.1 }
+  restart_goes (suc (suc zero)) o new h =
+      let t = restart_seat_goes w c keepers_honest keepers O o new fits inv h in record { restorable = c; step = t.0; cores = t.1 }
+  restart_goes (suc (suc (suc i))) o new h =
+      let t = restart_watcher_goes w c keepers_honest i (suc (suc (suc i))) o new (watching i) fits h in
+      record { restorable = c; step = t.0; cores = t.1 }
+
+  step_goes : (e : Event) (o : Outcome) (new : WorldView) → Calls link_honest keepers_honest w e o new → StepsTo w c e o new
+  step_goes (events.Due word) o new h = due_goes w c word o new fits h
+  step_goes (events.Take party pick word) o new h = take_goes party pick word o new h
+  step_goes (events.Choose player action) o new h = choose_goes w c player action o new fits h
+  step_goes (events.Save party) o new h = save_goes party o new h
+  step_goes (events.Tick party) o new h = tick_goes party o new h
+  step_goes (events.Restart party) o new h = restart_goes party o new h
+
+-- one event
+pub goes : (link_honest keepers_honest : Type 0) (old : WorldView) (event : Event) (result : Outcome) (new : WorldView)
+    → Calls link_honest keepers_honest old event result new → link_honest → keepers_honest → StepsProtocol old event result new
+goes link_honest keepers_honest old event result new calls link keepers before =
+    let w = state_of old before.restorable in
+    let to = step_goes old before.restorable link_honest keepers_honest link keepers before.cores (reached w before.reached) event result new calls in (
+      record {
+        restorable = to.restorable;
+        reached = reached_more w event result (state_of new to.restorable) before.reached to.step;
+        cores = to.cores;
+      },
+      to.step,
+    )
+
+-- all events, one after the other
+pub runs_protocol : (link_honest keepers_honest : Type 0) (old : WorldView) (events : List Event) (outcomes : List Outcome) (new : WorldView)
+    → CallsAll link_honest keepers_honest old events outcomes new → link_honest → keepers_honest → RunsProtocol old events outcomes new
+runs_protocol link_honest keepers_honest old [] [] new calls link keepers before =
+    subst (λ (w : WorldView). (after : IsReachedWorld w) × Run (state_of old before.restorable) [] (state_of w after.restorable)) (sym calls) (before, refl)
+runs_protocol link_honest keepers_honest old [] (o ∷ os) new calls link keepers before = absurd calls
+runs_protocol link_honest keepers_honest old (e ∷ es) [] new calls link keepers before = absurd calls
+runs_protocol link_honest keepers_honest old (e ∷ es) (o ∷ os) new calls link keepers before =
+    let first = goes link_honest keepers_honest old e o calls.0 calls.1 link keepers before in
+    let rest = runs_protocol link_honest keepers_honest calls.0 es os new calls.2 link keepers first.0 in
+    (rest.0, (state_of calls.0 (first.0).restorable, first.1, rest.1))
+
+-- the same of the calls that a report counts
+pub runs_all : (link_honest keepers_honest : Type 0) (old : WorldView) (events : List Event) (report : RunReport) (new : WorldView)
+    → RunsCalls link_honest keepers_honest old events report new → RunsAll link_honest keepers_honest old events report new
+runs_all link_honest keepers_honest old events report new h = record {
+  outcomes = h.outcomes;
+  calls = h.calls;
+  reports = h.reports;
+  protocol = λ link keepers. runs_protocol link_honest keepers_honest old events h.outcomes new h.calls link keepers;
+}

@@ -1,0 +1,116 @@
+-- A world where nothing has happened yet, over an empty link and empty slots, is a reached world: its state is the start.
+use Rattle.std.specs.Prelude.{◌≡◌, ◌⊎◌, ℕ, zero, suc, ◌+◌, List, [], ◌∷◌, ◌++◌, Some, None, length, map, replicate, slice_get}
+use Rattle.std.proofs.Common.{refl, sym, ◌∙◌, ap, ap₂, subst, inl, inr, arith, length-append}
+use Rattle.std.proofs.lemmas.List.{map-append}
+use Rattle.std.proofs.lemmas.Option.{same_Some}
+use Rattle.bg_match.specs.Terms.{Terms}
+use Rattle.bg_match.specs.declared.entries.Entry.{Entry}
+use Rattle.bg_wire.specs.Codes.{first_watcher}
+use Rattle.bg_wire.specs.Restoring.{SlotsRestore}
+use Rattle.bg_wire.specs.SlotLaws.{Slots}
+use Rattle.bg_wire.specs.declared.packets.Datagram.{Datagram}
+use Rattle.bg_wire.proofs.OneText.{empty_loads}
+use Rattle.bg_party.specs.Views.{WatcherView, fresh_watcher}
+use Rattle.bg_world.specs.declared.setups.Setup.{Setup}
+use Rattle.bg_world.specs.Slots.{empty_slots}
+use Rattle.bg_world.specs.Starts.{fresh_watchers, start_of}
+use Rattle.bg_world.specs.State.{IsSetup, start}
+use Rattle.bg_world.specs.Views.{KeeperView, LinkView}
+use Rattle.bg_world.specs.WorldState.{CoresMatch, IsReachedWorld, Restorable, WatcherMatches, WatchersMatch, state_of, watcher_log}
+
+-- ---- the watchers
+
+many_watchers : (id : ℕ) (terms : Terms) (n : ℕ) → length (fresh_watchers id terms n) ≡ n
+many_watchers id terms zero = refl
+many_watchers id terms (suc n) =
+    let e = many_watchers id terms n in
+    omega (e, length-append (fresh_watchers id terms n) (fresh_watcher (first_watcher + n) id terms ∷ []), arith)
+
+no_entries : List Entry
+no_entries = []
+
+more_empty : (n : ℕ) → replicate n no_entries ++ no_entries ∷ [] ≡ no_entries ∷ replicate n no_entries
+more_empty zero = refl
+more_empty (suc n) = ap (λ (l : List (List Entry)). no_entries ∷ l) (more_empty n)
+
+empty_logs : (id : ℕ) (terms : Terms) (n : ℕ) → map watcher_log (fresh_watchers id terms n) ≡ replicate n []
+unfolding no_entries
+empty_logs id terms zero = refl
+empty_logs id terms (suc n) =
+    map-append watcher_log (fresh_watchers id terms n) (fresh_watcher (first_watcher + n) id terms ∷ [])
+    ∙ ap (λ (l : List (List Entry)). l ++ [] ∷ []) (empty_logs id terms n) ∙ more_empty n
+
+get_last : (xs : List WatcherView) (x : WatcherView) (i : ℕ) (f : WatcherView) → slice_get (xs ++ x ∷ []) i ≡ Some f
+    → (slice_get xs i ≡ Some f) ⊎ ((i ≡ length xs) × (f ≡ x))
+get_last [] x zero f h = inr (refl, sym (same_Some x f h))
+get_last [] x (suc i) f h = absurd cc
+get_last (y ∷ ys) x zero f h = inl h
+get_last (y ∷ ys) x (suc i) f h = at (get_last ys x i f h)
+  where
+    at : (slice_get ys i ≡ Some f) ⊎ ((i ≡ length ys) × (f ≡ x)) → (slice_get ys i ≡ Some f) ⊎ ((suc i ≡ suc (length ys)) × (f ≡ x))
+    at (inl p) = inl p
+    at (inr p) = inr (ap suc p.0, p.1)
+
+fresh_match : (id : ℕ) (terms : Terms) (n : ℕ) → WatchersMatch id terms (fresh_watchers id terms n)
+fresh_match id terms zero i f h = absurd cc
+fresh_match id terms (suc n) i f h =
+    at (fresh_match id terms n) (get_last (fresh_watchers id terms n) (fresh_watcher (first_watcher + n) id terms) i f h)
+  where
+    at : WatchersMatch id terms (fresh_watchers id terms n)
+        → (slice_get (fresh_watchers id terms n) i ≡ Some f) ⊎ ((i ≡ length (fresh_watchers id terms n)) × (f ≡ fresh_watcher (first_watcher + n) id terms))
+        → WatcherMatches id terms i f
+    at before (inl p) = before i f p
+    at before (inr p) =
+        subst (λ (x : WatcherView). WatcherMatches id terms i x) (sym p.1)
+        (record { party = (let a = p.0 in let b = many_watchers id terms n in omega (a, b, arith)); log = (refl, refl) })
+
+-- ---- the world
+
+nothing_restored : (slots : Slots) → slots ≡ empty_slots → SlotsRestore slots.zero slots.one None
+nothing_restored slots e =
+    subst (λ (x : Slots). SlotsRestore x.zero x.one None) (sym e)
+    (record { first = None; second = None; first_loads = empty_loads; second_loads = empty_loads; is_newer = refl })
+
+abbrev nothing : Restorable
+nothing = record { referee = None; x = None; o = None }
+
+module _ (setup : Setup) (link : LinkView) (referee x o : KeeperView) (no_sent : link.sent ≡ []) (no_referee : referee.slots ≡ empty_slots)
+    (no_x : x.slots ≡ empty_slots) (no_o : o.slots ≡ empty_slots) where
+  start_is : state_of (start_of setup link referee x o) nothing ≡ start setup.id setup.length setup.watchers
+  start_is =
+      let w = start setup.id setup.length setup.watchers in
+      ap₂ (λ (s : List Datagram) (l : List (List Entry)). record w {
+        referee = record (w.referee) { slots = referee.slots };
+        x = record (w.x) { slots = x.slots };
+        o = record (w.o) { slots = o.slots };
+        watchers = l;
+        sent = s;
+      }) no_sent (empty_logs setup.id setup.length setup.watchers)
+      ∙ ap (λ (a : Slots). record w {
+        referee = record (w.referee) { slots = a };
+        x = record (w.x) { slots = x.slots };
+        o = record (w.o) { slots = o.slots };
+      }) no_referee
+      ∙ ap₂ (λ (b c : Slots). record w { x = record (w.x) { slots = b }; o = record (w.o) { slots = c } }) no_x no_o
+
+  start_matches : CoresMatch (start_of setup link referee x o) nothing
+  start_matches = record {
+    referee = (nothing_restored referee.slots no_referee, record { log = (refl, refl); next = refl });
+    x = (nothing_restored x.slots no_x, record { sits_for = refl; log = (refl, refl); next = refl });
+    o = (nothing_restored o.slots no_o, record { sits_for = refl; log = (refl, refl); next = refl });
+    watchers = fresh_match setup.id setup.length setup.watchers;
+  }
+
+  pub start_reached : IsSetup setup.id setup.length setup.watchers → IsReachedWorld (start_of setup link referee x o)
+  start_reached is = record {
+    restorable = nothing;
+    reached = record {
+      id = setup.id;
+      terms = setup.length;
+      watchers = setup.watchers;
+      setup = is;
+      history = [];
+      run = start_is;
+    };
+    cores = start_matches;
+  }

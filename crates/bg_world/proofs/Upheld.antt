@@ -1,0 +1,77 @@
+-- What holds of each reached world.
+use Rattle.std.specs.Prelude.{◌≡◌, Option, Some, None, slice_get, option_map}
+use Rattle.std.proofs.Common.{refl, ◌∙◌, ap, subst}
+use Rattle.std.proofs.lemmas.Option.{same_Some}
+use Rattle.bg_board.specs.declared.players.Player.{Player}
+use Rattle.bg_board.specs.declared.players.Player.TheVariants.{X, O}
+use Rattle.bg_match.specs.Match.{Log}
+use Rattle.bg_wire.specs.SavedText.{SavedParts}
+use Rattle.bg_referee.specs.Referee.{RefereeView}
+use Rattle.bg_party.specs.Views.{SeatView, WatcherView}
+use Rattle.bg_world.specs.declared.roles.Role.{Role}
+use Rattle.bg_world.specs.declared.roles.Role.TheVariants as roles
+use Rattle.bg_world.specs.Claims.{AreClaimsKept}
+use Rattle.bg_world.specs.Roles.{role}
+use Rattle.bg_world.specs.Slots.{claim_in}
+use Rattle.bg_world.specs.Starts.{held_of, referee_log, seat_log}
+use Rattle.bg_world.specs.Starts as starts
+use Rattle.bg_world.specs.State.{log_as, seat}
+use Rattle.bg_world.specs.Upholds.{Upholds}
+use Rattle.bg_world.specs.Views.{WorldView}
+use Rattle.bg_world.specs.WorldState.{IsReachedWorld, Restorable, referee_state, restorable_of, seat_state, state_of, watcher_log}
+use Rattle.bg_world.proofs.Invariant.{of_seat}
+use Rattle.bg_world.proofs.Reached.{reached, headline, agreement, no_more, no_packet_refused, no_slot_refused, saves_survive}
+use Rattle.bg_world.proofs.Sides.{get_log}
+
+-- the record of a party that is up is the one that the state has
+held_entries : (r : Role) (w : WorldView) (c : Restorable) (log : Log) → held_of w r ≡ Some log → log_as (state_of w c) r ≡ Some log.entries
+held_entries roles.Referee w c log h = at w.referee h
+  where
+    at : (r : Option RefereeView) → referee_log r ≡ Some log → Some (referee_state r w.referee_keeper.slots c.referee).log ≡ Some log.entries
+    at None e = absurd cc
+    at (Some r) e = ap (λ (l : Log). Some l.entries) (same_Some r.log log e)
+held_entries (roles.Seat X) w c log h = at w.x h
+  where
+    at : (s : Option SeatView) → seat_log s ≡ Some log → Some (seat_state s w.x_keeper.slots c.x).log ≡ Some log.entries
+    at None e = absurd cc
+    at (Some s) e = ap (λ (l : Log). Some l.entries) (same_Some s.follower.log log e)
+held_entries (roles.Seat O) w c log h = at w.o h
+  where
+    at : (s : Option SeatView) → seat_log s ≡ Some log → Some (seat_state s w.o_keeper.slots c.o).log ≡ Some log.entries
+    at None e = absurd cc
+    at (Some s) e = ap (λ (l : Log). Some l.entries) (same_Some s.follower.log log e)
+held_entries (roles.Watcher i) w c log h = get_log w.watchers i ∙ at (slice_get w.watchers i) h
+  where
+    at : (f : Option WatcherView) → starts.watcher_log f ≡ Some log → option_map watcher_log f ≡ Some log.entries
+    at None e = absurd cc
+    at (Some f) e = ap (λ (l : Log). Some l.entries) (same_Some f.follower.log log e)
+
+-- what the slots of a seat restore is what the state says
+restorable_of_seat : (w : WorldView) (c : Restorable) (q : Player) → (seat (state_of w c) q).restorable ≡ restorable_of c q
+restorable_of_seat w c X = at_x w.x
+  where
+    at_x : (s : Option SeatView) → (seat_state s w.x_keeper.slots c.x).restorable ≡ c.x
+    at_x None = refl
+    at_x (Some s) = refl
+restorable_of_seat w c O = at_o w.o
+  where
+    at_o : (s : Option SeatView) → (seat_state s w.o_keeper.slots c.o).restorable ≡ c.o
+    at_o None = refl
+    at_o (Some s) = refl
+
+pub upholds : (w : WorldView) → IsReachedWorld w → Upholds w
+upholds w world =
+    let c = world.restorable in
+    let v = state_of w c in
+    let inv = reached v world.reached in
+    record {
+      world = world;
+      headline = headline v inv;
+      agreement = agreement v inv;
+      claims = λ q. subst (λ (r : Option SavedParts). AreClaimsKept w.link.sent q (claim_in r)) (restorable_of_seat w c q) (of_seat v q inv).claims;
+      saved_alone = no_more v inv;
+      packets = no_packet_refused v inv;
+      slots = no_slot_refused v inv;
+      survive = saves_survive v inv;
+      held = λ party log h. held_entries (role party) w c log h;
+    }

@@ -1,0 +1,29 @@
+-- What a link in memory hands over.
+use Rattle.std.specs.Prelude.{ℕ, List, [], ◌∷◌, Option, Some, None, filter, length, min, slice_get, ◌==◌, if◌then◌else◌}
+use Rattle.arrayvec.specs.ArrayVec.{ArrayVec}
+use Rattle.bg_text.specs.declared.histories.History.{History}
+use Rattle.bg_wire.specs.declared.packets.Datagram.{Datagram}
+
+-- the datagrams that were sent to the party, the oldest first
+abbrev pub sent_to : ℕ → List Datagram → List Datagram
+sent_to party sent = filter (λ datagram. datagram.to == party) sent
+
+-- how many; 4294967295 where there are as many or more
+abbrev pub count_to : ℕ → List Datagram → ℕ
+count_to party sent = min (length (sent_to party sent)) 4294967295
+
+-- the bytes of a datagram, if there is one
+abbrev pub bytes_handed : Option Datagram → Option (ArrayVec ℕ)
+bytes_handed None = None
+bytes_handed (Some datagram) = Some (record { items = datagram.bytes })
+
+-- The pick 4294967295 names one byte 0, which is no packet's text. Any other pick is an index, from 0, into the datagrams that
+-- were sent to the party; it names nothing where there is none.
+abbrev pub handed : List Datagram → ℕ → ℕ → Option (ArrayVec ℕ)
+handed sent party pick =
+    if pick == 4294967295 then Some (record { items = 0 ∷ [] }) else bytes_handed (slice_get (sent_to party sent) pick)
+
+-- the bytes that were noted, if there were any
+abbrev pub noted : Option History → Option (ArrayVec ℕ)
+noted None = None
+noted (Some history) = Some (record { items = history.bytes })

@@ -1,0 +1,159 @@
+//! The devices of a world: a link between the parties, and a keeper for each party that saves.
+ghost use Rattle.std.specs.Prelude.{◌≡◌, ◌+◌, List, Ok, Option, Result, ℕ, IfOk, IfSome};
+ghost use Rattle.arrayvec.specs.ArrayVec.{ArrayVec as Items};
+ghost use Rattle.bg_wire.specs.SlotLaws.{Slots, bytes_in};
+ghost use Rattle.bg_wire.specs.declared.packets.Datagram.{Datagram as Sent};
+ghost use Rattle.bg_world.specs.Devices.{HasCause, CountsFailed, Sends, MayArrive, Writes};
+ghost use Rattle.bg_world.specs.Handed.{handed};
+ghost use Rattle.bg_world.specs.Plan.{KeeperPlan, failure_at, tear_at, read_failure_at, SendsBy, WritesBy, ReadsBy};
+ghost use Rattle.bg_world.specs.declared.devices.DeviceFault.{DeviceFault as Fault};
+ghost use Rattle.bg_world.specs.declared.devices.DeviceFault.TheVariants.{Memory};
+ghost use Rattle.bg_world.specs.declared.plans.FailSend.{FailSend};
+
+use arrayvec::ArrayVec;
+use bg_wire::{Datagram, Slot};
+use std::alloc::{AllocError, AllocFailed};
+use thiserror::Error;
+
+/// Why a device did not do what it was asked.
+#[derive(Clone, Copy, Debug, PartialEq, Eq, Error)]
+pub enum DeviceFault {
+    /// It failed by itself.
+    #[error("the device failed")]
+    Failed,
+    /// There was no memory.
+    #[error("out of memory")]
+    Memory,
+}
+
+impl From<AllocError> for DeviceFault {
+    ghost from_gives = { λ _ fault. fault ≡ Memory };
+
+    fn from(_: AllocError) -> DeviceFault {
+        DeviceFault::Memory
+    }
+}
+
+impl<T: Drop> From<AllocFailed<T>> for DeviceFault {
+    ghost from_gives = { λ _ fault. fault ≡ Memory };
+
+    fn from(_: AllocFailed<T>) -> DeviceFault {
+        DeviceFault::Memory
+    }
+}
+
+/// What a take answers: the bytes of a datagram, at most 256, or that the link has none for the party.
+pub type Taken = Result<Option<ArrayVec<u8, 256>>, DeviceFault>;
+
+/// Carries datagrams between the parties (docs/PROTOCOL.md, "Devices"). It may lose them, repeat them and change their
+/// order.
+pub trait Link {
+    /// It is honest, in all of its calls: what it hands over to a party was sent to that party, or is no packet's text.
+    ghost is_honest: { Type 0 };
+
+    /// Which of its sends fail, where that is known.
+    ghost plan: { Self → Option (List FailSend) };
+
+    /// The datagrams that were ever sent, the oldest first.
+    ghost sent: { Self → List Sent };
+
+    /// How often it has failed by itself.
+    ghost faults: { Self → ℕ };
+
+    /// How often a take was asked.
+    ghost takes: { Self → ℕ };
+
+    /// How often a send was asked.
+    ghost sends: { Self → ℕ };
+
+    /// What the last take answered.
+    ghost taken: { Self → Result (Option (Items ℕ)) Fault };
+
+    /// Sends a datagram.
+    ///
+    /// # Errors
+    /// `Failed` where the link failed, `Memory` where there was no memory. Then the datagram may have gone out or not.
+    fn send(&mut self, datagram: &Datagram) -> Result<(), DeviceFault>
+        ensures sends { sends self.new ≡ sends self.old + 1 }
+        ensures takes { takes self.new ≡ takes self.old }
+        ensures taken { taken self.new ≡ taken self.old }
+        ensures plan { plan self.new ≡ plan self.old }
+        ensures cause { HasCause (faults self.old) (faults self.new) result }
+        ensures honest { is_honest → Sends (sent self.old) datagram.now (sent self.new) result }
+        ensures planned { IfSome (plan self.old) (λ failing.
+            SendsBy (failure_at failing (sends self.new)) (sent self.old) datagram.now (sent self.new) result) }
+        ensures counted { IfSome (plan self.old) (λ _. CountsFailed (faults self.old) (faults self.new) result) };
+
+    /// Takes a datagram for the party, if there is one. A link in memory hands over the one that `pick` names.
+    ///
+    /// # Errors
+    /// `Failed` where the link failed; `Memory` where there was no memory.
+    fn take(&mut self, party: u8, pick: u32) -> Taken
+        ensures takes { takes self.new ≡ takes self.old + 1 }
+        ensures sends { sends self.new ≡ sends self.old }
+        ensures taken { taken self.new ≡ result }
+        ensures plan { plan self.new ≡ plan self.old }
+        ensures cause { HasCause (faults self.old) (faults self.new) result }
+        ensures same { is_honest → sent self.new ≡ sent self.old }
+        ensures honest { is_honest →
+            IfOk result (λ found. IfSome found (λ bytes. MayArrive (sent self.old) party bytes.items)) }
+        ensures planned { IfSome (plan self.old) (λ _. result ≡ Ok (handed (sent self.old) party pick)) }
+        ensures counted { IfSome (plan self.old) (λ _. CountsFailed (faults self.old) (faults self.new) result) };
+}
+
+/// Keeps the saved texts of one party in two slots (docs/PROTOCOL.md, "Devices").
+pub trait Keeper {
+    /// It is honest, in all of its calls: a slot has what was last written to it, and reads give that; of a write that
+    /// failed it may have the first bytes, or nothing.
+    ghost is_honest: { Type 0 };
+
+    /// Whose keeper it is, and which of its calls fail, where that is known.
+    ghost plan: { Self → Option KeeperPlan };
+
+    /// The bytes of its slots.
+    ghost slots: { Self → Slots };
+
+    /// How often it has failed by itself.
+    ghost faults: { Self → ℕ };
+
+    /// How often a write was asked.
+    ghost writes: { Self → ℕ };
+
+    /// How often a read was asked.
+    ghost reads: { Self → ℕ };
+
+    /// What the last write answered.
+    ghost written: { Self → Result (Unit {0}) Fault };
+
+    /// Writes bytes to a slot, in the place of those that it has.
+    ///
+    /// # Errors
+    /// `Failed` where the keeper failed, `Memory` where there was no memory. Then the slot may have what it had, or any
+    /// number of the first of these bytes.
+    fn write(&mut self, slot: Slot, bytes: &[u8]) -> Result<(), DeviceFault>
+        ensures writes { writes self.new ≡ writes self.old + 1 }
+        ensures reads { reads self.new ≡ reads self.old }
+        ensures written { written self.new ≡ result }
+        ensures plan { plan self.new ≡ plan self.old }
+        ensures cause { HasCause (faults self.old) (faults self.new) result }
+        ensures honest { is_honest → Writes (slots self.old) slot bytes.now (slots self.new) result }
+        ensures planned { IfSome (plan self.old) (λ known.
+            WritesBy (tear_at known (writes self.new)) (slots self.old) slot bytes.now (slots self.new) result) }
+        ensures counted { IfSome (plan self.old) (λ _. CountsFailed (faults self.old) (faults self.new) result) };
+
+    /// Reads the bytes of a slot.
+    ///
+    /// # Errors
+    /// `Failed` where the keeper failed, `Memory` where there was no memory.
+    fn read(&mut self, slot: Slot) -> Result<Vec<u8>, DeviceFault>
+        ensures reads { reads self.new ≡ reads self.old + 1 }
+        ensures writes { writes self.new ≡ writes self.old }
+        ensures written { written self.new ≡ written self.old }
+        ensures plan { plan self.new ≡ plan self.old }
+        ensures cause { HasCause (faults self.old) (faults self.new) result }
+        ensures same { is_honest → slots self.new ≡ slots self.old }
+        ensures honest { is_honest → IfOk result (λ bytes. bytes.items ≡ bytes_in (slots self.old) slot) }
+        ensures planned { IfSome (plan self.old) (λ known.
+            ReadsBy (read_failure_at known (reads self.new)) (slots self.old) slot result) }
+        ensures counted { IfSome (plan self.old) (λ _. CountsFailed (faults self.old) (faults self.new) result) };
+}

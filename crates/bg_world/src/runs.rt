@@ -1,0 +1,88 @@
+//! Many events, one after the other.
+ghost use Rattle.std.specs.Prelude.{◌≡◌, ◌+◌, ◌<◌, ◌^◌, [], ◌∷◌, count_by};
+ghost use Rattle.bg_world.specs.WorldRuns.{is_fault, is_memory};
+
+use crate::{Event, Keeper, Link, Outcome, World};
+use bg_party::Learned;
+use bg_referee::{DueFault, TakeOutcome};
+
+/// What a run came to.
+#[derive(Clone, Copy, Debug, PartialEq, Eq)]
+pub struct RunReport {
+    /// How many events there were.
+    pub done: usize,
+    /// How many of them wanted memory that there was not.
+    pub memory: usize,
+    /// How many of them came to a `LinkFault`, a `SaveFault` or a `RestoreFault`.
+    pub faults: usize,
+}
+
+/// Whether memory was wanted.
+fn is_memory(outcome: &Outcome) -> bool
+    ensures { result ≡ is_memory outcome.now }
+{
+    matches!(
+        outcome,
+        Outcome::Due(Err(DueFault::Memory))
+            | Outcome::Took(TakeOutcome::Memory)
+            | Outcome::Learned(Learned::Memory)
+            | Outcome::Memory
+    )
+}
+
+/// Whether a device failed, or slots restore nothing for their party.
+fn is_fault(outcome: &Outcome) -> bool
+    ensures { result ≡ is_fault outcome.now }
+{
+    matches!(
+        outcome,
+        Outcome::LinkFault | Outcome::SaveFault | Outcome::RestoreFault(_)
+    )
+}
+
+/// Counts one event more.
+fn count(report: &mut RunReport, outcome: &Outcome)
+    requires done { report.old.done + 1 < 2 ^ 64 }
+    requires memory { report.old.memory + 1 < 2 ^ 64 }
+    requires faults { report.old.faults + 1 < 2 ^ 64 }
+    ensures done { report.new.done ≡ report.old.done + 1 }
+    ensures memory { report.new.memory ≡ report.old.memory + count_by is_memory (outcome.now ∷ []) }
+    ensures faults { report.new.faults ≡ report.old.faults + count_by is_fault (outcome.now ∷ []) }
+{
+    report.done += 1;
+    if is_memory(outcome) {
+        report.memory += 1;
+    }
+    if is_fault(outcome) {
+        report.faults += 1;
+    }
+}
+
+impl<L: Link, K: Keeper> World<L, K> {
+    ghost use Rattle.bg_world.specs.World.{view_of};
+    ghost use Rattle.bg_world.specs.WorldRuns.{RunsCalls};
+
+    /// All events, in order (docs/PROTOCOL.md, "The state and its steps"), and how many of them wanted memory or came to a
+    /// fault. No outcome ends the run.
+    pub fn run(&mut self, events: &[Event]) -> RunReport
+        ensures calls { RunsCalls L.is_honest K.is_honest (view_of L.Link K.Keeper self.old) events.now result (view_of L.Link K.Keeper self.new) }
+    {
+        self.steps(events)
+    }
+
+    /// The calls of all events.
+    pub(crate) fn steps(&mut self, events: &[Event]) -> RunReport
+        ensures { RunsCalls L.is_honest K.is_honest (view_of L.Link K.Keeper self.old) events.now result (view_of L.Link K.Keeper self.new) }
+    {
+        let mut report = RunReport {
+            done: 0,
+            memory: 0,
+            faults: 0,
+        };
+        for event in events {
+            let outcome = self.happen(event.copy());
+            count(&mut report, &outcome);
+        }
+        report
+    }
+}

@@ -1,0 +1,199 @@
+//! Rows of events with what each comes to, over devices in memory: the words of the tests of worlds.
+use crate::{
+    Event, FailRead, FailSend, Keepers, MemoryKeeper, MemoryNet, Outcome, RestoreCause, Setup,
+    Tear, World, WorldFault,
+};
+use arrayvec::ArrayVec;
+use bg_board::{Player, Step};
+use bg_match::Action;
+use bg_party::{ChooseFault, Learned};
+use bg_referee::TakeOutcome;
+use bg_turns::Turn;
+use bg_wire::Packet;
+use std::alloc::Global;
+use std::process::Abort;
+
+pub(crate) type MemoryWorld = World<MemoryNet, MemoryKeeper>;
+
+/// An event, in a form that constants have.
+#[derive(Clone, Copy)]
+pub(crate) enum Happens {
+    Due(u32),
+    /// At a party, of a pick, with a word.
+    Take(u8, u32, u32),
+    /// X moves this step, and another from the second point by the same player.
+    Move((u8, u8), (u8, u8)),
+    /// O rolls.
+    Roll,
+    Save(u8),
+    Tick(u8),
+    Restart(u8),
+}
+
+/// What an event comes to, in a form that constants have.
+#[derive(Clone, Copy)]
+pub(crate) enum ComesTo {
+    Opened(u16),
+    Accepted(u16),
+    Nothing,
+    /// An answer to a party, of entries from a number on, so many.
+    Answer(u8, u16, usize),
+    Learned(u8),
+    Gap,
+    Claimed(u16),
+    AlreadyClaimed,
+    Saved(u32),
+    Sent(u8),
+    Restarted,
+    NoDatagram,
+    Down,
+    NoSuchParty,
+    LinkFault,
+    SaveFault,
+    ReadFault,
+}
+
+pub(crate) type Row = (Happens, ComesTo);
+
+/// X moves 8-5 6-5.
+pub(crate) const X_MOVES: Happens = Happens::Move((8, 5), (6, 5));
+
+/// The opening 3 1 reaches X, who chooses his move.
+pub(crate) const TO_THE_CHOICE: [Row; 6] = [
+    (Happens::Due(12), ComesTo::Opened(1)),
+    (Happens::Save(0), ComesTo::Saved(1)),
+    (Happens::Tick(1), ComesTo::Sent(1)),
+    (Happens::Take(0, 0, 0), ComesTo::Answer(1, 1, 1)),
+    (Happens::Take(1, 0, 0), ComesTo::Learned(1)),
+    (X_MOVES, ComesTo::Claimed(2)),
+];
+
+pub(crate) const TO_THE_CLAIM: [Row; 2] = [
+    (Happens::Save(1), ComesTo::Saved(1)),
+    (Happens::Tick(1), ComesTo::Sent(1)),
+];
+
+/// Which calls of the devices fail: at most one of each kind.
+#[derive(Clone, Copy)]
+pub(crate) struct Failing {
+    pub(crate) tear: Option<Tear>,
+    pub(crate) send: Option<FailSend>,
+    pub(crate) read: Option<FailRead>,
+}
+
+pub(crate) const NO_FAILURE: Failing = Failing {
+    tear: None,
+    send: None,
+    read: None,
+};
+
+fn list<T: Copy + Drop>(alloc: Global, item: Option<T>) -> Result<Vec<T>, WorldFault> {
+    let mut items = Vec::new(alloc);
+    if let Some(item) = item {
+        items.push(item)?;
+    }
+    Ok(items)
+}
+
+fn keeper(alloc: Global, party: u8, failing: Failing) -> Result<MemoryKeeper, WorldFault> {
+    let tears = list(alloc, failing.tear)?;
+    Ok(MemoryKeeper::new(alloc, party, tears, list(alloc, failing.read)?))
+}
+
+/// A world of match 1 over devices in memory, where nothing has happened yet.
+pub(crate) fn world(
+    alloc: Global,
+    length: u8,
+    watchers: u8,
+    failing: Failing,
+) -> Result<MemoryWorld, WorldFault> {
+    let link = MemoryNet::new(alloc, list(alloc, failing.send)?);
+    let keepers = Keepers {
+        referee: keeper(alloc, 0, failing)?,
+        x: keeper(alloc, 1, failing)?,
+        o: keeper(alloc, 2, failing)?,
+    };
+    let setup = Setup {
+        id: 1,
+        length,
+        watchers,
+    };
+    World::new(alloc, setup, link, keepers)
+}
+
+fn push_step(steps: &mut ArrayVec<Step, 4>, step: (u8, u8)) {
+    if let Some(step) = Step::new(step.0, step.1) {
+        let _ = steps.try_push(step);
+    }
+}
+
+fn move_of(first: (u8, u8), second: (u8, u8)) -> Action {
+    let mut steps = ArrayVec::new();
+    push_step(&mut steps, first);
+    push_step(&mut steps, second);
+    Action::Move(Turn { steps })
+}
+
+pub(crate) fn event(happens: Happens) -> Event {
+    match happens {
+        Happens::Due(word) => Event::Due { word },
+        Happens::Take(party, pick, word) => Event::Take { party, pick, word },
+        Happens::Move(first, second) => Event::Choose {
+            seat: Player::X,
+            action: move_of(first, second),
+        },
+        Happens::Roll => Event::Choose {
+            seat: Player::O,
+            action: Action::Roll,
+        },
+        Happens::Save(party) => Event::Save { party },
+        Happens::Tick(party) => Event::Tick { party },
+        Happens::Restart(party) => Event::Restart { party },
+    }
+}
+
+/// Whether it is an answer to the party, of entries from this number on, so many.
+fn is_answer(outcome: &Outcome, party: u8, first: u16, count: usize) -> bool {
+    match outcome {
+        Outcome::Took(TakeOutcome::Answer(to, Packet::Entries { start, list, .. })) => {
+            *to == party && *start == first && list.entries.len() == count
+        }
+        _ => false,
+    }
+}
+
+/// Whether the outcome is this one.
+fn is(outcome: &Outcome, expected: ComesTo) -> bool {
+    match expected {
+        ComesTo::Opened(number) => *outcome == Outcome::Due(Ok(number)),
+        ComesTo::Accepted(number) => *outcome == Outcome::Took(TakeOutcome::Accepted(number)),
+        ComesTo::Nothing => *outcome == Outcome::Took(TakeOutcome::Nothing),
+        ComesTo::Answer(party, first, count) => is_answer(outcome, party, first, count),
+        ComesTo::Learned(count) => *outcome == Outcome::Learned(Learned::Grew(count)),
+        ComesTo::Gap => *outcome == Outcome::Learned(Learned::Gap),
+        ComesTo::Claimed(number) => *outcome == Outcome::Chose(Ok(number)),
+        ComesTo::AlreadyClaimed => *outcome == Outcome::Chose(Err(ChooseFault::AlreadyClaimed)),
+        ComesTo::Saved(save) => *outcome == Outcome::Saved(save),
+        ComesTo::Sent(count) => *outcome == Outcome::Sent(count),
+        ComesTo::Restarted => *outcome == Outcome::Restarted,
+        ComesTo::NoDatagram => *outcome == Outcome::NoDatagram,
+        ComesTo::Down => *outcome == Outcome::Down,
+        ComesTo::NoSuchParty => *outcome == Outcome::NoSuchParty,
+        ComesTo::LinkFault => *outcome == Outcome::LinkFault,
+        ComesTo::SaveFault => *outcome == Outcome::SaveFault,
+        ComesTo::ReadFault => *outcome == Outcome::RestoreFault(RestoreCause::Device),
+    }
+}
+
+/// Every event comes to what its row says.
+pub(crate) fn check_rows(rt: &impl Abort, world: &mut MemoryWorld, rows: &[Row]) {
+    for (i, row) in rows.iter().enumerate() {
+        let outcome = world.step(event(row.0));
+        assert!(rt; is(&outcome, row.1), "row {i} comes to {outcome:?}");
+    }
+}
+
+/// How many entries a party holds, if it is there and up.
+pub(crate) fn held(world: &MemoryWorld, party: u8) -> Option<u16> {
+    Some(world.held(party)?.len())
+}
