@@ -2,7 +2,7 @@
 use crate::arguments::command;
 use crate::showing::show_text;
 use clap::error::ErrorKind;
-use std::alloc::AllocError;
+use std::alloc::{AllocError, Global};
 use std::process::Abort;
 use std::test::Fail;
 
@@ -174,6 +174,14 @@ fn longer_file_does_not_load(rt: HostRuntime) -> Result<(), Fail> {
     )
 }
 
+/// Fails where the growth that comes next is refused: so `tools/refuse_growths` learns how many came before.
+fn check_no_growth_is_left(alloc: Global) -> Result<(), Fail> {
+    match Vec::<u8>::with_capacity(alloc, 1) {
+        Ok(_) => Ok(()),
+        Err(AllocError) => Err(Fail::from("no growth is left")),
+    }
+}
+
 /// Want of memory is answered and harms nothing: asked again, the answer is the same. No run of the tests refuses any, but
 /// `tools/refuse_growths` refuses each growth in turn.
 #[test]
@@ -190,5 +198,5 @@ file 1: party 0 match 1 length 1 save 2 entries 2
         assert!(rt; text.starts_with(lines.as_bytes()));
         assert!(rt; text.ends_with(AFTER_THE_MOVE.as_bytes()));
     }
-    Ok(())
+    check_no_growth_is_left(rt.alloc())
 }

@@ -1,6 +1,8 @@
 pub mod Splits
 pub mod Numbers
+pub mod TwoWords
 pub mod PairTexts
+pub mod DiceTexts
 pub mod Moves
 pub mod ActionTexts
 pub mod Starts

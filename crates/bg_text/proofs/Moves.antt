@@ -1,12 +1,12 @@
 -- The pairs of a move, and their turn.
-use Rattle.std.specs.Prelude.{◌≡◌, ℕ, List, [], ◌∷◌, ◌++◌, length, map, Option, Some, None, Result, Ok, Err}
+use Rattle.std.specs.Prelude.{◌≡◌, ℕ, List, [], ◌∷◌, ◌++◌, length, map, Result, Ok, Err}
 use Rattle.std.specs.List.{AllByRecursion}
 use Rattle.std.proofs.Common.{refl, sym, ◌∙◌, ap, arith, length-append, append_assoc}
 use Rattle.bg_board.specs.FromTo.{FromTo}
 use Rattle.bg_turns.specs.Turn.{IsDownward}
 use Rattle.bg_text.specs.EntryText.{step_text}
 use Rattle.bg_text.specs.EntryShape.{IsPairShape}
-use Rattle.bg_text.specs.Pairs.{IsStepOf, IsTurnOf}
+use Rattle.bg_text.specs.Pairs.{IsPairOf, IsTurnOf}
 use Rattle.bg_text.specs.declared.faults.TextFault.{TextFault}
 use Rattle.bg_text.specs.declared.faults.TextFault.TheVariants.{NotALine, BadNumber, TooManySteps}
 use Rattle.bg_text.proofs.PairTexts.{step_shape}
@@ -55,17 +55,13 @@ no_move pairs pair h steps down e =
     let each : AllByRecursion IsDownward (parts.front ++ parts.last ∷ []) = rw (← parts.whole) down in
     h parts.last (each_last IsDownward parts.front parts.last each).1 parts.last_mapped
 
-pub step_of_shape : (pair : List ℕ) (step : Option FromTo) → IsStepOf pair step → IsPairShape pair
-step_of_shape pair (Some step) h = rw h.1 (step_shape step h.0)
-step_of_shape pair None h = h.0
+pub shape_of_step : (pair : List ℕ) (step : FromTo) → IsPairOf pair (Ok step) → IsPairShape pair
+shape_of_step pair step h = rw h.1 (step_shape step h.0)
 
-pub wrong_number : (pairs : List (List ℕ)) (pair : List ℕ) → AllByRecursion IsPairShape pairs → IsStepOf pair None → IsTurnOf (pairs ++ pair ∷ []) (Err BadNumber)
-wrong_number pairs pair shapes wrong = (each_push IsPairShape pairs pair shapes wrong.0, no_move pairs pair wrong.1)
-
-pub still_wrong : (pairs : List (List ℕ)) (pair : List ℕ) (fault : TextFault) (step : FromTo) → AllByRecursion IsPairShape pairs → IsTurnOf pairs (Err fault) → IsStepOf pair (Some step) → IsTurnOf (pairs ++ pair ∷ []) (Err fault)
+pub still_wrong : (pairs : List (List ℕ)) (pair : List ℕ) (fault : TextFault) (step : FromTo) → AllByRecursion IsPairShape pairs → IsTurnOf pairs (Err fault) → IsPairOf pair (Ok step) → IsTurnOf (pairs ++ pair ∷ []) (Err fault)
 still_wrong pairs pair NotALine step shapes wrong right = absurd (wrong shapes)
 still_wrong pairs pair BadNumber step shapes wrong right = (
-  each_push IsPairShape pairs pair shapes (step_of_shape pair (Some step) right),
+  each_push IsPairShape pairs pair shapes (shape_of_step pair step right),
   λ steps down e.
       let parts = last_mapped step_text pairs pair steps e in
       let each : AllByRecursion IsDownward (parts.front ++ parts.last ∷ []) = rw (← parts.whole) down in
@@ -78,7 +74,7 @@ still_wrong pairs pair TooManySteps step shapes (steps, text, down, many) right 
   omega (arith, length-append steps (step ∷ [])),
 )
 
-pub too_many : (pairs : List (List ℕ)) (pair : List ℕ) (steps : List FromTo) (step : FromTo) → IsTurnOf pairs (Ok steps) → IsStepOf pair (Some step) → length steps ≡ 4 → IsTurnOf (pairs ++ pair ∷ []) (Err TooManySteps)
+pub too_many : (pairs : List (List ℕ)) (pair : List ℕ) (steps : List FromTo) (step : FromTo) → IsTurnOf pairs (Ok steps) → IsPairOf pair (Ok step) → length steps ≡ 4 → IsTurnOf (pairs ++ pair ∷ []) (Err TooManySteps)
 too_many pairs pair steps step turn right full = (
   steps ++ step ∷ [],
   rw (turn.1, right.1) (sym (map_push step_text steps step)),
@@ -98,13 +94,24 @@ pub record IsReadSoFar (all left : List (List ℕ)) (turn : Result (List FromTo)
   pub shapes : AllByRecursion IsPairShape read
   pub turn_of : IsTurnOf read turn
 
-pub one_more_read : (all : List (List ℕ)) (pair : List ℕ) (left : List (List ℕ)) (turn next : Result (List FromTo) TextFault) (step : Option FromTo) → IsReadSoFar all (pair ∷ left) turn → IsStepOf pair step → ((pairs : List (List ℕ)) (p : List ℕ) → AllByRecursion IsPairShape pairs → IsTurnOf pairs turn → IsStepOf p step → IsTurnOf (pairs ++ p ∷ []) next) → IsReadSoFar all left next
+pub one_more_read : (all : List (List ℕ)) (pair : List ℕ) (left : List (List ℕ)) (turn next : Result (List FromTo) TextFault) (step : FromTo) → IsReadSoFar all (pair ∷ left) turn → IsPairOf pair (Ok step) → ((pairs : List (List ℕ)) (p : List ℕ) → AllByRecursion IsPairShape pairs → IsTurnOf pairs turn → IsPairOf p (Ok step) → IsTurnOf (pairs ++ p ∷ []) next) → IsReadSoFar all left next
 one_more_read all pair left turn next step h right goes = record {
   read = h.read ++ pair ∷ [];
   whole = h.whole ∙ sym (append_assoc h.read (pair ∷ []) left);
-  shapes = each_push IsPairShape h.read pair h.shapes (step_of_shape pair step right);
+  shapes = each_push IsPairShape h.read pair h.shapes (shape_of_step pair step right);
   turn_of = goes h.read pair h.shapes h.turn_of right;
 }
+
+-- a wrong number outweighs what was read before
+pub one_wrong : (all : List (List ℕ)) (pair : List ℕ) (left : List (List ℕ)) (turn : Result (List FromTo) TextFault) → IsReadSoFar all (pair ∷ left) turn → IsPairOf pair (Err BadNumber) → IsReadSoFar all left (Err BadNumber)
+one_wrong all pair left turn h wrong =
+    let shapes = each_push IsPairShape h.read pair h.shapes wrong.0 in
+    record {
+      read = h.read ++ pair ∷ [];
+      whole = h.whole ∙ sym (append_assoc h.read (pair ∷ []) left);
+      shapes = shapes;
+      turn_of = (shapes, no_move h.read pair wrong.1);
+    }
 
 pub stopped : (all : List (List ℕ)) (pair : List ℕ) (left : List (List ℕ)) (turn : Result (List FromTo) TextFault) → IsReadSoFar all (pair ∷ left) turn → (IsPairShape pair → ⊥) → AllByRecursion IsPairShape all → ⊥
 stopped all pair left turn h wrong shapes =

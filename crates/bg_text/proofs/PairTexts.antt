@@ -1,9 +1,9 @@
 -- Pairs, and the steps that they write.
-use Rattle.std.specs.Prelude.{◌≡◌, ◌≢◌, ◌==◌, ◌⊎◌, ◌↔◌, ℕ, ◌+◌, ◌/◌, ◌%◌, ◌<◌, ◌≤◌, List, [], ◌∷◌, ◌++◌, length, slice_index, Option, Some, None, IsSome, IfSome, IsTrue, codes}
+use Rattle.std.specs.Prelude.{◌≡◌, ◌≢◌, ◌==◌, ◌⊎◌, ℕ, ◌+◌, ◌/◌, ◌%◌, ◌<◌, ◌≤◌, List, [], ◌∷◌, ◌++◌, length, slice_index, Result, Ok, Err, IsTrue, codes}
 use Rattle.std.specs.Fmt.{decimal}
 use Rattle.std.specs.List.{slice_split, All}
 use Rattle.std.specs.Str.{all_ascii_digits}
-use Rattle.std.proofs.Common.{refl, sym, ◌∙◌, ap, append_assoc, arith, inl, inr, rules, tests, true, false}
+use Rattle.std.proofs.Common.{refl, sym, subst, ◌∙◌, ap, append_assoc, arith, inl, inr, rules, tests, true, false}
 use Rattle.std.proofs.lemmas.Bool.{cases_lt, cases_eq, ne_eqb}
 use Rattle.std.proofs.lemmas.Fmt.{decimal_digit, decimal_injective}
 use Rattle.std.proofs.lemmas.List.Elements.{All-cons, All-nil}
@@ -11,9 +11,12 @@ use Rattle.bg_board.specs.FromTo.{FromTo}
 use Rattle.bg_turns.specs.Turn.{IsDownward}
 use Rattle.bg_text.specs.EntryText.{source_text, target_text, step_text}
 use Rattle.bg_text.specs.EntryShape.{IsNumeral, IsPairShape}
-use Rattle.bg_text.specs.Pairs.{IsSource, IsTarget, IsStepOf}
+use Rattle.bg_text.specs.Pairs.{both_of, IsNumberOf, IsPointOf, IsSourceShape, IsSource, IsSourceOf, IsTargetShape, IsTarget, IsTargetOf, IsPairOf}
+use Rattle.bg_text.specs.declared.faults.TextFault.{TextFault}
+use Rattle.bg_text.specs.declared.faults.TextFault.TheVariants.{NotALine, BadNumber, TooManySteps}
 use Rattle.bg_text.proofs.Splits.{two_pieces, pieces_joined, same_first, same_second}
 use Rattle.bg_text.proofs.Numbers.{two_digits, numeral_one, numeral_two}
+use Rattle.bg_text.proofs.TwoWords.{BothSay, both_say}
 
 -- a number below 100 is written as a numeral
 pub numeral_decimal : (n : ℕ) → n < 100 → IsNumeral (decimal n)
@@ -75,27 +78,14 @@ three_bytes (x ∷ y ∷ []) a b d n h i j = absurd (omega arith)
 three_bytes (x ∷ y ∷ z ∷ []) a b d n h i j = cc
 three_bytes (x ∷ y ∷ z ∷ u ∷ more) a b d n h i j = absurd (omega arith)
 
-pub source_bar : (word : List ℕ) → word ≡ codes "bar" → IsSource word 25
-source_bar word e = record { shape = inl e; point = λ n some few. (is n few, λ h. rw (e, ← h) refl) }
-  where
-    is : (n : ℕ) → n ≤ 25 → word ≡ source_text n → 25 ≡ n
-    is n few t = elim (cases_eq n 25) [
-      | inl h ↦ sym h
-      | inr other ↦
-          let f : source_text n ≡ decimal n = rw (ne_eqb n 25 other) refl in
-          absurd (numeral_short 98 97 114 n (omega arith) (sym e ∙ (t ∙ f)))
-    ]
-
-pub target_off : (word : List ℕ) → word ≡ codes "off" → IsTarget word 0
-target_off word e = record { shape = inl e; point = λ n few. (is n few, λ h. rw (e, ← h) refl) }
-  where
-    is : (n : ℕ) → n ≤ 24 → word ≡ target_text n → 0 ≡ n
-    is n few t = elim (cases_eq n 0) [
-      | inl h ↦ sym h
-      | inr other ↦
-          let f : target_text n ≡ decimal n = rw (ne_eqb n 0 other) refl in
-          absurd (numeral_short 111 102 102 n (omega arith) (sym e ∙ (t ∙ f)))
-    ]
+-- a number above 24 is no point
+pub no_such_point : (word : List ℕ) (number : ℕ) → 25 ≤ number → IsNumberOf word (Ok number) → IsPointOf word (Err BadNumber)
+no_such_point word number high h = (
+  rw h.1 (numeral_decimal number h.0.1),
+  λ n range e.
+      let same : number ≡ n = decimal_injective number n (omega (arith, h.0.1)) (omega (arith, range.1)) (sym h.1 ∙ e) in
+      absurd (omega (arith, same, high, range.1)),
+)
 
 -- a pair is cut at its hyphen
 pub cut_pair : (word : List ℕ) (p : IsPairShape word) → slice_split (λ byte. byte == 45) word ≡ p.source ∷ p.target ∷ []
@@ -103,16 +93,6 @@ cut_pair word p = two_pieces 45 word p.source p.target (source_lacks 45 p.source
 
 pub no_halves : (word : List ℕ) → ((first second : List ℕ) → slice_split (λ byte. byte == 45) word ≡ first ∷ second ∷ [] → ⊥) → IsPairShape word → ⊥
 no_halves word h p = h p.source p.target (cut_pair word p)
-
-pub no_source : (word first second : List ℕ) → slice_split (λ byte. byte == 45) word ≡ first ∷ second ∷ [] → ((first ≡ codes "bar") ⊎ IsNumeral first → ⊥) → IsPairShape word → ⊥
-no_source word first second e h p =
-    let same : p.source ≡ first = same_first _ _ _ _ (sym (cut_pair word p) ∙ e) in
-    h (rw same at p.starts)
-
-pub no_target : (word first second : List ℕ) → slice_split (λ byte. byte == 45) word ≡ first ∷ second ∷ [] → ((second ≡ codes "off") ⊎ IsNumeral second → ⊥) → IsPairShape word → ⊥
-no_target word first second e h p =
-    let same : p.target ≡ second = same_second _ _ _ _ (sym (cut_pair word p) ∙ e) in
-    h (rw same at p.ends)
 
 -- the text of a step has a pair's shape
 abbrev pub step_shape : (step : FromTo) → IsDownward step → IsPairShape (step_text step)
@@ -123,34 +103,6 @@ step_shape step h = record {
   starts = source_shape step.from h.starts;
   ends = target_shape step.to (omega (arith, h.starts, h.lower));
 }
-
-pub step_from_ends : (word first second : List ℕ) (from to : ℕ) (step : Option FromTo) → slice_split (λ byte. byte == 45) word ≡ first ∷ second ∷ [] → IsSource first from → IsTarget second to → (IsSome step ↔ ((from ≤ 25) × (to < from))) → IfSome step (λ s. s ≡ record { from = from; to = to }) → IsStepOf word step
-step_from_ends word first second from to (Some s) e source target some value =
-    let range : (from ≤ 25) × (to < from) = some.0 refl in
-    let start : first ≡ source_text from = (source.point from (omega (arith, range.1)) range.0).1 refl in
-    let end : second ≡ target_text to = (target.point to (omega (arith, range.0, range.1))).1 refl in
-    let whole : word ≡ first ++ 45 ∷ second = pieces_joined 45 word (first ∷ second ∷ []) e in
-    rw value (record { starts = range.0; lower = range.1 }, rw (whole, start, end) (sym (append_assoc (source_text from) (codes "-") (target_text to))))
-step_from_ends word first second from to None e source target some value = (
-  record {
-    source = first;
-    target = second;
-    hyphened = pieces_joined 45 word (first ∷ second ∷ []) e ∙ sym (append_assoc first (codes "-") second);
-    starts = source.shape;
-    ends = target.shape;
-  },
-  λ step down text.
-      let p = step_shape step down in
-      let cut : slice_split (λ byte. byte == 45) word ≡ source_text step.from ∷ target_text step.to ∷ [] = rw text (cut_pair (step_text step) p) in
-      let start : first ≡ source_text step.from = same_first _ _ _ _ (sym e ∙ cut) in
-      let end : second ≡ target_text step.to = same_second _ _ _ _ (sym e ∙ cut) in
-      let low : step.to < step.from = down.lower in
-      let high : step.from ≤ 25 = down.starts in
-      let f : from ≡ step.from = (source.point step.from (omega arith) high).0 start in
-      let t : to ≡ step.to = (target.point step.to (omega arith)).0 end in
-      let none : false ≡ true = some.1 (omega arith, omega arith) in
-      absurd cc,
-)
 
 pub same_source : (m n : ℕ) → m ≤ 25 → n ≤ 25 → source_text m ≡ source_text n → m ≡ n
 same_source m n a b e = elim (cases_eq m 25) [
@@ -211,3 +163,65 @@ same_step s t h k e =
     step_by_ends s t
     (same_source s.from t.from c d (same_first _ _ _ _ cut))
     (same_target s.to t.to (omega arith) (omega arith) (same_second _ _ _ _ cut))
+
+-- what the two ends of a pair say
+abbrev pub EndsSay : List ℕ → List ℕ → Result (ℕ × ℕ) TextFault → Type 0
+EndsSay first second result =
+    BothSay IsSourceShape IsTargetShape IsSource IsTarget source_text target_text first second result
+
+pub ends_say : (first second : List ℕ) (a b : Result ℕ TextFault) → IsSourceOf first a → IsTargetOf second b → EndsSay first second (both_of a b)
+ends_say first second a b h k = both_say IsSourceShape IsTargetShape IsSource IsTarget source_text target_text
+    (λ n range. source_shape n range.1) target_shape first second a b h k
+
+joined : (word first second : List ℕ) → slice_split (λ byte. byte == 45) word ≡ first ∷ second ∷ [] → word ≡ first ++ codes "-" ++ second
+joined word first second e =
+    pieces_joined 45 word (first ∷ second ∷ []) e ∙ sym (append_assoc first (codes "-") second)
+
+shape_of_cut : (word first second : List ℕ) → slice_split (λ byte. byte == 45) word ≡ first ∷ second ∷ [] → IsSourceShape first → IsTargetShape second → IsPairShape word
+shape_of_cut word first second e starts ends =
+    record { source = first; target = second; hyphened = joined word first second e; starts = starts; ends = ends }
+
+-- a word cut at its hyphen has the ends of the step whose text it is
+ends_of_text : (word first second : List ℕ) (step : FromTo) → slice_split (λ byte. byte == 45) word ≡ first ∷ second ∷ [] → IsDownward step → word ≡ step_text step → (first ≡ source_text step.from) × (second ≡ target_text step.to)
+ends_of_text word first second step e down text =
+    let cut : slice_split (λ byte. byte == 45) word ≡ source_text step.from ∷ target_text step.to ∷ [] = rw text (cut_pair (step_text step) (step_shape step down)) in
+    (same_first _ _ _ _ (sym e ∙ cut), same_second _ _ _ _ (sym e ∙ cut))
+
+-- a pair whose ends say no step is none
+pub pair_fault : (word first second : List ℕ) (a b : Result ℕ TextFault) (fault : TextFault) → slice_split (λ byte. byte == 45) word ≡ first ∷ second ∷ [] → IsSourceOf first a → IsTargetOf second b → Err fault ≡ both_of a b → IsPairOf word (Err fault)
+pair_fault word first second a b fault e from to is = of fault (subst (λ r. EndsSay first second r) (sym is) (ends_say first second a b from to))
+  where
+    of : (fault : TextFault) → EndsSay first second (Err fault) → IsPairOf word (Err fault)
+    of NotALine h = λ p.
+        let cut : p.source ∷ p.target ∷ [] ≡ first ∷ second ∷ [] = sym (cut_pair word p) ∙ e in
+        let start : p.source ≡ first = same_first _ _ _ _ cut in
+        let end : p.target ≡ second = same_second _ _ _ _ cut in
+        h (rw start at p.starts) (rw end at p.ends)
+    of BadNumber h = (
+      shape_of_cut word first second e h.0 h.1,
+      λ step down text.
+          let ends = ends_of_text word first second step e down text in
+          let low : step.to < step.from = down.lower in
+          let high : step.from ≤ 25 = down.starts in
+          h.2 step.from step.to (omega arith, high) (omega arith) ends.0 ends.1,
+    )
+    of TooManySteps h = absurd h
+
+pub step_of_ends : (word first second : List ℕ) (a b : Result ℕ TextFault) (from to : ℕ) (step : FromTo) → slice_split (λ byte. byte == 45) word ≡ first ∷ second ∷ [] → IsSourceOf first a → IsTargetOf second b → Ok (from, to) ≡ both_of a b → (from ≤ 25) × (to < from) → step ≡ record { from = from; to = to } → IsPairOf word (Ok step)
+step_of_ends word first second a b from to step e source target is range value =
+    let h : EndsSay first second (Ok (from, to)) = subst (λ r. EndsSay first second r) (sym is) (ends_say first second a b source target) in
+    rw value (record { starts = range.0; lower = range.1 }, rw (joined word first second e, h.2, h.3) refl)
+
+pub no_step : (word first second : List ℕ) (a b : Result ℕ TextFault) (from to : ℕ) → slice_split (λ byte. byte == 45) word ≡ first ∷ second ∷ [] → IsSourceOf first a → IsTargetOf second b → Ok (from, to) ≡ both_of a b → ((from ≤ 25) × (to < from) → false ≡ true) → IsPairOf word (Err BadNumber)
+no_step word first second a b from to e source target is none =
+    let h : EndsSay first second (Ok (from, to)) = subst (λ r. EndsSay first second r) (sym is) (ends_say first second a b source target) in (
+      shape_of_cut word first second e (rw h.2 (source_shape from h.0.1)) (rw h.3 (target_shape to h.1)),
+      λ step down text.
+          let ends = ends_of_text word first second step e down text in
+          let low : step.to < step.from = down.lower in
+          let high : step.from ≤ 25 = down.starts in
+          let f : from ≡ step.from = same_source from step.from h.0.1 high (sym h.2 ∙ ends.0) in
+          let t : to ≡ step.to = same_target to step.to h.1 (omega arith) (sym h.3 ∙ ends.1) in
+          let no : false ≡ true = none (omega arith, omega arith) in
+          absurd cc,
+    )

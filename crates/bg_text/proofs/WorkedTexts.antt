@@ -1,5 +1,5 @@
 -- Worked texts, by the definitions alone.
-use Rattle.std.proofs.Common.{◌≡◌, ℕ, Some, None, List, [], ◌∷◌, ◌++◌, refl, inl, inr, arith}
+use Rattle.std.proofs.Common.{◌≡◌, ℕ, Some, None, List, [], ◌∷◌, ◌++◌, refl, inr, arith}
 use Rattle.std.specs.Prelude.{codes}
 use Rattle.std.specs.Fmt.{digits}
 use Rattle.bg_board.specs.Position.{start_position}
@@ -11,7 +11,7 @@ use Rattle.bg_match.specs.declared.levels.Level.TheVariants.{Gammon}
 use Rattle.bg_match.specs.declared.phases.Phase.TheVariants as phase
 use Rattle.bg_match.specs.declared.actions.Action.TheVariants as action
 use Rattle.bg_match.specs.declared.entries.Entry.TheVariants as entry
-use Rattle.bg_text.specs.BoardText.{upper_points, lower_points, header_line, numbers_line, cells_line, aside_line, phase_line, board_text, lines_text}
+use Rattle.bg_text.specs.BoardText.{upper_points, lower_points, header_line, numbers_line, cells_line, aside_line, phase_line, board_text}
 use Rattle.bg_text.specs.EntryText.{entry_text, action_text}
 use Rattle.bg_text.specs.Judging.{IsJudgement, lines_of}
 use Rattle.bg_text.specs.declared.faults.LineFault.TheVariants as fault

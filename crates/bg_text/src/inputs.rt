@@ -9,8 +9,8 @@ ghost use Rattle.bg_text.specs.Transcript.{length_line};
 ghost use Rattle.bg_text.specs.Transfers.{ReadsInput};
 
 use crate::faults::LineFault;
-use crate::pairs::read_numeral;
-use crate::{EngineFault, Source};
+use crate::pairs::read_number;
+use crate::{EngineFault, Source, TextFault};
 use bg_match::{LONGEST_MATCH, SHORTEST_MATCH};
 use memchr::memchr;
 use std::alloc::Global;
@@ -78,10 +78,10 @@ fn read_digits(digits: &[u8]) -> Result<u8, LineFault>
         × (digits.now ≡ decimal length)) }
     ensures fault { IfErr result (λ fault. IsDigitsFault fault digits.now) }
 {
-    match (read_numeral(digits), digits) {
-        (Some(length @ SHORTEST_MATCH..=LONGEST_MATCH), _) => Ok(length),
-        (Some(_), _) => Err(LineFault::LengthOutOfRange),
-        (None, [b'0'..=b'9', b'0'..=b'9', b'0'..=b'9']) => Err(LineFault::LengthOutOfRange),
-        (None, _) => Err(LineFault::NotALengthLine),
+    match (read_number(digits), digits) {
+        (Ok(length @ SHORTEST_MATCH..=LONGEST_MATCH), _) => Ok(length),
+        (Ok(_) | Err(TextFault::BadNumber), _) => Err(LineFault::LengthOutOfRange),
+        (Err(_), [b'0'..=b'9', b'0'..=b'9', b'0'..=b'9']) => Err(LineFault::LengthOutOfRange),
+        (Err(_), _) => Err(LineFault::NotALengthLine),
     }
 }

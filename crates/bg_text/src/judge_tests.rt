@@ -8,7 +8,7 @@ use arrayvec::ArrayVec;
 use bg_board::{Board, Die, Player, Step};
 use bg_match::{Cube, Entry, Level, Phase, Record, Standing};
 use bg_turns::Turn;
-use std::alloc::Global;
+use std::alloc::{AllocError, Global};
 use std::io::{self, Read, Write};
 use std::process::Abort;
 use std::test::Fail;
@@ -659,6 +659,14 @@ fn writers_that_fail(rt: HostRuntime) -> Result<(), Fail> {
     Ok(())
 }
 
+/// Fails where the growth that comes next is refused: so `tools/refuse_growths` learns how many came before.
+fn check_no_growth_is_left(alloc: Global) -> Result<(), Fail> {
+    match Vec::<u8>::with_capacity(alloc, 1) {
+        Ok(_) => Ok(()),
+        Err(AllocError) => Err(Fail::from("no growth is left")),
+    }
+}
+
 /// Where memory is refused the same call then succeeds. No run of the tests refuses any, but `tools/refuse_growths` refuses
 /// each growth in turn.
 #[test]
@@ -672,7 +680,7 @@ fn refused_growths_of_boards(rt: HostRuntime) -> Result<(), Fail> {
         Some(board.as_slice()),
         TEXT_OF_MATCH.as_bytes().strip_suffix(b"ok 2\n")
     );
-    Ok(())
+    check_no_growth_is_left(rt.alloc())
 }
 
 /// The same, of a transcript.
@@ -684,7 +692,7 @@ fn refused_growths_of_transcripts(rt: HostRuntime) -> Result<(), Fail> {
         Err(_) => transcript_text(rt.alloc(), &record)?,
     };
     assert_eq!(rt; transcript.as_slice(), MATCH.as_bytes());
-    Ok(())
+    check_no_growth_is_left(rt.alloc())
 }
 
 /// The same, of a judgement.
@@ -696,7 +704,7 @@ fn refused_growths_of_judgements(rt: HostRuntime) -> Result<(), Fail> {
     };
     assert_eq!(rt; judged.verdict, Verdict::Fine(2));
     assert_eq!(rt; judged.text.as_slice(), TEXT_OF_MATCH.as_bytes());
-    Ok(())
+    check_no_growth_is_left(rt.alloc())
 }
 
 /// The same, of the judge between devices, who then has written nothing.
@@ -713,5 +721,5 @@ fn refused_growths_between_devices(rt: HostRuntime) -> Result<(), Fail> {
     }
     assert_eq!(rt; verdict, Ok(Verdict::Fine(2)));
     assert_eq!(rt; written.as_slice(), TEXT_OF_MATCH.as_bytes());
-    Ok(())
+    check_no_growth_is_left(rt.alloc())
 }

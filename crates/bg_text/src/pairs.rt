@@ -1,10 +1,10 @@
 //! The pairs of a move, and the numbers of two dice.
-ghost use Rattle.std.specs.Prelude.{◌≡◌, ◌⊎◌, ℕ, List, [], ◌∷◌, ◌++◌, MatchOption, MatchResult, codes};
+ghost use Rattle.std.specs.Prelude.{◌≡◌, ℕ, Ok, List, [], ◌∷◌, ◌++◌, MatchResult};
 ghost use Rattle.std.specs.List.{AllByRecursion};
 ghost use Rattle.bg_text.specs.Words.{words_of};
 ghost use Rattle.bg_text.specs.EntryText.{dice_words};
-ghost use Rattle.bg_text.specs.EntryShape.{IsNumeral, IsPairShape};
-ghost use Rattle.bg_text.specs.Pairs.{IsWorth, IsSource, IsTarget, IsStepOf, IsTurnOf, AreNumerals, AreWorth, IsDiceFault};
+ghost use Rattle.bg_text.specs.EntryShape.{IsPairShape};
+ghost use Rattle.bg_text.specs.Pairs.{both_of, IsNumberOf, IsPointOf, IsSourceOf, IsTargetOf, IsPairOf, IsTurnOf, IsDiceFault};
 
 use crate::TextFault;
 use crate::words::{Pieces, halves};
@@ -12,7 +12,7 @@ use arrayvec::ArrayVec;
 use bg_board::{BAR, Die, OFF, Step};
 use bg_turns::Turn;
 
-/// The turn that the pairs of a move write, one space between each two.
+/// The turn that the pairs of a move write, one space between each two. A wrong number comes before too many steps.
 pub(crate) fn read_turn(pairs: &[u8]) -> Result<Turn, TextFault>
     ensures { IsTurnOf (words_of pairs.now) result }
 {
@@ -21,22 +21,22 @@ pub(crate) fn read_turn(pairs: &[u8]) -> Result<Turn, TextFault>
         steps: ArrayVec::new(),
     });
     while let Some(word) = words.next_piece() {
-        let Some(step) = read_pair(word) else {
-            return Err(TextFault::NotALine);
-        };
-        turn = with_step(turn, step);
+        match read_pair(word) {
+            Ok(step) => turn = with_step(turn, step),
+            Err(TextFault::NotALine) => return Err(TextFault::NotALine),
+            Err(TextFault::BadNumber) => turn = Err(TextFault::BadNumber),
+            // no pair alone is too many
+            Err(TextFault::TooManySteps) => turn = Err(TextFault::TooManySteps),
+        }
     }
     turn
 }
 
-/// The turn of some pairs, with one more pair's step behind it. A wrong number comes before too many steps.
-fn with_step(turn: Result<Turn, TextFault>, step: Option<Step>) -> Result<Turn, TextFault>
+/// The turn of some pairs, with one more pair's step behind it.
+fn with_step(turn: Result<Turn, TextFault>, step: Step) -> Result<Turn, TextFault>
     ensures { (pairs : List (List ℕ)) (pair : List ℕ) → AllByRecursion IsPairShape pairs → IsTurnOf pairs turn
-        → IsStepOf pair step → IsTurnOf (pairs ++ pair ∷ []) result }
+        → IsPairOf pair (Ok step) → IsTurnOf (pairs ++ pair ∷ []) result }
 {
-    let Some(step) = step else {
-        return Err(TextFault::BadNumber);
-    };
     let mut turn = turn?;
     if turn.steps.is_full() {
         return Err(TextFault::TooManySteps);
@@ -45,36 +45,60 @@ fn with_step(turn: Result<Turn, TextFault>, step: Option<Step>) -> Result<Turn, 
     Ok(turn)
 }
 
-/// The step of a pair, if the word has a pair's shape, and none within where a number is wrong.
-fn read_pair(word: &[u8]) -> Option<Option<Step>>
-    ensures { MatchOption result (IsPairShape word.now → ⊥) (IsStepOf word.now) }
+/// The step of a pair.
+fn read_pair(word: &[u8]) -> Result<Step, TextFault>
+    ensures { IsPairOf word.now result }
 {
-    let (start, end) = halves(word, b'-')?;
-    let from = read_source(start)?;
-    let to = read_target(end)?;
-    Some(Step::new(from, to))
+    let Some((start, end)) = halves(word, b'-') else {
+        return Err(TextFault::NotALine);
+    };
+    let (from, to) = both(read_source(start), read_target(end))?;
+    match Step::new(from, to) {
+        Some(step) => Ok(step),
+        None => Err(TextFault::BadNumber),
+    }
 }
 
-/// The point where a step begins, 25 for the bar. A numeral that names no point gives 0, where no step begins.
-fn read_source(word: &[u8]) -> Option<u8>
-    ensures { MatchOption result ((word.now ≡ codes "bar") ⊎ IsNumeral word.now → ⊥) (IsSource word.now) }
+/// The point where a step begins, 25 for the bar.
+fn read_source(word: &[u8]) -> Result<u8, TextFault>
+    ensures { IsSourceOf word.now result }
 {
-    if let b"bar" = word {
-        return Some(BAR);
+    match word {
+        b"bar" => Ok(BAR),
+        _ => read_point(word),
     }
-    let point = read_numeral(word)?;
-    Some(if point < BAR { point } else { OFF })
 }
 
-/// The point where a step ends, 0 for off. A numeral that names no point gives 25 or more, where no step ends.
-fn read_target(word: &[u8]) -> Option<u8>
-    ensures { MatchOption result ((word.now ≡ codes "off") ⊎ IsNumeral word.now → ⊥) (IsTarget word.now) }
+/// The point where a step ends, 0 for off.
+fn read_target(word: &[u8]) -> Result<u8, TextFault>
+    ensures { IsTargetOf word.now result }
 {
-    if let b"off" = word {
-        return Some(OFF);
+    match word {
+        b"off" => Ok(OFF),
+        _ => read_point(word),
     }
-    let point = read_numeral(word)?;
-    Some(if point > OFF { point } else { BAR })
+}
+
+/// The point that a numeral names, 1 to 24.
+fn read_point(word: &[u8]) -> Result<u8, TextFault>
+    ensures { IsPointOf word.now result }
+{
+    let number = read_number(word)?;
+    if number < BAR {
+        Ok(number)
+    } else {
+        Err(TextFault::BadNumber)
+    }
+}
+
+/// Both numbers, or the graver of the faults: another shape of one word comes before a wrong number in the other.
+fn both(first: Result<u8, TextFault>, second: Result<u8, TextFault>) -> Result<(u8, u8), TextFault>
+    ensures { result ≡ both_of first second }
+{
+    match (first, second) {
+        (Err(TextFault::NotALine), _) | (_, Err(TextFault::NotALine)) => Err(TextFault::NotALine),
+        (first, second) => Ok((first?, second?)),
+    }
 }
 
 /// The dice that two numbers write, one space between them.
@@ -82,32 +106,24 @@ pub(crate) fn read_dice(numbers: &[u8]) -> Result<(Die, Die), TextFault>
     ensures { MatchResult result (λ dice. words_of numbers.now ≡ dice_words dice.0 dice.1)
         (λ fault. IsDiceFault fault (words_of numbers.now)) }
 {
-    let Some((first, second)) = read_numerals(numbers) else {
+    let Some((first, second)) = halves(numbers, b' ') else {
         return Err(TextFault::NotALine);
     };
+    let (first, second) = both(read_number(first), read_number(second))?;
     match (Die::new(first), Die::new(second)) {
         (Some(first), Some(second)) => Ok((first, second)),
         _ => Err(TextFault::BadNumber),
     }
 }
 
-/// The values of two numerals with a space between them.
-fn read_numerals(text: &[u8]) -> Option<(u8, u8)>
-    ensures { MatchOption result (AreNumerals (words_of text.now) → ⊥)
-        (λ values. AreWorth (words_of text.now) values.0 values.1) }
-{
-    let (first, second) = halves(text, b' ')?;
-    Some((read_numeral(first)?, read_numeral(second)?))
-}
-
-/// The value of one or two digits, and 0 where a zero leads, since no number of a line may be 0.
-pub(crate) fn read_numeral(word: &[u8]) -> Option<u8>
-    ensures { MatchOption result (IsNumeral word.now → ⊥) (IsWorth word.now) }
+/// The number, 1 to 99, that one or two digits write. A leading zero is a wrong number, as is 0.
+pub(crate) fn read_number(word: &[u8]) -> Result<u8, TextFault>
+    ensures { IsNumberOf word.now result }
 {
     match word {
-        [ones @ b'0'..=b'9'] => Some(ones - b'0'),
-        [b'0', b'0'..=b'9'] => Some(0),
-        [tens @ b'1'..=b'9', ones @ b'0'..=b'9'] => Some(10 * (tens - b'0') + (ones - b'0')),
-        _ => None,
+        [b'0'] | [b'0', b'0'..=b'9'] => Err(TextFault::BadNumber),
+        [ones @ b'1'..=b'9'] => Ok(ones - b'0'),
+        [tens @ b'1'..=b'9', ones @ b'0'..=b'9'] => Ok(10 * (tens - b'0') + (ones - b'0')),
+        _ => Err(TextFault::NotALine),
     }
 }

@@ -1,18 +1,22 @@
-use Rattle.bg_text.proofs.PairTexts.{no_halves, no_source, no_target, step_from_ends}
+use Rattle.std.proofs.Common.{◌≡◌, Err, rules, refl}
+use Rattle.bg_text.proofs.PairTexts.{no_halves, pair_fault, step_of_ends, no_step}
 use Rattle.bg_text.proofs.pairs.read_pair.Goals as goal
 
-pub returns-in_err-start : goal.returns-in_err-start
-returns-in_err-start c = rw c.from_residual.ensures (no_halves _ c.in_err-start.ensures)
+pub returns-in_default : goal.returns-in_default
+returns-in_default c = no_halves _ c.in_default.ensures
 
 pub returns-in_err-from : goal.returns-in_err-from
 returns-in_err-from c =
-    rw c.from_residual-in_err-from.ensures (no_source _ _ _ c.in_ok-start.ensures c.in_err-from.ensures)
+    let same : c.from_residual.result ≡ Err c.in_err-from.field-0.0 = search rules in
+    rw same (pair_fault _ _ _ _ _ _ c.in-Some.ensures c.read_source.ensures c.read_target.ensures c.in_err-from.ensures)
 
-pub returns-in_err-to : goal.returns-in_err-to
-returns-in_err-to c =
-    rw c.from_residual-in_err-to.ensures (no_target _ _ _ c.in_ok-start.ensures c.in_err-to.ensures)
+pub returns-in-Some-new : goal.returns-in-Some-new
+returns-in-Some-new c =
+    step_of_ends _ _ _ _ _ _ _ _
+    c.in-Some.ensures c.read_source.ensures c.read_target.ensures c.in_ok-from.ensures
+    (c.in-Some-new.ensures.some.0 refl) c.in-Some-new.ensures.value
 
-pub returns : goal.returns
-returns c =
-    step_from_ends _ _ _ _ _ _
-    c.in_ok-start.ensures c.in_ok-from.ensures c.in_ok-to.ensures c.new.ensures.some c.new.ensures.value
+pub returns-in-None : goal.returns-in-None
+returns-in-None c =
+    no_step _ _ _ _ _ _ _
+    c.in-Some.ensures c.read_source.ensures c.read_target.ensures c.in_ok-from.ensures c.in-None.ensures.some.1
