@@ -1,5 +1,8 @@
 //! The devices in memory: what they hand over and keep, and which of their calls fail.
-use crate::{DeviceFault, FailRead, FailSend, Keeper, Link, MemoryKeeper, MemoryNet, Tear};
+ghost use Rattle.std.specs.Prelude.{◌≡◌, IfSome, Ok};
+ghost use Rattle.bg_world.specs.Handed.{handed};
+
+use crate::{DeviceFault, FailRead, FailSend, Keeper, Link, MemoryKeeper, MemoryNet, Taken, Tear};
 use arrayvec::ArrayVec;
 use bg_wire::{Datagram, PacketBytes, Slot};
 use std::alloc::{AllocError, Global};
@@ -64,14 +67,21 @@ fn check_send(
     );
 }
 
+/// Who knows nothing of a link but what every link promises is handed what the pick names, where there is a plan.
+fn take_over<L: Link>(link: &mut L, party: u8, pick: u32) -> Taken
+    ensures { IfSome (L.plan link.old) (λ _. result ≡ Ok (handed (L.sent link.old) party pick)) }
+{
+    link.take(party, pick)
+}
+
 fn check_take(rt: &impl Abort, net: &mut MemoryNet, party: u8, pick: u32, expected: &[u8]) {
-    let taken = net.take(party, pick).expect(rt, "a take");
+    let taken = take_over(net, party, pick).expect(rt, "a take");
     let bytes = taken.expect(rt, "a datagram");
     assert_eq!(rt; bytes.as_slice(), expected);
 }
 
 fn check_nothing(rt: &impl Abort, net: &mut MemoryNet, party: u8, pick: u32) {
-    let taken = net.take(party, pick).expect(rt, "a take");
+    let taken = take_over(net, party, pick).expect(rt, "a take");
     assert!(rt; taken.is_none(), "{party} {pick}");
 }
 
