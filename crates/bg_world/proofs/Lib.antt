@@ -8,3 +8,4 @@ pub mod WorkedRuns
 pub mod SentPlaces
 pub mod Arrivals
 pub mod KeptTexts
+pub mod Unplanned

@@ -1,5 +1,5 @@
 //! The devices in memory: what they hand over and keep, and which of their calls fail.
-ghost use Rattle.std.specs.Prelude.{◌≡◌, IfSome, Ok};
+ghost use Rattle.std.specs.Prelude.{◌≡◌, [], IfSome, Ok, Some};
 ghost use Rattle.bg_world.specs.Handed.{handed};
 
 use crate::{DeviceFault, FailRead, FailSend, Keeper, Link, MemoryKeeper, MemoryNet, Taken, Tear};
@@ -54,6 +54,13 @@ fn keeper(alloc: Global, tears: &[Tear], reads: &[FailRead]) -> Result<MemoryKee
     Ok(MemoryKeeper::new(alloc, 1, tears.to_vec(alloc)?, reads.to_vec(alloc)?))
 }
 
+/// Who knows nothing of a link but what every link promises knows that it does not fail by itself where its plan is empty.
+fn send_over<L: Link>(link: &mut L, datagram: &Datagram) -> Result<(), DeviceFault>
+    ensures { L.plan link.old ≡ Some [] → L.faults link.new ≡ L.faults link.old }
+{
+    link.send(datagram)
+}
+
 fn check_send(
     rt: &impl Abort,
     net: &mut MemoryNet,
@@ -62,7 +69,7 @@ fn check_send(
     expected: Result<(), DeviceFault>,
 ) {
     assert!(rt;
-        net.send(&datagram(rt, to, bytes)) == expected,
+        send_over(net, &datagram(rt, to, bytes)) == expected,
         "{to} {bytes:?}"
     );
 }
@@ -338,16 +345,25 @@ fn refused_growths_of_keepers(rt: HostRuntime) -> Result<(), Fail> {
     Ok(())
 }
 
-/// A write that is torn and leaves nothing, and a read that fails, want no memory.
+/// A write that is torn and leaves no bytes, and a read that fails or finds none, want no memory.
 #[test]
-fn refused_growths_of_no_write(rt: HostRuntime) -> Result<(), Fail> {
-    let tear = Tear {
-        party: 1,
-        nth: 1,
-        cut: None,
-    };
-    let mut keeper = keeper_at_last(rt.alloc(), &[tear], &[FailRead { party: 1, nth: 1 }])?;
+fn refused_growths_of_no_bytes(rt: HostRuntime) -> Result<(), Fail> {
+    let tears = [
+        Tear {
+            party: 1,
+            nth: 1,
+            cut: None,
+        },
+        Tear {
+            party: 1,
+            nth: 2,
+            cut: Some(0),
+        },
+    ];
+    let mut keeper = keeper_at_last(rt.alloc(), &tears, &[FailRead { party: 1, nth: 1 }])?;
+    assert!(rt; keeper.write(Slot::One, &TEXT) == FAILED);
     assert!(rt; keeper.write(Slot::One, &TEXT) == FAILED);
     assert!(rt; keeper.read(Slot::One).err() == Some(DeviceFault::Failed));
+    check_read(&rt, &mut keeper, Slot::One, &[]);
     Ok(())
 }
