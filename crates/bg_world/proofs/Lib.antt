@@ -27,3 +27,4 @@ pub mod FineOutcomes
 pub mod NoRefusals
 pub mod Upheld
 pub mod Starting
+pub mod Unplanned
