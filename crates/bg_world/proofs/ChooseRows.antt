@@ -22,11 +22,15 @@ use Rattle.bg_world.proofs.Sides.{StepsTo, seat_side, seat_moves, seat_stays, do
 
 module _ (id : ℕ) (terms : Terms) (q : Player) (a : Action) (slots : Slots) (found : Option SavedParts) (s : SeatView) (fits : SeatMatches id terms q found s) where
   -- what the core asks of a claim is what the protocol asks
-  can : CanClaim s.follower.log.terms s.player s.follower.log.entries s.claim a → CanClaim terms q s.follower.log.entries s.claim a
-  can h = subst (λ (m : Terms). CanClaim m q s.follower.log.entries s.claim a) fits.log.1 (subst (λ (p : Player). CanClaim s.follower.log.terms p s.follower.log.entries s.claim a) fits.sits_for h)
+  can : CanClaim s.follower.log.terms s.player s.follower.log.entries s.claim a
+      → CanClaim terms q s.follower.log.entries s.claim a
+  can h =
+      subst (λ (m : Terms). CanClaim m q s.follower.log.entries s.claim a) fits.log.1 (subst (λ (p : Player). CanClaim s.follower.log.terms p s.follower.log.entries s.claim a) fits.sits_for h)
 
-  can_not : (CanClaim s.follower.log.terms s.player s.follower.log.entries s.claim a → ⊥) → CanClaim terms q s.follower.log.entries s.claim a → ⊥
-  can_not refused h = refused (subst (λ (m : Terms). CanClaim m s.player s.follower.log.entries s.claim a) (sym fits.log.1) (subst (λ (p : Player). CanClaim terms p s.follower.log.entries s.claim a) (sym fits.sits_for) h))
+  can_not : (CanClaim s.follower.log.terms s.player s.follower.log.entries s.claim a → ⊥)
+      → CanClaim terms q s.follower.log.entries s.claim a → ⊥
+  can_not refused h =
+      refused (subst (λ (m : Terms). CanClaim m s.player s.follower.log.entries s.claim a) (sym fits.log.1) (subst (λ (p : Player). CanClaim terms p s.follower.log.entries s.claim a) (sym fits.sits_for) h))
 
   chose : (told : Result ℕ ChooseFault) (s' : SeatView) → SeatChooses s a told s'
       → ChooseStep terms q a (outcomes.Chose told) (seat_state (Some s) slots found) (seat_state (Some s') slots found) × SeatMatches id terms q found s'
@@ -48,17 +52,22 @@ module _ (id : ℕ) (terms : Terms) (q : Player) (a : Action) (slots : Slots) (f
 abbrev ChooseRow : ℕ → Player → Action → Outcome → SeatState → SeatState → Type 0
 ChooseRow terms q a o old new = SeatIfUp old.up o old new (ChooseStep terms q a o old new)
 
-pub choose_goes : (w : WorldView) (c : Restorable) (q : Player) (a : Action) (o : Outcome) (new : WorldView) → CoresMatch w c → ChooseCalls w q a o new → StepsTo w c (events.Choose q a) o new
+pub choose_goes : (w : WorldView) (c : Restorable) (q : Player) (a : Action) (o : Outcome) (new : WorldView)
+    → CoresMatch w c → ChooseCalls w q a o new → StepsTo w c (events.Choose q a) o new
 choose_goes w c q a o new fits h = at (seat_core w q) (seat_side w c q fits) refl h
   where
-    went : (x : Outcome) (n : WorldView) → o ≡ x → new ≡ n → SeatChanges (state_of w c) q (state_of n c) (ChooseRow w.terms q a x (seat (state_of w c) q)) → CoresMatch n c → StepsTo w c (events.Choose q a) o new
-    went x n e f row fit = subst (λ (y : Outcome). StepsTo w c (events.Choose q a) y new) (sym e) (subst (λ (y : WorldView). StepsTo w c (events.Choose q a) x y) (sym f) (record { restorable = c; step = row; cores = fit }))
+    went : (x : Outcome) (n : WorldView) → o ≡ x → new ≡ n
+        → SeatChanges (state_of w c) q (state_of n c) (ChooseRow w.terms q a x (seat (state_of w c) q))
+        → CoresMatch n c → StepsTo w c (events.Choose q a) o new
+    went x n e f row fit =
+        subst (λ (y : Outcome). StepsTo w c (events.Choose q a) y new) (sym e) (subst (λ (y : WorldView). StepsTo w c (events.Choose q a) x y) (sym f) (record { restorable = c; step = row; cores = fit }))
 
     at : (s : Option SeatView) → SeatSide w.id w.terms q s (seat_keeper w q) (restorable_of c q) → seat_core w q ≡ s
         → MatchOption s (NoCalls outcomes.Down w o new)
         (λ s. (told : Result ℕ ChooseFault) × (s' : SeatView) × SeatChooses s a told s' × (o ≡ outcomes.Chose told) × (new ≡ with_seat_core w q (Some s')))
         → StepsTo w c (events.Choose q a) o new
-    at None side is k = went outcomes.Down w k.0 k.1 (seat_stays w c q (ChooseRow w.terms q a outcomes.Down) is (λ s down. down_row s.up s _ down)) fits
+    at None side is k =
+        went outcomes.Down w k.0 k.1 (seat_stays w c q (ChooseRow w.terms q a outcomes.Down) is (λ s down. down_row s.up s _ down)) fits
     at (Some s) side is k =
         let t = chose w.id w.terms q a (seat_keeper w q).slots (restorable_of c q) s side.1 k.0 k.1 k.2 in
         let moved = seat_moves w c q w.link (Some k.1) (ChooseRow w.terms q a (outcomes.Chose k.0)) fits refl

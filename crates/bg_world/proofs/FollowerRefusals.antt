@@ -20,7 +20,8 @@ use Rattle.bg_world.specs.State.{State, log_of}
 use Rattle.bg_world.specs.WorldState.{IsLogOf}
 
 legal_take : (m : Terms) (n : ℕ) (entries : List Entry) → IsLegalRecord m entries → IsLegalRecord m (take n entries)
-legal_take m n entries h = legal_fronts m (take n entries) (drop n entries) (subst (IsLegalRecord m) (sym (take-append-drop n entries)) h)
+legal_take m n entries h =
+    legal_fronts m (take n entries) (drop n entries) (subst (IsLegalRecord m) (sym (take-append-drop n entries)) h)
 
 sound_id : (v : State) (p : Packet) → IsSound v p → id_of p ≡ v.id
 sound_id v (packet.Want id sender held) h = h.0

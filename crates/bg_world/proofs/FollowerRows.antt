@@ -39,15 +39,18 @@ some_length (x ∷ xs) h = omega arith
 
 module _ (id : ℕ) (terms : Terms) (sent : List Datagram) (party : ℕ) (old : FollowerView) (is : IsLogOf id terms old.log) where
   -- what the core keeps is what the protocol asks for
-  holds : (p : Packet) (entries : List Entry) → (Continues old.log.id old.log.terms old.log.entries p → Holds entries p)
+  holds : (p : Packet) (entries : List Entry)
+      → (Continues old.log.id old.log.terms old.log.entries p → Holds entries p)
       → HoldsWhatContinues id terms old.log.entries p entries
   holds p entries h c =
       h (subst (λ (i : ℕ). Continues i old.log.terms old.log.entries p) (sym is.0) (subst (λ (m : Terms). Continues id m old.log.entries p) (sym is.1) c))
 
   -- the new entries of a packet came in it
-  grew : (i start : ℕ) (list : List Entry) (k : ℕ) (new : FollowerView) → i ≡ old.log.id → WasSent sent party (packet.Entries i start list)
+  grew : (i start : ℕ) (list : List Entry) (k : ℕ) (new : FollowerView) → i ≡ old.log.id
+      → WasSent sent party (packet.Entries i start list)
       → Extends old.log.terms old.log.entries start list → k ≡ length (new_entries old.log.entries start list)
-      → new ≡ grown old (packet.Entries i start list) new.log.spare → HoldsWhatContinues id terms old.log.entries (packet.Entries i start list) new.log.entries
+      → new ≡ grown old (packet.Entries i start list) new.log.spare
+      → HoldsWhatContinues id terms old.log.entries (packet.Entries i start list) new.log.entries
       → LearnStep id terms sent party (packet.Entries i start list) (learned.Grew k) old.log.entries new.log.entries
   grew i start list k new of came ext many after keeps =
       let had = old.log.entries in
@@ -101,7 +104,8 @@ module _ (id : ℕ) (terms : Terms) (sent : List Datagram) (party : ℕ) (old : 
   is_grown (packet.Claim i sender n a) spare = is
 
   log_of_match : (p : Packet) (l : Learned) (new : FollowerView) → IsAfter old p l new → IsLogOf id terms new.log
-  log_of_match p (learned.Grew k) new after = subst (λ (f : FollowerView). IsLogOf id terms f.log) (sym after.0) (is_grown p new.log.spare)
+  log_of_match p (learned.Grew k) new after =
+      subst (λ (f : FollowerView). IsLogOf id terms f.log) (sym after.0) (is_grown p new.log.spare)
   log_of_match p learned.Memory new after = is_same new after
   log_of_match p learned.OtherMatch new after = is_same new after
   log_of_match p learned.Nothing new after = is_same new after
@@ -110,28 +114,36 @@ module _ (id : ℕ) (terms : Terms) (sent : List Datagram) (party : ℕ) (old : 
   log_of_match p (learned.Illegal n) new after = is_same new after
 
   -- nothing was in hand
-  nothing_taken : (o : Outcome) → IsEmptyHand o → FollowerTakeStep id terms sent party o old.log.entries old.log.entries
-  nothing_taken o (fault e) = subst (λ (x : Outcome). FollowerTakeStep id terms sent party x old.log.entries old.log.entries) (sym e) refl
-  nothing_taken o (memory e) = subst (λ (x : Outcome). FollowerTakeStep id terms sent party x old.log.entries old.log.entries) (sym e) refl
-  nothing_taken o (nothing e) = subst (λ (x : Outcome). FollowerTakeStep id terms sent party x old.log.entries old.log.entries) (sym e) refl
-  nothing_taken o (no_packet why e) = subst (λ (x : Outcome). FollowerTakeStep id terms sent party x old.log.entries old.log.entries) (sym e) refl
+  nothing_taken : (o : Outcome) → IsEmptyHand o
+      → FollowerTakeStep id terms sent party o old.log.entries old.log.entries
+  nothing_taken o (fault e) =
+      subst (λ (x : Outcome). FollowerTakeStep id terms sent party x old.log.entries old.log.entries) (sym e) refl
+  nothing_taken o (memory e) =
+      subst (λ (x : Outcome). FollowerTakeStep id terms sent party x old.log.entries old.log.entries) (sym e) refl
+  nothing_taken o (nothing e) =
+      subst (λ (x : Outcome). FollowerTakeStep id terms sent party x old.log.entries old.log.entries) (sym e) refl
+  nothing_taken o (no_packet why e) =
+      subst (λ (x : Outcome). FollowerTakeStep id terms sent party x old.log.entries old.log.entries) (sym e) refl
 
 -- ---- a core that follows: its record alone changes
 
 -- what a take comes to: the record has taken a step of the protocol, and is of the match
 abbrev FollowerStep : ℕ → Terms → List Datagram → ℕ → Outcome → FollowerView → FollowerView → Type 0
-FollowerStep id terms sent party o old new = FollowerTakeStep id terms sent party o old.log.entries new.log.entries × IsLogOf id terms new.log
+FollowerStep id terms sent party o old new =
+    FollowerTakeStep id terms sent party o old.log.entries new.log.entries × IsLogOf id terms new.log
 
 module _ {C : Type 0} (CoreTakes : C → Packet → Learned → C → Type 0) (follower : C → FollowerView) (with_follower : C → FollowerView → C)
     (follows : (s : C) (p : Packet) (l : Learned) (s' : C) → CoreTakes s p l s' → FollowerTakes (follower s) p l (follower s'))
     (alone : (s : C) (p : Packet) (l : Learned) (s' : C) → CoreTakes s p l s' → s' ≡ with_follower s (follower s'))
     (put_back : (s : C) → with_follower s (follower s) ≡ s) where
-  core_takes : (id : ℕ) (terms : Terms) (honest : Type 0) → honest → (party pick : ℕ) (link n : LinkView) (s : C) (o : Outcome) (s' : C)
+  core_takes : (id : ℕ) (terms : Terms) (honest : Type 0) → honest
+      → (party pick : ℕ) (link n : LinkView) (s : C) (o : Outcome) (s' : C)
       → IsLogOf id terms (follower s).log → FollowerTakeCalls CoreTakes honest party link s pick o n s'
       → FollowerStep id terms link.sent party o (follower s) (follower s') × (s' ≡ with_follower s (follower s')) × (n.sent ≡ link.sent)
   core_takes id terms honest is_honest party pick link n s o s' is h = at h.0 h.1 h.2
     where
-      at : (hand : Result Packet Outcome) → Receives honest link party pick hand n → FollowerHandles CoreTakes s hand o s'
+      at : (hand : Result Packet Outcome) → Receives honest link party pick hand n
+          → FollowerHandles CoreTakes s hand o s'
           → FollowerStep id terms link.sent party o (follower s) (follower s') × (s' ≡ with_follower s (follower s')) × (n.sent ≡ link.sent)
       at (Err x) receives k =
           let t = nothing_taken id terms link.sent party (follower s) is x (empty_hand n.taken x receives.is_hand) in
@@ -152,15 +164,19 @@ module _ {C : Type 0} (CoreTakes : C → Packet → Learned → C → Type 0) (f
             receives.same is_honest,
           )
 
-seat_takes : (id : ℕ) (terms : Terms) (honest : Type 0) → honest → (party pick : ℕ) (link n : LinkView) (s : SeatView) (o : Outcome) (s' : SeatView)
+seat_takes : (id : ℕ) (terms : Terms) (honest : Type 0) → honest
+    → (party pick : ℕ) (link n : LinkView) (s : SeatView) (o : Outcome) (s' : SeatView)
     → IsLogOf id terms s.follower.log → FollowerTakeCalls SeatTakes honest party link s pick o n s'
     → FollowerStep id terms link.sent party o s.follower s'.follower × (s' ≡ record s { follower = s'.follower }) × (n.sent ≡ link.sent)
-seat_takes = core_takes SeatTakes (λ s. s.follower) (λ s f. record s { follower = f }) (λ s p l s' h. h.takes) (λ s p l s' h. h.same) (λ s. refl)
+seat_takes =
+    core_takes SeatTakes (λ s. s.follower) (λ s f. record s { follower = f }) (λ s p l s' h. h.takes) (λ s p l s' h. h.same) (λ s. refl)
 
-watcher_takes : (id : ℕ) (terms : Terms) (honest : Type 0) → honest → (party pick : ℕ) (link n : LinkView) (s : WatcherView) (o : Outcome) (s' : WatcherView)
+watcher_takes : (id : ℕ) (terms : Terms) (honest : Type 0) → honest
+    → (party pick : ℕ) (link n : LinkView) (s : WatcherView) (o : Outcome) (s' : WatcherView)
     → IsLogOf id terms s.follower.log → FollowerTakeCalls WatcherTakes honest party link s pick o n s'
     → FollowerStep id terms link.sent party o s.follower s'.follower × (s' ≡ record s { follower = s'.follower }) × (n.sent ≡ link.sent)
-watcher_takes = core_takes WatcherTakes (λ s. s.follower) (λ s f. record s { follower = f }) (λ s p l s' h. h.takes) (λ s p l s' h. h.same) (λ s. refl)
+watcher_takes =
+    core_takes WatcherTakes (λ s. s.follower) (λ s f. record s { follower = f }) (λ s p l s' h. h.takes) (λ s p l s' h. h.same) (λ s. refl)
 
 -- ---- a seat
 
@@ -173,13 +189,16 @@ SeatTakeRow v q o old new =
 abbrev SeatTook : WorldView → Restorable → Player → ℕ → Outcome → WorldView → Type 0
 SeatTook w c q word x n = TakeStep (state_of w c) (roles.Seat q) word x (state_of n c) × CoresMatch n c
 
-pub take_seat_goes : (w : WorldView) (c : Restorable) (honest : Type 0) → honest → (q : Player) (pick word : ℕ) (o : Outcome) (new : WorldView) → CoresMatch w c
-    → TakeCalls honest w (roles.Seat q) (party_of q) pick word o new → TakeStep (state_of w c) (roles.Seat q) word o (state_of new c) × CoresMatch new c
+pub take_seat_goes : (w : WorldView) (c : Restorable) (honest : Type 0) → honest
+    → (q : Player) (pick word : ℕ) (o : Outcome) (new : WorldView) → CoresMatch w c
+    → TakeCalls honest w (roles.Seat q) (party_of q) pick word o new
+    → TakeStep (state_of w c) (roles.Seat q) word o (state_of new c) × CoresMatch new c
 take_seat_goes w c honest is_honest q pick word o new fits h = at (seat_core w q) (seat_side w c q fits) refl h
   where
     moved : (x : Outcome) (n : LinkView) (s : Option SeatView) → n.sent ≡ w.link.sent
         → SeatTakeRow (state_of w c) q x (seat_state (seat_core w q) (seat_keeper w q).slots (restorable_of c q)) (seat_state s (seat_keeper w q).slots (restorable_of c q))
-        → SeatSide w.id w.terms q s (seat_keeper w q) (restorable_of c q) → SeatTook w c q word x (with_seat_core (record w { link = n }) q s)
+        → SeatSide w.id w.terms q s (seat_keeper w q) (restorable_of c q)
+        → SeatTook w c q word x (with_seat_core (record w { link = n }) q s)
     moved x n s same row side = seat_moves w c q n s (SeatTakeRow (state_of w c) q x) fits same row side
 
     at : (s : Option SeatView) → SeatSide w.id w.terms q s (seat_keeper w q) (restorable_of c q) → seat_core w q ≡ s
@@ -193,7 +212,8 @@ take_seat_goes w c honest is_honest q pick word o new fits h = at (seat_core w q
         same_seat X s e = ap (λ (x : Option SeatView). record w { x = x }) e
         same_seat O s e = ap (λ (x : Option SeatView). record w { o = x }) e
 
-        down : (s : Option SeatView) → s ≡ None → SeatTakeRow (state_of w c) q outcomes.Down (seat_state s (seat_keeper w q).slots (restorable_of c q)) (seat_state s (seat_keeper w q).slots (restorable_of c q))
+        down : (s : Option SeatView) → s ≡ None
+            → SeatTakeRow (state_of w c) q outcomes.Down (seat_state s (seat_keeper w q).slots (restorable_of c q)) (seat_state s (seat_keeper w q).slots (restorable_of c q))
         down None e = (refl, refl)
         down (Some s) e = absurd cc
     at (Some s) side is k =
@@ -205,8 +225,10 @@ take_seat_goes w c honest is_honest q pick word o new fits h = at (seat_core w q
 
 -- ---- a watcher
 
-pub take_watcher_goes : (w : WorldView) (c : Restorable) (honest : Type 0) → honest → (i party pick word : ℕ) (o : Outcome) (new : WorldView) → party ≡ first_watcher + i → CoresMatch w c
-    → TakeCalls honest w (roles.Watcher i) party pick word o new → TakeStep (state_of w c) (roles.Watcher i) word o (state_of new c) × CoresMatch new c
+pub take_watcher_goes : (w : WorldView) (c : Restorable) (honest : Type 0) → honest
+    → (i party pick word : ℕ) (o : Outcome) (new : WorldView) → party ≡ first_watcher + i → CoresMatch w c
+    → TakeCalls honest w (roles.Watcher i) party pick word o new
+    → TakeStep (state_of w c) (roles.Watcher i) word o (state_of new c) × CoresMatch new c
 take_watcher_goes w c honest is_honest i party pick word o new is_party fits h = at (slice_get w.watchers i) refl h
   where
     at : (f : Option WatcherView) → slice_get w.watchers i ≡ f

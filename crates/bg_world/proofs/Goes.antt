@@ -29,7 +29,8 @@ watching i = omega arith
 
 module _ (w : WorldView) (c : Restorable) (link_honest keepers_honest : Type 0) (link : link_honest) (keepers : keepers_honest)
     (fits : CoresMatch w c) (inv : Inv (state_of w c)) where
-  take_goes : (party pick word : ℕ) (o : Outcome) (new : WorldView) → TakeCalls link_honest w (role party) party pick word o new
+  take_goes : (party pick word : ℕ) (o : Outcome) (new : WorldView)
+      → TakeCalls link_honest w (role party) party pick word o new
       → StepsTo w c (events.Take party pick word) o new
   take_goes zero pick word o new h = take_referee_goes w c link_honest link 0 pick word o new fits inv h
   take_goes (suc zero) pick word o new h =
@@ -40,7 +41,8 @@ module _ (w : WorldView) (c : Restorable) (link_honest keepers_honest : Type 0) 
       let t = take_watcher_goes w c link_honest link i (suc (suc (suc i))) pick word o new (watching i) fits h in
       record { restorable = c; step = t.0; cores = t.1 }
 
-  save_goes : (party : ℕ) (o : Outcome) (new : WorldView) → SaveCalls keepers_honest w (role party) o new → StepsTo w c (events.Save party) o new
+  save_goes : (party : ℕ) (o : Outcome) (new : WorldView) → SaveCalls keepers_honest w (role party) o new
+      → StepsTo w c (events.Save party) o new
   save_goes zero o new h = save_referee_goes w c keepers_honest keepers o new fits inv h
   save_goes (suc zero) o new h =
       let t = save_seat_goes w c keepers_honest keepers X o new fits inv h in record { restorable = t.0; step = t.1; cores = t.2 }
@@ -49,7 +51,8 @@ module _ (w : WorldView) (c : Restorable) (link_honest keepers_honest : Type 0) 
   save_goes (suc (suc (suc i))) o new h =
       goes_at w c (events.Save (suc (suc (suc i)))) o outcomes.NoSuchParty new w h.0 h.1 (record { restorable = c; step = (refl, refl); cores = fits })
 
-  tick_goes : (party : ℕ) (o : Outcome) (new : WorldView) → TickCalls link_honest w (role party) o new → StepsTo w c (events.Tick party) o new
+  tick_goes : (party : ℕ) (o : Outcome) (new : WorldView) → TickCalls link_honest w (role party) o new
+      → StepsTo w c (events.Tick party) o new
   tick_goes zero o new h = tick_referee_goes w c link_honest link o new fits h
   tick_goes (suc zero) o new h =
       let t = tick_seat_goes w c link_honest link X o new fits h in record { restorable = c; step = t.0; cores = t.1 }
@@ -70,7 +73,8 @@ module _ (w : WorldView) (c : Restorable) (link_honest keepers_honest : Type 0) 
       let t = restart_watcher_goes w c keepers_honest i (suc (suc (suc i))) o new (watching i) fits h in
       record { restorable = c; step = t.0; cores = t.1 }
 
-  step_goes : (e : Event) (o : Outcome) (new : WorldView) → Calls link_honest keepers_honest w e o new → StepsTo w c e o new
+  step_goes : (e : Event) (o : Outcome) (new : WorldView) → Calls link_honest keepers_honest w e o new
+      → StepsTo w c e o new
   step_goes (events.Due word) o new h = due_goes w c word o new fits h
   step_goes (events.Take party pick word) o new h = take_goes party pick word o new h
   step_goes (events.Choose player action) o new h = choose_goes w c player action o new fits h
@@ -80,7 +84,8 @@ module _ (w : WorldView) (c : Restorable) (link_honest keepers_honest : Type 0) 
 
 -- one event
 pub goes : (link_honest keepers_honest : Type 0) (old : WorldView) (event : Event) (result : Outcome) (new : WorldView)
-    → Calls link_honest keepers_honest old event result new → link_honest → keepers_honest → StepsProtocol old event result new
+    → Calls link_honest keepers_honest old event result new → link_honest → keepers_honest
+    → StepsProtocol old event result new
 goes link_honest keepers_honest old event result new calls link keepers before =
     let w = state_of old before.restorable in
     let to = step_goes old before.restorable link_honest keepers_honest link keepers before.cores (reached w before.reached) event result new calls in (
@@ -94,7 +99,8 @@ goes link_honest keepers_honest old event result new calls link keepers before =
 
 -- all events, one after the other
 pub runs_protocol : (link_honest keepers_honest : Type 0) (old : WorldView) (events : List Event) (outcomes : List Outcome) (new : WorldView)
-    → CallsAll link_honest keepers_honest old events outcomes new → link_honest → keepers_honest → RunsProtocol old events outcomes new
+    → CallsAll link_honest keepers_honest old events outcomes new → link_honest → keepers_honest
+    → RunsProtocol old events outcomes new
 runs_protocol link_honest keepers_honest old [] [] new calls link keepers before =
     subst (λ (w : WorldView). (after : IsReachedWorld w) × Run (state_of old before.restorable) [] (state_of w after.restorable)) (sym calls) (before, refl)
 runs_protocol link_honest keepers_honest old [] (o ∷ os) new calls link keepers before = absurd calls
@@ -106,7 +112,8 @@ runs_protocol link_honest keepers_honest old (e ∷ es) (o ∷ os) new calls lin
 
 -- the same of the calls that a report counts
 pub runs_all : (link_honest keepers_honest : Type 0) (old : WorldView) (events : List Event) (report : RunReport) (new : WorldView)
-    → RunsCalls link_honest keepers_honest old events report new → RunsAll link_honest keepers_honest old events report new
+    → RunsCalls link_honest keepers_honest old events report new
+    → RunsAll link_honest keepers_honest old events report new
 runs_all link_honest keepers_honest old events report new h = record {
   outcomes = h.outcomes;
   calls = h.calls;

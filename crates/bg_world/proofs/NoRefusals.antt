@@ -43,25 +43,30 @@ module _ (w : WorldView) (c : Restorable) (link_honest keepers_honest : Type 0) 
   -- what a core that follows makes of what is in hand
   hand_all : {C : Type 0} (CoreTakes : C → Packet → Learned → C → Type 0) (follower : C → FollowerView)
       → ((s : C) (p : Packet) (l : Learned) (s' : C) → CoreTakes s p l s' → FollowerTakes (follower s) p l (follower s'))
-      → (party pick : ℕ) (n : LinkView) (s s' : C) (o : Outcome) → 0 < party → log_of (state_of w c) party ≡ Some (follower s).log.entries
-      → IsLogOf w.id w.terms (follower s).log → FollowerTakeCalls CoreTakes link_honest party w.link s pick o n s' → IsNotRefused o
+      → (party pick : ℕ) (n : LinkView) (s s' : C) (o : Outcome) → 0 < party
+      → log_of (state_of w c) party ≡ Some (follower s).log.entries
+      → IsLogOf w.id w.terms (follower s).log → FollowerTakeCalls CoreTakes link_honest party w.link s pick o n s'
+      → IsNotRefused o
   hand_all {C} CoreTakes follower follows party pick n s s' o above some of h = at h.0 h.1 h.2
     where
-      at : (hand : Result Packet Outcome) → Receives link_honest w.link party pick hand n → FollowerHandles CoreTakes s hand o s' → IsNotRefused o
+      at : (hand : Result Packet Outcome) → Receives link_honest w.link party pick hand n
+          → FollowerHandles CoreTakes s hand o s' → IsNotRefused o
       at (Err x) receives k = named o x k.0 (no_hand x (empty_hand n.taken x receives.is_hand))
       at (Ok p) receives k =
           let t = follows s p k.0 s' k.1 in
           let fine = at_follower.not_refused (state_of w c) (no_packet_refused (state_of w c) inv) party (follower s) above some of p k.0 (receives.was_sent link) t.learns in
           named o (outcomes.Learned k.0) k.2 fine
 
-  seat_take : (q : Player) (pick word : ℕ) (o : Outcome) (new : WorldView) → TakeCalls link_honest w (roles.Seat q) (party_of q) pick word o new → IsNotRefused o
+  seat_take : (q : Player) (pick word : ℕ) (o : Outcome) (new : WorldView)
+      → TakeCalls link_honest w (roles.Seat q) (party_of q) pick word o new → IsNotRefused o
   seat_take q pick word o new h = at (seat_core w q) refl (seat_side w c q fits) h
     where
       number : (p : Player) → 0 < party_of p
       number X = omega arith
       number O = omega arith
 
-      log : (p : Player) (s : SeatView) → seat_core w p ≡ Some s → log_of (state_of w c) (party_of p) ≡ Some s.follower.log.entries
+      log : (p : Player) (s : SeatView) → seat_core w p ≡ Some s
+          → log_of (state_of w c) (party_of p) ≡ Some s.follower.log.entries
       log X s e = ap (λ (x : Option SeatView). Some (seat_state x w.x_keeper.slots c.x).log) e
       log O s e = ap (λ (x : Option SeatView). Some (seat_state x w.o_keeper.slots c.o).log) e
 
@@ -74,7 +79,8 @@ module _ (w : WorldView) (c : Restorable) (link_honest keepers_honest : Type 0) 
       at (Some s) is side k =
           hand_all SeatTakes (λ x. x.follower) (λ x p l y t. t.takes) (party_of q) pick k.0 s k.1 o (number q) (log q s is) side.1.log k.2
 
-  watcher_take : (i pick word : ℕ) (o : Outcome) (new : WorldView) → TakeCalls link_honest w (roles.Watcher i) (suc (suc (suc i))) pick word o new → IsNotRefused o
+  watcher_take : (i pick word : ℕ) (o : Outcome) (new : WorldView)
+      → TakeCalls link_honest w (roles.Watcher i) (suc (suc (suc i))) pick word o new → IsNotRefused o
   watcher_take i pick word o new h = at (slice_get w.watchers i) refl h
     where
       at : (f : Option WatcherView) → slice_get w.watchers i ≡ f
@@ -87,7 +93,8 @@ module _ (w : WorldView) (c : Restorable) (link_honest keepers_honest : Type 0) 
           hand_all WatcherTakes (λ x. x.follower) (λ x p l y t. t.takes) (suc (suc (suc i))) pick k.0 f k.1 o (omega arith)
           (get_log w.watchers i ∙ ap (option_map watcher_log) is) (fits.watchers i f is).log k.2
 
-  take_all : (party pick word : ℕ) (o : Outcome) (new : WorldView) → TakeCalls link_honest w (role party) party pick word o new → IsNotRefused o
+  take_all : (party pick word : ℕ) (o : Outcome) (new : WorldView)
+      → TakeCalls link_honest w (role party) party pick word o new → IsNotRefused o
   take_all zero pick word o new h = at w.referee refl fits.referee.1 h
     where
       at : (r : Option RefereeView) → w.referee ≡ r → IfSome r (RefereeMatches w.id w.terms c.referee)
@@ -104,7 +111,8 @@ module _ (w : WorldView) (c : Restorable) (link_honest keepers_honest : Type 0) 
           saved : r.saved ≡ (referee_state w.referee w.referee_keeper.slots c.referee).saved
           saved = ap (λ (x : Option RefereeView). (referee_state x w.referee_keeper.slots c.referee).saved) (sym is)
 
-          in_hand : (hand : Result Packet Outcome) (mid : LinkView) → Receives link_honest w.link referee pick hand mid
+          in_hand : (hand : Result Packet Outcome) (mid : LinkView)
+              → Receives link_honest w.link referee pick hand mid
               → RefereeHandles link_honest (parties w) mid r word hand o k.0 k.1 → IsNotRefused o
           in_hand (Err x) mid receives m = named o x m.0 (no_hand x (empty_hand mid.taken x receives.is_hand))
           in_hand (Ok p) mid receives m =
@@ -115,13 +123,16 @@ module _ (w : WorldView) (c : Restorable) (link_honest keepers_honest : Type 0) 
   take_all (suc (suc zero)) pick word o new h = seat_take O pick word o new h
   take_all (suc (suc (suc i))) pick word o new h = watcher_take i pick word o new h
 
-  save_all : (party : ℕ) (o : Outcome) (new : WorldView) → SaveCalls keepers_honest w (role party) o new → IsNotRefused o
-  save_all zero o new h = saves_all referee_parts referee_after_save keepers_honest w.referee_keeper w.referee o h.0 h.1 h.2
+  save_all : (party : ℕ) (o : Outcome) (new : WorldView) → SaveCalls keepers_honest w (role party) o new
+      → IsNotRefused o
+  save_all zero o new h =
+      saves_all referee_parts referee_after_save keepers_honest w.referee_keeper w.referee o h.0 h.1 h.2
   save_all (suc zero) o new h = saves_all seat_parts seat_after_save keepers_honest w.x_keeper w.x o h.0 h.1 h.2
   save_all (suc (suc zero)) o new h = saves_all seat_parts seat_after_save keepers_honest w.o_keeper w.o o h.0 h.1 h.2
   save_all (suc (suc (suc i))) o new h = named o outcomes.NoSuchParty h.0 tt
 
-  seat_tick : (q : Player) (o : Outcome) (new : WorldView) → TickCalls link_honest w (roles.Seat q) o new → IsNotRefused o
+  seat_tick : (q : Player) (o : Outcome) (new : WorldView) → TickCalls link_honest w (roles.Seat q) o new
+      → IsNotRefused o
   seat_tick q o new h = at (seat_core w q) h
     where
       at : (s : Option SeatView) → MatchOption s (NoCalls outcomes.Down w o new)
@@ -150,7 +161,8 @@ module _ (w : WorldView) (c : Restorable) (link_honest keepers_honest : Type 0) 
       at None k = named o outcomes.NoSuchParty k.0 tt
       at (Some f) k = sends_all link_honest (parties w) 0 w.link (to_referee k.2.0) o k.0 k.2.2
 
-  restart_all : (party : ℕ) (o : Outcome) (new : WorldView) → RestartCalls keepers_honest w (role party) party o new → IsNotRefused o
+  restart_all : (party : ℕ) (o : Outcome) (new : WorldView) → RestartCalls keepers_honest w (role party) party o new
+      → IsNotRefused o
   restart_all zero o new h =
       restarts_all resumed_referee (fresh_referee w.id w.terms) keepers_honest keepers w.id w.terms referee w.referee_keeper h.0 c.referee
       (slots_of_referee w c inv) o h.1 h.2
@@ -184,7 +196,8 @@ module _ (w : WorldView) (c : Restorable) (link_honest keepers_honest : Type 0) 
       at None k = named o outcomes.Down k.0 tt
       at (Some s) k = named o (outcomes.Chose k.0) k.3 tt
 
-  event_all : (e : Event) (o : Outcome) (new : WorldView) → Calls link_honest keepers_honest w e o new → IsNotRefused o
+  event_all : (e : Event) (o : Outcome) (new : WorldView) → Calls link_honest keepers_honest w e o new
+      → IsNotRefused o
   event_all (events.Due word) o new h = due_all word o new h
   event_all (events.Take party pick word) o new h = take_all party pick word o new h
   event_all (events.Choose q a) o new h = choose_all q a o new h
@@ -193,6 +206,7 @@ module _ (w : WorldView) (c : Restorable) (link_honest keepers_honest : Type 0) 
   event_all (events.Restart party) o new h = restart_all party o new h
 
 pub never_refused : (link_honest keepers_honest : Type 0) (old : WorldView) (event : Event) (result : Outcome) (new : WorldView)
-    → Calls link_honest keepers_honest old event result new → link_honest → keepers_honest → IsReachedWorld old → IsNotRefused result
+    → Calls link_honest keepers_honest old event result new → link_honest → keepers_honest → IsReachedWorld old
+    → IsNotRefused result
 never_refused link_honest keepers_honest old event result new calls link keepers before =
     event_all old before.restorable link_honest keepers_honest link keepers before.cores (reached (state_of old before.restorable) before.reached) event result new calls

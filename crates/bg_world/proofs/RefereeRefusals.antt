@@ -36,7 +36,8 @@ module _ (v : State) (refused : IsNoPacketRefused v) (r r' : RefereeView) (log :
   of_match : (id : ℕ) → id ≡ v.id → id ≡ r.log.id
   of_match id e = e ∙ sym log.0
 
-  to_want : (sender held : ℕ) (t : TakeOutcome) → held ≤ v.referee.saved → Replies r word (reply_to_want r sender held) t r' → IsNotRefusedByReferee t
+  to_want : (sender held : ℕ) (t : TakeOutcome) → held ≤ v.referee.saved
+      → Replies r word (reply_to_want r sender held) t r' → IsNotRefusedByReferee t
   to_want sender held t low h =
       elim (either r r' word (nat_lt held r.saved) _ _ t h) [
         | inl a ↦ shown sender (held + 1) t a.1
@@ -46,7 +47,9 @@ module _ (v : State) (refused : IsNoPacketRefused v) (r r' : RefereeView) (log :
         ]
       ]
 
-  comes : (action : Action) (id sender n : ℕ) (t : TakeOutcome) → WasSent v.sent referee (packet.Claim id sender n action) → n ≡ length v.referee.log + 1 → ComesOf r action (dice_of word) t r' → IsNotRefusedByReferee t
+  comes : (action : Action) (id sender n : ℕ) (t : TakeOutcome)
+      → WasSent v.sent referee (packet.Claim id sender n action) → n ≡ length v.referee.log + 1
+      → ComesOf r action (dice_of word) t r' → IsNotRefusedByReferee t
   comes action id sender n takes.WordRefused came next h = tt
   comes action id sender n takes.Memory came next h = tt
   comes action id sender n (takes.Accepted k) came next h = tt
@@ -66,7 +69,9 @@ module _ (v : State) (refused : IsNoPacketRefused v) (r r' : RefereeView) (log :
   off false h = refl
 
   -- who sends the next claim is on turn
-  on_turn : (actor : Actor) (id sender n : ℕ) (action : Action) → ActsAfter r.log.terms r.log.entries actor → WasSent v.sent referee (packet.Claim id sender n action) → n ≡ length v.referee.log + 1 → is_on_turn actor sender ≡ true
+  on_turn : (actor : Actor) (id sender n : ℕ) (action : Action) → ActsAfter r.log.terms r.log.entries actor
+      → WasSent v.sent referee (packet.Claim id sender n action) → n ≡ length v.referee.log + 1
+      → is_on_turn actor sender ≡ true
   on_turn actor id sender n action acts came next =
       let turn = refused.claims.turn id sender n action came next in
       let there : ActsAfter r.log.terms r.log.entries (Seat turn.0) =
@@ -77,7 +82,8 @@ module _ (v : State) (refused : IsNoPacketRefused v) (r r' : RefereeView) (log :
       equal : (k : ℕ) → (k == k) ≡ true
       equal k = grind (arith, nat_tests)
 
-  to_claim : (actor : Actor) (id sender n : ℕ) (action : Action) (t : TakeOutcome) → ActsAfter r.log.terms r.log.entries actor → WasSent v.sent referee (packet.Claim id sender n action)
+  to_claim : (actor : Actor) (id sender n : ℕ) (action : Action) (t : TakeOutcome)
+      → ActsAfter r.log.terms r.log.entries actor → WasSent v.sent referee (packet.Claim id sender n action)
       → Replies r word (reply_to_claim r actor sender n action) t r' → IsNotRefusedByReferee t
   to_claim actor id sender n action t acts came h =
       let high = refused.claims.not_ahead id sender n action came in
@@ -99,7 +105,8 @@ module _ (v : State) (refused : IsNoPacketRefused v) (r r' : RefereeView) (log :
         ]
       ]
 
-  pub not_refused : (p : Packet) (t : TakeOutcome) → WasSent v.sent referee p → Takes r p word t r' → IsNotRefusedByReferee t
+  pub not_refused : (p : Packet) (t : TakeOutcome) → WasSent v.sent referee p → Takes r p word t r'
+      → IsNotRefusedByReferee t
   not_refused (packet.Want id sender held) t came h =
       let sound = refused.sound referee (packet.Want id sender held) came in
       elim (either r r' word (id == r.log.id) _ _ t h.2) [

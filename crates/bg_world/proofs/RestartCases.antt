@@ -29,19 +29,22 @@ pub data IsReread (restored : Option SavedParts) (answer : Result (Option Saved)
   no_memory : answer ≡ Err outcomes.Memory → IsReread restored answer
 
 module _ (id : ℕ) (terms : Terms) (party : ℕ) (found : Option SavedParts) where
-  told : (r : Result (Option Saved) RestoreRefusal) (answer : Result (Option Saved) Outcome) → GivesBack found r → answer ≡ restored_of r → IsReread found answer
+  told : (r : Result (Option Saved) RestoreRefusal) (answer : Result (Option Saved) Outcome) → GivesBack found r
+      → answer ≡ restored_of r → IsReread found answer
   told (Ok None) answer back e = empty (sym back) e
   told (Ok (Some s)) answer back e = given s (sym back) e
   told (Err refusals.Damaged) answer back e = absurd back
   told (Err refusals.WrongMatch) answer back e = absurd back
   told (Err refusals.Memory) answer back e = no_memory e
 
-  failed : (f : DeviceFault) (answer : Result (Option Saved) Outcome) → answer ≡ Err (read_outcome f) → IsReread found answer
+  failed : (f : DeviceFault) (answer : Result (Option Saved) Outcome) → answer ≡ Err (read_outcome f)
+      → IsReread found answer
   failed faults.Failed answer e = not_read e
   failed faults.Memory answer e = no_memory e
 
   module _ (honest : Type 0) (is_honest : honest) (old new : KeeperView) (answer : Result (Option Saved) Outcome) (ok : SlotsOk id terms party old.slots found) where
-    second : (mid : KeeperView) (zero : List ℕ) → mid.slots ≡ old.slots → zero ≡ old.slots.zero → ReadsSecond honest party id terms mid zero answer new
+    second : (mid : KeeperView) (zero : List ℕ) → mid.slots ≡ old.slots → zero ≡ old.slots.zero
+        → ReadsSecond honest party id terms mid zero answer new
         → IsReread found answer × (new.slots ≡ old.slots)
     second mid zero same is h = at h.0 (h.1.bytes is_honest) h.2
       where

@@ -31,12 +31,15 @@ use Rattle.bg_world.proofs.RestartCases.{IsReread, given, empty, not_read, no_me
 -- what becomes of the party: `P` is told of a party that is up, or down
 comes_back : {C : Type 0} (found : Option SavedParts) (resumed : Saved → C) (fresh : C) (answer : Result (Option Saved) Outcome) (result : Outcome)
     (core : Option C) (P : Bool → Option C → Type 0)
-    → ((s : Saved) → found ≡ Some (parts_of s) → P true (Some (resumed s))) → (found ≡ None → P true (Some fresh)) → P false None
+    → ((s : Saved) → found ≡ Some (parts_of s) → P true (Some (resumed s))) → (found ≡ None → P true (Some fresh))
+    → P false None
     → IsReread found answer → ComesUp resumed fresh answer result core → RestartsTo result (λ up. P up core)
 comes_back {C} found resumed fresh answer result core P if_found if_empty if_not h up = at h
   where
-    as_told : (o : Outcome) (c : Option C) → result ≡ o → core ≡ c → RestartsTo o (λ up. P up c) → RestartsTo result (λ up. P up core)
-    as_told o c e f k = subst (λ (x : Outcome). RestartsTo x (λ up. P up core)) (sym e) (subst (λ (x : Option C). RestartsTo o (λ up. P up x)) (sym f) k)
+    as_told : (o : Outcome) (c : Option C) → result ≡ o → core ≡ c → RestartsTo o (λ up. P up c)
+        → RestartsTo result (λ up. P up core)
+    as_told o c e f k =
+        subst (λ (x : Outcome). RestartsTo x (λ up. P up core)) (sym e) (subst (λ (x : Option C). RestartsTo o (λ up. P up x)) (sym f) k)
 
     at : IsReread found answer → RestartsTo result (λ up. P up core)
     at (given s e f) =
@@ -69,9 +72,11 @@ comes_as _ P Q f h = absurd h
 
 -- what a referee that came back is, in the state
 abbrev RefereeBack : ℕ → Terms → Slots → Option SavedParts → Bool → Option RefereeView → Type 0
-RefereeBack id terms slots found up r = (referee_state r slots found ≡ restored_referee slots found up) × IfSome r (RefereeMatches id terms found)
+RefereeBack id terms slots found up r =
+    (referee_state r slots found ≡ restored_referee slots found up) × IfSome r (RefereeMatches id terms found)
 
-referee_back : (id : ℕ) (terms : Terms) (slots : Slots) (found : Option SavedParts) → AreOfMatch referee id terms slots found
+referee_back : (id : ℕ) (terms : Terms) (slots : Slots) (found : Option SavedParts)
+    → AreOfMatch referee id terms slots found
     → (s : Saved) → found ≡ Some (parts_of s) → RefereeBack id terms slots found true (Some (resumed_referee s))
 referee_back id terms slots found of s e =
     let m : IsSavedBy referee id terms (parts_of s) = subst (AreOfMatch referee id terms slots) e of in
@@ -87,8 +92,10 @@ same_restored : (r : Option RefereeView) (slots : Slots) (found : Option SavedPa
 same_restored None slots found up = refl
 same_restored (Some r) slots found up = refl
 
-pub restart_referee_goes : (w : WorldView) (c : Restorable) (honest : Type 0) → honest → (o : Outcome) (new : WorldView) → CoresMatch w c → Inv (state_of w c)
-    → RestartCalls honest w roles.Referee 0 o new → RestartStep (state_of w c) roles.Referee o (state_of new c) × CoresMatch new c
+pub restart_referee_goes : (w : WorldView) (c : Restorable) (honest : Type 0) → honest
+    → (o : Outcome) (new : WorldView) → CoresMatch w c → Inv (state_of w c)
+    → RestartCalls honest w roles.Referee 0 o new
+    → RestartStep (state_of w c) roles.Referee o (state_of new c) × CoresMatch new c
 restart_referee_goes w c honest is_honest o new fits inv h =
     let k = h.0 in
     let r = h.1 in
@@ -114,24 +121,28 @@ restart_referee_goes w c honest is_honest o new fits inv h =
 -- ---- a seat
 
 abbrev SeatBack : ℕ → Terms → Player → Slots → Option SavedParts → Bool → Option SeatView → Type 0
-SeatBack id terms q slots found up s = (seat_state s slots found ≡ restored_seat slots found up) × IfSome s (SeatMatches id terms q found)
+SeatBack id terms q slots found up s =
+    (seat_state s slots found ≡ restored_seat slots found up) × IfSome s (SeatMatches id terms q found)
 
 player_back : (q : Player) (party : ℕ) → party ≡ party_of q → player_of party ≡ q
 player_back X party e = ap player_of e
 player_back O party e = ap player_of e
 
-seat_back : (id : ℕ) (terms : Terms) (q : Player) (slots : Slots) (found : Option SavedParts) → AreOfMatch (party_of q) id terms slots found
+seat_back : (id : ℕ) (terms : Terms) (q : Player) (slots : Slots) (found : Option SavedParts)
+    → AreOfMatch (party_of q) id terms slots found
     → (s : Saved) → found ≡ Some (parts_of s) → SeatBack id terms q slots found true (Some (resumed_seat s))
 seat_back id terms q slots found of s e =
     let m : IsSavedBy (party_of q) id terms (parts_of s) = subst (AreOfMatch (party_of q) id terms slots) e of in
     subst (λ (x : Option SavedParts). SeatBack id terms q slots x true (Some (resumed_seat s))) (sym e)
     (refl, record { sits_for = player_back q s.party m.party; log = (m.id, m.terms); next = number_after s.save })
 
-seat_fresh : (id : ℕ) (terms : Terms) (q : Player) (slots : Slots) (found : Option SavedParts) → found ≡ None → SeatBack id terms q slots found true (Some (fresh_seat q id terms))
+seat_fresh : (id : ℕ) (terms : Terms) (q : Player) (slots : Slots) (found : Option SavedParts) → found ≡ None
+    → SeatBack id terms q slots found true (Some (fresh_seat q id terms))
 seat_fresh id terms q slots found e =
     subst (λ (x : Option SavedParts). SeatBack id terms q slots x true (Some (fresh_seat q id terms))) (sym e) (refl, record { sits_for = refl; log = (refl, refl); next = refl })
 
-same_restored_seat : (s : Option SeatView) (slots : Slots) (found : Option SavedParts) (up : Bool) → restored_seat (seat_state s slots found).slots (seat_state s slots found).restorable up ≡ restored_seat slots found up
+same_restored_seat : (s : Option SeatView) (slots : Slots) (found : Option SavedParts) (up : Bool)
+    → restored_seat (seat_state s slots found).slots (seat_state s slots found).restorable up ≡ restored_seat slots found up
 same_restored_seat None slots found up = refl
 same_restored_seat (Some s) slots found up = refl
 
@@ -143,8 +154,10 @@ same_restorable : (c : Restorable) (q : Player) → with_restorable c q (restora
 same_restorable c X = refl
 same_restorable c O = refl
 
-pub restart_seat_goes : (w : WorldView) (c : Restorable) (honest : Type 0) → honest → (q : Player) (o : Outcome) (new : WorldView) → CoresMatch w c → Inv (state_of w c)
-    → RestartCalls honest w (roles.Seat q) (party_of q) o new → RestartStep (state_of w c) (roles.Seat q) o (state_of new c) × CoresMatch new c
+pub restart_seat_goes : (w : WorldView) (c : Restorable) (honest : Type 0) → honest
+    → (q : Player) (o : Outcome) (new : WorldView) → CoresMatch w c → Inv (state_of w c)
+    → RestartCalls honest w (roles.Seat q) (party_of q) o new
+    → RestartStep (state_of w c) (roles.Seat q) o (state_of new c) × CoresMatch new c
 restart_seat_goes w c honest is_honest q o new fits inv h =
     let k = h.0 in
     let s = h.1 in
@@ -166,7 +179,9 @@ restart_seat_goes w c honest is_honest q o new fits inv h =
 
 -- ---- a watcher
 
-pub restart_watcher_goes : (w : WorldView) (c : Restorable) (honest : Type 0) → (i party : ℕ) (o : Outcome) (new : WorldView) → party ≡ first_watcher + i → CoresMatch w c → RestartCalls honest w (roles.Watcher i) party o new
+pub restart_watcher_goes : (w : WorldView) (c : Restorable) (honest : Type 0)
+    → (i party : ℕ) (o : Outcome) (new : WorldView) → party ≡ first_watcher + i → CoresMatch w c
+    → RestartCalls honest w (roles.Watcher i) party o new
     → RestartStep (state_of w c) (roles.Watcher i) o (state_of new c) × CoresMatch new c
 restart_watcher_goes w c honest i party o new is_party fits h = at (slice_get w.watchers i) refl h
   where
@@ -181,7 +196,8 @@ restart_watcher_goes w c honest i party o new is_party fits h = at (slice_get w.
         → MatchOption f (NoCalls outcomes.NoSuchParty w o new)
         (λ f. (o ≡ outcomes.Restarted) × (new ≡ record w { watchers = slice_set w.watchers i (fresh_watcher party w.id w.terms) }))
         → RestartStep (state_of w c) (roles.Watcher i) o (state_of new c) × CoresMatch new c
-    at None is k = (lift None is (k.0, ap (λ (x : WorldView). state_of x c) k.1), subst (λ (x : WorldView). CoresMatch x c) (sym k.1) fits)
+    at None is k =
+        (lift None is (k.0, ap (λ (x : WorldView). state_of x c) k.1), subst (λ (x : WorldView). CoresMatch x c) (sym k.1) fits)
     at (Some f) is k = (
       lift (Some f) is (k.0, ap (λ (x : WorldView). state_of x c) k.1 ∙ ap (λ (l : List (List Entry)). record (state_of w c) { watchers = l }) (set_log w.watchers i (fresh_watcher party w.id w.terms))),
       subst (λ (x : WorldView). CoresMatch x c) (sym k.1) (record {

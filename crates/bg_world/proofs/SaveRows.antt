@@ -47,7 +47,8 @@ unfolding make_parts
 same_referee_parts w c r fits =
     same_parts referee None r.log.entries r.log.id w.id r.log.terms w.terms r.next_save (next_number c.referee) fits.log.0 fits.log.1 fits.next
 
-same_seat_parts : (id : ℕ) (terms : Terms) (q : Player) (slots : Slots) (found : Option SavedParts) (s : SeatView) → SeatMatches id terms q found s
+same_seat_parts : (id : ℕ) (terms : Terms) (q : Player) (slots : Slots) (found : Option SavedParts) (s : SeatView)
+    → SeatMatches id terms q found s
     → seat_parts s ≡ to_save_seat id terms q (seat_state (Some s) slots found)
 unfolding make_parts
 same_seat_parts id terms q slots found s fits =
@@ -82,7 +83,8 @@ module _ (w : WorldView) (c : Restorable) (r : RefereeView) (fits : RefereeMatch
       (subst (λ (y : Option RefereeView). RefereeSaved w c r x w.referee_keeper.slots y) (sym g) (c.referee, row, ok.written.restore, fits)))
 
   referee_saved : (o : Outcome) (slots : Slots) (s : Option RefereeView)
-      → IsSaved to_save w.referee_keeper.slots r (referee_after_save r to_save.save) o slots s → RefereeSaved w c r o slots s
+      → IsSaved to_save w.referee_keeper.slots r (referee_after_save r to_save.save) o slots s
+      → RefereeSaved w c r o slots s
   unfolding to_save
   referee_saved o slots s (written e f writes) =
       subst (λ (x : Outcome). RefereeSaved w c r x slots s) (sym e)
@@ -100,18 +102,22 @@ module _ (w : WorldView) (c : Restorable) (r : RefereeView) (fits : RefereeMatch
   referee_saved o slots s (no_memory e f g) = stays outcomes.Memory o slots s refl e f g
 
   save_referee : (honest : Type 0) → honest → (o : Outcome) (k : KeeperView) (s : Option RefereeView)
-      → SaveCallsAt referee_parts referee_after_save honest w.referee_keeper (Some r) o k s → RefereeSaved w c r o k.slots s
+      → SaveCallsAt referee_parts referee_after_save honest w.referee_keeper (Some r) o k s
+      → RefereeSaved w c r o k.slots s
   unfolding to_save
   save_referee honest is_honest o k s h =
       referee_saved o k.slots s (is_saved referee_parts referee_after_save honest is_honest r w.id w.terms referee w.referee_keeper c.referee ok to_save
       (same_referee_parts w c r fits) (record { party = refl; id = refl; terms = refl }) refl o k s h)
 
-pub save_referee_goes : (w : WorldView) (c : Restorable) (honest : Type 0) → honest → (o : Outcome) (new : WorldView) → CoresMatch w c → Inv (state_of w c)
+pub save_referee_goes : (w : WorldView) (c : Restorable) (honest : Type 0) → honest → (o : Outcome) (new : WorldView)
+    → CoresMatch w c → Inv (state_of w c)
     → SaveCalls honest w roles.Referee o new → StepsTo w c (events.Save 0) o new
 save_referee_goes w c honest is_honest o new fits inv h = at w.referee fits inv h
   where
-    at : (r : Option RefereeView) → CoresMatch (record w { referee = r }) c → Inv (state_of (record w { referee = r }) c)
-        → SaveCalls honest (record w { referee = r }) roles.Referee o new → StepsTo (record w { referee = r }) c (events.Save 0) o new
+    at : (r : Option RefereeView) → CoresMatch (record w { referee = r }) c
+        → Inv (state_of (record w { referee = r }) c)
+        → SaveCalls honest (record w { referee = r }) roles.Referee o new
+        → StepsTo (record w { referee = r }) c (events.Save 0) o new
     at None f i k =
         let same : record w { referee_keeper = k.0; referee = k.1 } ≡ record w { referee = None } =
         ap₂ (λ (l : KeeperView) (s : Option RefereeView). record w { referee_keeper = l; referee = s }) k.2.1 k.2.2 in
@@ -148,7 +154,8 @@ module _ (id : ℕ) (terms : Terms) (q : Player) (old : KeeperView) (c : Option 
       (subst (λ (y : Option SeatView). SeatSaved id terms q (seat_state (Some r) old.slots c) x old.slots y) (sym g) (c, row, (ok.written.restore, fits))))
 
   seat_saved : (o : Outcome) (slots : Slots) (s : Option SeatView)
-      → IsSaved (to_save_seat id terms q before) old.slots r (seat_after_save r (next_number c)) o slots s → SeatSaved id terms q before o slots s
+      → IsSaved (to_save_seat id terms q before) old.slots r (seat_after_save r (next_number c)) o slots s
+      → SeatSaved id terms q before o slots s
   unfolding before
   seat_saved o slots s (written e f writes) =
       subst (λ (x : Outcome). SeatSaved id terms q (seat_state (Some r) old.slots c) x slots s) (sym e)
@@ -165,18 +172,22 @@ module _ (id : ℕ) (terms : Terms) (q : Player) (old : KeeperView) (c : Option 
   seat_saved o slots s (no_memory e f g) = seat_stays_up outcomes.Memory o slots s refl e f g
 
   save_seat : (honest : Type 0) → honest → (o : Outcome) (k : KeeperView) (s : Option SeatView)
-      → SaveCallsAt seat_parts seat_after_save honest old (Some r) o k s → SeatSaved id terms q (seat_state (Some r) old.slots c) o k.slots s
+      → SaveCallsAt seat_parts seat_after_save honest old (Some r) o k s
+      → SeatSaved id terms q (seat_state (Some r) old.slots c) o k.slots s
   unfolding before
   save_seat honest is_honest o k s h =
       seat_saved o k.slots s (is_saved seat_parts seat_after_save honest is_honest r id terms (party_of q) old c ok
       (to_save_seat id terms q (seat_state (Some r) old.slots c)) (same_seat_parts id terms q old.slots c r fits)
       (record { party = refl; id = refl; terms = refl }) refl o k s h)
 
-same_world : (w : WorldView) (q : Player) (s : Option SeatView) (k : KeeperView) → s ≡ seat_core w q → k ≡ seat_keeper w q → with_seat_keeper (with_seat_core w q s) q k ≡ w
+same_world : (w : WorldView) (q : Player) (s : Option SeatView) (k : KeeperView) → s ≡ seat_core w q
+    → k ≡ seat_keeper w q → with_seat_keeper (with_seat_core w q s) q k ≡ w
 same_world w X s k e f = ap₂ (λ (a : Option SeatView) (b : KeeperView). record w { x = a; x_keeper = b }) e f
 same_world w O s k e f = ap₂ (λ (a : Option SeatView) (b : KeeperView). record w { o = a; o_keeper = b }) e f
 
-pub save_seat_goes : (w : WorldView) (c : Restorable) (honest : Type 0) → honest → (q : Player) (o : Outcome) (new : WorldView) → CoresMatch w c → Inv (state_of w c) → SaveCalls honest w (roles.Seat q) o new
+pub save_seat_goes : (w : WorldView) (c : Restorable) (honest : Type 0) → honest
+    → (q : Player) (o : Outcome) (new : WorldView) → CoresMatch w c → Inv (state_of w c)
+    → SaveCalls honest w (roles.Seat q) o new
     → (d : Restorable) × SaveStep (state_of w c) (roles.Seat q) o (state_of new d) × CoresMatch new d
 save_seat_goes w c honest is_honest q o new fits inv h = at (seat_core w q) (seat_side w c q fits) refl h.2
   where

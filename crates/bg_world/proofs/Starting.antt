@@ -47,7 +47,8 @@ get_last [] x (suc i) f h = absurd cc
 get_last (y ∷ ys) x zero f h = inl h
 get_last (y ∷ ys) x (suc i) f h = at (get_last ys x i f h)
   where
-    at : (slice_get ys i ≡ Some f) ⊎ ((i ≡ length ys) × (f ≡ x)) → (slice_get ys i ≡ Some f) ⊎ ((suc i ≡ suc (length ys)) × (f ≡ x))
+    at : (slice_get ys i ≡ Some f) ⊎ ((i ≡ length ys) × (f ≡ x))
+        → (slice_get ys i ≡ Some f) ⊎ ((suc i ≡ suc (length ys)) × (f ≡ x))
     at (inl p) = inl p
     at (inr p) = inr (ap suc p.0, p.1)
 

@@ -36,11 +36,13 @@ use Rattle.bg_world.proofs.SendCases.{sends_all, ticks_row}
 
 -- ---- the referee
 
-pub tick_referee_goes : (w : WorldView) (c : Restorable) (honest : Type 0) → honest → (o : Outcome) (new : WorldView) → CoresMatch w c
+pub tick_referee_goes : (w : WorldView) (c : Restorable) (honest : Type 0) → honest → (o : Outcome) (new : WorldView)
+    → CoresMatch w c
     → TickCalls honest w roles.Referee o new → StepsTo w c (events.Tick 0) o new
 tick_referee_goes w c honest is_honest o new fits h = at w.referee fits h
   where
-    at : (r : Option RefereeView) → CoresMatch (record w { referee = r }) c → TickCalls honest (record w { referee = r }) roles.Referee o new
+    at : (r : Option RefereeView) → CoresMatch (record w { referee = r }) c
+        → TickCalls honest (record w { referee = r }) roles.Referee o new
         → StepsTo (record w { referee = r }) c (events.Tick 0) o new
     at None f k =
         goes_at (record w { referee = None }) c (events.Tick 0) o outcomes.Down new (record w { referee = None }) k.0 k.1
@@ -61,20 +63,25 @@ tick_referee_goes w c honest is_honest o new fits h = at w.referee fits h
 -- ---- a seat
 
 -- what a seat's core sends is what the protocol says
-seat_sends : (s : SeatView) (claim : Option (ℕ × Action)) (saved : Bool) → packet_of_seat (record s { claim = claim; claim_saved = saved }) ≡ seat_packet s.follower.log.id (party_of s.player) s.follower.log.entries claim saved
+seat_sends : (s : SeatView) (claim : Option (ℕ × Action)) (saved : Bool)
+    → packet_of_seat (record s { claim = claim; claim_saved = saved }) ≡ seat_packet s.follower.log.id (party_of s.player) s.follower.log.entries claim saved
 seat_sends s None saved = refl
 seat_sends s (Some c) true = refl
 seat_sends s (Some c) false = refl
 
-same_packet : (id : ℕ) (terms : Terms) (q : Player) (found : Option SavedParts) (s : SeatView) → SeatMatches id terms q found s → packet_of_seat s ≡ seat_packet id (party_of q) s.follower.log.entries s.claim s.claim_saved
+same_packet : (id : ℕ) (terms : Terms) (q : Player) (found : Option SavedParts) (s : SeatView)
+    → SeatMatches id terms q found s
+    → packet_of_seat s ≡ seat_packet id (party_of q) s.follower.log.entries s.claim s.claim_saved
 same_packet id terms q found s fits =
     seat_sends s s.claim s.claim_saved ∙ ap₂ (λ (i : ℕ) (p : Player). seat_packet i (party_of p) s.follower.log.entries s.claim s.claim_saved) fits.log.0 fits.sits_for
 
 -- the row of a seat's tick, by the seat's state
 abbrev SeatTickRow : State → Player → SeatState → Outcome → State → Type 0
-SeatTickRow v q old o u = IfUp old.up v o u (Sends (λ d. Carries d referee (seat_packet v.id (party_of q) old.log old.claim old.claim_saved)) v o u)
+SeatTickRow v q old o u =
+    IfUp old.up v o u (Sends (λ d. Carries d referee (seat_packet v.id (party_of q) old.log old.claim old.claim_saved)) v o u)
 
-pub tick_seat_goes : (w : WorldView) (c : Restorable) (honest : Type 0) → honest → (q : Player) (o : Outcome) (new : WorldView) → CoresMatch w c → TickCalls honest w (roles.Seat q) o new
+pub tick_seat_goes : (w : WorldView) (c : Restorable) (honest : Type 0) → honest
+    → (q : Player) (o : Outcome) (new : WorldView) → CoresMatch w c → TickCalls honest w (roles.Seat q) o new
     → TickStep (state_of w c) (roles.Seat q) o (state_of new c) × CoresMatch new c
 tick_seat_goes w c honest is_honest q o new fits h = at (seat_core w q) (seat_side w c q fits) refl h
   where
@@ -86,7 +93,9 @@ tick_seat_goes w c honest is_honest q o new fits h = at (seat_core w q) (seat_si
     kept_seat X n = refl
     kept_seat O n = refl
 
-    lift : (p : Player) (u : State) → SeatTickRow (state_of w c) p (seat_state (seat_core w p) (seat_keeper w p).slots (restorable_of c p)) o u → TickStep (state_of w c) (roles.Seat p) o u
+    lift : (p : Player) (u : State)
+        → SeatTickRow (state_of w c) p (seat_state (seat_core w p) (seat_keeper w p).slots (restorable_of c p)) o u
+        → TickStep (state_of w c) (roles.Seat p) o u
     lift X u k = k
     lift O u k = k
 
@@ -122,7 +131,8 @@ set_same [] i f e = refl
 set_same (x ∷ xs) zero f e = let same : x ≡ f = same_Some x f e in ap (λ (y : WatcherView). y ∷ xs) (sym same)
 set_same (x ∷ xs) (suc i) f e = ap (λ (l : List WatcherView). x ∷ l) (set_same xs i f e)
 
-pub tick_watcher_goes : (w : WorldView) (c : Restorable) (honest : Type 0) → honest → (i : ℕ) (o : Outcome) (new : WorldView) → CoresMatch w c → TickCalls honest w (roles.Watcher i) o new
+pub tick_watcher_goes : (w : WorldView) (c : Restorable) (honest : Type 0) → honest
+    → (i : ℕ) (o : Outcome) (new : WorldView) → CoresMatch w c → TickCalls honest w (roles.Watcher i) o new
     → TickStep (state_of w c) (roles.Watcher i) o (state_of new c) × CoresMatch new c
 tick_watcher_goes w c honest is_honest i o new fits h = at (slice_get w.watchers i) refl h
   where
@@ -137,7 +147,8 @@ tick_watcher_goes w c honest is_honest i o new fits h = at (slice_get w.watchers
         → MatchOption f (NoCalls outcomes.NoSuchParty w o new)
         (λ f. (n : LinkView) × (f' : WatcherView) × FollowerTickCalls WatcherTicks honest (parties w) w.link f o n f' × (new ≡ record w { link = n; watchers = slice_set w.watchers i f' }))
         → TickStep (state_of w c) (roles.Watcher i) o (state_of new c) × CoresMatch new c
-    at None is k = (lift None is (k.0, ap (λ (x : WorldView). state_of x c) k.1), subst (λ (x : WorldView). CoresMatch x c) (sym k.1) fits)
+    at None is k =
+        (lift None is (k.0, ap (λ (x : WorldView). state_of x c) k.1), subst (λ (x : WorldView). CoresMatch x c) (sym k.1) fits)
     at (Some f) is k =
         let fit = fits.watchers i f is in
         let log = f.follower.log in
