@@ -43,7 +43,8 @@ link_failed o faults.Failed e = named o outcomes.LinkFault e tt
 link_failed o faults.Memory e = named o outcomes.Memory e tt
 
 -- what is sent in a tick
-pub sends_all : (honest : Type 0) (many before : ℕ) (old : LinkView) (packets : List (ℕ × Packet)) (o : Outcome) (new : LinkView)
+pub sends_all : (honest : Type 0) (many before : ℕ) (old : LinkView) (packets : List (ℕ × Packet)) (o : Outcome)
+    (new : LinkView)
     → SendCalls honest many before old packets o new → IsNotRefused o
 sends_all honest many before old [] o new h = named o (outcomes.Sent before) h.0 tt
 sends_all honest many before old (p ∷ packets) o new h =
@@ -51,7 +52,8 @@ sends_all honest many before old (p ∷ packets) o new h =
   where
     sent_one : ((n : ℕ) (mid : LinkView) → SendCalls honest many n mid packets o new → IsNotRefused o)
         → (answer : Result (Unit {0}) DeviceFault) (mid : LinkView)
-        → MatchResult answer (λ _. SendCalls honest many (before + 1) mid packets o new) (λ fault. (o ≡ link_outcome fault) × (new ≡ mid))
+        → MatchResult answer (λ _. SendCalls honest many (before + 1) mid packets o new)
+        (λ fault. (o ≡ link_outcome fault) × (new ≡ mid))
         → IsNotRefused o
     sent_one again (Ok u) mid k = again (before + 1) mid k
     sent_one again (Err x) mid k = link_failed o x k.0
@@ -59,14 +61,16 @@ sends_all honest many before old (p ∷ packets) o new h =
     at : ((n : ℕ) (mid : LinkView) → SendCalls honest many n mid packets o new → IsNotRefused o) → (b : Bool)
         → MatchBool b
         ((answer : Result (Unit {0}) DeviceFault) × (mid : LinkView) × Posts honest old p.0 p.1 answer mid
-        × MatchResult answer (λ _. SendCalls honest many (before + 1) mid packets o new) (λ fault. (o ≡ link_outcome fault) × (new ≡ mid)))
+        × MatchResult answer (λ _. SendCalls honest many (before + 1) mid packets o new)
+        (λ fault. (o ≡ link_outcome fault) × (new ≡ mid)))
         (SendCalls honest many before old packets o new)
         → IsNotRefused o
     at again true k = sent_one again k.0 k.1 k.3
     at again false k = again before old k
 
 -- a save
-pub saves_all : {C : Type 0} (parts_of : C → SavedParts) (after_save : C → ℕ → C) (honest : Type 0) (old : KeeperView) (core : Option C) (o : Outcome)
+pub saves_all : {C : Type 0} (parts_of : C → SavedParts) (after_save : C → ℕ → C) (honest : Type 0)
+    (old : KeeperView) (core : Option C) (o : Outcome)
     (new : KeeperView) (after : Option C) → SaveCallsAt parts_of after_save honest old core o new after → IsNotRefused o
 saves_all {C} parts_of after_save honest old None o new after h = named o outcomes.Down h.0 tt
 saves_all {C} parts_of after_save honest old (Some core) o new after h = at h.0 h.2
@@ -83,7 +87,8 @@ saves_all {C} parts_of after_save honest old (Some core) o new after h = at h.0 
     at (Err Memory) k = named o outcomes.Memory k.0 tt
 
 -- a restart
-comes_up : {C : Type 0} (found : Option SavedParts) (resumed : Saved → C) (fresh : C) (answer : Result (Option Saved) Outcome) (o : Outcome) (core : Option C)
+comes_up : {C : Type 0} (found : Option SavedParts) (resumed : Saved → C) (fresh : C)
+    (answer : Result (Option Saved) Outcome) (o : Outcome) (core : Option C)
     → IsReread found answer → ComesUp resumed fresh answer o core → IsNotRefused o
 comes_up {C} found resumed fresh answer o core h up = at h
   where
@@ -91,7 +96,8 @@ comes_up {C} found resumed fresh answer o core h up = at h
     at (given s e f) = let k = subst (λ (x : Result (Option Saved) Outcome). ComesUp resumed fresh x o core) f up in named o outcomes.Restarted k.0 tt
     at (empty e f) = let k = subst (λ (x : Result (Option Saved) Outcome). ComesUp resumed fresh x o core) f up in named o outcomes.Restarted k.0 tt
     at (not_read f) =
-        let k = subst (λ (x : Result (Option Saved) Outcome). ComesUp resumed fresh x o core) f up in named o (outcomes.RestoreFault causes.Device) k.0 tt
+        let k = subst (λ (x : Result (Option Saved) Outcome). ComesUp resumed fresh x o core) f up in named o
+        (outcomes.RestoreFault causes.Device) k.0 tt
     at (no_memory f) = let k = subst (λ (x : Result (Option Saved) Outcome). ComesUp resumed fresh x o core) f up in named o outcomes.Memory k.0 tt
 
 pub restarts_all : {C : Type 0} (resumed : Saved → C) (fresh : C) (honest : Type 0) → honest
@@ -114,7 +120,8 @@ answers_all honest many mid n (takes.Answer to p) o h a = at (nat_lt to many) a
 
     at : (b : Bool)
         → MatchBool b
-        ((answer : Result (Unit {0}) DeviceFault) × Posts honest mid to p answer n × ComesTo (outcomes.Took (takes.Answer to p)) answer o)
+        ((answer : Result (Unit {0}) DeviceFault) × Posts honest mid to p answer n
+        × ComesTo (outcomes.Took (takes.Answer to p)) answer o)
         ((o ≡ outcomes.Took (takes.Answer to p)) × (n ≡ mid)) → IsNotRefused o
     at true k = told k.0 k.2
     at false k = named o (outcomes.Took (takes.Answer to p)) k.0 tt

@@ -38,11 +38,13 @@ use Rattle.bg_world.proofs.FineOutcomes.{named, no_hand, sends_all, saves_all, r
 
 -- ---- every event
 
-module _ (w : WorldView) (c : Restorable) (link_honest keepers_honest : Type 0) (link : link_honest) (keepers : keepers_honest)
+module _ (w : WorldView) (c : Restorable) (link_honest keepers_honest : Type 0) (link : link_honest)
+    (keepers : keepers_honest)
     (fits : CoresMatch w c) (inv : Inv (state_of w c)) where
   -- what a core that follows makes of what is in hand
   hand_all : {C : Type 0} (CoreTakes : C → Packet → Learned → C → Type 0) (follower : C → FollowerView)
-      → ((s : C) (p : Packet) (l : Learned) (s' : C) → CoreTakes s p l s' → FollowerTakes (follower s) p l (follower s'))
+      → ((s : C) (p : Packet) (l : Learned) (s' : C) → CoreTakes s p l s' → FollowerTakes (follower s) p l
+      (follower s'))
       → (party pick : ℕ) (n : LinkView) (s s' : C) (o : Outcome) → 0 < party
       → log_of (state_of w c) party ≡ Some (follower s).log.entries
       → IsLogOf w.id w.terms (follower s).log → FollowerTakeCalls CoreTakes link_honest party w.link s pick o n s'
@@ -54,7 +56,8 @@ module _ (w : WorldView) (c : Restorable) (link_honest keepers_honest : Type 0) 
       at (Err x) receives k = named o x k.0 (no_hand x (empty_hand n.taken x receives.is_hand))
       at (Ok p) receives k =
           let t = follows s p k.0 s' k.1 in
-          let fine = at_follower.not_refused (state_of w c) (no_packet_refused (state_of w c) inv) party (follower s) above some of p k.0 (receives.was_sent link) t.learns in
+          let fine = at_follower.not_refused (state_of w c) (no_packet_refused (state_of w c) inv) party
+          (follower s) above some of p k.0 (receives.was_sent link) t.learns in
           named o (outcomes.Learned k.0) k.2 fine
 
   seat_take : (q : Player) (pick word : ℕ) (o : Outcome) (new : WorldView)
@@ -70,14 +73,17 @@ module _ (w : WorldView) (c : Restorable) (link_honest keepers_honest : Type 0) 
       log X s e = ap (λ (x : Option SeatView). Some (seat_state x w.x_keeper.slots c.x).log) e
       log O s e = ap (λ (x : Option SeatView). Some (seat_state x w.o_keeper.slots c.o).log) e
 
-      at : (s : Option SeatView) → seat_core w q ≡ s → SeatSide w.id w.terms q s (seat_keeper w q) (restorable_of c q)
+      at : (s : Option SeatView) → seat_core w q ≡ s → SeatSide w.id w.terms q s (seat_keeper w q)
+          (restorable_of c q)
           → MatchOption s (NoCalls outcomes.Down w o new)
-          (λ s. (n : LinkView) × (s' : SeatView) × FollowerTakeCalls SeatTakes link_honest (party_of q) w.link s pick o n s'
+          (λ s. (n : LinkView) × (s' : SeatView)
+          × FollowerTakeCalls SeatTakes link_honest (party_of q) w.link s pick o n s'
           × (new ≡ with_seat_core (record w { link = n }) q (Some s')))
           → IsNotRefused o
       at None is side k = named o outcomes.Down k.0 tt
       at (Some s) is side k =
-          hand_all SeatTakes (λ x. x.follower) (λ x p l y t. t.takes) (party_of q) pick k.0 s k.1 o (number q) (log q s is) side.1.log k.2
+          hand_all SeatTakes (λ x. x.follower) (λ x p l y t. t.takes) (party_of q) pick k.0 s k.1 o (number q)
+          (log q s is) side.1.log k.2
 
   watcher_take : (i pick word : ℕ) (o : Outcome) (new : WorldView)
       → TakeCalls link_honest w (roles.Watcher i) (suc (suc (suc i))) pick word o new → IsNotRefused o
@@ -85,12 +91,14 @@ module _ (w : WorldView) (c : Restorable) (link_honest keepers_honest : Type 0) 
     where
       at : (f : Option WatcherView) → slice_get w.watchers i ≡ f
           → MatchOption f (NoCalls outcomes.NoSuchParty w o new)
-          (λ f. (n : LinkView) × (f' : WatcherView) × FollowerTakeCalls WatcherTakes link_honest (suc (suc (suc i))) w.link f pick o n f'
+          (λ f. (n : LinkView) × (f' : WatcherView)
+          × FollowerTakeCalls WatcherTakes link_honest (suc (suc (suc i))) w.link f pick o n f'
           × (new ≡ record w { link = n; watchers = slice_set w.watchers i f' }))
           → IsNotRefused o
       at None is k = named o outcomes.NoSuchParty k.0 tt
       at (Some f) is k =
-          hand_all WatcherTakes (λ x. x.follower) (λ x p l y t. t.takes) (suc (suc (suc i))) pick k.0 f k.1 o (omega arith)
+          hand_all WatcherTakes (λ x. x.follower) (λ x p l y t. t.takes) (suc (suc (suc i))) pick k.0 f k.1 o
+          (omega arith)
           (get_log w.watchers i ∙ ap (option_map watcher_log) is) (fits.watchers i f is).log k.2
 
   take_all : (party pick word : ℕ) (o : Outcome) (new : WorldView)
@@ -99,7 +107,8 @@ module _ (w : WorldView) (c : Restorable) (link_honest keepers_honest : Type 0) 
     where
       at : (r : Option RefereeView) → w.referee ≡ r → IfSome r (RefereeMatches w.id w.terms c.referee)
           → MatchOption r (NoCalls outcomes.Down w o new)
-          (λ r. (n : LinkView) × (r' : RefereeView) × RefereeTakeCalls link_honest (parties w) w.link r pick word o n r'
+          (λ r. (n : LinkView) × (r' : RefereeView)
+          × RefereeTakeCalls link_honest (parties w) w.link r pick word o n r'
           × (new ≡ record w { link = n; referee = Some r' }))
           → IsNotRefused o
       at None is fit k = named o outcomes.Down k.0 tt
@@ -117,7 +126,9 @@ module _ (w : WorldView) (c : Restorable) (link_honest keepers_honest : Type 0) 
           in_hand (Err x) mid receives m = named o x m.0 (no_hand x (empty_hand mid.taken x receives.is_hand))
           in_hand (Ok p) mid receives m =
               let t = m.1 in
-              let fine = at_referee.not_refused (state_of w c) (no_packet_refused (state_of w c) inv) r k.1 fit.log entries saved word p m.0 (receives.was_sent link) t.takes in
+              let fine = at_referee.not_refused (state_of w c)
+              (no_packet_refused (state_of w c) inv) r k.1 fit.log entries saved word p m.0
+              (receives.was_sent link) t.takes in
               answers_all link_honest (parties w) mid k.0 m.0 o fine m.2
   take_all (suc zero) pick word o new h = seat_take X pick word o new h
   take_all (suc (suc zero)) pick word o new h = seat_take O pick word o new h
@@ -136,17 +147,20 @@ module _ (w : WorldView) (c : Restorable) (link_honest keepers_honest : Type 0) 
   seat_tick q o new h = at (seat_core w q) h
     where
       at : (s : Option SeatView) → MatchOption s (NoCalls outcomes.Down w o new)
-          (λ s. (n : LinkView) × (s' : SeatView) × FollowerTickCalls SeatTicks link_honest (parties w) w.link s o n s'
+          (λ s. (n : LinkView) × (s' : SeatView)
+          × FollowerTickCalls SeatTicks link_honest (parties w) w.link s o n s'
           × (new ≡ with_seat_core (record w { link = n }) q (Some s')))
           → IsNotRefused o
       at None k = named o outcomes.Down k.0 tt
       at (Some s) k = sends_all link_honest (parties w) 0 w.link (to_referee k.2.0) o k.0 k.2.2
 
-  tick_all : (party : ℕ) (o : Outcome) (new : WorldView) → TickCalls link_honest w (role party) o new → IsNotRefused o
+  tick_all : (party : ℕ) (o : Outcome) (new : WorldView) → TickCalls link_honest w
+      (role party) o new → IsNotRefused o
   tick_all zero o new h = at w.referee h
     where
       at : (r : Option RefereeView) → MatchOption r (NoCalls outcomes.Down w o new)
-          (λ r. (n : LinkView) × (r' : RefereeView) × RefereeTickCalls link_honest (parties w) w.link r o n r' × (new ≡ record w { link = n; referee = Some r' }))
+          (λ r. (n : LinkView) × (r' : RefereeView) × RefereeTickCalls link_honest (parties w) w.link r o n r'
+          × (new ≡ record w { link = n; referee = Some r' }))
           → IsNotRefused o
       at None k = named o outcomes.Down k.0 tt
       at (Some r) k = sends_all link_honest (parties w) 0 w.link k.2.0 o k.0 k.2.2
@@ -155,7 +169,8 @@ module _ (w : WorldView) (c : Restorable) (link_honest keepers_honest : Type 0) 
   tick_all (suc (suc (suc i))) o new h = at (slice_get w.watchers i) h
     where
       at : (f : Option WatcherView) → MatchOption f (NoCalls outcomes.NoSuchParty w o new)
-          (λ f. (n : LinkView) × (f' : WatcherView) × FollowerTickCalls WatcherTicks link_honest (parties w) w.link f o n f'
+          (λ f. (n : LinkView) × (f' : WatcherView)
+          × FollowerTickCalls WatcherTicks link_honest (parties w) w.link f o n f'
           × (new ≡ record w { link = n; watchers = slice_set w.watchers i f' }))
           → IsNotRefused o
       at None k = named o outcomes.NoSuchParty k.0 tt
@@ -167,13 +182,18 @@ module _ (w : WorldView) (c : Restorable) (link_honest keepers_honest : Type 0) 
       restarts_all resumed_referee (fresh_referee w.id w.terms) keepers_honest keepers w.id w.terms referee w.referee_keeper h.0 c.referee
       (slots_of_referee w c inv) o h.1 h.2
   restart_all (suc zero) o new h =
-      restarts_all resumed_seat (fresh_seat X w.id w.terms) keepers_honest keepers w.id w.terms (party_of X) w.x_keeper h.0 c.x (slots_of_seat w c X inv) o h.1 h.2
+      restarts_all resumed_seat (fresh_seat X w.id w.terms) keepers_honest keepers w.id w.terms
+      (party_of X) w.x_keeper h.0 c.x (slots_of_seat w c X inv) o h.1 h.2
   restart_all (suc (suc zero)) o new h =
-      restarts_all resumed_seat (fresh_seat O w.id w.terms) keepers_honest keepers w.id w.terms (party_of O) w.o_keeper h.0 c.o (slots_of_seat w c O inv) o h.1 h.2
+      restarts_all resumed_seat (fresh_seat O w.id w.terms) keepers_honest keepers w.id w.terms
+      (party_of O) w.o_keeper h.0 c.o (slots_of_seat w c O inv) o h.1 h.2
   restart_all (suc (suc (suc i))) o new h = at (slice_get w.watchers i) h
     where
       at : (f : Option WatcherView) → MatchOption f (NoCalls outcomes.NoSuchParty w o new)
-          (λ f. (o ≡ outcomes.Restarted) × (new ≡ record w { watchers = slice_set w.watchers i (fresh_watcher (suc (suc (suc i))) w.id w.terms) }))
+          (λ f. (o ≡ outcomes.Restarted) × (new ≡ record w {
+            watchers = slice_set w.watchers i
+                (fresh_watcher (suc (suc (suc i))) w.id w.terms);
+          }))
           → IsNotRefused o
       at None k = named o outcomes.NoSuchParty k.0 tt
       at (Some f) k = named o outcomes.Restarted k.0 tt
@@ -182,7 +202,8 @@ module _ (w : WorldView) (c : Restorable) (link_honest keepers_honest : Type 0) 
   due_all word o new h = at w.referee h
     where
       at : (r : Option RefereeView) → MatchOption r (NoCalls outcomes.Down w o new)
-          (λ r. (answer : Result ℕ DueFault) × (r' : RefereeView) × RefereeDues r word answer r' × (o ≡ outcomes.Due answer) × (new ≡ record w { referee = Some r' }))
+          (λ r. (answer : Result ℕ DueFault) × (r' : RefereeView) × RefereeDues r word answer r'
+          × (o ≡ outcomes.Due answer) × (new ≡ record w { referee = Some r' }))
           → IsNotRefused o
       at None k = named o outcomes.Down k.0 tt
       at (Some r) k = named o (outcomes.Due k.0) k.3 tt
@@ -191,7 +212,8 @@ module _ (w : WorldView) (c : Restorable) (link_honest keepers_honest : Type 0) 
   choose_all q a o new h = at (seat_core w q) h
     where
       at : (s : Option SeatView) → MatchOption s (NoCalls outcomes.Down w o new)
-          (λ s. (answer : Result ℕ ChooseFault) × (s' : SeatView) × SeatChooses s a answer s' × (o ≡ outcomes.Chose answer) × (new ≡ with_seat_core w q (Some s')))
+          (λ s. (answer : Result ℕ ChooseFault) × (s' : SeatView) × SeatChooses s a answer s'
+          × (o ≡ outcomes.Chose answer) × (new ≡ with_seat_core w q (Some s')))
           → IsNotRefused o
       at None k = named o outcomes.Down k.0 tt
       at (Some s) k = named o (outcomes.Chose k.0) k.3 tt
@@ -205,8 +227,10 @@ module _ (w : WorldView) (c : Restorable) (link_honest keepers_honest : Type 0) 
   event_all (events.Tick party) o new h = tick_all party o new h
   event_all (events.Restart party) o new h = restart_all party o new h
 
-pub never_refused : (link_honest keepers_honest : Type 0) (old : WorldView) (event : Event) (result : Outcome) (new : WorldView)
+pub never_refused : (link_honest keepers_honest : Type 0) (old : WorldView) (event : Event) (result : Outcome)
+    (new : WorldView)
     → Calls link_honest keepers_honest old event result new → link_honest → keepers_honest → IsReachedWorld old
     → IsNotRefused result
 never_refused link_honest keepers_honest old event result new calls link keepers before =
-    event_all old before.restorable link_honest keepers_honest link keepers before.cores (reached (state_of old before.restorable) before.reached) event result new calls
+    event_all old before.restorable link_honest keepers_honest link keepers before.cores
+    (reached (state_of old before.restorable) before.reached) event result new calls

@@ -25,7 +25,8 @@ use Rattle.bg_world.specs.Refusals.{IsNoPacketRefused}
 use Rattle.bg_world.specs.State.{State}
 use Rattle.bg_world.specs.WorldState.{IsLogOf}
 
-module _ (v : State) (refused : IsNoPacketRefused v) (r r' : RefereeView) (log : IsLogOf v.id v.terms r.log) (entries : r.log.entries ≡ v.referee.log) (saved : r.saved ≡ v.referee.saved) (word : ℕ) where
+module _ (v : State) (refused : IsNoPacketRefused v) (r r' : RefereeView) (log : IsLogOf v.id v.terms r.log)
+    (entries : r.log.entries ≡ v.referee.log) (saved : r.saved ≡ v.referee.saved) (word : ℕ) where
   said : (what t : TakeOutcome) → IsNotRefusedByReferee what → (t ≡ what) × (r' ≡ r) → IsNotRefusedByReferee t
   said what t h k = subst IsNotRefusedByReferee (sym k.0) h
 
@@ -75,9 +76,11 @@ module _ (v : State) (refused : IsNoPacketRefused v) (r r' : RefereeView) (log :
   on_turn actor id sender n action acts came next =
       let turn = refused.claims.turn id sender n action came next in
       let there : ActsAfter r.log.terms r.log.entries (Seat turn.0) =
-      subst (λ (x : List Entry). ActsAfter r.log.terms x (Seat turn.0)) (sym entries) (subst (λ (m : Terms). ActsAfter m v.referee.log (Seat turn.0)) (sym log.1) turn.2) in
+      subst (λ (x : List Entry). ActsAfter r.log.terms x (Seat turn.0)) (sym entries)
+      (subst (λ (m : Terms). ActsAfter m v.referee.log (Seat turn.0)) (sym log.1) turn.2) in
       let same : actor ≡ Seat turn.0 = one_actor r.log.terms r.log.entries actor (Seat turn.0) acts there in
-      ap (λ (a : Actor). is_on_turn a sender) same ∙ ap (λ (s : ℕ). s == party_of turn.0) turn.1 ∙ equal (party_of turn.0)
+      ap (λ (a : Actor). is_on_turn a sender) same ∙ ap (λ (s : ℕ). s == party_of turn.0) turn.1
+      ∙ equal (party_of turn.0)
     where
       equal : (k : ℕ) → (k == k) ≡ true
       equal k = grind (arith, nat_tests)
@@ -98,7 +101,8 @@ module _ (v : State) (refused : IsNoPacketRefused v) (r r' : RefereeView) (log :
                 let above = b.0 in
                 let next : n ≡ length v.referee.log + 1 = grind (arith, nat_tests) in
                 elim (either r r' word (not (is_on_turn actor sender)) _ _ t d.1) [
-                  | inl e ↦ (let on = on_turn actor id sender n action acts came next in let not_on = off (is_on_turn actor sender) e.0 in absurd cc)
+                  | inl e ↦ (let on = on_turn actor id sender n action acts came next in let not_on = off
+                      (is_on_turn actor sender) e.0 in absurd cc)
                   | inr e ↦ comes action id sender n t came next e.1
                 ])
           ]

@@ -22,15 +22,18 @@ use Rattle.bg_world.specs.declared.devices.DeviceFault.{DeviceFault}
 use Rattle.bg_world.specs.declared.devices.DeviceFault.TheVariants as faults
 
 -- the list grew by so many at most, and the outcome says by how many, or that a send failed
-pub record Went (may : Datagram → Type 0) (before most : ℕ) (old new : List Datagram) (result : Outcome) : Type 0 where
+pub record Went (may : Datagram → Type 0) (before most : ℕ) (old new : List Datagram)
+    (result : Outcome) : Type 0 where
   pub out : List Datagram
   pub sent : new ≡ old ++ out
   pub few : length out ≤ most
   pub each : All may out
-  pub told : (result ≡ outcomes.Sent (before + length out)) ⊎ ((fault : DeviceFault) × (result ≡ link_outcome fault))
+  pub told : (result ≡ outcomes.Sent (before + length out)) ⊎
+      ((fault : DeviceFault) × (result ≡ link_outcome fault))
 
 module _ (honest : Type 0) (is_honest : honest) (many : ℕ) (may : Datagram → Type 0) where
-  failed : (before most : ℕ) (old mid : LinkView) (p : ℕ × Packet) (fault : DeviceFault) (result : Outcome) (new : LinkView)
+  failed : (before most : ℕ) (old mid : LinkView) (p : ℕ × Packet) (fault : DeviceFault) (result : Outcome)
+      (new : LinkView)
       → may (datagram_of p.0 p.1)
       → LinkSends old.sent (datagram_of p.0 p.1) mid.sent (Err fault) → result ≡ link_outcome fault → new ≡ mid
       → Went may before (suc most) old.sent new.sent result
@@ -88,30 +91,43 @@ module _ (honest : Type 0) (is_honest : honest) (many : ℕ) (may : Datagram →
           counted : (a b : ℕ) → a + 1 + b ≡ a + suc b
           counted a b = omega arith
 
-          told : (result ≡ outcomes.Sent (before + 1 + length rest.out)) ⊎ ((fault : DeviceFault) × (result ≡ link_outcome fault))
-              → (result ≡ outcomes.Sent (before + suc (length rest.out))) ⊎ ((fault : DeviceFault) × (result ≡ link_outcome fault))
+          told : (result ≡ outcomes.Sent (before + 1 + length rest.out)) ⊎
+              ((fault : DeviceFault) × (result ≡ link_outcome fault))
+              → (result ≡ outcomes.Sent (before + suc (length rest.out))) ⊎
+              ((fault : DeviceFault) × (result ≡ link_outcome fault))
           told (inl e) = inl (e ∙ ap (λ (n : ℕ). outcomes.Sent n) (counted before (length rest.out)))
           told (inr e) = inr e
 
-      sent_one : ((n : ℕ) (mid : LinkView) → SendCalls honest many n mid packets result new → Went may n (length packets) mid.sent new.sent result)
+      sent_one : ((n : ℕ) (mid : LinkView) → SendCalls honest many n mid packets result new → Went may n
+          (length packets) mid.sent new.sent result)
           → (answer : Result (Unit {0}) DeviceFault) (mid : LinkView) → p.0 < many
           → Posts honest old p.0 p.1 answer mid
-          → MatchResult answer (λ _. SendCalls honest many (before + 1) mid packets result new) (λ fault. (result ≡ link_outcome fault) × (new ≡ mid))
+          → MatchResult answer (λ _. SendCalls honest many (before + 1) mid packets result new)
+          (λ fault. (result ≡ link_outcome fault) × (new ≡ mid))
           → Went may before (suc (length packets)) old.sent new.sent result
       sent_one again (Ok u) mid low posts k =
           more mid (all.0 low posts.fits) (posts.sent is_honest) (again (before + 1) mid k)
       sent_one again (Err fault) mid low posts k =
-          failed before (length packets) old mid p fault result new (all.0 low posts.fits) (posts.sent is_honest) k.0 k.1
+          failed before (length packets) old mid p fault result new (all.0 low posts.fits)
+          (posts.sent is_honest) k.0 k.1
 
       fewer : Went may before (length packets) old.sent new.sent result
           → Went may before (suc (length packets)) old.sent new.sent result
-      fewer rest = record { out = rest.out; sent = rest.sent; few = (let few = rest.few in omega (few, arith)); each = rest.each; told = rest.told }
+      fewer rest = record {
+        out = rest.out;
+        sent = rest.sent;
+        few = (let few = rest.few in omega (few, arith));
+        each = rest.each;
+        told = rest.told;
+      }
 
-      at : ((n : ℕ) (mid : LinkView) → SendCalls honest many n mid packets result new → Went may n (length packets) mid.sent new.sent result)
+      at : ((n : ℕ) (mid : LinkView) → SendCalls honest many n mid packets result new → Went may n
+          (length packets) mid.sent new.sent result)
           → (b : Bool) → nat_lt p.0 many ≡ b
           → MatchBool b
           ((answer : Result (Unit {0}) DeviceFault) × (mid : LinkView) × Posts honest old p.0 p.1 answer mid
-          × MatchResult answer (λ _. SendCalls honest many (before + 1) mid packets result new) (λ fault. (result ≡ link_outcome fault) × (new ≡ mid)))
+          × MatchResult answer (λ _. SendCalls honest many (before + 1) mid packets result new)
+          (λ fault. (result ≡ link_outcome fault) × (new ≡ mid)))
           (SendCalls honest many before old packets result new)
           → Went may before (suc (length packets)) old.sent new.sent result
       at again true e k = sent_one again k.0 k.1 (grind (arith, nat_tests)) k.2 k.3

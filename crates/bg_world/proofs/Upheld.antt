@@ -73,7 +73,8 @@ upholds w world =
       world = world;
       headline = headline v inv;
       agreement = agreement v inv;
-      claims = λ q. subst (λ (r : Option SavedParts). AreClaimsKept w.link.sent q (claim_in r)) (restorable_of_seat w c q) (of_seat v q inv).claims;
+      claims = λ q. subst (λ (r : Option SavedParts). AreClaimsKept w.link.sent q (claim_in r))
+          (restorable_of_seat w c q) (of_seat v q inv).claims;
       saved_alone = no_more v inv;
       packets = no_packet_refused v inv;
       slots = no_slot_refused v inv;
