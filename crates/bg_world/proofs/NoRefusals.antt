@@ -1,6 +1,7 @@
 -- No event of a reached world over honest devices comes to the refusal of a packet or a slot.
-use Rattle.std.specs.Prelude.{◌≡◌, ℕ, zero, suc, ◌<◌, Option, Some, None, Result, Ok, Err, MatchOption, IfSome, slice_get, slice_set, option_map}
+use Rattle.std.specs.Prelude.{◌≡◌, ℕ, zero, suc, ◌<◌, Option, Some, None, Result, Ok, Err, MatchOption, IfSome, slice_get, slice_set, option_map, All, List, [], ◌∷◌}
 use Rattle.std.proofs.Common.{refl, sym, ◌∙◌, ap, arith}
+use Rattle.std.proofs.lemmas.List.Elements.{All-cons, All-nil}
 use Rattle.bg_board.specs.declared.players.Player.{Player}
 use Rattle.bg_board.specs.declared.players.Player.TheVariants.{X, O}
 use Rattle.bg_match.specs.declared.actions.Action.{Action}
@@ -27,6 +28,7 @@ use Rattle.bg_world.specs.NotRefused.{IsNotRefused}
 use Rattle.bg_world.specs.Roles.{role}
 use Rattle.bg_world.specs.State.{log_of}
 use Rattle.bg_world.specs.Views.{LinkView, WorldView, parties, seat_core, seat_keeper, with_seat_core}
+use Rattle.bg_world.specs.WorldRuns.{CallsAll}
 use Rattle.bg_world.specs.WorldState.{CoresMatch, IsLogOf, IsReachedWorld, RefereeMatches, Restorable, SeatSide, referee_state, restorable_of, seat_state, state_of, watcher_log}
 use Rattle.bg_world.proofs.Invariant.{Inv}
 use Rattle.bg_world.proofs.Reached.{reached, no_packet_refused}
@@ -35,6 +37,7 @@ use Rattle.bg_world.proofs.Sides.{seat_side, slots_of_referee, slots_of_seat, ge
 use Rattle.bg_world.proofs.RefereeRefusals as at_referee
 use Rattle.bg_world.proofs.FollowerRefusals as at_follower
 use Rattle.bg_world.proofs.FineOutcomes.{named, no_hand, sends_all, saves_all, restarts_all, answers_all}
+use Rattle.bg_world.proofs.Goes.{goes}
 
 -- ---- every event
 
@@ -234,3 +237,15 @@ pub never_refused : (link_honest keepers_honest : Type 0) (old : WorldView) (eve
 never_refused link_honest keepers_honest old event result new calls link keepers before =
     event_all old before.restorable link_honest keepers_honest link keepers before.cores
     (reached (state_of old before.restorable) before.reached) event result new calls
+
+-- nor does any event of a run from there
+pub none_refused : (link_honest keepers_honest : Type 0) (old : WorldView) (events : List Event)
+    (outcomes : List Outcome) (new : WorldView) → CallsAll link_honest keepers_honest old events outcomes new
+    → link_honest → keepers_honest → IsReachedWorld old → All IsNotRefused outcomes
+none_refused link_honest keepers_honest old [] [] new calls link keepers before = All-nil IsNotRefused
+none_refused link_honest keepers_honest old [] (o ∷ os) new calls link keepers before = absurd calls
+none_refused link_honest keepers_honest old (e ∷ es) [] new calls link keepers before = absurd calls
+none_refused link_honest keepers_honest old (e ∷ es) (o ∷ os) new calls link keepers before =
+    let next = goes link_honest keepers_honest old e o calls.0 calls.1 link keepers before in
+    All-cons IsNotRefused o os (never_refused link_honest keepers_honest old e o calls.0 calls.1 link keepers before)
+    (none_refused link_honest keepers_honest calls.0 es os new calls.2 link keepers next.0)
