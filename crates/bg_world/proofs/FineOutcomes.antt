@@ -43,43 +43,52 @@ link_failed o faults.Failed e = named o outcomes.LinkFault e tt
 link_failed o faults.Memory e = named o outcomes.Memory e tt
 
 -- what is sent in a tick
-pub sends_all : (honest : Type 0) (many before : ℕ) (old : LinkView) (packets : List (ℕ × Packet)) (o : Outcome) (new : LinkView)
+pub sends_all : (honest : Type 0) (many before : ℕ) (old : LinkView) (packets : List (ℕ × Packet)) (o : Outcome)
+    (new : LinkView)
     → SendCalls honest many before old packets o new → IsNotRefused o
 sends_all honest many before old [] o new h = named o (outcomes.Sent before) h.0 tt
-sends_all honest many before old (p ∷ packets) o new h = at (λ n mid k. sends_all honest many n mid packets o new k) (nat_lt p.0 many) h
+sends_all honest many before old (p ∷ packets) o new h =
+    at (λ n mid k. sends_all honest many n mid packets o new k) (nat_lt p.0 many) h
   where
     sent_one : ((n : ℕ) (mid : LinkView) → SendCalls honest many n mid packets o new → IsNotRefused o)
         → (answer : Result (Unit {0}) DeviceFault) (mid : LinkView)
-        → MatchResult answer (λ _. SendCalls honest many (before + 1) mid packets o new) (λ fault. (o ≡ link_outcome fault) × (new ≡ mid)) → IsNotRefused o
+        → MatchResult answer (λ _. SendCalls honest many (before + 1) mid packets o new)
+        (λ fault. (o ≡ link_outcome fault) × (new ≡ mid))
+        → IsNotRefused o
     sent_one again (Ok u) mid k = again (before + 1) mid k
     sent_one again (Err x) mid k = link_failed o x k.0
 
     at : ((n : ℕ) (mid : LinkView) → SendCalls honest many n mid packets o new → IsNotRefused o) → (b : Bool)
         → MatchBool b
         ((answer : Result (Unit {0}) DeviceFault) × (mid : LinkView) × Posts honest old p.0 p.1 answer mid
-        × MatchResult answer (λ _. SendCalls honest many (before + 1) mid packets o new) (λ fault. (o ≡ link_outcome fault) × (new ≡ mid)))
+        × MatchResult answer (λ _. SendCalls honest many (before + 1) mid packets o new)
+        (λ fault. (o ≡ link_outcome fault) × (new ≡ mid)))
         (SendCalls honest many before old packets o new)
         → IsNotRefused o
     at again true k = sent_one again k.0 k.1 k.3
     at again false k = again before old k
 
 -- a save
-pub saves_all : {C : Type 0} (parts_of : C → SavedParts) (after_save : C → ℕ → C) (honest : Type 0) (old : KeeperView) (core : Option C) (o : Outcome)
+pub saves_all : {C : Type 0} (parts_of : C → SavedParts) (after_save : C → ℕ → C) (honest : Type 0)
+    (old : KeeperView) (core : Option C) (o : Outcome)
     (new : KeeperView) (after : Option C) → SaveCallsAt parts_of after_save honest old core o new after → IsNotRefused o
 saves_all {C} parts_of after_save honest old None o new after h = named o outcomes.Down h.0 tt
 saves_all {C} parts_of after_save honest old (Some core) o new after h = at h.0 h.2
   where
-    told : (save : ℕ) (answer : Result (Unit {0}) DeviceFault) → SaveTold save (after_save core save) answer o after → IsNotRefused o
+    told : (save : ℕ) (answer : Result (Unit {0}) DeviceFault) → SaveTold save (after_save core save) answer o after
+        → IsNotRefused o
     told save (Ok u) k = named o (outcomes.Saved save) k.0 tt
     told save (Err x) k = named o outcomes.SaveFault k.0 tt
 
-    at : (next : Result (Slot × ℕ × Vec ℕ) SaveRefusal) → SaveGoesOn after_save honest old core next o new after → IsNotRefused o
+    at : (next : Result (Slot × ℕ × Vec ℕ) SaveRefusal) → SaveGoesOn after_save honest old core next o new after
+        → IsNotRefused o
     at (Ok s) k = told s.1 k.0 k.2
     at (Err SavesSpent) k = named o outcomes.SavesSpent k.0 tt
     at (Err Memory) k = named o outcomes.Memory k.0 tt
 
 -- a restart
-comes_up : {C : Type 0} (found : Option SavedParts) (resumed : Saved → C) (fresh : C) (answer : Result (Option Saved) Outcome) (o : Outcome) (core : Option C)
+comes_up : {C : Type 0} (found : Option SavedParts) (resumed : Saved → C) (fresh : C)
+    (answer : Result (Option Saved) Outcome) (o : Outcome) (core : Option C)
     → IsReread found answer → ComesUp resumed fresh answer o core → IsNotRefused o
 comes_up {C} found resumed fresh answer o core h up = at h
   where
@@ -87,27 +96,32 @@ comes_up {C} found resumed fresh answer o core h up = at h
     at (given s e f) = let k = subst (λ (x : Result (Option Saved) Outcome). ComesUp resumed fresh x o core) f up in named o outcomes.Restarted k.0 tt
     at (empty e f) = let k = subst (λ (x : Result (Option Saved) Outcome). ComesUp resumed fresh x o core) f up in named o outcomes.Restarted k.0 tt
     at (not_read f) =
-        let k = subst (λ (x : Result (Option Saved) Outcome). ComesUp resumed fresh x o core) f up in named o (outcomes.RestoreFault causes.Device) k.0 tt
+        let k = subst (λ (x : Result (Option Saved) Outcome). ComesUp resumed fresh x o core) f up in named o
+        (outcomes.RestoreFault causes.Device) k.0 tt
     at (no_memory f) = let k = subst (λ (x : Result (Option Saved) Outcome). ComesUp resumed fresh x o core) f up in named o outcomes.Memory k.0 tt
 
-pub restarts_all : {C : Type 0} (resumed : Saved → C) (fresh : C) (honest : Type 0) → honest → (id : ℕ) (terms : Terms) (party : ℕ) (old new : KeeperView)
+pub restarts_all : {C : Type 0} (resumed : Saved → C) (fresh : C) (honest : Type 0) → honest
+    → (id : ℕ) (terms : Terms) (party : ℕ) (old new : KeeperView)
     (found : Option SavedParts) → SlotsOk id terms party old.slots found → (o : Outcome) (core : Option C)
     → RestartCallsAt resumed fresh honest party id terms old o new core → IsNotRefused o
 restarts_all {C} resumed fresh honest is_honest id terms party old new found ok o core h =
     comes_up found resumed fresh h.0 o core (rereads id terms party found honest is_honest old new h.0 ok h.1).0 h.2
 
 -- an answer of the referee
-pub answers_all : (honest : Type 0) (many : ℕ) (mid n : LinkView) (t : TakeOutcome) (o : Outcome) → IsNotRefusedByReferee t → AnswerCalls honest many mid t o n
+pub answers_all : (honest : Type 0) (many : ℕ) (mid n : LinkView) (t : TakeOutcome) (o : Outcome)
+    → IsNotRefusedByReferee t → AnswerCalls honest many mid t o n
     → IsNotRefused o
 answers_all honest many mid n (takes.Answer to p) o h a = at (nat_lt to many) a
   where
-    told : (answer : Result (Unit {0}) DeviceFault) → ComesTo (outcomes.Took (takes.Answer to p)) answer o → IsNotRefused o
+    told : (answer : Result (Unit {0}) DeviceFault) → ComesTo (outcomes.Took (takes.Answer to p)) answer o
+        → IsNotRefused o
     told (Ok u) e = named o (outcomes.Took (takes.Answer to p)) e tt
     told (Err x) e = link_failed o x e
 
     at : (b : Bool)
         → MatchBool b
-        ((answer : Result (Unit {0}) DeviceFault) × Posts honest mid to p answer n × ComesTo (outcomes.Took (takes.Answer to p)) answer o)
+        ((answer : Result (Unit {0}) DeviceFault) × Posts honest mid to p answer n
+        × ComesTo (outcomes.Took (takes.Answer to p)) answer o)
         ((o ≡ outcomes.Took (takes.Answer to p)) × (n ≡ mid)) → IsNotRefused o
     at true k = told k.0 k.2
     at false k = named o (outcomes.Took (takes.Answer to p)) k.0 tt

@@ -20,14 +20,16 @@ use Rattle.bg_world.specs.State.{State, log_of}
 use Rattle.bg_world.specs.WorldState.{IsLogOf}
 
 legal_take : (m : Terms) (n : ℕ) (entries : List Entry) → IsLegalRecord m entries → IsLegalRecord m (take n entries)
-legal_take m n entries h = legal_fronts m (take n entries) (drop n entries) (subst (IsLegalRecord m) (sym (take-append-drop n entries)) h)
+legal_take m n entries h =
+    legal_fronts m (take n entries) (drop n entries) (subst (IsLegalRecord m) (sym (take-append-drop n entries)) h)
 
 sound_id : (v : State) (p : Packet) → IsSound v p → id_of p ≡ v.id
 sound_id v (packet.Want id sender held) h = h.0
 sound_id v (packet.Claim id sender n a) h = h.0
 sound_id v (packet.Entries id start list) h = h.0
 
-module _ (v : State) (refused : IsNoPacketRefused v) (party : ℕ) (f : FollowerView) (above : 0 < party) (some : log_of v party ≡ Some f.log.entries)
+module _ (v : State) (refused : IsNoPacketRefused v) (party : ℕ) (f : FollowerView) (above : 0 < party)
+    (some : log_of v party ≡ Some f.log.entries)
     (of : IsLogOf v.id v.terms f.log) where
   pub not_refused : (p : Packet) (l : Learned) → WasSent v.sent party p → Learns f p l → IsNotRefusedByFollower l
   not_refused p learned.OtherMatch came h = absurd (h (sound_id v p (refused.sound party p came) ∙ sym of.0))
@@ -43,8 +45,10 @@ module _ (v : State) (refused : IsNoPacketRefused v) (party : ℕ) (f : Follower
   not_refused (packet.Claim id sender m a) (learned.Illegal n) came h = let no = h.1 in absurd cc
   not_refused (packet.Entries id start list) (learned.Illegal n) came h =
       let legal = refused.entries.follow party f.log.entries party id start list above some came h.1.0.1 in
-      let there = subst (λ (m : Terms). IsLegalRecord m (f.log.entries ++ new_entries f.log.entries start list)) (sym of.1) legal in
-      absurd (h.1.1.illegal (legal_take f.log.terms n (f.log.entries ++ new_entries f.log.entries start list) there))
+      let there = subst (λ (m : Terms). IsLegalRecord m (f.log.entries ++ new_entries f.log.entries start list))
+      (sym of.1) legal in
+      absurd (h.1.1.illegal (legal_take f.log.terms n
+      (f.log.entries ++ new_entries f.log.entries start list) there))
   not_refused p learned.Nothing came h = tt
   not_refused p learned.Gap came h = tt
   not_refused p learned.Memory came h = tt

@@ -11,12 +11,14 @@ use Rattle.bg_world.specs.declared.runs.RunReport.{RunReport}
 use Rattle.bg_world.specs.Calls.{Calls, RestartCalls, SaveCalls, TakeCalls, TickCalls}
 use Rattle.bg_world.specs.Roles.{role}
 use Rattle.bg_world.specs.Runs.{Run}
+use Rattle.bg_world.specs.Step.{Step}
 use Rattle.bg_world.specs.Views.{WorldView}
 use Rattle.bg_world.specs.WorldRuns.{CallsAll, RunsAll, RunsCalls, RunsProtocol, StepsProtocol}
 use Rattle.bg_world.specs.WorldState.{CoresMatch, IsReachedWorld, Restorable, state_of}
 use Rattle.bg_world.proofs.Invariant.{Inv}
 use Rattle.bg_world.proofs.Reached.{reached, reached_more}
-use Rattle.bg_world.proofs.RefereeRows.{due_goes, take_referee_goes}
+use Rattle.bg_world.proofs.DueRows.{due_goes}
+use Rattle.bg_world.proofs.RefereeRows.{take_referee_goes}
 use Rattle.bg_world.proofs.FollowerRows.{take_seat_goes, take_watcher_goes}
 use Rattle.bg_world.proofs.ChooseRows.{choose_goes}
 use Rattle.bg_world.proofs.SaveRows.{save_referee_goes, save_seat_goes}
@@ -27,50 +29,64 @@ use Rattle.bg_world.proofs.Sides.{StepsTo, goes_at}
 watching : (i : ℕ) → suc (suc (suc i)) ≡ first_watcher + i
 watching i = omega arith
 
-module _ (w : WorldView) (c : Restorable) (link_honest keepers_honest : Type 0) (link : link_honest) (keepers : keepers_honest)
+module _ (w : WorldView) (c : Restorable) (link_honest keepers_honest : Type 0) (link : link_honest)
+    (keepers : keepers_honest)
     (fits : CoresMatch w c) (inv : Inv (state_of w c)) where
-  take_goes : (party pick word : ℕ) (o : Outcome) (new : WorldView) → TakeCalls link_honest w (role party) party pick word o new
-      → StepsTo w c (events.Take party pick word) o new
+  -- what the slots restore stays
+  stays : (e : Event) (o : Outcome) (new : WorldView) → Step (state_of w c) e o (state_of new c) × CoresMatch new c
+      → StepsTo w c e o new
+  stays e o new h = record { restorable = c; step = h.0; cores = h.1 }
+
+  -- the slots restore this then
+  leaves : (e : Event) (o : Outcome) (new : WorldView)
+      → (d : Restorable) × Step (state_of w c) e o (state_of new d) × CoresMatch new d → StepsTo w c e o new
+  leaves e o new h = record { restorable = h.0; step = h.1; cores = h.2 }
+
+  take_goes : (party pick word : ℕ) (o : Outcome) (new : WorldView)
+      → TakeCalls link_honest w (role party) party pick word o new → StepsTo w c (events.Take party pick word) o new
   take_goes zero pick word o new h = take_referee_goes w c link_honest link 0 pick word o new fits inv h
   take_goes (suc zero) pick word o new h =
-      let t = take_seat_goes w c link_honest link X pick word o new fits h in record { restorable = c; step = t.0; cores = t.1 }
+      stays (events.Take 1 pick word) o new (take_seat_goes w c link_honest link X pick word o new fits h)
   take_goes (suc (suc zero)) pick word o new h =
-      let t = take_seat_goes w c link_honest link O pick word o new fits h in record { restorable = c; step = t.0; cores = t.1 }
+      stays (events.Take 2 pick word) o new (take_seat_goes w c link_honest link O pick word o new fits h)
   take_goes (suc (suc (suc i))) pick word o new h =
-      let t = take_watcher_goes w c link_honest link i (suc (suc (suc i))) pick word o new (watching i) fits h in
-      record { restorable = c; step = t.0; cores = t.1 }
+      stays (events.Take (suc (suc (suc i))) pick word) o new
+      (take_watcher_goes w c link_honest link i (suc (suc (suc i))) pick word o new (watching i) fits h)
 
-  save_goes : (party : ℕ) (o : Outcome) (new : WorldView) → SaveCalls keepers_honest w (role party) o new → StepsTo w c (events.Save party) o new
+  save_goes : (party : ℕ) (o : Outcome) (new : WorldView) → SaveCalls keepers_honest w (role party) o new
+      → StepsTo w c (events.Save party) o new
   save_goes zero o new h = save_referee_goes w c keepers_honest keepers o new fits inv h
   save_goes (suc zero) o new h =
-      let t = save_seat_goes w c keepers_honest keepers X o new fits inv h in record { restorable = t.0; step = t.1; cores = t.2 }
+      leaves (events.Save 1) o new (save_seat_goes w c keepers_honest keepers X o new fits inv h)
   save_goes (suc (suc zero)) o new h =
-      let t = save_seat_goes w c keepers_honest keepers O o new fits inv h in record { restorable = t.0; step = t.1; cores = t.2 }
+      leaves (events.Save 2) o new (save_seat_goes w c keepers_honest keepers O o new fits inv h)
   save_goes (suc (suc (suc i))) o new h =
-      goes_at w c (events.Save (suc (suc (suc i)))) o outcomes.NoSuchParty new w h.0 h.1 (record { restorable = c; step = (refl, refl); cores = fits })
+      goes_at w c (events.Save (suc (suc (suc i)))) o outcomes.NoSuchParty new w h.0 h.1
+      (record { restorable = c; step = (refl, refl); cores = fits })
 
-  tick_goes : (party : ℕ) (o : Outcome) (new : WorldView) → TickCalls link_honest w (role party) o new → StepsTo w c (events.Tick party) o new
+  tick_goes : (party : ℕ) (o : Outcome) (new : WorldView) → TickCalls link_honest w (role party) o new
+      → StepsTo w c (events.Tick party) o new
   tick_goes zero o new h = tick_referee_goes w c link_honest link o new fits h
-  tick_goes (suc zero) o new h =
-      let t = tick_seat_goes w c link_honest link X o new fits h in record { restorable = c; step = t.0; cores = t.1 }
+  tick_goes (suc zero) o new h = stays (events.Tick 1) o new (tick_seat_goes w c link_honest link X o new fits h)
   tick_goes (suc (suc zero)) o new h =
-      let t = tick_seat_goes w c link_honest link O o new fits h in record { restorable = c; step = t.0; cores = t.1 }
+      stays (events.Tick 2) o new (tick_seat_goes w c link_honest link O o new fits h)
   tick_goes (suc (suc (suc i))) o new h =
-      let t = tick_watcher_goes w c link_honest link i o new fits h in record { restorable = c; step = t.0; cores = t.1 }
+      stays (events.Tick (suc (suc (suc i)))) o new (tick_watcher_goes w c link_honest link i o new fits h)
 
-  restart_goes : (party : ℕ) (o : Outcome) (new : WorldView) → RestartCalls keepers_honest w (role party) party o new
-      → StepsTo w c (events.Restart party) o new
+  restart_goes : (party : ℕ) (o : Outcome) (new : WorldView)
+      → RestartCalls keepers_honest w (role party) party o new → StepsTo w c (events.Restart party) o new
   restart_goes zero o new h =
-      let t = restart_referee_goes w c keepers_honest keepers o new fits inv h in record { restorable = c; step = t.0; cores = t.1 }
+      stays (events.Restart 0) o new (restart_referee_goes w c keepers_honest keepers o new fits inv h)
   restart_goes (suc zero) o new h =
-      let t = restart_seat_goes w c keepers_honest keepers X o new fits inv h in record { restorable = c; step = t.0; cores = t.1 }
+      stays (events.Restart 1) o new (restart_seat_goes w c keepers_honest keepers X o new fits inv h)
   restart_goes (suc (suc zero)) o new h =
-      let t = restart_seat_goes w c keepers_honest keepers O o new fits inv h in record { restorable = c; step = t.0; cores = t.1 }
+      stays (events.Restart 2) o new (restart_seat_goes w c keepers_honest keepers O o new fits inv h)
   restart_goes (suc (suc (suc i))) o new h =
-      let t = restart_watcher_goes w c keepers_honest i (suc (suc (suc i))) o new (watching i) fits h in
-      record { restorable = c; step = t.0; cores = t.1 }
+      stays (events.Restart (suc (suc (suc i)))) o new
+      (restart_watcher_goes w c keepers_honest i (suc (suc (suc i))) o new (watching i) fits h)
 
-  step_goes : (e : Event) (o : Outcome) (new : WorldView) → Calls link_honest keepers_honest w e o new → StepsTo w c e o new
+  step_goes : (e : Event) (o : Outcome) (new : WorldView) → Calls link_honest keepers_honest w e o new
+      → StepsTo w c e o new
   step_goes (events.Due word) o new h = due_goes w c word o new fits h
   step_goes (events.Take party pick word) o new h = take_goes party pick word o new h
   step_goes (events.Choose player action) o new h = choose_goes w c player action o new fits h
@@ -79,11 +95,14 @@ module _ (w : WorldView) (c : Restorable) (link_honest keepers_honest : Type 0) 
   step_goes (events.Restart party) o new h = restart_goes party o new h
 
 -- one event
-pub goes : (link_honest keepers_honest : Type 0) (old : WorldView) (event : Event) (result : Outcome) (new : WorldView)
-    → Calls link_honest keepers_honest old event result new → link_honest → keepers_honest → StepsProtocol old event result new
+pub goes : (link_honest keepers_honest : Type 0) (old : WorldView) (event : Event) (result : Outcome)
+    (new : WorldView)
+    → Calls link_honest keepers_honest old event result new → link_honest → keepers_honest
+    → StepsProtocol old event result new
 goes link_honest keepers_honest old event result new calls link keepers before =
     let w = state_of old before.restorable in
-    let to = step_goes old before.restorable link_honest keepers_honest link keepers before.cores (reached w before.reached) event result new calls in (
+    let to = step_goes old before.restorable link_honest keepers_honest link keepers before.cores
+    (reached w before.reached) event result new calls in (
       record {
         restorable = to.restorable;
         reached = reached_more w event result (state_of new to.restorable) before.reached to.step;
@@ -93,10 +112,13 @@ goes link_honest keepers_honest old event result new calls link keepers before =
     )
 
 -- all events, one after the other
-pub runs_protocol : (link_honest keepers_honest : Type 0) (old : WorldView) (events : List Event) (outcomes : List Outcome) (new : WorldView)
-    → CallsAll link_honest keepers_honest old events outcomes new → link_honest → keepers_honest → RunsProtocol old events outcomes new
+pub runs_protocol : (link_honest keepers_honest : Type 0) (old : WorldView) (events : List Event)
+    (outcomes : List Outcome) (new : WorldView)
+    → CallsAll link_honest keepers_honest old events outcomes new → link_honest → keepers_honest
+    → RunsProtocol old events outcomes new
 runs_protocol link_honest keepers_honest old [] [] new calls link keepers before =
-    subst (λ (w : WorldView). (after : IsReachedWorld w) × Run (state_of old before.restorable) [] (state_of w after.restorable)) (sym calls) (before, refl)
+    subst (λ (w : WorldView). (after : IsReachedWorld w)
+    × Run (state_of old before.restorable) [] (state_of w after.restorable)) (sym calls) (before, refl)
 runs_protocol link_honest keepers_honest old [] (o ∷ os) new calls link keepers before = absurd calls
 runs_protocol link_honest keepers_honest old (e ∷ es) [] new calls link keepers before = absurd calls
 runs_protocol link_honest keepers_honest old (e ∷ es) (o ∷ os) new calls link keepers before =
@@ -105,8 +127,10 @@ runs_protocol link_honest keepers_honest old (e ∷ es) (o ∷ os) new calls lin
     (rest.0, (state_of calls.0 (first.0).restorable, first.1, rest.1))
 
 -- the same of the calls that a report counts
-pub runs_all : (link_honest keepers_honest : Type 0) (old : WorldView) (events : List Event) (report : RunReport) (new : WorldView)
-    → RunsCalls link_honest keepers_honest old events report new → RunsAll link_honest keepers_honest old events report new
+pub runs_all : (link_honest keepers_honest : Type 0) (old : WorldView) (events : List Event) (report : RunReport)
+    (new : WorldView)
+    → RunsCalls link_honest keepers_honest old events report new
+    → RunsAll link_honest keepers_honest old events report new
 runs_all link_honest keepers_honest old events report new h = record {
   outcomes = h.outcomes;
   calls = h.calls;

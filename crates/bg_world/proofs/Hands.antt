@@ -24,7 +24,8 @@ pub data IsEmptyHand (o : Outcome) : Type 0 where
   nothing : o ≡ outcomes.NoDatagram → IsEmptyHand o
   no_packet : (why : WireFault) → o ≡ outcomes.NotAPacket why → IsEmptyHand o
 
-pub empty_hand : (taken : Result (Option (ArrayVec ℕ)) DeviceFault) (o : Outcome) → IsHand taken (Err o) → IsEmptyHand o
+pub empty_hand : (taken : Result (Option (ArrayVec ℕ)) DeviceFault) (o : Outcome) → IsHand taken (Err o)
+    → IsEmptyHand o
 empty_hand (Err faults.Failed) o h = fault h
 empty_hand (Err faults.Memory) o h = memory h
 empty_hand (Ok None) o h = nothing h
@@ -44,7 +45,8 @@ grows_none may most w v e = record {
   after = e ∙ ap (λ (l : List Datagram). record w { sent = l }) (sym (append-nil w.sent));
 }
 
-pub grows_one : (may : Datagram → Type 0) (most : ℕ) (w v : State) (d : Datagram) → 1 ≤ most → may d → v ≡ record w { sent = w.sent ++ d ∷ [] } → SendsAtMost may most w v
+pub grows_one : (may : Datagram → Type 0) (most : ℕ) (w v : State) (d : Datagram) → 1 ≤ most → may d
+    → v ≡ record w { sent = w.sent ++ d ∷ [] } → SendsAtMost may most w v
 grows_one may most w v d one h e = record {
   out = d ∷ [];
   few = one;

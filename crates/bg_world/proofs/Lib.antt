@@ -11,7 +11,9 @@ pub mod KeptTexts
 pub mod Running
 pub mod Sides
 pub mod Hands
+pub mod DueRows
 pub mod RefereeRows
+pub mod LearnRows
 pub mod FollowerRows
 pub mod ChooseRows
 pub mod SaveCases

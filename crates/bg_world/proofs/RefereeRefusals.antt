@@ -25,7 +25,8 @@ use Rattle.bg_world.specs.Refusals.{IsNoPacketRefused}
 use Rattle.bg_world.specs.State.{State}
 use Rattle.bg_world.specs.WorldState.{IsLogOf}
 
-module _ (v : State) (refused : IsNoPacketRefused v) (r r' : RefereeView) (log : IsLogOf v.id v.terms r.log) (entries : r.log.entries ≡ v.referee.log) (saved : r.saved ≡ v.referee.saved) (word : ℕ) where
+module _ (v : State) (refused : IsNoPacketRefused v) (r r' : RefereeView) (log : IsLogOf v.id v.terms r.log)
+    (entries : r.log.entries ≡ v.referee.log) (saved : r.saved ≡ v.referee.saved) (word : ℕ) where
   said : (what t : TakeOutcome) → IsNotRefusedByReferee what → (t ≡ what) × (r' ≡ r) → IsNotRefusedByReferee t
   said what t h k = subst IsNotRefusedByReferee (sym k.0) h
 
@@ -36,7 +37,8 @@ module _ (v : State) (refused : IsNoPacketRefused v) (r r' : RefereeView) (log :
   of_match : (id : ℕ) → id ≡ v.id → id ≡ r.log.id
   of_match id e = e ∙ sym log.0
 
-  to_want : (sender held : ℕ) (t : TakeOutcome) → held ≤ v.referee.saved → Replies r word (reply_to_want r sender held) t r' → IsNotRefusedByReferee t
+  to_want : (sender held : ℕ) (t : TakeOutcome) → held ≤ v.referee.saved
+      → Replies r word (reply_to_want r sender held) t r' → IsNotRefusedByReferee t
   to_want sender held t low h =
       elim (either r r' word (nat_lt held r.saved) _ _ t h) [
         | inl a ↦ shown sender (held + 1) t a.1
@@ -46,7 +48,9 @@ module _ (v : State) (refused : IsNoPacketRefused v) (r r' : RefereeView) (log :
         ]
       ]
 
-  comes : (action : Action) (id sender n : ℕ) (t : TakeOutcome) → WasSent v.sent referee (packet.Claim id sender n action) → n ≡ length v.referee.log + 1 → ComesOf r action (dice_of word) t r' → IsNotRefusedByReferee t
+  comes : (action : Action) (id sender n : ℕ) (t : TakeOutcome)
+      → WasSent v.sent referee (packet.Claim id sender n action) → n ≡ length v.referee.log + 1
+      → ComesOf r action (dice_of word) t r' → IsNotRefusedByReferee t
   comes action id sender n takes.WordRefused came next h = tt
   comes action id sender n takes.Memory came next h = tt
   comes action id sender n (takes.Accepted k) came next h = tt
@@ -66,18 +70,23 @@ module _ (v : State) (refused : IsNoPacketRefused v) (r r' : RefereeView) (log :
   off false h = refl
 
   -- who sends the next claim is on turn
-  on_turn : (actor : Actor) (id sender n : ℕ) (action : Action) → ActsAfter r.log.terms r.log.entries actor → WasSent v.sent referee (packet.Claim id sender n action) → n ≡ length v.referee.log + 1 → is_on_turn actor sender ≡ true
+  on_turn : (actor : Actor) (id sender n : ℕ) (action : Action) → ActsAfter r.log.terms r.log.entries actor
+      → WasSent v.sent referee (packet.Claim id sender n action) → n ≡ length v.referee.log + 1
+      → is_on_turn actor sender ≡ true
   on_turn actor id sender n action acts came next =
       let turn = refused.claims.turn id sender n action came next in
       let there : ActsAfter r.log.terms r.log.entries (Seat turn.0) =
-      subst (λ (x : List Entry). ActsAfter r.log.terms x (Seat turn.0)) (sym entries) (subst (λ (m : Terms). ActsAfter m v.referee.log (Seat turn.0)) (sym log.1) turn.2) in
+      subst (λ (x : List Entry). ActsAfter r.log.terms x (Seat turn.0)) (sym entries)
+      (subst (λ (m : Terms). ActsAfter m v.referee.log (Seat turn.0)) (sym log.1) turn.2) in
       let same : actor ≡ Seat turn.0 = one_actor r.log.terms r.log.entries actor (Seat turn.0) acts there in
-      ap (λ (a : Actor). is_on_turn a sender) same ∙ ap (λ (s : ℕ). s == party_of turn.0) turn.1 ∙ equal (party_of turn.0)
+      ap (λ (a : Actor). is_on_turn a sender) same ∙ ap (λ (s : ℕ). s == party_of turn.0) turn.1
+      ∙ equal (party_of turn.0)
     where
       equal : (k : ℕ) → (k == k) ≡ true
       equal k = grind (arith, nat_tests)
 
-  to_claim : (actor : Actor) (id sender n : ℕ) (action : Action) (t : TakeOutcome) → ActsAfter r.log.terms r.log.entries actor → WasSent v.sent referee (packet.Claim id sender n action)
+  to_claim : (actor : Actor) (id sender n : ℕ) (action : Action) (t : TakeOutcome)
+      → ActsAfter r.log.terms r.log.entries actor → WasSent v.sent referee (packet.Claim id sender n action)
       → Replies r word (reply_to_claim r actor sender n action) t r' → IsNotRefusedByReferee t
   to_claim actor id sender n action t acts came h =
       let high = refused.claims.not_ahead id sender n action came in
@@ -92,14 +101,16 @@ module _ (v : State) (refused : IsNoPacketRefused v) (r r' : RefereeView) (log :
                 let above = b.0 in
                 let next : n ≡ length v.referee.log + 1 = grind (arith, nat_tests) in
                 elim (either r r' word (not (is_on_turn actor sender)) _ _ t d.1) [
-                  | inl e ↦ (let on = on_turn actor id sender n action acts came next in let not_on = off (is_on_turn actor sender) e.0 in absurd cc)
+                  | inl e ↦ (let on = on_turn actor id sender n action acts came next in let not_on = off
+                      (is_on_turn actor sender) e.0 in absurd cc)
                   | inr e ↦ comes action id sender n t came next e.1
                 ])
           ]
         ]
       ]
 
-  pub not_refused : (p : Packet) (t : TakeOutcome) → WasSent v.sent referee p → Takes r p word t r' → IsNotRefusedByReferee t
+  pub not_refused : (p : Packet) (t : TakeOutcome) → WasSent v.sent referee p → Takes r p word t r'
+      → IsNotRefusedByReferee t
   not_refused (packet.Want id sender held) t came h =
       let sound = refused.sound referee (packet.Want id sender held) came in
       elim (either r r' word (id == r.log.id) _ _ t h.2) [

@@ -1,7 +1,7 @@
--- The referee's calls are rows of the protocol: opening a game, and taking a packet.
+-- The referee's take of a packet is a row of the protocol.
 use Rattle.std.specs.Prelude.{◌≡◌, ◌⊎◌, ℕ, ◌<◌, Bool, true, false, List, [], ◌∷◌, ◌++◌, Option, Some, None, Result, Ok, Err, nat_lt}
 use Rattle.std.specs.Bool.{MatchBool}
-use Rattle.std.proofs.Common.{refl, sym, ◌∙◌, ap, ap₂, subst, inl, inr, arith}
+use Rattle.std.proofs.Common.{refl, sym, ◌∙◌, ap, subst, inl, inr, arith}
 use Rattle.std.proofs.lemmas.Bool.Decides.{nat_tests}
 use Rattle.std.proofs.lemmas.List.{length-map}
 use Rattle.bg_board.specs.declared.players.Player.{Player}
@@ -13,13 +13,10 @@ use Rattle.bg_wire.specs.declared.packets.Packet.{Packet}
 use Rattle.bg_wire.specs.declared.packets.Packet.TheVariants as packet
 use Rattle.bg_wire.specs.PacketText.{IsPacket}
 use Rattle.bg_wire.specs.Parties.{party_of}
-use Rattle.bg_wire.specs.SavedText.{SavedParts}
-use Rattle.bg_referee.specs.declared.outcomes.DueFault.{DueFault}
 use Rattle.bg_referee.specs.declared.outcomes.TakeOutcome.{TakeOutcome}
 use Rattle.bg_referee.specs.declared.outcomes.TakeOutcome.TheVariants as takes
-use Rattle.bg_referee.specs.Dues.{IsDue, RefereeDues}
 use Rattle.bg_referee.specs.Claims.{Grants, IsAccepted}
-use Rattle.bg_referee.specs.Referee.{Appends, RefereeView}
+use Rattle.bg_referee.specs.Referee.{RefereeView}
 use Rattle.bg_referee.specs.Takes.{IsSentBy, RefereeTakes, TellsSaved}
 use Rattle.bg_world.specs.declared.devices.DeviceFault.{DeviceFault}
 use Rattle.bg_world.specs.declared.devices.DeviceFault.TheVariants as faults
@@ -27,13 +24,11 @@ use Rattle.bg_world.specs.declared.events.Event.TheVariants as events
 use Rattle.bg_world.specs.declared.events.Outcome.{Outcome}
 use Rattle.bg_world.specs.declared.events.Outcome.TheVariants as outcomes
 use Rattle.bg_world.specs.declared.roles.Role.TheVariants as roles
-use Rattle.bg_world.specs.State.{State}
-use Rattle.bg_world.specs.WorldState.{CoresMatch, RefereeMatches, Restorable, referee_state, state_of, watcher_log}
+use Rattle.bg_world.specs.WorldState.{CoresMatch, RefereeMatches, Restorable, state_of, watcher_log}
 use Rattle.bg_world.specs.Datagrams.{WasSent}
 use Rattle.bg_world.specs.LinkCalls.{AnswerCalls, ComesTo, RefereeHandles, RefereeTakeCalls}
-use Rattle.bg_world.specs.DueStep.{DueStep, with_entry}
 use Rattle.bg_world.specs.RefereeTakeStep.{AcceptsNone, IsOfSaved, RefereeTakeStep, ReplyStep, ShowsSaved}
-use Rattle.bg_world.specs.Calls.{DueCalls, TakeCalls}
+use Rattle.bg_world.specs.Calls.{TakeCalls}
 use Rattle.bg_world.specs.Views.{LinkView, WorldView, parties}
 use Rattle.bg_world.specs.Refusals.{IsSound}
 use Rattle.bg_world.specs.Frames.{SendsAtMost}
@@ -42,77 +37,43 @@ use Rattle.bg_world.specs.Devices.{Sends as LinkSends}
 use Rattle.bg_world.proofs.Invariant.{Inv}
 use Rattle.bg_world.proofs.Hands.{IsEmptyHand, fault, memory, nothing, no_packet, empty_hand, carries, grows_none, grows_one}
 use Rattle.bg_world.proofs.Sides.{StepsTo, goes_at}
+use Rattle.bg_world.proofs.DueRows.{at_referee, referee_grew, same_state, grown_state}
 
--- ---- a referee that grew
+-- the referee takes what is in hand, and leaves this list and this referee
+abbrev TakesTo : WorldView → Restorable → ℕ → RefereeView → Outcome → List Datagram → RefereeView → Type 0
+TakesTo w c word r o sent r' = RefereeTakeStep (at_referee w c w.link.sent r) word o (at_referee w c sent r')
 
-referee_grew : (id : ℕ) (terms : Terms) (found : Option SavedParts) (r : RefereeView) (e : Entry) (r' : RefereeView) → Appends r e r' → RefereeMatches id terms found r → RefereeMatches id terms found r'
-referee_grew id terms found r e r' a fits = record {
-  log = (ap (λ (x : RefereeView). x.log.id) a.grown ∙ fits.log.0, ap (λ (x : RefereeView). x.log.terms) a.grown ∙ fits.log.1);
-  next = ap (λ (x : RefereeView). x.next_save) a.grown ∙ fits.next;
-}
-
--- the state with this list, and a referee that is up
-abbrev at_referee : WorldView → Restorable → List Datagram → RefereeView → State
-at_referee w c sent r = record (state_of w c) { sent = sent; referee = referee_state (Some r) w.referee_keeper.slots c.referee }
-
-same_state : (w : WorldView) (c : Restorable) (sent new : List Datagram) (r r' : RefereeView) → new ≡ sent → r' ≡ r → at_referee w c new r' ≡ at_referee w c sent r
-same_state w c sent new r r' e f = ap₂ (at_referee w c) e f
-
-grown_state : (w : WorldView) (c : Restorable) (sent new : List Datagram) (r r' : RefereeView) (e : Entry) → new ≡ sent → Appends r e r' → at_referee w c new r' ≡ with_entry (at_referee w c sent r) e
-grown_state w c sent new r r' e same a = ap₂ (at_referee w c) same a.grown
-
--- ---- Due
-
-module _ (w : WorldView) (c : Restorable) (word : ℕ) where
-  due_told : (r r' : RefereeView) (told : Result ℕ DueFault) → RefereeMatches w.id w.terms c.referee r → RefereeDues r word told r'
-      → DueStep (at_referee w c w.link.sent r) word (outcomes.Due told) (at_referee w c w.link.sent r') × RefereeMatches w.id w.terms c.referee r'
-  due_told r r' (Ok n) fits h =
-      let d = h.dues in (
-        (d.1.0, subst (λ (m : Terms). IsDue m r.log.entries word d.1.0) fits.log.1 d.1.1, grown_state w c w.link.sent w.link.sent r r' d.1.0 refl d.1.2, d.0),
-        referee_grew w.id w.terms c.referee r d.1.0 r' d.1.2 fits,
-      )
-  due_told r r' (Err f) fits h =
-      let d = h.dues in (
-        (λ aside e o. h.only aside e (subst (λ (m : Terms). IsDue m r.log.entries word e) (sym fits.log.1) o), same_state w c w.link.sent w.link.sent r r' refl d.1),
-        subst (RefereeMatches w.id w.terms c.referee) (sym d.1) fits,
-      )
-
-  pub due_goes : (o : Outcome) (new : WorldView) → CoresMatch w c → DueCalls w word o new → StepsTo w c (events.Due word) o new
-  due_goes o new fits h = at w.referee fits h
-    where
-      at : (r : Option RefereeView) → CoresMatch (record w { referee = r }) c → DueCalls (record w { referee = r }) word o new → StepsTo (record w { referee = r }) c (events.Due word) o new
-      at None f k =
-          goes_at (record w { referee = None }) c (events.Due word) o outcomes.Down new (record w { referee = None }) k.0 k.1
-          (record { restorable = c; step = (refl, refl); cores = f })
-      at (Some r) f k =
-          let t = due_told r k.1 k.0 f.referee.1 k.2 in
-          goes_at (record w { referee = Some r }) c (events.Due word) o (outcomes.Due k.0) new (record w { referee = Some k.1 }) k.3 k.4
-          (record { restorable = c; step = t.0; cores = record { referee = (f.referee.0, t.1); x = f.x; o = f.o; watchers = f.watchers } })
-
--- ---- Take
-
-module _ (w : WorldView) (c : Restorable) (word : ℕ) (r : RefereeView) (fits : RefereeMatches w.id w.terms c.referee r) (inv : Inv (at_referee w c w.link.sent r)) where
-  Told_as : Outcome → List Datagram → RefereeView → Type 0
-  Told_as o sent r' = RefereeTakeStep (at_referee w c w.link.sent r) word o (at_referee w c sent r') × RefereeMatches w.id w.terms c.referee r'
-
+module _ (w : WorldView) (c : Restorable) (word : ℕ) (r : RefereeView)
+    (fits : RefereeMatches w.id w.terms c.referee r)
+    (inv : Inv (at_referee w c w.link.sent r)) where
   fits_same : (r' : RefereeView) → r' ≡ r → RefereeMatches w.id w.terms c.referee r'
   fits_same r' e = subst (RefereeMatches w.id w.terms c.referee) (sym e) fits
 
   -- nothing was in hand
-  nothing_taken : (o : Outcome) (sent : List Datagram) (r' : RefereeView) → IsEmptyHand o → sent ≡ w.link.sent → r' ≡ r → Told_as o sent r'
-  unfolding Told_as
-  nothing_taken o sent r' (fault e) s f = (subst (λ (x : Outcome). RefereeTakeStep (at_referee w c w.link.sent r) word x (at_referee w c sent r')) (sym e) (grows_none _ 1 _ _ (same_state w c w.link.sent sent r r' s f)), fits_same r' f)
-  nothing_taken o sent r' (memory e) s f = (subst (λ (x : Outcome). RefereeTakeStep (at_referee w c w.link.sent r) word x (at_referee w c sent r')) (sym e) (grows_none _ 1 _ _ (same_state w c w.link.sent sent r r' s f)), fits_same r' f)
-  nothing_taken o sent r' (nothing e) s f = (subst (λ (x : Outcome). RefereeTakeStep (at_referee w c w.link.sent r) word x (at_referee w c sent r')) (sym e) (same_state w c w.link.sent sent r r' s f), fits_same r' f)
-  nothing_taken o sent r' (no_packet why e) s f = (subst (λ (x : Outcome). RefereeTakeStep (at_referee w c w.link.sent r) word x (at_referee w c sent r')) (sym e) (same_state w c w.link.sent sent r r' s f), fits_same r' f)
+  nothing_taken : (o : Outcome) (sent : List Datagram) (r' : RefereeView) → IsEmptyHand o → sent ≡ w.link.sent
+      → r' ≡ r → TakesTo w c word r o sent r'
+  nothing_taken o sent r' hand s f = at hand
+    where
+      same : at_referee w c sent r' ≡ at_referee w c w.link.sent r
+      same = same_state w c w.link.sent sent r r' s f
+
+      at : IsEmptyHand o → TakesTo w c word r o sent r'
+      at (fault e) = subst (λ (x : Outcome). TakesTo w c word r x sent r') (sym e) (grows_none _ 1 _ _ same)
+      at (memory e) = subst (λ (x : Outcome). TakesTo w c word r x sent r') (sym e) (grows_none _ 1 _ _ same)
+      at (nothing e) = subst (λ (x : Outcome). TakesTo w c word r x sent r') (sym e) same
+      at (no_packet why e) = subst (λ (x : Outcome). TakesTo w c word r x sent r') (sym e) same
 
   module _ (p : Packet) (came : WasSent w.link.sent 0 p) where
     -- what the core grants is what the protocol accepts
     granted : (e : Entry) → Grants r p word e → IsAccepted w.id w.terms r.log.entries word p e
-    granted e g = subst (λ (i : ℕ). IsAccepted i w.terms r.log.entries word p e) fits.log.0 (subst (λ (m : Terms). IsAccepted r.log.id m r.log.entries word p e) fits.log.1 g)
+    granted e g =
+        subst (λ (i : ℕ). IsAccepted i w.terms r.log.entries word p e) fits.log.0
+        (subst (λ (m : Terms). IsAccepted r.log.id m r.log.entries word p e) fits.log.1 g)
 
     none_accepted : ((e : Entry) → Grants r p word e → ⊥) → AcceptsNone (at_referee w c w.link.sent r) word p
-    none_accepted h e g = h e (subst (λ (i : ℕ). IsAccepted i r.log.terms r.log.entries word p e) (sym fits.log.0) (subst (λ (m : Terms). IsAccepted w.id m r.log.entries word p e) (sym fits.log.1) g))
+    none_accepted h e g =
+        h e (subst (λ (i : ℕ). IsAccepted i r.log.terms r.log.entries word p e) (sym fits.log.0)
+        (subst (λ (m : Terms). IsAccepted w.id m r.log.entries word p e) (sym fits.log.1) g))
 
     -- an answer tells what is saved
     of_saved : (answer : Packet) → TellsSaved r answer → IsOfSaved (at_referee w c w.link.sent r) answer
@@ -129,98 +90,163 @@ module _ (w : WorldView) (c : Restorable) (word : ℕ) (r : RefereeView) (fits :
         seats O sender e f = omega (e, f, arith)
 
         at : (x : Packet) → IsSound (at_referee w c w.link.sent r) x → IsSentBy to x → to < parties w
-        at (packet.Want id sender held) s t = let there = s.1 in omega (there, t, length-map w.watchers watcher_log, arith)
+        at (packet.Want id sender held) s t = let there = s.1 in omega
+            (there, t, length-map w.watchers watcher_log, arith)
         at (packet.Claim id sender n a) s t = seats s.1.0 sender s.1.1 t
         at (packet.Entries id start list) s t = absurd t
 
     module _ (honest : Type 0) (is_honest : honest) (mid n : LinkView) (same : mid.sent ≡ w.link.sent) where
-      shows : (to : ℕ) (answer : Packet) → IsPacket answer → TellsSaved r answer → ShowsSaved (at_referee w c w.link.sent r) (datagram_of to answer)
+      shows : (to : ℕ) (answer : Packet) → IsPacket answer → TellsSaved r answer
+          → ShowsSaved (at_referee w c w.link.sent r) (datagram_of to answer)
       shows to answer range h = (answer, carries to answer range, of_saved answer h)
 
-      list_after : (l : List Datagram) (r' : RefereeView) (d : Datagram) → r' ≡ r → l ≡ mid.sent ++ d ∷ [] → at_referee w c l r' ≡ record (at_referee w c w.link.sent r) { sent = w.link.sent ++ d ∷ [] }
-      list_after l r' d f e = same_state w c (w.link.sent ++ d ∷ []) l r r' (e ∙ ap (λ (x : List Datagram). x ++ d ∷ []) same) f
+      list_after : (l : List Datagram) (r' : RefereeView) (d : Datagram) → r' ≡ r → l ≡ mid.sent ++ d ∷ []
+          → at_referee w c l r' ≡ record (at_referee w c w.link.sent r) { sent = w.link.sent ++ d ∷ [] }
+      list_after l r' d f e =
+          same_state w c (w.link.sent ++ d ∷ []) l r r' (e ∙ ap (λ (x : List Datagram). x ++ d ∷ []) same) f
 
       -- the send of an answer failed
-      not_sent : (to : ℕ) (answer : Packet) (x : DeviceFault) (r' : RefereeView) → IsPacket answer → TellsSaved r answer → r' ≡ r
-          → (n.sent ≡ mid.sent) ⊎ (n.sent ≡ mid.sent ++ datagram_of to answer ∷ []) → RefereeTakeStep (at_referee w c w.link.sent r) word (link_outcome x) (at_referee w c n.sent r')
+      not_sent : (to : ℕ) (answer : Packet) (x : DeviceFault) (r' : RefereeView) → IsPacket answer
+          → TellsSaved r answer → r' ≡ r
+          → (n.sent ≡ mid.sent) ⊎ (n.sent ≡ mid.sent ++ datagram_of to answer ∷ [])
+          → TakesTo w c word r (link_outcome x) n.sent r'
       not_sent to answer x r' range tells f list = named x
         where
-          grows : SendsAtMost (ShowsSaved (at_referee w c w.link.sent r)) 1 (at_referee w c w.link.sent r) (at_referee w c n.sent r')
+          grows : SendsAtMost (ShowsSaved (at_referee w c w.link.sent r)) 1 (at_referee w c w.link.sent r)
+              (at_referee w c n.sent r')
           grows = at list
             where
-              at : (n.sent ≡ mid.sent) ⊎ (n.sent ≡ mid.sent ++ datagram_of to answer ∷ []) → SendsAtMost (ShowsSaved (at_referee w c w.link.sent r)) 1 (at_referee w c w.link.sent r) (at_referee w c n.sent r')
+              at : (n.sent ≡ mid.sent) ⊎ (n.sent ≡ mid.sent ++ datagram_of to answer ∷ [])
+                  → SendsAtMost (ShowsSaved (at_referee w c w.link.sent r)) 1 (at_referee w c w.link.sent r)
+                  (at_referee w c n.sent r')
               at (inl e) = grows_none _ 1 _ _ (same_state w c w.link.sent n.sent r r' (e ∙ same) f)
-              at (inr e) = grows_one _ 1 _ _ (datagram_of to answer) (omega arith) (shows to answer range tells) (list_after n.sent r' (datagram_of to answer) f e)
+              at (inr e) =
+                  grows_one _ 1 _ _ (datagram_of to answer) (omega arith) (shows to answer range tells)
+                  (list_after n.sent r' (datagram_of to answer) f e)
 
-          named : (y : DeviceFault) → RefereeTakeStep (at_referee w c w.link.sent r) word (link_outcome y) (at_referee w c n.sent r')
+          named : (y : DeviceFault)
+              → TakesTo w c word r (link_outcome y) n.sent r'
           named faults.Failed = grows
           named faults.Memory = grows
 
-      answered : (to : ℕ) (answer : Packet) (result : Outcome) (r' : RefereeView) → ((e : Entry) → Grants r p word e → ⊥) → r' ≡ r → IsSentBy to p → TellsSaved r answer → IsPacket answer
+      answered : (to : ℕ) (answer : Packet) (result : Outcome) (r' : RefereeView)
+          → ((e : Entry) → Grants r p word e → ⊥) → r' ≡ r → IsSentBy to p → TellsSaved r answer → IsPacket answer
           → (b : Bool) → nat_lt to (parties w) ≡ b
           → MatchBool b
-          ((sent : Result (Unit {0}) DeviceFault) × Posts honest mid to answer sent n × ComesTo (outcomes.Took (takes.Answer to answer)) sent result)
+          ((sent : Result (Unit {0}) DeviceFault) × Posts honest mid to answer sent n
+          × ComesTo (outcomes.Took (takes.Answer to answer)) sent result)
           ((result ≡ outcomes.Took (takes.Answer to answer)) × (n ≡ mid))
-          → RefereeTakeStep (at_referee w c w.link.sent r) word result (at_referee w c n.sent r')
-      answered to answer result r' none f by tells range false e h = let there = sender_exists to by in absurd (grind (arith, nat_tests))
+          → TakesTo w c word r result n.sent r'
+      answered to answer result r' none f by tells range false e h = let there = sender_exists to by in absurd
+          (grind (arith, nat_tests))
       answered to answer result r' none f by tells range true e h = told h.0 (h.1.sent is_honest) h.2
         where
-          told : (sent : Result (Unit {0}) DeviceFault) → LinkSends mid.sent (datagram_of to answer) n.sent sent → ComesTo (outcomes.Took (takes.Answer to answer)) sent result
-              → RefereeTakeStep (at_referee w c w.link.sent r) word result (at_referee w c n.sent r')
+          told : (sent : Result (Unit {0}) DeviceFault) → LinkSends mid.sent (datagram_of to answer) n.sent sent
+              → ComesTo (outcomes.Took (takes.Answer to answer)) sent result
+              → TakesTo w c word r result n.sent r'
           told (Ok u) list is =
-              subst (λ (x : Outcome). RefereeTakeStep (at_referee w c w.link.sent r) word x (at_referee w c n.sent r')) (sym is)
-              (p, came, (none_accepted none, of_saved answer tells, (datagram_of to answer, carries to answer range, list_after n.sent r' (datagram_of to answer) f list)))
+              subst (λ (x : Outcome). TakesTo w c word r x n.sent r') (sym is) (
+                p,
+                came,
+                (
+                  none_accepted none,
+                  of_saved answer tells,
+                  (
+                    datagram_of to answer,
+                    carries to answer range,
+                    list_after n.sent r' (datagram_of to answer) f list,
+                  ),
+                ),
+              )
           told (Err x) list is =
-              subst (λ (o : Outcome). RefereeTakeStep (at_referee w c w.link.sent r) word o (at_referee w c n.sent r')) (sym is) (not_sent to answer x r' range tells f list)
+              subst (λ (o : Outcome). TakesTo w c word r o n.sent r') (sym is)
+              (not_sent to answer x r' range tells f list)
 
       -- the record stays, and so does the list
-      idle : (t : TakeOutcome) (result : Outcome) (r' : RefereeView) → ReplyStep (at_referee w c w.link.sent r) word p t (at_referee w c n.sent r') → result ≡ outcomes.Took t → RefereeTakeStep (at_referee w c w.link.sent r) word result (at_referee w c n.sent r')
-      idle t result r' took e = subst (λ (x : Outcome). RefereeTakeStep (at_referee w c w.link.sent r) word x (at_referee w c n.sent r')) (sym e) (p, came, took)
+      idle : (t : TakeOutcome) (result : Outcome) (r' : RefereeView)
+          → ReplyStep (at_referee w c w.link.sent r) word p t (at_referee w c n.sent r') → result ≡ outcomes.Took t
+          → TakesTo w c word r result n.sent r'
+      idle t result r' took e =
+          subst (λ (x : Outcome). TakesTo w c word r x n.sent r') (sym e) (p, came, took)
 
       same_at : (r' : RefereeView) → n ≡ mid → r' ≡ r → at_referee w c n.sent r' ≡ at_referee w c w.link.sent r
       same_at r' e f = same_state w c w.link.sent n.sent r r' (ap (λ (x : LinkView). x.sent) e ∙ same) f
 
-      took_row : (t : TakeOutcome) (result : Outcome) (r' : RefereeView) → RefereeTakes r p word t r' → AnswerCalls honest (parties w) mid t result n
-          → RefereeTakeStep (at_referee w c w.link.sent r) word result (at_referee w c n.sent r') × RefereeMatches w.id w.terms c.referee r'
+      took_row : (t : TakeOutcome) (result : Outcome) (r' : RefereeView) → RefereeTakes r p word t r'
+          → AnswerCalls honest (parties w) mid t result n
+          → TakesTo w c word r result n.sent r' × RefereeMatches w.id w.terms c.referee r'
       took_row (takes.Accepted k) result r' h a =
           let g = h.accepts in (
-            idle (takes.Accepted k) result r' (g.1.0, granted g.1.0 g.1.1, grown_state w c w.link.sent n.sent r r' g.1.0 (ap (λ (x : LinkView). x.sent) a.1 ∙ same) g.1.2, g.0) a.0,
+            idle (takes.Accepted k) result r' (
+              g.1.0,
+              granted g.1.0 g.1.1,
+              grown_state w c w.link.sent n.sent r r' g.1.0 (ap (λ (x : LinkView). x.sent) a.1 ∙ same) g.1.2,
+              g.0,
+            ) a.0,
             referee_grew w.id w.terms c.referee r g.1.0 r' g.1.2 fits,
           )
       took_row (takes.Answer to answer) result r' h a =
+          let g = h.accepts in (
+            answered to answer result r' g.0 g.1 h.answers.0 h.answers.1 h.fits (nat_lt to (parties w)) refl a,
+            fits_same r' g.1,
+          )
+      took_row takes.Memory result r' h a =
           let g = h.accepts in
-          (answered to answer result r' g.0 g.1 h.answers.0 h.answers.1 h.fits (nat_lt to (parties w)) refl a, fits_same r' g.1)
-      took_row takes.Memory result r' h a = let g = h.accepts in (idle takes.Memory result r' (same_at r' a.1 g.2) a.0, fits_same r' g.2)
-      took_row takes.OtherMatch result r' h a = let g = h.accepts in (idle takes.OtherMatch result r' (none_accepted g.0, same_at r' a.1 g.1) a.0, fits_same r' g.1)
-      took_row takes.Nothing result r' h a = let g = h.accepts in (idle takes.Nothing result r' (none_accepted g.0, same_at r' a.1 g.1) a.0, fits_same r' g.1)
-      took_row takes.Ahead result r' h a = let g = h.accepts in (idle takes.Ahead result r' (none_accepted g.0, same_at r' a.1 g.1) a.0, fits_same r' g.1)
-      took_row takes.NotYourTurn result r' h a = let g = h.accepts in (idle takes.NotYourTurn result r' (none_accepted g.0, same_at r' a.1 g.1) a.0, fits_same r' g.1)
-      took_row takes.WordRefused result r' h a = let g = h.accepts in (idle takes.WordRefused result r' (none_accepted g.0, same_at r' a.1 g.1) a.0, fits_same r' g.1)
-      took_row (takes.Illegal why) result r' h a = let g = h.accepts in (idle (takes.Illegal why) result r' (none_accepted g.0, same_at r' a.1 g.1) a.0, fits_same r' g.1)
+          (idle takes.Memory result r' (same_at r' a.1 g.2) a.0, fits_same r' g.2)
+      took_row takes.OtherMatch result r' h a =
+          let g = h.accepts in
+          (idle takes.OtherMatch result r' (none_accepted g.0, same_at r' a.1 g.1) a.0, fits_same r' g.1)
+      took_row takes.Nothing result r' h a =
+          let g = h.accepts in
+          (idle takes.Nothing result r' (none_accepted g.0, same_at r' a.1 g.1) a.0, fits_same r' g.1)
+      took_row takes.Ahead result r' h a =
+          let g = h.accepts in
+          (idle takes.Ahead result r' (none_accepted g.0, same_at r' a.1 g.1) a.0, fits_same r' g.1)
+      took_row takes.NotYourTurn result r' h a =
+          let g = h.accepts in
+          (idle takes.NotYourTurn result r' (none_accepted g.0, same_at r' a.1 g.1) a.0, fits_same r' g.1)
+      took_row takes.WordRefused result r' h a =
+          let g = h.accepts in
+          (idle takes.WordRefused result r' (none_accepted g.0, same_at r' a.1 g.1) a.0, fits_same r' g.1)
+      took_row (takes.Illegal why) result r' h a =
+          let g = h.accepts in
+          (idle (takes.Illegal why) result r' (none_accepted g.0, same_at r' a.1 g.1) a.0, fits_same r' g.1)
 
-  take_row : (honest : Type 0) → honest → (pick : ℕ) (result : Outcome) (n : LinkView) (r' : RefereeView) → RefereeTakeCalls honest (parties w) w.link r pick word result n r'
-      → RefereeTakeStep (at_referee w c w.link.sent r) word result (at_referee w c n.sent r') × RefereeMatches w.id w.terms c.referee r'
-  unfolding Told_as
+  take_row : (honest : Type 0) → honest → (pick : ℕ) (result : Outcome) (n : LinkView) (r' : RefereeView)
+      → RefereeTakeCalls honest (parties w) w.link r pick word result n r'
+      → TakesTo w c word r result n.sent r' × RefereeMatches w.id w.terms c.referee r'
   take_row honest is_honest pick result n r' h = at h.0 h.1 h.2 h.3
     where
-      at : (hand : Result Packet Outcome) (mid : LinkView) → Receives honest w.link 0 pick hand mid → RefereeHandles honest (parties w) mid r word hand result n r'
-          → RefereeTakeStep (at_referee w c w.link.sent r) word result (at_referee w c n.sent r') × RefereeMatches w.id w.terms c.referee r'
+      at : (hand : Result Packet Outcome) (mid : LinkView) → Receives honest w.link 0 pick hand mid
+          → RefereeHandles honest (parties w) mid r word hand result n r'
+          → TakesTo w c word r result n.sent r' × RefereeMatches w.id w.terms c.referee r'
       at (Err trouble) mid receives k =
           let same : n.sent ≡ w.link.sent = ap (λ (x : LinkView). x.sent) k.1 ∙ receives.same is_honest in
           let t = nothing_taken trouble n.sent r' (empty_hand mid.taken trouble receives.is_hand) same k.2 in
-          (subst (λ (x : Outcome). RefereeTakeStep (at_referee w c w.link.sent r) word x (at_referee w c n.sent r')) (sym k.0) t.0, t.1)
+          (subst (λ (x : Outcome). TakesTo w c word r x n.sent r') (sym k.0) t, fits_same r' k.2)
       at (Ok p) mid receives k =
-          took_row p (receives.was_sent is_honest) honest is_honest mid n (receives.same is_honest) k.0 result r' k.1 k.2
+          took_row p (receives.was_sent is_honest) honest is_honest mid n
+          (receives.same is_honest) k.0 result r' k.1 k.2
 
-pub take_referee_goes : (w : WorldView) (c : Restorable) (honest : Type 0) → honest → (party pick word : ℕ) (o : Outcome) (new : WorldView) → CoresMatch w c → Inv (state_of w c)
+pub take_referee_goes : (w : WorldView) (c : Restorable) (honest : Type 0) → honest
+    → (party pick word : ℕ) (o : Outcome) (new : WorldView) → CoresMatch w c → Inv (state_of w c)
     → TakeCalls honest w roles.Referee party pick word o new → StepsTo w c (events.Take 0 pick word) o new
 take_referee_goes w c honest is_honest party pick word o new fits inv h = at w.referee fits inv h
   where
-    at : (r : Option RefereeView) → CoresMatch (record w { referee = r }) c → Inv (state_of (record w { referee = r }) c) → TakeCalls honest (record w { referee = r }) roles.Referee party pick word o new → StepsTo (record w { referee = r }) c (events.Take 0 pick word) o new
+    at : (r : Option RefereeView) → CoresMatch (record w { referee = r }) c
+        → Inv (state_of (record w { referee = r }) c)
+        → TakeCalls honest (record w { referee = r }) roles.Referee party pick word o new
+        → StepsTo (record w { referee = r }) c (events.Take 0 pick word) o new
     at None f i k =
-        goes_at (record w { referee = None }) c (events.Take 0 pick word) o outcomes.Down new (record w { referee = None }) k.0 k.1
+        goes_at (record w { referee = None }) c (events.Take 0 pick word) o outcomes.Down new
+        (record w { referee = None }) k.0 k.1
         (record { restorable = c; step = (refl, refl); cores = f })
     at (Some r) f i k =
         let t = take_row w c word r f.referee.1 i honest is_honest pick o k.0 k.1 k.2 in
-        goes_at (record w { referee = Some r }) c (events.Take 0 pick word) o o new (record w { link = k.0; referee = Some k.1 }) refl k.3
-        (record { restorable = c; step = t.0; cores = record { referee = (f.referee.0, t.1); x = f.x; o = f.o; watchers = f.watchers } })
+        goes_at (record w { referee = Some r }) c (events.Take 0 pick word) o o new
+        (record w { link = k.0; referee = Some k.1 }) refl k.3
+        (record {
+          restorable = c;
+          step = t.0;
+          cores = record { referee = (f.referee.0, t.1); x = f.x; o = f.o; watchers = f.watchers };
+        })

@@ -29,19 +29,23 @@ pub data IsReread (restored : Option SavedParts) (answer : Result (Option Saved)
   no_memory : answer ≡ Err outcomes.Memory → IsReread restored answer
 
 module _ (id : ℕ) (terms : Terms) (party : ℕ) (found : Option SavedParts) where
-  told : (r : Result (Option Saved) RestoreRefusal) (answer : Result (Option Saved) Outcome) → GivesBack found r → answer ≡ restored_of r → IsReread found answer
+  told : (r : Result (Option Saved) RestoreRefusal) (answer : Result (Option Saved) Outcome) → GivesBack found r
+      → answer ≡ restored_of r → IsReread found answer
   told (Ok None) answer back e = empty (sym back) e
   told (Ok (Some s)) answer back e = given s (sym back) e
   told (Err refusals.Damaged) answer back e = absurd back
   told (Err refusals.WrongMatch) answer back e = absurd back
   told (Err refusals.Memory) answer back e = no_memory e
 
-  failed : (f : DeviceFault) (answer : Result (Option Saved) Outcome) → answer ≡ Err (read_outcome f) → IsReread found answer
+  failed : (f : DeviceFault) (answer : Result (Option Saved) Outcome) → answer ≡ Err (read_outcome f)
+      → IsReread found answer
   failed faults.Failed answer e = not_read e
   failed faults.Memory answer e = no_memory e
 
-  module _ (honest : Type 0) (is_honest : honest) (old new : KeeperView) (answer : Result (Option Saved) Outcome) (ok : SlotsOk id terms party old.slots found) where
-    second : (mid : KeeperView) (zero : List ℕ) → mid.slots ≡ old.slots → zero ≡ old.slots.zero → ReadsSecond honest party id terms mid zero answer new
+  module _ (honest : Type 0) (is_honest : honest) (old new : KeeperView) (answer : Result (Option Saved) Outcome)
+      (ok : SlotsOk id terms party old.slots found) where
+    second : (mid : KeeperView) (zero : List ℕ) → mid.slots ≡ old.slots → zero ≡ old.slots.zero
+        → ReadsSecond honest party id terms mid zero answer new
         → IsReread found answer × (new.slots ≡ old.slots)
     second mid zero same is h = at h.0 (h.1.bytes is_honest) h.2
       where
@@ -50,13 +54,15 @@ module _ (id : ℕ) (terms : Terms) (party : ℕ) (found : Option SavedParts) wh
 
         at : (read : Result (Vec ℕ) DeviceFault) → IfOk read (λ found. found.items ≡ bytes_in mid.slots slots.One)
             → MatchResult read
-            (λ one. (r : Result (Option Saved) RestoreRefusal) × Restores zero one.items party id terms r × (answer ≡ restored_of r))
+            (λ one. (r : Result (Option Saved) RestoreRefusal) × Restores zero one.items party id terms r
+            × (answer ≡ restored_of r))
             (λ fault. answer ≡ Err (read_outcome fault))
             → IsReread found answer × (new.slots ≡ old.slots)
         at (Ok one) bytes k =
             let there : one.items ≡ old.slots.one = bytes ∙ ap (λ (x : Slots). x.one) same in
             let again : Restores old.slots.zero old.slots.one party id terms k.0 =
-            subst (λ (x : List ℕ). Restores x old.slots.one party id terms k.0) is (subst (λ (x : List ℕ). Restores zero x party id terms k.0) there k.1) in
+            subst (λ (x : List ℕ). Restores x old.slots.one party id terms k.0) is
+            (subst (λ (x : List ℕ). Restores zero x party id terms k.0) there k.1) in
             (told k.0 answer (gives_back old.slots found party id terms k.0 ok.written.restore ok.of_match again) k.2, after)
         at (Err f) bytes k = (failed f answer k, after)
 
@@ -67,7 +73,8 @@ module _ (id : ℕ) (terms : Terms) (party : ℕ) (found : Option SavedParts) wh
         same = h.2.same is_honest
 
         at : (read : Result (Vec ℕ) DeviceFault) → IfOk read (λ found. found.items ≡ bytes_in old.slots slots.Zero)
-            → MatchResult read (λ zero. ReadsSecond honest party id terms h.1 zero.items answer new) (λ fault. (answer ≡ Err (read_outcome fault)) × (new ≡ h.1))
+            → MatchResult read (λ zero. ReadsSecond honest party id terms h.1 zero.items answer new)
+            (λ fault. (answer ≡ Err (read_outcome fault)) × (new ≡ h.1))
             → IsReread found answer × (new.slots ≡ old.slots)
         at (Ok zero) bytes k = second h.1 zero.items same bytes k
         at (Err f) bytes k = (failed f answer k.0, ap (λ (x : KeeperView). x.slots) k.1 ∙ same)

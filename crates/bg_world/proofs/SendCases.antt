@@ -22,19 +22,25 @@ use Rattle.bg_world.specs.declared.devices.DeviceFault.{DeviceFault}
 use Rattle.bg_world.specs.declared.devices.DeviceFault.TheVariants as faults
 
 -- the list grew by so many at most, and the outcome says by how many, or that a send failed
-pub record Went (may : Datagram → Type 0) (before most : ℕ) (old new : List Datagram) (result : Outcome) : Type 0 where
+pub record Went (may : Datagram → Type 0) (before most : ℕ) (old new : List Datagram)
+    (result : Outcome) : Type 0 where
   pub out : List Datagram
   pub sent : new ≡ old ++ out
   pub few : length out ≤ most
   pub each : All may out
-  pub told : (result ≡ outcomes.Sent (before + length out)) ⊎ ((fault : DeviceFault) × (result ≡ link_outcome fault))
+  pub told : (result ≡ outcomes.Sent (before + length out)) ⊎
+      ((fault : DeviceFault) × (result ≡ link_outcome fault))
 
 module _ (honest : Type 0) (is_honest : honest) (many : ℕ) (may : Datagram → Type 0) where
-  failed : (before most : ℕ) (old mid : LinkView) (p : ℕ × Packet) (fault : DeviceFault) (result : Outcome) (new : LinkView) → may (datagram_of p.0 p.1)
-      → LinkSends old.sent (datagram_of p.0 p.1) mid.sent (Err fault) → result ≡ link_outcome fault → new ≡ mid → Went may before (suc most) old.sent new.sent result
+  failed : (before most : ℕ) (old mid : LinkView) (p : ℕ × Packet) (fault : DeviceFault) (result : Outcome)
+      (new : LinkView)
+      → may (datagram_of p.0 p.1)
+      → LinkSends old.sent (datagram_of p.0 p.1) mid.sent (Err fault) → result ≡ link_outcome fault → new ≡ mid
+      → Went may before (suc most) old.sent new.sent result
   failed before most old mid p fault result new m list e f = at list
     where
-      at : (mid.sent ≡ old.sent) ⊎ (mid.sent ≡ old.sent ++ datagram_of p.0 p.1 ∷ []) → Went may before (suc most) old.sent new.sent result
+      at : (mid.sent ≡ old.sent) ⊎ (mid.sent ≡ old.sent ++ datagram_of p.0 p.1 ∷ [])
+          → Went may before (suc most) old.sent new.sent result
       at (inl g) = record {
         out = [];
         sent = ap (λ (x : LinkView). x.sent) f ∙ g ∙ sym (append-nil old.sent);
@@ -53,7 +59,8 @@ module _ (honest : Type 0) (is_honest : honest) (many : ℕ) (may : Datagram →
   -- what is sent of these packets, each of which may be sent where its party exists and it has a text
   pub sends_all : (before : ℕ) (old : LinkView) (packets : List (ℕ × Packet)) (result : Outcome) (new : LinkView)
       → AllByRecursion (λ p. p.0 < many → IsPacket p.1 → may (datagram_of p.0 p.1)) packets
-      → SendCalls honest many before old packets result new → Went may before (length packets) old.sent new.sent result
+      → SendCalls honest many before old packets result new
+      → Went may before (length packets) old.sent new.sent result
   sends_all before old [] result new all h = record {
     out = [];
     sent = ap (λ (x : LinkView). x.sent) h.1 ∙ sym (append-nil old.sent);
@@ -64,12 +71,14 @@ module _ (honest : Type 0) (is_honest : honest) (many : ℕ) (may : Datagram →
     where
       same : (n : ℕ) → n ≡ n + 0
       same n = omega arith
-  sends_all before old (p ∷ packets) result new all h = at (λ n mid k. sends_all n mid packets result new all.1 k) (nat_lt p.0 many) refl h
+  sends_all before old (p ∷ packets) result new all h =
+      at (λ n mid k. sends_all n mid packets result new all.1 k) (nat_lt p.0 many) refl h
     where
       d : Datagram
       d = datagram_of p.0 p.1
 
-      more : (mid : LinkView) → may d → mid.sent ≡ old.sent ++ d ∷ [] → Went may (before + 1) (length packets) mid.sent new.sent result
+      more : (mid : LinkView) → may d → mid.sent ≡ old.sent ++ d ∷ []
+          → Went may (before + 1) (length packets) mid.sent new.sent result
           → Went may before (suc (length packets)) old.sent new.sent result
       more mid m list rest = record {
         out = d ∷ rest.out;
@@ -82,34 +91,51 @@ module _ (honest : Type 0) (is_honest : honest) (many : ℕ) (may : Datagram →
           counted : (a b : ℕ) → a + 1 + b ≡ a + suc b
           counted a b = omega arith
 
-          told : (result ≡ outcomes.Sent (before + 1 + length rest.out)) ⊎ ((fault : DeviceFault) × (result ≡ link_outcome fault))
-              → (result ≡ outcomes.Sent (before + suc (length rest.out))) ⊎ ((fault : DeviceFault) × (result ≡ link_outcome fault))
+          told : (result ≡ outcomes.Sent (before + 1 + length rest.out)) ⊎
+              ((fault : DeviceFault) × (result ≡ link_outcome fault))
+              → (result ≡ outcomes.Sent (before + suc (length rest.out))) ⊎
+              ((fault : DeviceFault) × (result ≡ link_outcome fault))
           told (inl e) = inl (e ∙ ap (λ (n : ℕ). outcomes.Sent n) (counted before (length rest.out)))
           told (inr e) = inr e
 
-      sent_one : ((n : ℕ) (mid : LinkView) → SendCalls honest many n mid packets result new → Went may n (length packets) mid.sent new.sent result)
-          → (answer : Result (Unit {0}) DeviceFault) (mid : LinkView) → p.0 < many → Posts honest old p.0 p.1 answer mid
-          → MatchResult answer (λ _. SendCalls honest many (before + 1) mid packets result new) (λ fault. (result ≡ link_outcome fault) × (new ≡ mid))
+      sent_one : ((n : ℕ) (mid : LinkView) → SendCalls honest many n mid packets result new → Went may n
+          (length packets) mid.sent new.sent result)
+          → (answer : Result (Unit {0}) DeviceFault) (mid : LinkView) → p.0 < many
+          → Posts honest old p.0 p.1 answer mid
+          → MatchResult answer (λ _. SendCalls honest many (before + 1) mid packets result new)
+          (λ fault. (result ≡ link_outcome fault) × (new ≡ mid))
           → Went may before (suc (length packets)) old.sent new.sent result
-      sent_one again (Ok u) mid low posts k = more mid (all.0 low posts.fits) (posts.sent is_honest) (again (before + 1) mid k)
+      sent_one again (Ok u) mid low posts k =
+          more mid (all.0 low posts.fits) (posts.sent is_honest) (again (before + 1) mid k)
       sent_one again (Err fault) mid low posts k =
-          failed before (length packets) old mid p fault result new (all.0 low posts.fits) (posts.sent is_honest) k.0 k.1
+          failed before (length packets) old mid p fault result new (all.0 low posts.fits)
+          (posts.sent is_honest) k.0 k.1
 
-      fewer : Went may before (length packets) old.sent new.sent result → Went may before (suc (length packets)) old.sent new.sent result
-      fewer rest = record { out = rest.out; sent = rest.sent; few = (let few = rest.few in omega (few, arith)); each = rest.each; told = rest.told }
+      fewer : Went may before (length packets) old.sent new.sent result
+          → Went may before (suc (length packets)) old.sent new.sent result
+      fewer rest = record {
+        out = rest.out;
+        sent = rest.sent;
+        few = (let few = rest.few in omega (few, arith));
+        each = rest.each;
+        told = rest.told;
+      }
 
-      at : ((n : ℕ) (mid : LinkView) → SendCalls honest many n mid packets result new → Went may n (length packets) mid.sent new.sent result)
+      at : ((n : ℕ) (mid : LinkView) → SendCalls honest many n mid packets result new → Went may n
+          (length packets) mid.sent new.sent result)
           → (b : Bool) → nat_lt p.0 many ≡ b
           → MatchBool b
           ((answer : Result (Unit {0}) DeviceFault) × (mid : LinkView) × Posts honest old p.0 p.1 answer mid
-          × MatchResult answer (λ _. SendCalls honest many (before + 1) mid packets result new) (λ fault. (result ≡ link_outcome fault) × (new ≡ mid)))
+          × MatchResult answer (λ _. SendCalls honest many (before + 1) mid packets result new)
+          (λ fault. (result ≡ link_outcome fault) × (new ≡ mid)))
           (SendCalls honest many before old packets result new)
           → Went may before (suc (length packets)) old.sent new.sent result
       at again true e k = sent_one again k.0 k.1 (grind (arith, nat_tests)) k.2 k.3
       at again false e k = fewer (again before old k)
 
 -- so it is a tick of the protocol
-pub ticks_row : (may : Datagram → Type 0) (most : ℕ) (w v : State) (sent : List Datagram) (result : Outcome) → most ≤ 2
+pub ticks_row : (may : Datagram → Type 0) (most : ℕ) (w v : State) (sent : List Datagram) (result : Outcome)
+    → most ≤ 2
     → Went may 0 most w.sent sent result → v ≡ record w { sent = sent } → Sends may w result v
 ticks_row may most w v sent result two h e = at h.told
   where
@@ -125,7 +151,8 @@ ticks_row may most w v sent result two h e = at h.told
     faulty faults.Failed = grows
     faulty faults.Memory = grows
 
-    at : (result ≡ outcomes.Sent (0 + length h.out)) ⊎ ((fault : DeviceFault) × (result ≡ link_outcome fault)) → Sends may w result v
+    at : (result ≡ outcomes.Sent (0 + length h.out)) ⊎ ((fault : DeviceFault) × (result ≡ link_outcome fault))
+        → Sends may w result v
     at (inl f) = subst (λ (x : Outcome). Sends may w x v) (sym f) (
       record {
         out = h.out;

@@ -47,22 +47,28 @@ get_last [] x (suc i) f h = absurd cc
 get_last (y ∷ ys) x zero f h = inl h
 get_last (y ∷ ys) x (suc i) f h = at (get_last ys x i f h)
   where
-    at : (slice_get ys i ≡ Some f) ⊎ ((i ≡ length ys) × (f ≡ x)) → (slice_get ys i ≡ Some f) ⊎ ((suc i ≡ suc (length ys)) × (f ≡ x))
+    at : (slice_get ys i ≡ Some f) ⊎ ((i ≡ length ys) × (f ≡ x))
+        → (slice_get ys i ≡ Some f) ⊎ ((suc i ≡ suc (length ys)) × (f ≡ x))
     at (inl p) = inl p
     at (inr p) = inr (ap suc p.0, p.1)
 
 fresh_match : (id : ℕ) (terms : Terms) (n : ℕ) → WatchersMatch id terms (fresh_watchers id terms n)
 fresh_match id terms zero i f h = absurd cc
 fresh_match id terms (suc n) i f h =
-    at (fresh_match id terms n) (get_last (fresh_watchers id terms n) (fresh_watcher (first_watcher + n) id terms) i f h)
+    at (fresh_match id terms n) (get_last (fresh_watchers id terms n)
+    (fresh_watcher (first_watcher + n) id terms) i f h)
   where
     at : WatchersMatch id terms (fresh_watchers id terms n)
-        → (slice_get (fresh_watchers id terms n) i ≡ Some f) ⊎ ((i ≡ length (fresh_watchers id terms n)) × (f ≡ fresh_watcher (first_watcher + n) id terms))
+        → (slice_get (fresh_watchers id terms n) i ≡ Some f) ⊎
+        ((i ≡ length (fresh_watchers id terms n)) × (f ≡ fresh_watcher (first_watcher + n) id terms))
         → WatcherMatches id terms i f
     at before (inl p) = before i f p
     at before (inr p) =
         subst (λ (x : WatcherView). WatcherMatches id terms i x) (sym p.1)
-        (record { party = (let a = p.0 in let b = many_watchers id terms n in omega (a, b, arith)); log = (refl, refl) })
+        (record {
+          party = (let a = p.0 in let b = many_watchers id terms n in omega (a, b, arith));
+          log = (refl, refl);
+        })
 
 -- ---- the world
 
@@ -74,7 +80,8 @@ nothing_restored slots e =
 abbrev nothing : Restorable
 nothing = record { referee = None; x = None; o = None }
 
-module _ (setup : Setup) (link : LinkView) (referee x o : KeeperView) (no_sent : link.sent ≡ []) (no_referee : referee.slots ≡ empty_slots)
+module _ (setup : Setup) (link : LinkView) (referee x o : KeeperView) (no_sent : link.sent ≡ [])
+    (no_referee : referee.slots ≡ empty_slots)
     (no_x : x.slots ≡ empty_slots) (no_o : o.slots ≡ empty_slots) where
   start_is : state_of (start_of setup link referee x o) nothing ≡ start setup.id setup.length setup.watchers
   start_is =
@@ -101,7 +108,8 @@ module _ (setup : Setup) (link : LinkView) (referee x o : KeeperView) (no_sent :
     watchers = fresh_match setup.id setup.length setup.watchers;
   }
 
-  pub start_reached : IsSetup setup.id setup.length setup.watchers → IsReachedWorld (start_of setup link referee x o)
+  pub start_reached : IsSetup setup.id setup.length setup.watchers → IsReachedWorld
+      (start_of setup link referee x o)
   start_reached is = record {
     restorable = nothing;
     reached = record {

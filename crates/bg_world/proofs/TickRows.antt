@@ -36,45 +36,62 @@ use Rattle.bg_world.proofs.SendCases.{sends_all, ticks_row}
 
 -- ---- the referee
 
-pub tick_referee_goes : (w : WorldView) (c : Restorable) (honest : Type 0) → honest → (o : Outcome) (new : WorldView) → CoresMatch w c
+pub tick_referee_goes : (w : WorldView) (c : Restorable) (honest : Type 0) → honest → (o : Outcome)
+    (new : WorldView)
+    → CoresMatch w c
     → TickCalls honest w roles.Referee o new → StepsTo w c (events.Tick 0) o new
 tick_referee_goes w c honest is_honest o new fits h = at w.referee fits h
   where
-    at : (r : Option RefereeView) → CoresMatch (record w { referee = r }) c → TickCalls honest (record w { referee = r }) roles.Referee o new
+    at : (r : Option RefereeView) → CoresMatch (record w { referee = r }) c
+        → TickCalls honest (record w { referee = r }) roles.Referee o new
         → StepsTo (record w { referee = r }) c (events.Tick 0) o new
     at None f k =
-        goes_at (record w { referee = None }) c (events.Tick 0) o outcomes.Down new (record w { referee = None }) k.0 k.1
+        goes_at (record w { referee = None }) c (events.Tick 0) o outcomes.Down new
+        (record w { referee = None }) k.0 k.1
         (record { restorable = c; step = (refl, refl); cores = f })
     at (Some r) f k =
         let before = state_of (record w { referee = Some r }) c in
         let ticks = k.2.1 in
-        let none = subst (λ (l : List (ℕ × Packet)). SendCalls honest (parties w) 0 w.link l o k.0) ticks.packets k.2.2 in
-        let went = sends_all honest is_honest (parties w) (λ d. Exists before d.to × ShowsSaved before d) 0 w.link [] o k.0 tt none in
-        goes_at (record w { referee = Some r }) c (events.Tick 0) o o new (record w { link = k.0; referee = Some r }) refl
+        let none = subst (λ (l : List (ℕ × Packet)). SendCalls honest
+        (parties w) 0 w.link l o k.0) ticks.packets k.2.2 in
+        let went = sends_all honest is_honest (parties w)
+        (λ d. Exists before d.to × ShowsSaved before d) 0 w.link [] o k.0 tt none in
+        goes_at (record w { referee = Some r }) c (events.Tick 0) o o new
+        (record w { link = k.0; referee = Some r }) refl
         (k.3 ∙ ap (λ (x : RefereeView). record w { link = k.0; referee = Some x }) ticks.after)
         (record {
           restorable = c;
-          step = ticks_row _ 0 before (state_of (record w { link = k.0; referee = Some r }) c) (k.0).sent o (omega arith) went refl;
+          step = ticks_row _ 0 before (state_of (record w { link = k.0; referee = Some r }) c) (k.0).sent o
+              (omega arith) went refl;
           cores = record { referee = f.referee; x = f.x; o = f.o; watchers = f.watchers };
         })
 
 -- ---- a seat
 
 -- what a seat's core sends is what the protocol says
-seat_sends : (s : SeatView) (claim : Option (ℕ × Action)) (saved : Bool) → packet_of_seat (record s { claim = claim; claim_saved = saved }) ≡ seat_packet s.follower.log.id (party_of s.player) s.follower.log.entries claim saved
+seat_sends : (s : SeatView) (claim : Option (ℕ × Action)) (saved : Bool)
+    → packet_of_seat (record s { claim = claim; claim_saved = saved }) ≡ seat_packet s.follower.log.id
+    (party_of s.player) s.follower.log.entries claim saved
 seat_sends s None saved = refl
 seat_sends s (Some c) true = refl
 seat_sends s (Some c) false = refl
 
-same_packet : (id : ℕ) (terms : Terms) (q : Player) (found : Option SavedParts) (s : SeatView) → SeatMatches id terms q found s → packet_of_seat s ≡ seat_packet id (party_of q) s.follower.log.entries s.claim s.claim_saved
+same_packet : (id : ℕ) (terms : Terms) (q : Player) (found : Option SavedParts) (s : SeatView)
+    → SeatMatches id terms q found s
+    → packet_of_seat s ≡ seat_packet id (party_of q) s.follower.log.entries s.claim s.claim_saved
 same_packet id terms q found s fits =
-    seat_sends s s.claim s.claim_saved ∙ ap₂ (λ (i : ℕ) (p : Player). seat_packet i (party_of p) s.follower.log.entries s.claim s.claim_saved) fits.log.0 fits.sits_for
+    seat_sends s s.claim s.claim_saved
+    ∙ ap₂ (λ (i : ℕ) (p : Player). seat_packet i
+    (party_of p) s.follower.log.entries s.claim s.claim_saved) fits.log.0 fits.sits_for
 
 -- the row of a seat's tick, by the seat's state
 abbrev SeatTickRow : State → Player → SeatState → Outcome → State → Type 0
-SeatTickRow v q old o u = IfUp old.up v o u (Sends (λ d. Carries d referee (seat_packet v.id (party_of q) old.log old.claim old.claim_saved)) v o u)
+SeatTickRow v q old o u =
+    IfUp old.up v o u (Sends (λ d. Carries d referee
+    (seat_packet v.id (party_of q) old.log old.claim old.claim_saved)) v o u)
 
-pub tick_seat_goes : (w : WorldView) (c : Restorable) (honest : Type 0) → honest → (q : Player) (o : Outcome) (new : WorldView) → CoresMatch w c → TickCalls honest w (roles.Seat q) o new
+pub tick_seat_goes : (w : WorldView) (c : Restorable) (honest : Type 0) → honest
+    → (q : Player) (o : Outcome) (new : WorldView) → CoresMatch w c → TickCalls honest w (roles.Seat q) o new
     → TickStep (state_of w c) (roles.Seat q) o (state_of new c) × CoresMatch new c
 tick_seat_goes w c honest is_honest q o new fits h = at (seat_core w q) (seat_side w c q fits) refl h
   where
@@ -86,32 +103,45 @@ tick_seat_goes w c honest is_honest q o new fits h = at (seat_core w q) (seat_si
     kept_seat X n = refl
     kept_seat O n = refl
 
-    lift : (p : Player) (u : State) → SeatTickRow (state_of w c) p (seat_state (seat_core w p) (seat_keeper w p).slots (restorable_of c p)) o u → TickStep (state_of w c) (roles.Seat p) o u
+    lift : (p : Player) (u : State)
+        → SeatTickRow (state_of w c) p (seat_state (seat_core w p) (seat_keeper w p).slots (restorable_of c p)) o u
+        → TickStep (state_of w c) (roles.Seat p) o u
     lift X u k = k
     lift O u k = k
 
     at : (s : Option SeatView) → SeatSide w.id w.terms q s (seat_keeper w q) (restorable_of c q) → seat_core w q ≡ s
         → MatchOption s (NoCalls outcomes.Down w o new)
-        (λ s. (n : LinkView) × (s' : SeatView) × FollowerTickCalls SeatTicks honest (parties w) w.link s o n s' × (new ≡ with_seat_core (record w { link = n }) q (Some s')))
+        (λ s. (n : LinkView) × (s' : SeatView) × FollowerTickCalls SeatTicks honest (parties w) w.link s o n s'
+        × (new ≡ with_seat_core (record w { link = n }) q (Some s')))
         → TickStep (state_of w c) (roles.Seat q) o (state_of new c) × CoresMatch new c
     at None side is k = (
-      lift q (state_of new c) (subst (λ (s : Option SeatView). SeatTickRow (state_of w c) q (seat_state s (seat_keeper w q).slots (restorable_of c q)) o (state_of new c)) (sym is) (k.0, ap (λ (x : WorldView). state_of x c) k.1)),
+      lift q (state_of new c) (subst (λ (s : Option SeatView). SeatTickRow (state_of w c) q
+          (seat_state s (seat_keeper w q).slots (restorable_of c q)) o (state_of new c)) (sym is)
+          (k.0, ap (λ (x : WorldView). state_of x c) k.1)),
       subst (λ (x : WorldView). CoresMatch x c) (sym k.1) fits,
     )
     at (Some s) side is k =
         let p = seat_packet w.id (party_of q) s.follower.log.entries s.claim s.claim_saved in
         let may : Datagram → Type 0 = λ d. Carries d referee p in
-        let may_go : referee < parties w → IsPacket (packet_of_seat s) → Carries (datagram_of referee (packet_of_seat s)) referee p =
-        λ low range. subst (λ (x : Packet). Carries (datagram_of referee (packet_of_seat s)) referee x) (same_packet w.id w.terms q (restorable_of c q) s side.1)
+        let may_go : referee < parties w → IsPacket (packet_of_seat s) → Carries
+        (datagram_of referee (packet_of_seat s)) referee p =
+        λ low range. subst (λ (x : Packet). Carries (datagram_of referee (packet_of_seat s)) referee x)
+        (same_packet w.id w.terms q (restorable_of c q) s side.1)
         (carries referee (packet_of_seat s) range) in
         let ticks = k.2.1 in
-        let one = subst (λ (x : Option Packet). SendCalls honest (parties w) 0 w.link (to_referee x) o k.0) ticks.packet k.2.2 in
-        let went = sends_all honest is_honest (parties w) may 0 w.link ((referee, packet_of_seat s) ∷ []) o k.0 (may_go, tt) one in
+        let one = subst (λ (x : Option Packet). SendCalls honest (parties w) 0 w.link
+        (to_referee x) o k.0) ticks.packet k.2.2 in
+        let went = sends_all honest is_honest (parties w) may 0 w.link ((referee, packet_of_seat s) ∷ []) o k.0
+        (may_go, tt) one in
         let same : new ≡ record w { link = k.0 } =
-        k.3 ∙ same_seat q (record w { link = k.0 }) (Some k.1) (ap (λ (x : SeatView). Some x) ticks.after ∙ sym is ∙ kept_seat q k.0) in
-        let row = ticks_row may 1 (state_of w c) (state_of new c) (k.0).sent o (omega arith) went (ap (λ (x : WorldView). state_of x c) same) in (
-          lift q (state_of new c) (subst (λ (x : Option SeatView). SeatTickRow (state_of w c) q (seat_state x (seat_keeper w q).slots (restorable_of c q)) o (state_of new c)) (sym is) row),
-          subst (λ (x : WorldView). CoresMatch x c) (sym same) (record { referee = fits.referee; x = fits.x; o = fits.o; watchers = fits.watchers }),
+        k.3 ∙ same_seat q (record w { link = k.0 }) (Some k.1)
+        (ap (λ (x : SeatView). Some x) ticks.after ∙ sym is ∙ kept_seat q k.0) in
+        let row = ticks_row may 1 (state_of w c) (state_of new c) (k.0).sent o (omega arith) went
+        (ap (λ (x : WorldView). state_of x c) same) in (
+          lift q (state_of new c) (subst (λ (x : Option SeatView). SeatTickRow (state_of w c) q
+              (seat_state x (seat_keeper w q).slots (restorable_of c q)) o (state_of new c)) (sym is) row),
+          subst (λ (x : WorldView). CoresMatch x c) (sym same)
+              (record { referee = fits.referee; x = fits.x; o = fits.o; watchers = fits.watchers }),
         )
 
 -- ---- a watcher
@@ -122,36 +152,54 @@ set_same [] i f e = refl
 set_same (x ∷ xs) zero f e = let same : x ≡ f = same_Some x f e in ap (λ (y : WatcherView). y ∷ xs) (sym same)
 set_same (x ∷ xs) (suc i) f e = ap (λ (l : List WatcherView). x ∷ l) (set_same xs i f e)
 
-pub tick_watcher_goes : (w : WorldView) (c : Restorable) (honest : Type 0) → honest → (i : ℕ) (o : Outcome) (new : WorldView) → CoresMatch w c → TickCalls honest w (roles.Watcher i) o new
+pub tick_watcher_goes : (w : WorldView) (c : Restorable) (honest : Type 0) → honest
+    → (i : ℕ) (o : Outcome) (new : WorldView) → CoresMatch w c → TickCalls honest w (roles.Watcher i) o new
     → TickStep (state_of w c) (roles.Watcher i) o (state_of new c) × CoresMatch new c
 tick_watcher_goes w c honest is_honest i o new fits h = at (slice_get w.watchers i) refl h
   where
     lift : (f : Option WatcherView) → slice_get w.watchers i ≡ f
-        → MatchOption (option_map watcher_log f) (NoParty (state_of w c) o (state_of new c)) (λ log. Sends (λ d. Carries d referee (want_packet w.id (first_watcher + i) log)) (state_of w c) o (state_of new c))
+        → MatchOption (option_map watcher_log f) (NoParty (state_of w c) o (state_of new c))
+        (λ log. Sends (λ d. Carries d referee (want_packet w.id (first_watcher + i) log)) (state_of w c) o
+        (state_of new c))
         → TickStep (state_of w c) (roles.Watcher i) o (state_of new c)
     lift f is k =
-        subst (λ (x : Option (List Entry)). MatchOption x (NoParty (state_of w c) o (state_of new c)) (λ log. Sends (λ d. Carries d referee (want_packet w.id (first_watcher + i) log)) (state_of w c) o (state_of new c)))
+        subst (λ (x : Option (List Entry)). MatchOption x (NoParty (state_of w c) o (state_of new c))
+        (λ log. Sends (λ d. Carries d referee (want_packet w.id (first_watcher + i) log)) (state_of w c) o
+        (state_of new c)))
         (sym (get_log w.watchers i ∙ ap (option_map watcher_log) is)) k
 
     at : (f : Option WatcherView) → slice_get w.watchers i ≡ f
         → MatchOption f (NoCalls outcomes.NoSuchParty w o new)
-        (λ f. (n : LinkView) × (f' : WatcherView) × FollowerTickCalls WatcherTicks honest (parties w) w.link f o n f' × (new ≡ record w { link = n; watchers = slice_set w.watchers i f' }))
+        (λ f. (n : LinkView) × (f' : WatcherView)
+        × FollowerTickCalls WatcherTicks honest (parties w) w.link f o n f'
+        × (new ≡ record w { link = n; watchers = slice_set w.watchers i f' }))
         → TickStep (state_of w c) (roles.Watcher i) o (state_of new c) × CoresMatch new c
-    at None is k = (lift None is (k.0, ap (λ (x : WorldView). state_of x c) k.1), subst (λ (x : WorldView). CoresMatch x c) (sym k.1) fits)
+    at None is k = (
+      lift None is (k.0, ap (λ (x : WorldView). state_of x c) k.1),
+      subst (λ (x : WorldView). CoresMatch x c) (sym k.1) fits,
+    )
     at (Some f) is k =
         let fit = fits.watchers i f is in
         let log = f.follower.log in
         let p = want_packet w.id (first_watcher + i) log.entries in
         let may : Datagram → Type 0 = λ d. Carries d referee p in
         let same_packet : want_of f.party log ≡ p = ap₂ (λ (a b : ℕ). want_packet a b log.entries) fit.log.0 fit.party in
-        let may_go : referee < parties w → IsPacket (want_of f.party log) → Carries (datagram_of referee (want_of f.party log)) referee p =
-        λ low range. subst (λ (x : Packet). Carries (datagram_of referee (want_of f.party log)) referee x) same_packet (carries referee (want_of f.party log) range) in
+        let may_go : referee < parties w → IsPacket (want_of f.party log) → Carries
+        (datagram_of referee (want_of f.party log)) referee p =
+        λ low range. subst (λ (x : Packet). Carries
+        (datagram_of referee (want_of f.party log)) referee x) same_packet
+        (carries referee (want_of f.party log) range) in
         let ticks = k.2.1 in
-        let one = subst (λ (x : Option Packet). SendCalls honest (parties w) 0 w.link (to_referee x) o k.0) ticks.packet k.2.2 in
-        let went = sends_all honest is_honest (parties w) may 0 w.link ((referee, want_of f.party log) ∷ []) o k.0 (may_go, tt) one in
+        let one = subst (λ (x : Option Packet). SendCalls honest (parties w) 0 w.link
+        (to_referee x) o k.0) ticks.packet k.2.2 in
+        let went = sends_all honest is_honest (parties w) may 0 w.link ((referee, want_of f.party log) ∷ []) o k.0
+        (may_go, tt) one in
         let same : new ≡ record w { link = k.0 } =
-        k.3 ∙ ap (λ (l : List WatcherView). record w { link = k.0; watchers = l }) (ap (λ (x : WatcherView). slice_set w.watchers i x) ticks.after ∙ set_same w.watchers i f is) in
-        let row = ticks_row may 1 (state_of w c) (state_of new c) (k.0).sent o (omega arith) went (ap (λ (x : WorldView). state_of x c) same) in (
+        k.3 ∙ ap (λ (l : List WatcherView). record w { link = k.0; watchers = l })
+        (ap (λ (x : WatcherView). slice_set w.watchers i x) ticks.after ∙ set_same w.watchers i f is) in
+        let row = ticks_row may 1 (state_of w c) (state_of new c) (k.0).sent o (omega arith) went
+        (ap (λ (x : WorldView). state_of x c) same) in (
           lift (Some f) is row,
-          subst (λ (x : WorldView). CoresMatch x c) (sym same) (record { referee = fits.referee; x = fits.x; o = fits.o; watchers = fits.watchers }),
+          subst (λ (x : WorldView). CoresMatch x c) (sym same)
+              (record { referee = fits.referee; x = fits.x; o = fits.o; watchers = fits.watchers }),
         )

@@ -24,20 +24,24 @@ use Rattle.bg_world.proofs.Reached.{reached, headline, agreement, no_more, no_pa
 use Rattle.bg_world.proofs.Sides.{get_log}
 
 -- the record of a party that is up is the one that the state has
-held_entries : (r : Role) (w : WorldView) (c : Restorable) (log : Log) → held_of w r ≡ Some log → log_as (state_of w c) r ≡ Some log.entries
+held_entries : (r : Role) (w : WorldView) (c : Restorable) (log : Log) → held_of w r ≡ Some log
+    → log_as (state_of w c) r ≡ Some log.entries
 held_entries roles.Referee w c log h = at w.referee h
   where
-    at : (r : Option RefereeView) → referee_log r ≡ Some log → Some (referee_state r w.referee_keeper.slots c.referee).log ≡ Some log.entries
+    at : (r : Option RefereeView) → referee_log r ≡ Some log
+        → Some (referee_state r w.referee_keeper.slots c.referee).log ≡ Some log.entries
     at None e = absurd cc
     at (Some r) e = ap (λ (l : Log). Some l.entries) (same_Some r.log log e)
 held_entries (roles.Seat X) w c log h = at w.x h
   where
-    at : (s : Option SeatView) → seat_log s ≡ Some log → Some (seat_state s w.x_keeper.slots c.x).log ≡ Some log.entries
+    at : (s : Option SeatView) → seat_log s ≡ Some log
+        → Some (seat_state s w.x_keeper.slots c.x).log ≡ Some log.entries
     at None e = absurd cc
     at (Some s) e = ap (λ (l : Log). Some l.entries) (same_Some s.follower.log log e)
 held_entries (roles.Seat O) w c log h = at w.o h
   where
-    at : (s : Option SeatView) → seat_log s ≡ Some log → Some (seat_state s w.o_keeper.slots c.o).log ≡ Some log.entries
+    at : (s : Option SeatView) → seat_log s ≡ Some log
+        → Some (seat_state s w.o_keeper.slots c.o).log ≡ Some log.entries
     at None e = absurd cc
     at (Some s) e = ap (λ (l : Log). Some l.entries) (same_Some s.follower.log log e)
 held_entries (roles.Watcher i) w c log h = get_log w.watchers i ∙ at (slice_get w.watchers i) h
@@ -47,7 +51,8 @@ held_entries (roles.Watcher i) w c log h = get_log w.watchers i ∙ at (slice_ge
     at (Some f) e = ap (λ (l : Log). Some l.entries) (same_Some f.follower.log log e)
 
 -- what the slots of a seat restore is what the state says
-restorable_of_seat : (w : WorldView) (c : Restorable) (q : Player) → (seat (state_of w c) q).restorable ≡ restorable_of c q
+restorable_of_seat : (w : WorldView) (c : Restorable) (q : Player)
+    → (seat (state_of w c) q).restorable ≡ restorable_of c q
 restorable_of_seat w c X = at_x w.x
   where
     at_x : (s : Option SeatView) → (seat_state s w.x_keeper.slots c.x).restorable ≡ c.x
@@ -68,7 +73,8 @@ upholds w world =
       world = world;
       headline = headline v inv;
       agreement = agreement v inv;
-      claims = λ q. subst (λ (r : Option SavedParts). AreClaimsKept w.link.sent q (claim_in r)) (restorable_of_seat w c q) (of_seat v q inv).claims;
+      claims = λ q. subst (λ (r : Option SavedParts). AreClaimsKept w.link.sent q (claim_in r))
+          (restorable_of_seat w c q) (of_seat v q inv).claims;
       saved_alone = no_more v inv;
       packets = no_packet_refused v inv;
       slots = no_slot_refused v inv;
