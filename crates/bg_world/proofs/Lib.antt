@@ -8,4 +8,5 @@ pub mod WorkedRuns
 pub mod SentPlaces
 pub mod Arrivals
 pub mod KeptTexts
+pub mod Unplanned
 pub mod Running
