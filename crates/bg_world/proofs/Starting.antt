@@ -1,5 +1,5 @@
 -- A world where nothing has happened yet, over an empty link and empty slots, is a reached world: its state is the start.
-use Rattle.std.specs.Prelude.{◌≡◌, ◌⊎◌, ℕ, zero, suc, ◌+◌, List, [], ◌∷◌, ◌++◌, Some, None, length, map, replicate, slice_get}
+use Rattle.std.specs.Prelude.{◌≡◌, ◌⊎◌, ℕ, zero, suc, ◌+◌, List, [], ◌∷◌, ◌++◌, Some, None, Result, Ok, Err, IfOk, MatchResult, length, map, replicate, slice_get}
 use Rattle.std.proofs.Common.{refl, sym, ◌∙◌, ap, ap₂, subst, inl, inr, arith, length-append}
 use Rattle.std.proofs.lemmas.List.{map-append}
 use Rattle.std.proofs.lemmas.Option.{same_Some}
@@ -13,9 +13,9 @@ use Rattle.bg_wire.proofs.OneText.{empty_loads}
 use Rattle.bg_party.specs.Views.{WatcherView, fresh_watcher}
 use Rattle.bg_world.specs.declared.setups.Setup.{Setup}
 use Rattle.bg_world.specs.Slots.{empty_slots}
-use Rattle.bg_world.specs.Starts.{fresh_watchers, start_of}
+use Rattle.bg_world.specs.Starts.{AreUnused, fresh_watchers, start_of}
 use Rattle.bg_world.specs.State.{IsSetup, start}
-use Rattle.bg_world.specs.Views.{KeeperView, LinkView}
+use Rattle.bg_world.specs.Views.{KeeperView, LinkView, WorldView}
 use Rattle.bg_world.specs.WorldState.{CoresMatch, IsReachedWorld, Restorable, WatcherMatches, WatchersMatch, state_of, watcher_log}
 
 -- ---- the watchers
@@ -122,3 +122,14 @@ module _ (setup : Setup) (link : LinkView) (referee x o : KeeperView) (no_sent :
     };
     cores = start_matches;
   }
+
+-- a world that is made over devices that nothing was asked of is a reached one
+pub made_reached : {W E : Type 0} (setup : Setup) (link : LinkView) (referee x o : KeeperView) (view : W → WorldView)
+    (Refuses : E → Type 0) (result : Result W E)
+    → IfOk result (λ world. view world ≡ start_of setup link referee x o)
+    → MatchResult result (λ _. IsSetup setup.id setup.length setup.watchers) Refuses
+    → IfOk result (λ world. AreUnused link referee x o → IsReachedWorld (view world))
+made_reached setup link referee x o view Refuses (Ok world) start is = λ unused.
+    subst IsReachedWorld (sym start)
+    (start_reached setup link referee x o unused.none_sent unused.referee_empty unused.x_empty unused.o_empty is)
+made_reached setup link referee x o view Refuses (Err fault) start is = tt

@@ -1,5 +1,5 @@
 -- A world where nothing has happened yet, and the records that a world holds.
-use Rattle.std.specs.Prelude.{ℕ, zero, suc, ◌+◌, ◌<◌, ◌≤◌, List, [], ◌∷◌, ◌++◌, Option, Some, None, slice_get}
+use Rattle.std.specs.Prelude.{◌≡◌, ℕ, zero, suc, ◌+◌, ◌<◌, ◌≤◌, List, [], ◌∷◌, ◌++◌, Option, Some, None, slice_get}
 use Rattle.bg_board.specs.declared.players.Player.TheVariants.{X, O}
 use Rattle.bg_match.specs.Limits.{IsMatchLength}
 use Rattle.bg_match.specs.Match.{Log}
@@ -7,6 +7,7 @@ use Rattle.bg_match.specs.Terms.{Terms, match_length}
 use Rattle.bg_referee.specs.Referee.{RefereeView, fresh_referee}
 use Rattle.bg_party.specs.Views.{SeatView, WatcherView, fresh_seat, fresh_watcher}
 use Rattle.bg_wire.specs.Codes.{first_watcher}
+use Rattle.bg_world.specs.Slots.{empty_slots}
 use Rattle.bg_world.specs.State.{IsSetup, most_watchers}
 use Rattle.bg_world.specs.Views.{KeeperView, LinkView, WorldView, seat_core}
 use Rattle.bg_world.specs.declared.roles.Role.{Role}
@@ -42,6 +43,13 @@ start_of setup link referee_keeper x_keeper o_keeper = record {
   o = Some (fresh_seat O setup.id setup.length);
   watchers = fresh_watchers setup.id setup.length setup.watchers;
 }
+
+-- nothing was sent over the link, and the slots are empty
+pub record AreUnused (link : LinkView) (referee_keeper x_keeper o_keeper : KeeperView) : Type 0 where
+  pub none_sent : link.sent ≡ []
+  pub referee_empty : referee_keeper.slots ≡ empty_slots
+  pub x_empty : x_keeper.slots ≡ empty_slots
+  pub o_empty : o_keeper.slots ≡ empty_slots
 
 -- ---- the record of each party that is up
 

@@ -60,13 +60,19 @@ fn count(report: &mut RunReport, outcome: &Outcome)
 
 impl<L: Link, K: Keeper> World<L, K> {
     ghost use Rattle.bg_world.specs.World.{view_of};
-    ghost use Rattle.bg_world.specs.WorldRuns.{RunsCalls};
+    ghost use Rattle.bg_world.specs.Upholds.{Upholds};
+    ghost use Rattle.bg_world.specs.WorldRuns.{RunsAll, RunsCalls};
+    ghost use Rattle.bg_world.specs.WorldState.{IsReachedWorld};
 
     /// All events, in order (docs/PROTOCOL.md, "The state and its steps"), and how many of them wanted memory or came to
     /// a fault. No outcome ends the run.
     pub fn run(&mut self, events: &[Event]) -> RunReport
-        ensures calls { RunsCalls L.is_honest K.is_honest (view_of L.Link K.Keeper self.old) events.now
+        // The calls of each event; over honest devices they are a run of the protocol.
+        ensures run { RunsAll L.is_honest K.is_honest (view_of L.Link K.Keeper self.old) events.now
             result (view_of L.Link K.Keeper self.new) }
+        // What holds after any list of events, over honest devices.
+        ensures upholds { L.is_honest → K.is_honest → IsReachedWorld (view_of L.Link K.Keeper self.old)
+            → Upholds (view_of L.Link K.Keeper self.new) }
     {
         self.steps(events)
     }

@@ -6,7 +6,10 @@ use bg_match::Action;
 
 impl<L: Link, K: Keeper> World<L, K> {
     ghost use Rattle.bg_world.specs.Calls.{Calls, ChooseCalls, DueCalls};
+    ghost use Rattle.bg_world.specs.NotRefused.{IsNotRefused};
     ghost use Rattle.bg_world.specs.World.{view_of};
+    ghost use Rattle.bg_world.specs.WorldRuns.{StepsProtocol};
+    ghost use Rattle.bg_world.specs.WorldState.{IsReachedWorld};
 
     /// One event, as one atomic step (docs/PROTOCOL.md, "The state and its steps"): what happens at one party, and what
     /// it comes to. On any devices it makes exactly the calls of the link, of a keeper and of a core that the event asks
@@ -14,6 +17,12 @@ impl<L: Link, K: Keeper> World<L, K> {
     pub fn step(&mut self, event: Event) -> Outcome
         ensures calls { Calls L.is_honest K.is_honest (view_of L.Link K.Keeper self.old) event
             result (view_of L.Link K.Keeper self.new) }
+        // Over honest devices it is a step of the protocol,
+        ensures protocol { L.is_honest → K.is_honest → StepsProtocol (view_of L.Link K.Keeper self.old) event result
+            (view_of L.Link K.Keeper self.new) }
+        // and no packet and no slot is refused.
+        ensures accepted { L.is_honest → K.is_honest → IsReachedWorld (view_of L.Link K.Keeper self.old)
+            → IsNotRefused result }
     {
         self.happen(event)
     }

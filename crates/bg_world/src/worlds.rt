@@ -53,9 +53,10 @@ pub struct World<L, K> {
 }
 
 impl<L: Link + Drop, K: Keeper + Drop> World<L, K> {
-    ghost use Rattle.bg_world.specs.Starts.{start_of};
+    ghost use Rattle.bg_world.specs.Starts.{AreUnused, start_of};
     ghost use Rattle.bg_world.specs.Views.{keeper_view, link_view};
     ghost use Rattle.bg_world.specs.World.{view_of};
+    ghost use Rattle.bg_world.specs.WorldState.{IsReachedWorld};
 
     /// A world where nothing has happened yet: all parties are fresh and up (docs/PROTOCOL.md, "The state and its
     /// steps"). It asks nothing of the link and of the keepers.
@@ -72,6 +73,10 @@ impl<L: Link + Drop, K: Keeper + Drop> World<L, K> {
         ensures start { IfOk result (λ world. view_of L.Link K.Keeper world ≡ start_of setup
             (link_view L.Link link) (keeper_view K.Keeper keepers.referee) (keeper_view K.Keeper keepers.x)
             (keeper_view K.Keeper keepers.o)) }
+        // Over a link that nothing was sent over, and empty slots, it is a world that a run leads to.
+        ensures reached { IfOk result (λ world. AreUnused (link_view L.Link link) (keeper_view K.Keeper keepers.referee)
+            (keeper_view K.Keeper keepers.x) (keeper_view K.Keeper keepers.o)
+            → IsReachedWorld (view_of L.Link K.Keeper world)) }
         ensures refusal { MatchResult result (λ _. IsSetup setup.id setup.length setup.watchers)
             (λ fault. IsWorldFault fault setup) }
     {

@@ -1,0 +1,14 @@
+use Rattle.bg_world.specs.World.{view_of}
+use Rattle.bg_world.proofs.Goes.{goes}
+use Rattle.bg_world.proofs.NoRefusals.{never_refused}
+use Rattle.bg_world.proofs.worlds.World.step.Goals as goal
+
+pub returns-clause-protocol : goal.returns-clause-protocol
+returns-clause-protocol g c =
+    goes g.L.Link.is_honest g.K.Keeper.is_honest (view_of g.L.Link g.K.Keeper c.args.self.now) c.args.event
+    c.happen.result (view_of g.L.Link g.K.Keeper c.happen.new.self) c.happen.ensures
+
+pub returns-clause-accepted : goal.returns-clause-accepted
+returns-clause-accepted g c =
+    never_refused g.L.Link.is_honest g.K.Keeper.is_honest (view_of g.L.Link g.K.Keeper c.args.self.now) c.args.event
+    c.happen.result (view_of g.L.Link g.K.Keeper c.happen.new.self) c.happen.ensures
