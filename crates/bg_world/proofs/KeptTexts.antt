@@ -25,7 +25,7 @@ pub writes_honestly : (tear : Option Tear) (old : Slots) (slot : Slot) (bytes : 
     → WritesBy tear old slot bytes new result → Writes old slot bytes new result
 writes_honestly None old slot bytes new (Ok done) by = by
 writes_honestly None old slot bytes new (Err Failed) by = absurd by
-writes_honestly None old slot bytes new (Err Memory) by = left_alone old slot bytes new by
+writes_honestly None old slot bytes new (Err Memory) by = left_alone old slot bytes new by.1
 writes_honestly (Some tear) old slot bytes new (Ok done) by = absurd by
 writes_honestly (Some tear) old slot bytes new (Err Failed) by = torn_front tear.cut old slot bytes new by
 writes_honestly (Some tear) old slot bytes new (Err Memory) by = left_alone old slot bytes new by.1

@@ -8,6 +8,7 @@ pub mod WorkedRuns
 pub mod SentPlaces
 pub mod Arrivals
 pub mod KeptTexts
+pub mod Unplanned
 pub mod Running
 pub mod Sides
 pub mod Hands

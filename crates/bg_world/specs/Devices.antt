@@ -1,4 +1,4 @@
--- What a call of a device may do: a link, which carries datagrams, and a keeper, which keeps the saved texts of a party.
+-- What a call of a device may do. A link carries datagrams; a keeper keeps the saved texts of a party.
 use Rattle.std.specs.Prelude.{◌≡◌, ◌⊎◌, ℕ, ◌+◌, ◌<◌, ◌≤◌, List, [], ◌∷◌, ◌++◌, Contains, Result, Ok, Err, IsErrOf}
 use Rattle.bg_wire.specs.SlotLaws.{Slots, bytes_in, with_slot}
 use Rattle.bg_wire.specs.PacketText.{IsText}

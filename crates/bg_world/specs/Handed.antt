@@ -8,20 +8,29 @@ use Rattle.bg_wire.specs.declared.packets.Datagram.{Datagram}
 abbrev pub sent_to : ℕ → List Datagram → List Datagram
 sent_to party sent = filter (λ datagram. datagram.to == party) sent
 
--- how many; 4294967295 where there are as many or more
+-- a count of datagrams stops here
+abbrev pub greatest_count : ℕ
+greatest_count = 4294967295
+
+-- how many were sent to the party, or the greatest count where there are more
 abbrev pub count_to : ℕ → List Datagram → ℕ
-count_to party sent = min (length (sent_to party sent)) 4294967295
+count_to party sent = min (length (sent_to party sent)) greatest_count
 
 -- the bytes of a datagram, if there is one
 abbrev pub bytes_handed : Option Datagram → Option (ArrayVec ℕ)
 bytes_handed None = None
 bytes_handed (Some datagram) = Some (record { items = datagram.bytes })
 
--- The pick 4294967295 names one byte 0, which is no packet's text. Any other pick is an index, from 0, into the datagrams that
+-- the pick that names no datagram
+abbrev pub garbled_pick : ℕ
+garbled_pick = 4294967295
+
+-- The garbled pick names one byte 0, which is no packet's text. Any other pick is an index, from 0, into the datagrams that
 -- were sent to the party; it names nothing where there is none.
 abbrev pub handed : List Datagram → ℕ → ℕ → Option (ArrayVec ℕ)
 handed sent party pick =
-    if pick == 4294967295 then Some (record { items = 0 ∷ [] }) else bytes_handed (slice_get (sent_to party sent) pick)
+    if pick == garbled_pick then Some (record { items = 0 ∷ [] })
+    else bytes_handed (slice_get (sent_to party sent) pick)
 
 -- the bytes that were noted, if there were any
 abbrev pub noted : Option History → Option (ArrayVec ℕ)

@@ -1,6 +1,6 @@
--- Which calls of a device fail by its plan, and what a call that follows a plan does. Calls are counted from 1 over the whole
--- run, those that failed included; so the number 0 names no call, and neither does 4294967295.
-use Rattle.std.specs.Prelude.{◌≡◌, ℕ, List, [], ◌∷◌, ◌++◌, Bool, ◌&&◌, Option, Some, None, IsSome, Result, Ok, Err, IsTrue, take, find, nat_lt, ◌==◌, if◌then◌else◌}
+-- Which calls of a device fail by its plan, and what a call that follows a plan does. Calls are counted from 1 over the
+-- whole run, those that failed included.
+use Rattle.std.specs.Prelude.{◌≡◌, ◌≢◌, ℕ, List, [], ◌∷◌, ◌++◌, Bool, ◌&&◌, Option, Some, None, Result, Ok, Err, IsTrue, take, find, nat_lt, ◌==◌, if◌then◌else◌}
 use Rattle.std.specs.Global.{Vec}
 use Rattle.bg_wire.specs.SlotLaws.{Slots, bytes_in, with_slot}
 use Rattle.bg_wire.specs.declared.packets.Datagram.{Datagram}
@@ -13,9 +13,13 @@ use Rattle.bg_world.specs.declared.plans.Tear.{Tear}
 
 -- ---- which call fails
 
--- the number names a call
+-- a plan names calls below this number
+abbrev pub unnamed_call : ℕ
+unnamed_call = 4294967295
+
+-- a plan may name the call of this number
 abbrev pub names_call : ℕ → Bool
-names_call nth = nat_lt 0 nth && nat_lt nth 4294967295
+names_call nth = nat_lt 0 nth && nat_lt nth unnamed_call
 
 -- what a plan says of the send of this number: its first entry for it, if there is one
 abbrev pub failure_at : List FailSend → ℕ → Option FailSend
@@ -39,8 +43,8 @@ read_failure_at plan nth =
 
 -- ---- what a call does by its plan
 
--- A send goes out where the plan says nothing of it. Where it has a failure for it, the send fails, and goes out or not as the
--- failure says. Memory is wanted only by a send that goes out, which then does not.
+-- A send goes out where the plan says nothing of it. Where it has a failure for it, the send fails, and goes out or not as
+-- the failure says. Memory is wanted only by a send that goes out, which then does not.
 abbrev pub SendsBy : Option FailSend → List Datagram → Datagram → List Datagram → Result (Unit {0}) DeviceFault → Type 0
 SendsBy None old datagram new (Ok done) = new ≡ old ++ datagram ∷ []
 SendsBy None old datagram new (Err Failed) = ⊥
@@ -54,22 +58,27 @@ abbrev pub torn_at : Option ℕ → Slots → Slot → List ℕ → Slots
 torn_at None slots slot bytes = slots
 torn_at (Some cut) slots slot bytes = with_slot slots slot (take cut bytes)
 
--- A write leaves its bytes where the plan says nothing of it. Where it has a tear for it, the write fails, and leaves what the
--- tear says. Memory is wanted only by a write that leaves something, which then leaves the slots as they were.
+-- a torn write leaves bytes, at least one
+abbrev pub LeavesBytes : Option ℕ → List ℕ → Type 0
+LeavesBytes None bytes = ⊥
+LeavesBytes (Some cut) bytes = take cut bytes ≢ []
+
+-- A write leaves its bytes where the plan says nothing of it. Where it has a tear for it, the write fails, and leaves what
+-- the tear says. Memory is wanted only by a write that leaves bytes, which then leaves the slots as they were.
 abbrev pub WritesBy : Option Tear → Slots → Slot → List ℕ → Slots → Result (Unit {0}) DeviceFault → Type 0
 WritesBy None old slot bytes new (Ok done) = new ≡ with_slot old slot bytes
 WritesBy None old slot bytes new (Err Failed) = ⊥
-WritesBy None old slot bytes new (Err Memory) = new ≡ old
+WritesBy None old slot bytes new (Err Memory) = (bytes ≢ []) × (new ≡ old)
 WritesBy (Some tear) old slot bytes new (Ok done) = ⊥
 WritesBy (Some tear) old slot bytes new (Err Failed) = new ≡ torn_at tear.cut old slot bytes
-WritesBy (Some tear) old slot bytes new (Err Memory) = IsSome tear.cut × (new ≡ old)
+WritesBy (Some tear) old slot bytes new (Err Memory) = LeavesBytes tear.cut bytes × (new ≡ old)
 
--- A read gives the bytes of its slot, or wants memory for them, where the plan says nothing of it. Where it has a failure for
--- it, the read fails.
+-- A read gives the bytes of its slot, or wants memory for them if there are any, where the plan says nothing of it. Where
+-- it has a failure for it, the read fails.
 abbrev pub ReadsBy : Option FailRead → Slots → Slot → Result (Vec ℕ) DeviceFault → Type 0
 ReadsBy None slots slot (Ok bytes) = bytes.items ≡ bytes_in slots slot
 ReadsBy None slots slot (Err Failed) = ⊥
-ReadsBy None slots slot (Err Memory) = Unit {0}
+ReadsBy None slots slot (Err Memory) = bytes_in slots slot ≢ []
 ReadsBy (Some failure) slots slot (Ok bytes) = ⊥
 ReadsBy (Some failure) slots slot (Err Failed) = Unit {0}
 ReadsBy (Some failure) slots slot (Err Memory) = ⊥

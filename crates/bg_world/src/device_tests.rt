@@ -1,5 +1,8 @@
 //! The devices in memory: what they hand over and keep, and which of their calls fail.
-use crate::{DeviceFault, FailRead, FailSend, Keeper, Link, MemoryKeeper, MemoryNet, Tear};
+ghost use Rattle.std.specs.Prelude.{◌≡◌, [], IfSome, Ok, Some};
+ghost use Rattle.bg_world.specs.Handed.{handed};
+
+use crate::{DeviceFault, FailRead, FailSend, Keeper, Link, MemoryKeeper, MemoryNet, Taken, Tear};
 use arrayvec::ArrayVec;
 use bg_wire::{Datagram, PacketBytes, Slot};
 use std::alloc::{AllocError, Global};
@@ -51,6 +54,13 @@ fn keeper(alloc: Global, tears: &[Tear], reads: &[FailRead]) -> Result<MemoryKee
     Ok(MemoryKeeper::new(alloc, 1, tears.to_vec(alloc)?, reads.to_vec(alloc)?))
 }
 
+/// Who knows nothing of a link but what every link promises knows that it does not fail by itself where its plan is empty.
+fn send_over<L: Link>(link: &mut L, datagram: &Datagram) -> Result<(), DeviceFault>
+    ensures { L.plan link.old ≡ Some [] → L.faults link.new ≡ L.faults link.old }
+{
+    link.send(datagram)
+}
+
 fn check_send(
     rt: &impl Abort,
     net: &mut MemoryNet,
@@ -59,19 +69,26 @@ fn check_send(
     expected: Result<(), DeviceFault>,
 ) {
     assert!(rt;
-        net.send(&datagram(rt, to, bytes)) == expected,
+        send_over(net, &datagram(rt, to, bytes)) == expected,
         "{to} {bytes:?}"
     );
 }
 
+/// Who knows nothing of a link but what every link promises is handed what the pick names, where there is a plan.
+fn take_over<L: Link>(link: &mut L, party: u8, pick: u32) -> Taken
+    ensures { IfSome (L.plan link.old) (λ _. result ≡ Ok (handed (L.sent link.old) party pick)) }
+{
+    link.take(party, pick)
+}
+
 fn check_take(rt: &impl Abort, net: &mut MemoryNet, party: u8, pick: u32, expected: &[u8]) {
-    let taken = net.take(party, pick).expect(rt, "a take");
+    let taken = take_over(net, party, pick).expect(rt, "a take");
     let bytes = taken.expect(rt, "a datagram");
     assert_eq!(rt; bytes.as_slice(), expected);
 }
 
 fn check_nothing(rt: &impl Abort, net: &mut MemoryNet, party: u8, pick: u32) {
-    let taken = net.take(party, pick).expect(rt, "a take");
+    let taken = take_over(net, party, pick).expect(rt, "a take");
     assert!(rt; taken.is_none(), "{party} {pick}");
 }
 
@@ -328,16 +345,25 @@ fn refused_growths_of_keepers(rt: HostRuntime) -> Result<(), Fail> {
     Ok(())
 }
 
-/// A write that is torn and leaves nothing, and a read that fails, want no memory.
+/// A write that is torn and leaves no bytes, and a read that fails or finds none, want no memory.
 #[test]
-fn refused_growths_of_no_write(rt: HostRuntime) -> Result<(), Fail> {
-    let tear = Tear {
-        party: 1,
-        nth: 1,
-        cut: None,
-    };
-    let mut keeper = keeper_at_last(rt.alloc(), &[tear], &[FailRead { party: 1, nth: 1 }])?;
+fn refused_growths_of_no_bytes(rt: HostRuntime) -> Result<(), Fail> {
+    let tears = [
+        Tear {
+            party: 1,
+            nth: 1,
+            cut: None,
+        },
+        Tear {
+            party: 1,
+            nth: 2,
+            cut: Some(0),
+        },
+    ];
+    let mut keeper = keeper_at_last(rt.alloc(), &tears, &[FailRead { party: 1, nth: 1 }])?;
+    assert!(rt; keeper.write(Slot::One, &TEXT) == FAILED);
     assert!(rt; keeper.write(Slot::One, &TEXT) == FAILED);
     assert!(rt; keeper.read(Slot::One).err() == Some(DeviceFault::Failed));
+    check_read(&rt, &mut keeper, Slot::One, &[]);
     Ok(())
 }

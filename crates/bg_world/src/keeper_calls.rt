@@ -12,7 +12,8 @@ pub(crate) fn write_slot<K: Keeper>(
     slot: Slot,
     text: &[u8],
 ) -> Result<(), DeviceFault>
-    ensures { WritesOnce K.is_honest (keeper_view K.Keeper keeper.old) slot text.now result (keeper_view K.Keeper keeper.new) }
+    ensures { WritesOnce K.is_honest (keeper_view K.Keeper keeper.old) slot text.now
+        result (keeper_view K.Keeper keeper.new) }
 {
     keeper.write(slot, text)
 }

@@ -43,5 +43,5 @@ pub use memory_net::MemoryNet;
 pub use plans::{FailRead, FailSend, Plan, Tear};
 pub use roles::Role;
 pub use runs::RunReport;
-pub use setups::{Keepers, MOST_WATCHERS, Setup, WorldFault};
+pub use setups::{Keepers, Setup, WorldFault};
 pub use worlds::World;

@@ -1,5 +1,5 @@
 //! A keeper in memory.
-ghost use Rattle.std.specs.Prelude.{◌≡◌, length, min, Ok};
+ghost use Rattle.std.specs.Prelude.{◌≡◌, ◌≢◌, [], length, min, IfOk, Ok, OnErr};
 ghost use Rattle.bg_world.specs.Plan.{ReadsBy, WritesBy};
 
 use crate::notes::count_failed;
@@ -8,7 +8,7 @@ use crate::slot_texts::SlotTexts;
 use crate::{DeviceFault, FailRead, Keeper, Tear};
 use bg_text::History;
 use bg_wire::Slot;
-use std::alloc::Global;
+use std::alloc::{AllocError, Global};
 
 /// A keeper in memory, which is honest. Its writes and reads fail by a plan (docs/PROTOCOL.md, "Devices").
 #[derive(Drop)]
@@ -63,6 +63,17 @@ impl MemoryKeeper {
     }
 }
 
+/// The same bytes. Memory is wanted only where there are any.
+fn copy_of(alloc: Global, bytes: &[u8]) -> Result<Vec<u8>, AllocError>
+    ensures ok { IfOk result (λ copy. copy.items ≡ bytes.now) }
+    ensures err { OnErr result (bytes.now ≢ []) }
+{
+    if bytes.is_empty() {
+        return Ok(Vec::new(alloc));
+    }
+    bytes.to_vec(alloc)
+}
+
 /// Does with a text what the plan says of this write.
 fn write_by(
     tear: Option<Tear>,
@@ -75,13 +86,13 @@ fn write_by(
 {
     match tear {
         None => {
-            texts.set(slot, bytes.to_vec(alloc)?);
+            texts.set(slot, copy_of(alloc, bytes)?);
             Ok(())
         }
         Some(tear) => {
             if let Some(cut) = tear.cut {
                 let cut = (cut as usize).min(bytes.len());
-                texts.set(slot, bytes[..cut].to_vec(alloc)?);
+                texts.set(slot, copy_of(alloc, &bytes[..cut])?);
             }
             Err(DeviceFault::Failed)
         }
@@ -98,7 +109,7 @@ fn read_by(
     ensures { ReadsBy failure texts.now slot result }
 {
     match failure {
-        None => Ok(texts.get(slot).to_vec(alloc)?),
+        None => Ok(copy_of(alloc, texts.get(slot))?),
         Some(_) => Err(DeviceFault::Failed),
     }
 }

@@ -2,7 +2,7 @@
 ghost use Rattle.std.specs.Prelude.{◌≡◌, ◌≤◌, ℕ, IfOk, IfSome};
 ghost use Rattle.bg_match.specs.Limits.{IsMatchLength};
 ghost use Rattle.bg_match.specs.Terms.{match_length};
-ghost use Rattle.bg_wire.specs.Codes.{first_watcher, referee};
+ghost use Rattle.bg_wire.specs.Codes.{first_watcher, referee as referee_party};
 ghost use Rattle.bg_wire.specs.Parties.{party_of};
 ghost use Rattle.bg_wire.specs.SavedText.{IsSavable, parts_of};
 ghost use Rattle.bg_referee.specs.Referee.{fresh_referee, resumed_referee};
@@ -38,7 +38,8 @@ fn read_both<K: Keeper>(
     id: u64,
     terms: Terms,
 ) -> Result<Option<Saved>, Outcome>
-    ensures reads { ReadsBoth K.is_honest party id terms (keeper_view K.Keeper keeper.old) result (keeper_view K.Keeper keeper.new) }
+    ensures reads { ReadsBoth K.is_honest party id terms (keeper_view K.Keeper keeper.old)
+        result (keeper_view K.Keeper keeper.new) }
     ensures party { IfOk result (λ found. IfSome found (λ saved. saved.party ≡ party)) }
     ensures savable { IfOk result (λ found. IfSome found (λ saved. IsSavable (parts_of saved))) }
 {
@@ -60,21 +61,22 @@ fn read_both<K: Keeper>(
 fn restart_referee<K: Keeper>(
     alloc: Global,
     keeper: &mut K,
-    core: &mut Option<Referee>,
+    referee: &mut Option<Referee>,
     id: u64,
     terms: Terms,
 ) -> Outcome
     requires { IsMatchLength (match_length terms) }
-    ensures { RestartCallsAt resumed_referee (fresh_referee id terms) K.is_honest referee id terms (keeper_view K.Keeper keeper.old) result (keeper_view K.Keeper keeper.new) core.new }
+    ensures { RestartCallsAt resumed_referee (fresh_referee id terms) K.is_honest referee_party id terms
+        (keeper_view K.Keeper keeper.old) result (keeper_view K.Keeper keeper.new) referee.new }
 {
-    *core = None;
+    *referee = None;
     match read_both(alloc, keeper, REFEREE, id, terms) {
         Ok(Some(saved)) => {
-            *core = Some(Referee::resume(alloc, saved));
+            *referee = Some(Referee::resume(alloc, saved));
             Outcome::Restarted
         }
         Ok(None) => {
-            *core = Some(Referee::fresh(alloc, id, terms).unwrap());
+            *referee = Some(Referee::fresh(alloc, id, terms).unwrap());
             Outcome::Restarted
         }
         Err(why) => why,
@@ -85,22 +87,23 @@ fn restart_referee<K: Keeper>(
 fn restart_seat<K: Keeper>(
     alloc: Global,
     keeper: &mut K,
-    core: &mut Option<Seat>,
+    seat: &mut Option<Seat>,
     player: Player,
     id: u64,
     terms: Terms,
 ) -> Outcome
     requires { IsMatchLength (match_length terms) }
-    ensures { RestartCallsAt resumed_seat (fresh_seat player id terms) K.is_honest (party_of player) id terms (keeper_view K.Keeper keeper.old) result (keeper_view K.Keeper keeper.new) core.new }
+    ensures { RestartCallsAt resumed_seat (fresh_seat player id terms) K.is_honest (party_of player) id terms
+        (keeper_view K.Keeper keeper.old) result (keeper_view K.Keeper keeper.new) seat.new }
 {
-    *core = None;
+    *seat = None;
     match read_both(alloc, keeper, party_of(player), id, terms) {
         Ok(Some(saved)) => {
-            *core = Some(Seat::resume(alloc, saved));
+            *seat = Some(Seat::resume(alloc, saved));
             Outcome::Restarted
         }
         Ok(None) => {
-            *core = Some(Seat::fresh(alloc, player, id, terms).unwrap());
+            *seat = Some(Seat::fresh(alloc, player, id, terms).unwrap());
             Outcome::Restarted
         }
         Err(why) => why,
@@ -115,7 +118,8 @@ impl<L: Link, K: Keeper> World<L, K> {
     /// The party of this part begins again.
     pub(crate) fn restart(&mut self, part: Role, party: u8) -> Outcome
         requires { (index : ℕ) → part ≡ roles.Watcher index → first_watcher ≤ party }
-        ensures { RestartCalls K.is_honest (view_of L.Link K.Keeper self.old) part party result (view_of L.Link K.Keeper self.new) }
+        ensures { RestartCalls K.is_honest (view_of L.Link K.Keeper self.old) part party
+            result (view_of L.Link K.Keeper self.new) }
     {
         match part {
             Role::Referee => restart_referee(
@@ -131,7 +135,8 @@ impl<L: Link, K: Keeper> World<L, K> {
     }
 
     fn restart_seat_of(&mut self, player: Player) -> Outcome
-        ensures { (party : ℕ) → RestartCalls K.is_honest (view_of L.Link K.Keeper self.old) (roles.Seat player) party result (view_of L.Link K.Keeper self.new) }
+        ensures { (party : ℕ) → RestartCalls K.is_honest (view_of L.Link K.Keeper self.old) (roles.Seat player) party
+            result (view_of L.Link K.Keeper self.new) }
     {
         let (alloc, id, terms) = (self.alloc, self.id, self.terms);
         match player {
@@ -142,7 +147,8 @@ impl<L: Link, K: Keeper> World<L, K> {
 
     fn restart_watcher(&mut self, index: usize, party: u8) -> Outcome
         requires { first_watcher ≤ party }
-        ensures { RestartCalls K.is_honest (view_of L.Link K.Keeper self.old) (roles.Watcher index) party result (view_of L.Link K.Keeper self.new) }
+        ensures { RestartCalls K.is_honest (view_of L.Link K.Keeper self.old) (roles.Watcher index) party
+            result (view_of L.Link K.Keeper self.new) }
     {
         match self.watchers.get_mut(index) {
             None => Outcome::NoSuchParty,

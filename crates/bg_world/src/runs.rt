@@ -62,17 +62,19 @@ impl<L: Link, K: Keeper> World<L, K> {
     ghost use Rattle.bg_world.specs.World.{view_of};
     ghost use Rattle.bg_world.specs.WorldRuns.{RunsCalls};
 
-    /// All events, in order (docs/PROTOCOL.md, "The state and its steps"), and how many of them wanted memory or came to a
-    /// fault. No outcome ends the run.
+    /// All events, in order (docs/PROTOCOL.md, "The state and its steps"), and how many of them wanted memory or came to
+    /// a fault. No outcome ends the run.
     pub fn run(&mut self, events: &[Event]) -> RunReport
-        ensures calls { RunsCalls L.is_honest K.is_honest (view_of L.Link K.Keeper self.old) events.now result (view_of L.Link K.Keeper self.new) }
+        ensures calls { RunsCalls L.is_honest K.is_honest (view_of L.Link K.Keeper self.old) events.now
+            result (view_of L.Link K.Keeper self.new) }
     {
         self.steps(events)
     }
 
     /// The calls of all events.
     pub(crate) fn steps(&mut self, events: &[Event]) -> RunReport
-        ensures { RunsCalls L.is_honest K.is_honest (view_of L.Link K.Keeper self.old) events.now result (view_of L.Link K.Keeper self.new) }
+        ensures { RunsCalls L.is_honest K.is_honest (view_of L.Link K.Keeper self.old) events.now
+            result (view_of L.Link K.Keeper self.new) }
     {
         let mut report = RunReport {
             done: 0,

@@ -14,7 +14,8 @@ use bg_wire::SaveRefusal;
 
 /// The referee saves. It is down where the write fails.
 fn save_referee<K: Keeper>(keeper: &mut K, referee: &mut Option<Referee>) -> Outcome
-    ensures { SaveCallsAt referee_parts referee_after_save K.is_honest (keeper_view K.Keeper keeper.old) referee.old result (keeper_view K.Keeper keeper.new) referee.new }
+    ensures { SaveCallsAt referee_parts referee_after_save K.is_honest (keeper_view K.Keeper keeper.old) referee.old
+        result (keeper_view K.Keeper keeper.new) referee.new }
 {
     let Some(core) = referee else {
         return Outcome::Down;
@@ -38,7 +39,8 @@ fn save_referee<K: Keeper>(keeper: &mut K, referee: &mut Option<Referee>) -> Out
 
 /// A seat saves. It is down where the write fails.
 fn save_seat<K: Keeper>(keeper: &mut K, seat: &mut Option<Seat>) -> Outcome
-    ensures { SaveCallsAt seat_parts seat_after_save K.is_honest (keeper_view K.Keeper keeper.old) seat.old result (keeper_view K.Keeper keeper.new) seat.new }
+    ensures { SaveCallsAt seat_parts seat_after_save K.is_honest (keeper_view K.Keeper keeper.old) seat.old
+        result (keeper_view K.Keeper keeper.new) seat.new }
 {
     let Some(core) = seat else {
         return Outcome::Down;
@@ -67,7 +69,8 @@ impl<L: Link, K: Keeper> World<L, K> {
 
     /// The party of this part saves.
     pub(crate) fn save(&mut self, part: Role) -> Outcome
-        ensures { SaveCalls K.is_honest (view_of L.Link K.Keeper self.old) part result (view_of L.Link K.Keeper self.new) }
+        ensures { SaveCalls K.is_honest (view_of L.Link K.Keeper self.old) part
+            result (view_of L.Link K.Keeper self.new) }
     {
         match part {
             Role::Referee => save_referee(&mut self.keepers.referee, &mut self.referee),
@@ -77,7 +80,8 @@ impl<L: Link, K: Keeper> World<L, K> {
     }
 
     fn save_seat_of(&mut self, player: Player) -> Outcome
-        ensures { SaveCalls K.is_honest (view_of L.Link K.Keeper self.old) (roles.Seat player) result (view_of L.Link K.Keeper self.new) }
+        ensures { SaveCalls K.is_honest (view_of L.Link K.Keeper self.old) (roles.Seat player)
+            result (view_of L.Link K.Keeper self.new) }
     {
         match player {
             Player::X => save_seat(&mut self.keepers.x, &mut self.x),

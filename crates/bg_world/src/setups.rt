@@ -1,7 +1,5 @@
 //! What a world is made of.
-ghost use Rattle.std.specs.Prelude.{◌≡◌, ◌≢◌, ◌≤◌, MatchResult};
-ghost use Rattle.bg_match.specs.Limits.{IsMatchLength};
-ghost use Rattle.bg_match.specs.Terms.{match_length};
+ghost use Rattle.std.specs.Prelude.{◌≢◌, MatchResult};
 ghost use Rattle.bg_world.specs.Starts.{IsWorldFault};
 ghost use Rattle.bg_world.specs.State.{IsSetup};
 
@@ -11,7 +9,7 @@ use std::alloc::{AllocError, AllocFailed};
 use thiserror::Error;
 
 /// The most that may watch a match.
-pub const MOST_WATCHERS: u8 = LAST_WATCHER - FIRST_WATCHER + 1;
+const MOST_WATCHERS: u8 = LAST_WATCHER - FIRST_WATCHER + 1;
 
 /// A match that is to be played.
 #[derive(Clone, Copy, Debug, PartialEq, Eq)]
@@ -27,7 +25,8 @@ pub struct Setup {
 impl Setup {
     /// Whether a world can be made of it.
     pub(crate) fn check(self) -> Result<(), WorldFault>
-        ensures { MatchResult result (λ _. IsSetup self.id self.length self.watchers) (λ fault. (fault ≢ WorldFault.Memory) × IsWorldFault fault self) }
+        ensures { MatchResult result (λ _. IsSetup self.id self.length self.watchers)
+            (λ fault. (fault ≢ WorldFault.Memory) × IsWorldFault fault self) }
     {
         if self.watchers > MOST_WATCHERS {
             return Err(WorldFault::TooManyWatchers);

@@ -8,18 +8,20 @@ impl<L: Link, K: Keeper> World<L, K> {
     ghost use Rattle.bg_world.specs.Calls.{Calls, ChooseCalls, DueCalls};
     ghost use Rattle.bg_world.specs.World.{view_of};
 
-    /// One event, as one atomic step (docs/PROTOCOL.md, "The state and its steps"): what happens at one party, and what it
-    /// comes to. It makes the calls of the link, of a keeper and of a core that the event names, each once, and no others; so
-    /// on any devices. It takes no memory but for what is sent, kept or saved.
+    /// One event, as one atomic step (docs/PROTOCOL.md, "The state and its steps"): what happens at one party, and what
+    /// it comes to. On any devices it makes exactly the calls of the link, of a keeper and of a core that the event asks
+    /// for: where there is no such party, or it is down, none. It takes no memory but for what is sent, kept or saved.
     pub fn step(&mut self, event: Event) -> Outcome
-        ensures calls { Calls L.is_honest K.is_honest (view_of L.Link K.Keeper self.old) event result (view_of L.Link K.Keeper self.new) }
+        ensures calls { Calls L.is_honest K.is_honest (view_of L.Link K.Keeper self.old) event
+            result (view_of L.Link K.Keeper self.new) }
     {
         self.happen(event)
     }
 
     /// The calls of an event.
     pub(crate) fn happen(&mut self, event: Event) -> Outcome
-        ensures { Calls L.is_honest K.is_honest (view_of L.Link K.Keeper self.old) event result (view_of L.Link K.Keeper self.new) }
+        ensures { Calls L.is_honest K.is_honest (view_of L.Link K.Keeper self.old) event
+            result (view_of L.Link K.Keeper self.new) }
     {
         match event {
             Event::Due { word } => self.due(word),
@@ -43,7 +45,8 @@ impl<L: Link, K: Keeper> World<L, K> {
 
     /// A seat claims what its player chooses.
     fn choose(&mut self, player: Player, action: Action) -> Outcome
-        ensures { ChooseCalls (view_of L.Link K.Keeper self.old) player action result (view_of L.Link K.Keeper self.new) }
+        ensures { ChooseCalls (view_of L.Link K.Keeper self.old) player action
+            result (view_of L.Link K.Keeper self.new) }
     {
         match player {
             Player::X => match &mut self.x {

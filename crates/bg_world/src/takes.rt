@@ -57,7 +57,8 @@ fn take_at_referee<L: Link>(
     pick: u32,
     word: u32,
 ) -> Outcome
-    ensures { RefereeTakeCalls L.is_honest parties (link_view L.Link link.old) core.old pick word result (link_view L.Link link.new) core.new }
+    ensures { RefereeTakeCalls L.is_honest parties (link_view L.Link link.old) core.old pick word
+        result (link_view L.Link link.new) core.new }
 {
     match receive(link, REFEREE, pick) {
         Err(why) => why,
@@ -70,7 +71,8 @@ fn take_at_referee<L: Link>(
 
 /// A seat takes a datagram.
 fn take_at_seat<L: Link>(link: &mut L, party: u8, core: &mut Seat, pick: u32) -> Outcome
-    ensures { FollowerTakeCalls SeatTakes L.is_honest party (link_view L.Link link.old) core.old pick result (link_view L.Link link.new) core.new }
+    ensures { FollowerTakeCalls SeatTakes L.is_honest party (link_view L.Link link.old) core.old pick
+        result (link_view L.Link link.new) core.new }
 {
     match receive(link, party, pick) {
         Err(why) => why,
@@ -80,7 +82,8 @@ fn take_at_seat<L: Link>(link: &mut L, party: u8, core: &mut Seat, pick: u32) ->
 
 /// A watcher takes a datagram.
 fn take_at_watcher<L: Link>(link: &mut L, party: u8, core: &mut Watcher, pick: u32) -> Outcome
-    ensures { FollowerTakeCalls WatcherTakes L.is_honest party (link_view L.Link link.old) core.old pick result (link_view L.Link link.new) core.new }
+    ensures { FollowerTakeCalls WatcherTakes L.is_honest party (link_view L.Link link.old) core.old pick
+        result (link_view L.Link link.new) core.new }
 {
     match receive(link, party, pick) {
         Err(why) => why,
@@ -94,7 +97,8 @@ impl<L: Link, K: Keeper> World<L, K> {
 
     /// The party of this part takes what the link gives for this pick.
     pub(crate) fn take(&mut self, part: Role, party: u8, pick: u32, word: u32) -> Outcome
-        ensures { TakeCalls L.is_honest (view_of L.Link K.Keeper self.old) part party pick word result (view_of L.Link K.Keeper self.new) }
+        ensures { TakeCalls L.is_honest (view_of L.Link K.Keeper self.old) part party pick word
+            result (view_of L.Link K.Keeper self.new) }
     {
         let parties = self.parties();
         match part {

@@ -17,7 +17,8 @@ use bg_wire::{Packet, REFEREE};
 fn send_all<L: Link>(link: &mut L, parties: usize, packets: &[(u8, Packet)]) -> Outcome
     requires few { length packets.now ≤ 2 }
     requires fit { AllByRecursion (λ packet. IsPacket packet.1) packets.now }
-    ensures { SendCalls L.is_honest parties 0 (link_view L.Link link.old) packets.now result (link_view L.Link link.new) }
+    ensures { SendCalls L.is_honest parties 0 (link_view L.Link link.old) packets.now
+        result (link_view L.Link link.new) }
 {
     let mut sent = 0;
     let mut rest = packets;
@@ -37,7 +38,8 @@ fn send_all<L: Link>(link: &mut L, parties: usize, packets: &[(u8, Packet)]) -> 
 fn send_to_referee<L: Link>(link: &mut L, parties: usize, packet: Option<Packet>) -> Outcome
     requires fits { IfSome packet IsPacket }
     requires referee_exists { 1 ≤ parties }
-    ensures { SendCalls L.is_honest parties 0 (link_view L.Link link.old) (to_referee packet) result (link_view L.Link link.new) }
+    ensures { SendCalls L.is_honest parties 0 (link_view L.Link link.old) (to_referee packet)
+        result (link_view L.Link link.new) }
 {
     let Some(packet) = packet else {
         return Outcome::Sent(0);
@@ -50,7 +52,8 @@ fn send_to_referee<L: Link>(link: &mut L, parties: usize, packet: Option<Packet>
 
 /// The referee's tick. So many parties exist, from 0.
 fn tick_referee<L: Link>(link: &mut L, parties: usize, core: &mut Referee) -> Outcome
-    ensures { RefereeTickCalls L.is_honest parties (link_view L.Link link.old) core.old result (link_view L.Link link.new) core.new }
+    ensures { RefereeTickCalls L.is_honest parties (link_view L.Link link.old) core.old
+        result (link_view L.Link link.new) core.new }
 {
     let packets = core.tick();
     send_all(link, parties, packets.as_slice())
@@ -59,7 +62,8 @@ fn tick_referee<L: Link>(link: &mut L, parties: usize, core: &mut Referee) -> Ou
 /// A seat's tick.
 fn tick_seat<L: Link>(link: &mut L, parties: usize, core: &mut Seat) -> Outcome
     requires { 1 ≤ parties }
-    ensures { FollowerTickCalls SeatTicks L.is_honest parties (link_view L.Link link.old) core.old result (link_view L.Link link.new) core.new }
+    ensures { FollowerTickCalls SeatTicks L.is_honest parties (link_view L.Link link.old) core.old
+        result (link_view L.Link link.new) core.new }
 {
     let packet = core.tick();
     send_to_referee(link, parties, packet)
@@ -68,7 +72,8 @@ fn tick_seat<L: Link>(link: &mut L, parties: usize, core: &mut Seat) -> Outcome
 /// A watcher's tick.
 fn tick_watcher<L: Link>(link: &mut L, parties: usize, core: &mut Watcher) -> Outcome
     requires { 1 ≤ parties }
-    ensures { FollowerTickCalls WatcherTicks L.is_honest parties (link_view L.Link link.old) core.old result (link_view L.Link link.new) core.new }
+    ensures { FollowerTickCalls WatcherTicks L.is_honest parties (link_view L.Link link.old) core.old
+        result (link_view L.Link link.new) core.new }
 {
     let packet = core.tick();
     send_to_referee(link, parties, packet)
@@ -80,7 +85,8 @@ impl<L: Link, K: Keeper> World<L, K> {
 
     /// The party of this part sends what its core gives.
     pub(crate) fn tick(&mut self, part: Role) -> Outcome
-        ensures { TickCalls L.is_honest (view_of L.Link K.Keeper self.old) part result (view_of L.Link K.Keeper self.new) }
+        ensures { TickCalls L.is_honest (view_of L.Link K.Keeper self.old) part
+            result (view_of L.Link K.Keeper self.new) }
     {
         let parties = self.parties();
         match part {

@@ -1,5 +1,5 @@
 //! The parties of a match, between a link and their keepers.
-ghost use Rattle.std.specs.Prelude.{◌≡◌, ◌≤◌, ◌+◌, length, vec_len, IfOk, IfErr, MatchResult, option_copied};
+ghost use Rattle.std.specs.Prelude.{◌≡◌, ◌≤◌, vec_len, IfOk, IfErr, MatchResult, option_copied};
 ghost use Rattle.bg_match.specs.Limits.{IsMatchLength};
 ghost use Rattle.bg_match.specs.Terms.{match_length};
 ghost use Rattle.bg_world.specs.Starts.{IsWorldFault, fresh_watchers};
@@ -57,19 +57,23 @@ impl<L: Link + Drop, K: Keeper + Drop> World<L, K> {
     ghost use Rattle.bg_world.specs.Views.{keeper_view, link_view};
     ghost use Rattle.bg_world.specs.World.{view_of};
 
-    /// A world where nothing has happened yet: all parties are fresh and up (docs/PROTOCOL.md, "The state and its steps").
+    /// A world where nothing has happened yet: all parties are fresh and up (docs/PROTOCOL.md, "The state and its
+    /// steps"). It asks nothing of the link and of the keepers.
     ///
     /// # Errors
-    /// The first that holds: `TooManyWatchers` where more than 253 watch, `LengthOutOfRange` where the length is not from 1
-    /// to 99, `Memory` where there is no memory for the watchers. A refusal drops the link and the keepers.
+    /// The first that holds: `TooManyWatchers` where more than 253 watch, `LengthOutOfRange` where the length is not from
+    /// 1 to 99, `Memory` where there is no memory for the watchers. A refusal drops the link and the keepers.
     pub fn new(
         alloc: Global,
         setup: Setup,
         link: L,
         keepers: Keepers<K>,
     ) -> Result<World<L, K>, WorldFault>
-        ensures start { IfOk result (λ world. view_of L.Link K.Keeper world ≡ start_of setup (link_view L.Link link) (keeper_view K.Keeper keepers.referee) (keeper_view K.Keeper keepers.x) (keeper_view K.Keeper keepers.o)) }
-        ensures refusal { MatchResult result (λ _. IsSetup setup.id setup.length setup.watchers) (λ fault. IsWorldFault fault setup) }
+        ensures start { IfOk result (λ world. view_of L.Link K.Keeper world ≡ start_of setup
+            (link_view L.Link link) (keeper_view K.Keeper keepers.referee) (keeper_view K.Keeper keepers.x)
+            (keeper_view K.Keeper keepers.o)) }
+        ensures refusal { MatchResult result (λ _. IsSetup setup.id setup.length setup.watchers)
+            (λ fault. IsWorldFault fault setup) }
     {
         World::begin(alloc, setup, link, keepers)
     }
@@ -81,8 +85,11 @@ impl<L: Link + Drop, K: Keeper + Drop> World<L, K> {
         link: L,
         keepers: Keepers<K>,
     ) -> Result<World<L, K>, WorldFault>
-        ensures start { IfOk result (λ world. view_of L.Link K.Keeper world ≡ start_of setup (link_view L.Link link) (keeper_view K.Keeper keepers.referee) (keeper_view K.Keeper keepers.x) (keeper_view K.Keeper keepers.o)) }
-        ensures refusal { MatchResult result (λ _. IsSetup setup.id setup.length setup.watchers) (λ fault. IsWorldFault fault setup) }
+        ensures start { IfOk result (λ world. view_of L.Link K.Keeper world ≡ start_of setup
+            (link_view L.Link link) (keeper_view K.Keeper keepers.referee) (keeper_view K.Keeper keepers.x)
+            (keeper_view K.Keeper keepers.o)) }
+        ensures refusal { MatchResult result (λ _. IsSetup setup.id setup.length setup.watchers)
+            (λ fault. IsWorldFault fault setup) }
     {
         setup.check()?;
         let (id, terms) = (setup.id, setup.length);
@@ -123,7 +130,7 @@ impl<L: Link, K: Keeper> World<L, K> {
         usize::from(FIRST_WATCHER) + self.watchers.len()
     }
 
-    /// The record of a party; `None` exactly where there is no such party, or it is down.
+    /// The record of a party, from 0; `None` exactly where there is no such party, or it is down.
     pub fn held(&self, party: u8) -> Option<&Record>
         ensures { option_copied result ≡ held_of (view_of L.Link K.Keeper self.now) (role party) }
     {
