@@ -1,6 +1,6 @@
 -- A restart is a row of the protocol.
-use Rattle.std.specs.Prelude.{◌≡◌, ℕ, suc, ◌+◌, Bool, true, false, List, [], Option, Some, None, IfSome, Result, MatchOption, option_map, map, slice_get, slice_set}
-use Rattle.std.proofs.Common.{refl, sym, ◌∙◌, ap, subst, arith}
+use Rattle.std.specs.Prelude.{◌≡◌, ℕ, ◌+◌, Bool, true, false, List, [], Option, Some, None, IfSome, Result, MatchOption, option_map, map, slice_get, slice_set}
+use Rattle.std.proofs.Common.{refl, sym, ◌∙◌, ap, subst}
 use Rattle.bg_board.specs.declared.players.Player.{Player}
 use Rattle.bg_board.specs.declared.players.Player.TheVariants.{X, O}
 use Rattle.bg_match.specs.declared.entries.Entry.{Entry}
@@ -24,6 +24,7 @@ use Rattle.bg_world.specs.Views.{WorldView, seat_core, seat_keeper, with_seat_co
 use Rattle.bg_world.specs.KeeperCalls.{ComesUp}
 use Rattle.bg_world.specs.Frames.{NoParty, SeatChanges}
 use Rattle.bg_world.specs.State.{RefereeState, SeatState, seat}
+use Rattle.bg_world.proofs.Saving.{number_after}
 use Rattle.bg_world.proofs.Invariant.{Inv}
 use Rattle.bg_world.proofs.Sides.{seat_side, seat_saves, slots_of_referee, slots_of_seat, watchers_match, get_log, set_log}
 use Rattle.bg_world.proofs.RestartCases.{IsReread, given, empty, not_read, no_memory, rereads}
@@ -53,9 +54,6 @@ comes_back {C} found resumed fresh answer result core P if_found if_empty if_not
         (outcomes.RestoreFault causes.Device) None k.0 k.1 if_not
     at (no_memory f) =
         let k = subst (λ (x : Result (Option Saved) Outcome). ComesUp resumed fresh x result core) f up in as_told outcomes.Memory None k.0 k.1 if_not
-
-number_after : (n : ℕ) → n + 1 ≡ suc n
-number_after n = omega arith
 
 -- two facts of a party that came back
 comes_both : (o : Outcome) (P : Bool → Type 0) (Q : Type 0) → RestartsTo o (λ up. P up × Q) → RestartsTo o P × Q

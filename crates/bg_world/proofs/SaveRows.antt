@@ -1,6 +1,6 @@
 -- A save is a row of the protocol.
-use Rattle.std.specs.Prelude.{◌≡◌, ℕ, suc, ◌+◌, List, Option, Some, None, IfSome}
-use Rattle.std.proofs.Common.{refl, sym, ◌∙◌, ap, ap₂, subst, arith}
+use Rattle.std.specs.Prelude.{◌≡◌, ℕ, List, Option, Some, None, IfSome}
+use Rattle.std.proofs.Common.{refl, sym, ◌∙◌, ap, ap₂, subst}
 use Rattle.bg_board.specs.declared.players.Player.{Player}
 use Rattle.bg_board.specs.declared.players.Player.TheVariants.{X, O}
 use Rattle.bg_match.specs.declared.actions.Action.{Action}
@@ -25,7 +25,7 @@ use Rattle.bg_world.specs.KeeperCalls.{SaveCallsAt}
 use Rattle.bg_world.specs.Frames.{SeatIfUp}
 use Rattle.bg_world.specs.State.{SeatState}
 use Rattle.bg_world.specs.Slots.{next_number}
-use Rattle.bg_world.proofs.Saving.{SlotsOk}
+use Rattle.bg_world.proofs.Saving.{SlotsOk, number_after}
 use Rattle.bg_world.proofs.Invariant.{Inv}
 use Rattle.bg_world.proofs.Sides.{StepsTo, goes_at, seat_side, seat_saves, slots_of_seat, seat_stays, down_row}
 use Rattle.bg_world.proofs.SaveCases.{IsSaved, written, torn, spent, no_memory, is_saved}
@@ -66,10 +66,6 @@ same_seat_parts id terms q slots found s fits =
     ap (λ (p : Player). make_parts (party_of p) s.claim log.entries log.id log.terms s.next_save) fits.sits_for
     ∙ same_parts (party_of q) s.claim log.entries log.id id log.terms terms s.next_save
     (next_number found) fits.log.0 fits.log.1 fits.next
-
--- the number of the save after it
-number_after : (n : ℕ) → n + 1 ≡ suc n
-number_after n = omega arith
 
 -- ---- the referee
 

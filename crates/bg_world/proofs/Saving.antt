@@ -1,5 +1,5 @@
 -- What the slots of a party have: the text of the save that they restore, in its slot, and beside it an older text or none.
-use Rattle.std.proofs.Common.{◌≡◌, ◌⊎◌, inl, inr, ℕ, Option, Some, None, List, [], ◌∷◌, ◌++◌, refl, sym, ◌∙◌, ap, subst, arith}
+use Rattle.std.proofs.Common.{◌≡◌, ◌⊎◌, inl, inr, ℕ, suc, ◌+◌, Option, Some, None, List, [], ◌∷◌, ◌++◌, refl, sym, ◌∙◌, ap, subst, arith}
 use Rattle.std.proofs.lemmas.List.{append-nil}
 use Rattle.bg_match.specs.Terms.{Terms}
 use Rattle.bg_wire.specs.Restoring.{IsSavedBy, SlotsRestore}
@@ -17,6 +17,10 @@ use Rattle.bg_world.specs.Slots.{empty_slots, IsTorn, SaveWritten, SaveTorn, nex
 pub record SlotsOk (id : ℕ) (terms : Terms) (party : ℕ) (slots : Slots) (restorable : Option SavedParts) : Type 0 where
   pub written : AreWritten slots restorable
   pub of_match : AreOfMatch party id terms slots restorable
+
+-- the number of the save after it
+pub number_after : (n : ℕ) → n + 1 ≡ suc n
+number_after n = omega arith
 
 put_back : (slots : Slots) (a : Slot) → with_slot slots a (bytes_in slots a) ≡ slots
 put_back slots Zero = refl

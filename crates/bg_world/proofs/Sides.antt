@@ -24,7 +24,7 @@ use Rattle.bg_world.specs.Step.{Step}
 use Rattle.bg_world.proofs.Saving.{SlotsOk}
 use Rattle.bg_world.proofs.Invariant.{Inv}
 
--- from the state of the world, which its slots restore in part, this is a step of the protocol, to the state of the new world
+-- From the state of the world, whose slots restore `c`, this is a step of the protocol, to the state of the new world.
 pub record StepsTo (w : WorldView) (c : Restorable) (event : Event) (result : Outcome)
     (new : WorldView) : Type 0 where
   pub restorable : Restorable
@@ -41,12 +41,6 @@ pub seat_side : (w : WorldView) (c : Restorable) (q : Player) → CoresMatch w c
     → SeatSide w.id w.terms q (seat_core w q) (seat_keeper w q) (restorable_of c q)
 seat_side w c X h = h.x
 seat_side w c O h = h.o
-
--- the seat of the state is that of the world
-pub seat_of_state : (w : WorldView) (c : Restorable) (q : Player)
-    → seat (state_of w c) q ≡ seat_state (seat_core w q) (seat_keeper w q).slots (restorable_of c q)
-seat_of_state w c X = refl
-seat_of_state w c O = refl
 
 -- a change of a seat's core, while the list of datagrams stays
 pub seat_moves : (w : WorldView) (c : Restorable) (q : Player) (n : LinkView) (s : Option SeatView)
