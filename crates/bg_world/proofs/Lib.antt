@@ -30,3 +30,6 @@ pub mod NoRefusals
 pub mod Upheld
 pub mod Starting
 pub mod Unplanned
+pub mod DiceWords
+pub mod NoFailures
+pub mod Simulating

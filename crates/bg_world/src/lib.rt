@@ -2,6 +2,7 @@
 //! any run.
 #![tactic(auto)]
 
+mod copies;
 #[cfg(test)]
 mod device_tests;
 mod devices;
@@ -23,6 +24,7 @@ mod runs;
 mod saves;
 mod sent_datagrams;
 mod setups;
+mod simulations;
 mod slot_texts;
 mod steps;
 mod takes;
@@ -45,4 +47,5 @@ pub use plans::{FailRead, FailSend, Plan, Tear};
 pub use roles::Role;
 pub use runs::RunReport;
 pub use setups::{Keepers, Setup, WorldFault};
+pub use simulations::simulate;
 pub use worlds::World;
