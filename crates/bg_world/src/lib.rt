@@ -9,6 +9,8 @@ mod devices;
 mod events;
 #[cfg(test)]
 mod fault_tests;
+#[cfg(test)]
+mod growth_tests;
 mod keeper_calls;
 mod laws;
 mod link_calls;
@@ -24,6 +26,8 @@ mod runs;
 mod saves;
 mod sent_datagrams;
 mod setups;
+#[cfg(test)]
+mod simulation_tests;
 mod simulations;
 mod slot_texts;
 mod steps;
