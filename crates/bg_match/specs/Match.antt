@@ -1,5 +1,6 @@
 -- A whole match, entry by entry.
-use Rattle.std.specs.Prelude.{◌≡◌, ◌==◌, ◌↔◌, ℕ, zero, suc, ◌+◌, ◌<◌, ◌≤◌, true, Option, Some, None, List, [], ◌∷◌, ◌++◌, length, take, slice_get, if◌then◌else◌}
+use Rattle.std.specs.Prelude.{◌≡◌, ◌==◌, ◌↔◌, ℕ, zero, suc, ◌+◌, ◌<◌, ◌≤◌, true, Option, Some, None, List, [], ◌∷◌}
+use Rattle.std.specs.Prelude.{◌++◌, length, take, slice_get, if◌then◌else◌}
 use Rattle.bg_board.specs.declared.players.Player.{Player}
 use Rattle.bg_match.specs.Limits.{most_entries, shortest_match, longest_match, IsMatchLength}
 use Rattle.bg_match.specs.Terms.{Terms, match_length}

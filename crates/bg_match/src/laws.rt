@@ -1,7 +1,9 @@
 //! Laws of the definitions, for the crates above: each is the contract of a function that does nothing.
 ghost use Rattle.bg_match.specs.Match.{MarksCrawford};
-ghost use Rattle.bg_match.specs.Laws.{MayBegin, HasLegalFronts, HasOneStanding, HasEntriesInRange, OpensByReferee, OpensWithoutSeat};
-ghost use Rattle.bg_match.specs.Laws.{AnswersWithDice, AnswersOneAction, OpeningAnswersNone, AnswersInRange, RollsAnyDice, ComparesEntries, ComparesActions};
+ghost use Rattle.bg_match.specs.Laws.{MayBegin, HasLegalFronts, HasOneStanding, HasEntriesInRange, OpensByReferee};
+ghost use Rattle.bg_match.specs.Laws.{OpensWithoutSeat};
+ghost use Rattle.bg_match.specs.Laws.{AnswersWithDice, AnswersOneAction, OpeningAnswersNone, AnswersInRange};
+ghost use Rattle.bg_match.specs.Laws.{RollsAnyDice, ComparesEntries, ComparesActions};
 
 /// The Crawford mark of a standing is that of the scores before the games of its match.
 pub fn crawford_by_scores()

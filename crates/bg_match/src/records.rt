@@ -1,10 +1,12 @@
 //! The record of a match.
-ghost use Rattle.std.specs.Prelude.{◌≡◌, ◌≢◌, ◌≤◌, ◌<◌, ◌+◌, ◌-◌, ◌↔◌, ◌⊎◌, ◌++◌, ◌∷◌, [], length, take, IsOk, IfOk, OnOk, OnErr, IfErr, IsTrue, option_copied, vec_len, vec_capacity};
+ghost use Rattle.std.specs.Prelude.{◌≡◌, ◌≢◌, ◌≤◌, ◌<◌, ◌+◌, ◌-◌, ◌↔◌, ◌⊎◌, ◌++◌, ◌∷◌, [], length, take, IsOk, IfOk};
+ghost use Rattle.std.specs.Prelude.{OnOk, OnErr, IfErr, IsTrue, option_copied};
 ghost use Rattle.std.specs.List.{AllByRecursion};
 ghost use Rattle.bg_match.specs.Limits.{IsMatchLength, longest_match, most_entries, shortest_match};
 ghost use Rattle.bg_match.specs.Match.{at_number};
 ghost use Rattle.bg_match.specs.Terms.{match_length};
 
+use crate::made::{Made, made_at, make_room};
 use crate::{
     Actor, Entry, EntryFault, LONGEST_MATCH, MOST_ENTRIES, Number, SHORTEST_MATCH, Standing, Terms,
 };
@@ -19,13 +21,6 @@ pub enum LengthFault {
     /// The length is not from 1 to 99.
     #[error("length out of range")]
     LengthOutOfRange,
-}
-
-/// An entry, and the seat that made it: `None` for an entry of the referee.
-#[derive(Debug, Drop)]
-struct Made {
-    entry: Entry,
-    seat: Option<Player>,
 }
 
 /// The entries of a match, which are legal so far (docs/RULES.md, "Entries and phases"). Entries are numbered from 1.
@@ -45,14 +40,21 @@ impl Model for Record {
 
     ghost Value = { Log };
 
-    ghost view = { λ r. record { id = r.id; terms = r.terms; entries = map (λ m. m.entry) r.made.items; spare = vec_capacity r.made - vec_len r.made } };
+    ghost view = { λ r. record {
+      id = r.id;
+      terms = r.terms;
+      entries = map (λ m. m.entry) r.made.items;
+      spare = vec_capacity r.made - vec_len r.made;
+    } };
 
-    ghost invariant = { λ r. IsKept r.terms (map (λ m. m.entry) r.made.items) (map (λ m. m.seat) r.made.items) r.standing };
+    ghost invariant = { λ r. IsKept r.terms (map (λ m. m.entry) r.made.items)
+        (map (λ m. m.seat) r.made.items) r.standing };
 }
 
 impl Record {
     ghost use Rattle.bg_match.specs.Entry.{IsEntry};
-    ghost use Rattle.bg_match.specs.Match.{StandsAt, IsLegalRecord, IsNext, empty_log, ActsAfter, SeatAfter, IsMarkedByScores, IsRecordFault, IsLog};
+    ghost use Rattle.bg_match.specs.Match.{StandsAt, IsLegalRecord, IsNext, empty_log, ActsAfter, SeatAfter};
+    ghost use Rattle.bg_match.specs.Match.{IsMarkedByScores, IsRecordFault, IsLog};
 
     /// A match with no entry.
     ///
@@ -102,7 +104,8 @@ impl Record {
     /// The player whose seat made the entry of this number, from 1. `None` for an entry of the referee, for 0 and above
     /// the number of entries.
     pub fn by(&self, number: Number) -> Option<Player>
-        ensures seat { 1 ≤ number → number ≤ length self.now.entries → SeatAfter self.now.terms (take (number - 1) self.now.entries) result }
+        ensures seat { 1 ≤ number → number ≤ length self.now.entries →
+            SeatAfter self.now.terms (take (number - 1) self.now.entries) result }
         ensures none { (number ≡ 0) ⊎ (length self.now.entries < number) → result ≡ None }
     {
         let made = made_at(&self.made, number)?;
@@ -163,7 +166,10 @@ impl Record {
     /// and no memory for more.
     pub fn push(&mut self, entry: Entry) -> Result<(), EntryFault>
         ensures ok { result ≢ Err EntryFault.Memory → (IsOk result ↔ IsNext self.old.terms self.old.entries entry) }
-        ensures appended { OnOk result (self.new ≡ record self.old { entries = self.old.entries ++ entry ∷ []; spare = self.new.spare }) }
+        ensures appended { OnOk result (self.new ≡ record self.old {
+          entries = self.old.entries ++ entry ∷ [];
+          spare = self.new.spare;
+        }) }
         ensures spare { OnOk result (0 < self.old.spare → self.new.spare + 1 ≡ self.old.spare) }
         ensures room { OnOk result (self.old.spare ≡ 0 → length self.old.entries ≤ self.new.spare + 1) }
         ensures legal { OnOk result (IsLegalRecord self.new.terms self.new.entries) }
@@ -233,28 +239,4 @@ impl Record {
         }
         self.standing.next(entry)
     }
-}
-
-/// The entry of this number, from 1.
-fn made_at(made: &[Made], number: Number) -> Option<&Made>
-    ensures { option_copied result ≡ at_number made.now number }
-{
-    made.get(usize::from(number).checked_sub(1)?)
-}
-
-/// Makes room for this many more entries, and for as many again as there are. Where there is room for this many already
-/// nothing is done.
-fn make_room(made: &mut Vec<Made>, count: usize) -> Result<(), AllocError>
-    ensures items { made.new.items ≡ made.old.items }
-    ensures len { vec_len made.new ≡ vec_len made.old }
-    ensures room { OnOk result (vec_len made.new + count ≤ vec_capacity made.new) }
-    ensures again { OnOk result (vec_capacity made.old < vec_len made.old + count → vec_len made.new + vec_len made.old ≤ vec_capacity made.new) }
-    ensures there { vec_len made.old + count ≤ vec_capacity made.old → IsOk result × (vec_capacity made.new ≡ vec_capacity made.old) }
-    ensures full { OnErr result (vec_capacity made.old < vec_len made.old + count) }
-    ensures err { OnErr result (vec_capacity made.new ≡ vec_capacity made.old) }
-{
-    if count <= made.capacity() - made.len() {
-        return Ok(());
-    }
-    made.reserve(count.max(made.len()))
 }

@@ -32,7 +32,15 @@ impl Model for Standing {
 
     ghost invariant = { λ s. IsState (state_of s.terms s.board s.phase s.cube s.score s.crawford s.game) };
 
-    ghost inverse = { λ v. record { terms = v.terms; board = v.board; phase = v.phase; cube = v.cube; score = (v.x_score, v.o_score); crawford = v.crawford; game = v.game } };
+    ghost inverse = { λ v. record {
+      terms = v.terms;
+      board = v.board;
+      phase = v.phase;
+      cube = v.cube;
+      score = (v.x_score, v.o_score);
+      crawford = v.crawford;
+      game = v.game;
+    } };
 }
 
 impl Standing {

@@ -1,5 +1,6 @@
 -- What a seat claims, and what followers send.
-use Rattle.std.specs.Prelude.{◌≡◌, ℕ, ◌+◌, ◌<◌, ◌≤◌, false, nat_lt, Option, Some, None, List, length, Result, Ok, Err, IsOk, IfSome, ◌↔◌, if◌then◌else◌, ◌&&◌}
+use Rattle.std.specs.Prelude.{◌≡◌, ℕ, ◌+◌, ◌<◌, ◌≤◌, false, nat_lt, Option, Some, None, List, length, Result, Ok, Err}
+use Rattle.std.specs.Prelude.{IsOk, IfSome, ◌↔◌, if◌then◌else◌, ◌&&◌}
 use Rattle.bg_match.specs.Terms.{Terms}
 use Rattle.bg_board.specs.declared.dice.Die.TheVariants.{One}
 use Rattle.bg_board.specs.declared.players.Player.{Player}

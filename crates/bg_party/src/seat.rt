@@ -1,5 +1,6 @@
 //! The seat of a player.
-ghost use Rattle.std.specs.Prelude.{◌≡◌, ◌≤◌, ◌<◌, ◌+◌, ◌↔◌, true, false, [], Some, None, option_copied, length, IsOk, IfOk};
+ghost use Rattle.std.specs.Prelude.{◌≡◌, ◌≤◌, ◌<◌, ◌+◌, ◌↔◌, true, false, [], Some, None, option_copied, length, IsOk};
+ghost use Rattle.std.specs.Prelude.{IfOk};
 ghost use Rattle.bg_match.specs.Match.{empty_log};
 ghost use Rattle.bg_match.specs.Limits.{shortest_match, longest_match, IsMatchLength};
 ghost use Rattle.bg_wire.specs.PacketText.{IsPacket};
@@ -55,9 +56,21 @@ impl Model for Seat {
 
     ghost Value = { SeatView };
 
-    ghost view = { λ s. record { player = s.player; follower = s.follower; claim = s.claim; claim_saved = s.claim_saved; next_save = s.last_save + 1 } };
+    ghost view = { λ s. record {
+      player = s.player;
+      follower = s.follower;
+      claim = s.claim;
+      claim_saved = s.claim_saved;
+      next_save = s.last_save + 1;
+    } };
 
-    ghost invariant = { λ s. IsSeat (record { player = s.player; follower = s.follower; claim = s.claim; claim_saved = s.claim_saved; next_save = s.last_save + 1 }) };
+    ghost invariant = { λ s. IsSeat (record {
+      player = s.player;
+      follower = s.follower;
+      claim = s.claim;
+      claim_saved = s.claim_saved;
+      next_save = s.last_save + 1;
+    }) };
 }
 
 impl Seat {
@@ -182,7 +195,8 @@ impl Seat {
     /// `SavesSpent` where the last save was that of number 4294967295, else `Memory` where there is no memory for
     /// the text.
     pub fn to_save(&self) -> Result<(Slot, u32, Vec<u8>), SaveRefusal>
-        ensures { IsNextSave (parts_with (party_of self.now.player) self.now.next_save self.now.claim self.now.follower.log) result }
+        ensures { IsNextSave
+            (parts_with (party_of self.now.player) self.now.next_save self.now.claim self.now.follower.log) result }
     {
         let party = party_of(self.player);
         next_save(

@@ -11,7 +11,8 @@ use bg_match::{Entry, Number, Record};
 pub(crate) fn first_conflict(log: &Record, start: Number, list: &[Entry]) -> Option<Number>
     requires first { 1 ≤ start }
     requires last { start + length list.now ≤ 65536 }
-    ensures { MatchOption result (Agrees log.now.entries start list.now) (λ n. IsConflict log.now.entries start list.now n) }
+    ensures { MatchOption result (Agrees log.now.entries start list.now)
+        (λ n. IsConflict log.now.entries start list.now n) }
 {
     for (index, told) in list.iter().enumerate() {
         let number = start + index as Number;

@@ -13,7 +13,8 @@ use bg_wire::{EntryList, MOST_ENTRIES_IN_PACKET, Packet, party_of};
 
 impl Referee {
     ghost use Rattle.bg_referee.specs.Referee.{IsShown};
-    ghost use Rattle.bg_referee.specs.Takes.{RefereeTakes, Replies, ComesOf, AnswerFits, reply_to, reply_to_want, reply_to_claim};
+    ghost use Rattle.bg_referee.specs.Takes.{RefereeTakes, Replies, ComesOf, AnswerFits, reply_to, reply_to_want};
+    ghost use Rattle.bg_referee.specs.Takes.{reply_to_claim};
     ghost use Rattle.bg_turns.specs.Dice.{dice_of};
 
     /// Takes a packet (docs/PROTOCOL.md, "What the referee answers"). The word gives the dice where a roll is
@@ -71,7 +72,8 @@ impl Referee {
         word: u32,
     ) -> TakeOutcome
         requires { 1 ≤ number }
-        ensures replies { Replies self.old word (reply_to_claim self.old actor sender number action.now) result self.new }
+        ensures replies { Replies self.old word (reply_to_claim self.old actor sender number action.now) result
+            self.new }
         ensures fits { AnswerFits result }
     {
         if number <= self.saved {

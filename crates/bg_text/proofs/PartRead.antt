@@ -15,7 +15,7 @@ use Rattle.bg_text.specs.Judging.{lines_of, StandsAfter, IsLineFault, IsJudged, 
 use Rattle.bg_text.specs.Reading.{IsLineAt, AddsLine, RefusesLine, IsPartRead}
 use Rattle.bg_text.specs.declared.faults.LineFault.{LineFault}
 use Rattle.bg_text.specs.declared.judging.AddFault.TheVariants.{Refused as RefusedLine}
-use Rattle.bg_text.specs.declared.judging.Judgement.{Judgement}
+use Rattle.bg_text.specs.declared.judgements.Judgement.{Judgement}
 use Rattle.bg_text.specs.declared.verdicts.Verdict.{Verdict}
 use Rattle.bg_text.specs.declared.verdicts.Verdict.TheVariants.{Fine, Refused}
 use Rattle.bg_text.proofs.ReadLines.{AreLinesOf-Leads, AreLinesOf-length, AreLinesOf-push, AreLinesOf-same, AreLinesOf-next}

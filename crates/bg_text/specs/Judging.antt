@@ -1,5 +1,6 @@
 -- What the judge says of an input.
-use Rattle.std.specs.Prelude.{◌≡◌, ◌≢◌, ◌==◌, ◌⊎◌, ◌↔◌, ℕ, ◌+◌, ◌<◌, ◌≤◌, List, [], ◌∷◌, ◌++◌, length, take, slice_index_or, Option, Some, IsTrue, codes, if◌then◌else◌}
+use Rattle.std.specs.Prelude.{◌≡◌, ◌≢◌, ◌==◌, ◌⊎◌, ◌↔◌, ℕ, ◌+◌, ◌<◌, ◌≤◌, List, [], ◌∷◌, ◌++◌, length, take}
+use Rattle.std.specs.Prelude.{slice_index_or, Option, Some, IsTrue, codes, if◌then◌else◌}
 use Rattle.std.specs.List.{onto_first}
 use Rattle.std.specs.Fmt.{decimal}
 use Rattle.std.specs.Str.{all_ascii_digits}
@@ -61,7 +62,8 @@ abbrev pub IsRefusal : EntryFault → ℕ → State → Entry → Type 0
 IsRefusal RecordFull n s e = most_entries ≤ n
 IsRefusal why n s e = (n < most_entries) × IsEntryFault why s e
 
--- why a line can't follow n entries that lead to s, by the first of three tests that fails: its text, its seat, its entry
+-- why a line can't follow n entries that lead to s, by the first of three tests that fails: its text, its seat, its
+-- entry
 abbrev pub IsLineFault : LineFault → ℕ → State → List ℕ → Type 0
 IsLineFault (fault.Text why) n s line = IsEntryTextFault why line
 IsLineFault fault.WrongPlayer n s line =

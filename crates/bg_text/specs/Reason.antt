@@ -4,7 +4,8 @@ use Rattle.std.specs.Fmt.{decimal}
 use Rattle.bg_turns.specs.declared.faults.TurnFault.{TurnFault}
 use Rattle.bg_turns.specs.declared.faults.TurnFault.TheVariants.{StepIllegal, MoreCanBePlayed, LargerMustBePlayed}
 use Rattle.bg_match.specs.declared.entries.EntryFault.{EntryFault}
-use Rattle.bg_match.specs.declared.entries.EntryFault.TheVariants.{RecordFull, MatchOver, WrongPhase, EqualOpening, Turn, NoDouble, Memory}
+use Rattle.bg_match.specs.declared.entries.EntryFault.TheVariants.{RecordFull, MatchOver, WrongPhase, EqualOpening}
+use Rattle.bg_match.specs.declared.entries.EntryFault.TheVariants.{Turn, NoDouble, Memory}
 use Rattle.bg_match.specs.declared.entries.NoDouble.{NoDouble as NoDoubleFault}
 use Rattle.bg_match.specs.declared.entries.NoDouble.TheVariants.{Crawford, NotOwner, AtCap}
 use Rattle.bg_text.specs.declared.faults.TextFault.{TextFault}

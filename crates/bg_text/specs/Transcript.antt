@@ -16,7 +16,8 @@ length_line terms = codes "length " ++ decimal terms
 abbrev pub AreLinesOf : State → List Entry → List (List ℕ) → State → Type 0
 AreLinesOf s [] [] t = t ≡ s
 AreLinesOf s (e ∷ entries) (line ∷ lines) t =
-    (line ≡ entry_text (seat_of (actor_of s.phase)) e) × (next : State) × Follows s e next × AreLinesOf next entries lines t
+    (line ≡ entry_text (seat_of (actor_of s.phase)) e) × (next : State) × Follows s e next
+    × AreLinesOf next entries lines t
 AreLinesOf s [] (line ∷ lines) t = ⊥
 AreLinesOf s (e ∷ entries) [] t = ⊥
 

@@ -2,7 +2,9 @@
 ghost use Rattle.std.specs.Prelude.{◌≡◌, ◌≤◌, ◌++◌, ◌-◌, replicate, IfOk, OnOk, IsTrue};
 ghost use Rattle.std.specs.List.{list_all};
 ghost use Rattle.std.specs.Fmt.{decimal};
-ghost use Rattle.bg_text.specs.BoardText.{board_text as text_of_board, line_text, header_line, game_part, score_part, cube_part, crawford_mark as mark, owner_word, in_four, cell, cells_line, numbers_line, counts_part, aside_line, phase_line, is_point};
+ghost use Rattle.bg_text.specs.BoardText.{board_text as text_of_board, line_text, header_line, game_part, score_part};
+ghost use Rattle.bg_text.specs.BoardText.{cube_part, crawford_mark as mark, owner_word, in_four, cell, cells_line};
+ghost use Rattle.bg_text.specs.BoardText.{numbers_line, counts_part, aside_line, phase_line, is_point};
 
 use crate::names::{letter, level_word};
 use crate::printing::{put_number, put_text};

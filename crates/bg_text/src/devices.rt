@@ -89,7 +89,8 @@ pub struct Reading<R> {
 
 impl<R: Read> Reading<R> {
     ghost use Rattle.std.specs.Prelude.{false, is_some};
-    ghost use Rattle.bg_text.specs.DeviceParts.{has_read_error, reader_of, given_of, ends_of, reads_of, read_failures_of};
+    ghost use Rattle.bg_text.specs.DeviceParts.{has_read_error, reader_of, given_of, ends_of, reads_of};
+    ghost use Rattle.bg_text.specs.DeviceParts.{read_failures_of};
 
     /// Reads from this reader. It has not been asked yet, so it has given nothing and has not failed.
     pub fn new(reader: R) -> Reading<R>
@@ -163,7 +164,8 @@ pub struct Writing<W> {
 
 impl<W: Write> Writing<W> {
     ghost use Rattle.std.specs.Prelude.{false, is_some};
-    ghost use Rattle.bg_text.specs.DeviceParts.{has_write_error, writer_of, written_of, taken_of, flushes_of, write_failures_of};
+    ghost use Rattle.bg_text.specs.DeviceParts.{has_write_error, writer_of, written_of, taken_of, flushes_of};
+    ghost use Rattle.bg_text.specs.DeviceParts.{write_failures_of};
 
     /// Writes to this writer. It has taken nothing yet, and has not failed.
     pub fn new(writer: W) -> Writing<W>

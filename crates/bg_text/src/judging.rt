@@ -1,67 +1,22 @@
 //! The judge of a transcript.
-ghost use Rattle.std.specs.Prelude.{◌≡◌, ◌≢◌, ◌≤◌, ◌↔◌, ◌++◌, ◌+◌, ℕ, length, List, Ok, IsTrue, OnOk, OnErr, IfOk, IfErr, IfSome};
-ghost use Rattle.bg_text.specs.Limits.{most_bytes};
-ghost use Rattle.bg_match.specs.Match.{StandsAt};
-ghost use Rattle.bg_match.specs.State.{State};
+ghost use Rattle.std.specs.Prelude.{◌≡◌, ◌≢◌, ◌≤◌, ◌↔◌, ◌+◌, ℕ, length, List, Ok, IsTrue, OnOk, OnErr, IfOk, IfErr};
+ghost use Rattle.std.specs.Prelude.{IfSome};
 ghost use Rattle.bg_match.specs.declared.entries.Entry.{Entry};
-ghost use Rattle.bg_text.specs.BoardText.{line_text, board_text as text_of_board};
-ghost use Rattle.bg_text.specs.Judging.{lines_of, fault_reason, refused_line, fine_line, IsWrongSeat, IsLineFault, IsTooLong, IsJudged, IsJudgement, TranscriptsAreFine, JudgementsAgree};
 ghost use Rattle.bg_text.specs.EngineFault.{SourceFails, SinkFails};
-ghost use Rattle.bg_text.specs.Transfers.{ReadsInput, WritesText};
+ghost use Rattle.bg_text.specs.Judging.{lines_of, IsWrongSeat, IsLineFault, IsJudged, IsJudgement};
+ghost use Rattle.bg_text.specs.Judging.{TranscriptsAreFine, JudgementsAgree};
+ghost use Rattle.bg_text.specs.Limits.{most_bytes};
 ghost use Rattle.bg_text.specs.Reading.{IsReadAs, IsLineAt, AddsLine, RefusesLine};
+ghost use Rattle.bg_text.specs.Transfers.{ReadsInput, WritesText};
 
-use crate::board_texts::board_text;
 use crate::faults::LineFault;
 use crate::inputs::{MOST_BYTES, read_input, read_length, split_line};
+use crate::judgements::{fine, refused, refused_at_once, too_long};
 use crate::lines::parse_entry;
-use crate::printing::{put_number, put_text};
-use crate::reasons::reason_text;
-use crate::{EngineFault, Sink, Source, Verdict};
+use crate::{EngineFault, Judgement, Sink, Source, Verdict};
 use bg_board::Player;
 use bg_match::{Entry, EntryFault, Record, Standing};
 use std::alloc::{AllocError, Global};
-
-/// What the judge says of an input.
-#[derive(Debug, PartialEq, Eq, Drop)]
-pub struct Judgement {
-    /// The board text of the standing after the good lines, and the verdict line.
-    pub text: Vec<u8>,
-    /// The verdict that the text ends with.
-    pub verdict: Verdict,
-}
-
-/// Adds the reason why a line is refused.
-fn put_reason(out: &mut Vec<u8>, why: LineFault) -> Result<(), AllocError>
-    ensures { OnOk result (out.new.items ≡ out.old.items ++ fault_reason why) }
-{
-    match why {
-        LineFault::NotALengthLine => put_text(out, "not a length line"),
-        LineFault::LengthOutOfRange => put_text(out, "length out of range"),
-        LineFault::Text(fault) => put_text(out, fault.reason()),
-        LineFault::WrongPlayer => put_text(out, "wrong player"),
-        LineFault::Entry(fault) => put_text(out, reason_text(&fault).as_str()),
-    }
-}
-
-/// Adds the verdict line of a refusal.
-fn put_refused(out: &mut Vec<u8>, number: u32, why: LineFault) -> Result<(), AllocError>
-    ensures { OnOk result (out.new.items ≡ out.old.items ++ line_text (refused_line number why)) }
-{
-    put_text(out, "refused at line ")?;
-    put_number(out, number.into())?;
-    put_text(out, ": ")?;
-    put_reason(out, why)?;
-    put_text(out, "\n")
-}
-
-/// Adds the verdict line of a good transcript.
-fn put_fine(out: &mut Vec<u8>, entries: u32) -> Result<(), AllocError>
-    ensures { OnOk result (out.new.items ≡ out.old.items ++ line_text (fine_line entries)) }
-{
-    put_text(out, "ok ")?;
-    put_number(out, entries.into())?;
-    put_text(out, "\n")
-}
 
 /// Whether a line names a seat where the other seat must act.
 fn is_wrong_seat(seat: Option<Player>, standing: &Standing) -> bool
@@ -147,49 +102,6 @@ fn judge_lines(alloc: Global, length: u8, lines: &[u8]) -> Result<Judgement, All
     fine(alloc, &log)
 }
 
-/// The judgement where a line after those of the record is refused.
-fn refused(alloc: Global, log: &Record, why: LineFault) -> Result<Judgement, AllocError>
-    ensures { IfOk result (λ judgement. (t : State) × StandsAt log.now.terms log.now.entries t
-        × (judgement.text.items ≡ text_of_board t ++ line_text (refused_line (length log.now.entries + 2) why))
-        × (judgement.verdict ≡ Verdict.Refused (length log.now.entries + 2))) }
-{
-    let number = u32::from(log.len()) + 2;
-    let mut text = board_text(alloc, &log.standing())?;
-    put_refused(&mut text, number, why)?;
-    Ok(Judgement {
-        text,
-        verdict: Verdict::Refused(number),
-    })
-}
-
-/// The judgement where all lines are those of the log.
-fn fine(alloc: Global, log: &Record) -> Result<Judgement, AllocError>
-    ensures { IfOk result (λ judgement. (t : State) × StandsAt log.now.terms log.now.entries t
-        × (judgement.text.items ≡ text_of_board t ++ line_text (fine_line (length log.now.entries)))
-        × (judgement.verdict ≡ Verdict.Fine (length log.now.entries))) }
-{
-    let entries = u32::from(log.len());
-    let mut text = board_text(alloc, &log.standing())?;
-    put_fine(&mut text, entries)?;
-    Ok(Judgement {
-        text,
-        verdict: Verdict::Fine(entries),
-    })
-}
-
-/// The judgement where line 1 is refused.
-fn refused_at_once(alloc: Global, why: LineFault) -> Result<Judgement, AllocError>
-    ensures { IfOk result (λ judgement. (judgement.text.items ≡ line_text (refused_line 1 why))
-        × (judgement.verdict ≡ Verdict.Refused 1)) }
-{
-    let mut text = Vec::new(alloc);
-    put_refused(&mut text, 1, why)?;
-    Ok(Judgement {
-        text,
-        verdict: Verdict::Refused(1),
-    })
-}
-
 /// What the judge says of an input: the board after its longest legal part, and the verdict, as docs/FORMATS.md,
 /// "The judge", says.
 ///
@@ -210,16 +122,6 @@ pub fn judge_text(alloc: Global, input: &[u8]) -> Result<Judgement, AllocError>
     }
 }
 
-/// The judgement on an input that is longer than the limit.
-fn too_long(alloc: Global) -> Result<Judgement, AllocError>
-    ensures { IfOk result (λ judgement. IsTooLong judgement.text.items judgement.verdict) }
-{
-    Ok(Judgement {
-        text: Vec::from_slice(alloc, b"refused: input too long\n")?,
-        verdict: Verdict::TooLong,
-    })
-}
-
 /// An input has one judgement: no two texts, and no two verdicts, are both right.
 pub fn judgements_agree()
     ensures { JudgementsAgree }
@@ -231,12 +133,12 @@ pub fn transcripts_are_fine()
 {}
 
 /// Judges a transcript: reads all of the input, writes the board and the verdict on what it read, and flushes them, as
-/// docs/FORMATS.md, "The judge", says. The input has at most 4194304 bytes, which take at most 4194305 reads; of a longer
-/// one 4194305 bytes are read, and it is TooLong. The sink is flushed once, at the end.
+/// docs/FORMATS.md, "The judge", says. The input has at most 4194304 bytes, which take at most 4194305 reads; of a
+/// longer one 4194305 bytes are read, and it is TooLong. The sink is flushed once, at the end.
 ///
 /// # Errors
-/// Read exactly where the source failed, and Memory where memory runs out: nothing was written then. Write exactly where
-/// the sink failed, as it was written to or flushed: nothing is said of how much went out.
+/// Read exactly where the source failed, and Memory where memory runs out: nothing was written then. Write exactly
+/// where the sink failed, as it was written to or flushed: nothing is said of how much went out.
 pub fn judge<S: Source, T: Sink>(
     alloc: Global,
     source: &mut S,

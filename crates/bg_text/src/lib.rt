@@ -8,6 +8,7 @@ mod histories;
 mod inputs;
 #[cfg(test)]
 mod judge_tests;
+mod judgements;
 mod judging;
 mod lines;
 mod names;
@@ -26,7 +27,8 @@ pub use devices::{Reading, Sink, Source, StreamFault, Writing};
 pub use faults::TextFault;
 pub use histories::History;
 pub use inputs::{MOST_BYTES, read_input, split_line};
-pub use judging::{Judgement, judge, judge_text, judgements_agree, transcripts_are_fine};
+pub use judgements::Judgement;
+pub use judging::{judge, judge_text, judgements_agree, transcripts_are_fine};
 pub use lines::{parse_action, parse_entry};
 pub use printing::{put_number, put_text};
 pub use reasons::reason_text;

@@ -4,7 +4,8 @@ ghost use Rattle.std.specs.List.{AllByRecursion};
 ghost use Rattle.bg_text.specs.Words.{words_of};
 ghost use Rattle.bg_text.specs.EntryText.{dice_words};
 ghost use Rattle.bg_text.specs.EntryShape.{IsPairShape};
-ghost use Rattle.bg_text.specs.Pairs.{both_of, IsNumberOf, IsPointOf, IsSourceOf, IsTargetOf, IsPairOf, IsTurnOf, IsDiceFault};
+ghost use Rattle.bg_text.specs.Pairs.{both_of, IsNumberOf, IsPointOf, IsSourceOf, IsTargetOf, IsPairOf, IsTurnOf};
+ghost use Rattle.bg_text.specs.Pairs.{IsDiceFault};
 
 use crate::TextFault;
 use crate::words::{Pieces, halves};

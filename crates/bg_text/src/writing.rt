@@ -3,7 +3,8 @@ ghost use Rattle.std.specs.Prelude.{◌≡◌, ◌+◌, ◌≤◌, ◌∷◌, �
 ghost use Rattle.std.specs.Fmt.{decimal};
 ghost use Rattle.arrayvec.specs.ArrayString.{array_string_len};
 ghost use Rattle.bg_text.specs.Words.{spaced};
-ghost use Rattle.bg_text.specs.EntryText.{entry_text, entry_words, dice_words, step_text, source_text, target_text, IsSeatOf, EntryTextsDiffer};
+ghost use Rattle.bg_text.specs.EntryText.{entry_text, entry_words, dice_words, step_text, source_text, target_text};
+ghost use Rattle.bg_text.specs.EntryText.{IsSeatOf, EntryTextsDiffer};
 
 use crate::names::level_word;
 use arrayvec::ArrayString;

@@ -17,7 +17,8 @@ use Rattle.bg_wire.specs.declared.packets.Packet.{Packet}
 use Rattle.bg_world.specs.KeeperCalls.{RestartCallsAt, SaveCallsAt}
 use Rattle.bg_world.specs.LinkCalls.{FollowerTakeCalls, FollowerTickCalls, RefereeTakeCalls, RefereeTickCalls}
 use Rattle.bg_world.specs.Roles.{role}
-use Rattle.bg_world.specs.Views.{KeeperView, LinkView, WorldView, parties, seat_core, seat_keeper, with_seat_core, with_seat_keeper}
+use Rattle.bg_world.specs.Views.{KeeperView, LinkView, WorldView, parties, seat_core, seat_keeper, with_seat_core}
+use Rattle.bg_world.specs.Views.{with_seat_keeper}
 use Rattle.bg_world.specs.declared.events.Event.{Event}
 use Rattle.bg_world.specs.declared.events.Event.TheVariants as events
 use Rattle.bg_world.specs.declared.events.Outcome.{Outcome}
@@ -49,15 +50,18 @@ pub record WatcherTakes (old : WatcherView) (p : Packet) (learned : Learned) (ne
 abbrev pub TakeCalls : Type 0 → WorldView → Role → ℕ → ℕ → ℕ → Outcome → WorldView → Type 0
 TakeCalls honest old roles.Referee party pick word result new =
     MatchOption old.referee (NoCalls outcomes.Down old result new)
-    (λ core. (link : LinkView) × (after : RefereeView) × RefereeTakeCalls honest (parties old) old.link core pick word result link after
+    (λ core. (link : LinkView) × (after : RefereeView)
+    × RefereeTakeCalls honest (parties old) old.link core pick word result link after
     × (new ≡ record old { link = link; referee = Some after }))
 TakeCalls honest old (roles.Seat player) party pick word result new =
     MatchOption (seat_core old player) (NoCalls outcomes.Down old result new)
-    (λ core. (link : LinkView) × (after : SeatView) × FollowerTakeCalls SeatTakes honest party old.link core pick result link after
+    (λ core. (link : LinkView) × (after : SeatView)
+    × FollowerTakeCalls SeatTakes honest party old.link core pick result link after
     × (new ≡ with_seat_core (record old { link = link }) player (Some after)))
 TakeCalls honest old (roles.Watcher index) party pick word result new =
     MatchOption (slice_get old.watchers index) (NoCalls outcomes.NoSuchParty old result new)
-    (λ core. (link : LinkView) × (after : WatcherView) × FollowerTakeCalls WatcherTakes honest party old.link core pick result link after
+    (λ core. (link : LinkView) × (after : WatcherView)
+    × FollowerTakeCalls WatcherTakes honest party old.link core pick result link after
     × (new ≡ record old { link = link; watchers = slice_set old.watchers index after }))
 
 -- a seat claims what its player chooses
@@ -90,26 +94,31 @@ SaveCalls honest old (roles.Watcher index) result new = NoCalls outcomes.NoSuchP
 abbrev pub TickCalls : Type 0 → WorldView → Role → Outcome → WorldView → Type 0
 TickCalls honest old roles.Referee result new =
     MatchOption old.referee (NoCalls outcomes.Down old result new)
-    (λ core. (link : LinkView) × (after : RefereeView) × RefereeTickCalls honest (parties old) old.link core result link after
+    (λ core. (link : LinkView) × (after : RefereeView)
+    × RefereeTickCalls honest (parties old) old.link core result link after
     × (new ≡ record old { link = link; referee = Some after }))
 TickCalls honest old (roles.Seat player) result new =
     MatchOption (seat_core old player) (NoCalls outcomes.Down old result new)
-    (λ core. (link : LinkView) × (after : SeatView) × FollowerTickCalls SeatTicks honest (parties old) old.link core result link after
+    (λ core. (link : LinkView) × (after : SeatView)
+    × FollowerTickCalls SeatTicks honest (parties old) old.link core result link after
     × (new ≡ with_seat_core (record old { link = link }) player (Some after)))
 TickCalls honest old (roles.Watcher index) result new =
     MatchOption (slice_get old.watchers index) (NoCalls outcomes.NoSuchParty old result new)
-    (λ core. (link : LinkView) × (after : WatcherView) × FollowerTickCalls WatcherTicks honest (parties old) old.link core result link after
+    (λ core. (link : LinkView) × (after : WatcherView)
+    × FollowerTickCalls WatcherTicks honest (parties old) old.link core result link after
     × (new ≡ record old { link = link; watchers = slice_set old.watchers index after }))
 
 -- a party comes back with what its slots restore, whether it was up or down; a watcher is fresh
 abbrev pub RestartCalls : Type 0 → WorldView → Role → ℕ → Outcome → WorldView → Type 0
 RestartCalls honest old roles.Referee party result new =
     (keeper : KeeperView) × (after : Option RefereeView)
-    × RestartCallsAt resumed_referee (fresh_referee old.id old.terms) honest referee old.id old.terms old.referee_keeper result keeper after
+    × RestartCallsAt resumed_referee (fresh_referee old.id old.terms) honest referee old.id old.terms old.referee_keeper
+    result keeper after
     × (new ≡ record old { referee_keeper = keeper; referee = after })
 RestartCalls honest old (roles.Seat player) party result new =
     (keeper : KeeperView) × (after : Option SeatView)
-    × RestartCallsAt resumed_seat (fresh_seat player old.id old.terms) honest (party_of player) old.id old.terms (seat_keeper old player) result keeper after
+    × RestartCallsAt resumed_seat (fresh_seat player old.id old.terms) honest (party_of player) old.id old.terms
+    (seat_keeper old player) result keeper after
     × (new ≡ with_seat_keeper (with_seat_core old player after) player keeper)
 RestartCalls honest old (roles.Watcher index) party result new =
     MatchOption (slice_get old.watchers index) (NoCalls outcomes.NoSuchParty old result new)
@@ -122,6 +131,8 @@ Calls link_honest keepers_honest old (events.Due word) result new = DueCalls old
 Calls link_honest keepers_honest old (events.Take party pick word) result new =
     TakeCalls link_honest old (role party) party pick word result new
 Calls link_honest keepers_honest old (events.Choose player action) result new = ChooseCalls old player action result new
-Calls link_honest keepers_honest old (events.Save party) result new = SaveCalls keepers_honest old (role party) result new
+Calls link_honest keepers_honest old (events.Save party) result new =
+    SaveCalls keepers_honest old (role party) result new
 Calls link_honest keepers_honest old (events.Tick party) result new = TickCalls link_honest old (role party) result new
-Calls link_honest keepers_honest old (events.Restart party) result new = RestartCalls keepers_honest old (role party) party result new
+Calls link_honest keepers_honest old (events.Restart party) result new =
+    RestartCalls keepers_honest old (role party) party result new

@@ -34,9 +34,10 @@ IsHand (Ok None) (Err o) = o ≡ outcomes.NoDatagram
 IsHand (Err fault) (Err o) = o ≡ link_outcome fault
 IsHand _ _ = ⊥
 
--- One take for a party: what is in hand is what the link gave. Where the link is honest, that was sent to the party; where it
--- has a plan, it is what the pick names.
-pub record Receives (honest : Type 0) (old : LinkView) (party pick : ℕ) (hand : Result Packet Outcome) (new : LinkView) : Type 0 where
+-- One take for a party: what is in hand is what the link gave. Where the link is honest, that was sent to the party;
+-- where it has a plan, it is what the pick names.
+pub record Receives
+    (honest : Type 0) (old : LinkView) (party pick : ℕ) (hand : Result Packet Outcome) (new : LinkView) : Type 0 where
   pub takes : new.takes ≡ old.takes + 1
   pub sends : new.sends ≡ old.sends
   pub plan : new.plan ≡ old.plan
@@ -52,21 +53,26 @@ abbrev pub datagram_of : ℕ → Packet → Datagram
 datagram_of to p = record { to = to; bytes = packet_text p }
 
 -- One send of a packet to a party, which the link answers.
-pub record Posts (honest : Type 0) (old : LinkView) (to : ℕ) (p : Packet) (answer : Result (Unit {0}) DeviceFault) (new : LinkView) : Type 0 where
+pub record Posts
+    (honest : Type 0) (old : LinkView) (to : ℕ) (p : Packet) (answer : Result (Unit {0}) DeviceFault)
+    (new : LinkView) : Type 0 where
   pub sends : new.sends ≡ old.sends + 1
   pub takes : new.takes ≡ old.takes
   pub taken : new.taken ≡ old.taken
   pub plan : new.plan ≡ old.plan
   pub cause : HasCause old.faults new.faults answer
   pub sent : honest → Sends old.sent (datagram_of to p) new.sent answer
-  pub planned : IfSome old.plan (λ failing. SendsBy (failure_at failing new.sends) old.sent (datagram_of to p) new.sent answer)
+  pub planned : IfSome old.plan
+      (λ failing. SendsBy (failure_at failing new.sends) old.sent (datagram_of to p) new.sent answer)
   pub counted : IfSome old.plan (λ _. CountsFailed old.faults new.faults answer)
   pub fits : IsPacket p
 
 -- ---- a keeper
 
 -- One write of a text to a slot, which the keeper answers.
-pub record WritesOnce (honest : Type 0) (old : KeeperView) (slot : Slot) (text : List ℕ) (answer : Result (Unit {0}) DeviceFault) (new : KeeperView) : Type 0 where
+pub record WritesOnce
+    (honest : Type 0) (old : KeeperView) (slot : Slot) (text : List ℕ) (answer : Result (Unit {0}) DeviceFault)
+    (new : KeeperView) : Type 0 where
   pub writes : new.writes ≡ old.writes + 1
   pub reads : new.reads ≡ old.reads
   pub written : new.written ≡ answer
@@ -82,7 +88,9 @@ read_outcome faults.Failed = outcomes.RestoreFault causes.Device
 read_outcome faults.Memory = outcomes.Memory
 
 -- One read of a slot, which the keeper answers.
-pub record ReadsOnce (honest : Type 0) (old : KeeperView) (slot : Slot) (answer : Result (Vec ℕ) DeviceFault) (new : KeeperView) : Type 0 where
+pub record ReadsOnce
+    (honest : Type 0) (old : KeeperView) (slot : Slot) (answer : Result (Vec ℕ) DeviceFault)
+    (new : KeeperView) : Type 0 where
   pub reads : new.reads ≡ old.reads + 1
   pub writes : new.writes ≡ old.writes
   pub written : new.written ≡ old.written

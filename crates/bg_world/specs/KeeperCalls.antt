@@ -27,7 +27,8 @@ SaveTold save after_save (Ok done) result after = (result ≡ outcomes.Saved sav
 SaveTold save after_save (Err fault) result after = (result ≡ outcomes.SaveFault) × (after ≡ None)
 
 -- one write where there is a text to save, and none where there is not
-abbrev pub SaveGoesOn : {C : Type 0} → (C → ℕ → C) → Type 0 → KeeperView → C → Result (Slot × ℕ × Vec ℕ) SaveRefusal → Outcome → KeeperView → Option C → Type 0
+abbrev pub SaveGoesOn : {C : Type 0} → (C → ℕ → C) → Type 0 → KeeperView → C → Result (Slot × ℕ × Vec ℕ) SaveRefusal →
+    Outcome → KeeperView → Option C → Type 0
 SaveGoesOn after_save honest old core (Ok next) result new after =
     (answer : Result (Unit {0}) DeviceFault) × WritesOnce honest old next.0 next.2.items answer new
     × SaveTold next.1 (after_save core next.1) answer result after
@@ -37,8 +38,10 @@ SaveGoesOn after_save honest old core (Err save_refusals.Memory) result new afte
     (result ≡ outcomes.Memory) × (new ≡ old) × (after ≡ Some core)
 
 -- the core gives its next save, which is written; a party that is down saves nothing
-abbrev pub SaveCallsAt : {C : Type 0} → (C → SavedParts) → (C → ℕ → C) → Type 0 → KeeperView → Option C → Outcome → KeeperView → Option C → Type 0
-SaveCallsAt parts_of after_save honest old None result new after = (result ≡ outcomes.Down) × (new ≡ old) × (after ≡ None)
+abbrev pub SaveCallsAt : {C : Type 0} → (C → SavedParts) → (C → ℕ → C) → Type 0 → KeeperView → Option C → Outcome →
+    KeeperView → Option C → Type 0
+SaveCallsAt parts_of after_save honest old None result new after =
+    (result ≡ outcomes.Down) × (new ≡ old) × (after ≡ None)
 SaveCallsAt parts_of after_save honest old (Some core) result new after =
     (next : Result (Slot × ℕ × Vec ℕ) SaveRefusal) × IsNextSave (parts_of core) next
     × SaveGoesOn after_save honest old core next result new after
@@ -56,11 +59,13 @@ restored_of (Ok found) = Ok found
 restored_of (Err refusal) = Err (refusal_outcome refusal)
 
 -- slot 1 is read too, and what the two restore is restored
-abbrev pub ReadsSecond : Type 0 → ℕ → ℕ → Terms → KeeperView → List ℕ → Result (Option Saved) Outcome → KeeperView → Type 0
+abbrev pub ReadsSecond : Type 0 → ℕ → ℕ → Terms → KeeperView → List ℕ → Result (Option Saved) Outcome → KeeperView →
+    Type 0
 ReadsSecond honest party id terms old zero restored new =
     (answer : Result (Vec ℕ) DeviceFault) × ReadsOnce honest old slots.One answer new
     × MatchResult answer
-    (λ one. (found : Result (Option Saved) RestoreRefusal) × Restores zero one.items party id terms found × (restored ≡ restored_of found))
+    (λ one. (found : Result (Option Saved) RestoreRefusal) × Restores zero one.items party id terms found
+    × (restored ≡ restored_of found))
     (λ fault. restored ≡ Err (read_outcome fault))
 
 -- slot 0 is read, and slot 1 only where that read succeeded
@@ -78,6 +83,8 @@ ComesUp resumed fresh (Ok None) result after = (result ≡ outcomes.Restarted) �
 ComesUp resumed fresh (Err why) result after = (result ≡ why) × (after ≡ None)
 
 -- the core is given up, and what the slots restore takes its place
-abbrev pub RestartCallsAt : {C : Type 0} → (Saved → C) → C → Type 0 → ℕ → ℕ → Terms → KeeperView → Outcome → KeeperView → Option C → Type 0
+abbrev pub RestartCallsAt : {C : Type 0} → (Saved → C) → C → Type 0 → ℕ → ℕ → Terms → KeeperView → Outcome →
+    KeeperView → Option C → Type 0
 RestartCallsAt resumed fresh honest party id terms old result new after =
-    (restored : Result (Option Saved) Outcome) × ReadsBoth honest party id terms old restored new × ComesUp resumed fresh restored result after
+    (restored : Result (Option Saved) Outcome) × ReadsBoth honest party id terms old restored new
+    × ComesUp resumed fresh restored result after

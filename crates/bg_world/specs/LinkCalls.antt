@@ -25,11 +25,13 @@ ComesTo due (Err fault) result = result ≡ link_outcome fault
 abbrev pub AnswerCalls : Type 0 → ℕ → LinkView → TakeOutcome → Outcome → LinkView → Type 0
 AnswerCalls honest parties old (takes.Answer to p) result new =
     MatchBool (nat_lt to parties)
-    ((answer : Result (Unit {0}) DeviceFault) × Posts honest old to p answer new × ComesTo (outcomes.Took (takes.Answer to p)) answer result)
+    ((answer : Result (Unit {0}) DeviceFault) × Posts honest old to p answer new
+    × ComesTo (outcomes.Took (takes.Answer to p)) answer result)
     ((result ≡ outcomes.Took (takes.Answer to p)) × (new ≡ old))
 AnswerCalls honest parties old took result new = (result ≡ outcomes.Took took) × (new ≡ old)
 
--- packets to parties that exist are sent in order, up to the first that fails, and the outcome counts them; so many were sent before
+-- packets to parties that exist are sent in order, up to the first that fails, and the outcome counts them; so many
+-- were sent before
 abbrev pub SendCalls : Type 0 → ℕ → ℕ → LinkView → List (ℕ × Packet) → Outcome → LinkView → Type 0
 SendCalls honest parties before old [] result new = (result ≡ outcomes.Sent before) × (new ≡ old)
 SendCalls honest parties before old (packet ∷ packets) result new =
@@ -42,7 +44,8 @@ SendCalls honest parties before old (packet ∷ packets) result new =
 -- ---- takes
 
 -- the referee takes the packet in hand, and its answer is sent
-abbrev pub RefereeHandles : Type 0 → ℕ → LinkView → RefereeView → ℕ → Result Packet Outcome → Outcome → LinkView → RefereeView → Type 0
+abbrev pub RefereeHandles : Type 0 → ℕ → LinkView → RefereeView → ℕ → Result Packet Outcome → Outcome → LinkView →
+    RefereeView → Type 0
 RefereeHandles honest parties old core word (Err why) result new after = (result ≡ why) × (new ≡ old) × (after ≡ core)
 RefereeHandles honest parties old core word (Ok p) result new after =
     (took : TakeOutcome) × RefereeTakes core p word took after × AnswerCalls honest parties old took result new
@@ -54,15 +57,18 @@ RefereeTakeCalls honest parties old core pick word result new after =
     × RefereeHandles honest parties mid core word hand result new after
 
 -- a follower's core takes the packet in hand
-abbrev pub FollowerHandles : {C : Type 0} → (C → Packet → Learned → C → Type 0) → C → Result Packet Outcome → Outcome → C → Type 0
+abbrev pub FollowerHandles : {C : Type 0} → (C → Packet → Learned → C → Type 0) → C → Result Packet Outcome → Outcome →
+    C → Type 0
 FollowerHandles CoreTakes core (Err why) result after = (result ≡ why) × (after ≡ core)
 FollowerHandles CoreTakes core (Ok p) result after =
     (learned : Learned) × CoreTakes core p learned after × (result ≡ outcomes.Learned learned)
 
 -- one take of the link, and one of the core where there is a packet
-abbrev pub FollowerTakeCalls : {C : Type 0} → (C → Packet → Learned → C → Type 0) → Type 0 → ℕ → LinkView → C → ℕ → Outcome → LinkView → C → Type 0
+abbrev pub FollowerTakeCalls : {C : Type 0} → (C → Packet → Learned → C → Type 0) → Type 0 → ℕ → LinkView → C → ℕ →
+    Outcome → LinkView → C → Type 0
 FollowerTakeCalls CoreTakes honest party old core pick result new after =
-    (hand : Result Packet Outcome) × Receives honest old party pick hand new × FollowerHandles CoreTakes core hand result after
+    (hand : Result Packet Outcome) × Receives honest old party pick hand new
+    × FollowerHandles CoreTakes core hand result after
 
 -- ---- ticks
 
@@ -77,6 +83,8 @@ to_referee None = []
 to_referee (Some p) = (referee, p) ∷ []
 
 -- a follower's tick gives a packet, or none, which is sent
-abbrev pub FollowerTickCalls : {C : Type 0} → (C → Option Packet → C → Type 0) → Type 0 → ℕ → LinkView → C → Outcome → LinkView → C → Type 0
+abbrev pub FollowerTickCalls : {C : Type 0} → (C → Option Packet → C → Type 0) → Type 0 → ℕ → LinkView → C → Outcome →
+    LinkView → C → Type 0
 FollowerTickCalls CoreTicks honest parties old core result new after =
-    (packet : Option Packet) × CoreTicks core packet after × SendCalls honest parties 0 old (to_referee packet) result new
+    (packet : Option Packet) × CoreTicks core packet after
+    × SendCalls honest parties 0 old (to_referee packet) result new

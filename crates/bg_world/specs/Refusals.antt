@@ -56,7 +56,8 @@ pub record AreNoEntriesRefused (w : State) : Type 0 where
   pub agree : (party : ℕ) (log : List Entry) (to id start : ℕ) (list : List Entry)
       → 0 < party → log_of w party ≡ Some log → WasSent w.sent to (packet.Entries id start list) → Agrees log start list
   pub follow : (party : ℕ) (log : List Entry) (to id start : ℕ) (list : List Entry)
-      → 0 < party → log_of w party ≡ Some log → WasSent w.sent to (packet.Entries id start list) → start ≤ length log + 1
+      → 0 < party → log_of w party ≡ Some log → WasSent w.sent to (packet.Entries id start list)
+      → start ≤ length log + 1
       → IsLegalRecord w.terms (log ++ new_entries log start list)
 
 -- no packet that was ever sent is refused for its match, its number, its turn or its rules

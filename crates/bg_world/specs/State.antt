@@ -1,5 +1,6 @@
 -- The state of the world: what each party holds, what its slots have, and every datagram that was ever sent.
-use Rattle.std.specs.Prelude.{ℕ, ◌<◌, ◌≤◌, ◌+◌, ◌-◌, ◌^◌, Bool, true, Option, Some, None, List, [], length, take, replicate, slice_get}
+use Rattle.std.specs.Prelude.{ℕ, ◌<◌, ◌≤◌, ◌+◌, ◌-◌, ◌^◌, Bool, true, Option, Some, None, List, [], length, take}
+use Rattle.std.specs.Prelude.{replicate, slice_get}
 use Rattle.bg_board.specs.declared.players.Player.{Player}
 use Rattle.bg_board.specs.declared.players.Player.TheVariants.{X, O}
 use Rattle.bg_match.specs.Limits.{IsMatchLength}

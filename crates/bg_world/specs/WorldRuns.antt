@@ -80,13 +80,18 @@ RunsProtocol old events outcomes new =
     × Run (state_of old before.restorable) (history_of events outcomes) (state_of new after.restorable)
 
 -- All events happen, in order, and the report counts what they come to.
-pub record RunsCalls (link_honest keepers_honest : Type 0) (old : WorldView) (events : List Event) (report : RunReport) (new : WorldView) : Type 0 where
+pub record RunsCalls
+    (link_honest keepers_honest : Type 0) (old : WorldView) (events : List Event) (report : RunReport)
+    (new : WorldView) : Type 0 where
   pub outcomes : List Outcome
   pub calls : CallsAll link_honest keepers_honest old events outcomes new
   pub reports : Reports report events outcomes
 
--- All events happen, in order; the report counts what they come to; and over honest devices they are a run of the protocol.
-pub record RunsAll (link_honest keepers_honest : Type 0) (old : WorldView) (events : List Event) (report : RunReport) (new : WorldView) : Type 0 where
+-- All events happen, in order; the report counts what they come to; and over honest devices they are a run of the
+-- protocol.
+pub record RunsAll
+    (link_honest keepers_honest : Type 0) (old : WorldView) (events : List Event) (report : RunReport)
+    (new : WorldView) : Type 0 where
   pub outcomes : List Outcome
   pub calls : CallsAll link_honest keepers_honest old events outcomes new
   pub reports : Reports report events outcomes

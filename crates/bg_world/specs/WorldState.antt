@@ -63,7 +63,7 @@ state_of w r = record {
   sent = w.link.sent;
 }
 
--- ---- what the cores of a reached world know beside the state: their match, their part, and the number of the next save
+-- ---- what the cores of a reached world know beside the state: their match and part, and the number of the next save
 
 abbrev pub IsLogOf : ℕ → Terms → Log → Type 0
 IsLogOf id terms log = (log.id ≡ id) × (log.terms ≡ terms)
@@ -72,7 +72,8 @@ pub record RefereeMatches (id : ℕ) (terms : Terms) (found : Option SavedParts)
   pub log : IsLogOf id terms core.log
   pub next : core.next_save ≡ next_number found
 
-pub record SeatMatches (id : ℕ) (terms : Terms) (player : Player) (found : Option SavedParts) (core : SeatView) : Type 0 where
+pub record SeatMatches
+    (id : ℕ) (terms : Terms) (player : Player) (found : Option SavedParts) (core : SeatView) : Type 0 where
   pub sits_for : core.player ≡ player
   pub log : IsLogOf id terms core.follower.log
   pub next : core.next_save ≡ next_number found

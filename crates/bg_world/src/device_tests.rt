@@ -54,7 +54,8 @@ fn keeper(alloc: Global, tears: &[Tear], reads: &[FailRead]) -> Result<MemoryKee
     Ok(MemoryKeeper::new(alloc, 1, tears.to_vec(alloc)?, reads.to_vec(alloc)?))
 }
 
-/// Who knows nothing of a link but what every link promises knows that it does not fail by itself where its plan is empty.
+/// Who knows nothing of a link but what every link promises knows that it does not fail by itself where its plan is
+/// empty.
 fn send_over<L: Link>(link: &mut L, datagram: &Datagram) -> Result<(), DeviceFault>
     ensures { L.plan link.old ≡ Some [] → L.faults link.new ≡ L.faults link.old }
 {
@@ -192,7 +193,8 @@ fn check_torn(rt: &(impl AllocGlobal + Abort), cut: Option<u32>, left: &[u8]) ->
     Ok(())
 }
 
-/// A torn write leaves the first bytes, as many as the cut says, all of them where there are no more, or the slot as it was.
+/// A torn write leaves the first bytes, as many as the cut says, all of them where there are no more, or the slot as it
+/// was.
 #[test]
 fn torn_writes(rt: HostRuntime) -> Result<(), Fail> {
     check_torn(&rt, None, &OLD)?;

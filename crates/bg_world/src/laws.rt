@@ -21,7 +21,8 @@ pub fn parties_agree()
 /// After any run a seat has claimed one action under a number, none above the claim that its slots restore, and
 /// that claim at its number.
 pub fn claims_are_kept()
-    ensures { (w : State) (player : Player) → IsReached w → AreClaimsKept w.sent player (claim_in (seat w player).restorable) }
+    ensures { (w : State) (player : Player) → IsReached w →
+        AreClaimsKept w.sent player (claim_in (seat w player).restorable) }
 {}
 
 /// After any run no datagram ever sent shows an entry that is not saved.

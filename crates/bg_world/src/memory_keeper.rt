@@ -31,10 +31,11 @@ pub struct MemoryKeeper {
 
 impl MemoryKeeper {
     ghost use Rattle.bg_world.specs.Slots.{empty_slots};
-    ghost use Rattle.bg_world.specs.MemoryDevices.{keeper_faults, keeper_plan, last_written, reads_of, slots_of, writes_of};
+    ghost use Rattle.bg_world.specs.MemoryDevices.{keeper_faults, keeper_plan, last_written, reads_of, slots_of};
+    ghost use Rattle.bg_world.specs.MemoryDevices.{writes_of};
 
-    /// The keeper of a party, with empty slots, of which nothing was asked. The calls that the plan names for this party
-    /// fail.
+    /// The keeper of a party, with empty slots, of which nothing was asked. The calls that the plan names for this
+    /// party fail.
     pub(crate) fn new(
         alloc: Global,
         party: u8,
@@ -106,7 +107,8 @@ fn read_by(
 
 impl Keeper for MemoryKeeper {
     ghost use Rattle.std.specs.Prelude.{Some};
-    ghost use Rattle.bg_world.specs.MemoryDevices.{keeper_faults, keeper_plan, last_written, reads_of, slots_of, writes_of};
+    ghost use Rattle.bg_world.specs.MemoryDevices.{keeper_faults, keeper_plan, last_written, reads_of, slots_of};
+    ghost use Rattle.bg_world.specs.MemoryDevices.{writes_of};
 
     ghost is_honest = { Unit {0} };
 

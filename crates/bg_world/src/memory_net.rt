@@ -15,8 +15,8 @@ use std::alloc::Global;
 /// The pick that no datagram has: it hands over one byte 0.
 const GARBLED: u32 = u32::MAX;
 
-/// A link in memory, which is honest: it keeps each datagram that was sent, and hands over the one that a pick names. Its
-/// sends fail by a plan (docs/PROTOCOL.md, "Devices").
+/// A link in memory, which is honest: it keeps each datagram that was sent, and hands over the one that a pick names.
+/// Its sends fail by a plan (docs/PROTOCOL.md, "Devices").
 #[derive(Drop)]
 pub struct MemoryNet {
     sent: SentDatagrams,
@@ -52,8 +52,8 @@ impl MemoryNet {
         }
     }
 
-    /// How many datagrams were sent to the party, those included that went out though their send failed; 4294967295 where
-    /// there are as many or more. It takes the same time however many there are.
+    /// How many datagrams were sent to the party, those included that went out though their send failed; 4294967295
+    /// where there are as many or more. It takes the same time however many there are.
     pub fn sent_to(&self, party: u8) -> u32
         ensures { result ≡ count_to party (sent_over self.now) }
     {

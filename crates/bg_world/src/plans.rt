@@ -12,8 +12,8 @@ pub struct Tear {
     pub party: u8,
     /// Which of its writes, from 1 to 4294967294. Any other number names none.
     pub nth: u32,
-    /// How many of the first bytes it leaves in the slot, the whole text where it has no more; `None` leaves the slot as
-    /// it was.
+    /// How many of the first bytes it leaves in the slot, the whole text where it has no more; `None` leaves the slot
+    /// as it was.
     pub cut: Option<u32>,
 }
 

@@ -64,8 +64,8 @@ impl<L: Link, K: Keeper> World<L, K> {
     ghost use Rattle.bg_world.specs.WorldRuns.{RunsAll, RunsCalls};
     ghost use Rattle.bg_world.specs.WorldState.{IsReachedWorld};
 
-    /// All events, in order (docs/PROTOCOL.md, "The state and its steps"), and how many of them wanted memory or came to
-    /// a fault. No outcome ends the run.
+    /// All events, in order (docs/PROTOCOL.md, "The state and its steps"), and how many of them wanted memory or came
+    /// to a fault. No outcome ends the run.
     pub fn run(&mut self, events: &[Event]) -> RunReport
         // The calls of each event; over honest devices they are a run of the protocol.
         ensures run { RunsAll L.is_honest K.is_honest (view_of L.Link K.Keeper self.old) events.now

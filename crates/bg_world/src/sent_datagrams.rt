@@ -1,5 +1,6 @@
 //! The datagrams that a link in memory has sent, in the bytes that they have.
-ghost use Rattle.std.specs.Prelude.{◌≡◌, ℕ, ◌+◌, ◌<◌, ◌==◌, if◌then◌else◌, ◌∷◌, ◌++◌, [], length, slice_get, vec_len, vec_capacity, IfOk, OnOk, OnErr};
+ghost use Rattle.std.specs.Prelude.{◌≡◌, ℕ, ◌+◌, ◌<◌, ◌==◌, if◌then◌else◌, ◌∷◌, ◌++◌, [], length, slice_get, vec_len};
+ghost use Rattle.std.specs.Prelude.{vec_capacity, IfOk, OnOk, OnErr};
 ghost use Rattle.bg_world.specs.Handed.{bytes_handed, count_to, sent_to};
 ghost use Rattle.bg_world.specs.Places.{at_place, list_at};
 

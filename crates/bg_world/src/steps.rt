@@ -12,8 +12,9 @@ impl<L: Link, K: Keeper> World<L, K> {
     ghost use Rattle.bg_world.specs.WorldState.{IsReachedWorld};
 
     /// One event, as one atomic step (docs/PROTOCOL.md, "The state and its steps"): what happens at one party, and what
-    /// it comes to. On any devices it makes exactly the calls of the link, of a keeper and of a core that the event asks
-    /// for: where there is no such party, or it is down, none. It takes no memory but for what is sent, kept or saved.
+    /// it comes to. On any devices it makes exactly the calls of the link, of a keeper and of a core that the event
+    /// asks for: where there is no such party, or it is down, none. It takes no memory but for what is sent, kept or
+    /// saved.
     pub fn step(&mut self, event: Event) -> Outcome
         ensures calls { Calls L.is_honest K.is_honest (view_of L.Link K.Keeper self.old) event
             result (view_of L.Link K.Keeper self.new) }

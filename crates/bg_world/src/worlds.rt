@@ -62,8 +62,8 @@ impl<L: Link + Drop, K: Keeper + Drop> World<L, K> {
     /// steps"). It asks nothing of the link and of the keepers.
     ///
     /// # Errors
-    /// The first that holds: `TooManyWatchers` where more than 253 watch, `LengthOutOfRange` where the length is not from
-    /// 1 to 99, `Memory` where there is no memory for the watchers. A refusal drops the link and the keepers.
+    /// The first that holds: `TooManyWatchers` where more than 253 watch, `LengthOutOfRange` where the length is not
+    /// from 1 to 99, `Memory` where there is no memory for the watchers. A refusal drops the link and the keepers.
     pub fn new(
         alloc: Global,
         setup: Setup,

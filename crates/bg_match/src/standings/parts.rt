@@ -50,7 +50,8 @@ impl Standing {
 /// Whether the cube is as the phase allows.
 #[tactic(auto, using(crate::proofs::States::power_of_two))]
 fn is_cube(cube: Cube, phase: Phase) -> bool
-    ensures { IsTrue result ↔ (IsPowerOfTwo cube.value × IsCubeOf phase cube.value × ((cube.owner ≡ None) ↔ (cube.value ≡ 1))) }
+    ensures { IsTrue result ↔ (IsPowerOfTwo cube.value × IsCubeOf phase cube.value
+        × ((cube.owner ≡ None) ↔ (cube.value ≡ 1))) }
 {
     cube.value.is_power_of_two()
         && is_within_limit(cube.value, phase)

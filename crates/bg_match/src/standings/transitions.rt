@@ -12,7 +12,8 @@ use bg_turns::{Dice, Turn, judge_turn};
 impl Standing {
     ghost use Rattle.bg_match.specs.State.{IsState, after_win, IsRunning};
     ghost use Rattle.bg_match.specs.Level.{points};
-    ghost use Rattle.bg_match.specs.Follows.{Follows, CanFollow, IsEntryFault, IsNoDouble, IsDoubleFault, MayDouble, MovedFault, after_turn};
+    ghost use Rattle.bg_match.specs.Follows.{Follows, CanFollow, IsEntryFault, IsNoDouble, IsDoubleFault, MayDouble};
+    ghost use Rattle.bg_match.specs.Follows.{MovedFault, after_turn};
     ghost use Rattle.bg_turns.specs.Turn.{IsLegalTurn, after_steps};
 
     /// Where the match stands after an entry.
@@ -58,7 +59,10 @@ impl Standing {
     fn opened(&self, x: Die, o: Die) -> Result<Standing, EntryFault>
         requires { self.now.phase ≡ Phase.Opening }
         ensures ok { IsOk result ↔ (pips x ≢ pips o) }
-        ensures after { IfOk result (λ after. after ≡ record self.now { phase = Phase.ToMove (opening_player x o) (record { first = x; second = o }) }) }
+        ensures after { IfOk result
+            (λ after. after ≡ record self.now {
+              phase = Phase.ToMove (opening_player x o) (record { first = x; second = o });
+            }) }
         ensures err { IfErr result (λ fault. fault ≡ EntryFault.EqualOpening) }
     {
         if x.pips() == o.pips() {
@@ -103,7 +107,8 @@ impl Standing {
     fn moved(&self, player: Player, dice: Dice, turn: &Turn) -> Result<Standing, EntryFault>
         requires { self.now.phase ≡ Phase.ToMove player dice }
         ensures ok { IsOk result ↔ IsLegalTurn self.now.board player dice turn.now }
-        ensures after { IfOk result (λ after. after ≡ after_turn self.now player (after_steps self.now.board player turn.now)) }
+        ensures after { IfOk result
+            (λ after. after ≡ after_turn self.now player (after_steps self.now.board player turn.now)) }
         ensures err { IfErr result (λ fault. MovedFault fault self.now player dice turn.now) }
     {
         let board = judge_turn(&self.board, player, dice, turn).map_err(EntryFault::Turn)?;
@@ -126,7 +131,10 @@ impl Standing {
     /// After the player took a double.
     fn taken_by(&self, player: Player) -> Standing
         requires { self.now.phase ≡ Phase.Doubled player }
-        ensures { result ≡ record self.now { phase = Phase.ToAct (opponent player); cube = record { value = 2 * self.now.cube.value; owner = Some player } } }
+        ensures { result ≡ record self.now {
+          phase = Phase.ToAct (opponent player);
+          cube = record { value = 2 * self.now.cube.value; owner = Some player };
+        } }
     {
         Standing {
             phase: Phase::ToAct(player.opponent()),
