@@ -17,9 +17,6 @@ use bg_turns::Turn;
 /// Room for the text of any packet.
 pub(crate) type Bytes = ArrayVec<u8, MOST_DATAGRAM_BYTES>;
 
-/// Room for the text of any one entry or action.
-pub(crate) type EntryBytes = ArrayVec<u8, 10>;
-
 fn put_turn<const N: usize>(out: &mut ArrayVec<u8, N>, turn: &Turn)
     requires few { length turn.now ≤ MOST_STEPS }
     requires room { array_vec_len out.old + 9 ≤ N }

@@ -1,6 +1,7 @@
 //! Saved texts, written and read.
 ghost use Rattle.std.specs.Prelude.{◌≡◌, ◌≢◌, ◌↔◌, ◌<◌, ◌≤◌, ◌+◌, ◌++◌, [], List, ℕ, IsOk, IfOk, IfErr, OnOk, vec_len};
 ghost use Rattle.std.specs.List.{AllByRecursion};
+ghost use Rattle.arrayvec.specs.ArrayVec.{array_vec_len};
 ghost use Rattle.bg_match.specs.Limits.{most_entries};
 ghost use Rattle.bg_match.specs.Entry.{IsEntry};
 ghost use Rattle.bg_match.specs.Match.{IsLegalRecord};
@@ -13,7 +14,7 @@ ghost use Rattle.bg_wire.specs.Saves.{IsNextSave};
 ghost use Rattle.bg_wire.specs.SavedReading.{layout_of, entries_of, append_fault, Loads, Replays};
 
 use crate::entry_reading::entry;
-use crate::entry_writing::{EntryBytes, put_entry};
+use crate::entry_writing::put_entry;
 use crate::reader::Reader;
 use crate::{LoadFault, SaveRefusal, Saved, Slot, saved_version_one as layout};
 use arrayvec::ArrayVec;
@@ -82,28 +83,44 @@ pub fn saved_texts_are_prefix_free()
     ensures { ArePrefixFree IsSavedText }
 {}
 
-/// Appends the texts of all entries.
+/// Room for the texts of some hundred entries.
+type Chunk = ArrayVec<u8, 1024>;
+
+/// Appends the texts of all entries, some hundred at a time: a vector grows slowly by a few bytes.
 fn push_entries(text: &mut Vec<u8>, log: &Record) -> Result<(), AllocError>
     ensures { OnOk result (text.new.items ≡ text.old.items ++ entries_bytes log.now.entries) }
 {
+    let mut chunk = Chunk::new();
     for index in 0..log.len() {
-        text.extend_from_slice(index_bytes(log, index).as_slice())?;
+        put_index(&mut chunk, log, index);
+        make_room(text, &mut chunk)?;
     }
-    Ok(())
+    text.extend_from_slice(chunk.as_slice())
 }
 
 /// The text of the entry of this index, from 0; nothing past the end.
-fn index_bytes(log: &Record, index: Number) -> EntryBytes
+fn put_index(chunk: &mut Chunk, log: &Record, index: Number)
     requires below { index < most_entries }
     requires in_range { AllByRecursion IsEntry log.now.entries }
-    ensures { result.items ≡ bytes_at log.now.entries index }
+    requires room { array_vec_len chunk.old + 10 ≤ 1024 }
+    ensures text { chunk.new.items ≡ chunk.old.items ++ bytes_at log.now.entries index }
+    ensures len { array_vec_len chunk.new ≤ array_vec_len chunk.old + 10 }
 {
-    let mut bytes = ArrayVec::new();
-    let Some(entry) = log.entry(index + 1) else {
-        return bytes;
-    };
-    put_entry(&mut bytes, entry);
-    bytes
+    if let Some(entry) = log.entry(index + 1) {
+        put_entry(chunk, entry);
+    }
+}
+
+/// Appends a chunk that has no room for a further entry, and empties it.
+fn make_room(text: &mut Vec<u8>, chunk: &mut Chunk) -> Result<(), AllocError>
+    ensures same { OnOk result (text.new.items ++ chunk.new.items ≡ text.old.items ++ chunk.old.items) }
+    ensures room { OnOk result (array_vec_len chunk.new + 10 ≤ 1024) }
+{
+    if chunk.remaining_capacity() < 10 {
+        text.extend_from_slice(chunk.as_slice())?;
+        chunk.clear();
+    }
+    Ok(())
 }
 
 /// What the saved text says (docs/FORMATS.md, "Saved files"). The claim is not compared with the record.

@@ -1,9 +1,11 @@
-use Rattle.std.proofs.Common.{◌≡◌, ◌++◌, length, take}
+use Rattle.std.proofs.Common.{◌≡◌, ◌+◌, ◌≤◌, ◌++◌, length, take}
+use Rattle.arrayvec.specs.ArrayVec.{array_vec_len}
 use Rattle.bg_wire.specs.EntryText.{entries_bytes}
 use Rattle.bg_wire.proofs.saving.push_entries.Given as goal
 
 abbrev pub invariant-loop-index : goal.invariant-loop-index
 invariant-loop-index l = record {
-  text : l.text.items ≡ l.fn.text.items ++ entries_bytes (take l.index l.fn.log.entries);
+  text : l.text.items ++ l.chunk.items ≡ l.fn.text.items ++ entries_bytes (take l.index l.fn.log.entries);
+  room : array_vec_len l.chunk + 10 ≤ 1024;
   end : l.index-end ≡ length l.fn.log.entries;
 }
