@@ -30,7 +30,7 @@ pub const BAR: u8 = 25;
 pub const CHECKERS: u8 = 15;
 
 /// The highest point of a player's home board.
-const HOME: u8 = 6;
+pub const HOME: u8 = 6;
 
 /// Where each player's fifteen checkers stand (docs/RULES.md, "The board").
 ///
@@ -186,8 +186,8 @@ impl Board {
         }
     }
 
-    /// The player's checkers, by point.
-    fn checkers(&self, player: Player) -> &[u8; 26]
+    /// The player's checkers by point of his own numbering: how many, 0 to 15, stand on 0 (off), 1, .., 25 (the bar).
+    pub fn checkers(&self, player: Player) -> &[u8; 26]
         ensures value { result.now ≡ checkers self.now player }
         ensures board { IsPosition self.now }
     {
