@@ -20,7 +20,7 @@ use Rattle.bg_turns.specs.Turn.{IsPlayable, IsLongest, IsMost, IsLegalTurn, Uses
 use Rattle.bg_turns.proofs.MostSteps.{in_order_few}
 use Rattle.bg_turns.proofs.Orders.{playable_in_order, playable_swapped, in_either_order, in_only_order, dice_list-double, dice_list-two}
 use Rattle.bg_turns.proofs.Sides.{Stands-after, none_when_off, is_off-iff, sum-none}
-use Rattle.bg_turns.proofs.Trees.{nothing, only_empty, IsFull, IsRace-after, tree-lists, pairs-lists, pairs-end, tree-end}
+use Rattle.bg_turns.proofs.Listed.{nothing, only_empty, IsFull, IsRace-after, tree-lists, pairs-lists, pairs-end, tree-end}
 
 pub behind-nothing : (lists : List (List FromTo)) → behind [] lists ≡ lists
 behind-nothing [] = refl

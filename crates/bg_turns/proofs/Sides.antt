@@ -1,6 +1,6 @@
 -- What a search within one turn needs of a position.
 use Rattle.std.proofs.Common.{◌≡◌, ◌≢◌, ◌↔◌, ℕ, zero, suc, ◌+◌, ◌-◌, ◌<◌, ◌≤◌, Bool, true, false, ◌&&◌, ◌||◌, ltb, leb, eqb, List, [], ◌∷◌, length, sum, take, drop, get_or, refl, sym, ◌∙◌, ap, subst, arith, length-set, inl, inr, ◌⊎◌}
-use Rattle.std.proofs.lemmas.Bool.{cases_eq, cases_lt, cases_Bool}
+use Rattle.std.proofs.lemmas.Bool.{cases_eq, cases_lt, cases_Bool, eq-eqb}
 use Rattle.std.proofs.lemmas.Bool.Decides.{nat_tests}
 use Rattle.std.proofs.lemmas.List.{get_or-drop, length-drop, get_or_past}
 use Rattle.std.proofs.lemmas.List.Sums.{get_or-le-sum_by, sum_by-cons}
@@ -174,6 +174,17 @@ none_when_off r is off from some =
             omega arith
         | inr past ↦ get_or_past xs k 0 past
       ]
+
+-- with no checker on a point or the bar, all are off
+pub off_when_none : (r : Race) → IsRace r → ((k : ℕ) → 1 ≤ k → get_or r.own k 0 ≡ 0) → is_off r ≡ true
+unfolding is_off
+off_when_none r is none = eq-eqb (get_or r.own 0 0) 15 (all_there r.own is.points is.fifteen none) where
+  all_there : (own : List ℕ) → length own ≡ 26 → sum own ≡ 15 → ((k : ℕ) → 1 ≤ k → get_or own k 0 ≡ 0) → get_or own 0 0 ≡ 15
+  all_there [] long fifteen none = absurd (omega arith)
+  all_there (x ∷ xs) long fifteen none =
+      let rest = sum-none xs (λ k. none (suc k) (omega arith)) in
+      let parts = sum_by-cons (λ y. y) x xs in
+      omega arith
 
 pub is_off-iff : (r : Race) (b : Position) (p : Player) → Stands r b p → (is_off r ≡ true) ↔ HasAllOff b p
 unfolding is_off
