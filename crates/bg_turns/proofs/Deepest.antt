@@ -1,7 +1,8 @@
 -- The search for the greatest number of steps on a race, from the highest point down.
-use Rattle.std.proofs.Common.{◌≡◌, ◌≢◌, ◌↔◌, map, ℕ, ◌+◌, ◌-◌, ◌<◌, ◌≤◌, max, Bool, true, false, List, [], ◌∷◌, length, refl, ap, not, eqb, subst, arith, inl, inr, w32}
+use Rattle.std.proofs.Common.{◌≡◌, ◌≢◌, ◌↔◌, map, ℕ, ◌+◌, ◌-◌, ◌<◌, ◌≤◌, max, Bool, true, false, List, [], ◌∷◌, length, get_or, refl, sym, ◌∙◌, ap, not, eqb, subst, arith, inl, inr, w32}
 use mir.Val.{bool_byte}
 use Rattle.std.specs.Int.{bit_at, trailing_zeros}
+use Rattle.std.specs.Bool.{OnTrue}
 use Rattle.std.proofs.lemmas.Bool.{both_ways, cases_eq, cases_lt, ne_eqb}
 use Rattle.std.proofs.lemmas.Nat.Bits.{bit_at-zero}
 use Rattle.bg_board.specs.declared.dice.Die.{Die}
@@ -16,7 +17,7 @@ use Rattle.bg_turns.specs.InOrder.{IsInOrder, IsMostInOrder}
 use Rattle.bg_turns.specs.Turn.{CanStep}
 use Rattle.bg_turns.specs.Masks.{ArePlaces}
 use Rattle.bg_turns.proofs.MostSteps.{FromTo-ext, most_of_all}
-use Rattle.bg_turns.proofs.Sides.{Stands-after, step_from_can, can_from_step}
+use Rattle.bg_turns.proofs.Sides.{Stands-after, step_from_can, can_from_step, held_from_can}
 use Rattle.bg_turns.proofs.Opened.{IsLeft, place_low, place_passed, place_below, none_between}
 
 -- the first step, if there is one, starts above a point
@@ -39,6 +40,18 @@ module _ (r : Race) (b : Position) (p : Player) (s : Stands r b p) (die : ℕ) (
       let starts = legal.starts in
       let downward = legal.downward in
       can_from_step r b p s step.from die (omega arith) starts some (subst (λ (u : FromTo). IsStep b p u die) step_is legal)
+
+-- the test of a step on a race
+pub step_by_test : (r : Race) (b : Position) (p : Player) → Stands r b p → (die : ℕ) → 1 ≤ die → (step : FromTo) → 1 ≤ step.from → step.from ≤ 25 → step.to ≡ step.from - die → (t : Bool) → t ≡ can r step.from die → (t ≡ true) ↔ IsStep b p step die
+step_by_test r b p s die some step low high lands t is =
+    let same : step ≡ step_of step.from die = FromTo-ext step step.from (step.from - die) refl lands in (
+      λ yes. subst (λ (u : FromTo). IsStep b p u die) (sym same) (step_from_can r b p s step.from die low high some (sym is ∙ yes)),
+      λ legal. is ∙ can_there r b p s die some step legal,
+    )
+
+pub held_by_test : (r : Race) (from die : ℕ) (t : Bool) → t ≡ can r from die → OnTrue t (0 < get_or r.own from 0)
+held_by_test r from die true is = held_from_can r from die (sym is)
+held_by_test r from die false is = tt
 
 -- a step can be played where there is a place
 module _ (r : Race) (b : Position) (p : Player) (s : Stands r b p) (die : ℕ) (some : 1 ≤ die) (places : ℕ) (are : ArePlaces places r die) where

@@ -37,6 +37,13 @@ module _ (own : List ℕ) (highest : ℕ) (h : IsHighest own highest) where
       let few = get_or-le-sum_by (λ x. x) (drop n own) (highest - n) 0 (simp length-drop (omega arith)) in
       omega arith
 
+-- no checker stands above the highest point
+pub below_highest : (own : List ℕ) (highest from : ℕ) → IsHighest own highest → 0 < get_or own from 0 → from ≤ highest
+below_highest own highest from h held = elim (cases_lt highest from) [
+  | inl above ↦ (let none = h.none_above from above in absurd (omega arith))
+  | inr below ↦ below
+]
+
 can-is : (r : Race) (from die : ℕ) → can r from die ≡ can_by (get_or r.own from 0) (get_or r.own 25 0) (get_or r.other (25 - (from - die)) 0) (sum (drop 7 r.own)) (sum (drop (from + 1) r.own)) from die
 unfolding can
 can-is r from die = refl

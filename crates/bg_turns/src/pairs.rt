@@ -1,6 +1,6 @@
 //! The turns by two different dice, found by the bits of a race.
-ghost use Rattle.std.specs.Prelude.{◌≡◌, ◌≤◌, ◌<◌, ◌+◌, ◌++◌, take, OnOk};
-ghost use Rattle.bg_turns.specs.Race.{IsRace, IsHighest, tree, pairs, behind, one_die};
+ghost use Rattle.std.specs.Prelude.{◌≡◌, ◌≤◌, ◌<◌, ◌+◌, ◌++◌, take, true, OnOk};
+ghost use Rattle.bg_turns.specs.Race.{IsRace, can, tree, pairs, behind, one_die};
 ghost use Rattle.bg_turns.specs.Masks.{AreMasks};
 
 use crate::Turn;
@@ -8,7 +8,7 @@ use crate::fronts::{turn_of, with_step};
 use crate::masks::Masks;
 use crate::races::{Race, step_from};
 use crate::trees::{add_last, add_tree};
-use bg_board::Step;
+use bg_board::{BAR, Step};
 use std::alloc::AllocError;
 
 /// Adds the lists of steps by two different dice, behind the first steps of a turn.
@@ -30,69 +30,44 @@ pub(crate) fn add_pairs(
     requires room { played + left ≤ 4 }
     ensures { OnOk result (turns.new.items ≡ turns.old.items ++ behind (take played front) (pairs small large left race.now)) }
 {
-    if left == 0 || race.is_off() {
+    if left == 0 || masks.is_off() {
         turns.push(turn_of(front, played))?;
         return Ok(());
     }
-    let highest = race.highest();
-    let mut from = highest;
-    while from > 0 {
-        if from <= small
-            && race.can_play(highest, from, small)
-            && race.can_play(highest, from, large)
-        {
+    let (by_small, by_large) = (masks.open(small), masks.open(large));
+    let mut places = by_small | by_large;
+    let mut below = BAR;
+    while places != 0 {
+        let place = places.trailing_zeros();
+        places &= !(1 << place);
+        let from = BAR - place as u8;
+        let has_small = by_small >> place & 1 == 1;
+        let has_large = by_large >> place & 1 == 1;
+        if from <= small && has_small && has_large {
             let step = step_from(from, small);
-            let landing = step.to();
+            let to = step.to();
             let longer = with_step(front, played, step);
-            let after_masks = masks.after(race, from, landing);
-            let after = race.after(from, landing);
-            add_pairs(
-                turns,
-                &after,
-                after_masks,
-                longer,
-                played + 1,
-                small,
-                large,
-                left - 1,
-            )?;
+            let after = race.after(from, to);
+            let masks = masks.after(race, from, to);
+            add_pairs(turns, &after, masks, longer, played + 1, small, large, left - 1)?;
         } else {
-            add_step(
-                turns,
-                race,
-                masks,
-                highest,
-                front,
-                played,
-                from,
-                small,
-                large,
-                left - 1,
-            )?;
-            add_step(
-                turns,
-                race,
-                masks,
-                highest,
-                front,
-                played,
-                from,
-                large,
-                small,
-                left - 1,
-            )?;
+            if has_small {
+                add_step(turns, race, masks, front, played, from, small, large, left - 1)?;
+            }
+            if has_large {
+                add_step(turns, race, masks, front, played, from, large, small, left - 1)?;
+            }
         }
-        from -= 1;
+        below = from - 1;
     }
     Ok(())
 }
 
-/// Adds the lists that begin with a step from a point, if it can be played, and go on with another die.
+/// Adds the lists that begin with a step from a point and go on with another die.
 fn add_step(
     turns: &mut Vec<Turn>,
     race: &Race,
     masks: Masks,
-    highest: u8,
     front: [Step; 4],
     played: usize,
     from: u8,
@@ -102,9 +77,9 @@ fn add_step(
 ) -> Result<(), AllocError>
     requires race { IsRace race.now }
     requires masks { AreMasks masks race.now }
-    requires highest { IsHighest race.now.own highest }
     requires low { 1 ≤ from }
-    requires high { from ≤ highest }
+    requires high { from ≤ 25 }
+    requires can { can race.now from die ≡ true }
     requires die { 1 ≤ die }
     requires six { die ≤ 6 }
     requires next { 1 ≤ next }
@@ -112,9 +87,6 @@ fn add_step(
     requires room { played + left < 4 }
     ensures { OnOk result (turns.new.items ≡ turns.old.items ++ behind (take played front) (one_die race.now die (tree next left) from)) }
 {
-    if !race.can_play(highest, from, die) {
-        return Ok(());
-    }
     let step = step_from(from, die);
     let longer = with_step(front, played, step);
     if left == 1 {

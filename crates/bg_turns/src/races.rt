@@ -1,8 +1,10 @@
 //! The mover's side of a position, on which turns are searched.
-ghost use Rattle.std.specs.Prelude.{◌≡◌, ◌≤◌, ◌<◌, sum, length, slice_index};
-ghost use Rattle.bg_board.specs.Position.{IsPosition, checkers, opponent};
-ghost use Rattle.bg_board.specs.Step.{carried as carried_counts};
-ghost use Rattle.bg_turns.specs.Race.{IsRace, IsHighest, can, after, is_off, step_of};
+ghost use Rattle.std.specs.Prelude.{◌≡◌, ◌≤◌, ◌<◌, ◌↔◌, IsTrue, sum, length, slice_index};
+ghost use Rattle.std.specs.Bool.{OnTrue};
+ghost use Rattle.bg_board.specs.Position.{Position, IsPosition, checkers, opponent};
+ghost use Rattle.bg_board.specs.declared.players.Player.{Player as SeenPlayer};
+ghost use Rattle.bg_board.specs.Step.{IsStep, carried as carried_counts};
+ghost use Rattle.bg_turns.specs.Race.{IsRace, IsHighest, Stands, can, after, is_off, step_of};
 
 use bg_board::{BAR, Board, CHECKERS, HOME, OFF, Player, Step};
 
@@ -48,24 +50,45 @@ impl Race {
     }
 
     /// Whether the mover can play a step by a die from a point.
-    pub(crate) fn can_play(&self, highest: u8, from: u8, die: u8) -> bool
+    fn can_play(&self, from: u8, die: u8) -> bool
         requires race { IsRace self.now }
-        requires highest { IsHighest self.now.own highest }
         requires low { 1 ≤ from }
-        requires high { from ≤ highest }
+        requires high { from ≤ 25 }
         requires die { 1 ≤ die }
         ensures { result ≡ can self.now from die }
     {
         if self.own[usize::from(from)] == 0 {
             return false;
         }
-        if highest == BAR && from != BAR {
+        if from != BAR && self.own[usize::from(BAR)] > 0 {
             return false;
         }
         if from > die {
             return self.other[usize::from(BAR - (from - die))] < 2;
         }
+        let highest = self.highest();
         highest <= HOME && (from == die || from == highest)
+    }
+
+    /// Whether a step by a die can be played.
+    pub(crate) fn can_play_step(&self, step: Step, die: u8) -> bool
+        requires race { IsRace self.now }
+        requires die { 1 ≤ die }
+        ensures step { (b : Position) (p : SeenPlayer) → Stands self.now b p → IsTrue result ↔ IsStep b p step die }
+        ensures held { OnTrue result (0 < slice_index self.now.own step.from) }
+    {
+        step.to() == step.from().saturating_sub(die) && self.can_play(step.from(), die)
+    }
+
+    /// Plays a step on the race.
+    pub(crate) fn play(&mut self, step: Step)
+        requires race { IsRace self.old }
+        requires checker { 0 < slice_index self.old.own step.from }
+        ensures value { self.new ≡ after self.old step.from step.to }
+        ensures race { IsRace self.new }
+    {
+        self.own[usize::from(step.from())] -= 1;
+        self.own[usize::from(step.to())] += 1;
     }
 
     /// The race after a step.
