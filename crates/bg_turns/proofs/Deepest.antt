@@ -18,7 +18,7 @@ use Rattle.bg_turns.specs.Turn.{CanStep}
 use Rattle.bg_turns.specs.Masks.{ArePlaces}
 use Rattle.bg_turns.proofs.MostSteps.{FromTo-ext, most_of_all}
 use Rattle.bg_turns.proofs.Sides.{Stands-after, step_from_can, can_from_step, held_from_can}
-use Rattle.bg_turns.proofs.Opened.{IsLeft, place_low, place_passed, place_below, none_between}
+use Rattle.bg_turns.proofs.Opened.{IsLeft, CanFrom, place_low, place_passed, none_between}
 
 -- the first step, if there is one, starts above a point
 abbrev pub StartsAbove : ℕ → List FromTo → Type 0
@@ -58,10 +58,10 @@ module _ (r : Race) (b : Position) (p : Player) (s : Stands r b p) (die : ℕ) (
   pub can_by_places : places ≢ 0 → places < 4294967296 → CanStep b p die
   can_by_places on small =
       let left = left_at_first in
-      let low = place_low r die 25 places left on small in
-      let passed = place_passed r die 25 places left on small in
+      let low = place_low (CanFrom r die) 25 places left on small in
+      let passed = place_passed (CanFrom r die) 25 places left on small in
       (step_of (25 - trailing_zeros w32 places) die, step_from_can r b p s (25 - trailing_zeros w32 places) die (omega arith) (omega arith) some passed) where
-        left_at_first : IsLeft r die 25 places
+        left_at_first : IsLeft (CanFrom r die) 25 places
         left_at_first = record { within = omega arith; each = λ q low. (λ on. (omega arith, (are.each q low).0 on), λ h. (are.each q low).1 h.1); only = λ q past _. are.only q past }
 
   pub none_by_places : places ≡ 0 → CanStep b p die → ⊥
@@ -104,7 +104,7 @@ module _ (b : Position) (p : Player) (die : ℕ) (dice : List ℕ) where
   pub most_above_none : IsMostAbove b p (die ∷ dice) 25 0
   most_above_none = record { reached = ([], tt, refl); greatest = above_all }
 
-  module _ (r : Race) (s : Stands r b p) (some : 1 ≤ die) (below places : ℕ) (left : IsLeft r die below places) (n : ℕ) (above : IsMostAbove b p (die ∷ dice) below n) where
+  module _ (r : Race) (s : Stands r b p) (some : 1 ≤ die) (below places : ℕ) (left : IsLeft (CanFrom r die) below places) (n : ℕ) (above : IsMostAbove b p (die ∷ dice) below n) where
     -- where no place is left
     pub most_above_all : places ≡ 0 → IsMostInOrder b p (die ∷ dice) n
     most_above_all none = record { reached = above.reached; greatest = few } where
@@ -129,8 +129,8 @@ module _ (b : Position) (p : Player) (die : ℕ) (dice : List ℕ) where
 
       legal : IsStep b p (step_of start die) die
       legal =
-          let low = place_low r die below places left on small in
-          step_from_can r b p s start die (omega arith) (omega arith) some (place_passed r die below places left on small)
+          let low = place_low (CanFrom r die) below places left on small in
+          step_from_can r b p s start die (omega arith) (omega arith) some (place_passed (CanFrom r die) below places left on small)
 
       rest_there : IsMostInOrder (after_step b p (step_of start die)) p dice k
       rest_there =
@@ -149,7 +149,7 @@ module _ (b : Position) (p : Player) (die : ℕ) (dice : List ℕ) where
       few : (steps : List FromTo) → IsInOrder b p (die ∷ dice) steps → StartsAbove (start - 1) steps → length steps ≤ max n (1 + k)
       few [] played high = omega arith
       few (step ∷ tail) played high =
-          let low = place_low r die below places left on small in
+          let low = place_low (CanFrom r die) below places left on small in
           let passed = can_there r b p s die some step played.0 in
           elim (cases_eq step.from start) [
             | inl same ↦
@@ -160,7 +160,7 @@ module _ (b : Position) (p : Player) (die : ℕ) (dice : List ℕ) where
                 omega arith
             | inr other ↦ elim (cases_lt below step.from) [
               | inl higher ↦ (let most = above.greatest (step ∷ tail) played higher in omega arith)
-              | inr between ↦ absurd (both_ways (can r step.from die) (none_between r die below places left on small step.from (omega arith) between) passed)
+              | inr between ↦ absurd (none_between (CanFrom r die) below places left on small step.from (omega arith) between passed)
             ]
           ]
 
