@@ -30,7 +30,7 @@ pub const BAR: u8 = 25;
 pub const CHECKERS: u8 = 15;
 
 /// The highest point of a player's home board.
-const HOME: u8 = 6;
+pub const HOME: u8 = 6;
 
 /// Where each player's fifteen checkers stand (docs/RULES.md, "The board").
 ///
@@ -55,7 +55,7 @@ impl Model for Board {
 
 impl Board {
     ghost use Rattle.bg_board.specs.BoardFault.{IsBoardFault};
-    ghost use Rattle.bg_board.specs.Step.{IsStep, after_step, IsStepFault};
+    ghost use Rattle.bg_board.specs.Step.{IsStep, IsLegalStep, after_step, IsStepFault};
 
     /// The board at the start of a game: for each player two checkers on 24, five on 13, three on 8
     /// and five on 6.
@@ -160,12 +160,13 @@ impl Board {
         if to == OFF && from < pips && self.count_above(player, from) > 0 {
             return Err(StepFault::HigherChecker);
         }
-        Ok(self.after_step(player, step, die))
+        Ok(self.after_step(player, step))
     }
 
-    /// The board after a legal step.
-    fn after_step(&self, player: Player, step: Step, die: Die) -> Board
-        requires { IsStep self.now player step (pips die) }
+    /// The board after a step that is legal by some die: as [`Board::play_step`] gives it, for a caller who has tested the
+    /// step already.
+    pub fn after_step(&self, player: Player, step: Step) -> Board
+        requires { IsLegalStep self.now player step }
         ensures { result ≡ after_step self.now player step }
     {
         let from = usize::from(step.from());
@@ -186,8 +187,8 @@ impl Board {
         }
     }
 
-    /// The player's checkers, by point.
-    fn checkers(&self, player: Player) -> &[u8; 26]
+    /// The player's checkers by point of his own numbering: how many, 0 to 15, stand on 0 (off), 1, .., 25 (the bar).
+    pub fn checkers(&self, player: Player) -> &[u8; 26]
         ensures value { result.now ≡ checkers self.now player }
         ensures board { IsPosition self.now }
     {

@@ -73,18 +73,36 @@ fn check_restored(rt: &impl Abort, alloc: Global, saved: Saved) -> Result<(), Fa
     }
 }
 
-/// The bytes are loaded, and restored in either slot beside a good text.
-fn check_saved(rt: &impl Abort, alloc: Global, bytes: &[u8], good: &[u8], party: u8) -> Result<(), Fail> {
+/// What two slots of match 1 restore, if anything.
+fn check_slots(
+    rt: &impl Abort,
+    alloc: Global,
+    slot0: &[u8],
+    slot1: &[u8],
+    party: u8,
+) -> Result<(), Fail> {
+    if let Ok(Some(saved)) = restore(alloc, slot0, slot1, party, 1, 1) {
+        check_restored(rt, alloc, saved)?;
+    }
+    Ok(())
+}
+
+/// The bytes are loaded, and restored in either slot, alone and beside a good text.
+fn check_saved(
+    rt: &impl Abort,
+    alloc: Global,
+    bytes: &[u8],
+    good: &[u8],
+    party: u8,
+) -> Result<(), Fail> {
     if let Ok(saved) = load(alloc, bytes) {
         assert!(rt; save_text(alloc, &saved)?.as_slice() == bytes);
         check_legal(rt, alloc, &saved.log)?;
     }
-    for (first, second) in [(bytes, good), (good, bytes), (bytes, &[]), (&[], bytes)] {
-        if let Ok(Some(saved)) = restore(alloc, first, second, party, 1, 1) {
-            check_restored(rt, alloc, saved)?;
-        }
-    }
-    Ok(())
+    check_slots(rt, alloc, bytes, good, party)?;
+    check_slots(rt, alloc, good, bytes, party)?;
+    check_slots(rt, alloc, bytes, &[], party)?;
+    check_slots(rt, alloc, &[], bytes, party)
 }
 
 /// The bytes with another one in this place.

@@ -1,0 +1,16 @@
+use Rattle.std.proofs.Common.{◌-◌, take}
+use Rattle.bg_turns.specs.Race.{one_die, tree}
+use Rattle.bg_turns.proofs.Opened.{IsLeft, CanFrom, IsListed}
+use Rattle.bg_turns.proofs.trees.+add_tree.Given as goal
+
+abbrev pub decreases-add_tree : goal.decreases-add_tree
+decreases-add_tree l = l.left
+
+abbrev pub invariant-loop-places : goal.invariant-loop-places
+invariant-loop-places l = record {
+  left : IsLeft (CanFrom l.race l.die) l.below l.places;
+  listed : IsListed (one_die l.race l.die (tree l.die (l.left - 1))) (take l.played l.front) l.below l.turns.items l.fn.turns.items;
+}
+
+abbrev pub decreases-loop-places : goal.decreases-loop-places
+decreases-loop-places l = l.below

@@ -1,0 +1,31 @@
+//! The first steps of a turn, while its lists are sought.
+ghost use Rattle.std.specs.Prelude.{◌≡◌, ◌≤◌, ◌<◌, take, slice_set};
+
+use crate::Turn;
+use arrayvec::ArrayVec;
+use bg_board::Step;
+
+/// The turn of the first of these steps.
+pub(crate) fn turn_of(steps: [Step; 4], count: usize) -> Turn
+    requires { count ≤ 4 }
+    ensures { result ≡ take count steps }
+{
+    let mut steps = ArrayVec::from(steps);
+    steps.truncate(count);
+    Turn { steps }
+}
+
+/// The steps with another one at a place. Each place is written out, so that the four steps stay in one
+/// register.
+pub(crate) fn with_step(steps: [Step; 4], place: usize, step: Step) -> [Step; 4]
+    requires { place < 4 }
+    ensures { result ≡ slice_set steps place step }
+{
+    let [first, second, third, fourth] = steps;
+    match place {
+        0 => [step, second, third, fourth],
+        1 => [first, step, third, fourth],
+        2 => [first, second, step, fourth],
+        _ => [first, second, third, step],
+    }
+}

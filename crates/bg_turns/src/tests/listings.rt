@@ -1,0 +1,79 @@
+//! Lists of all legal turns.
+use super::{board, dice, either_die, shut_out, turn};
+use crate::{Dice, legal_turns};
+use bg_board::{Board, Die, Player};
+use std::alloc::{AllocError, Global};
+use std::process::Abort;
+use std::test::Fail;
+
+/// These are the legal turns of X, in this order.
+fn check_turns(
+    rt: &(impl AllocGlobal + Abort),
+    board: &Board,
+    dice: Dice,
+    expected: &[&[(u8, u8)]],
+) -> Result<(), Fail> {
+    let turns = legal_turns(rt.alloc(), board, Player::X, dice)?;
+    assert_eq!(rt; turns.len(), expected.len());
+    for (listed, steps) in turns.iter().zip(expected) {
+        assert!(rt; *listed == turn(steps)?, "{listed:?}");
+    }
+    Ok(())
+}
+
+/// X's last two checkers, which a 2 1 bears off in three ways.
+fn last_two() -> Result<Board, Fail> {
+    board(&[(3, 1), (1, 1), (0, 13)], &[(1, 15)])
+}
+
+/// The order of the steps counts.
+#[test]
+fn turns_of_the_last_two(rt: HostRuntime) -> Result<(), Fail> {
+    let expected: [&[(u8, u8)]; 3] = [&[(3, 2), (2, 0)], &[(3, 1), (1, 0)], &[(1, 0), (3, 1)]];
+    check_turns(&rt, &last_two()?, dice(Die::Two, Die::One), &expected)
+}
+
+/// The last checker leaves by way of 1, or at once.
+#[test]
+fn turns_of_the_last(rt: HostRuntime) -> Result<(), Fail> {
+    let on_two = board(&[(2, 1), (0, 14)], &[(1, 15)])?;
+    let expected: [&[(u8, u8)]; 2] = [&[(2, 1), (1, 0)], &[(2, 0)]];
+    check_turns(&rt, &on_two, dice(Die::Six, Die::One), &expected)
+}
+
+#[test]
+fn turns_by_the_larger_die(rt: HostRuntime) -> Result<(), Fail> {
+    let expected: [&[(u8, u8)]; 1] = [&[(20, 14)]];
+    check_turns(&rt, &either_die()?, dice(Die::Six, Die::Five), &expected)
+}
+
+/// Where nothing can be played, the empty turn alone.
+#[test]
+fn turns_where_none_is_played(rt: HostRuntime) -> Result<(), Fail> {
+    let expected: [&[(u8, u8)]; 1] = [&[]];
+    check_turns(&rt, &shut_out()?, dice(Die::Six, Die::Six), &expected)
+}
+
+/// Fails where the growth that comes next is refused: so `tools/refuse_growths` learns how many came before.
+fn check_no_growth_is_left(alloc: Global) -> Result<(), Fail> {
+    match Vec::<u8>::with_capacity(alloc, 1) {
+        Ok(_) => Ok(()),
+        Err(AllocError) => Err(Fail::from("no growth is left")),
+    }
+}
+
+/// Where memory is refused the same call then succeeds. No run of the tests refuses any, but `tools/refuse_growths` refuses
+/// each growth in turn.
+#[test]
+fn refused_growths(rt: HostRuntime) -> Result<(), Fail> {
+    let start = Board::start();
+    let ones = dice(Die::One, Die::One);
+    let turns = match legal_turns(rt.alloc(), &start, Player::X, ones) {
+        Ok(turns) => turns,
+        Err(AllocError) => legal_turns(rt.alloc(), &start, Player::X, ones)?,
+    };
+    assert_eq!(rt; turns.len(), 245);
+    assert!(rt; turns[0] == turn(&[(24, 23), (24, 23), (23, 22), (23, 22)])?);
+    assert!(rt; turns[244] == turn(&[(6, 5), (5, 4), (4, 3), (3, 2)])?);
+    check_no_growth_is_left(rt.alloc())
+}
