@@ -30,3 +30,7 @@ pub mod NoRefusals
 pub mod Upheld
 pub mod Starting
 pub mod Unplanned
+pub mod Digits
+pub mod EventTexts
+pub mod EventShapes
+pub mod EventFaults

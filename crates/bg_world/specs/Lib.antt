@@ -35,3 +35,5 @@ pub mod World
 pub mod Starts
 pub mod NotRefused
 pub mod Upholds
+pub mod EventText
+pub mod EventLines

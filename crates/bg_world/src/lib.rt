@@ -5,15 +5,19 @@
 #[cfg(test)]
 mod device_tests;
 mod devices;
+mod event_lines;
 mod events;
 #[cfg(test)]
 mod fault_tests;
 mod keeper_calls;
 mod laws;
+#[cfg(test)]
+mod line_tests;
 mod link_calls;
 mod memory_keeper;
 mod memory_net;
 mod notes;
+mod numbers;
 mod plans;
 mod restarts;
 mod roles;
@@ -34,6 +38,7 @@ mod ticks;
 mod worlds;
 
 pub use devices::{DeviceFault, Keeper, Link, Taken};
+pub use event_lines::{event_texts_differ, parse_event};
 pub use events::{Event, Outcome, RestoreCause};
 pub use laws::{
     claims_are_kept, nothing_is_refused, parties_agree, saved_entries_alone_are_shown,
