@@ -1,7 +1,8 @@
 -- The words of an event's line, and that one line is the line of one event.
-use Rattle.std.proofs.Common.{◌≡◌, ◌≢◌, ℕ, ◌≤◌, true, List, [], ◌∷◌, ◌++◌, refl, sym, ◌∙◌, ap, subst, arith}
+use Rattle.std.proofs.Common.{◌≡◌, ◌≢◌, ℕ, ◌≤◌, true, List, [], ◌∷◌, ◌++◌, refl, sym, ◌∙◌, ap, subst, arith, false, ◌<◌, ◌^◌}
 use Rattle.std.specs.Prelude.{codes}
 use Rattle.std.specs.Char.{is_ascii_digit}
+use Rattle.std.specs.List.{All}
 use Rattle.std.specs.Fmt.{decimal}
 use Rattle.std.specs.Str.{all_ascii_digits}
 use Rattle.std.specs.Str.Parse.{digits_value}
@@ -37,18 +38,22 @@ same_number n m low low' e =
     sym (digits_value-decimal own n (omega (arith, low))) ∙ ap (digits_value 10) e
     ∙ digits_value-decimal own m (omega (arith, low'))
 
-digit_is_no_space : (c : ℕ) → is_ascii_digit c ≡ true → c ≢ 32
-digit_is_no_space c d e =
-    let f : is_ascii_digit 32 ≡ true = subst (λ (x : ℕ). is_ascii_digit x ≡ true) e d in absurd cc
+digit_is_not : (c d : ℕ) → is_ascii_digit c ≡ false → is_ascii_digit d ≡ true → d ≢ c
+digit_is_not c d f t e =
+    let g : is_ascii_digit d ≡ false = subst (λ (x : ℕ). is_ascii_digit x ≡ false) (sym e) f in absurd (cc (t, g))
 
-digits_are_a_word : (ds : List ℕ) → all_ascii_digits ds ≡ true → IsWord ds
-digits_are_a_word [] h = All-nil (λ b. b ≢ 32)
-digits_are_a_word (d ∷ ds) h =
+digits_lack : (c : ℕ) (ds : List ℕ) → is_ascii_digit c ≡ false → all_ascii_digits ds ≡ true → All (λ b. b ≢ c) ds
+digits_lack c [] f h = All-nil (λ b. b ≢ c)
+digits_lack c (d ∷ ds) f h =
     let k = and_parts (is_ascii_digit d) (all_ascii_digits ds) h in
-    All-cons (λ b. b ≢ 32) d ds (digit_is_no_space d k.0) (digits_are_a_word ds k.1)
+    All-cons (λ b. b ≢ c) d ds (digit_is_not c d f k.0) (digits_lack c ds f k.1)
+
+-- a number has no other byte than digits
+pub decimal_lacks : (c n : ℕ) → is_ascii_digit c ≡ false → n < 2 ^ 64 → All (λ b. b ≢ c) (decimal n)
+decimal_lacks c n f low = digits_lack c (decimal n) f (digits_decimal own n (omega (arith, low)))
 
 pub numeral_word : (word : List ℕ) → IsLongNumeral word → IsWord word
-numeral_word word h = digits_are_a_word word h.digits
+numeral_word word h = digits_lack 32 word refl h.digits
 
 number_word : (n : ℕ) → n ≤ greatest_word → IsWord (decimal n)
 number_word n low = numeral_word (decimal n) (number_text n low)

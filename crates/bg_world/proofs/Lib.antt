@@ -34,3 +34,5 @@ pub mod Digits
 pub mod EventTexts
 pub mod EventShapes
 pub mod EventFaults
+pub mod OutcomeReads
+pub mod OutcomeTexts

@@ -37,3 +37,4 @@ pub mod NotRefused
 pub mod Upholds
 pub mod EventText
 pub mod EventLines
+pub mod OutcomeText

@@ -18,6 +18,9 @@ mod memory_keeper;
 mod memory_net;
 mod notes;
 mod numbers;
+#[cfg(test)]
+mod outcome_tests;
+mod outcome_texts;
 mod plans;
 mod restarts;
 mod roles;
@@ -46,6 +49,7 @@ pub use laws::{
 };
 pub use memory_keeper::MemoryKeeper;
 pub use memory_net::MemoryNet;
+pub use outcome_texts::{outcome_text, outcome_texts_differ};
 pub use plans::{FailRead, FailSend, Plan, Tear};
 pub use roles::Role;
 pub use runs::RunReport;
