@@ -38,3 +38,4 @@ pub mod Upholds
 pub mod EventText
 pub mod EventLines
 pub mod OutcomeText
+pub mod FinalText

@@ -9,6 +9,9 @@ mod event_lines;
 mod events;
 #[cfg(test)]
 mod fault_tests;
+#[cfg(test)]
+mod final_tests;
+mod final_texts;
 mod keeper_calls;
 mod laws;
 #[cfg(test)]
@@ -43,6 +46,7 @@ mod worlds;
 pub use devices::{DeviceFault, Keeper, Link, Taken};
 pub use event_lines::{event_texts_differ, parse_event};
 pub use events::{Event, Outcome, RestoreCause};
+pub use final_texts::final_text;
 pub use laws::{
     claims_are_kept, nothing_is_refused, parties_agree, saved_entries_alone_are_shown,
     saves_survive,

@@ -158,42 +158,12 @@ fn lines_of_devices(rt: HostRuntime) {
 }
 
 /// Every event comes to what stands beside it.
-fn check_lines(rt: &impl Abort, world: &mut MemoryWorld, rows: &[(&str, &str)]) {
+pub(crate) fn check_lines(rt: &impl Abort, world: &mut MemoryWorld, rows: &[(&str, &str)]) {
     for &(line, expected) in rows {
         let event = parse_event(line.as_bytes()).expect(rt, "an event's line");
         let outcome = outcome_text(&world.step(event));
         assert!(rt; outcome.as_str() == expected, "{line} comes to {outcome}");
     }
-}
-
-#[test]
-fn a_turn_with_a_watcher_in_lines(rt: HostRuntime) -> Result<(), Fail> {
-    let mut world = world(rt.alloc(), 1, 1, NO_FAILURE)?;
-    let rows = [
-        ("due 12", "entry 1"),
-        ("save 0", "saved 1"),
-        ("tick 1", "sent 1"),
-        ("take 0 0 0", "answer to 1: entries 1 to 1"),
-        ("take 1 0 0", "learned 1"),
-        ("tick 3", "sent 1"),
-        ("take 0 1 0", "answer to 3: entries 1 to 1"),
-        ("take 3 0 0", "learned 1"),
-        ("choose X move 8-5 6-5", "claimed 2"),
-        ("save 1", "saved 1"),
-        ("tick 1", "sent 1"),
-        ("take 0 2 0", "accepted 2"),
-        ("save 0", "saved 2"),
-        ("tick 3", "sent 1"),
-        ("take 0 3 0", "answer to 3: entries 2 to 2"),
-        ("take 3 1 0", "learned 1"),
-        ("restart 3", "restarted"),
-        ("take 3 1 0", "gap"),
-        ("tick 3", "sent 1"),
-        ("take 0 4 0", "answer to 3: entries 1 to 2"),
-        ("take 3 2 0", "learned 2"),
-    ];
-    check_lines(&rt, &mut world, &rows);
-    Ok(())
 }
 
 #[test]
