@@ -36,3 +36,6 @@ pub mod EventShapes
 pub mod EventFaults
 pub mod OutcomeReads
 pub mod OutcomeTexts
+pub mod DiceWords
+pub mod NoFailures
+pub mod Simulating

@@ -123,6 +123,12 @@ module _ (setup : Setup) (link : LinkView) (referee x o : KeeperView) (no_sent :
     cores = start_matches;
   }
 
+  pub start_state : (is : IsSetup setup.id setup.length setup.watchers)
+      → state_of (start_of setup link referee x o) (start_reached is).restorable
+      ≡ start setup.id setup.length setup.watchers
+  unfolding start_reached
+  start_state is = start_is
+
 -- a world that is made over devices that nothing was asked of is a reached one
 pub made_reached : {W E : Type 0} (setup : Setup) (link : LinkView) (referee x o : KeeperView) (view : W → WorldView)
     (Refuses : E → Type 0) (result : Result W E)

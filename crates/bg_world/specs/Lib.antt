@@ -39,3 +39,5 @@ pub mod EventText
 pub mod EventLines
 pub mod OutcomeText
 pub mod FinalText
+pub mod DiceWords
+pub mod Simulations

@@ -1,10 +1,11 @@
 -- What contracts see of a link and of a keeper in memory.
-use Rattle.std.specs.Prelude.{ℕ, List, length, Option, Result, Ok}
+use Rattle.std.specs.Prelude.{ℕ, List, length, Option, Some, Result, Ok}
 use Rattle.arrayvec.specs.ArrayVec.{ArrayVec}
 use Rattle.bg_wire.specs.SlotLaws.{Slots}
 use Rattle.bg_wire.specs.declared.packets.Datagram.{Datagram}
 use Rattle.bg_world.specs.Handed.{noted}
 use Rattle.bg_world.specs.Plan.{KeeperPlan}
+use Rattle.bg_world.specs.Views.{KeeperView, LinkView}
 use Rattle.bg_world.specs.declared.devices.DeviceFault.{DeviceFault}
 use Rattle.bg_world.specs.declared.memory_keeper.MemoryKeeper.{MemoryKeeper}
 use Rattle.bg_world.specs.declared.memory_net.MemoryNet.{MemoryNet}
@@ -30,6 +31,17 @@ sends_of net = length net.sends.bytes
 abbrev pub last_taken : MemoryNet → Result (Option (ArrayVec ℕ)) DeviceFault
 last_taken net = Ok (noted net.taken)
 
+-- the link as a world sees it; its plan is known
+abbrev pub memory_link_view : MemoryNet → LinkView
+memory_link_view net = record {
+  plan = Some (net_plan net);
+  sent = sent_over net;
+  faults = net_faults net;
+  takes = takes_of net;
+  sends = sends_of net;
+  taken = last_taken net;
+}
+
 -- ---- a keeper
 
 abbrev pub slots_of : MemoryKeeper → Slots
@@ -49,3 +61,14 @@ reads_of keeper = length keeper.reads.bytes
 
 abbrev pub last_written : MemoryKeeper → Result (Unit {0}) DeviceFault
 last_written keeper = keeper.written
+
+-- a keeper as a world sees it; its plan is known
+abbrev pub memory_keeper_view : MemoryKeeper → KeeperView
+memory_keeper_view keeper = record {
+  plan = Some (keeper_plan keeper);
+  slots = slots_of keeper;
+  faults = keeper_faults keeper;
+  writes = writes_of keeper;
+  reads = reads_of keeper;
+  written = last_written keeper;
+}

@@ -1,10 +1,10 @@
 //! Worlds whose devices fail, worlds that are refused, and runs.
 use crate::test_rows::{
-    ComesTo, Failing, Happens, NO_FAILURE, Row, TO_THE_CHOICE, TO_THE_CLAIM, check_rows, event,
-    held, world,
+    ComesTo, Failing, Happens, NO_FAILURE, Row, TO_THE_CHOICE, TO_THE_CLAIM, check_rows,
+    events_of, held, world,
 };
-use crate::{Event, FailRead, FailSend, RunReport, Tear, WorldFault};
-use std::alloc::{AllocError, Global};
+use crate::{FailRead, FailSend, RunReport, Tear, WorldFault};
+use std::alloc::Global;
 use std::process::Abort;
 use std::test::Fail;
 
@@ -167,14 +167,6 @@ fn setups_at_their_limits(rt: HostRuntime) -> Result<(), Fail> {
     assert!(rt; refusal(rt.alloc(), 0, 253) == Some(WorldFault::LengthOutOfRange));
     assert!(rt; refusal(rt.alloc(), 100, 0) == Some(WorldFault::LengthOutOfRange));
     Ok(())
-}
-
-fn events_of(alloc: Global, rows: &[Row]) -> Result<Vec<Event>, AllocError> {
-    let mut events = Vec::new(alloc);
-    for row in rows {
-        events.push(event(row.0))?;
-    }
-    Ok(events)
 }
 
 /// No fault ends a run.

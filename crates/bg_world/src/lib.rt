@@ -2,6 +2,7 @@
 //! any run.
 #![tactic(auto)]
 
+mod copies;
 #[cfg(test)]
 mod device_tests;
 mod devices;
@@ -12,6 +13,8 @@ mod fault_tests;
 #[cfg(test)]
 mod final_tests;
 mod final_texts;
+#[cfg(test)]
+mod growth_tests;
 mod keeper_calls;
 mod laws;
 #[cfg(test)]
@@ -33,6 +36,9 @@ mod runs;
 mod saves;
 mod sent_datagrams;
 mod setups;
+#[cfg(test)]
+mod simulation_tests;
+mod simulations;
 mod slot_texts;
 mod steps;
 mod takes;
@@ -58,4 +64,5 @@ pub use plans::{FailRead, FailSend, Plan, Tear};
 pub use roles::Role;
 pub use runs::RunReport;
 pub use setups::{Keepers, Setup, WorldFault};
+pub use simulations::simulate;
 pub use worlds::World;

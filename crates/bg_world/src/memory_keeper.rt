@@ -1,14 +1,15 @@
 //! A keeper in memory.
-ghost use Rattle.std.specs.Prelude.{◌≡◌, ◌≢◌, [], length, min, IfOk, Ok, OnErr};
+ghost use Rattle.std.specs.Prelude.{◌≡◌, length, min, Ok};
 ghost use Rattle.bg_world.specs.Plan.{ReadsBy, WritesBy};
 
+use crate::copies::copy_of;
 use crate::notes::count_failed;
 use crate::plans::{find_read_failure, find_tear};
 use crate::slot_texts::SlotTexts;
 use crate::{DeviceFault, FailRead, Keeper, Tear};
 use bg_text::History;
 use bg_wire::Slot;
-use std::alloc::{AllocError, Global};
+use std::alloc::Global;
 
 /// A keeper in memory, which is honest. Its writes and reads fail by a plan (docs/PROTOCOL.md, "Devices").
 #[derive(Drop)]
@@ -61,17 +62,6 @@ impl MemoryKeeper {
             written: Ok(()),
         }
     }
-}
-
-/// The same bytes. Memory is wanted only where there are any.
-fn copy_of(alloc: Global, bytes: &[u8]) -> Result<Vec<u8>, AllocError>
-    ensures ok { IfOk result (λ copy. copy.items ≡ bytes.now) }
-    ensures err { OnErr result (bytes.now ≢ []) }
-{
-    if bytes.is_empty() {
-        return Ok(Vec::new(alloc));
-    }
-    bytes.to_vec(alloc)
 }
 
 /// Does with a text what the plan says of this write.

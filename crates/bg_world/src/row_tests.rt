@@ -10,7 +10,7 @@ use bg_turns::Dice;
 use std::process::Abort;
 use std::test::Fail;
 
-const TO_THE_ROLL: [Row; 10] = [
+pub(crate) const TO_THE_ROLL: [Row; 10] = [
     (Happens::Take(0, 1, 0), ComesTo::Accepted(2)),
     (Happens::Save(0), ComesTo::Saved(2)),
     (Happens::Take(0, 1, 0), ComesTo::Answer(1, 2, 1)),
@@ -29,7 +29,7 @@ const THE_ROLL_SAVED: [Row; 2] = [
 ];
 
 /// The referee restarts before it has saved the roll, and throws again.
-const THE_ROLL_LOST: [Row; 6] = [
+pub(crate) const THE_ROLL_LOST: [Row; 6] = [
     (Happens::Take(0, 3, 0), ComesTo::Nothing),
     (Happens::Restart(0), ComesTo::Restarted),
     (Happens::Take(0, 3, 8), ComesTo::Accepted(3)),
@@ -39,7 +39,7 @@ const THE_ROLL_LOST: [Row; 6] = [
 ];
 
 /// The seat of X restarts after it has sent its claim.
-const THE_CLAIM_KEPT: [Row; 3] = [
+pub(crate) const THE_CLAIM_KEPT: [Row; 3] = [
     (Happens::Restart(1), ComesTo::Restarted),
     (Happens::Move((24, 23), (24, 21)), ComesTo::AlreadyClaimed),
     (Happens::Tick(1), ComesTo::Sent(1)),
@@ -52,7 +52,7 @@ const THE_CLAIM_LOST: [Row; 3] = [
     (Happens::Take(0, 1, 0), ComesTo::Answer(1, 1, 1)),
 ];
 
-const WITH_A_WATCHER: [Row; 16] = [
+pub(crate) const WITH_A_WATCHER: [Row; 16] = [
     (Happens::Due(12), ComesTo::Opened(1)),
     (Happens::Save(0), ComesTo::Saved(1)),
     (Happens::Tick(1), ComesTo::Sent(1)),

@@ -18,7 +18,7 @@ pub struct RunReport {
 }
 
 /// Whether memory was wanted.
-fn is_memory(outcome: &Outcome) -> bool
+pub(crate) fn is_memory(outcome: &Outcome) -> bool
     ensures { result ≡ is_memory outcome.now }
 {
     matches!(
@@ -31,7 +31,7 @@ fn is_memory(outcome: &Outcome) -> bool
 }
 
 /// Whether a device failed, or slots restore nothing for their party.
-fn is_fault(outcome: &Outcome) -> bool
+pub(crate) fn is_fault(outcome: &Outcome) -> bool
     ensures { result ≡ is_fault outcome.now }
 {
     matches!(

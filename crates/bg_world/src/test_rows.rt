@@ -1,7 +1,7 @@
 //! Rows of events with what each comes to, over devices in memory: the words of the tests of worlds.
 use crate::{
-    Event, FailRead, FailSend, Keepers, MemoryKeeper, MemoryNet, Outcome, RestoreCause, Setup,
-    Tear, World, WorldFault,
+    Event, FailRead, FailSend, MemoryKeeper, MemoryNet, Outcome, Plan, RestoreCause, Setup, Tear,
+    World, WorldFault, simulate,
 };
 use arrayvec::ArrayVec;
 use bg_board::{Player, Step};
@@ -10,7 +10,7 @@ use bg_party::{ChooseFault, Learned};
 use bg_referee::TakeOutcome;
 use bg_turns::Turn;
 use bg_wire::Packet;
-use std::alloc::Global;
+use std::alloc::{AllocError, Global};
 use std::process::Abort;
 
 pub(crate) type MemoryWorld = World<MemoryNet, MemoryKeeper>;
@@ -87,7 +87,7 @@ pub(crate) const NO_FAILURE: Failing = Failing {
     read: None,
 };
 
-fn list<T: Copy + Drop>(alloc: Global, item: Option<T>) -> Result<Vec<T>, WorldFault> {
+fn list<T: Copy + Drop>(alloc: Global, item: Option<T>) -> Result<Vec<T>, AllocError> {
     let mut items = Vec::new(alloc);
     if let Some(item) = item {
         items.push(item)?;
@@ -95,9 +95,25 @@ fn list<T: Copy + Drop>(alloc: Global, item: Option<T>) -> Result<Vec<T>, WorldF
     Ok(items)
 }
 
-fn keeper(alloc: Global, party: u8, failing: Failing) -> Result<MemoryKeeper, WorldFault> {
+/// The plan by which these calls fail.
+pub(crate) fn plan(alloc: Global, failing: Failing) -> Result<Plan, AllocError> {
     let tears = list(alloc, failing.tear)?;
-    Ok(MemoryKeeper::new(alloc, party, tears, list(alloc, failing.read)?))
+    let sends = list(alloc, failing.send)?;
+    let reads = list(alloc, failing.read)?;
+    Ok(Plan {
+        tears,
+        sends,
+        reads,
+    })
+}
+
+/// A match with the id 1.
+pub(crate) fn setup(length: u8, watchers: u8) -> Setup {
+    Setup {
+        id: 1,
+        length,
+        watchers,
+    }
 }
 
 /// A world of match 1 over devices in memory, where nothing has happened yet.
@@ -107,18 +123,18 @@ pub(crate) fn world(
     watchers: u8,
     failing: Failing,
 ) -> Result<MemoryWorld, WorldFault> {
-    let link = MemoryNet::new(alloc, list(alloc, failing.send)?);
-    let keepers = Keepers {
-        referee: keeper(alloc, 0, failing)?,
-        x: keeper(alloc, 1, failing)?,
-        o: keeper(alloc, 2, failing)?,
-    };
-    let setup = Setup {
-        id: 1,
-        length,
-        watchers,
-    };
-    World::new(alloc, setup, link, keepers)
+    let plan = plan(alloc, failing)?;
+    let (world, _) = simulate(alloc, setup(length, watchers), &plan, &[])?;
+    Ok(world)
+}
+
+/// The events of the rows.
+pub(crate) fn events_of(alloc: Global, rows: &[Row]) -> Result<Vec<Event>, AllocError> {
+    let mut events = Vec::new(alloc);
+    for row in rows {
+        events.push(event(row.0))?;
+    }
+    Ok(events)
 }
 
 fn push_step(steps: &mut ArrayVec<Step, 4>, step: (u8, u8)) {
@@ -163,7 +179,7 @@ fn is_answer(outcome: &Outcome, party: u8, first: u16, count: usize) -> bool {
 }
 
 /// Whether the outcome is this one.
-fn is(outcome: &Outcome, expected: ComesTo) -> bool {
+pub(crate) fn is(outcome: &Outcome, expected: ComesTo) -> bool {
     match expected {
         ComesTo::Opened(number) => *outcome == Outcome::Due(Ok(number)),
         ComesTo::Accepted(number) => *outcome == Outcome::Took(TakeOutcome::Accepted(number)),
