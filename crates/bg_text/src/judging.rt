@@ -210,8 +210,11 @@ pub fn judge_text(alloc: Global, input: &[u8]) -> Result<Judgement, AllocError>
     }
 }
 
-/// The judgement on an input that is longer than the limit.
-fn too_long(alloc: Global) -> Result<Judgement, AllocError>
+/// The judgement on an input that is longer than the limit (docs/FORMATS.md, "The judge").
+///
+/// # Errors
+/// AllocError where there is no memory for the text.
+pub fn too_long(alloc: Global) -> Result<Judgement, AllocError>
     ensures { IfOk result (λ judgement. IsTooLong judgement.text.items judgement.verdict) }
 {
     Ok(Judgement {

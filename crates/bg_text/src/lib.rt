@@ -26,7 +26,7 @@ pub use devices::{Reading, Sink, Source, StreamFault, Writing};
 pub use faults::TextFault;
 pub use histories::History;
 pub use inputs::{MOST_BYTES, read_input, split_line};
-pub use judging::{Judgement, judge, judge_text, judgements_agree, transcripts_are_fine};
+pub use judging::{Judgement, judge, judge_text, judgements_agree, too_long, transcripts_are_fine};
 pub use lines::{parse_action, parse_entry, split_player};
 pub use printing::{put_number, put_text};
 pub use reasons::reason_text;

@@ -39,3 +39,4 @@ pub mod OutcomeTexts
 pub mod DiceWords
 pub mod NoFailures
 pub mod Simulating
+pub mod ScriptLines

@@ -41,3 +41,5 @@ pub mod OutcomeText
 pub mod FinalText
 pub mod DiceWords
 pub mod Simulations
+pub mod ScriptText
+pub mod Scripts

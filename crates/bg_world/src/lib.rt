@@ -34,6 +34,7 @@ mod roles;
 mod row_tests;
 mod runs;
 mod saves;
+mod scripts;
 mod sent_datagrams;
 mod setups;
 #[cfg(test)]
@@ -63,6 +64,7 @@ pub use outcome_texts::{outcome_text, outcome_texts_differ};
 pub use plans::{FailRead, FailSend, Plan, Tear};
 pub use roles::Role;
 pub use runs::RunReport;
+pub use scripts::{ScriptFault, script};
 pub use setups::{Keepers, Setup, WorldFault};
 pub use simulations::simulate;
 pub use worlds::World;
