@@ -59,7 +59,8 @@ checked_start input rest same = record {
   few = omega (arith, ap length same);
 }
 
-pub checked_more : (input : List ℕ) (count next : ℕ) (rest after line : List ℕ) (e : Event) → IsPartChecked input count rest
+pub checked_more : (input : List ℕ) (count next : ℕ) (rest after line : List ℕ) (e : Event)
+    → IsPartChecked input count rest
     → lines_of rest ≡ line ∷ lines_of after → length after < length rest → IsEvent e → line ≡ event_text e
     → next ≡ count + 1 → IsPartChecked input next after
 checked_more input count next rest after line e h first shorter range is grown = record {
@@ -116,7 +117,8 @@ played_start lh kh old new lines before after rest good same text world = record
   left = subst (λ (t : List ℕ). AreGood (lines_of t)) (sym same) good;
 }
 
-pub played_more : (lh kh : Type 0) (old mid new : WorldView) (lines : List (List ℕ)) (before so_far now rest after line : List ℕ)
+pub played_more : (lh kh : Type 0) (old mid new : WorldView) (lines : List (List ℕ))
+    (before so_far now rest after line : List ℕ)
     (e : Event) (outcome : Outcome)
     → IsPartPlayed lh kh old lines before so_far mid rest → lines_of rest ≡ line ∷ lines_of after
     → IsEvent e → line ≡ event_text e → Calls lh kh mid e outcome new
@@ -136,7 +138,8 @@ played_more lh kh old mid new lines before so_far now rest after line e outcome 
 }
   where
     told_more : (outcomes : List Outcome) (o : Outcome)
-        → lines_text (map outcome_text (outcomes ++ o ∷ [])) ≡ lines_text (map outcome_text outcomes) ++ line_text (outcome_text o)
+        → lines_text (map outcome_text (outcomes ++ o ∷ []))
+        ≡ lines_text (map outcome_text outcomes) ++ line_text (outcome_text o)
     told_more outcomes o =
         ap lines_text (map-append outcome_text outcomes (o ∷ []))
         ∙ flat_map-append line_text (map outcome_text outcomes) (outcome_text o ∷ [])
@@ -162,7 +165,8 @@ same_length : (lines : List (List ℕ)) (a b : List Event) → lines ≡ map eve
 same_length lines a b h k =
     sym (length-map a event_text) ∙ (ap length (sym h ∙ k) ∙ length-map b event_text)
 
-pub is_played : (lh kh : Type 0) (old new : WorldView) (lines : List (List ℕ)) (count : ℕ) (before told slice end text : List ℕ)
+pub is_played : (lh kh : Type 0) (old new : WorldView) (lines : List (List ℕ)) (count : ℕ)
+    (before told slice end text : List ℕ)
     → IsChecked lines (Ok count) → Plays lh kh old lines before told new → before ≡ [] → IsFinalText new end
     → text ≡ told ++ slice → slice ≡ end → IsPlayed lh kh old lines text (Fine count)
 is_played lh kh old new lines count before told slice end text checked plays empty ended printed same = record {
@@ -180,7 +184,8 @@ is_played lh kh old new lines count before told slice end text checked plays emp
   fine = ap Fine (checked.2 ∙ same_length lines checked.0 plays.events (checked.1).0 (plays.good).0);
 }
 
-pub none_happen : (lh kh : Type 0) (old new : WorldView) (outcomes : List Outcome) → CallsAll lh kh old [] outcomes new → new ≡ old
+pub none_happen : (lh kh : Type 0) (old new : WorldView) (outcomes : List Outcome)
+    → CallsAll lh kh old [] outcomes new → new ≡ old
 none_happen lh kh old new [] h = h
 none_happen lh kh old new (o ∷ outcomes) h = absurd h
 

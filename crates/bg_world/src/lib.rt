@@ -34,6 +34,8 @@ mod roles;
 mod row_tests;
 mod runs;
 mod saves;
+#[cfg(test)]
+mod script_tests;
 mod scripts;
 mod sent_datagrams;
 mod setups;

@@ -202,12 +202,13 @@ fn start(alloc: Global, setup: Setup) -> Result<World<MemoryNet, MemoryKeeper>, 
 /// Plays a script: reads event lines to the end of the input, lets their events happen, in order, to a world where
 /// nothing has happened yet, over devices in memory that never fail, and writes the line of what each came to and then
 /// the final text (docs/FORMATS.md, "Scripts"). Nothing happens unless all lines are those of events. Reading, writing
-/// and their limits are those of [`judge`](bg_text::judge). It takes time linear in the input, beside that of the events.
+/// and their limits are those of [`judge`](bg_text::judge). It takes time linear in the input, beside that of the
+/// events.
 ///
 /// # Errors
-/// `World` where there is no such world, by the first test that fails of [`World::new`]: nothing was read then. `Engine`
-/// as of [`judge`](bg_text::judge): Read exactly where the source failed, and Memory where memory runs out, nothing was
-/// written then; Write exactly where the sink failed.
+/// `World` where there is no such world, by the first test that fails of [`World::new`]: nothing was read then.
+/// `Engine` as of [`judge`](bg_text::judge): Read exactly where the source failed, and Memory where memory runs out,
+/// nothing was written then; Write exactly where the sink failed.
 pub fn script<S: Source, T: Sink>(
     alloc: Global,
     source: &mut S,
