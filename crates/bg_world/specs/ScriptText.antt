@@ -1,5 +1,5 @@
 -- What a script prints.
-use Rattle.std.specs.Prelude.{◌≡◌, ◌⊎◌, ℕ, ◌+◌, ◌<◌, ◌≤◌, List, ◌∷◌, ◌++◌, length, map, codes}
+use Rattle.std.specs.Prelude.{◌≡◌, ◌⊎◌, ℕ, ◌+◌, ◌<◌, ◌≤◌, List, ◌∷◌, ◌++◌, length, map, Result, Err, codes}
 use Rattle.std.specs.Fmt.{decimal}
 use Rattle.std.specs.List.{AllByRecursion}
 use Rattle.bg_text.specs.BoardText.{line_text, lines_text}
@@ -8,6 +8,7 @@ use Rattle.bg_text.specs.Limits.{most_bytes}
 use Rattle.bg_text.specs.Reason.{text_reason}
 use Rattle.bg_text.specs.declared.faults.TextFault.{TextFault}
 use Rattle.bg_text.specs.declared.faults.TextFault.TheVariants.{NotALine}
+use Rattle.bg_text.specs.declared.verdicts.EngineFault.TheVariants as engine
 use Rattle.bg_text.specs.declared.verdicts.Verdict.{Verdict}
 use Rattle.bg_text.specs.declared.verdicts.Verdict.TheVariants.{Fine, Refused}
 use Rattle.bg_world.specs.EventText.{IsEvent, IsEventTextFault, event_text}
@@ -19,6 +20,8 @@ use Rattle.bg_world.specs.WorldRuns.{CallsAll}
 use Rattle.bg_world.specs.declared.events.Event.{Event}
 use Rattle.bg_world.specs.declared.events.Outcome.{Outcome}
 use Rattle.bg_world.specs.declared.plans.Plan.{Plan}
+use Rattle.bg_world.specs.declared.scripts.ScriptFault.{ScriptFault}
+use Rattle.bg_world.specs.declared.scripts.ScriptFault.TheVariants.{Engine}
 use Rattle.bg_world.specs.declared.setups.Setup.{Setup}
 
 -- the lines are the texts of the events
@@ -76,3 +79,12 @@ abbrev pub IsScriptText : Setup → List ℕ → List ℕ → Verdict → Type 0
 IsScriptText setup input text verdict =
     (plan : Plan) × IsEmptyPlan plan
     × IsTextFrom (Unit {0}) (Unit {0}) (start_in_memory setup plan) input text verdict
+
+-- how often the source and the sink failed: once each where the answer is their fault, and else not at all
+abbrev pub SourceFailsOnce : {T : Type 0} → Result T ScriptFault → ℕ → ℕ → Type 0
+SourceFailsOnce (Err (Engine engine.Read)) before after = after ≡ before + 1
+SourceFailsOnce _ before after = after ≡ before
+
+abbrev pub SinkFailsOnce : {T : Type 0} → Result T ScriptFault → ℕ → ℕ → Type 0
+SinkFailsOnce (Err (Engine engine.Write)) before after = after ≡ before + 1
+SinkFailsOnce _ before after = after ≡ before

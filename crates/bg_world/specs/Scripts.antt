@@ -4,7 +4,6 @@ use Rattle.std.specs.List.{AllByRecursion}
 use Rattle.bg_text.specs.BoardText.{lines_text}
 use Rattle.bg_text.specs.Judging.{lines_of}
 use Rattle.bg_text.specs.declared.faults.TextFault.{TextFault}
-use Rattle.bg_text.specs.declared.verdicts.EngineFault.TheVariants as engine
 use Rattle.bg_world.specs.EventText.{IsEvent, event_text}
 use Rattle.bg_world.specs.OutcomeText.{outcome_text}
 use Rattle.bg_world.specs.ScriptText.{AreEventLines, IsRefusedAt}
@@ -14,8 +13,6 @@ use Rattle.bg_world.specs.WorldRuns.{CallsAll}
 use Rattle.bg_world.specs.declared.events.Event.{Event}
 use Rattle.bg_world.specs.declared.events.Outcome.{Outcome}
 use Rattle.bg_world.specs.declared.plans.Plan.{Plan}
-use Rattle.bg_world.specs.declared.scripts.ScriptFault.{ScriptFault}
-use Rattle.bg_world.specs.declared.scripts.ScriptFault.TheVariants.{Engine}
 use Rattle.bg_world.specs.declared.setups.Setup.{Setup}
 
 -- the lines are those of some events
@@ -54,15 +51,6 @@ pub record IsPartPlayed (link_honest keepers_honest : Type 0) (old : WorldView) 
   pub calls : CallsAll link_honest keepers_honest old events outcomes new
   pub added : after ≡ before ++ lines_text (map outcome_text outcomes)
   pub left : AreGood (lines_of rest)
-
--- how often the source and the sink failed: once each where the answer is their fault, and else not at all
-abbrev pub SourceFailsOnce : {T : Type 0} → Result T ScriptFault → ℕ → ℕ → Type 0
-SourceFailsOnce (Err (Engine engine.Read)) before after = after ≡ before + 1
-SourceFailsOnce _ before after = after ≡ before
-
-abbrev pub SinkFailsOnce : {T : Type 0} → Result T ScriptFault → ℕ → ℕ → Type 0
-SinkFailsOnce (Err (Engine engine.Write)) before after = after ≡ before + 1
-SinkFailsOnce _ before after = after ≡ before
 
 -- a world where nothing has happened yet, over devices in memory that never fail
 abbrev pub IsStart : Setup → WorldView → Type 0
