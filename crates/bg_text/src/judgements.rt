@@ -98,8 +98,11 @@ pub(crate) fn refused_at_once(alloc: Global, why: LineFault) -> Result<Judgement
     })
 }
 
-/// The judgement on an input that is longer than the limit.
-pub(crate) fn too_long(alloc: Global) -> Result<Judgement, AllocError>
+/// The judgement on an input that is longer than the limit (docs/FORMATS.md, "The judge").
+///
+/// # Errors
+/// `AllocError` where there is no memory for the text.
+pub fn too_long(alloc: Global) -> Result<Judgement, AllocError>
     ensures { IfOk result (λ judgement. IsTooLong judgement.text.items judgement.verdict) }
 {
     Ok(Judgement {

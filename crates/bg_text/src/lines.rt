@@ -94,8 +94,9 @@ fn read_seat_entry(line: &[u8]) -> Result<Entry, TextFault>
     entry_of(read_action(line)?, None).ok_or(TextFault::NotALine)
 }
 
-/// The player whose letter a line begins with, and what follows the letter and its space.
-fn split_player(line: &[u8]) -> Option<(Player, &[u8])>
+/// The player whose letter a line begins with, and what follows the letter and its space (docs/FORMATS.md, "Entry
+/// lines"). None where the line begins with no player's letter and a space.
+pub fn split_player(line: &[u8]) -> Option<(Player, &[u8])>
     ensures { MatchOption result
         ((player : Player) (rest : List ℕ) → line.now ≡ letter player ++ 32 ∷ rest → ⊥)
         (λ found. line.now ≡ letter found.0 ++ 32 ∷ found.1.now) }

@@ -5,7 +5,7 @@ use thiserror::Error;
 /// What the judge finds.
 #[derive(Clone, Copy, Debug, PartialEq, Eq)]
 pub enum Verdict {
-    /// All lines are good: so many entries.
+    /// All lines are good: so many entries, or events of a script.
     Fine(u32),
     /// The first line that is refused. Lines count from 1.
     Refused(u32),

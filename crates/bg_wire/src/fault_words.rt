@@ -1,5 +1,5 @@
 //! The words of faults, for the texts that name them.
-ghost use Rattle.std.specs.Prelude.{◌≡◌};
+ghost use Rattle.std.specs.Prelude.{◌≡◌, ◌≤◌, length};
 ghost use Rattle.bg_wire.specs.FaultWords.{numbered, wire_fault_words, load_fault_words};
 
 use crate::{LoadFault, WireFault};
@@ -7,7 +7,8 @@ use crate::{LoadFault, WireFault};
 impl WireFault {
     /// The fault in words, and the number that stands behind them, if there is one.
     pub fn words(self) -> (&'static str, Option<u64>)
-        ensures { numbered result.0.now result.1 ≡ wire_fault_words self }
+        ensures words { numbered result.0.now result.1 ≡ wire_fault_words self }
+        ensures fits { length result.0.now ≤ 13 }
     {
         match self {
             WireFault::Short => ("short", None),
@@ -23,7 +24,8 @@ impl WireFault {
 impl LoadFault {
     /// The fault in words, and the number that stands behind them, if there is one.
     pub fn words(self) -> (&'static str, Option<u64>)
-        ensures { numbered result.0.now result.1 ≡ load_fault_words self }
+        ensures words { numbered result.0.now result.1 ≡ load_fault_words self }
+        ensures fits { length result.0.now ≤ 14 }
     {
         match self {
             LoadFault::Short => ("short", None),

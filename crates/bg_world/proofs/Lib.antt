@@ -30,6 +30,13 @@ pub mod NoRefusals
 pub mod Upheld
 pub mod Starting
 pub mod Unplanned
+pub mod Digits
+pub mod EventTexts
+pub mod EventShapes
+pub mod EventFaults
+pub mod OutcomeReads
+pub mod OutcomeTexts
 pub mod DiceWords
 pub mod NoFailures
 pub mod Simulating
+pub mod ScriptLines

@@ -35,5 +35,11 @@ pub mod World
 pub mod Starts
 pub mod NotRefused
 pub mod Upholds
+pub mod EventText
+pub mod EventLines
+pub mod OutcomeText
+pub mod FinalText
 pub mod DiceWords
 pub mod Simulations
+pub mod ScriptText
+pub mod Scripts

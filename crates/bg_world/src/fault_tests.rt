@@ -1,7 +1,7 @@
 //! Worlds whose devices fail, worlds that are refused, and runs.
 use crate::test_rows::{
-    ComesTo, Failing, Happens, NO_FAILURE, Row, TO_THE_CHOICE, TO_THE_CLAIM, check_rows,
-    events_of, held, world,
+    ComesTo, Failing, Happens, NO_FAILURE, Row, TO_THE_CHOICE, TO_THE_CLAIM, check_rows, events_of,
+    held, world,
 };
 use crate::{FailRead, FailSend, RunReport, Tear, WorldFault};
 use std::alloc::Global;

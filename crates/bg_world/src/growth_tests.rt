@@ -1,11 +1,11 @@
 //! Runs in which memory is refused. No run of the tests refuses any, but `tools/refuse_growths` refuses each growth in
 //! turn.
+use crate::WorldFault;
 use crate::row_tests::{THE_CLAIM_KEPT, THE_ROLL_LOST, TO_THE_ROLL, WITH_A_WATCHER};
 use crate::runs::{is_fault, is_memory};
 use crate::test_rows::{
     MemoryWorld, NO_FAILURE, Row, TO_THE_CHOICE, TO_THE_CLAIM, event, is, world,
 };
-use crate::WorldFault;
 use bg_match::Record;
 use std::alloc::{AllocError, Global};
 use std::process::Abort;

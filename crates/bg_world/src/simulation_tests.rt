@@ -75,11 +75,7 @@ fn check_torn(
     entries: u16,
     next: u32,
 ) -> Result<(), WorldFault> {
-    let tear = Tear {
-        party: 0,
-        nth,
-        cut,
-    };
+    let tear = Tear { party: 0, nth, cut };
     let failing = Failing {
         tear: Some(tear),
         ..NO_FAILURE
