@@ -2,7 +2,7 @@
 use Rattle.std.specs.Prelude.{ℕ, true, false}
 use Rattle.bg_text.specs.declared.verdicts.Verdict.TheVariants.{Fine, Refused, TooLong}
 use Rattle.bg_relay.specs.declared.endings.Ending.{Ending}
-use Rattle.bg_relay.specs.declared.endings.Ending.TheVariants.{Told, WrongArguments, Judged, Shown, Failed}
+use Rattle.bg_relay.specs.declared.endings.Ending.TheVariants.{Told, WrongArguments, Judged, Played, Shown, Failed}
 
 -- the command was done, and has nothing to refuse
 abbrev pub done : ℕ
@@ -12,7 +12,7 @@ done = 0
 abbrev pub failed : ℕ
 failed = 1
 
--- the arguments, the transcript or both of the files are refused
+-- the arguments, the transcript, the script or both of the files are refused
 abbrev pub refused : ℕ
 refused = 2
 
@@ -22,6 +22,9 @@ status_of WrongArguments = refused
 status_of (Judged (Fine entries)) = done
 status_of (Judged (Refused line)) = refused
 status_of (Judged TooLong) = refused
+status_of (Played (Fine events)) = done
+status_of (Played (Refused line)) = refused
+status_of (Played TooLong) = refused
 status_of (Shown true) = done
 status_of (Shown false) = refused
 status_of Failed = failed

@@ -1,6 +1,8 @@
 //! The command line.
 
-use clap::{Arg, Command, Error};
+use bg_match::{LONGEST_MATCH, SHORTEST_MATCH};
+use bg_world::MOST_WATCHERS;
+use clap::{Arg, Command, Error, value_parser};
 use std::alloc::Global;
 
 /// The version that `--version` prints.
@@ -15,7 +17,8 @@ pub(crate) fn command<'a>(alloc: Global) -> Result<Command<'a>, Error> {
             .subcommand_required(true)
             .arg_required_else_help(true)
             .subcommand(judge_command(alloc))?
-            .subcommand(show_command(alloc)?)?,
+            .subcommand(show_command(alloc)?)?
+            .subcommand(script_command(alloc)?)?,
     )
 }
 
@@ -53,5 +56,37 @@ fn show_command<'a>(alloc: Global) -> Result<Command<'a>, Error> {
             )
             .arg(file0)?
             .arg(file1)?,
+    )
+}
+
+fn script_command<'a>(alloc: Global) -> Result<Command<'a>, Error> {
+    let length = Arg::new(alloc, "length")
+        .long("length")
+        .value_name("N")
+        .value_parser(value_parser!(u8).range(i64::from(SHORTEST_MATCH)..=i64::from(LONGEST_MATCH)))
+        .required(true)
+        .help("The length of the match, in points: 1 to 99");
+    let watchers = Arg::new(alloc, "watchers")
+        .long("watchers")
+        .value_name("N")
+        .value_parser(value_parser!(u8).range(0..=i64::from(MOST_WATCHERS)))
+        .required(true)
+        .help("How many watch it: 0 to 253");
+    Ok(
+        Command::new(alloc, "script")
+            .about("Let the events on standard input happen to a match in memory")
+            .long_about(
+                "Let the events on standard input happen to a match in memory.\n\
+             \n\
+             Each line is one event: `due WORD`, `take PARTY PICK WORD`, `choose PLAYER ACTION`,\n\
+             `save PARTY`, `tick PARTY` or `restart PARTY`. Party 0 is the referee, 1 and 2 are the seats of\n\
+             X and O, and watchers follow from 3. Prints a line for what each event came to, then how many\n\
+             entries each party holds, and the board. Nothing happens unless all lines are good: else it\n\
+             prints `refused at line L: REASON`, and for an input of more than 4194304 bytes\n\
+             `refused: input too long`. Ends with status 0 where the script is good, 2 where it is refused,\n\
+             and 1 where reading, writing or memory failed.",
+            )
+            .arg(length)?
+            .arg(watchers)?,
     )
 }

@@ -10,7 +10,7 @@ pub const DONE: u8 = 0;
 /// The status where reading, writing or memory failed.
 pub const FAILED: u8 = 1;
 
-/// The status where the arguments, the transcript or both of the files are refused.
+/// The status where the arguments, the transcript, the script or both of the files are refused.
 pub const REFUSED: u8 = 2;
 
 /// What a command came to.
@@ -22,6 +22,8 @@ pub enum Ending {
     WrongArguments,
     /// A transcript was judged.
     Judged(Verdict),
+    /// A script was played, or refused.
+    Played(Verdict),
     /// Two saved files were shown; whether one of them loads.
     Shown { loads: bool },
     /// Reading, writing or memory failed.
@@ -34,10 +36,14 @@ impl Ending {
         ensures { result ≡ status_of self }
     {
         match self {
-            Ending::Told | Ending::Judged(Verdict::Fine(_)) | Ending::Shown { loads: true } => DONE,
+            Ending::Told
+            | Ending::Judged(Verdict::Fine(_))
+            | Ending::Played(Verdict::Fine(_))
+            | Ending::Shown { loads: true } => DONE,
             Ending::Failed => FAILED,
             Ending::WrongArguments
             | Ending::Judged(Verdict::Refused(_) | Verdict::TooLong)
+            | Ending::Played(Verdict::Refused(_) | Verdict::TooLong)
             | Ending::Shown { loads: false } => REFUSED,
         }
     }

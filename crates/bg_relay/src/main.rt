@@ -1,4 +1,4 @@
-//! The program: judges backgammon matches, and shows saved ones.
+//! The program: judges backgammon matches, shows saved ones, and plays scripts.
 #![tactic(auto)]
 
 mod arguments;
@@ -10,6 +10,7 @@ mod tests;
 
 use arguments::command;
 use bg_text::{EngineFault, Reading, Writing, judge};
+use bg_world::{ScriptFault, Setup, script};
 use clap::ArgMatches;
 use clap::error::ErrorKind;
 use endings::Ending;
@@ -20,6 +21,9 @@ use std::fs::File;
 use std::io;
 use std::process::ExitCode;
 use std::rt::Files;
+
+/// The number of the match that scripts play.
+const SCRIPTED_MATCH: u64 = 1;
 
 /// The message where there is no memory.
 const NO_MEMORY: &str = "out of memory";
@@ -93,6 +97,17 @@ fn run_command(
             }
             run_show(rt, file0, file1)
         }
+        Some(("script", options)) => {
+            let (Some(length), Some(watchers)) = (options.get_one("length"), options.get_one("watchers")) else {
+                return wrong(rt, "an option is missing");
+            };
+            let setup = Setup {
+                id: SCRIPTED_MATCH,
+                length,
+                watchers,
+            };
+            run_script(rt, setup)
+        }
         _ => wrong(rt, "no such command"),
     }
 }
@@ -106,6 +121,19 @@ fn run_judge(rt: &(impl Input + Print + Eprint + AllocGlobal)) -> Ending {
         Err(EngineFault::Read) => failed_for(rt, EngineFault::Read, input.error()),
         Err(EngineFault::Write) => failed_for(rt, EngineFault::Write, output.error()),
         Err(EngineFault::Memory) => failed(rt, EngineFault::Memory),
+    }
+}
+
+/// Plays the script on the standard input.
+fn run_script(rt: &(impl Input + Print + Eprint + AllocGlobal), setup: Setup) -> Ending {
+    let mut input = Reading::new(rt.reader());
+    let mut output = Writing::new(io::writer(rt));
+    match script(rt.alloc(), &mut input, &mut output, setup) {
+        Ok(verdict) => Ending::Played(verdict),
+        Err(ScriptFault::World(fault)) => failed(rt, fault),
+        Err(ScriptFault::Engine(EngineFault::Read)) => failed_for(rt, EngineFault::Read, input.error()),
+        Err(ScriptFault::Engine(EngineFault::Write)) => failed_for(rt, EngineFault::Write, output.error()),
+        Err(ScriptFault::Engine(EngineFault::Memory)) => failed(rt, EngineFault::Memory),
     }
 }
 

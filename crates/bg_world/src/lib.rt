@@ -67,6 +67,6 @@ pub use plans::{FailRead, FailSend, Plan, Tear};
 pub use roles::Role;
 pub use runs::RunReport;
 pub use scripts::{ScriptFault, script};
-pub use setups::{Keepers, Setup, WorldFault};
+pub use setups::{Keepers, MOST_WATCHERS, Setup, WorldFault};
 pub use simulations::simulate;
 pub use worlds::World;

@@ -9,7 +9,7 @@ use std::alloc::{AllocError, AllocFailed};
 use thiserror::Error;
 
 /// The most that may watch a match.
-const MOST_WATCHERS: u8 = LAST_WATCHER - FIRST_WATCHER + 1;
+pub const MOST_WATCHERS: u8 = LAST_WATCHER - FIRST_WATCHER + 1;
 
 /// A match that is to be played.
 #[derive(Clone, Copy, Debug, PartialEq, Eq)]
