@@ -2,7 +2,7 @@ use Rattle.std.proofs.Common.{◌≡◌, ◌<◌, ◌+◌, ◌-◌, ◌∷◌, [
 use Rattle.std.specs.Int.{trailing_zeros}
 use Rattle.bg_turns.specs.Race.{IsRace, after}
 use Rattle.bg_turns.proofs.Sides.{held_from_can}
-use Rattle.bg_turns.proofs.Listed.{IsRace-after}
+use Rattle.bg_turns.proofs.OneDie.{IsRace-after}
 use Rattle.bg_turns.proofs.Opened.{left_first, left_after, place_low, place_passed, start_low, fewer}
 use Rattle.bg_turns.proofs.Deepest.{most_above_none, most_above_all, most_of_step, most_of_no_step, deepest_all, deepest_played}
 use Rattle.bg_turns.proofs.search.most_of_two.Goals as goal
