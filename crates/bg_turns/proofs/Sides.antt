@@ -166,6 +166,14 @@ pub Stands-of : (r : Race) (b : Position) (p : Player) → r.own ≡ checkers b 
 Stands-of r b X own other is = record { own = own; held = λ q one within. rw other (λ h. h, λ h. h); points = ap length own ∙ is.x_points; points_other = is.o_points }
 Stands-of r b O own other is = record { own = own; held = λ q one within. rw other (λ h. h, λ h. h); points = ap length own ∙ is.o_points; points_other = is.x_points }
 
+-- the player's side of a position
+abbrev pub side_of : Position → Player → Race
+side_of b p = record { own = checkers b p; other = checkers b (opponent p) }
+
+pub IsRace-of : (b : Position) (p : Player) → IsPosition b → IsRace (side_of b p)
+IsRace-of b X is = record { points = is.x_points; fifteen = is.x_fifteen }
+IsRace-of b O is = record { points = is.o_points; fifteen = is.o_fifteen }
+
 -- with all checkers off no step can be played
 pub none_when_off : (r : Race) → IsRace r → is_off r ≡ true → (from : ℕ) → 1 ≤ from → get_or r.own from 0 ≡ 0
 unfolding is_off

@@ -2,7 +2,7 @@ use Rattle.std.proofs.Common.{◌≡◌, ◌<◌, ◌+◌, ◌-◌, ◌∷◌, [
 use Rattle.std.specs.Int.{trailing_zeros}
 use Rattle.bg_turns.specs.Race.{IsRace, after}
 use Rattle.bg_turns.proofs.Sides.{held_from_can}
-use Rattle.bg_turns.proofs.Listed.{IsRace-after}
+use Rattle.bg_turns.proofs.OneDie.{IsRace-after}
 use Rattle.bg_turns.proofs.Opened.{left_first, left_after, place_low, place_passed, start_low, fewer}
 use Rattle.bg_turns.proofs.Deepest.{most_above_none, most_above_all, most_of_step, most_of_no_step, deepest_all, deepest_played}
 use Rattle.bg_turns.proofs.search.most_of_two.Goals as goal
@@ -68,9 +68,9 @@ loop-places-preserved c =
       left = left_after _ _ _ c.loop-places.invariant.left c.loop-places-test.true (omega arith);
       bounded = omega arith;
       most = λ b p s. rw one at
-      (deepest_played b p c.args.first (c.args.second ∷ []) c.args.race.now s c.requires.first c.loop-places.below c.loop-places.places
-      c.loop-places.invariant.left c.loop-places.most (c.loop-places.invariant.most b p s) c.loop-places-test.true (omega arith)
-      _ 0 c.saturating_sub.ensures (λ b' st. most_of_no_step b' p c.args.second (λ can_step. let wrong = (there b' p st).1 can_step in let off = c.if-can_step.false in cc)));
+          (deepest_played b p c.args.first (c.args.second ∷ []) c.args.race.now s c.requires.first c.loop-places.below c.loop-places.places
+          c.loop-places.invariant.left c.loop-places.most (c.loop-places.invariant.most b p s) c.loop-places-test.true (omega arith)
+          _ 0 c.saturating_sub.ensures (λ b' st. most_of_no_step b' p c.args.second (λ can_step. let wrong = (there b' p st).1 can_step in let off = c.if-can_step.false in cc)));
     }
 
 pub returns-clause-most : goal.returns-clause-most

@@ -1,7 +1,7 @@
 use Rattle.std.proofs.Common.{◌≡◌, ◌∙◌, ◌++◌, ◌∷◌, ◌-◌, ◌+◌, [], take, inl, inr, refl, sym, ap, arith, w32}
 use Rattle.std.specs.Int.{trailing_zeros}
 use Rattle.bg_turns.specs.Race.{one_die, tree, after, behind}
-use Rattle.bg_turns.proofs.Listed.{tree-end, tree-at}
+use Rattle.bg_turns.proofs.OneDie.{tree-end, tree-at}
 use Rattle.bg_turns.proofs.Growing.{behind-empty, add_branch, add_two_left}
 use Rattle.bg_turns.proofs.Opened.{left_first, left_after, listed_there, listed_all, none_by_die, place_low, place_passed, start_low, fewer}
 use Rattle.bg_turns.proofs.Sides.{held_from_can}
