@@ -1,5 +1,6 @@
 -- What `show` prints of two saved files of a party.
-use Rattle.std.specs.Prelude.{◌≡◌, ℕ, Bool, List, [], ◌++◌, length, Option, Some, None, Result, Ok, Err, is_ok, ◌||◌, codes}
+use Rattle.std.specs.Prelude.{◌≡◌, ℕ, Bool, List, [], ◌++◌, length, Option, Some, None, Result, Ok, Err, is_ok, ◌||◌}
+use Rattle.std.specs.Prelude.{codes}
 use Rattle.std.specs.Fmt.{decimal}
 use Rattle.bg_match.specs.Match.{StandsAt}
 use Rattle.bg_match.specs.State.{State}
@@ -30,7 +31,8 @@ match_part saved =
 
 abbrev pub save_part : SavedParts → List ℕ
 save_part saved =
-    codes " save " ++ decimal saved.save ++ codes " entries " ++ decimal (length saved.entries) ++ claim_part saved.claim
+    codes " save " ++ decimal saved.save ++ codes " entries " ++ decimal (length saved.entries)
+    ++ claim_part saved.claim
 
 -- what is said of a file
 abbrev pub held_part : Result SavedParts LoadFault → List ℕ

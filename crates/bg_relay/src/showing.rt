@@ -4,7 +4,8 @@ ghost use Rattle.bg_text.specs.BoardText.{line_text};
 ghost use Rattle.bg_wire.specs.FaultWords.{numbered};
 ghost use Rattle.bg_wire.specs.Restoring.{LoadsAs, newer};
 ghost use Rattle.bg_wire.specs.SavedText.{parts_of};
-ghost use Rattle.bg_relay.specs.Show.{IsHeld, IsShowText, IsBoardOf, claim_part as part_of_claim, file_line, held_of, held_part, loaded_of, match_part, save_part};
+ghost use Rattle.bg_relay.specs.Show.{IsHeld, IsShowText, IsBoardOf, claim_part as part_of_claim, file_line, held_of};
+ghost use Rattle.bg_relay.specs.Show.{held_part, loaded_of, match_part, save_part};
 
 use bg_match::{Action, Number};
 use bg_text::{board_text, put_number, put_text};

@@ -182,8 +182,8 @@ fn check_no_growth_is_left(alloc: Global) -> Result<(), Fail> {
     }
 }
 
-/// Want of memory is answered and harms nothing: asked again, the answer is the same. No run of the tests refuses any, but
-/// `tools/refuse_growths` refuses each growth in turn.
+/// Want of memory is answered and harms nothing: asked again, the answer is the same. No run of the tests refuses any,
+/// but `tools/refuse_growths` refuses each growth in turn.
 #[test]
 fn refused_growths(rt: HostRuntime) -> Result<(), Fail> {
     for _ in 0..2 {
