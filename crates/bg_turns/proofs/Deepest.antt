@@ -1,9 +1,9 @@
 -- The search for the greatest number of steps on a race, from the highest point down.
 use Rattle.std.proofs.Common.{◌≡◌, ◌≢◌, ◌↔◌, map, ℕ, ◌+◌, ◌-◌, ◌<◌, ◌≤◌, max, Bool, true, false, List, [], ◌∷◌, length, get_or, refl, sym, ◌∙◌, ap, not, eqb, subst, arith, inl, inr, w32}
 use mir.Val.{bool_byte}
-use Rattle.std.specs.Int.{bit_at, trailing_zeros}
+use Rattle.std.specs.Int.{trailing_zeros}
 use Rattle.std.specs.Bool.{OnTrue}
-use Rattle.std.proofs.lemmas.Bool.{both_ways, cases_eq, cases_lt, ne_eqb}
+use Rattle.std.proofs.lemmas.Bool.{cases_eq, cases_lt, ne_eqb}
 use Rattle.std.proofs.lemmas.Nat.Bits.{bit_at-zero}
 use Rattle.bg_board.specs.declared.dice.Die.{Die}
 use Rattle.bg_board.specs.Die.{pips}

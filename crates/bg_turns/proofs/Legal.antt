@@ -1,26 +1,23 @@
 -- The lists that the search finds are the legal turns: with equal dice, and what two dice share.
-use Rattle.std.proofs.Common.{◌≡◌, ◌≢◌, ◌↔◌, ℕ, zero, suc, ◌+◌, ◌-◌, ◌<◌, ◌≤◌, min, max, Bool, true, false, List, [], ◌∷◌, ◌++◌, map, length, take, drop, get_or, replicate, sum, refl, sym, ◌∙◌, ap, subst, arith, inl, inr, ◌⊎◌}
-use Rattle.std.specs.Prelude.{Contains, AllPairs}
-use Rattle.std.specs.List.{remove}
-use Rattle.std.proofs.lemmas.Bool.{cases_eq, cases_lt, both_ways}
+use Rattle.std.proofs.Common.{◌≡◌, ◌↔◌, ℕ, zero, suc, ◌+◌, ◌<◌, ◌≤◌, List, [], ◌∷◌, length, drop, get_or, replicate, sum, refl, sym, ◌∙◌, ap, arith, inl, inr, ◌⊎◌}
+use Rattle.std.specs.Prelude.{Contains}
+use Rattle.std.proofs.lemmas.Bool.{cases_eq}
 use Rattle.std.proofs.lemmas.List.{get_or-drop, length-replicate}
 use Rattle.std.proofs.lemmas.Grind.{common_steps}
-use Rattle.std.proofs.lemmas.List.Elements.{Contains-get_or}
-use Rattle.bg_board.specs.Position.{Position, IsPosition, HasAllOff, count, checkers, opponent}
+use Rattle.bg_board.specs.Position.{Position, HasAllOff}
 use Rattle.bg_board.specs.FromTo.{FromTo}
 use Rattle.bg_board.specs.Step.{IsStep, after_step, carried}
 use Rattle.bg_board.specs.declared.players.Player.{Player}
 use Rattle.bg_board.proofs.Carried.{get_or-carried_other}
 use Rattle.bg_turns.specs.declared.races.Race.{Race}
 use Rattle.bg_turns.specs.declared.throws.Dice.{Dice}
-use Rattle.bg_turns.specs.Dice.{dice_list, first_pips, second_pips, larger_die}
-use Rattle.bg_turns.specs.Race.{Stands, IsRace, step_of, can, after, is_off, tree, pairs, behind}
+use Rattle.bg_turns.specs.Dice.{dice_list, first_pips, second_pips}
+use Rattle.bg_turns.specs.Race.{Stands, IsRace, after, tree, pairs, behind}
 use Rattle.bg_turns.specs.InOrder.{IsInOrder}
-use Rattle.bg_turns.specs.Turn.{IsPlayable, IsLongest, IsMost, IsLegalTurn, UsesLarger, after_steps}
+use Rattle.bg_turns.specs.Turn.{IsPlayable, IsLongest, IsMost, IsLegalTurn}
 use Rattle.bg_turns.proofs.MostSteps.{in_order_few}
-use Rattle.bg_turns.proofs.Orders.{playable_in_order, playable_swapped, in_either_order, in_only_order, dice_list-double, dice_list-two}
+use Rattle.bg_turns.proofs.Orders.{playable_in_order, playable_swapped, in_either_order, in_only_order, dice_list-double}
 use Rattle.bg_turns.proofs.Sides.{Stands-after, none_when_off, is_off-iff, sum-none}
-use Rattle.bg_turns.proofs.Listed.{nothing, only_empty}
 use Rattle.bg_turns.proofs.OneDie.{IsFull, IsRace-after, tree-lists, tree-end}
 use Rattle.bg_turns.proofs.TwoDice.{pairs-lists, pairs-end}
 

@@ -1,24 +1,15 @@
 -- Lists of steps that begin at a point: which there are, and their order.
-use Rattle.std.proofs.Common.{◌≡◌, ◌≢◌, ◌↔◌, ℕ, zero, suc, ◌+◌, ◌-◌, ◌<◌, ◌≤◌, Bool, true, false, ◌&&◌, cond, ltb, List, [], ◌∷◌, ◌++◌, map, length, get_or, replicate, refl, sym, ◌∙◌, ap, subst, arith, inl, inr, ◌⊎◌}
+use Rattle.std.proofs.Common.{◌≡◌, ℕ, zero, suc, ◌-◌, ◌<◌, ◌≤◌, true, false, List, [], ◌∷◌, ◌++◌, length, get_or, refl, sym, ◌∙◌, ap, arith, inl, inr}
 use Rattle.std.specs.Prelude.{Contains, AllPairs}
-use Rattle.std.proofs.lemmas.Bool.{cases_eq, cases_lt, cases_Bool, cond-true, cond-false, both_ways, ltb-true, ltb-false, lt-ltb, le-ltb, and_from, and_left, and_right}
-use Rattle.std.proofs.lemmas.Bool.Decides.{nat_tests}
-use Rattle.std.proofs.lemmas.List.{get_or-map, length-map, map-append, append-nil, get_or_append_left}
+use Rattle.std.proofs.lemmas.Bool.{cases_eq, cases_lt, cases_Bool, cond-true, cond-false}
+use Rattle.std.proofs.lemmas.List.{get_or-map, length-map, get_or_append_left}
 use Rattle.std.proofs.Math.Seq.{get_or-append_right}
 use Rattle.std.proofs.lemmas.List.Elements.{Contains-get_or, Contains-append_left, Contains-append_right, Contains-append_cases}
-use Rattle.std.proofs.Common.{length-append, append_assoc}
-use Rattle.bg_board.specs.Position.{Position, HasAllOff, count}
+use Rattle.std.proofs.Common.{length-append}
 use Rattle.bg_board.specs.FromTo.{FromTo}
-use Rattle.bg_board.specs.Step.{IsStep, after_step}
-use Rattle.bg_board.specs.declared.players.Player.{Player}
-use Rattle.bg_board.proofs.Carried.{sum-carried, length-carried}
 use Rattle.bg_turns.specs.declared.races.Race.{Race}
-use Rattle.bg_turns.specs.Race.{Stands, IsRace, IsHighest, step_of, can, after, is_off, begin, at_each, one_die, tree, two_dice, pairs, behind}
-use Rattle.bg_turns.specs.InOrder.{IsInOrder}
-use Rattle.bg_turns.specs.Turn.{after_steps}
-use Rattle.bg_turns.specs.TurnOrder.{IsGreater, IsHigher}
-use Rattle.bg_turns.proofs.MostSteps.{FromTo-ext}
-use Rattle.bg_turns.proofs.Sides.{Stands-after, step_from_can, can_from_step, none_when_off, is_off-iff, can-empty}
+use Rattle.bg_turns.specs.Race.{step_of, can, after, begin, at_each, one_die, behind}
+use Rattle.bg_turns.specs.TurnOrder.{IsGreater}
 
 module _ (f : ℕ → List (List FromTo)) where
   pub at_each-none : at_each f 0 ≡ []

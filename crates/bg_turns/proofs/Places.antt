@@ -1,5 +1,5 @@
 -- The bits that the masks compute are the places from which a step can be played.
-use Rattle.std.proofs.Common.{◌≡◌, ◌≢◌, ◌↔◌, ℕ, ◌+◌, ◌-◌, ◌*◌, ◌%◌, ◌^◌, ◌<◌, ◌≤◌, min, Bool, true, false, ◌&&◌, ◌||◌, leb, ltb, eqb, List, length, get_or, refl, sym, ◌∙◌, ap, arith, inl, inr, ◌⊎◌, w32}
+use Rattle.std.proofs.Common.{◌≡◌, ◌≢◌, ◌↔◌, ℕ, ◌+◌, ◌-◌, ◌*◌, ◌%◌, ◌^◌, ◌<◌, ◌≤◌, min, true, ◌&&◌, ◌||◌, leb, eqb, get_or, sym, ◌∙◌, ap, arith, inl, inr, ◌⊎◌, w32}
 use Rattle.std.specs.Int.{bit_at, trailing_zeros}
 use lib.Bits.{bit_and}
 use Rattle.std.proofs.lemmas.Bool.{cases_eq, cases_lt, eq-eqb, ne_eqb, ltb-true, lt-ltb, both_ways, false_from_ne_true}
@@ -11,7 +11,7 @@ use Rattle.bg_turns.specs.declared.masks.Masks.{Masks}
 use Rattle.bg_turns.specs.Race.{IsRace, IsHighest, can, is_off}
 use Rattle.bg_turns.specs.Masks.{AreMasks, ArePlaces}
 use Rattle.bg_turns.proofs.Bits.{power}
-use Rattle.bg_turns.proofs.Sides.{can-empty, can-bar, can-point, can-bear_off, held_from_can, none_when_off, off_when_none}
+use Rattle.bg_turns.proofs.Sides.{can-bar, can-point, can-bear_off, held_from_can, none_when_off, off_when_none}
 
 -- what the places below one say, by the masks
 abbrev pub AreLanding : Masks → ℕ → ℕ → ℕ → Type 0

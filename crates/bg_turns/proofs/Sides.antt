@@ -1,16 +1,15 @@
 -- What a search within one turn needs of a position.
-use Rattle.std.proofs.Common.{◌≡◌, ◌≢◌, ◌↔◌, ℕ, zero, suc, ◌+◌, ◌-◌, ◌<◌, ◌≤◌, Bool, true, false, ◌&&◌, ◌||◌, ltb, leb, eqb, List, [], ◌∷◌, length, sum, take, drop, get_or, refl, sym, ◌∙◌, ap, subst, arith, length-set, inl, inr, ◌⊎◌}
-use Rattle.std.proofs.lemmas.Bool.{cases_eq, cases_lt, cases_Bool, eq-eqb}
+use Rattle.std.proofs.Common.{◌≡◌, ◌≢◌, ◌↔◌, ℕ, zero, suc, ◌+◌, ◌-◌, ◌<◌, ◌≤◌, true, false, ◌&&◌, ◌||◌, ltb, leb, eqb, List, [], ◌∷◌, length, sum, drop, get_or, refl, sym, ◌∙◌, ap, arith, inl, inr, ◌⊎◌}
+use Rattle.std.proofs.lemmas.Bool.{cases_eq, cases_lt, eq-eqb}
 use Rattle.std.proofs.lemmas.Bool.Decides.{nat_tests}
 use Rattle.std.proofs.lemmas.List.{get_or-drop, length-drop, get_or_past}
 use Rattle.std.proofs.lemmas.List.Sums.{get_or-le-sum_by, sum_by-cons}
-use Rattle.std.proofs.lemmas.Grind.{common_steps}
-use Rattle.bg_board.specs.Position.{Position, IsPosition, checkers, opponent, count, count_above, HasAllOff}
+use Rattle.bg_board.specs.Position.{Position, IsPosition, checkers, opponent, HasAllOff}
 use Rattle.bg_board.specs.FromTo.{FromTo}
 use Rattle.bg_board.specs.Step.{IsStep, after_step, carried, hit_by}
 use Rattle.bg_board.specs.declared.players.Player.{Player}
 use Rattle.bg_board.specs.declared.players.Player.TheVariants.{X, O}
-use Rattle.bg_board.proofs.Carried.{sum-carried, length-carried, hit_by-landing, hit_by-other, length-hit_by}
+use Rattle.bg_board.proofs.Carried.{length-carried, hit_by-landing, hit_by-other, length-hit_by}
 use Rattle.bg_turns.specs.declared.races.Race.{Race}
 use Rattle.bg_turns.specs.Race.{IsRace, IsHighest, step_of, can_by, can, after, is_off, Stands}
 

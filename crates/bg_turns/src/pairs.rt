@@ -28,7 +28,8 @@ pub(crate) fn add_pairs(
     requires large { small < large }
     requires dice { large ≤ 6 }
     requires room { played + left ≤ 4 }
-    ensures { OnOk result (turns.new.items ≡ turns.old.items ++ behind (take played front) (pairs small large left race.now)) }
+    ensures { OnOk result (turns.new.items ≡ turns.old.items ++ behind
+        (take played front) (pairs small large left race.now)) }
 {
     if left == 0 || masks.is_off() {
         turns.push(turn_of(front, played))?;
@@ -88,8 +89,8 @@ pub(crate) fn add_pairs(
     Ok(())
 }
 
-/// Adds the lists that begin with a step by a die from a place, if it is one of the places for that die, and go on with
-/// another die.
+/// Adds the lists that begin with a step by a die from a place, if it is one of the places for that die,
+/// and go on with another die.
 fn add_step(
     turns: &mut Vec<Turn>,
     race: &Race,
@@ -111,7 +112,8 @@ fn add_step(
     requires next { 1 ≤ next }
     requires next_six { next ≤ 6 }
     requires room { played + left < 4 }
-    ensures { OnOk result (turns.new.items ≡ turns.old.items ++ behind (take played front) (one_die race.now die (tree next left) (25 - place))) }
+    ensures { OnOk result (turns.new.items ≡ turns.old.items ++ behind
+        (take played front) (one_die race.now die (tree next left) (25 - place))) }
 {
     if !holds(places, place) {
         return Ok(());

@@ -1,4 +1,5 @@
-//! The mover's side of a position, on which turns are searched.
+//! The mover's side of a position, on which turns are searched: a board that is copied for each step takes most of the
+//! time of a search, and the other player's counts decide nothing within a turn but which points are blocked.
 ghost use Rattle.std.specs.Prelude.{◌≡◌, ◌≤◌, ◌<◌, ◌↔◌, IsTrue, sum, length, slice_index};
 ghost use Rattle.std.specs.Bool.{OnTrue};
 ghost use Rattle.bg_board.specs.Position.{Position, IsPosition, checkers, opponent};

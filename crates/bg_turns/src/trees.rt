@@ -25,7 +25,8 @@ pub(crate) fn add_tree(
     requires die { 1 ≤ die }
     requires six { die ≤ 6 }
     requires room { played + left ≤ 4 }
-    ensures { OnOk result (turns.new.items ≡ turns.old.items ++ behind (take played front) (tree die left race.now)) }
+    ensures { OnOk result (turns.new.items ≡ turns.old.items ++ behind
+        (take played front) (tree die left race.now)) }
 {
     if left == 0 || masks.is_off() {
         turns.push(turn_of(front, played))?;
@@ -52,8 +53,8 @@ pub(crate) fn add_tree(
     Ok(())
 }
 
-/// Adds the lists of one step by a die, behind the first steps of a turn, the last of which is played on this race. Of the
-/// race after it only the bits are made: they say which steps there are.
+/// Adds the lists of one step by a die, behind the first steps of a turn, the last of which is played on
+/// this race. Of the race after it only the bits are made: they say which steps there are.
 pub(crate) fn add_last(
     turns: &mut Vec<Turn>,
     race: &Race,
@@ -71,7 +72,8 @@ pub(crate) fn add_last(
     requires die { 1 ≤ die }
     requires six { die ≤ 6 }
     requires room { played < 4 }
-    ensures { OnOk result (turns.new.items ≡ turns.old.items ++ behind (take played front) (tree die 1 (after race.now last.from last.to))) }
+    ensures { OnOk result (turns.new.items ≡ turns.old.items ++ behind
+        (take played front) (tree die 1 (after race.now last.from last.to))) }
 {
     let masks = masks.after(race, last.from(), last.to());
     if masks.is_off() {

@@ -62,8 +62,8 @@ fn check_no_growth_is_left(alloc: Global) -> Result<(), Fail> {
     }
 }
 
-/// Where memory is refused the same call then succeeds. No run of the tests refuses any, but `tools/refuse_growths` refuses
-/// each growth in turn.
+/// Where memory is refused the same call then succeeds. No run of the tests refuses any, but
+/// `tools/refuse_growths` refuses each growth in turn.
 #[test]
 fn refused_growths(rt: HostRuntime) -> Result<(), Fail> {
     let start = Board::start();

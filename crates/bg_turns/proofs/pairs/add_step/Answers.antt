@@ -1,7 +1,7 @@
-use Rattle.std.proofs.Common.{◌≡◌, ◌∙◌, ◌++◌, ◌+◌, ◌-◌, true, false, take, refl, sym, ap, arith}
+use Rattle.std.proofs.Common.{◌≡◌, ◌-◌, false, refl, arith}
 use Rattle.std.proofs.lemmas.Bool.{false_from_ne_true}
 use Rattle.std.proofs.lemmas.Result.{on_ok_weaker}
-use Rattle.bg_turns.specs.Race.{can, tree, after, behind}
+use Rattle.bg_turns.specs.Race.{can, tree}
 use Rattle.bg_turns.proofs.Sides.{held_from_can}
 use Rattle.bg_turns.proofs.Listed.{one_die-yes}
 use Rattle.bg_turns.proofs.Growing.{step_lists, step_last, step_nothing}

@@ -1,6 +1,6 @@
-use Rattle.std.proofs.Common.{◌≡◌, ◌<◌, ◌+◌, ◌-◌, ◌∷◌, [], max, refl, arith, w32}
+use Rattle.std.proofs.Common.{◌≡◌, ◌+◌, ◌-◌, ◌∷◌, [], max, refl, arith, w32}
 use Rattle.std.specs.Int.{trailing_zeros}
-use Rattle.bg_turns.specs.Race.{IsRace, after}
+use Rattle.bg_turns.specs.Race.{after}
 use Rattle.bg_turns.proofs.Sides.{held_from_can}
 use Rattle.bg_turns.proofs.OneDie.{IsRace-after}
 use Rattle.bg_turns.proofs.Opened.{left_first, left_after, place_low, place_passed, start_low, fewer}

@@ -1,6 +1,6 @@
-use Rattle.std.proofs.Common.{◌≡◌, ◌∙◌, ◌++◌, ◌∷◌, ◌-◌, ◌+◌, [], take, sym, ap, refl, arith, inl, inr, w32}
+use Rattle.std.proofs.Common.{◌∙◌, ◌++◌, ◌∷◌, ◌-◌, ◌+◌, [], take, sym, ap, refl, arith, inr, w32}
 use Rattle.std.specs.Int.{trailing_zeros}
-use Rattle.bg_turns.specs.Race.{IsRace, one_die, tree, after, behind}
+use Rattle.bg_turns.specs.Race.{one_die, tree, after, behind}
 use Rattle.bg_turns.proofs.OneDie.{IsRace-after, tree-on, tree-end}
 use Rattle.bg_turns.proofs.Growing.{add_leaf, behind-empty}
 use Rattle.bg_turns.proofs.Opened.{left_first, left_after, listed_there, listed_all, none_by_die, place_low, place_passed, start_low, fewer}

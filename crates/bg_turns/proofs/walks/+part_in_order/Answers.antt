@@ -1,5 +1,4 @@
-use Rattle.std.proofs.Common.{◌≡◌, sym, refl, arith}
-use Rattle.bg_board.specs.Die.{pips}
+use Rattle.std.proofs.Common.{arith}
 use Rattle.bg_turns.proofs.Parts.{part_more, part_stuck}
 use Rattle.bg_turns.proofs.Sides.{Stands-after}
 use Rattle.bg_turns.proofs.walks.+part_in_order.Goals as goal

@@ -1,4 +1,4 @@
-use Rattle.std.proofs.Common.{◌≢◌, arith}
+use Rattle.std.proofs.Common.{arith}
 use Rattle.std.proofs.lemmas.Bool.Decides.{nat_tests}
 use Rattle.bg_turns.proofs.Deepest.{can_by_places, none_by_places, some_place}
 use Rattle.bg_turns.proofs.masks.Masks.can_step.Goals as goal

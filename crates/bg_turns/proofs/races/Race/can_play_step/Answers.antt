@@ -1,4 +1,4 @@
-use Rattle.std.proofs.Common.{◌≡◌, ◌-◌, ◌∙◌, sym, arith}
+use Rattle.std.proofs.Common.{◌≡◌, ◌-◌, arith}
 use Rattle.bg_turns.proofs.Deepest.{step_by_test, held_by_test}
 use Rattle.bg_turns.proofs.races.Race.can_play_step.Goals as goal
 
