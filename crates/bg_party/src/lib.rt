@@ -1,4 +1,18 @@
-//! Those who follow a match through its referee: the two seats and the watchers.
+//! Those who follow a match through its referee: the two seats and the watchers. For a host that carries packets itself
+//! (docs/USING.md).
+//!
+//! ```
+//! let mut seat = Seat::fresh(alloc, Player::X, 1, 5)?;
+//! // What it gives is sent to the referee, and what the referee answers is taken.
+//! assert!(rt; matches!(seat.tick(), Some(Packet::Want { held: 0, .. })));
+//! let bytes = [66, 71, 1, 3, 0, 0, 0, 0, 0, 0, 0, 1, 0, 1, 1, 1, 3, 1];
+//! assert!(rt; seat.take(&decode(&bytes)?) == Learned::Grew(1));
+//! assert!(rt; seat.choose(Action::Resign(Level::Normal)) == Ok(2));
+//! // A claim is sent only once it is saved: write the text to the slot, and then say so.
+//! let (_slot, save, _text) = seat.to_save()?;
+//! seat.mark_saved(save);
+//! assert!(rt; matches!(seat.tick(), Some(Packet::Claim { number: 2, .. })));
+//! ```
 #![tactic(auto)]
 
 mod follower;

@@ -1,4 +1,20 @@
-//! The referee of a match: which entries it has, and what it answers to the parties.
+//! The referee of a match: which entries it has, and what it answers to the parties. For a host that carries packets
+//! itself (docs/USING.md).
+//!
+//! ```
+//! let mut referee = Referee::fresh(alloc, 1, 5)?;
+//! assert!(rt; referee.due(12) == Ok(1));
+//! // Nothing is told before it is saved: write the text to the slot, and then say so.
+//! let (_slot, save, _text) = referee.to_save()?;
+//! referee.mark_saved(save);
+//! let want = Packet::Want {
+//!     id: 1,
+//!     sender: 3,
+//!     held: 0,
+//! };
+//! // The answer goes to party 3.
+//! assert!(rt; matches!(referee.take(&want, 0), TakeOutcome::Answer(3, _)));
+//! ```
 #![tactic(auto)]
 
 mod answers;

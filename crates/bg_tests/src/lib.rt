@@ -9,3 +9,5 @@ mod altered_bytes;
 mod fronts;
 #[cfg(test)]
 mod random_runs;
+#[cfg(test)]
+mod uses;

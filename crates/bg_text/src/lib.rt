@@ -1,4 +1,13 @@
-//! The texts of a match: the lines of its entries, its board, and the judge of a whole transcript.
+//! The texts of a match: the lines of its entries, its board, and the judge of a whole transcript. For whoever reads or
+//! prints matches.
+//!
+//! ```
+//! let (player, entry) = parse_entry(b"X roll 3 1")?;
+//! assert!(rt; entry_text(player, &entry).as_str() == "X roll 3 1");
+//! let judged = judge_text(alloc, b"length 1\nopen 3 1\nX move 8-5 6-5\n")?;
+//! assert!(rt; judged.verdict == Verdict::Fine(2));
+//! assert!(rt; judged.text.ends_with(b"O to roll\nok 2\n"));
+//! ```
 #![tactic(auto)]
 
 mod board_texts;

@@ -1,4 +1,15 @@
-//! The bytes of the relay: packets and saved texts, read and written exactly.
+//! The bytes of the relay: packets and saved texts, read and written exactly. For whoever carries packets or keeps saved
+//! files.
+//!
+//! ```
+//! let packet = Packet::Want {
+//!     id: 1,
+//!     sender: 3,
+//!     held: 0,
+//! };
+//! let bytes = encode(&packet);
+//! assert!(rt; bytes.len() == 15 && decode(bytes.as_slice()) == Ok(packet));
+//! ```
 #![tactic(auto)]
 
 mod codec;

@@ -1,5 +1,23 @@
-//! The protocol of all parties together: what may happen to them, what each event comes to, and what holds after
-//! any run.
+//! All parties of a match together, over a link and keepers: what each event comes to, the protocol that every event is a
+//! step of, and what holds after any run. For whoever tries schedules, or runs a match with devices of his own.
+//!
+//! ```
+//! let setup = Setup {
+//!     id: 1,
+//!     length: 5,
+//!     watchers: 0,
+//! };
+//! let no_failures = Plan {
+//!     tears: Vec::new(alloc),
+//!     sends: Vec::new(alloc),
+//!     reads: Vec::new(alloc),
+//! };
+//! let events = [Event::Due { word: 12 }, Event::Save { party: 0 }];
+//! let (mut world, report) = simulate(alloc, setup, &no_failures, &events)?;
+//! assert!(rt; report.done == 2 && report.faults == 0);
+//! let outcome = world.step(parse_event(b"tick 1")?);
+//! assert!(rt; outcome == Outcome::Sent(1) && outcome_text(&outcome).as_str() == "sent 1");
+//! ```
 #![tactic(auto)]
 
 mod copies;
