@@ -2,6 +2,7 @@
 ghost use Rattle.std.specs.Prelude.{◌≡◌, [], IfSome, Ok, Some};
 ghost use Rattle.bg_world.specs.Handed.{handed};
 
+use crate::test_rows::check_no_growth_is_left;
 use crate::{DeviceFault, FailRead, FailSend, Keeper, Link, MemoryKeeper, MemoryNet, Taken, Tear};
 use arrayvec::ArrayVec;
 use bg_wire::{Datagram, PacketBytes, Slot};
@@ -301,7 +302,7 @@ fn refused_growths_of_sends(rt: HostRuntime) -> Result<(), Fail> {
     check_take(&rt, &mut net, 2, 5, &[5]);
     check_take(&rt, &mut net, 0, 0, &[0, 0]);
     check_take(&rt, &mut net, 0, 5, &[5, 5]);
-    Ok(())
+    check_no_growth_is_left(rt.alloc())
 }
 
 /// A send that fails and goes nowhere wants no memory.
@@ -310,7 +311,7 @@ fn refused_growths_of_no_send(rt: HostRuntime) -> Result<(), Fail> {
     let mut net = net_at_last(rt.alloc(), &FAILING_SENDS)?;
     check_send(&rt, &mut net, 2, &[1], FAILED);
     assert!(rt; net.sent_to(2) == 0);
-    Ok(())
+    check_no_growth_is_left(rt.alloc())
 }
 
 fn keeper_at_last(alloc: Global, tears: &[Tear], reads: &[FailRead]) -> Result<MemoryKeeper, Fail> {
@@ -344,7 +345,7 @@ fn refused_growths_of_keepers(rt: HostRuntime) -> Result<(), Fail> {
     assert!(rt; write_at_last(&mut keeper, &TEXT) == Ok(()));
     let bytes = read_at_last(&mut keeper).expect(&rt, "a read");
     assert_eq!(rt; bytes.as_slice(), TEXT.as_slice());
-    Ok(())
+    check_no_growth_is_left(rt.alloc())
 }
 
 /// A write that is torn and leaves no bytes, and a read that fails or finds none, want no memory.
@@ -367,5 +368,5 @@ fn refused_growths_of_no_bytes(rt: HostRuntime) -> Result<(), Fail> {
     assert!(rt; keeper.write(Slot::One, &TEXT) == FAILED);
     assert!(rt; keeper.read(Slot::One).err() == Some(DeviceFault::Failed));
     check_read(&rt, &mut keeper, Slot::One, &[]);
-    Ok(())
+    check_no_growth_is_left(rt.alloc())
 }

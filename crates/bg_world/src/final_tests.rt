@@ -1,8 +1,8 @@
 //! What is printed of worlds in the end.
 use crate::outcome_tests::check_lines;
-use crate::test_rows::{Failing, MemoryWorld, NO_FAILURE, world};
+use crate::test_rows::{Failing, MemoryWorld, NO_FAILURE, check_no_growth_is_left, world};
 use crate::{Tear, WorldFault, final_text};
-use std::alloc::{AllocError, Global};
+use std::alloc::AllocError;
 use std::process::Abort;
 use std::test::Fail;
 
@@ -114,14 +114,6 @@ party 3: 0 entries
 party 4: 0 entries
 ";
     check_final(&rt, &world, lines)
-}
-
-/// Fails where the growth that comes next is refused: so `tools/refuse_growths` learns how many came before.
-fn check_no_growth_is_left(alloc: Global) -> Result<(), Fail> {
-    match Vec::<u8>::with_capacity(alloc, 1) {
-        Ok(_) => Ok(()),
-        Err(AllocError) => Err(Fail::from("no growth is left")),
-    }
 }
 
 /// Want of memory is answered and harms nothing: asked again, the answer is the same. No run of the tests refuses any,

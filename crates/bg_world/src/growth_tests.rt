@@ -4,10 +4,11 @@ use crate::WorldFault;
 use crate::row_tests::{THE_CLAIM_KEPT, THE_ROLL_LOST, TO_THE_ROLL, WITH_A_WATCHER};
 use crate::runs::{is_fault, is_memory};
 use crate::test_rows::{
-    MemoryWorld, NO_FAILURE, Row, TO_THE_CHOICE, TO_THE_CLAIM, event, is, world,
+    MemoryWorld, NO_FAILURE, Row, TO_THE_CHOICE, TO_THE_CLAIM, check_no_growth_is_left, event, is,
+    world,
 };
 use bg_match::Record;
-use std::alloc::{AllocError, Global};
+use std::alloc::Global;
 use std::process::Abort;
 use std::test::Fail;
 
@@ -57,14 +58,6 @@ fn world_at_last(alloc: Global, watchers: u8) -> Result<MemoryWorld, WorldFault>
     match world(alloc, 1, watchers, NO_FAILURE) {
         Err(WorldFault::Memory) => world(alloc, 1, watchers, NO_FAILURE),
         made => made,
-    }
-}
-
-/// Fails where the growth that comes next is refused: so `tools/refuse_growths` learns how many came before.
-fn check_no_growth_is_left(alloc: Global) -> Result<(), Fail> {
-    match Vec::<u8>::with_capacity(alloc, 1) {
-        Ok(_) => Ok(()),
-        Err(AllocError) => Err(Fail::from("no growth is left")),
     }
 }
 

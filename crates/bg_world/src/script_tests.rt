@@ -1,6 +1,7 @@
 //! Scripts: good ones, refused ones, and worlds that are refused.
+use crate::test_rows::check_no_growth_is_left;
 use crate::{ScriptFault, Setup, WorldFault, script};
-use bg_text::{MOST_BYTES, Reading, Verdict, Writing};
+use bg_text::{EngineFault, MOST_BYTES, Reading, Verdict, Writing, split_line};
 use std::alloc::Global;
 use std::process::Abort;
 use std::test::Fail;
@@ -168,4 +169,47 @@ fn refused_worlds(rt: HostRuntime) -> Result<(), Fail> {
         assert!(rt; written.is_empty());
     }
     Ok(())
+}
+
+/// Whether this is a line of the text.
+fn has_line(text: &[u8], wanted: &[u8]) -> bool {
+    let mut rest = text;
+    while let Some((line, after)) = split_line(rest) {
+        if line == wanted {
+            return true;
+        }
+        rest = after;
+    }
+    false
+}
+
+/// A script without a final line end. Where memory is refused it answers so and has written nothing, or one of its events
+/// wanted memory; the same script then comes to its text. No run of the tests refuses any, but `tools/refuse_growths`
+/// refuses each growth in turn.
+#[test]
+fn refused_growths_of_scripts(rt: HostRuntime) -> Result<(), Fail> {
+    let input = A_TURN.as_bytes();
+    let mut written = match Vec::with_capacity(rt.alloc(), 1000) {
+        Ok(written) => written,
+        Err(_) => Vec::with_capacity(rt.alloc(), 1000)?,
+    };
+    match play(rt.alloc(), input, 1, 1, &mut written) {
+        Ok(verdict) => {
+            assert!(rt; verdict == Verdict::Fine(16));
+            let whole = written.as_slice() == TEXT_OF_THE_TURN.as_bytes();
+            assert!(rt; whole || has_line(&written, b"out of memory"));
+        }
+        Err(fault) => {
+            let is_memory = matches!(
+                fault,
+                ScriptFault::World(WorldFault::Memory) | ScriptFault::Engine(EngineFault::Memory)
+            );
+            assert!(rt; is_memory && written.is_empty());
+        }
+    }
+    written.clear();
+    let again = play(rt.alloc(), input, 1, 1, &mut written);
+    assert!(rt; again == Ok(Verdict::Fine(16)));
+    assert!(rt; written.as_slice() == TEXT_OF_THE_TURN.as_bytes());
+    check_no_growth_is_left(rt.alloc())
 }

@@ -12,6 +12,7 @@ use bg_turns::Turn;
 use bg_wire::Packet;
 use std::alloc::{AllocError, Global};
 use std::process::Abort;
+use std::test::Fail;
 
 pub(crate) type MemoryWorld = World<MemoryNet, MemoryKeeper>;
 
@@ -212,4 +213,12 @@ pub(crate) fn check_rows(rt: &impl Abort, world: &mut MemoryWorld, rows: &[Row])
 /// How many entries a party holds, if it is there and up.
 pub(crate) fn held(world: &MemoryWorld, party: u8) -> Option<u16> {
     Some(world.held(party)?.len())
+}
+
+/// Fails where the growth that comes next is refused: so `tools/refuse_growths` learns how many came before.
+pub(crate) fn check_no_growth_is_left(alloc: Global) -> Result<(), Fail> {
+    match Vec::<u8>::with_capacity(alloc, 1) {
+        Ok(_) => Ok(()),
+        Err(AllocError) => Err(Fail::from("no growth is left")),
+    }
 }
