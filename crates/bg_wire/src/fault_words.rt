@@ -3,6 +3,7 @@ ghost use Rattle.std.specs.Prelude.{◌≡◌, ◌≤◌, length};
 ghost use Rattle.bg_wire.specs.FaultWords.{numbered, wire_fault_words, load_fault_words};
 
 use crate::{LoadFault, WireFault};
+use std::fmt;
 
 impl WireFault {
     /// The fault in words, and the number that stands behind them, if there is one.
@@ -37,3 +38,35 @@ impl LoadFault {
         }
     }
 }
+
+impl fmt::Display for WireFault {
+    ghost use Rattle.std.specs.Prelude.{Some};
+    ghost use Rattle.bg_wire.specs.FaultWords.{wire_fault_words};
+
+    ghost output = { λ fault. Some (wire_fault_words fault) };
+
+    fn fmt<W: fmt::Write>(&self, f: &mut fmt::Formatter<W>) -> fmt::Result {
+        match self.words() {
+            (words, None) => f.write_str(words),
+            (words, Some(number)) => write!(f, "{words}{number}"),
+        }
+    }
+}
+
+impl std::error::Error for WireFault {}
+
+impl fmt::Display for LoadFault {
+    ghost use Rattle.std.specs.Prelude.{Some};
+    ghost use Rattle.bg_wire.specs.FaultWords.{load_fault_words};
+
+    ghost output = { λ fault. Some (load_fault_words fault) };
+
+    fn fmt<W: fmt::Write>(&self, f: &mut fmt::Formatter<W>) -> fmt::Result {
+        match self.words() {
+            (words, None) => f.write_str(words),
+            (words, Some(number)) => write!(f, "{words}{number}"),
+        }
+    }
+}
+
+impl std::error::Error for LoadFault {}

@@ -4,50 +4,38 @@ use thiserror::Error;
 
 /// Why bytes are no packet's text. Bytes are read from left to right, a field is tested once all its bytes are there,
 /// and the first fault met is named (docs/FORMATS.md, "Packets").
-#[derive(Clone, Copy, Debug, PartialEq, Eq, Error)]
+#[derive(Clone, Copy, Debug, PartialEq, Eq)]
 pub enum WireFault {
     /// A byte that is needed is missing.
-    #[error("short")]
     Short,
     /// The bytes do not begin as a packet does.
-    #[error("bad magic")]
     Magic,
     /// This is no version that is read.
-    #[error("bad version")]
     Version,
     /// There is no packet of this kind.
-    #[error("bad kind")]
     Kind,
     /// A field is out of its range. Its first byte stands at this offset, from 0.
-    #[error("bad field at {0}")]
     Field(usize),
     /// The packet ends, and more bytes follow.
-    #[error("extra bytes")]
     Extra,
 }
 
 /// Why bytes are no saved text. Bytes are read from left to right, a field is tested once all its bytes are there,
 /// and the first fault met is named; the entries are tried once the whole layout holds (docs/FORMATS.md, "Saved
 /// files").
-#[derive(Clone, Copy, Debug, PartialEq, Eq, Error)]
+#[derive(Clone, Copy, Debug, PartialEq, Eq)]
 pub enum LoadFault {
     /// A byte that is needed is missing.
-    #[error("short")]
     Short,
     /// The bytes do not begin as a saved text does.
-    #[error("bad magic")]
     Magic,
     /// A field is out of its range. Its first byte stands at this offset, from 0.
-    #[error("bad field at {0}")]
     Field(usize),
     /// The saved text ends, and more bytes follow.
-    #[error("extra bytes")]
     Extra,
     /// The layout holds, and the entry of this number, from 1, is the first that does not follow the ones before it.
-    #[error("illegal entry {0}")]
     Illegal(Number),
     /// There is no memory for the entries.
-    #[error("out of memory")]
     Memory,
 }
 
