@@ -163,8 +163,8 @@ impl Board {
         Ok(self.after_step(player, step))
     }
 
-    /// The board after a step that is legal by some die: as [`Board::play_step`] gives it, for a caller who has tested the
-    /// step already.
+    /// The board after a step that is legal by some die: as [`Board::play_step`] gives it, for a caller who has
+    /// tested the step already.
     pub fn after_step(&self, player: Player, step: Step) -> Board
         requires { IsLegalStep self.now player step }
         ensures { result ≡ after_step self.now player step }

@@ -158,8 +158,8 @@ fn world(alloc: Global, words: &mut ChaCha20Rng) -> Result<MemoryWorld, WorldFau
     Ok(world)
 }
 
-/// After each event the record of each party is a front of the referee's, and in the end each entry of a seat is one that it
-/// claimed.
+/// After each event the record of each party is a front of the referee's, and in the end each entry of a seat is one
+/// that it claimed.
 fn check_run(rt: &impl Abort, alloc: Global, seed: u8) -> Result<(), Fail> {
     let mut words = ChaCha20Rng::from_seed([seed; 32]);
     let mut world = world(alloc, &mut words)?;

@@ -36,8 +36,8 @@ fn check_fronts(rt: &impl Abort, world: &MemoryWorld) {
     }
 }
 
-/// The events of these rows, one after the other. They come to what the rows say as long as no memory was wanted and nothing
-/// failed; gives whether that is so to the end.
+/// The events of these rows, one after the other. They come to what the rows say as long as no memory was wanted and
+/// nothing failed; gives whether that is so to the end.
 fn check_run(rt: &impl Abort, world: &mut MemoryWorld, rows: &[Row], undisturbed: bool) -> bool {
     let mut undisturbed = undisturbed;
     for (i, row) in rows.iter().enumerate() {

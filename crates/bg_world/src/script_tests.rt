@@ -1,7 +1,7 @@
 //! Scripts: good ones, refused ones, and worlds that are refused.
 use crate::test_rows::check_no_growth_is_left;
 use crate::{ScriptFault, Setup, WorldFault, script};
-use bg_text::{EngineFault, MOST_BYTES, Reading, Verdict, Writing, split_line};
+use bg_text::{EngineFault, MOST_BYTES, Reading, Verdict, Writing};
 use std::alloc::Global;
 use std::process::Abort;
 use std::test::Fail;
@@ -171,24 +171,22 @@ fn refused_worlds(rt: HostRuntime) -> Result<(), Fail> {
     Ok(())
 }
 
-/// Whether this is a line of the text.
-fn has_line(text: &[u8], wanted: &[u8]) -> bool {
-    let mut rest = text;
-    while let Some((line, after)) = split_line(rest) {
-        if line == wanted {
+/// Whether these words stand in the text.
+fn has(text: &[u8], words: &[u8]) -> bool {
+    for start in 0..text.len() {
+        if text[start..].starts_with(words) {
             return true;
         }
-        rest = after;
     }
     false
 }
 
-/// A script that lacked memory has written nothing; or one of its events lacked it, and the outcome says so (a save that
-/// could not be kept is a fault).
+/// A script that lacked memory has written nothing; or one of its events lacked it, and the outcome says so (a save
+/// that could not be kept is a fault).
 fn check_lacking(rt: &impl Abort, answer: Result<Verdict, ScriptFault>, written: &[u8]) {
     match answer {
         Ok(verdict) => {
-            let lacks = has_line(written, b"out of memory") || has_line(written, b"save fault");
+            let lacks = has(written, b"out of memory") || has(written, b"save fault");
             assert!(rt; verdict == Verdict::Fine(16) && lacks);
         }
         Err(fault) => {
@@ -201,8 +199,8 @@ fn check_lacking(rt: &impl Abort, answer: Result<Verdict, ScriptFault>, written:
     }
 }
 
-/// A script without a final line end. Where memory is refused the same script then comes to its text. No run of the tests
-/// refuses any, but `tools/refuse_growths` refuses each growth in turn.
+/// A script without a final line end. Where memory is refused the same script then comes to its text. No run of the
+/// tests refuses any, but `tools/refuse_growths` refuses each growth in turn.
 #[test]
 fn refused_growths_of_scripts(rt: HostRuntime) -> Result<(), Fail> {
     let input = A_TURN.as_bytes();

@@ -64,8 +64,8 @@ const ONE_SAVE: [Row; 3] = [
     (Happens::Restart(0), ComesTo::Restarted),
 ];
 
-/// The referee's save of this number leaves so many bytes, it comes back with so many entries, and its next save has the
-/// number `next`.
+/// The referee's save of this number leaves so many bytes, it comes back with so many entries, and its next save has
+/// the number `next`.
 fn check_torn(
     rt: &impl Abort,
     alloc: Global,
