@@ -98,7 +98,10 @@ fn run_command(
             run_show(rt, file0, file1)
         }
         Some(("script", options)) => {
-            let (Some(length), Some(watchers)) = (options.get_one("length"), options.get_one("watchers")) else {
+            let (Some(length), Some(watchers)) = (
+                options.get_one("length"),
+                options.get_one("watchers"),
+            ) else {
                 return wrong(rt, "an option is missing");
             };
             let setup = Setup {
@@ -131,8 +134,16 @@ fn run_script(rt: &(impl Input + Print + Eprint + AllocGlobal), setup: Setup) ->
     match script(rt.alloc(), &mut input, &mut output, setup) {
         Ok(verdict) => Ending::Played(verdict),
         Err(ScriptFault::World(fault)) => failed(rt, fault),
-        Err(ScriptFault::Engine(EngineFault::Read)) => failed_for(rt, EngineFault::Read, input.error()),
-        Err(ScriptFault::Engine(EngineFault::Write)) => failed_for(rt, EngineFault::Write, output.error()),
+        Err(ScriptFault::Engine(EngineFault::Read)) => failed_for(
+            rt,
+            EngineFault::Read,
+            input.error(),
+        ),
+        Err(ScriptFault::Engine(EngineFault::Write)) => failed_for(
+            rt,
+            EngineFault::Write,
+            output.error(),
+        ),
         Err(ScriptFault::Engine(EngineFault::Memory)) => failed(rt, EngineFault::Memory),
     }
 }

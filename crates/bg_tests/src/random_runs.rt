@@ -80,7 +80,11 @@ fn event_of(world: &MemoryWorld, a: u32, b: u32) -> Event {
     match a % 16 {
         0 => Event::Due { word: b },
         1..=6 => take(world, party, a / 32, b),
-        7..=9 => choice(world, if b % 2 == 0 { Player::X } else { Player::O }, a / 16),
+        7..=9 => choice(
+            world,
+            if b % 2 == 0 { Player::X } else { Player::O },
+            a / 16,
+        ),
         10 | 11 => Event::Tick { party },
         12..=14 => Event::Save { party: any % 4 },
         _ => Event::Restart { party },
@@ -121,7 +125,10 @@ fn is_claimed(claims: &Claims, seat: Player, number: u16, entry: &Entry) -> bool
         _ => None,
     };
     for (player, claimed, action) in claims {
-        if *player == seat && *claimed == number && entry_of(action.copy(), dice).as_ref() == Some(entry) {
+        if *player == seat
+            && *claimed == number
+            && entry_of(action.copy(), dice).as_ref() == Some(entry)
+        {
             return true;
         }
     }
@@ -129,7 +136,12 @@ fn is_claimed(claims: &Claims, seat: Player, number: u16, entry: &Entry) -> bool
 }
 
 /// Each entry of a seat was claimed, and the entries follow each other from the start.
-fn check_record(rt: &impl Abort, alloc: Global, record: &Record, claims: &Claims) -> Result<(), Fail> {
+fn check_record(
+    rt: &impl Abort,
+    alloc: Global,
+    record: &Record,
+    claims: &Claims,
+) -> Result<(), Fail> {
     let mut again = Record::new(alloc, record.id(), record.length())?;
     for number in 1..=record.len() {
         let entry = record.entry(number).expect(rt, "an entry");
