@@ -1,7 +1,7 @@
 //! Worlds whose devices fail, worlds that are refused, and runs.
 use crate::test_rows::{
-    ComesTo, Failing, Happens, NO_FAILURE, Row, TO_THE_CHOICE, TO_THE_CLAIM, check_rows, events_of,
-    held, world,
+    ComesTo, Failing, Happens, NO_FAILURE, Row, TO_THE_CHOICE, TO_THE_CLAIM, X_MOVES, check_rows,
+    events_of, held, world,
 };
 use crate::{FailRead, FailSend, RunReport, Tear, WorldFault};
 use std::alloc::Global;
@@ -62,6 +62,55 @@ fn torn_saves(rt: HostRuntime) -> Result<(), Fail> {
         check_torn(&rt, rt.alloc(), Some(cut), 1, &THE_SAVE_BEFORE)?;
     }
     check_torn(&rt, rt.alloc(), Some(30), 2, &THE_SAVE_ITSELF)?;
+    Ok(())
+}
+
+/// The run that docs/PROTOCOL.md draws: an answer that is lost, a claim that is accepted twice and counts once, a
+/// watcher, and a save that is torn.
+const THE_DRAWN_RUN: [Row; 21] = [
+    (Happens::Due(12), ComesTo::Opened(1)),
+    (Happens::Save(0), ComesTo::Saved(1)),
+    (Happens::Tick(1), ComesTo::Sent(1)),
+    (Happens::Take(0, 0, 0), ComesTo::Answer(1, 1, 1)),
+    (Happens::Tick(1), ComesTo::Sent(1)),
+    (Happens::Take(0, 1, 0), ComesTo::Answer(1, 1, 1)),
+    (Happens::Take(1, 1, 0), ComesTo::Learned(1)),
+    (X_MOVES, ComesTo::Claimed(2)),
+    (Happens::Save(1), ComesTo::Saved(1)),
+    (Happens::Tick(1), ComesTo::Sent(1)),
+    (Happens::Take(0, 2, 0), ComesTo::Accepted(2)),
+    (Happens::Tick(3), ComesTo::Sent(1)),
+    (Happens::Take(0, 3, 0), ComesTo::Answer(3, 1, 1)),
+    (Happens::Take(3, 0, 0), ComesTo::Learned(1)),
+    (Happens::Save(0), ComesTo::SaveFault),
+    (Happens::Restart(0), ComesTo::Restarted),
+    (Happens::Tick(1), ComesTo::Sent(1)),
+    (Happens::Take(0, 4, 0), ComesTo::Accepted(2)),
+    (Happens::Save(0), ComesTo::Saved(2)),
+    (Happens::Tick(1), ComesTo::Sent(1)),
+    (Happens::Take(0, 5, 0), ComesTo::Answer(1, 2, 1)),
+];
+
+/// X learns his move, and then the lost answer arrives: it tells him nothing new.
+const THE_END_OF_THE_DRAWN_RUN: [Row; 2] = [
+    (Happens::Take(1, 2, 0), ComesTo::Learned(1)),
+    (Happens::Take(1, 0, 0), ComesTo::LearnedNothing),
+];
+
+#[test]
+fn the_drawn_run(rt: HostRuntime) -> Result<(), Fail> {
+    let tear = Tear {
+        party: 0,
+        nth: 2,
+        cut: Some(20),
+    };
+    let failing = Failing {
+        tear: Some(tear),
+        ..NO_FAILURE
+    };
+    let mut world = world(rt.alloc(), 1, 1, failing)?;
+    check_rows(&rt, &mut world, &THE_DRAWN_RUN);
+    check_rows(&rt, &mut world, &THE_END_OF_THE_DRAWN_RUN);
     Ok(())
 }
 

@@ -40,6 +40,7 @@ pub(crate) enum ComesTo {
     /// An answer to a party, of entries from a number on, so many.
     Answer(u8, u16, usize),
     Learned(u8),
+    LearnedNothing,
     Gap,
     Claimed(u16),
     AlreadyClaimed,
@@ -187,6 +188,7 @@ pub(crate) fn is(outcome: &Outcome, expected: ComesTo) -> bool {
         ComesTo::Nothing => *outcome == Outcome::Took(TakeOutcome::Nothing),
         ComesTo::Answer(party, first, count) => is_answer(outcome, party, first, count),
         ComesTo::Learned(count) => *outcome == Outcome::Learned(Learned::Grew(count)),
+        ComesTo::LearnedNothing => *outcome == Outcome::Learned(Learned::Nothing),
         ComesTo::Gap => *outcome == Outcome::Learned(Learned::Gap),
         ComesTo::Claimed(number) => *outcome == Outcome::Chose(Ok(number)),
         ComesTo::AlreadyClaimed => *outcome == Outcome::Chose(Err(ChooseFault::AlreadyClaimed)),
