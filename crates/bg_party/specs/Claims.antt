@@ -16,7 +16,8 @@ use Rattle.bg_wire.specs.declared.packets.Packet.{Packet}
 use Rattle.bg_wire.specs.declared.packets.Packet.TheVariants as packet
 use Rattle.bg_party.specs.declared.outcomes.ChooseFault.{ChooseFault}
 use Rattle.bg_party.specs.declared.outcomes.ChooseFault.TheVariants as fault
-use Rattle.bg_party.specs.Views.{SeatView, WatcherView}
+use Rattle.bg_party.specs.Retry.{is_due, after_tick}
+use Rattle.bg_party.specs.Views.{FollowerView, SeatView, WatcherView}
 
 -- the number of a claim, 0 where there is none
 abbrev pub claim_number : Option (ℕ × Action) → ℕ
@@ -67,7 +68,7 @@ pub record SeatChooses
 abbrev pub want_of : ℕ → Log → Packet
 want_of party log = packet.Want log.id party (length log.entries)
 
--- what a seat sends: its claim, once that is saved and until its record answers it; else what it wants
+-- what a seat sends, where it does: its claim, once that is saved and until its record answers it; else what it wants
 abbrev pub packet_of_seat : SeatView → Packet
 packet_of_seat s = claimed s.claim where
   claimed : Option (ℕ × Action) → Packet
@@ -77,14 +78,22 @@ packet_of_seat s = claimed s.claim where
       then packet.Claim s.follower.log.id (party_of s.player) claim.0 claim.1
       else want_of (party_of s.player) s.follower.log
 
+-- what a follower sends on a tick: this packet where it is due, else nothing
+abbrev pub sent_when_due : FollowerView → Packet → Option Packet
+sent_when_due f p = if is_due f.retry then Some p else None
+
+-- a tick later
+abbrev pub ticked : FollowerView → FollowerView
+ticked f = record f { retry = after_tick f.retry }
+
 -- what a seat sends on a tick, to the referee; and the seat afterwards
 pub record SeatTicks (old : SeatView) (sent : Option Packet) (new : SeatView) : Type 0 where
-  pub packet : sent ≡ Some (packet_of_seat old)
+  pub packet : sent ≡ sent_when_due old.follower (packet_of_seat old)
   pub fits : IfSome sent IsPacket
-  pub after : new ≡ old
+  pub after : new ≡ record old { follower = ticked old.follower }
 
 -- what a watcher sends on a tick, to the referee; and the watcher afterwards
 pub record WatcherTicks (old : WatcherView) (sent : Option Packet) (new : WatcherView) : Type 0 where
-  pub packet : sent ≡ Some (want_of old.party old.follower.log)
+  pub packet : sent ≡ sent_when_due old.follower (want_of old.party old.follower.log)
   pub fits : IfSome sent IsPacket
-  pub after : new ≡ old
+  pub after : new ≡ record old { follower = ticked old.follower }

@@ -2,13 +2,13 @@
 use Rattle.std.specs.Prelude.{◌≡◌, ◌≢◌, ℕ, ◌+◌, ◌-◌, ◌<◌, ◌≤◌, Some, List, [], ◌++◌, length, take, drop, slice_get}
 use Rattle.bg_match.specs.Terms.{Terms}
 use Rattle.bg_match.specs.declared.entries.Entry.{Entry}
-use Rattle.bg_match.specs.Match.{Log, IsLegalRecord, at_number}
+use Rattle.bg_match.specs.Match.{IsLegalRecord, at_number}
 use Rattle.bg_wire.specs.PacketText.{IsOfMatch}
-use Rattle.bg_wire.specs.Runs.{IsRun}
 use Rattle.bg_wire.specs.SavedText.{IsFirstIllegal}
 use Rattle.bg_wire.specs.declared.packets.Packet.{Packet}
 use Rattle.bg_wire.specs.declared.packets.Packet.TheVariants as packet
 use Rattle.bg_party.specs.Views.{FollowerView, IsFollower}
+use Rattle.bg_party.specs.Window.{early_behind}
 use Rattle.bg_party.specs.declared.outcomes.Learned.{Learned}
 use Rattle.bg_party.specs.declared.outcomes.Learned.TheVariants as learned
 
@@ -38,6 +38,23 @@ Extends terms entries start list =
     Joins entries start list × (new_entries entries start list ≢ [])
     × IsLegalRecord terms (entries ++ new_entries entries start list)
 
+-- the new entries of the list, and the early ones that are kept right behind them, up to the first that is missing
+abbrev pub coming : FollowerView → ℕ → List Entry → List Entry
+coming f start list =
+    new_entries f.log.entries start list
+    ++ early_behind f.early (length (new_entries f.log.entries start list))
+
+-- so many of the entries of the list follow, one after the other, and no more
+pub record FollowsFor (terms : Terms) (entries list : List Entry) (count : ℕ) : Type 0 where
+  pub within : count ≤ length list
+  pub legal : IsLegalRecord terms (entries ++ take count list)
+  pub no_more : count < length list → IsLegalRecord terms (entries ++ take (count + 1) list) → ⊥
+
+-- the new entries of the list follow; with the early ones that come behind them so many do
+abbrev pub GrowsBy : FollowerView → ℕ → List Entry → ℕ → Type 0
+GrowsBy f start list k =
+    Extends f.log.terms f.log.entries start list × FollowsFor f.log.terms f.log.entries (coming f start list) k
+
 -- what a list of entries teaches: a case for each answer. Want of memory comes only where the room is too small
 abbrev pub Teaches : FollowerView → ℕ → List Entry → Learned → Type 0
 Teaches f start list learned.OtherMatch = ⊥
@@ -47,10 +64,8 @@ Teaches f start list learned.Nothing = Joins f.log.entries start list × (new_en
 Teaches f start list (learned.Illegal n) =
     Joins f.log.entries start list
     × IsFirstIllegal f.log.terms (f.log.entries ++ new_entries f.log.entries start list) n
-Teaches f start list learned.Memory =
-    Extends f.log.terms f.log.entries start list × (f.log.spare < length (new_entries f.log.entries start list))
-Teaches f start list (learned.Grew k) =
-    Extends f.log.terms f.log.entries start list × (k ≡ length (new_entries f.log.entries start list))
+Teaches f start list learned.Memory = (k : ℕ) × GrowsBy f start list k × (f.log.spare < k)
+Teaches f start list (learned.Grew k) = GrowsBy f start list k
 
 -- what a packet of this match teaches; only entries do
 abbrev pub TeachesWithin : FollowerView → Packet → Learned → Type 0
@@ -62,50 +77,6 @@ TeachesWithin f (packet.Entries id start list) l = Teaches f start list l
 abbrev pub Learns : FollowerView → Packet → Learned → Type 0
 Learns f p learned.OtherMatch = IsOfMatch f.log.id p → ⊥
 Learns f p l = IsOfMatch f.log.id p × TeachesWithin f p l
-
--- the follower whose record has the new entries of the packet, and this much spare room
-abbrev pub grown : FollowerView → Packet → ℕ → FollowerView
-grown f (packet.Entries id start list) spare =
-    record f { log = record (f.log) { entries = f.log.entries ++ new_entries f.log.entries start list; spare = spare } }
-grown f _ spare = f
-
--- the follower afterwards: only `Grew` changes it, and takes no more of the spare room than it needs, where that is
--- enough
-abbrev pub IsAfter : FollowerView → Packet → Learned → FollowerView → Type 0
-IsAfter old p (learned.Grew k) new =
-    (new ≡ grown old p new.log.spare) × (k ≤ old.log.spare → new.log.spare + k ≡ old.log.spare)
-IsAfter old p _ new = new ≡ old
-
--- so many entries are appended; or there is no room for them, and nothing changes
-abbrev pub Appends : FollowerView → List Entry → Learned → FollowerView → Type 0
-Appends old new learned.Memory after = (old.log.spare < length new) × (after ≡ old)
-Appends old new (learned.Grew k) after =
-    (k ≡ length new)
-    × (after ≡ record old { log = record (old.log) { entries = old.log.entries ++ new; spare = after.log.spare } })
-    × (k ≤ old.log.spare → after.log.spare + k ≡ old.log.spare)
-Appends old new _ after = ⊥
-
--- entries of this match that join what is held, and follow where they are new
-abbrev pub Continues : ℕ → Terms → List Entry → Packet → Type 0
-Continues match_id terms entries (packet.Entries id start list) =
-    (id ≡ match_id) × Joins entries start list × IsLegalRecord terms (entries ++ new_entries entries start list)
-Continues match_id terms entries _ = ⊥
-
--- all entries of the packet are held under their own numbers
-abbrev pub Holds : List Entry → Packet → Type 0
-Holds entries (packet.Entries id start list) = IsRun entries start list
-Holds entries _ = ⊥
-
--- entries that continue the record are held afterwards, want of memory aside
-abbrev pub Keeps : Log → Packet → Learned → Log → Type 0
-Keeps old p learned.Memory new = Unit {0}
-Keeps old p l new = Continues old.id old.terms old.entries p → Holds new.entries p
-
--- what a follower makes of a packet: what it learns, and what it has afterwards
-pub record FollowerTakes (old : FollowerView) (p : Packet) (l : Learned) (new : FollowerView) : Type 0 where
-  pub learns : Learns old p l
-  pub after : IsAfter old p l new
-  pub keeps : Keeps old.log p l new.log
 
 -- a packet teaches a follower one thing, want of memory aside
 abbrev pub TeachesOneThing : Type 0

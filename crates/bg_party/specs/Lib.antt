@@ -1,3 +1,6 @@
+pub mod Window
+pub mod Retry
 pub mod Views
 pub mod Learns
+pub mod Takes
 pub mod Claims

@@ -1,25 +1,47 @@
 -- What contracts see of a watcher, and of a seat.
-use Rattle.std.specs.Prelude.{◌==◌, ℕ, ◌+◌, ◌≤◌, Bool, true, Option, None, if◌then◌else◌}
+use Rattle.std.specs.Prelude.{◌≡◌, ◌==◌, ℕ, ◌+◌, ◌≤◌, Bool, true, Option, Some, None, List, [], length}
+use Rattle.std.specs.Prelude.{if◌then◌else◌}
 use Rattle.bg_board.specs.declared.players.Player.{Player}
 use Rattle.bg_board.specs.declared.players.Player.TheVariants.{X, O}
 use Rattle.bg_match.specs.Terms.{Terms}
 use Rattle.bg_match.specs.declared.actions.Action.{Action}
+use Rattle.bg_match.specs.declared.entries.Entry.{Entry}
+use Rattle.bg_match.specs.Limits.{most_entries}
 use Rattle.bg_match.specs.Match.{Log, IsLegalRecord, empty_log}
 use Rattle.bg_wire.specs.SavedText.{IsKeptClaim}
 use Rattle.bg_wire.specs.Codes.{least_save, greatest_save, seat_of_x, first_watcher, last_watcher}
 use Rattle.bg_wire.specs.declared.saves.Saved.{Saved}
+use Rattle.bg_party.specs.Retry.{RetryView, at_once}
+use Rattle.bg_party.specs.Window.{at_place, window_size}
 
--- what seats and watchers have in common: the record, as far as the referee told it
+-- what seats and watchers have in common: the record, as far as the referee told it; the early entries that are kept,
+-- each at its place behind the record; and when it sends
 pub record FollowerView : Type 0 where
   pub log : Log
+  pub early : List (Option Entry)
+  pub retry : RetryView
 
--- what every follower keeps
+-- what every follower keeps; each place is that of a number that an entry may have
 pub record IsFollower (f : FollowerView) : Type 0 where
   pub legal : IsLegalRecord f.log.terms f.log.entries
+  pub few : length f.early ≤ window_size
+  pub numbered : length f.log.entries + length f.early ≤ most_entries
+
+-- this early entry is kept under this number
+abbrev pub IsEarly : FollowerView → ℕ → Entry → Type 0
+IsEarly f n e = (i : ℕ) × (n ≡ length f.log.entries + 1 + i) × (at_place f.early i ≡ Some e)
+
+-- that begins with this record: it keeps no early entry, and sends on the next tick
+abbrev pub starting_follower : Log → FollowerView
+starting_follower log = record { log = log; early = []; retry = at_once }
 
 -- of a match with no entry
 abbrev pub fresh_follower : ℕ → Terms → FollowerView
-fresh_follower id terms = record { log = empty_log id terms }
+fresh_follower id terms = starting_follower (empty_log id terms)
+
+-- that begins to send anew: on the next tick
+abbrev pub sending_anew : FollowerView → FollowerView
+sending_anew f = record f { retry = at_once }
 
 -- its party, and what it has as a follower
 pub record WatcherView : Type 0 where
@@ -68,12 +90,16 @@ player_of party = if party == seat_of_x then X else O
 abbrev pub resumed_seat : Saved → SeatView
 resumed_seat s = record {
   player = player_of s.party;
-  follower = record { log = s.log };
+  follower = starting_follower s.log;
   claim = s.claim;
   claim_saved = true;
   next_save = s.save + 1;
 }
 
--- the seat after its save of this number was written
+-- the seat after its save of this number was written: a claim that was not saved is sent on the next tick
 abbrev pub seat_after_save : SeatView → ℕ → SeatView
-seat_after_save s save = record s { claim_saved = true; next_save = save + 1 }
+seat_after_save s save = record s {
+  follower = if s.claim_saved then s.follower else sending_anew s.follower;
+  claim_saved = true;
+  next_save = save + 1;
+}

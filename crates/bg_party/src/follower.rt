@@ -1,20 +1,28 @@
 //! What seats and watchers have in common: a record that grows by what the referee tells.
 ghost use Rattle.std.specs.Prelude.{◌≡◌, ◌≤◌, ◌+◌, ◌↔◌, ◌++◌, length, IsOk, IfOk};
+ghost use Rattle.bg_party.specs.Retry.{is_due};
+ghost use Rattle.bg_party.specs.Window.{early_behind, window_size};
 ghost use Rattle.bg_match.specs.Limits.{IsMatchLength};
 ghost use Rattle.bg_match.specs.Match.{IsLegalRecord};
 ghost use Rattle.bg_wire.specs.PacketText.{IsPacket};
 
 use crate::Learned;
-use crate::told::{append, first_conflict, first_illegal, not_held};
+use crate::retry::Retry;
+use crate::told::{append, count_that_follow, first_conflict, follow, not_held};
+use crate::window::Window;
 use bg_match::{Entry, LengthFault, Number, Record};
 use bg_wire::Packet;
 use std::alloc::Global;
 use std::marker::Model;
 
-/// The record of a match, as far as the referee told it.
+/// The record of a match, as far as the referee told it, the early entries that are kept, and when to send.
+///
+/// Contracts see the three.
 #[derive(Debug, Drop)]
 pub(crate) struct Follower {
     log: Record,
+    window: Window,
+    retry: Retry,
 }
 
 impl Model for Follower {
@@ -22,34 +30,37 @@ impl Model for Follower {
 
     ghost Value = { FollowerView };
 
-    ghost view = { λ f. record { log = f.log } };
+    ghost view = { λ f. record { log = f.log; early = f.window; retry = f.retry } };
 
-    ghost invariant = { λ f. IsFollower (record { log = f.log }) };
+    ghost invariant = { λ f. IsFollower (record { log = f.log; early = f.window; retry = f.retry }) };
 }
 
 impl Follower {
-    ghost use Rattle.bg_party.specs.Views.{IsFollower, fresh_follower};
-    ghost use Rattle.bg_party.specs.Learns.{Learns, Teaches, IsAfter, Appends, FollowerTakes};
-    ghost use Rattle.bg_party.specs.Claims.{want_of};
+    ghost use Rattle.bg_party.specs.Views.{IsFollower, fresh_follower, starting_follower, sending_anew};
+    ghost use Rattle.bg_party.specs.Learns.{Learns, Teaches, FollowsFor};
+    ghost use Rattle.bg_party.specs.Takes.{IsAfter, Appends, FollowerTakes};
+    ghost use Rattle.bg_party.specs.Claims.{want_of, ticked};
 
     /// Of a match with no entry.
     pub(crate) fn fresh(alloc: Global, id: u64, length: u8) -> Result<Follower, LengthFault>
         ensures ok { IsOk result ↔ IsMatchLength length }
         ensures value { IfOk result (λ f. f ≡ fresh_follower id length) }
     {
-        Ok(Follower {
-            log: Record::new(alloc, id, length)?,
-        })
+        Ok(Follower::starting(Record::new(alloc, id, length)?))
     }
 
-    /// That has this record.
-    pub(crate) fn holding(log: Record) -> Follower
-        ensures value { result ≡ record { log = log } }
+    /// That begins with this record, keeps no early entry, and sends on the next tick.
+    pub(crate) fn starting(log: Record) -> Follower
+        ensures value { result ≡ starting_follower log }
         ensures follower { IsFollower result }
     {
         // What a record promises is said by its calls.
         let _count = log.len();
-        Follower { log }
+        Follower {
+            log,
+            window: Window::empty(),
+            retry: Retry::at_once(),
+        }
     }
 
     /// The record.
@@ -69,6 +80,21 @@ impl Follower {
             sender,
             held: self.log.len(),
         }
+    }
+
+    /// A tick: whether it sends on this one.
+    pub(crate) fn tick(&mut self) -> bool
+        ensures due { result ≡ is_due self.old.retry }
+        ensures after { self.new ≡ ticked self.old }
+    {
+        self.retry.tick()
+    }
+
+    /// It sends on the next tick, and its gaps begin anew.
+    pub(crate) fn send_anew(&mut self)
+        ensures { self.new ≡ sending_anew self.old }
+    {
+        self.retry = Retry::at_once();
     }
 
     /// Takes a packet.
@@ -110,28 +136,40 @@ impl Follower {
             return Learned::Conflict(number);
         }
         let Some(new) = not_held(&self.log, start, list) else {
+            self.window.keep(usize::from(start - self.log.len() - 1), list);
             return Learned::Gap;
         };
         if new.is_empty() {
             return Learned::Nothing;
         }
-        if let Some(number) = first_illegal(&self.log, new) {
-            return Learned::Illegal(number);
-        }
-        self.grow(new)
+        let standing = match follow(&self.log, new) {
+            Ok(standing) => standing,
+            Err(number) => return Learned::Illegal(number),
+        };
+        let early = self.window.behind(new.len());
+        let count = count_that_follow(&self.log, new, standing, early.as_slice());
+        self.grow(new, early.as_slice(), count)
     }
 
-    /// Appends new entries that follow, where there is room or memory for them.
-    fn grow(&mut self, new: &[Entry]) -> Learned
+    /// Appends new entries that follow, and the first ones of those that are kept right behind them, so many as follow,
+    /// where there is room or memory for all.
+    fn grow(&mut self, new: &[Entry], early: &[Entry], count: usize) -> Learned
         requires few { length new.now ≤ 8 }
+        requires room { length early.now ≤ window_size }
+        requires early { early.now ≡ early_behind self.old.early (length new.now) }
+        requires follow { FollowsFor self.old.log.terms (self.old.log.entries ++ new.now) early.now count }
         requires legal { IsLegalRecord self.old.log.terms (self.old.log.entries ++ new.now) }
-        ensures appends { Appends self.old new.now result self.new }
+        ensures appends { Appends self.old new.now early.now count result self.new }
         ensures follower { IsFollower self.new }
     {
-        if self.log.reserve(new.len() as Number).is_err() {
+        let all = new.len() + count;
+        if self.log.reserve(all as Number).is_err() {
             return Learned::Memory;
         }
         append(&mut self.log, new);
-        Learned::Grew(new.len() as u8)
+        append(&mut self.log, &early[..count]);
+        self.window.pass(all, count < early.len());
+        self.retry = Retry::at_once();
+        Learned::Grew(all as u8)
     }
 }

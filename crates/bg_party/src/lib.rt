@@ -18,13 +18,16 @@
 mod follower;
 mod laws;
 mod outcomes;
+mod retry;
 mod seat;
 #[cfg(test)]
 mod tests;
 mod told;
 mod watcher;
+mod window;
 
-pub use laws::packets_teach_one_thing;
+pub use laws::{followers_keep_the_gaps, packets_teach_one_thing};
 pub use outcomes::{ChooseFault, Learned};
 pub use seat::Seat;
 pub use watcher::Watcher;
+pub use window::WINDOW;

@@ -12,13 +12,13 @@ pub enum Learned {
     Nothing,
     /// Under this number, from 1, it tells another entry than the one that is held. It is the least such number.
     Conflict(Number),
-    /// It begins behind the entry that comes next.
+    /// It begins behind the entry that comes next. Its entries are kept, as far as the window goes.
     Gap,
     /// Its entry of this number is the first that does not follow those before it.
     Illegal(Number),
     /// There is no memory for the new entries.
     Memory,
-    /// All its new entries are held now. There were so many, from 1 to 8.
+    /// All its new entries are held now, and the early ones behind them that follow. There were so many, from 1 to 40.
     Grew(u8),
 }
 

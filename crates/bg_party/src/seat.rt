@@ -39,7 +39,8 @@ fn player_of(party: u8) -> Player
 /// The seat of a player: it follows the match, and claims his actions, one under each number (docs/PROTOCOL.md,
 /// "Claims").
 ///
-/// Contracts see its player, its record, its last claim, whether that is saved, and the number of the next save.
+/// Contracts see its player, what it has as a follower (its record, the early entries that it keeps, and when it
+/// sends), its last claim, whether that is saved, and the number of the next save.
 #[derive(Debug, Drop)]
 pub struct Seat {
     alloc: Global,
@@ -75,8 +76,8 @@ impl Model for Seat {
 
 impl Seat {
     ghost use Rattle.bg_party.specs.Views.{IsSeat, fresh_seat, resumed_seat, seat_after_save};
-    ghost use Rattle.bg_party.specs.Learns.{FollowerTakes};
-    ghost use Rattle.bg_party.specs.Claims.{MayClaim, SeatChooses, SeatTicks, claim_number};
+    ghost use Rattle.bg_party.specs.Takes.{FollowerTakes};
+    ghost use Rattle.bg_party.specs.Claims.{MayClaim, SeatChooses, SeatTicks, claim_number, packet_of_seat};
 
     /// The seat of a player with the empty record and no claim, which counts as saved.
     ///
@@ -97,7 +98,7 @@ impl Seat {
     }
 
     /// The seat that goes on from what was saved, which is of party 1 or 2 (docs/PROTOCOL.md, "Restarting"). Its
-    /// claim counts as saved.
+    /// claim counts as saved; it keeps no early entry, and sends on the next tick.
     pub fn resume(alloc: Global, saved: Saved) -> Seat
         requires party { seat_of_x ≤ saved.party }
         requires savable { IsSavable (parts_of saved) }
@@ -106,7 +107,7 @@ impl Seat {
         Seat {
             alloc,
             player: player_of(saved.party),
-            follower: Follower::holding(saved.log),
+            follower: Follower::starting(saved.log),
             claim: saved.claim,
             claim_saved: true,
             last_save: saved.save,
@@ -132,8 +133,8 @@ impl Seat {
         }
     }
 
-    /// Learns from a packet (docs/PROTOCOL.md, "What a follower learns"). Only `Grew` changes the record; the claim
-    /// stays. The packet is one that has a text, as each that `decode` gives.
+    /// Learns from a packet (docs/PROTOCOL.md, "What a follower learns"). Only `Grew` changes the record, and only
+    /// `Gap` keeps entries; the claim stays. The packet is one that has a text, as each that `decode` gives.
     pub fn take(&mut self, packet: &Packet) -> Learned
         requires { IsPacket packet.now }
         ensures takes { FollowerTakes self.old.follower packet.now result self.new.follower }
@@ -208,32 +209,44 @@ impl Seat {
         )
     }
 
-    /// The next save was written: the claim is saved. `save` is the number that `to_save` gave, and no other call may
-    /// come between the two (docs/PROTOCOL.md, "Saving").
+    /// The next save was written: the claim is saved, and one that was not is sent on the next tick. `save` is the
+    /// number that `to_save` gave, and no other call may come between the two (docs/PROTOCOL.md, "Saving").
     pub fn mark_saved(&mut self, save: u32)
         requires { save ≡ self.old.next_save }
         ensures { self.new ≡ seat_after_save self.old save }
     {
+        if !self.claim_saved {
+            self.follower.send_anew();
+        }
         self.claim_saved = true;
         self.last_save = save;
     }
 
-    /// What is to be sent to the referee: the claim, once it is saved and until the record answers it; else that
-    /// the seat wants the entries after its own.
+    /// What is to be sent to the referee, where this tick is one to send on (docs/PROTOCOL.md, "When a follower
+    /// sends"): the claim, once it is saved and until the record answers it; else that the seat wants the entries
+    /// after its own.
     pub fn tick(&mut self) -> Option<Packet>
         ensures { SeatTicks self.old result self.new }
     {
+        let packet = self.packet();
+        self.follower.tick().then_some(packet)
+    }
+
+    /// What the seat sends, where it does.
+    fn packet(&self) -> Packet
+        ensures value { result ≡ packet_of_seat self.now }
+        ensures fits { IsPacket (packet_of_seat self.now) }
+    {
         let party = party_of(self.player);
+        let log = self.follower.held();
         match &self.claim {
-            Some((number, action)) if self.claim_saved && *number > self.follower.held().len() => {
-                Some(Packet::Claim {
-                    id: self.follower.held().id(),
-                    sender: party,
-                    number: *number,
-                    action: action.copy(),
-                })
-            }
-            _ => Some(self.follower.want(party)),
+            Some((number, action)) if self.claim_saved && *number > log.len() => Packet::Claim {
+                id: log.id(),
+                sender: party,
+                number: *number,
+                action: action.copy(),
+            },
+            _ => self.follower.want(party),
         }
     }
 }

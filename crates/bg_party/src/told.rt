@@ -1,10 +1,10 @@
 //! Entries that a packet tells, beside a record: whether they agree with it, and whether they follow.
-ghost use Rattle.std.specs.Prelude.{◌≡◌, ◌≤◌, ◌<◌, ◌+◌, ◌++◌, length, MatchOption};
-ghost use Rattle.bg_match.specs.Match.{IsLegalRecord};
+ghost use Rattle.std.specs.Prelude.{◌≡◌, ◌≤◌, ◌<◌, ◌+◌, ◌++◌, length, MatchOption, MatchResult};
+ghost use Rattle.bg_match.specs.Match.{IsLegalRecord, StandsAt};
 ghost use Rattle.bg_wire.specs.SavedText.{IsFirstIllegal};
-ghost use Rattle.bg_party.specs.Learns.{Agrees, IsConflict, new_entries};
+ghost use Rattle.bg_party.specs.Learns.{Agrees, IsConflict, FollowsFor, new_entries};
 
-use bg_match::{Entry, Number, Record};
+use bg_match::{Entry, Number, Record, Standing};
 
 /// The least number under which the list, whose first entry has the number `start`, tells another entry than the
 /// one that is held.
@@ -36,21 +36,41 @@ pub(crate) fn not_held<'a>(log: &Record, start: Number, list: &'a [Entry]) -> Op
     Some(&list[held.min(list.len())..])
 }
 
-/// The number of the first of the new entries that does not follow those before it.
-pub(crate) fn first_illegal(log: &Record, new: &[Entry]) -> Option<Number>
+/// Where new entries lead, or the number of the first that does not follow those before it.
+pub(crate) fn follow(log: &Record, new: &[Entry]) -> Result<Standing, Number>
     requires few { length log.now.entries + length new.now ≤ 65535 }
-    ensures { MatchOption result
-        (IsLegalRecord log.now.terms (log.now.entries ++ new.now))
+    ensures { MatchResult result
+        (λ s. StandsAt log.now.terms (log.now.entries ++ new.now) s)
         (λ n. IsFirstIllegal log.now.terms (log.now.entries ++ new.now) n) }
 {
     let mut standing = log.standing();
     for (index, entry) in new.iter().enumerate() {
         match standing.next(entry) {
             Ok(after) => standing = after,
-            Err(_) => return Some(log.len() + index as Number + 1),
+            Err(_) => return Err(log.len() + index as Number + 1),
         }
     }
-    None
+    Ok(standing)
+}
+
+/// How many entries of the list follow behind those of the record and the new ones, which lead to this standing.
+pub(crate) fn count_that_follow(
+    log: &Record,
+    new: &[Entry],
+    mut standing: Standing,
+    list: &[Entry],
+) -> usize
+    requires stands { StandsAt log.now.terms (log.now.entries ++ new.now) standing }
+    requires few { length log.now.entries + length new.now + length list.now ≤ 65535 }
+    ensures { FollowsFor log.now.terms (log.now.entries ++ new.now) list.now result }
+{
+    for (index, entry) in list.iter().enumerate() {
+        match standing.next(entry) {
+            Ok(after) => standing = after,
+            Err(_) => return index,
+        }
+    }
+    list.len()
 }
 
 /// Appends entries that follow, for which there is room.

@@ -15,7 +15,8 @@ use std::marker::Model;
 /// One who watches a match (docs/PROTOCOL.md, "Followers"). A watcher saves nothing: after a restart it begins
 /// afresh.
 ///
-/// Contracts see its party and its record.
+/// Contracts see its party, and what it has as a follower: its record, the early entries that it keeps, and when it
+/// sends.
 #[derive(Debug, Drop)]
 pub struct Watcher {
     party: u8,
@@ -34,7 +35,7 @@ impl Model for Watcher {
 
 impl Watcher {
     ghost use Rattle.bg_party.specs.Views.{IsWatcher, fresh_watcher};
-    ghost use Rattle.bg_party.specs.Learns.{FollowerTakes};
+    ghost use Rattle.bg_party.specs.Takes.{FollowerTakes};
     ghost use Rattle.bg_party.specs.Claims.{WatcherTicks};
 
     /// A watcher with the empty record. `party` is its number, from 3.
@@ -60,8 +61,8 @@ impl Watcher {
         self.follower.held()
     }
 
-    /// Learns from a packet (docs/PROTOCOL.md, "What a follower learns"). Only `Grew` changes the record.
-    /// The packet is one that has a text, as each that `decode` gives.
+    /// Learns from a packet (docs/PROTOCOL.md, "What a follower learns"). Only `Grew` changes the record, and only
+    /// `Gap` keeps entries. The packet is one that has a text, as each that `decode` gives.
     pub fn take(&mut self, packet: &Packet) -> Learned
         requires { IsPacket packet.now }
         ensures takes { FollowerTakes self.old.follower packet.now result self.new.follower }
@@ -70,10 +71,12 @@ impl Watcher {
         self.follower.take(packet)
     }
 
-    /// What is to be sent to the referee: the watcher wants the entries after its own.
+    /// What is to be sent to the referee, where this tick is one to send on (docs/PROTOCOL.md, "When a follower
+    /// sends"): the watcher wants the entries after its own.
     pub fn tick(&mut self) -> Option<Packet>
         ensures { WatcherTicks self.old result self.new }
     {
-        Some(self.follower.want(self.party))
+        let want = self.follower.want(self.party);
+        self.follower.tick().then_some(want)
     }
 }

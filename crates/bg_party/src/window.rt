@@ -1,0 +1,106 @@
+//! Early entries, which are kept until those before them come.
+ghost use Rattle.std.specs.Prelude.{◌≡◌, ◌≢◌, ◌+◌, ◌<◌, ◌≤◌, ◌^◌, ℕ, Some, [], length, drop, max, if◌then◌else◌};
+ghost use Rattle.bg_party.specs.Window.{at_place, early_behind, window_size, KeepsFrom};
+
+use arrayvec::ArrayVec;
+use bg_match::Entry;
+use std::marker::Model;
+
+/// How far behind the last entry of a record an early one may be to be kept.
+pub const WINDOW: usize = 32;
+
+/// Early entries. The first place is that of the number behind the last one of the record (docs/PROTOCOL.md, "The
+/// window").
+///
+/// Contracts see its places.
+#[derive(Debug, Drop)]
+pub(crate) struct Window {
+    places: ArrayVec<Option<Entry>, WINDOW>,
+}
+
+impl Model for Window {
+    ghost use Rattle.std.specs.Prelude.{List, Option};
+    ghost use Rattle.bg_match.specs.declared.entries.Entry.{Entry};
+
+    ghost Value = { List (Option Entry) };
+
+    ghost view = { λ w. w.places.items };
+}
+
+impl Window {
+    /// That keeps nothing.
+    pub(crate) fn empty() -> Window
+        ensures { result ≡ [] }
+    {
+        Window {
+            places: ArrayVec::new(),
+        }
+    }
+
+    /// Keeps entries from a place on, as far as there are places, in place of those that are kept there.
+    pub(crate) fn keep(&mut self, first: usize, list: &[Entry])
+        requires few { length self.old ≤ window_size }
+        requires fits { first + length list.now < 2 ^ 64 }
+        ensures keeps { KeepsFrom self.old first list.now self.new }
+        ensures few { length self.new ≤ window_size }
+        ensures reach { length self.new ≤ max (length self.old) (first + length list.now) }
+    {
+        for (index, entry) in list.iter().enumerate() {
+            if first + index >= WINDOW {
+                return;
+            }
+            self.put(first + index, entry.copy());
+        }
+    }
+
+    /// Keeps an entry at a place, in place of the one that is kept there.
+    fn put(&mut self, place: usize, entry: Entry)
+        requires few { length self.old ≤ window_size }
+        requires place { place < window_size }
+        ensures put { at_place self.new place ≡ Some entry }
+        ensures others { (i : ℕ) → i ≢ place → at_place self.new i ≡ at_place self.old i }
+        ensures few { length self.new ≤ window_size }
+        ensures reach { length self.new ≤ max (length self.old) (place + 1) }
+    {
+        while self.places.len() <= place {
+            self.places.push(None);
+        }
+        self.places.as_mut_slice()[place] = Some(entry);
+    }
+
+    /// The entries right behind the first places, so many, up to the first that is missing.
+    pub(crate) fn behind(&self, count: usize) -> ArrayVec<Entry, WINDOW>
+        ensures { result.items ≡ early_behind self.now count }
+    {
+        let mut entries = ArrayVec::new();
+        let Some(rest) = self.places.as_slice().get(count..) else {
+            return entries;
+        };
+        for place in rest {
+            let Some(entry) = place else {
+                return entries;
+            };
+            entries.push(entry.copy());
+        }
+        entries
+    }
+
+    /// The first places leave, so many; where the entry behind them does not follow, all that is kept is dropped.
+    pub(crate) fn pass(&mut self, count: usize, stuck: bool)
+        ensures { self.new ≡ (if stuck then [] else drop count self.old) }
+    {
+        if stuck {
+            self.places.clear();
+        } else {
+            self.leave(count);
+        }
+    }
+
+    /// The first places leave, so many.
+    fn leave(&mut self, count: usize)
+        ensures { self.new ≡ drop count self.old }
+    {
+        let count = count.min(self.places.len());
+        self.places.drain(..count);
+    }
+}
