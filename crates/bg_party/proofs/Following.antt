@@ -13,6 +13,7 @@ use Rattle.bg_match.specs.State.{State, start_of}
 use Rattle.bg_match.proofs.Legal.{legal_fronts}
 use Rattle.bg_match.proofs.Runs.{Leads-push, legal_follow}
 use Rattle.bg_wire.specs.SavedText.{IsFirstIllegal}
+use Rattle.bg_party.specs.Learns.{FollowsFor}
 use Rattle.bg_wire.proofs.Loading.{is_first_illegal}
 
 -- one more of the new entries
@@ -78,3 +79,17 @@ appended (Err fault.WrongPhase) log e why room ok legal = (ok (λ h. absurd (cc 
 appended (Err fault.EqualOpening) log e why room ok legal = (ok (λ h. absurd (cc h))).1 legal
 appended (Err (fault.Turn t)) log e why room ok legal = (ok (λ h. absurd (cc h))).1 legal
 appended (Err (fault.NoDouble d)) log e why room ok legal = (ok (λ h. absurd (cc h))).1 legal
+
+-- an entry that does not follow ends those that do
+pub follows_for : (terms : Terms) (entries list : List Entry) (i : ℕ) (x : Entry) (s : State) → i < length list → x ≡ get_or list i x
+    → length entries + length list ≤ 65535 → length (take i list) ≡ i
+    → StandsAt terms (entries ++ take i list) s → (CanFollow s x → ⊥) → FollowsFor terms entries list i
+follows_for terms entries list i x s within is few taken at stuck =
+    let front = entries ++ take i list in
+    let size = length-append entries (take i list) in
+    let room : length front < 65535 = omega arith in
+    record {
+      within = omega arith;
+      legal = (omega arith, (s, at));
+      no_more = λ more_left legal. stuck ((legal_follow terms front x s at room).0 (subst (IsLegalRecord terms) (more entries list i x within is) legal));
+    }

@@ -1,6 +1,7 @@
 -- Entries that continue a record are held afterwards.
-use Rattle.std.proofs.Common.{◌≡◌, ◌⊎◌, inl, inr, ℕ, zero, suc, ◌+◌, ◌-◌, ◌<◌, ◌≤◌, Some, List, [], ◌∷◌, ◌++◌, length, take, drop, slice_get, refl, sym, ◌∙◌, ap, subst, arith}
-use Rattle.std.proofs.lemmas.List.{take-append-drop, length-drop}
+use Rattle.std.proofs.Common.{◌≡◌, ◌⊎◌, inl, inr, ℕ, zero, suc, ◌+◌, ◌-◌, ◌<◌, ◌≤◌, Some, List, [], ◌∷◌, ◌++◌, length, take, drop, slice_get, refl, sym, ◌∙◌, ap, subst, arith, append_assoc, length-append}
+use Rattle.std.proofs.Math.Seq.{take-append-add}
+use Rattle.std.proofs.lemmas.List.{take-append-drop, take-append-le, length-drop}
 use Rattle.std.proofs.lemmas.Option.{slice_get_within}
 use Rattle.bg_match.specs.declared.entries.Entry.{Entry}
 use Rattle.bg_match.specs.Match.{Log, IsLegalRecord, at_number}
@@ -12,7 +13,9 @@ use Rattle.bg_wire.specs.declared.packets.Packet.TheVariants as packet
 use Rattle.bg_party.specs.declared.outcomes.Learned.{Learned}
 use Rattle.bg_party.specs.declared.outcomes.Learned.TheVariants as learned
 use Rattle.bg_party.specs.Views.{FollowerView}
-use Rattle.bg_party.specs.Learns.{Agrees, Continues, Keeps, Learns, Teaches, IsAfter, new_entries}
+use Rattle.bg_party.specs.Learns.{Agrees, Learns, Teaches, GrowsBy, coming, new_entries}
+use Rattle.bg_party.specs.Takes.{Continues, Keeps, IsAfter}
+use Rattle.bg_party.specs.Window.{early_behind}
 
 -- what entries of this match teach
 pub learns_entries : (f : FollowerView) (id start : ℕ) (list : List Entry) (l : Learned) → id ≡ f.log.id → Teaches f start list l
@@ -83,6 +86,31 @@ keeps_none old p (learned.Illegal n) new h = λ k. absurd (h k)
 keeps_none old p learned.Memory new h = tt
 keeps_none old p (learned.Grew k) new h = λ c. absurd (h c)
 
+-- the coming entries begin with the new ones of the list, and these are among those that are appended
+grown_so_far : (f : FollowerView) (start : ℕ) (list : List Entry) (k : ℕ) → GrowsBy f start list k
+    → (rest : List Entry) × (f.log.entries ++ take k (coming f start list) ≡ (f.log.entries ++ new_entries f.log.entries start list) ++ rest)
+grown_so_far f start list k h =
+    let new = new_entries f.log.entries start list in
+    let early = early_behind f.early (length new) in
+    let size = length-append new early in
+    elim (nat_order (length new) k) [
+      | inl all ↦
+          let same : k ≡ length new + (k - length new) = omega arith in (
+            take (k - length new) early,
+            ap (λ (n : ℕ). f.log.entries ++ take n (new ++ early)) same
+                ∙ ap (λ (l : List Entry). f.log.entries ++ l) (take-append-add new early (k - length new))
+                ∙ sym (append_assoc f.log.entries new (take (k - length new) early)),
+          )
+      | inr less ↦
+          let front = take-append-le (k + 1) new early (omega arith) in
+          absurd (h.1.no_more (omega arith) (subst (λ (l : List Entry). IsLegalRecord f.log.terms (f.log.entries ++ l)) (sym front)
+          (legal_fronts f.log.terms (f.log.entries ++ take (k + 1) new) (drop (k + 1) new)
+          (subst (IsLegalRecord f.log.terms) (ap (λ (l : List Entry). f.log.entries ++ l) (sym (take-append-drop (k + 1) new)) ∙ sym (append_assoc f.log.entries (take (k + 1) new) (drop (k + 1) new))) h.0.2))))
+    ]
+
+run_left : (xs ys : List Entry) (start : ℕ) (list : List Entry) → IsRun xs start list → IsRun (xs ++ ys) start list
+run_left xs ys start list h i e at = number_left xs ys (start + i) e (h i e at)
+
 keeps_entries : (old : FollowerView) (id start : ℕ) (list : List Entry) (l : Learned) (new : FollowerView) → 1 ≤ start
     → Learns old (packet.Entries id start list) l → IsAfter old (packet.Entries id start list) l new
     → Keeps old.log (packet.Entries id start list) l new.log
@@ -98,7 +126,10 @@ keeps_entries old id start list (learned.Illegal n) new low h after =
     absurd (h.1.1.illegal (legal_fronts old.log.terms (take n all) (drop n all) (subst (IsLegalRecord old.log.terms) (sym (take-append-drop n all)) k.2)))
 keeps_entries old id start list learned.Memory new low h after = tt
 keeps_entries old id start list (learned.Grew n) new low h after =
-    λ k. subst (λ (f : FollowerView). IsRun f.log.entries start list) (sym after.0) (grown_holds old.log.entries start list low k.1.0 k.1.1)
+    λ k. let more = grown_so_far old start list n h.1 in
+    subst (λ (f : FollowerView). IsRun f.log.entries start list) (sym after.0)
+    (subst (λ (l : List Entry). IsRun l start list) (sym more.1)
+    (run_left (old.log.entries ++ new_entries old.log.entries start list) more.0 start list (grown_holds old.log.entries start list low k.1.0 k.1.1)))
 
 pub keeps : (old : FollowerView) (p : Packet) (l : Learned) (new : FollowerView) → IsPacket p → Learns old p l → IsAfter old p l new → Keeps old.log p l new.log
 keeps old (packet.Want id sender held) l new is h after = keeps_none old.log (packet.Want id sender held) l new.log (λ k. k)

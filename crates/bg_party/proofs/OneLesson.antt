@@ -1,5 +1,5 @@
 -- A packet teaches a follower one thing, want of memory aside.
-use Rattle.std.proofs.Common.{◌≡◌, ◌≢◌, ◌⊎◌, inl, inr, ℕ, zero, suc, ◌+◌, ◌-◌, ◌<◌, ◌≤◌, Some, List, [], ◌∷◌, ◌++◌, take, drop, refl, sym, ◌∙◌, ap, subst, arith}
+use Rattle.std.proofs.Common.{◌≡◌, ◌≢◌, ◌⊎◌, inl, inr, ℕ, zero, suc, ◌+◌, ◌-◌, ◌<◌, ◌≤◌, Some, List, [], ◌∷◌, ◌++◌, take, drop, refl, sym, ◌∙◌, ap, subst, arith, append_assoc}
 use Rattle.std.proofs.lemmas.List.{append-nil, take-append-drop}
 use Rattle.bg_match.specs.declared.actions.Action.{Action}
 use Rattle.bg_match.specs.declared.entries.Entry.{Entry}
@@ -11,7 +11,7 @@ use Rattle.bg_wire.proofs.Numbers.{get_take}
 use Rattle.bg_party.specs.declared.outcomes.Learned.{Learned}
 use Rattle.bg_party.specs.declared.outcomes.Learned.TheVariants as learned
 use Rattle.bg_party.specs.Views.{FollowerView, IsFollower}
-use Rattle.bg_party.specs.Learns.{Agrees, IsConflict, Teaches, Learns, TeachesOneThing, new_entries}
+use Rattle.bg_party.specs.Learns.{Agrees, IsConflict, FollowsFor, Teaches, Learns, TeachesOneThing, coming, new_entries}
 
 nat_order : (a b : ℕ) → (a < b) ⊎ (a ≡ b) ⊎ (b < a)
 nat_order zero zero = inr (inl refl)
@@ -68,6 +68,22 @@ none_follow : (m : ℕ) (entries new : List Entry) → IsLegalRecord m entries �
 none_follow m entries new legal none =
     subst (λ (l : List Entry). IsLegalRecord m (entries ++ l)) (sym none) (subst (IsLegalRecord m) (sym (append-nil entries)) legal)
 
+-- so many follow, and one number is how many
+no_more_follow : (m : ℕ) (entries list : List Entry) (n k : ℕ) → FollowsFor m entries list n → FollowsFor m entries list k → n < k → ⊥
+no_more_follow m entries list n k h j less =
+    let front = entries ++ take (n + 1) list in
+    let rest = drop (n + 1) (take k list) in
+    let parts : entries ++ take k list ≡ front ++ rest =
+    ap (λ (l : List Entry). entries ++ l) (sym (take-append-drop (n + 1) (take k list)) ∙ ap (λ (l : List Entry). l ++ rest) (take_take (n + 1) k list (omega arith)))
+    ∙ sym (append_assoc entries (take (n + 1) list) rest) in
+    h.no_more (let within = j.within in omega arith) (legal_fronts m front rest (subst (IsLegalRecord m) parts j.legal))
+
+one_count : (m : ℕ) (entries list : List Entry) (n k : ℕ) → FollowsFor m entries list n → FollowsFor m entries list k → n ≡ k
+one_count m entries list n k h j = elim (nat_order n k) [
+  | inl less ↦ absurd (no_more_follow m entries list n k h j less)
+  | inr rest ↦ elim rest [ inl same ↦ same | inr more ↦ absurd (no_more_follow m entries list k n j h more) ]
+]
+
 module _ (f : FollowerView) (start : ℕ) (list : List Entry) (is : IsFollower f) where
   -- the answers are tried in this order, so one of them excludes the later ones
   apart : (a b : Learned) → Teaches f start list a → Teaches f start list b → a ≢ learned.Memory → b ≢ learned.Memory → a ≡ b
@@ -104,7 +120,8 @@ module _ (f : FollowerView) (start : ℕ) (list : List Entry) (is : IsFollower f
   apart (learned.Grew n) learned.Nothing h k x y = absurd (h.0.1 k.1)
   apart (learned.Grew n) (learned.Illegal m) h k x y =
       absurd (not_all f.log.terms m (f.log.entries ++ new_entries f.log.entries start list) k.1 h.0.2)
-  apart (learned.Grew n) (learned.Grew m) h k x y = ap learned.Grew (h.1 ∙ sym k.1)
+  apart (learned.Grew n) (learned.Grew m) h k x y =
+      ap learned.Grew (one_count f.log.terms f.log.entries (coming f start list) n m h.1 k.1)
 
 -- of another match, or of this one
 of_entries : (f : FollowerView) (id start : ℕ) (list : List Entry) (l : Learned) → Learns f (packet.Entries id start list) l

@@ -1,5 +1,5 @@
 -- When a follower sends.
-use Rattle.std.specs.Prelude.{◌≡◌, ◌==◌, ℕ, zero, suc, ◌+◌, ◌-◌, ◌*◌, ◌<◌, ◌≤◌, Bool, true, false, min, if◌then◌else◌}
+use Rattle.std.specs.Prelude.{◌≡◌, ◌==◌, ℕ, zero, suc, ◌-◌, ◌*◌, ◌<◌, ◌≤◌, Bool, true, false, min, if◌then◌else◌}
 
 -- from one tick on which a follower sends to the next there are at most so many
 abbrev pub longest_gap : ℕ
@@ -38,6 +38,6 @@ after_ticks (suc n) r = after_ticks n (after_tick r)
 -- where it sends on the next tick, it is silent on those after it until its gap is over, and sends then; the gap
 -- after that is twice as long, up to the longest
 abbrev pub KeepsTheGaps : Type 0
-KeepsTheGaps = (r : RetryView) → IsRetry r → is_due r ≡ true
+KeepsTheGaps = (r : RetryView) → is_due r ≡ true
     → ((n : ℕ) → 1 ≤ n → n < r.gap → is_due (after_ticks n r) ≡ false)
     × (is_due (after_ticks r.gap r) ≡ true) × ((after_ticks r.gap r).gap ≡ min longest_gap (2 * r.gap))
