@@ -82,11 +82,10 @@ appends_all f start list new early count l after same_new same_early extends fol
     by_cases : (l : Learned) → new ++ early ≡ coming f start list → GrowsBy f start list (length new + count) → Appends f new early count l after
         → Teaches f start list l × IsAfter f (packet.Entries f.log.id start list) l after
     by_cases learned.Memory all grows h = ((length new + count, grows, h.0), h.1)
-    by_cases (learned.Grew k) all grows h =
-        (
-          subst (GrowsBy f start list) (sym h.0) grows,
-          (h.1 ∙ ap (λ (x : List Entry). grown_with f x k after.log.spare) all, h.2),
-        )
+    by_cases (learned.Grew k) all grows h = (
+      subst (GrowsBy f start list) (sym h.0) grows,
+      (h.1 ∙ ap (λ (x : List Entry). grown_with f x k after.log.spare) all, h.2),
+    )
     by_cases learned.OtherMatch all grows h = absurd h
     by_cases learned.Nothing all grows h = absurd h
     by_cases (learned.Conflict n) all grows h = absurd h
