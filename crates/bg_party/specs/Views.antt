@@ -39,10 +39,6 @@ starting_follower log = record { log = log; early = []; retry = at_once }
 abbrev pub fresh_follower : ℕ → Terms → FollowerView
 fresh_follower id terms = starting_follower (empty_log id terms)
 
--- that begins to send anew: on the next tick
-abbrev pub sending_anew : FollowerView → FollowerView
-sending_anew f = record f { retry = at_once }
-
 -- its party, and what it has as a follower
 pub record WatcherView : Type 0 where
   pub party : ℕ
@@ -99,7 +95,7 @@ resumed_seat s = record {
 -- the seat after its save of this number was written: a claim that was not saved is sent on the next tick
 abbrev pub seat_after_save : SeatView → ℕ → SeatView
 seat_after_save s save = record s {
-  follower = if s.claim_saved then s.follower else sending_anew s.follower;
+  follower = record (s.follower) { retry = if s.claim_saved then s.follower.retry else at_once };
   claim_saved = true;
   next_save = save + 1;
 }

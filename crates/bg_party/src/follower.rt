@@ -1,6 +1,6 @@
 //! What seats and watchers have in common: a record that grows by what the referee tells.
 ghost use Rattle.std.specs.Prelude.{◌≡◌, ◌≤◌, ◌+◌, ◌↔◌, ◌++◌, length, IsOk, IfOk};
-ghost use Rattle.bg_party.specs.Retry.{is_due};
+ghost use Rattle.bg_party.specs.Retry.{at_once, is_due};
 ghost use Rattle.bg_party.specs.Window.{early_behind, window_size};
 ghost use Rattle.bg_match.specs.Limits.{IsMatchLength};
 ghost use Rattle.bg_match.specs.Match.{IsLegalRecord};
@@ -36,7 +36,7 @@ impl Model for Follower {
 }
 
 impl Follower {
-    ghost use Rattle.bg_party.specs.Views.{IsFollower, fresh_follower, starting_follower, sending_anew};
+    ghost use Rattle.bg_party.specs.Views.{IsFollower, fresh_follower, starting_follower};
     ghost use Rattle.bg_party.specs.Learns.{Learns, Teaches, FollowsFor};
     ghost use Rattle.bg_party.specs.Takes.{IsAfter, Appends, FollowerTakes};
     ghost use Rattle.bg_party.specs.Claims.{want_of, ticked};
@@ -92,7 +92,7 @@ impl Follower {
 
     /// It sends on the next tick, and its gaps begin anew.
     pub(crate) fn send_anew(&mut self)
-        ensures { self.new ≡ sending_anew self.old }
+        ensures { self.new ≡ record self.old { retry = at_once } }
     {
         self.retry = Retry::at_once();
     }
