@@ -9,7 +9,7 @@ use Rattle.bg_referee.specs.Dues.{RefereeDues}
 use Rattle.bg_referee.specs.Referee.{RefereeView, fresh_referee, referee_after_save, resumed_referee}
 use Rattle.bg_referee.specs.declared.outcomes.DueFault.{DueFault}
 use Rattle.bg_party.specs.Claims.{SeatChooses, SeatTicks, WatcherTicks}
-use Rattle.bg_party.specs.Learns.{FollowerTakes}
+use Rattle.bg_party.specs.Takes.{FollowerTakes}
 use Rattle.bg_party.specs.Views.{SeatView, WatcherView, fresh_seat, fresh_watcher, resumed_seat, seat_after_save}
 use Rattle.bg_party.specs.declared.outcomes.ChooseFault.{ChooseFault}
 use Rattle.bg_party.specs.declared.outcomes.Learned.{Learned}

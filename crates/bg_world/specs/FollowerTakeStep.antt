@@ -5,7 +5,7 @@ use Rattle.bg_match.specs.Terms.{Terms}
 use Rattle.bg_match.specs.declared.entries.Entry.{Entry}
 use Rattle.bg_wire.specs.declared.packets.Datagram.{Datagram}
 use Rattle.bg_wire.specs.declared.packets.Packet.{Packet}
-use Rattle.bg_party.specs.Learns.{Continues, Holds}
+use Rattle.bg_party.specs.Takes.{Continues, Holds}
 use Rattle.bg_party.specs.declared.outcomes.Learned.{Learned}
 use Rattle.bg_party.specs.declared.outcomes.Learned.TheVariants as learns
 use Rattle.bg_world.specs.declared.events.Outcome.{Outcome}

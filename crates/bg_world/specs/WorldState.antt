@@ -5,12 +5,14 @@ use Rattle.bg_board.specs.declared.players.Player.TheVariants.{X, O}
 use Rattle.bg_match.specs.Match.{Log}
 use Rattle.bg_match.specs.Terms.{Terms}
 use Rattle.bg_match.specs.declared.entries.Entry.{Entry}
-use Rattle.bg_wire.specs.Codes.{first_watcher}
+use Rattle.bg_wire.specs.Codes.{seat_of_x, seat_of_o, first_watcher}
 use Rattle.bg_wire.specs.Restoring.{SlotsRestore}
 use Rattle.bg_wire.specs.SavedText.{SavedParts}
 use Rattle.bg_wire.specs.SlotLaws.{Slots}
 use Rattle.bg_referee.specs.Referee.{RefereeView}
-use Rattle.bg_party.specs.Views.{SeatView, WatcherView}
+use Rattle.bg_wire.specs.declared.packets.Datagram.{Datagram}
+use Rattle.bg_party.specs.Views.{FollowerView, SeatView, WatcherView, IsEarly}
+use Rattle.bg_world.specs.Datagrams.{WasShown}
 use Rattle.bg_world.specs.RestartStep.{restored_referee, restored_seat}
 use Rattle.bg_world.specs.Runs.{IsReached}
 use Rattle.bg_world.specs.Slots.{next_number}
@@ -103,8 +105,22 @@ pub record CoresMatch (w : WorldView) (r : Restorable) : Type 0 where
   pub o : SeatSide w.id w.terms O w.o w.o_keeper r.o
   pub watchers : WatchersMatch w.id w.terms w.watchers
 
--- a run leads to the state of the world, and its cores match that
+-- ---- what followers keep beside their records
+
+-- each early entry that the follower keeps stood under its number in entries that were sent to its party
+abbrev pub KeepsWhatWasShown : ℕ → List Datagram → ℕ → FollowerView → Type 0
+KeepsWhatWasShown id sent party f = (n : ℕ) (e : Entry) → IsEarly f n e → WasShown id sent party n e
+
+-- so it is of the seats that are up, and of the watchers
+pub record AllKeepWhatWasShown (w : WorldView) : Type 0 where
+  pub x : IfSome w.x (λ s. KeepsWhatWasShown w.id w.link.sent seat_of_x s.follower)
+  pub o : IfSome w.o (λ s. KeepsWhatWasShown w.id w.link.sent seat_of_o s.follower)
+  pub watchers : (index : ℕ) (core : WatcherView) → slice_get w.watchers index ≡ Some core
+      → KeepsWhatWasShown w.id w.link.sent (first_watcher + index) core.follower
+
+-- a run leads to the state of the world, its cores match that, and what they keep was shown to them
 pub record IsReachedWorld (w : WorldView) : Type 0 where
   pub restorable : Restorable
   pub reached : IsReached (state_of w restorable)
   pub cores : CoresMatch w restorable
+  pub early : AllKeepWhatWasShown w

@@ -1,0 +1,58 @@
+-- What followers keep was shown to them, whatever happens.
+use Rattle.std.specs.Prelude.{◌≡◌, ◌⊎◌, ℕ, zero, suc, ◌+◌, Bool, true, false, List, [], ◌++◌, Option, Some, None, IfSome, Result, Ok, Err, MatchOption, slice_get, slice_set}
+use Rattle.std.proofs.Common.{refl, sym, ◌∙◌, ap, subst, inl, inr, arith}
+use Rattle.std.proofs.lemmas.List.{append-nil}
+use Rattle.bg_board.specs.declared.players.Player.{Player}
+use Rattle.bg_board.specs.declared.players.Player.TheVariants.{X, O}
+use Rattle.bg_match.specs.declared.entries.Entry.{Entry}
+use Rattle.bg_wire.specs.Codes.{first_watcher}
+use Rattle.bg_wire.specs.Parties.{party_of}
+use Rattle.bg_wire.specs.declared.packets.Datagram.{Datagram}
+use Rattle.bg_wire.specs.declared.packets.Packet.{Packet}
+use Rattle.bg_wire.specs.declared.packets.Packet.TheVariants as packet
+use Rattle.bg_party.specs.Takes.{FollowerTakes, IsTold, Tells}
+use Rattle.bg_party.specs.Views.{FollowerView, IsEarly, SeatView, WatcherView}
+use Rattle.bg_party.specs.Window.{at_place}
+use Rattle.bg_world.specs.Datagrams.{WasSent, WasShown}
+use Rattle.bg_world.specs.Views.{KeeperView, LinkView, WorldView, seat_core, with_seat_core, with_seat_keeper}
+use Rattle.bg_world.specs.WorldState.{AllKeepWhatWasShown, KeepsWhatWasShown}
+use Rattle.bg_world.proofs.Growth.{stood_more}
+use Rattle.bg_world.proofs.Sides.{get_set_watcher}
+
+-- ---- one follower
+
+-- none keeps an entry at a place where none is
+no_place : (i : ℕ) (e : Entry) → at_place [] i ≡ Some e → ⊥
+no_place zero e h = cc
+no_place (suc i) e h = cc
+
+pub none_kept : (id : ℕ) (sent : List Datagram) (party : ℕ) (f : FollowerView) → f.early ≡ []
+    → KeepsWhatWasShown id sent party f
+none_kept id sent party f none n e h =
+    absurd (no_place h.0 e (subst (λ (l : List (Option Entry)). at_place l h.0 ≡ Some e) none h.2))
+
+-- what was shown stays known
+pub shown_more : (id : ℕ) (sent new out : List Datagram) (party : ℕ) (f : FollowerView) → new ≡ sent ++ out
+    → KeepsWhatWasShown id sent party f → KeepsWhatWasShown id new party f
+shown_more id sent new out party f more h n e early =
+    subst (λ (l : List Datagram). WasShown id l party n e) (sym more) (stood_more id sent out party n e (h n e early))
+
+-- what a packet that was sent to the party tells was shown to it
+told : (id match_id : ℕ) (sent : List Datagram) (party : ℕ) (p : Packet) (n : ℕ) (e : Entry) → match_id ≡ id
+    → WasSent sent party p → Tells match_id p n e → WasShown id sent party n e
+told id match_id sent party (packet.Entries i start list) n e same came h = record {
+  start = start;
+  list = list;
+  came = subst (λ (j : ℕ). WasSent sent party (packet.Entries j start list)) (h.0 ∙ same) came;
+  place = h.1.0;
+  number = sym h.1.1;
+  stands = h.1.2;
+}
+told id match_id sent party (packet.Want i sender held) n e same came h = absurd h
+told id match_id sent party (packet.Claim i sender m a) n e same came h = absurd h
+
+pub told_shown : (id : ℕ) (sent : List Datagram) (party : ℕ) (f : FollowerView) (p : Packet) (n : ℕ) (e : Entry)
+    → f.log.id ≡ id → WasSent sent party p → KeepsWhatWasShown id sent party f → IsTold f p n e
+    → WasShown id sent party n e
+told_shown id sent party f p n e same came kept (inl h) = told id f.log.id sent party p n e same came h
+told_shown id sent party f p n e same came kept (inr h) = kept n e h
