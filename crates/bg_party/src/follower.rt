@@ -136,8 +136,8 @@ impl Follower {
             return Learned::Conflict(number);
         }
         let Some(new) = not_held(&self.log, start, list) else {
-            self.window
-                .keep(usize::from(start - self.log.len() - 1), list);
+            let first = usize::from(start - self.log.len() - 1);
+            self.window.keep(first, list);
             return Learned::Gap;
         };
         if new.is_empty() {
