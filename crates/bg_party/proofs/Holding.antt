@@ -87,7 +87,7 @@ keeps_none old p learned.Memory new h = tt
 keeps_none old p (learned.Grew k) new h = λ c. absurd (h c)
 
 -- the coming entries begin with the new ones of the list, and these are among those that are appended
-grown_so_far : (f : FollowerView) (start : ℕ) (list : List Entry) (k : ℕ) → GrowsBy f start list k
+pub grown_so_far : (f : FollowerView) (start : ℕ) (list : List Entry) (k : ℕ) → GrowsBy f start list k
     → (rest : List Entry) × (f.log.entries ++ take k (coming f start list) ≡ (f.log.entries ++ new_entries f.log.entries start list) ++ rest)
 grown_so_far f start list k h =
     let new = new_entries f.log.entries start list in

@@ -63,7 +63,7 @@ place_unbroken (Some x ∷ rest) zero e at = at
 place_unbroken (Some x ∷ rest) (suc j) e at = place_unbroken rest j e at
 
 -- each of the coming entries was told
-coming_told : (f : FollowerView) (id start : ℕ) (list : List Entry) (j : ℕ) (e : Entry) → id ≡ f.log.id → start ≤ length f.log.entries + 1
+pub coming_told : (f : FollowerView) (id start : ℕ) (list : List Entry) (j : ℕ) (e : Entry) → id ≡ f.log.id → start ≤ length f.log.entries + 1
     → slice_get (coming f start list) j ≡ Some e → IsTold f (packet.Entries id start list) (length f.log.entries + 1 + j) e
 coming_told f id start list j e same joins at =
     let new = new_entries f.log.entries start list in

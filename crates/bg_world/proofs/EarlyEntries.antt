@@ -1,7 +1,6 @@
 -- What followers keep was shown to them, whatever happens.
-use Rattle.std.specs.Prelude.{◌≡◌, ◌⊎◌, ℕ, zero, suc, ◌+◌, Bool, true, false, List, [], ◌++◌, Option, Some, None, IfSome, Result, Ok, Err, MatchOption, slice_get, slice_set}
-use Rattle.std.proofs.Common.{refl, sym, ◌∙◌, ap, subst, inl, inr, arith}
-use Rattle.std.proofs.lemmas.List.{append-nil}
+use Rattle.std.specs.Prelude.{◌≡◌, ◌⊎◌, ℕ, zero, suc, ◌+◌, List, [], ◌++◌, Option, Some, None, IfSome, slice_get}
+use Rattle.std.proofs.Common.{sym, ◌∙◌, subst, inl, inr}
 use Rattle.bg_board.specs.declared.players.Player.{Player}
 use Rattle.bg_board.specs.declared.players.Player.TheVariants.{X, O}
 use Rattle.bg_match.specs.declared.entries.Entry.{Entry}
@@ -10,14 +9,13 @@ use Rattle.bg_wire.specs.Parties.{party_of}
 use Rattle.bg_wire.specs.declared.packets.Datagram.{Datagram}
 use Rattle.bg_wire.specs.declared.packets.Packet.{Packet}
 use Rattle.bg_wire.specs.declared.packets.Packet.TheVariants as packet
-use Rattle.bg_party.specs.Takes.{FollowerTakes, IsTold, Tells}
-use Rattle.bg_party.specs.Views.{FollowerView, IsEarly, SeatView, WatcherView}
+use Rattle.bg_party.specs.Takes.{IsTold, Tells}
+use Rattle.bg_party.specs.Views.{FollowerView, SeatView, WatcherView}
 use Rattle.bg_party.specs.Window.{at_place}
 use Rattle.bg_world.specs.Datagrams.{WasSent, WasShown}
-use Rattle.bg_world.specs.Views.{KeeperView, LinkView, WorldView, seat_core, with_seat_core, with_seat_keeper}
+use Rattle.bg_world.specs.Views.{WorldView, seat_core}
 use Rattle.bg_world.specs.WorldState.{AllKeepWhatWasShown, KeepsWhatWasShown}
 use Rattle.bg_world.proofs.Growth.{stood_more}
-use Rattle.bg_world.proofs.Sides.{get_set_watcher}
 
 -- ---- one follower
 
@@ -56,3 +54,17 @@ pub told_shown : (id : ℕ) (sent : List Datagram) (party : ℕ) (f : FollowerVi
     → WasShown id sent party n e
 told_shown id sent party f p n e same came kept (inl h) = told id f.log.id sent party p n e same came h
 told_shown id sent party f p n e same came kept (inr h) = kept n e h
+
+-- ---- the followers of a world
+
+pub seat_keeps : (w : WorldView) (q : Player) (s : SeatView) → AllKeepWhatWasShown w → seat_core w q ≡ Some s
+    → KeepsWhatWasShown w.id w.link.sent (party_of q) s.follower
+seat_keeps w X s kept is =
+    subst (λ (x : Option SeatView). IfSome x (λ s. KeepsWhatWasShown w.id w.link.sent 1 s.follower)) is kept.x
+seat_keeps w O s kept is =
+    subst (λ (x : Option SeatView). IfSome x (λ s. KeepsWhatWasShown w.id w.link.sent 2 s.follower)) is kept.o
+
+pub watcher_keeps : (w : WorldView) (i party : ℕ) (f : WatcherView) → AllKeepWhatWasShown w → party ≡ first_watcher + i
+    → slice_get w.watchers i ≡ Some f → KeepsWhatWasShown w.id w.link.sent party f.follower
+watcher_keeps w i party f kept is_party is =
+    subst (λ (n : ℕ). KeepsWhatWasShown w.id w.link.sent n f.follower) (sym is_party) (kept.watchers i f is)

@@ -12,7 +12,7 @@ use Rattle.bg_world.specs.declared.events.Outcome.{Outcome}
 use Rattle.bg_world.specs.declared.events.Outcome.TheVariants as outcomes
 use Rattle.bg_world.specs.declared.roles.Role.TheVariants as roles
 use Rattle.bg_world.specs.State.{SeatState, State}
-use Rattle.bg_world.specs.WorldState.{CoresMatch, Restorable, SeatSide, restorable_of, seat_state, state_of, watcher_log}
+use Rattle.bg_world.specs.WorldState.{AllKeepWhatWasShown, CoresMatch, Restorable, SeatSide, restorable_of, seat_state, state_of, watcher_log}
 use Rattle.bg_world.specs.LinkCalls.{FollowerTakeCalls}
 use Rattle.bg_world.specs.FollowerTakeStep.{FollowerTakeStep}
 use Rattle.bg_world.specs.Calls.{NoCalls, SeatTakes, TakeCalls, WatcherTakes}
@@ -20,6 +20,7 @@ use Rattle.bg_world.specs.Views.{LinkView, WorldView, seat_core, seat_keeper, wi
 use Rattle.bg_world.specs.Frames.{NoParty, SeatIfUp}
 use Rattle.bg_world.specs.TakeStep.{TakeStep}
 use Rattle.bg_world.proofs.Sides.{seat_side, seat_moves, watchers_match, get_log, set_log}
+use Rattle.bg_world.proofs.EarlyEntries.{seat_keeps, watcher_keeps}
 use Rattle.bg_world.proofs.LearnRows.{seat_takes, watcher_takes}
 
 -- ---- a seat
@@ -35,10 +36,10 @@ abbrev SeatTook : WorldView → Restorable → Player → ℕ → Outcome → Wo
 SeatTook w c q word x n = TakeStep (state_of w c) (roles.Seat q) word x (state_of n c) × CoresMatch n c
 
 pub take_seat_goes : (w : WorldView) (c : Restorable) (honest : Type 0) → honest
-    → (q : Player) (pick word : ℕ) (o : Outcome) (new : WorldView) → CoresMatch w c
+    → (q : Player) (pick word : ℕ) (o : Outcome) (new : WorldView) → CoresMatch w c → AllKeepWhatWasShown w
     → TakeCalls honest w (roles.Seat q) (party_of q) pick word o new
     → TakeStep (state_of w c) (roles.Seat q) word o (state_of new c) × CoresMatch new c
-take_seat_goes w c honest is_honest q pick word o new fits h = at (seat_core w q) (seat_side w c q fits) refl h
+take_seat_goes w c honest is_honest q pick word o new fits kept h = at (seat_core w q) (seat_side w c q fits) refl h
   where
     moved : (x : Outcome) (n : LinkView) (s : Option SeatView) → n.sent ≡ w.link.sent
         → SeatTakeRow (state_of w c) q x (seat_state (seat_core w q) (seat_keeper w q).slots (restorable_of c q))
@@ -68,7 +69,8 @@ take_seat_goes w c honest is_honest q pick word o new fits h = at (seat_core w q
         down None e = (refl, refl)
         down (Some s) e = absurd cc
     at (Some s) side is k =
-        let t = seat_takes w.id w.terms honest is_honest (party_of q) pick w.link k.0 s o k.1 side.1.log k.2 in
+        let t = seat_takes w.id w.terms honest is_honest (party_of q) pick w.link k.0 s o k.1 side.1.log
+        (seat_keeps w q s kept is) k.2 in
         subst (SeatTook w c q word o) (sym k.3) (moved o k.0 (Some k.1) t.2
         (subst (λ (x : Option SeatView). SeatTakeRow (state_of w c) q o
         (seat_state x (seat_keeper w q).slots (restorable_of c q))
@@ -89,9 +91,9 @@ take_seat_goes w c honest is_honest q pick word o new fits h = at (seat_core w q
 
 pub take_watcher_goes : (w : WorldView) (c : Restorable) (honest : Type 0) → honest
     → (i party pick word : ℕ) (o : Outcome) (new : WorldView) → party ≡ first_watcher + i → CoresMatch w c
-    → TakeCalls honest w (roles.Watcher i) party pick word o new
+    → AllKeepWhatWasShown w → TakeCalls honest w (roles.Watcher i) party pick word o new
     → TakeStep (state_of w c) (roles.Watcher i) word o (state_of new c) × CoresMatch new c
-take_watcher_goes w c honest is_honest i party pick word o new is_party fits h = at (slice_get w.watchers i) refl h
+take_watcher_goes w c honest is_honest i party pick word o new is_party fits kept h = at (slice_get w.watchers i) refl h
   where
     at : (f : Option WatcherView) → slice_get w.watchers i ≡ f
         → MatchOption f (NoCalls outcomes.NoSuchParty w o new)
@@ -108,7 +110,8 @@ take_watcher_goes w c honest is_honest i party pick word o new is_party fits h =
     )
     at (Some f) is k =
         let fit = fits.watchers i f is in
-        let t = watcher_takes w.id w.terms honest is_honest party pick w.link k.0 f o k.1 fit.log k.2 in
+        let t = watcher_takes w.id w.terms honest is_honest party pick w.link k.0 f o k.1 fit.log
+        (watcher_keeps w i party f kept is_party is) k.2 in
         let row = subst (λ (p : ℕ). FollowerTakeStep w.id w.terms w.link.sent p o f.follower.log.entries
         (k.1).follower.log.entries) is_party t.0.0 in
         let after : state_of new c ≡ record

@@ -14,11 +14,13 @@ use Rattle.bg_world.specs.Runs.{Run}
 use Rattle.bg_world.specs.Step.{Step}
 use Rattle.bg_world.specs.Views.{WorldView}
 use Rattle.bg_world.specs.WorldRuns.{CallsAll, RunsAll, RunsCalls, RunsProtocol, StepsProtocol}
-use Rattle.bg_world.specs.WorldState.{CoresMatch, IsReachedWorld, Restorable, state_of}
+use Rattle.bg_world.specs.WorldState.{AllKeepWhatWasShown, CoresMatch, IsReachedWorld, Restorable, state_of}
 use Rattle.bg_world.proofs.Invariant.{Inv}
 use Rattle.bg_world.proofs.Reached.{reached, reached_more}
 use Rattle.bg_world.proofs.DueRows.{due_goes}
 use Rattle.bg_world.proofs.RefereeRows.{take_referee_goes}
+use Rattle.bg_world.proofs.EarlyRows.{still_keep}
+use Rattle.bg_world.proofs.Growth.{step_grows}
 use Rattle.bg_world.proofs.FollowerRows.{take_seat_goes, take_watcher_goes}
 use Rattle.bg_world.proofs.ChooseRows.{choose_goes}
 use Rattle.bg_world.proofs.SaveRows.{save_referee_goes, save_seat_goes}
@@ -31,7 +33,7 @@ watching i = omega arith
 
 module _ (w : WorldView) (c : Restorable) (link_honest keepers_honest : Type 0) (link : link_honest)
     (keepers : keepers_honest)
-    (fits : CoresMatch w c) (inv : Inv (state_of w c)) where
+    (fits : CoresMatch w c) (kept : AllKeepWhatWasShown w) (inv : Inv (state_of w c)) where
   -- what the slots restore stays
   stays : (e : Event) (o : Outcome) (new : WorldView) → Step (state_of w c) e o (state_of new c) × CoresMatch new c
       → StepsTo w c e o new
@@ -46,12 +48,12 @@ module _ (w : WorldView) (c : Restorable) (link_honest keepers_honest : Type 0) 
       → TakeCalls link_honest w (role party) party pick word o new → StepsTo w c (events.Take party pick word) o new
   take_goes zero pick word o new h = take_referee_goes w c link_honest link 0 pick word o new fits inv h
   take_goes (suc zero) pick word o new h =
-      stays (events.Take 1 pick word) o new (take_seat_goes w c link_honest link X pick word o new fits h)
+      stays (events.Take 1 pick word) o new (take_seat_goes w c link_honest link X pick word o new fits kept h)
   take_goes (suc (suc zero)) pick word o new h =
-      stays (events.Take 2 pick word) o new (take_seat_goes w c link_honest link O pick word o new fits h)
+      stays (events.Take 2 pick word) o new (take_seat_goes w c link_honest link O pick word o new fits kept h)
   take_goes (suc (suc (suc i))) pick word o new h =
       stays (events.Take (suc (suc (suc i))) pick word) o new
-      (take_watcher_goes w c link_honest link i (suc (suc (suc i))) pick word o new (watching i) fits h)
+      (take_watcher_goes w c link_honest link i (suc (suc (suc i))) pick word o new (watching i) fits kept h)
 
   save_goes : (party : ℕ) (o : Outcome) (new : WorldView) → SaveCalls keepers_honest w (role party) o new
       → StepsTo w c (events.Save party) o new
@@ -101,12 +103,15 @@ pub goes : (link_honest keepers_honest : Type 0) (old : WorldView) (event : Even
     → StepsProtocol old event result new
 goes link_honest keepers_honest old event result new calls link keepers before =
     let w = state_of old before.restorable in
-    let to = step_goes old before.restorable link_honest keepers_honest link keepers before.cores
-    (reached w before.reached) event result new calls in (
+    let to = step_goes old before.restorable link_honest keepers_honest link keepers before.cores before.early
+    (reached w before.reached) event result new calls in
+    let grows = step_grows w event result (state_of new to.restorable) to.step in (
       record {
         restorable = to.restorable;
         reached = reached_more w event result (state_of new to.restorable) before.reached to.step;
         cores = to.cores;
+        early = still_keep old before.restorable link_honest keepers_honest link before.cores before.early new grows.0
+            grows.1 event result calls;
       },
       to.step,
     )

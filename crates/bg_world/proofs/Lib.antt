@@ -13,8 +13,10 @@ pub mod Sides
 pub mod Hands
 pub mod DueRows
 pub mod RefereeRows
+pub mod EarlyEntries
 pub mod LearnRows
 pub mod FollowerRows
+pub mod EarlyRows
 pub mod ChooseRows
 pub mod SaveCases
 pub mod SaveRows

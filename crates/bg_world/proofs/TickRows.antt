@@ -1,5 +1,6 @@
 -- What a party sends unasked is a row of the protocol.
-use Rattle.std.specs.Prelude.{◌≡◌, ℕ, zero, suc, ◌+◌, ◌<◌, Bool, true, false, List, [], ◌∷◌, Option, Some, None, MatchOption, option_map, slice_get, slice_set}
+use Rattle.std.specs.Prelude.{◌≡◌, ℕ, zero, suc, ◌+◌, ◌<◌, ◌≤◌, Bool, true, false, List, [], ◌∷◌, Option, Some, None, MatchOption, option_map, map, length, slice_get, slice_set, if◌then◌else◌}
+use Rattle.std.specs.List.{AllByRecursion}
 use Rattle.std.proofs.Common.{refl, sym, ◌∙◌, ap, ap₂, subst, arith}
 use Rattle.std.proofs.lemmas.Option.{same_Some}
 use Rattle.bg_board.specs.declared.players.Player.{Player}
@@ -14,7 +15,8 @@ use Rattle.bg_wire.specs.Parties.{party_of}
 use Rattle.bg_wire.specs.SavedText.{SavedParts}
 use Rattle.bg_wire.specs.Codes.{first_watcher, referee}
 use Rattle.bg_referee.specs.Referee.{RefereeView}
-use Rattle.bg_party.specs.Claims.{SeatTicks, WatcherTicks, packet_of_seat, want_of}
+use Rattle.bg_party.specs.Claims.{SeatTicks, WatcherTicks, packet_of_seat, ticked, want_of}
+use Rattle.bg_party.specs.Retry.{is_due}
 use Rattle.bg_party.specs.Views.{SeatView, WatcherView}
 use Rattle.bg_world.specs.declared.events.Event.TheVariants as events
 use Rattle.bg_world.specs.declared.events.Outcome.{Outcome}
@@ -31,7 +33,7 @@ use Rattle.bg_world.specs.Views.{LinkView, WorldView, parties, seat_core, seat_k
 use Rattle.bg_world.specs.Frames.{IfUp, NoParty}
 use Rattle.bg_world.specs.DeviceCalls.{datagram_of}
 use Rattle.bg_world.proofs.Hands.{carries}
-use Rattle.bg_world.proofs.Sides.{StepsTo, goes_at, seat_side, get_log}
+use Rattle.bg_world.proofs.Sides.{StepsTo, goes_at, seat_side, watchers_match, get_log, set_log}
 use Rattle.bg_world.proofs.SendCases.{sends_all, ticks_row}
 
 -- ---- the referee
@@ -66,6 +68,19 @@ tick_referee_goes w c honest is_honest o new fits h = at w.referee fits h
           cores = record { referee = f.referee; x = f.x; o = f.o; watchers = f.watchers };
         })
 
+-- ---- a follower, who sends one packet at most
+
+may_send_when : (due : Bool) (many : ℕ) (p : Packet) (may : Datagram → Type 0)
+    → (referee < many → IsPacket p → may (datagram_of referee p))
+    → AllByRecursion (λ q. q.0 < many → IsPacket q.1 → may (datagram_of q.0 q.1))
+    (to_referee (if due then Some p else None))
+may_send_when true many p may h = (h, tt)
+may_send_when false many p may h = tt
+
+one_at_most : (due : Bool) (p : Packet) → length (to_referee (if due then Some p else None)) ≤ 2
+one_at_most true p = omega arith
+one_at_most false p = omega arith
+
 -- ---- a seat
 
 -- what a seat's core sends is what the protocol says
@@ -90,19 +105,44 @@ SeatTickRow v q old o u =
     IfUp old.up v o u (Sends (λ d. Carries d referee
     (seat_packet v.id (party_of q) old.log old.claim old.claim_saved)) v o u)
 
+-- a tick later the seat is the same, but for when it sends
+ticked_seat : SeatView → SeatView
+ticked_seat s = record s { follower = ticked s.follower }
+
+ticked_state : (w : WorldView) (c : Restorable) (n : LinkView) (q : Player) (s : SeatView) → seat_core w q ≡ Some s
+    → state_of (with_seat_core (record w { link = n }) q (Some (ticked_seat s))) c
+    ≡ record (state_of w c) { sent = n.sent }
+unfolding ticked_seat
+ticked_state w c n X s is =
+    ap (λ (x : Option SeatView). record (state_of w c) { x = seat_state x w.x_keeper.slots c.x; sent = n.sent })
+    (sym is)
+ticked_state w c n O s is =
+    ap (λ (x : Option SeatView). record (state_of w c) { o = seat_state x w.o_keeper.slots c.o; sent = n.sent })
+    (sym is)
+
+ticked_matches : (w : WorldView) (c : Restorable) (n : LinkView) (q : Player) (s : SeatView) → CoresMatch w c
+    → SeatMatches w.id w.terms q (restorable_of c q) s
+    → CoresMatch (with_seat_core (record w { link = n }) q (Some (ticked_seat s))) c
+unfolding ticked_seat
+ticked_matches w c n X s fits m = record {
+  referee = fits.referee;
+  x = (fits.x.0, record { sits_for = m.sits_for; log = m.log; next = m.next });
+  o = fits.o;
+  watchers = fits.watchers;
+}
+ticked_matches w c n O s fits m = record {
+  referee = fits.referee;
+  x = fits.x;
+  o = (fits.o.0, record { sits_for = m.sits_for; log = m.log; next = m.next });
+  watchers = fits.watchers;
+}
+
 pub tick_seat_goes : (w : WorldView) (c : Restorable) (honest : Type 0) → honest
     → (q : Player) (o : Outcome) (new : WorldView) → CoresMatch w c → TickCalls honest w (roles.Seat q) o new
     → TickStep (state_of w c) (roles.Seat q) o (state_of new c) × CoresMatch new c
+unfolding ticked_seat
 tick_seat_goes w c honest is_honest q o new fits h = at (seat_core w q) (seat_side w c q fits) refl h
   where
-    same_seat : (p : Player) (u : WorldView) (s : Option SeatView) → s ≡ seat_core u p → with_seat_core u p s ≡ u
-    same_seat X u s e = ap (λ (x : Option SeatView). record u { x = x }) e
-    same_seat O u s e = ap (λ (x : Option SeatView). record u { o = x }) e
-
-    kept_seat : (p : Player) (n : LinkView) → seat_core w p ≡ seat_core (record w { link = n }) p
-    kept_seat X n = refl
-    kept_seat O n = refl
-
     lift : (p : Player) (u : State)
         → SeatTickRow (state_of w c) p (seat_state (seat_core w p) (seat_keeper w p).slots (restorable_of c p)) o u
         → TickStep (state_of w c) (roles.Seat p) o u
@@ -122,6 +162,7 @@ tick_seat_goes w c honest is_honest q o new fits h = at (seat_core w q) (seat_si
     )
     at (Some s) side is k =
         let p = seat_packet w.id (party_of q) s.follower.log.entries s.claim s.claim_saved in
+        let due = is_due s.follower.retry in
         let may : Datagram → Type 0 = λ d. Carries d referee p in
         let may_go : referee < parties w → IsPacket (packet_of_seat s) → Carries
         (datagram_of referee (packet_of_seat s)) referee p =
@@ -131,17 +172,17 @@ tick_seat_goes w c honest is_honest q o new fits h = at (seat_core w q) (seat_si
         let ticks = k.2.1 in
         let one = subst (λ (x : Option Packet). SendCalls honest (parties w) 0 w.link
         (to_referee x) o k.0) ticks.packet k.2.2 in
-        let went = sends_all honest is_honest (parties w) may 0 w.link ((referee, packet_of_seat s) ∷ []) o k.0
-        (may_go, tt) one in
-        let same : new ≡ record w { link = k.0 } =
-        k.3 ∙ same_seat q (record w { link = k.0 }) (Some k.1)
-        (ap (λ (x : SeatView). Some x) ticks.after ∙ sym is ∙ kept_seat q k.0) in
-        let row = ticks_row may 1 (state_of w c) (state_of new c) (k.0).sent o (omega arith) went
-        (ap (λ (x : WorldView). state_of x c) same) in (
+        let went = sends_all honest is_honest (parties w) may 0 w.link
+        (to_referee (if due then Some (packet_of_seat s) else None)) o k.0
+        (may_send_when due (parties w) (packet_of_seat s) may may_go) one in
+        let same : new ≡ with_seat_core (record w { link = k.0 }) q (Some (ticked_seat s)) =
+        k.3 ∙ ap (λ (x : SeatView). with_seat_core (record w { link = k.0 }) q (Some x)) ticks.after in
+        let row = ticks_row may (length (to_referee (if due then Some (packet_of_seat s) else None))) (state_of w c)
+        (state_of new c) (k.0).sent o (one_at_most due (packet_of_seat s)) went
+        (ap (λ (x : WorldView). state_of x c) same ∙ ticked_state w c k.0 q s is) in (
           lift q (state_of new c) (subst (λ (x : Option SeatView). SeatTickRow (state_of w c) q
               (seat_state x (seat_keeper w q).slots (restorable_of c q)) o (state_of new c)) (sym is) row),
-          subst (λ (x : WorldView). CoresMatch x c) (sym same)
-              (record { referee = fits.referee; x = fits.x; o = fits.o; watchers = fits.watchers }),
+          subst (λ (x : WorldView). CoresMatch x c) (sym same) (ticked_matches w c k.0 q s fits side.1),
         )
 
 -- ---- a watcher
@@ -152,9 +193,21 @@ set_same [] i f e = refl
 set_same (x ∷ xs) zero f e = let same : x ≡ f = same_Some x f e in ap (λ (y : WatcherView). y ∷ xs) (sym same)
 set_same (x ∷ xs) (suc i) f e = ap (λ (l : List WatcherView). x ∷ l) (set_same xs i f e)
 
+-- a tick later the watcher is the same, but for when it sends
+ticked_watcher : WatcherView → WatcherView
+ticked_watcher f = record f { follower = ticked f.follower }
+
+ticked_logs : (watchers : List WatcherView) (i : ℕ) (f : WatcherView) → slice_get watchers i ≡ Some f
+    → map watcher_log (slice_set watchers i (ticked_watcher f)) ≡ map watcher_log watchers
+unfolding ticked_watcher
+ticked_logs watchers i f is =
+    set_log watchers i (ticked_watcher f) ∙ sym (set_log watchers i f)
+    ∙ ap (map watcher_log) (set_same watchers i f is)
+
 pub tick_watcher_goes : (w : WorldView) (c : Restorable) (honest : Type 0) → honest
     → (i : ℕ) (o : Outcome) (new : WorldView) → CoresMatch w c → TickCalls honest w (roles.Watcher i) o new
     → TickStep (state_of w c) (roles.Watcher i) o (state_of new c) × CoresMatch new c
+unfolding ticked_watcher
 tick_watcher_goes w c honest is_honest i o new fits h = at (slice_get w.watchers i) refl h
   where
     lift : (f : Option WatcherView) → slice_get w.watchers i ≡ f
@@ -190,16 +243,25 @@ tick_watcher_goes w c honest is_honest i o new fits h = at (slice_get w.watchers
         (datagram_of referee (want_of f.party log)) referee x) same_packet
         (carries referee (want_of f.party log) range) in
         let ticks = k.2.1 in
+        let due = is_due f.follower.retry in
         let one = subst (λ (x : Option Packet). SendCalls honest (parties w) 0 w.link
         (to_referee x) o k.0) ticks.packet k.2.2 in
-        let went = sends_all honest is_honest (parties w) may 0 w.link ((referee, want_of f.party log) ∷ []) o k.0
-        (may_go, tt) one in
-        let same : new ≡ record w { link = k.0 } =
-        k.3 ∙ ap (λ (l : List WatcherView). record w { link = k.0; watchers = l })
-        (ap (λ (x : WatcherView). slice_set w.watchers i x) ticks.after ∙ set_same w.watchers i f is) in
-        let row = ticks_row may 1 (state_of w c) (state_of new c) (k.0).sent o (omega arith) went
-        (ap (λ (x : WorldView). state_of x c) same) in (
+        let went = sends_all honest is_honest (parties w) may 0 w.link
+        (to_referee (if due then Some (want_of f.party log) else None)) o k.0
+        (may_send_when due (parties w) (want_of f.party log) may may_go) one in
+        let same : new ≡ record w { link = k.0; watchers = slice_set w.watchers i (ticked_watcher f) } =
+        k.3 ∙ ap (λ (x : WatcherView). record w { link = k.0; watchers = slice_set w.watchers i x }) ticks.after in
+        let row = ticks_row may (length (to_referee (if due then Some (want_of f.party log) else None))) (state_of w c)
+        (state_of new c) (k.0).sent o (one_at_most due (want_of f.party log)) went
+        (ap (λ (x : WorldView). state_of x c) same
+        ∙ ap (λ (l : List (List Entry)). record (state_of w c) { watchers = l; sent = (k.0).sent })
+        (ticked_logs w.watchers i f is)) in (
           lift (Some f) is row,
-          subst (λ (x : WorldView). CoresMatch x c) (sym same)
-              (record { referee = fits.referee; x = fits.x; o = fits.o; watchers = fits.watchers }),
+          subst (λ (x : WorldView). CoresMatch x c) (sym same) (record {
+            referee = fits.referee;
+            x = fits.x;
+            o = fits.o;
+            watchers = watchers_match w.id w.terms w.watchers i (ticked_watcher f) fits.watchers
+                (record { party = fit.party; log = fit.log });
+          }),
         )
