@@ -1,5 +1,5 @@
 -- What followers keep was shown to them, whatever happens.
-use Rattle.std.specs.Prelude.{◌≡◌, ◌⊎◌, ℕ, zero, suc, ◌+◌, List, [], ◌++◌, Option, Some, None, IfSome, slice_get}
+use Rattle.std.specs.Prelude.{◌≡◌, ℕ, zero, suc, ◌+◌, List, [], ◌++◌, Option, Some, IfSome, slice_get}
 use Rattle.std.proofs.Common.{sym, ◌∙◌, subst, inl, inr}
 use Rattle.bg_board.specs.declared.players.Player.{Player}
 use Rattle.bg_board.specs.declared.players.Player.TheVariants.{X, O}

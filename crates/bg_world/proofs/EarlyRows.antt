@@ -7,7 +7,6 @@ use Rattle.bg_board.specs.declared.players.Player.TheVariants.{X, O}
 use Rattle.bg_match.specs.declared.actions.Action.{Action}
 use Rattle.bg_wire.specs.Codes.{first_watcher}
 use Rattle.bg_wire.specs.Parties.{party_of}
-use Rattle.bg_wire.specs.SavedText.{SavedParts}
 use Rattle.bg_wire.specs.declared.faults.SaveRefusal.{SaveRefusal}
 use Rattle.bg_wire.specs.declared.faults.SaveRefusal.TheVariants as save_refusals
 use Rattle.bg_wire.specs.declared.packets.Datagram.{Datagram}
@@ -17,7 +16,7 @@ use Rattle.bg_referee.specs.Dues.{RefereeDues}
 use Rattle.bg_referee.specs.Referee.{RefereeView}
 use Rattle.bg_referee.specs.declared.outcomes.DueFault.{DueFault}
 use Rattle.bg_party.specs.Claims.{SeatChooses, SeatTicks, WatcherTicks}
-use Rattle.bg_party.specs.Views.{FollowerView, SeatView, WatcherView, fresh_seat, fresh_watcher, resumed_seat, seat_after_save}
+use Rattle.bg_party.specs.Views.{SeatView, WatcherView, fresh_seat, fresh_watcher, resumed_seat, seat_after_save}
 use Rattle.bg_party.specs.declared.outcomes.ChooseFault.{ChooseFault}
 use Rattle.bg_world.specs.declared.devices.DeviceFault.{DeviceFault}
 use Rattle.bg_world.specs.declared.events.Event.{Event}

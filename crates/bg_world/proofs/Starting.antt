@@ -10,13 +10,14 @@ use Rattle.bg_wire.specs.Restoring.{SlotsRestore}
 use Rattle.bg_wire.specs.SlotLaws.{Slots}
 use Rattle.bg_wire.specs.declared.packets.Datagram.{Datagram}
 use Rattle.bg_wire.proofs.OneText.{empty_loads}
-use Rattle.bg_party.specs.Views.{WatcherView, fresh_watcher}
+use Rattle.bg_party.specs.Views.{WatcherView, fresh_follower, fresh_watcher}
 use Rattle.bg_world.specs.declared.setups.Setup.{Setup}
 use Rattle.bg_world.specs.Slots.{empty_slots}
 use Rattle.bg_world.specs.Starts.{AreUnused, fresh_watchers, start_of}
 use Rattle.bg_world.specs.State.{IsSetup, start}
 use Rattle.bg_world.specs.Views.{KeeperView, LinkView, WorldView}
 use Rattle.bg_world.specs.WorldState.{CoresMatch, IsReachedWorld, Restorable, WatcherMatches, WatchersMatch, state_of, watcher_log}
+use Rattle.bg_world.proofs.EarlyEntries.{none_kept}
 
 -- ---- the watchers
 
@@ -70,6 +71,20 @@ fresh_match id terms (suc n) i f h =
           log = (refl, refl);
         })
 
+fresh_keep : (id : ℕ) (terms : Terms) (n i : ℕ) (f : WatcherView)
+    → slice_get (fresh_watchers id terms n) i ≡ Some f → f.follower.early ≡ []
+fresh_keep id terms zero i f h = absurd cc
+fresh_keep id terms (suc n) i f h =
+    at (fresh_keep id terms n i f)
+    (get_last (fresh_watchers id terms n) (fresh_watcher (first_watcher + n) id terms) i f h)
+  where
+    at : (slice_get (fresh_watchers id terms n) i ≡ Some f → f.follower.early ≡ [])
+        → (slice_get (fresh_watchers id terms n) i ≡ Some f) ⊎
+        ((i ≡ length (fresh_watchers id terms n)) × (f ≡ fresh_watcher (first_watcher + n) id terms))
+        → f.follower.early ≡ []
+    at before (inl p) = before p
+    at before (inr p) = ap (λ (x : WatcherView). x.follower.early) p.1
+
 -- ---- the world
 
 nothing_restored : (slots : Slots) → slots ≡ empty_slots → SlotsRestore slots.zero slots.one None
@@ -121,6 +136,12 @@ module _ (setup : Setup) (link : LinkView) (referee x o : KeeperView) (no_sent :
       run = start_is;
     };
     cores = start_matches;
+    early = record {
+      x = none_kept setup.id link.sent 1 (fresh_follower setup.id setup.length) refl;
+      o = none_kept setup.id link.sent 2 (fresh_follower setup.id setup.length) refl;
+      watchers = λ i f is. none_kept setup.id link.sent (first_watcher + i) f.follower
+          (fresh_keep setup.id setup.length setup.watchers i f is);
+    };
   }
 
   pub start_state : (is : IsSetup setup.id setup.length setup.watchers)
