@@ -87,12 +87,13 @@ const THE_DRAWN_RUN: [Row; 21] = [
     (Happens::Tick(1), ComesTo::Sent(1)),
     (Happens::Take(0, 4, 0), ComesTo::Accepted(2)),
     (Happens::Save(0), ComesTo::Saved(2)),
+    (Happens::Tick(1), ComesTo::Sent(0)),
     (Happens::Tick(1), ComesTo::Sent(1)),
-    (Happens::Take(0, 5, 0), ComesTo::Answer(1, 2, 1)),
 ];
 
 /// X learns his move, and then the lost answer arrives: it tells him nothing new.
-const THE_END_OF_THE_DRAWN_RUN: [Row; 2] = [
+const THE_END_OF_THE_DRAWN_RUN: [Row; 3] = [
+    (Happens::Take(0, 5, 0), ComesTo::Answer(1, 2, 1)),
     (Happens::Take(1, 2, 0), ComesTo::Learned(1)),
     (Happens::Take(1, 0, 0), ComesTo::LearnedNothing),
 ];

@@ -71,13 +71,30 @@ pub(crate) const WITH_A_WATCHER: [Row; 16] = [
     (Happens::Take(3, 1, 0), ComesTo::Learned(1)),
 ];
 
-/// The watcher restarts, and is handed a datagram of its earlier life.
-const AN_EARLIER_LIFE: [Row; 5] = [
+/// The watcher restarts, and is handed the datagrams of its earlier life in the other order: it keeps the later one
+/// until the earlier one comes. After another restart it has it no more.
+const AN_EARLIER_LIFE: [Row; 8] = [
+    (Happens::Restart(3), ComesTo::Restarted),
+    (Happens::Take(3, 1, 0), ComesTo::Gap),
+    (Happens::Take(3, 0, 0), ComesTo::Learned(2)),
     (Happens::Restart(3), ComesTo::Restarted),
     (Happens::Take(3, 1, 0), ComesTo::Gap),
     (Happens::Tick(3), ComesTo::Sent(1)),
     (Happens::Take(0, 4, 0), ComesTo::Answer(3, 1, 2)),
     (Happens::Take(3, 2, 0), ComesTo::Learned(2)),
+];
+
+/// Nothing comes to the watcher: it asks ever more seldom.
+const A_WATCHER_ALONE: [Row; 9] = [
+    (Happens::Tick(3), ComesTo::Sent(1)),
+    (Happens::Tick(3), ComesTo::Sent(1)),
+    (Happens::Tick(3), ComesTo::Sent(0)),
+    (Happens::Tick(3), ComesTo::Sent(1)),
+    (Happens::Tick(3), ComesTo::Sent(0)),
+    (Happens::Tick(3), ComesTo::Sent(0)),
+    (Happens::Tick(3), ComesTo::Sent(0)),
+    (Happens::Tick(3), ComesTo::Sent(1)),
+    (Happens::Tick(3), ComesTo::Sent(0)),
 ];
 
 /// The claim of the move in match 1.
@@ -99,6 +116,14 @@ fn a_turn_with_a_watcher(rt: HostRuntime) -> Result<(), Fail> {
     assert!(rt; counts == [Some(2), Some(1), Some(0), Some(2)]);
     assert!(rt; held(&world, 4).is_none());
     check_rows(&rt, &mut world, &AN_EARLIER_LIFE);
+    Ok(())
+}
+
+#[test]
+fn a_watcher_alone(rt: HostRuntime) -> Result<(), Fail> {
+    let mut world = world(rt.alloc(), 1, 1, NO_FAILURE)?;
+    check_rows(&rt, &mut world, &A_WATCHER_ALONE);
+    assert!(rt; world.link().sent_to(0) == 4);
     Ok(())
 }
 
