@@ -1,8 +1,13 @@
 -- Who is behind, once round the parties.
 use Rattle.std.proofs.Common.{◌≡◌, ℕ, zero, suc, ◌+◌, ◌<◌, ◌≤◌, nat_lt, Bool, true, false, Option, Some, None, List, [], ◌∷◌, ◌++◌, length, take, if◌then◌else◌, refl, sym, ◌∙◌, ap, arith, append_assoc}
 use Rattle.std.specs.Prelude.{All}
+use Rattle.std.specs.List.{AllZip}
 use Rattle.std.proofs.lemmas.Bool.Decides.{nat_tests}
-use Rattle.bg_referee.specs.Sessions.{SessionsView, parties_from, behind, before_if_behind, told_to}
+use Rattle.std.proofs.lemmas.List.{length-take}
+use Rattle.bg_wire.specs.declared.packets.Packet.{Packet}
+use Rattle.bg_referee.specs.Referee.{RefereeView}
+use Rattle.bg_referee.specs.Ticks.{IsPush, RefereeTicks}
+use Rattle.bg_referee.specs.Sessions.{SessionsView, parties_from, behind, before_if_behind, told_to, pushed, all_behind}
 
 -- as many as there is room for
 pub take_again : {X : Type 0} (n : ℕ) (xs ys : List X) → take n (take n xs ++ ys) ≡ take n (xs ++ ys)
@@ -86,6 +91,19 @@ first_below saved party (Some n) rest all = by_test (nat_lt n saved) refl
 behind_below : (s : SessionsView) (saved : ℕ) (parties : List ℕ) → All (λ (one : ℕ × ℕ). one.1 < saved) (behind s saved parties)
 behind_below s saved [] = all_none (λ (one : ℕ × ℕ). one.1 < saved)
 behind_below s saved (p ∷ rest) = first_below saved p (told_to s p) (behind s saved rest) (behind_below s saved rest)
+
+-- a tick sends two packets at most
+zipped : {A B : Type 0} (R : A → B → Type 0) (xs : List A) (ys : List B) → AllZip R xs ys → length ys ≡ length xs
+zipped R [] [] all = refl
+zipped R [] (y ∷ ys) all = absurd all
+zipped R (x ∷ xs) [] all = absurd all
+zipped R (x ∷ xs) (y ∷ ys) all = ap suc (zipped R xs ys all.1)
+
+pub few_sent : (old new : RefereeView) (sent : List (ℕ × Packet)) → RefereeTicks old sent new → length sent ≤ 2
+few_sent old new sent h =
+    let many = zipped (IsPush old) (pushed old.sessions old.saved) sent h.pushes in
+    let taken = length-take 2 (all_behind old.sessions old.saved) in
+    omega (many, taken, arith)
 
 -- whoever is sent entries lacks some
 pub pushed_below : (s : SessionsView) (saved : ℕ) (ps qs : List ℕ) → All (λ (one : ℕ × ℕ). one.1 < saved) (take 2 (behind s saved ps ++ behind s saved qs))
