@@ -171,18 +171,18 @@ module _ (w : WorldView) (c : Restorable) (word : ℕ) (r : RefereeView)
           → AnswerFits t → AnswerCalls honest (parties w) mid t result n
           → TakesTo w c word r result n.sent r' × RefereeMatches w.id w.terms c.referee r'
       took_row (takes.Accepted k) result r' g by fit a = (
-            idle (takes.Accepted k) result r' (
-              g.1.0,
-              granted g.1.0 g.1.1,
-              grown_state w c w.link.sent n.sent r r' g.1.0 (ap (λ (x : LinkView). x.sent) a.1 ∙ same) g.1.2,
-              g.0,
-            ) a.0,
-            referee_grew w.id w.terms c.referee r g.1.0 r' g.1.2 fits,
-          )
+        idle (takes.Accepted k) result r' (
+          g.1.0,
+          granted g.1.0 g.1.1,
+          grown_state w c w.link.sent n.sent r r' g.1.0 (ap (λ (x : LinkView). x.sent) a.1 ∙ same) g.1.2,
+          g.0,
+        ) a.0,
+        referee_grew w.id w.terms c.referee r g.1.0 r' g.1.2 fits,
+      )
       took_row (takes.Answer to answer) result r' g by fit a = (
-            answered to answer result r' g.0 g.1 by.0 by.1 fit (nat_lt to (parties w)) refl a,
-            fits_same r' g.1,
-          )
+        answered to answer result r' g.0 g.1 by.0 by.1 fit (nat_lt to (parties w)) refl a,
+        fits_same r' g.1,
+      )
       took_row takes.Memory result r' g by fit a =
           (idle takes.Memory result r' (same_at r' a.1 g.2) a.0, fits_same r' g.2)
       took_row takes.OtherMatch result r' g by fit a =
@@ -213,7 +213,7 @@ module _ (w : WorldView) (c : Restorable) (word : ℕ) (r : RefereeView)
       at (Ok p) mid receives k =
           let took = k.1 in
           let row = took_row p (receives.was_sent is_honest) honest is_honest mid n
-              (receives.same is_honest) k.0 result (with_sessions_of r r') took.accepts took.answers took.fits k.2 in
+          (receives.same is_honest) k.0 result (with_sessions_of r r') took.accepts took.answers took.fits k.2 in
           (row.0, other_sessions w.id w.terms c.referee r r' row.1)
 
 pub take_referee_goes : (w : WorldView) (c : Restorable) (honest : Type 0) → honest

@@ -78,7 +78,7 @@ tick_referee_goes w c honest is_honest o new fits h = at w.referee fits h
         let after = record r { sessions = after_pushes r.sessions r.saved (pushed r.sessions r.saved) } in
         let tells = recursion_from_All (λ push. TellsSaved r push.1) packets ticks.tells in
         let went = sends_all honest is_honest (parties w) (λ d. Exists before d.to × ShowsSaved before d) 0 w.link
-            packets o k.0 (may_go w c r f.referee.1 packets tells) k.2.2 in
+        packets o k.0 (may_go w c r f.referee.1 packets tells) k.2.2 in
         goes_at (record w { referee = Some r }) c (events.Tick 0) o o new
         (record w { link = k.0; referee = Some after }) refl
         (k.3 ∙ ap (λ (x : RefereeView). record w { link = k.0; referee = Some x }) ticks.after)
