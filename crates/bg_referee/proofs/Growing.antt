@@ -8,22 +8,23 @@ use Rattle.bg_match.specs.declared.entries.Entry.TheVariants.{Opening}
 use Rattle.bg_match.specs.Match.{Log, IsLegalRecord}
 use Rattle.bg_referee.specs.Dues.{Dues}
 use Rattle.bg_referee.specs.Referee.{Appends}
+use Rattle.bg_referee.specs.Sessions.{SessionsView}
 
-pub Appends-log : (log new : Log) (saved next_save : ℕ) (e : Entry) → (0 < log.spare → new.spare + 1 ≡ log.spare)
+pub Appends-log : (log new : Log) (saved next_save : ℕ) (sessions : SessionsView) (e : Entry) → (0 < log.spare → new.spare + 1 ≡ log.spare)
     → new ≡ record log { entries = log.entries ++ e ∷ []; spare = new.spare }
-    → Appends (record { log = log; saved = saved; next_save = next_save }) e (record { log = new; saved = saved; next_save = next_save })
-Appends-log log new saved next_save e room grown = record {
+    → Appends (record { log = log; saved = saved; next_save = next_save; sessions = sessions }) e (record { log = new; saved = saved; next_save = next_save; sessions = sessions })
+Appends-log log new saved next_save sessions e room grown = record {
   spare = room;
-  grown = ap (λ (l : Log). record { log = l; saved = saved; next_save = next_save }) grown;
+  grown = ap (λ (l : Log). record { log = l; saved = saved; next_save = next_save; sessions = sessions }) grown;
 }
 
 -- a game is opened where the entry by which the record has grown is the opening with the dice of the word
-pub opened : (log new : Log) (saved next_save word n : ℕ) (dice : Dice) (e : Entry)
+pub opened : (log new : Log) (saved next_save : ℕ) (sessions : SessionsView) (word n : ℕ) (dice : Dice) (e : Entry)
     → new ≡ record log { entries = log.entries ++ e ∷ []; spare = new.spare } → (0 < log.spare → new.spare + 1 ≡ log.spare)
     → IsLegalRecord new.terms new.entries → n ≡ length new.entries → dice_of word ≡ Some dice
     → e ≡ Opening dice.first dice.second
-    → Dues (record { log = log; saved = saved; next_save = next_save }) word (Ok n) (record { log = new; saved = saved; next_save = next_save })
-opened log new saved next_save word n dice e grown room legal many thrown same = (
+    → Dues (record { log = log; saved = saved; next_save = next_save; sessions = sessions }) word (Ok n) (record { log = new; saved = saved; next_save = next_save; sessions = sessions })
+opened log new saved next_save sessions word n dice e grown room legal many thrown same = (
   many ∙ ap (λ (l : Log). length l.entries) grown ∙ length_push log.entries e,
-  (e, (dice, thrown, same, rw grown at legal), Appends-log log new saved next_save e room grown),
+  (e, (dice, thrown, same, rw grown at legal), Appends-log log new saved next_save sessions e room grown),
 )

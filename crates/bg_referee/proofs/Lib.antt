@@ -5,3 +5,5 @@ pub mod Accepting
 pub mod Answering
 pub mod Refusing
 pub mod DueRefusals
+pub mod Rounds
+pub mod Hearing

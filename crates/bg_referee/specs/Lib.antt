@@ -1,4 +1,6 @@
+pub mod Sessions
 pub mod Referee
 pub mod Dues
 pub mod Claims
 pub mod Takes
+pub mod Ticks

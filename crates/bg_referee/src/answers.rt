@@ -14,7 +14,7 @@ use bg_wire::{EntryList, MOST_ENTRIES_IN_PACKET, Packet, party_of};
 impl Referee {
     ghost use Rattle.bg_referee.specs.Referee.{IsShown};
     ghost use Rattle.bg_referee.specs.Takes.{RefereeTakes, Replies, ComesOf, AnswerFits, reply_to, reply_to_want};
-    ghost use Rattle.bg_referee.specs.Takes.{reply_to_claim};
+    ghost use Rattle.bg_referee.specs.Takes.{reply_to_claim, TellsSaved};
     ghost use Rattle.bg_turns.specs.Dice.{dice_of};
 
     /// Takes a packet (docs/PROTOCOL.md, "What the referee answers"). The word gives the dice where a roll is
@@ -24,7 +24,9 @@ impl Referee {
         ensures { RefereeTakes self.old packet.now word result self.new }
     {
         let actor = self.log.actor();
-        self.reply(actor, packet, word)
+        let outcome = self.reply(actor, packet, word);
+        self.sessions.hear(self.saved, packet, &outcome);
+        outcome
     }
 
     /// Takes a packet, while this actor is to act.
@@ -113,14 +115,23 @@ impl Referee {
             × (result ≡ TakeOutcome.Answer party (Packet.Entries self.now.log.id start list)) }
         ensures fits { AnswerFits result }
     {
-        TakeOutcome::Answer(
-            party,
-            Packet::Entries {
-                id: self.log.id(),
-                start,
-                list: self.saved_from(start),
-            },
-        )
+        TakeOutcome::Answer(party, self.packet_from(start))
+    }
+
+    /// The packet that tells the saved entries from a number on.
+    pub(crate) fn packet_from(&self, start: Number) -> Packet
+        requires first { 1 ≤ start }
+        requires last { start ≤ self.now.saved }
+        ensures shows { (list : List Entry) × IsShown self.now start list
+            × (result ≡ Packet.Entries self.now.log.id start list) }
+        ensures tells { TellsSaved self.now result }
+        ensures fits { IsPacket result }
+    {
+        Packet::Entries {
+            id: self.log.id(),
+            start,
+            list: self.saved_from(start),
+        }
     }
 
     /// The saved entries from a number on, eight at most.

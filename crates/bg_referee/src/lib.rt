@@ -21,8 +21,10 @@ mod answers;
 mod outcomes;
 mod referee;
 mod saves;
+mod sessions;
 #[cfg(test)]
 mod tests;
+mod ticks;
 
 pub use outcomes::{DueFault, TakeOutcome};
 pub use referee::Referee;

@@ -5,10 +5,10 @@ ghost use Rattle.bg_wire.specs.Codes.{referee};
 ghost use Rattle.bg_wire.specs.SavedText.{IsSavable, parts_of};
 
 use crate::DueFault;
-use arrayvec::ArrayVec;
+use crate::sessions::Sessions;
 use bg_match::{Actor, Entry, LengthFault, Number, Record};
 use bg_turns::dice_of;
-use bg_wire::{Packet, Saved};
+use bg_wire::Saved;
 use std::alloc::Global;
 use std::marker::Model;
 
@@ -17,13 +17,15 @@ use std::marker::Model;
 /// It has no input or output of its own: it is handed packets, and answers what is to be sent and what is to be
 /// saved. It tells the parties saved entries alone, so that a restart never takes back what anybody has seen.
 ///
-/// Contracts see the record, how many of its entries are saved, and the number of the next save.
+/// Contracts see the record, how many of its entries are saved, the number of the next save, and what the parties are
+/// known to have.
 #[derive(Debug, Drop)]
 pub struct Referee {
     pub(crate) alloc: Global,
     pub(crate) log: Record,
     pub(crate) saved: Number,
     pub(crate) last_save: u32,
+    pub(crate) sessions: Sessions,
 }
 
 impl Model for Referee {
@@ -32,15 +34,15 @@ impl Model for Referee {
 
     ghost Value = { RefereeView };
 
-    ghost view = { λ r. record { log = r.log; saved = r.saved; next_save = r.last_save + 1 } };
+    ghost view = { λ r. record { log = r.log; saved = r.saved; next_save = r.last_save + 1; sessions = r.sessions } };
 
-    ghost invariant = { λ r. IsReferee (record { log = r.log; saved = r.saved; next_save = r.last_save + 1 }) };
+    ghost invariant = { λ r. IsReferee
+        (record { log = r.log; saved = r.saved; next_save = r.last_save + 1; sessions = r.sessions }) };
 }
 
 impl Referee {
     ghost use Rattle.bg_referee.specs.Referee.{IsReferee, fresh_referee, resumed_referee};
     ghost use Rattle.bg_referee.specs.Dues.{Dues, RefereeDues};
-    ghost use Rattle.bg_referee.specs.Takes.{RefereeTicks};
 
     /// The referee of a match with no entry, who has saved nothing.
     ///
@@ -55,11 +57,12 @@ impl Referee {
             log: Record::new(alloc, id, length)?,
             saved: 0,
             last_save: 0,
+            sessions: Sessions::none(),
         })
     }
 
     /// The referee that goes on from what was saved, which is of party 0 (docs/PROTOCOL.md, "Restarting"). All of
-    /// its entries count as saved.
+    /// its entries count as saved, and nothing is known of any party.
     pub fn resume(alloc: Global, saved: Saved) -> Referee
         requires party { saved.party ≡ referee }
         requires savable { IsSavable (parts_of saved) }
@@ -71,6 +74,7 @@ impl Referee {
             log: saved.log,
             saved: entries,
             last_save: saved.save,
+            sessions: Sessions::none(),
         }
     }
 
@@ -119,12 +123,5 @@ impl Referee {
             return Err(DueFault::of(fault));
         }
         Ok(self.log.len())
-    }
-
-    /// What is to be sent without having been asked for, each packet beside the party that it goes to: nothing yet.
-    pub fn tick(&mut self) -> ArrayVec<(u8, Packet), 2>
-        ensures { RefereeTicks self.old result.items self.new }
-    {
-        ArrayVec::new()
     }
 }

@@ -5,9 +5,12 @@ use Rattle.bg_match.specs.declared.entries.Entry.{Entry}
 use Rattle.bg_match.specs.Terms.{Terms}
 use Rattle.bg_wire.specs.declared.packets.Datagram.{Datagram}
 use Rattle.bg_wire.specs.SavedText.{SavedParts}
+use Rattle.bg_wire.specs.declared.packets.Packet.{Packet}
+use Rattle.bg_wire.specs.declared.packets.Packet.TheVariants as packet
 use Rattle.bg_referee.specs.declared.outcomes.DueFault.{DueFault}
 use Rattle.bg_referee.specs.Dues.{IsDue, RefereeDues}
-use Rattle.bg_referee.specs.Referee.{Appends, RefereeView}
+use Rattle.bg_referee.specs.Referee.{Appends, RefereeView, with_sessions_of}
+use Rattle.bg_referee.specs.Takes.{TellsSaved}
 use Rattle.bg_world.specs.declared.events.Event.TheVariants as events
 use Rattle.bg_world.specs.declared.events.Outcome.{Outcome}
 use Rattle.bg_world.specs.declared.events.Outcome.TheVariants as outcomes
@@ -15,6 +18,7 @@ use Rattle.bg_world.specs.State.{State}
 use Rattle.bg_world.specs.WorldState.{CoresMatch, RefereeMatches, Restorable, referee_state, state_of}
 use Rattle.bg_world.specs.DueStep.{DueStep, with_entry}
 use Rattle.bg_world.specs.Calls.{DueCalls}
+use Rattle.bg_world.specs.RefereeTakeStep.{IsOfSaved}
 use Rattle.bg_world.specs.Views.{WorldView}
 use Rattle.bg_world.proofs.Sides.{StepsTo, goes_at}
 
@@ -29,6 +33,11 @@ referee_grew id terms found r e r' a fits = record {
   next = ap (λ (x : RefereeView). x.next_save) a.grown ∙ fits.next;
 }
 
+-- the sessions of a referee are not in the state
+pub other_sessions : (id : ℕ) (terms : Terms) (found : Option SavedParts) (r r' : RefereeView)
+    → RefereeMatches id terms found (with_sessions_of r r') → RefereeMatches id terms found r'
+other_sessions id terms found r r' fits = record { log = fits.log; next = fits.next }
+
 -- the state with this list, and a referee that is up
 abbrev pub at_referee : WorldView → Restorable → List Datagram → RefereeView → State
 at_referee w c sent r =
@@ -41,6 +50,13 @@ same_state w c sent new r r' e f = ap₂ (at_referee w c) e f
 pub grown_state : (w : WorldView) (c : Restorable) (sent new : List Datagram) (r r' : RefereeView) (e : Entry)
     → new ≡ sent → Appends r e r' → at_referee w c new r' ≡ with_entry (at_referee w c sent r) e
 grown_state w c sent new r r' e same a = ap₂ (at_referee w c) same a.grown
+
+-- what the core tells is what the state has saved
+pub of_saved : (w : WorldView) (c : Restorable) (r : RefereeView) → RefereeMatches w.id w.terms c.referee r
+    → (answer : Packet) → TellsSaved r answer → IsOfSaved (at_referee w c w.link.sent r) answer
+of_saved w c r fits (packet.Entries id start list) h = (h.0 ∙ fits.log.0, h.1.run)
+of_saved w c r fits (packet.Want id sender held) h = absurd h
+of_saved w c r fits (packet.Claim id sender n a) h = absurd h
 
 module _ (w : WorldView) (c : Restorable) (word : ℕ) where
   due_told : (r r' : RefereeView) (told : Result ℕ DueFault) → RefereeMatches w.id w.terms c.referee r

@@ -9,7 +9,7 @@ use Rattle.bg_wire.specs.Codes.{referee}
 use Rattle.bg_wire.specs.Parties.{party_of}
 use Rattle.bg_wire.specs.declared.packets.Packet.{Packet}
 use Rattle.bg_referee.specs.Dues.{RefereeDues}
-use Rattle.bg_referee.specs.Referee.{RefereeView, fresh_referee, referee_after_save, resumed_referee}
+use Rattle.bg_referee.specs.Referee.{RefereeView, fresh_referee, referee_after_save, resumed_referee, with_sessions_of}
 use Rattle.bg_referee.specs.declared.outcomes.DueFault.{DueFault}
 use Rattle.bg_party.specs.Claims.{SeatChooses, SeatTicks, WatcherTicks}
 use Rattle.bg_party.specs.Takes.{FollowerTakes}
@@ -130,7 +130,7 @@ module _ (w : WorldView) (c : Restorable) (link_honest keepers_honest : Type 0) 
           in_hand (Ok p) mid receives m =
               let t = m.1 in
               let fine = at_referee.not_refused (state_of w c)
-              (no_packet_refused (state_of w c) inv) r k.1 fit.log entries saved word p m.0
+              (no_packet_refused (state_of w c) inv) r (with_sessions_of r k.1) fit.log entries saved word p m.0
               (receives.was_sent link) t.takes in
               answers_all link_honest (parties w) mid k.0 m.0 o fine m.2
   take_all (suc zero) pick word o new h = seat_take X pick word o new h

@@ -15,9 +15,9 @@ use Rattle.bg_wire.specs.PacketText.{IsPacket}
 use Rattle.bg_wire.specs.Parties.{party_of}
 use Rattle.bg_referee.specs.declared.outcomes.TakeOutcome.{TakeOutcome}
 use Rattle.bg_referee.specs.declared.outcomes.TakeOutcome.TheVariants as takes
-use Rattle.bg_referee.specs.Claims.{Grants, IsAccepted}
-use Rattle.bg_referee.specs.Referee.{RefereeView}
-use Rattle.bg_referee.specs.Takes.{IsSentBy, RefereeTakes, TellsSaved}
+use Rattle.bg_referee.specs.Claims.{Accepts, Grants, IsAccepted}
+use Rattle.bg_referee.specs.Referee.{RefereeView, with_sessions_of}
+use Rattle.bg_referee.specs.Takes.{AnswerFits, AnswersSender, IsSentBy, TellsSaved}
 use Rattle.bg_world.specs.declared.devices.DeviceFault.{DeviceFault}
 use Rattle.bg_world.specs.declared.devices.DeviceFault.TheVariants as faults
 use Rattle.bg_world.specs.declared.events.Event.TheVariants as events
@@ -27,7 +27,7 @@ use Rattle.bg_world.specs.declared.roles.Role.TheVariants as roles
 use Rattle.bg_world.specs.WorldState.{CoresMatch, RefereeMatches, Restorable, state_of, watcher_log}
 use Rattle.bg_world.specs.Datagrams.{WasSent}
 use Rattle.bg_world.specs.LinkCalls.{AnswerCalls, ComesTo, RefereeHandles, RefereeTakeCalls}
-use Rattle.bg_world.specs.RefereeTakeStep.{AcceptsNone, IsOfSaved, RefereeTakeStep, ReplyStep, ShowsSaved}
+use Rattle.bg_world.specs.RefereeTakeStep.{AcceptsNone, RefereeTakeStep, ReplyStep, ShowsSaved}
 use Rattle.bg_world.specs.Calls.{TakeCalls}
 use Rattle.bg_world.specs.Views.{LinkView, WorldView, parties}
 use Rattle.bg_world.specs.Refusals.{IsSound}
@@ -37,7 +37,7 @@ use Rattle.bg_world.specs.Devices.{Sends as LinkSends}
 use Rattle.bg_world.proofs.Invariant.{Inv}
 use Rattle.bg_world.proofs.Hands.{IsEmptyHand, fault, memory, nothing, no_packet, empty_hand, carries, grows_none, grows_one}
 use Rattle.bg_world.proofs.Sides.{StepsTo, goes_at}
-use Rattle.bg_world.proofs.DueRows.{at_referee, referee_grew, same_state, grown_state}
+use Rattle.bg_world.proofs.DueRows.{at_referee, referee_grew, same_state, grown_state, of_saved, other_sessions}
 
 -- the referee takes what is in hand, and leaves this list and this referee
 abbrev TakesTo : WorldView → Restorable → ℕ → RefereeView → Outcome → List Datagram → RefereeView → Type 0
@@ -75,12 +75,6 @@ module _ (w : WorldView) (c : Restorable) (word : ℕ) (r : RefereeView)
         h e (subst (λ (i : ℕ). IsAccepted i r.log.terms r.log.entries word p e) (sym fits.log.0)
         (subst (λ (m : Terms). IsAccepted w.id m r.log.entries word p e) (sym fits.log.1) g))
 
-    -- an answer tells what is saved
-    of_saved : (answer : Packet) → TellsSaved r answer → IsOfSaved (at_referee w c w.link.sent r) answer
-    of_saved (packet.Entries id start list) h = (h.0 ∙ fits.log.0, h.1.run)
-    of_saved (packet.Want id sender held) h = absurd h
-    of_saved (packet.Claim id sender n a) h = absurd h
-
     -- an answer goes to a party that exists
     sender_exists : (to : ℕ) → IsSentBy to p → to < parties w
     sender_exists to h = at p (inv.datagrams 0 p came) h
@@ -98,7 +92,7 @@ module _ (w : WorldView) (c : Restorable) (word : ℕ) (r : RefereeView)
     module _ (honest : Type 0) (is_honest : honest) (mid n : LinkView) (same : mid.sent ≡ w.link.sent) where
       shows : (to : ℕ) (answer : Packet) → IsPacket answer → TellsSaved r answer
           → ShowsSaved (at_referee w c w.link.sent r) (datagram_of to answer)
-      shows to answer range h = (answer, carries to answer range, of_saved answer h)
+      shows to answer range h = (answer, carries to answer range, of_saved w c r fits answer h)
 
       list_after : (l : List Datagram) (r' : RefereeView) (d : Datagram) → r' ≡ r → l ≡ mid.sent ++ d ∷ []
           → at_referee w c l r' ≡ record (at_referee w c w.link.sent r) { sent = w.link.sent ++ d ∷ [] }
@@ -150,7 +144,7 @@ module _ (w : WorldView) (c : Restorable) (word : ℕ) (r : RefereeView)
                 came,
                 (
                   none_accepted none,
-                  of_saved answer tells,
+                  of_saved w c r fits answer tells,
                   (
                     datagram_of to answer,
                     carries to answer range,
@@ -172,44 +166,36 @@ module _ (w : WorldView) (c : Restorable) (word : ℕ) (r : RefereeView)
       same_at : (r' : RefereeView) → n ≡ mid → r' ≡ r → at_referee w c n.sent r' ≡ at_referee w c w.link.sent r
       same_at r' e f = same_state w c w.link.sent n.sent r r' (ap (λ (x : LinkView). x.sent) e ∙ same) f
 
-      took_row : (t : TakeOutcome) (result : Outcome) (r' : RefereeView) → RefereeTakes r p word t r'
-          → AnswerCalls honest (parties w) mid t result n
+      -- of a referee that has the sessions that it had
+      took_row : (t : TakeOutcome) (result : Outcome) (r' : RefereeView) → Accepts r p word t r' → AnswersSender r p t
+          → AnswerFits t → AnswerCalls honest (parties w) mid t result n
           → TakesTo w c word r result n.sent r' × RefereeMatches w.id w.terms c.referee r'
-      took_row (takes.Accepted k) result r' h a =
-          let g = h.accepts in (
-            idle (takes.Accepted k) result r' (
-              g.1.0,
-              granted g.1.0 g.1.1,
-              grown_state w c w.link.sent n.sent r r' g.1.0 (ap (λ (x : LinkView). x.sent) a.1 ∙ same) g.1.2,
-              g.0,
-            ) a.0,
-            referee_grew w.id w.terms c.referee r g.1.0 r' g.1.2 fits,
-          )
-      took_row (takes.Answer to answer) result r' h a =
-          let g = h.accepts in (
-            answered to answer result r' g.0 g.1 h.answers.0 h.answers.1 h.fits (nat_lt to (parties w)) refl a,
-            fits_same r' g.1,
-          )
-      took_row takes.Memory result r' h a =
-          let g = h.accepts in
+      took_row (takes.Accepted k) result r' g by fit a = (
+        idle (takes.Accepted k) result r' (
+          g.1.0,
+          granted g.1.0 g.1.1,
+          grown_state w c w.link.sent n.sent r r' g.1.0 (ap (λ (x : LinkView). x.sent) a.1 ∙ same) g.1.2,
+          g.0,
+        ) a.0,
+        referee_grew w.id w.terms c.referee r g.1.0 r' g.1.2 fits,
+      )
+      took_row (takes.Answer to answer) result r' g by fit a = (
+        answered to answer result r' g.0 g.1 by.0 by.1 fit (nat_lt to (parties w)) refl a,
+        fits_same r' g.1,
+      )
+      took_row takes.Memory result r' g by fit a =
           (idle takes.Memory result r' (same_at r' a.1 g.2) a.0, fits_same r' g.2)
-      took_row takes.OtherMatch result r' h a =
-          let g = h.accepts in
+      took_row takes.OtherMatch result r' g by fit a =
           (idle takes.OtherMatch result r' (none_accepted g.0, same_at r' a.1 g.1) a.0, fits_same r' g.1)
-      took_row takes.Nothing result r' h a =
-          let g = h.accepts in
+      took_row takes.Nothing result r' g by fit a =
           (idle takes.Nothing result r' (none_accepted g.0, same_at r' a.1 g.1) a.0, fits_same r' g.1)
-      took_row takes.Ahead result r' h a =
-          let g = h.accepts in
+      took_row takes.Ahead result r' g by fit a =
           (idle takes.Ahead result r' (none_accepted g.0, same_at r' a.1 g.1) a.0, fits_same r' g.1)
-      took_row takes.NotYourTurn result r' h a =
-          let g = h.accepts in
+      took_row takes.NotYourTurn result r' g by fit a =
           (idle takes.NotYourTurn result r' (none_accepted g.0, same_at r' a.1 g.1) a.0, fits_same r' g.1)
-      took_row takes.WordRefused result r' h a =
-          let g = h.accepts in
+      took_row takes.WordRefused result r' g by fit a =
           (idle takes.WordRefused result r' (none_accepted g.0, same_at r' a.1 g.1) a.0, fits_same r' g.1)
-      took_row (takes.Illegal why) result r' h a =
-          let g = h.accepts in
+      took_row (takes.Illegal why) result r' g by fit a =
           (idle (takes.Illegal why) result r' (none_accepted g.0, same_at r' a.1 g.1) a.0, fits_same r' g.1)
 
   take_row : (honest : Type 0) → honest → (pick : ℕ) (result : Outcome) (n : LinkView) (r' : RefereeView)
@@ -225,8 +211,10 @@ module _ (w : WorldView) (c : Restorable) (word : ℕ) (r : RefereeView)
           let t = nothing_taken trouble n.sent r' (empty_hand mid.taken trouble receives.is_hand) same k.2 in
           (subst (λ (x : Outcome). TakesTo w c word r x n.sent r') (sym k.0) t, fits_same r' k.2)
       at (Ok p) mid receives k =
-          took_row p (receives.was_sent is_honest) honest is_honest mid n
-          (receives.same is_honest) k.0 result r' k.1 k.2
+          let took = k.1 in
+          let row = took_row p (receives.was_sent is_honest) honest is_honest mid n
+          (receives.same is_honest) k.0 result (with_sessions_of r r') took.accepts took.answers took.fits k.2 in
+          (row.0, other_sessions w.id w.terms c.referee r r' row.1)
 
 pub take_referee_goes : (w : WorldView) (c : Restorable) (honest : Type 0) → honest
     → (party pick word : ℕ) (o : Outcome) (new : WorldView) → CoresMatch w c → Inv (state_of w c)

@@ -3,6 +3,8 @@ use Rattle.std.specs.Prelude.{◌≡◌, ℕ, zero, suc, ◌+◌, ◌<◌, ◌�
 use Rattle.std.specs.List.{AllByRecursion}
 use Rattle.std.proofs.Common.{refl, sym, ◌∙◌, ap, ap₂, subst, arith}
 use Rattle.std.proofs.lemmas.Option.{same_Some}
+use Rattle.std.proofs.lemmas.List.{length-map}
+use Rattle.std.proofs.lemmas.List.Elements.{recursion_from_All}
 use Rattle.bg_board.specs.declared.players.Player.{Player}
 use Rattle.bg_board.specs.declared.players.Player.TheVariants.{X, O}
 use Rattle.bg_match.specs.declared.actions.Action.{Action}
@@ -14,7 +16,10 @@ use Rattle.bg_wire.specs.PacketText.{IsPacket}
 use Rattle.bg_wire.specs.Parties.{party_of}
 use Rattle.bg_wire.specs.SavedText.{SavedParts}
 use Rattle.bg_wire.specs.Codes.{first_watcher, referee}
+use Rattle.bg_referee.proofs.Rounds.{few_sent}
 use Rattle.bg_referee.specs.Referee.{RefereeView}
+use Rattle.bg_referee.specs.Sessions.{after_pushes, pushed}
+use Rattle.bg_referee.specs.Takes.{TellsSaved}
 use Rattle.bg_party.specs.Claims.{SeatTicks, WatcherTicks, packet_of_seat, ticked, want_of}
 use Rattle.bg_party.specs.Retry.{is_due}
 use Rattle.bg_party.specs.Views.{SeatView, WatcherView}
@@ -23,7 +28,7 @@ use Rattle.bg_world.specs.declared.events.Outcome.{Outcome}
 use Rattle.bg_world.specs.declared.events.Outcome.TheVariants as outcomes
 use Rattle.bg_world.specs.declared.roles.Role.TheVariants as roles
 use Rattle.bg_world.specs.State.{Exists, SeatState, State}
-use Rattle.bg_world.specs.WorldState.{CoresMatch, Restorable, SeatMatches, SeatSide, restorable_of, seat_state, state_of, watcher_log}
+use Rattle.bg_world.specs.WorldState.{CoresMatch, RefereeMatches, Restorable, SeatMatches, SeatSide, restorable_of, seat_state, state_of, watcher_log}
 use Rattle.bg_world.specs.Datagrams.{Carries}
 use Rattle.bg_world.specs.LinkCalls.{FollowerTickCalls, SendCalls, to_referee}
 use Rattle.bg_world.specs.TickStep.{Sends, TickStep, seat_packet, want_packet}
@@ -32,11 +37,27 @@ use Rattle.bg_world.specs.Calls.{NoCalls, TickCalls}
 use Rattle.bg_world.specs.Views.{LinkView, WorldView, parties, seat_core, seat_keeper, with_seat_core}
 use Rattle.bg_world.specs.Frames.{IfUp, NoParty}
 use Rattle.bg_world.specs.DeviceCalls.{datagram_of}
+use Rattle.bg_world.proofs.DueRows.{at_referee, of_saved, other_sessions}
 use Rattle.bg_world.proofs.Hands.{carries}
 use Rattle.bg_world.proofs.Sides.{StepsTo, goes_at, seat_side, watchers_match, get_log, set_log}
 use Rattle.bg_world.proofs.SendCases.{sends_all, ticks_row}
 
 -- ---- the referee
+
+-- each push to a party that exists is one that the protocol has
+may_go : (w : WorldView) (c : Restorable) (r : RefereeView) → RefereeMatches w.id w.terms c.referee r
+    → (packets : List (ℕ × Packet)) → AllByRecursion (λ push. TellsSaved r push.1) packets
+    → AllByRecursion (λ push. push.0 < parties w → IsPacket push.1
+    → Exists (at_referee w c w.link.sent r) push.0
+    × ShowsSaved (at_referee w c w.link.sent r) (datagram_of push.0 push.1)) packets
+may_go w c r fits [] tells = tt
+may_go w c r fits (push ∷ rest) tells = (
+  λ low range. (
+    omega (low, length-map w.watchers watcher_log, arith),
+    (push.1, carries push.0 push.1 range, of_saved w c r fits push.1 tells.0),
+  ),
+  may_go w c r fits rest tells.1,
+)
 
 pub tick_referee_goes : (w : WorldView) (c : Restorable) (honest : Type 0) → honest → (o : Outcome)
     (new : WorldView)
@@ -53,19 +74,25 @@ tick_referee_goes w c honest is_honest o new fits h = at w.referee fits h
         (record { restorable = c; step = (refl, refl); cores = f })
     at (Some r) f k =
         let before = state_of (record w { referee = Some r }) c in
+        let packets = k.2.0 in
         let ticks = k.2.1 in
-        let none = subst (λ (l : List (ℕ × Packet)). SendCalls honest
-        (parties w) 0 w.link l o k.0) ticks.packets k.2.2 in
-        let went = sends_all honest is_honest (parties w)
-        (λ d. Exists before d.to × ShowsSaved before d) 0 w.link [] o k.0 tt none in
+        let after = record r { sessions = after_pushes r.sessions r.saved (pushed r.sessions r.saved) } in
+        let tells = recursion_from_All (λ push. TellsSaved r push.1) packets ticks.tells in
+        let went = sends_all honest is_honest (parties w) (λ d. Exists before d.to × ShowsSaved before d) 0 w.link
+        packets o k.0 (may_go w c r f.referee.1 packets tells) k.2.2 in
         goes_at (record w { referee = Some r }) c (events.Tick 0) o o new
-        (record w { link = k.0; referee = Some r }) refl
+        (record w { link = k.0; referee = Some after }) refl
         (k.3 ∙ ap (λ (x : RefereeView). record w { link = k.0; referee = Some x }) ticks.after)
         (record {
           restorable = c;
-          step = ticks_row _ 0 before (state_of (record w { link = k.0; referee = Some r }) c) (k.0).sent o
-              (omega arith) went refl;
-          cores = record { referee = f.referee; x = f.x; o = f.o; watchers = f.watchers };
+          step = ticks_row _ (length packets) before (state_of (record w { link = k.0; referee = Some after }) c)
+              (k.0).sent o (few_sent r k.1 packets ticks) went refl;
+          cores = record {
+            referee = (f.referee.0, other_sessions w.id w.terms c.referee r after f.referee.1);
+            x = f.x;
+            o = f.o;
+            watchers = f.watchers;
+          };
         })
 
 -- ---- a follower, who sends one packet at most

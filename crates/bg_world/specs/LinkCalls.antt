@@ -4,7 +4,8 @@ use Rattle.std.specs.Bool.{MatchBool}
 use Rattle.bg_wire.specs.Codes.{referee}
 use Rattle.bg_wire.specs.declared.packets.Packet.{Packet}
 use Rattle.bg_referee.specs.Referee.{RefereeView}
-use Rattle.bg_referee.specs.Takes.{RefereeTakes, RefereeTicks}
+use Rattle.bg_referee.specs.Takes.{RefereeTakes}
+use Rattle.bg_referee.specs.Ticks.{RefereeTicks}
 use Rattle.bg_referee.specs.declared.outcomes.TakeOutcome.{TakeOutcome}
 use Rattle.bg_referee.specs.declared.outcomes.TakeOutcome.TheVariants as takes
 use Rattle.bg_party.specs.declared.outcomes.Learned.{Learned}

@@ -28,6 +28,15 @@ const THE_ROLL_SAVED: [Row; 2] = [
     (Happens::Take(0, 1, 0), ComesTo::Answer(1, 2, 2)),
 ];
 
+/// The referee pushes the move to X, who claimed it, and to nobody else: it has heard of no other party.
+const THE_MOVE_PUSHED: [Row; 5] = [
+    (Happens::Take(0, 1, 0), ComesTo::Accepted(2)),
+    (Happens::Save(0), ComesTo::Saved(2)),
+    (Happens::Tick(0), ComesTo::Sent(1)),
+    (Happens::Tick(0), ComesTo::Sent(0)),
+    (Happens::Take(1, 1, 0), ComesTo::Learned(1)),
+];
+
 /// The referee restarts before it has saved the roll, and throws again.
 pub(crate) const THE_ROLL_LOST: [Row; 6] = [
     (Happens::Take(0, 3, 0), ComesTo::Nothing),
@@ -124,6 +133,16 @@ fn a_watcher_alone(rt: HostRuntime) -> Result<(), Fail> {
     let mut world = world(rt.alloc(), 1, 1, NO_FAILURE)?;
     check_rows(&rt, &mut world, &A_WATCHER_ALONE);
     assert!(rt; world.link().sent_to(0) == 4);
+    Ok(())
+}
+
+#[test]
+fn a_move_is_pushed(rt: HostRuntime) -> Result<(), Fail> {
+    let mut world = world(rt.alloc(), 1, 0, NO_FAILURE)?;
+    check_rows(&rt, &mut world, &TO_THE_CHOICE);
+    check_rows(&rt, &mut world, &TO_THE_CLAIM);
+    check_rows(&rt, &mut world, &THE_MOVE_PUSHED);
+    assert!(rt; [held(&world, 0), held(&world, 1)] == [Some(2), Some(2)]);
     Ok(())
 }
 

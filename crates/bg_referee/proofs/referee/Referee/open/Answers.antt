@@ -22,6 +22,6 @@ pub returns : goal.returns
 returns c =
     let pushed = c.in_default-push.ensures in
     rw (← c.self.view_is) (
-    opened c.self.inside.log c.push.new.self _ _ c.args.word _ c.in-Some.dice _ pushed.appended pushed.spare pushed.legal
+    opened c.self.inside.log c.push.new.self _ _ _ c.args.word _ c.in-Some.dice _ pushed.appended pushed.spare pushed.legal
     c.len.ensures.value (sym c.in-Some.ensures.value) (search rules)
     )

@@ -1,0 +1,155 @@
+//! What the parties are known to have, so that the referee can send them what they lack without having been asked.
+ghost use Rattle.std.specs.Prelude.{◌≡◌, ◌≤◌, ◌<◌, ◌+◌, ◌++◌, ◌∷◌, [], All, take};
+ghost use Rattle.bg_wire.specs.PacketText.{IsPacket};
+ghost use Rattle.bg_referee.specs.Sessions.{IsSessions, no_sessions, tell, hear, hear_sender, hear_answer, behind};
+ghost use Rattle.bg_referee.specs.Sessions.{pushed, party_after, after_pushes, last_party, most_pushes};
+ghost use Rattle.bg_referee.specs.Takes.{AnswerFits};
+
+use crate::TakeOutcome;
+use arrayvec::ArrayVec;
+use bg_match::Number;
+use bg_wire::{LAST_WATCHER, MOST_ENTRIES_IN_PACKET, Packet, SEAT_OF_X};
+use std::marker::Model;
+
+/// How many parties one tick sends entries, at most.
+pub(crate) const MOST_PUSHES: usize = 2;
+
+/// The first party that is told of entries.
+const FIRST_PARTY: u8 = SEAT_OF_X;
+
+/// The last one.
+const LAST_PARTY: u8 = LAST_WATCHER;
+
+/// A place for each number of a party.
+const PLACES: usize = LAST_PARTY as usize + 1;
+
+/// The number of the last entry that each party is known to have, and the party with which the next round begins
+/// (docs/PROTOCOL.md, "What the referee sends unasked").
+///
+/// Contracts see both.
+#[derive(Debug, Drop)]
+pub(crate) struct Sessions {
+    told: [Option<Number>; PLACES],
+    cursor: u8,
+}
+
+impl Model for Sessions {
+    ghost use Rattle.bg_referee.specs.Sessions.{SessionsView, IsSessions};
+
+    ghost Value = { SessionsView };
+
+    ghost view = { λ s. record { told = s.told; cursor = s.cursor } };
+
+    ghost invariant = { λ s. IsSessions (record { told = s.told; cursor = s.cursor }) };
+}
+
+impl Sessions {
+    /// Nothing is known of any party.
+    pub(crate) fn none() -> Sessions
+        ensures value { result ≡ no_sessions }
+        ensures sessions { IsSessions result }
+    {
+        Sessions {
+            told: [None; PLACES],
+            cursor: FIRST_PARTY,
+        }
+    }
+
+    /// Learns from the answer to a packet, while so many entries are saved.
+    pub(crate) fn hear(&mut self, saved: Number, packet: &Packet, outcome: &TakeOutcome)
+        requires { AnswerFits outcome.now }
+        ensures { self.new ≡ hear self.old saved packet.now outcome.now }
+    {
+        match outcome {
+            TakeOutcome::Answer(party, answer) => self.hear_answer(*party, answer),
+            TakeOutcome::Nothing | TakeOutcome::Accepted(_) => self.hear_sender(saved, packet),
+            _ => {}
+        }
+    }
+
+    /// The sender of a packet has all that is saved.
+    fn hear_sender(&mut self, saved: Number, packet: &Packet)
+        ensures { self.new ≡ hear_sender self.old saved packet.now }
+    {
+        match packet {
+            Packet::Want { sender, .. } | Packet::Claim { sender, .. } => self.tell(*sender, saved),
+            Packet::Entries { .. } => {}
+        }
+    }
+
+    /// A party that is sent entries has them.
+    fn hear_answer(&mut self, party: u8, answer: &Packet)
+        requires { IsPacket answer.now }
+        ensures { self.new ≡ hear_answer self.old party answer.now }
+    {
+        if let Packet::Entries { start, list, .. } = answer {
+            self.tell(party, *start + (list.entries.len() as Number - 1));
+        }
+    }
+
+    /// From now on a party is known to have the entries up to this number.
+    fn tell(&mut self, party: u8, number: Number)
+        ensures { self.new ≡ tell self.old party number }
+    {
+        self.told[usize::from(party)] = Some(number);
+    }
+
+    /// The first two parties, once round from the cursor on, that are known to have less than is saved, each beside
+    /// the number of its last entry.
+    pub(crate) fn pushed(&self, saved: Number) -> ArrayVec<(u8, Number), MOST_PUSHES>
+        ensures pushed { result.items ≡ pushed self.now saved }
+        ensures behind { All (λ one. one.1 < saved) result.items }
+    {
+        let mut found = ArrayVec::new();
+        for party in usize::from(self.cursor)..PLACES {
+            self.add_if_behind(&mut found, party, saved);
+        }
+        for party in usize::from(FIRST_PARTY)..usize::from(self.cursor) {
+            self.add_if_behind(&mut found, party, saved);
+        }
+        found
+    }
+
+    /// Adds a party, if it is known to have less than is saved, and there is room.
+    fn add_if_behind(
+        &self,
+        found: &mut ArrayVec<(u8, Number), MOST_PUSHES>,
+        party: usize,
+        saved: Number,
+    )
+        requires { party < last_party + 1 }
+        ensures { found.new.items ≡ take most_pushes (found.old.items ++ behind self.now saved (party ∷ [])) }
+    {
+        if found.is_full() {
+            return;
+        }
+        if let Some(number) = self.told[party] {
+            if number < saved {
+                found.push((party as u8, number));
+            }
+        }
+    }
+
+    /// Each of these was sent the entries behind its last one, eight at most.
+    pub(crate) fn push(&mut self, saved: Number, some: &[(u8, Number)])
+        requires { All (λ one. one.1 < saved) some.now }
+        ensures { self.new ≡ after_pushes self.old saved some.now }
+    {
+        for (party, number) in some {
+            let count = (saved - *number).min(Number::from(MOST_ENTRIES_IN_PACKET));
+            self.tell(*party, *number + count);
+            self.cursor = party_after(*party);
+        }
+    }
+}
+
+/// The party of the next number; the last one is followed by the first.
+fn party_after(party: u8) -> u8
+    ensures { result ≡ party_after party }
+{
+    if party == LAST_PARTY {
+        FIRST_PARTY
+    } else {
+        party + 1
+    }
+}
