@@ -56,7 +56,12 @@ three_come = refl
 
 -- all three are held then, and nothing is kept
 three_are_held : grown_with early (coming early 1 (opening ∷ [])) 3 0 ≡
-    record { log = record { id = 1; terms = 1; entries = opening ∷ offer ∷ rejection ∷ []; spare = 0 }; early = []; retry = at_once }
+    record {
+      log = record { id = 1; terms = 1; entries = opening ∷ offer ∷ rejection ∷ []; spare = 0 };
+      early =
+          [];
+      retry = at_once;
+    }
 three_are_held = refl
 
 -- where only the opening follows, the two are dropped
@@ -69,5 +74,10 @@ abbrev far : FollowerView
 far = record (fresh_follower 1 1) { early = None ∷ None ∷ None ∷ Some offer ∷ [] }
 
 fourth_stays : grown_with far (coming far 1 (opening ∷ offer ∷ [])) 2 0 ≡
-    record { log = record { id = 1; terms = 1; entries = opening ∷ offer ∷ []; spare = 0 }; early = None ∷ Some offer ∷ []; retry = at_once }
+    record {
+      log = record { id = 1; terms = 1; entries = opening ∷ offer ∷ []; spare = 0 };
+      early =
+          None ∷ Some offer ∷ [];
+      retry = at_once;
+    }
 fourth_stays = refl
