@@ -58,7 +58,7 @@ after_sends w out n more kept = record {
       (λ s. KeepsWhatWasShown w.id n.sent 2 s.follower)
       (λ s. shown_more w.id w.link.sent n.sent out 2 s.follower more) kept.o;
   watchers =
-    λ i f is. shown_more w.id w.link.sent n.sent out (first_watcher + i) f.follower more (kept.watchers i f is);
+      λ i f is. shown_more w.id w.link.sent n.sent out (first_watcher + i) f.follower more (kept.watchers i f is);
 }
 
 with_seat : (w : WorldView) (q : Player) (s : Option SeatView) → SeatKeeps w.id w.link.sent q s
