@@ -1,5 +1,6 @@
 -- New entries that follow, one after the other.
-use Rattle.std.proofs.Common.{◌≡◌, ◌≢◌, ◌↔◌, ℕ, suc, ◌+◌, ◌<◌, ◌≤◌, Result, Ok, Err, List, [], ◌∷◌, ◌++◌, length, take, drop, get_or, refl, sym, ◌∙◌, ap, subst, arith, append_assoc, length-append}
+use Rattle.std.proofs.Common.{◌≡◌, ◌≢◌, ◌↔◌, ℕ, suc, ◌+◌, ◌<◌, ◌≤◌, Result, Ok, Err, List, [], ◌∷◌, ◌++◌, length, take}
+use Rattle.std.proofs.Common.{drop, get_or, refl, sym, ◌∙◌, ap, subst, arith, append_assoc, length-append}
 use Rattle.std.specs.Prelude.{IsOk, IfErr}
 use Rattle.std.proofs.Math.Seq.{take-suc, split_at}
 use Rattle.std.proofs.lemmas.List.{take_all}
@@ -36,14 +37,16 @@ rest_of entries new i x within is =
     ∙ sym (append_assoc (entries ++ take i new) (x ∷ []) (drop (suc i) new))
 
 -- an entry that follows leads on
-pub goes_on : (terms : Terms) (entries new : List Entry) (i : ℕ) (x : Entry) (s t : State) → i < length new → x ≡ get_or new i x
+pub goes_on : (terms : Terms) (entries new : List Entry) (i : ℕ) (x : Entry) (s t : State) → i < length new
+    → x ≡ get_or new i x
     → StandsAt terms (entries ++ take i new) s → Follows s x t → StandsAt terms (entries ++ take (i + 1) new) t
 goes_on terms entries new i x s t within is at follows =
     subst (λ (l : List Entry). StandsAt terms l t) (sym (more entries new i x within is))
     (Leads-push (start_of terms) (entries ++ take i new) x s t at follows)
 
 -- an entry that does not follow is the first such one
-pub stops : (terms len : ℕ) (entries new : List Entry) (i : ℕ) (x : Entry) (s : State) → i < length new → x ≡ get_or new i x
+pub stops : (terms len : ℕ) (entries new : List Entry) (i : ℕ) (x : Entry) (s : State) → i < length new
+    → x ≡ get_or new i x
     → len ≡ length entries → length entries + length new ≤ 65535 → length (take i new) ≡ i
     → StandsAt terms (entries ++ take i new) s → (CanFollow s x → ⊥)
     → IsFirstIllegal terms (entries ++ new) (len + i + 1)
@@ -51,14 +54,18 @@ stops terms len entries new i x s within is many few taken at stuck =
     let front = entries ++ take i new in
     let size = length-append entries (take i new) in
     let room : length front < 65535 = omega arith in
-    is_first_illegal terms (len + i + 1) front (drop (suc i) new) (entries ++ new) x (omega arith) (rest_of entries new i x within is)
+    is_first_illegal terms (len + i + 1) front (drop (suc i) new) (entries ++ new) x (omega arith)
+    (rest_of entries new i x within is)
     (omega arith, (s, at)) (λ legal. stuck ((legal_follow terms front x s at room).0 legal))
 
 -- all of them follow
 pub all_follow : (terms : Terms) (entries new : List Entry) (i : ℕ) (s : State) → length new ≤ i
-    → length entries + length new ≤ 65535 → StandsAt terms (entries ++ take i new) s → IsLegalRecord terms (entries ++ new)
-all_follow terms entries new i s all few at =
-    (omega (arith, length-append entries new), (s, subst (λ (l : List Entry). StandsAt terms (entries ++ l) s) (take_all i new all) at))
+    → length entries + length new ≤ 65535 → StandsAt terms (entries ++ take i new) s
+    → IsLegalRecord terms (entries ++ new)
+all_follow terms entries new i s all few at = (
+  omega (arith, length-append entries new),
+  (s, subst (λ (l : List Entry). StandsAt terms (entries ++ l) s) (take_all i new all) at),
+)
 
 -- up to each of them the record is legal, where it is with all of them
 pub legal_so_far : (terms : Terms) (entries new : List Entry) (i : ℕ) (x : Entry) → i < length new → x ≡ get_or new i x
@@ -68,7 +75,8 @@ legal_so_far terms entries new i x within is legal =
     (subst (IsLegalRecord terms) (rest_of entries new i x within is) legal)
 
 -- where there is room, an entry that follows is appended
-pub appended : {A : Type 0} (r : Result A EntryFault) (log : Log) (e : Entry) → IfErr r (λ why. IsRecordFault why log e) → 0 < log.spare
+pub appended : {A : Type 0} (r : Result A EntryFault) (log : Log) (e : Entry) → IfErr r (λ why. IsRecordFault why log e)
+    → 0 < log.spare
     → (r ≢ Err fault.Memory → (IsOk r) ↔ IsNext log.terms log.entries e)
     → IsNext log.terms log.entries e → IsOk r
 appended (Ok x) log e why room ok legal = refl
@@ -81,7 +89,8 @@ appended (Err (fault.Turn t)) log e why room ok legal = (ok (λ h. absurd (cc h)
 appended (Err (fault.NoDouble d)) log e why room ok legal = (ok (λ h. absurd (cc h))).1 legal
 
 -- an entry that does not follow ends those that do
-pub follows_for : (terms : Terms) (entries list : List Entry) (i : ℕ) (x : Entry) (s : State) → i < length list → x ≡ get_or list i x
+pub follows_for : (terms : Terms) (entries list : List Entry) (i : ℕ) (x : Entry) (s : State) → i < length list
+    → x ≡ get_or list i x
     → length entries + length list ≤ 65535 → length (take i list) ≡ i
     → StandsAt terms (entries ++ take i list) s → (CanFollow s x → ⊥) → FollowsFor terms entries list i
 follows_for terms entries list i x s within is few taken at stuck =
@@ -91,5 +100,8 @@ follows_for terms entries list i x s within is few taken at stuck =
     record {
       within = omega arith;
       legal = (omega arith, (s, at));
-      no_more = λ more_left legal. stuck ((legal_follow terms front x s at room).0 (subst (IsLegalRecord terms) (more entries list i x within is) legal));
+      no_more =
+          λ more_left legal. stuck
+          ((legal_follow terms front x s at room).0
+          (subst (IsLegalRecord terms) (more entries list i x within is) legal));
     }

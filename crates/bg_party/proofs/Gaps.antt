@@ -1,5 +1,6 @@
 -- A follower keeps its gaps.
-use Rattle.std.proofs.Common.{◌≡◌, ◌==◌, ℕ, zero, suc, ◌-◌, ◌*◌, ◌<◌, ◌≤◌, ◌∙◌, Bool, true, false, min, if◌then◌else◌, refl, ap, subst, arith}
+use Rattle.std.proofs.Common.{◌≡◌, ◌==◌, ℕ, zero, suc, ◌-◌, ◌*◌, ◌<◌, ◌≤◌, ◌∙◌, Bool, true, false, min, if◌then◌else◌}
+use Rattle.std.proofs.Common.{refl, ap, subst, arith}
 use Rattle.std.proofs.lemmas.Bool.Decides.{nat_tests}
 use Rattle.bg_party.specs.Retry.{RetryView, KeepsTheGaps, is_due, after_tick, after_ticks, longest_gap}
 
@@ -9,13 +10,18 @@ waits zero w gap within = let same : w - zero ≡ w = omega arith in rw same ref
 waits (suc i) w gap within =
     let busy : (w == 0) ≡ false = grind (arith, nat_tests) in
     let step : after_tick (record { wait = w; gap = gap }) ≡ record { wait = w - 1; gap = gap } =
-    ap (λ (b : Bool). if b then record { wait = gap - 1; gap = min longest_gap (2 * gap) } else record { wait = w - 1; gap = gap }) busy in
+    ap (λ (b : Bool). if b then record { wait = gap - 1; gap = min longest_gap (2 * gap) } else record {
+      wait =
+          w - 1;
+      gap = gap;
+    }) busy in
     let less : w - 1 - i ≡ w - suc i = omega arith in
     ap (after_ticks i) step ∙ waits i (w - 1) gap (omega arith) ∙ ap (λ (n : ℕ). record { wait = n; gap = gap }) less
 
 -- the ticks after one on which it sends
 later : (gap i : ℕ) → suc i ≤ gap
-    → after_ticks (suc i) (record { wait = 0; gap = gap }) ≡ record { wait = gap - 1 - i; gap = min longest_gap (2 * gap) }
+    → after_ticks (suc i)
+    (record { wait = 0; gap = gap }) ≡ record { wait = gap - 1 - i; gap = min longest_gap (2 * gap) }
 later gap i within = waits i (gap - 1) (min longest_gap (2 * gap)) (omega arith)
 
 silent : (gap n : ℕ) → 1 ≤ n → n < gap → is_due (after_ticks n (record { wait = 0; gap = gap })) ≡ false
@@ -26,7 +32,9 @@ silent gap (suc i) some less =
 
 sends : (gap n : ℕ) → n ≡ gap
     → after_ticks n (record { wait = 0; gap = gap }) ≡ record { wait = 0; gap = min longest_gap (2 * gap) }
-sends gap zero same = subst (λ (g : ℕ). after_ticks zero (record { wait = 0; gap = g }) ≡ record { wait = 0; gap = min longest_gap (2 * g) }) same refl
+sends gap zero same =
+    subst (λ (g : ℕ). after_ticks zero
+    (record { wait = 0; gap = g }) ≡ record { wait = 0; gap = min longest_gap (2 * g) }) same refl
 sends gap (suc i) same =
     let none : gap - 1 - i ≡ 0 = omega arith in
     later gap i (omega arith) ∙ ap (λ (n : ℕ). record { wait = n; gap = min longest_gap (2 * gap) }) none

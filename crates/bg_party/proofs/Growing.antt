@@ -1,5 +1,6 @@
 -- A follower whose record grows.
-use Rattle.std.proofs.Common.{◌≡◌, ℕ, ◌+◌, ◌-◌, ◌≤◌, nat_lt, Bool, Option, Some, None, List, [], ◌∷◌, ◌++◌, length, take, drop, if◌then◌else◌, refl, sym, ◌∙◌, ap, subst, arith, append_assoc, length-append}
+use Rattle.std.proofs.Common.{◌≡◌, ℕ, ◌+◌, ◌-◌, ◌≤◌, nat_lt, Bool, Option, Some, None, List, [], ◌∷◌, ◌++◌, length}
+use Rattle.std.proofs.Common.{take, drop, if◌then◌else◌, refl, sym, ◌∙◌, ap, subst, arith, append_assoc, length-append}
 use Rattle.std.proofs.Math.Seq.{take-append-add}
 use Rattle.std.proofs.lemmas.List.{length-drop}
 use Rattle.std.proofs.lemmas.Bool.Decides.{nat_tests}
@@ -29,7 +30,8 @@ early_fits early held new most all some =
     omega arith
 
 -- so many of the early entries follow behind the new ones, so those and the new ones follow, and no more
-pub follow_together : (terms : Terms) (entries new early : List Entry) (count : ℕ) → FollowsFor terms (entries ++ new) early count
+pub follow_together : (terms : Terms) (entries new early : List Entry) (count : ℕ)
+    → FollowsFor terms (entries ++ new) early count
     → FollowsFor terms entries (new ++ early) (length new + count)
 follow_together terms entries new early count h =
     let size = length-append new early in
@@ -42,7 +44,8 @@ follow_together terms entries new early count h =
     }
   where
     same : (n : ℕ) → (entries ++ new) ++ take n early ≡ entries ++ take (length new + n) (new ++ early)
-    same n = append_assoc entries new (take n early) ∙ ap (λ (l : List Entry). entries ++ l) (sym (take-append-add new early n))
+    same n = append_assoc entries new (take n early)
+        ∙ ap (λ (l : List Entry). entries ++ l) (sym (take-append-add new early n))
 
 -- the record with the new entries, and then with those early ones
 pub grown_by : (f : FollowerView) (new early : List Entry) (count : ℕ) (a b d : Log) (places : List (Option Entry))
@@ -54,32 +57,48 @@ grown_by f new early count a b d places ha hb hd hp =
     let test : nat_lt (length new + count) (length (new ++ early)) ≡ nat_lt count (length early) =
     rw length-append (same_test (length new) count (length early)) in
     let entries : d.entries ≡ f.log.entries ++ take (length new + count) (new ++ early) =
-    ap (λ (l : Log). l.entries) hd ∙ ap (λ (l : Log). l.entries ++ take count early) hb ∙ ap (λ (l : Log). (l.entries ++ new) ++ take count early) ha
-    ∙ append_assoc f.log.entries new (take count early) ∙ ap (λ (l : List Entry). f.log.entries ++ l) (sym (take-append-add new early count)) in
-    let log : d ≡ record (f.log) { entries = f.log.entries ++ take (length new + count) (new ++ early); spare = d.spare } =
+    ap (λ (l : Log). l.entries) hd ∙ ap (λ (l : Log). l.entries ++ take count early) hb
+    ∙ ap (λ (l : Log). (l.entries ++ new) ++ take count early) ha
+    ∙ append_assoc f.log.entries new (take count early)
+    ∙ ap (λ (l : List Entry). f.log.entries ++ l) (sym (take-append-add new early count)) in
+    let log : d ≡ record
+    (f.log) { entries = f.log.entries ++ take (length new + count) (new ++ early); spare = d.spare } =
     hd ∙ ap (λ (l : Log). record l { entries = l.entries ++ take count early; spare = d.spare }) hb
     ∙ ap (λ (l : Log). record l { entries = (l.entries ++ new) ++ take count early; spare = d.spare }) ha
-    ∙ ap (λ (l : List Entry). record (f.log) { entries = l; spare = d.spare }) (append_assoc f.log.entries new (take count early) ∙ ap (λ (l : List Entry). f.log.entries ++ l) (sym (take-append-add new early count))) in
+    ∙ ap (λ (l : List Entry). record (f.log) { entries = l; spare = d.spare })
+    (append_assoc f.log.entries new (take count early)
+    ∙ ap (λ (l : List Entry). f.log.entries ++ l) (sym (take-append-add new early count))) in
     ap (λ (l : Log). record { log = l; early = places; retry = at_once }) log
-    ∙ ap (λ (p : List (Option Entry)). record { log = record (f.log) { entries = f.log.entries ++ take (length new + count) (new ++ early); spare = d.spare }; early = p; retry = at_once })
+    ∙ ap (λ (p : List (Option Entry)). record {
+      log =
+          record (f.log) { entries = f.log.entries ++ take (length new + count) (new ++ early); spare = d.spare };
+      early =
+          p;
+      retry = at_once;
+    })
     (hp ∙ ap (λ (t : Bool). if t then [] else drop (length new + count) f.early) (sym test))
   where
     same_test : (n a b : ℕ) → nat_lt (n + a) (n + b) ≡ nat_lt a b
     same_test n a b = grind (arith, nat_tests)
 
 -- new entries that follow, and the early ones behind them, are what the list teaches
-pub appends_all : (f : FollowerView) (start : ℕ) (list new early : List Entry) (count : ℕ) (l : Learned) (after : FollowerView)
+pub appends_all : (f : FollowerView) (start : ℕ) (list new early : List Entry) (count : ℕ) (l : Learned)
+    (after : FollowerView)
     → new ≡ new_entries f.log.entries start list → early ≡ early_behind f.early (length new)
     → Extends f.log.terms f.log.entries start list → FollowsFor f.log.terms (f.log.entries ++ new) early count
     → Appends f new early count l after
     → Teaches f start list l × IsAfter f (packet.Entries f.log.id start list) l after
 appends_all f start list new early count l after same_new same_early extends follows h =
     let all : new ++ early ≡ coming f start list = rw (same_early, same_new) refl in
-    let grows : GrowsBy f start list (length new + count) =
-    (extends, subst (λ (x : List Entry). FollowsFor f.log.terms f.log.entries x (length new + count)) all (follow_together f.log.terms f.log.entries new early count follows)) in
+    let grows : GrowsBy f start list (length new + count) = (
+      extends,
+      subst (λ (x : List Entry). FollowsFor f.log.terms f.log.entries x (length new + count)) all
+          (follow_together f.log.terms f.log.entries new early count follows),
+    ) in
     by_cases l all grows h
   where
-    by_cases : (l : Learned) → new ++ early ≡ coming f start list → GrowsBy f start list (length new + count) → Appends f new early count l after
+    by_cases : (l : Learned) → new ++ early ≡ coming f start list → GrowsBy f start list (length new + count)
+        → Appends f new early count l after
         → Teaches f start list l × IsAfter f (packet.Entries f.log.id start list) l after
     by_cases learned.Memory all grows h = ((length new + count, grows, h.0), h.1)
     by_cases (learned.Grew k) all grows h = (
@@ -93,7 +112,8 @@ appends_all f start list new early count l after same_new same_early extends fol
     by_cases (learned.Illegal n) all grows h = absurd h
 
 -- the new entries of a list have numbers
-pub new_fits : (entries : List Entry) (start : ℕ) (list : List Entry) → 1 ≤ start → start ≤ length entries + 1 → start + length list ≤ 65536
+pub new_fits : (entries : List Entry) (start : ℕ) (list : List Entry) → 1 ≤ start → start ≤ length entries + 1
+    → start + length list ≤ 65536
     → length entries ≤ 65535 → length entries + length (new_entries entries start list) ≤ 65535
 new_fits entries start list low joins last few =
     let size = length-drop (length entries + 1 - start) list in omega arith

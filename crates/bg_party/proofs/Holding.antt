@@ -1,5 +1,6 @@
 -- Entries that continue a record are held afterwards.
-use Rattle.std.proofs.Common.{◌≡◌, ◌⊎◌, inl, inr, ℕ, zero, suc, ◌+◌, ◌-◌, ◌<◌, ◌≤◌, Some, List, [], ◌∷◌, ◌++◌, length, take, drop, slice_get, refl, sym, ◌∙◌, ap, subst, arith, append_assoc, length-append}
+use Rattle.std.proofs.Common.{◌≡◌, ◌⊎◌, inl, inr, ℕ, zero, suc, ◌+◌, ◌-◌, ◌<◌, ◌≤◌, Some, List, [], ◌∷◌, ◌++◌, length}
+use Rattle.std.proofs.Common.{take, drop, slice_get, refl, sym, ◌∙◌, ap, subst, arith, append_assoc, length-append}
 use Rattle.std.proofs.Math.Seq.{take-append-add}
 use Rattle.std.proofs.lemmas.List.{take-append-drop, take-append-le, length-drop}
 use Rattle.std.proofs.lemmas.Option.{slice_get_within}
@@ -18,7 +19,8 @@ use Rattle.bg_party.specs.Takes.{Continues, Keeps, IsAfter}
 use Rattle.bg_party.specs.Window.{early_behind}
 
 -- what entries of this match teach
-pub learns_entries : (f : FollowerView) (id start : ℕ) (list : List Entry) (l : Learned) → id ≡ f.log.id → Teaches f start list l
+pub learns_entries : (f : FollowerView) (id start : ℕ) (list : List Entry) (l : Learned) → id ≡ f.log.id
+    → Teaches f start list l
     → Learns f (packet.Entries id start list) l
 learns_entries f id start list learned.OtherMatch same h = absurd h
 learns_entries f id start list learned.Nothing same h = (same, h)
@@ -59,7 +61,8 @@ get_drop (suc h) (x ∷ xs) zero j e = absurd (omega arith)
 get_drop (suc h) (x ∷ xs) (suc i) j e = get_drop h xs i j (omega arith)
 
 -- where the list agrees with what is held, and nothing of it is new, all of it is held
-all_held : (entries : List Entry) (start : ℕ) (list : List Entry) → Agrees entries start list → start ≤ length entries + 1
+all_held : (entries : List Entry) (start : ℕ) (list : List Entry) → Agrees entries start list
+    → start ≤ length entries + 1
     → new_entries entries start list ≡ [] → IsRun entries start list
 all_held entries start list agrees joins none i e at =
     let within = slice_get_within list i e at in
@@ -67,7 +70,8 @@ all_held entries start list agrees joins none i e at =
     agrees i e at (omega (arith, length-drop (length entries + 1 - start) list))
 
 -- with its new entries all of it is held
-grown_holds : (entries : List Entry) (start : ℕ) (list : List Entry) → 1 ≤ start → Agrees entries start list → start ≤ length entries + 1
+grown_holds : (entries : List Entry) (start : ℕ) (list : List Entry) → 1 ≤ start → Agrees entries start list
+    → start ≤ length entries + 1
     → IsRun (entries ++ new_entries entries start list) start list
 grown_holds entries start list low agrees joins i e at = elim (nat_order (start + i) (length entries)) [
   | inl held ↦ number_left entries (new_entries entries start list) (start + i) e (agrees i e at held)
@@ -77,7 +81,8 @@ grown_holds entries start list low agrees joins i e at = elim (nat_order (start 
       ∙ get_drop (length entries + 1 - start) list i j (omega arith) ∙ at
 ]
 
-keeps_none : (old : Log) (p : Packet) (l : Learned) (new : Log) → (Continues old.id old.terms old.entries p → ⊥) → Keeps old p l new
+keeps_none : (old : Log) (p : Packet) (l : Learned) (new : Log) → (Continues old.id old.terms old.entries p → ⊥)
+    → Keeps old p l new
 keeps_none old p learned.OtherMatch new h = λ k. absurd (h k)
 keeps_none old p learned.Nothing new h = λ k. absurd (h k)
 keeps_none old p (learned.Conflict n) new h = λ k. absurd (h k)
@@ -88,7 +93,9 @@ keeps_none old p (learned.Grew k) new h = λ c. absurd (h c)
 
 -- the coming entries begin with the new ones of the list, and these are among those that are appended
 pub grown_so_far : (f : FollowerView) (start : ℕ) (list : List Entry) (k : ℕ) → GrowsBy f start list k
-    → (rest : List Entry) × (f.log.entries ++ take k (coming f start list) ≡ (f.log.entries ++ new_entries f.log.entries start list) ++ rest)
+    → (rest : List Entry)
+    × (f.log.entries ++ take k (coming f start list) ≡
+    (f.log.entries ++ new_entries f.log.entries start list) ++ rest)
 grown_so_far f start list k h =
     let new = new_entries f.log.entries start list in
     let early = early_behind f.early (length new) in
@@ -103,9 +110,12 @@ grown_so_far f start list k h =
           )
       | inr less ↦
           let front = take-append-le (k + 1) new early (omega arith) in
-          absurd (h.1.no_more (omega arith) (subst (λ (l : List Entry). IsLegalRecord f.log.terms (f.log.entries ++ l)) (sym front)
+          absurd (h.1.no_more (omega arith)
+          (subst (λ (l : List Entry). IsLegalRecord f.log.terms (f.log.entries ++ l)) (sym front)
           (legal_fronts f.log.terms (f.log.entries ++ take (k + 1) new) (drop (k + 1) new)
-          (subst (IsLegalRecord f.log.terms) (ap (λ (l : List Entry). f.log.entries ++ l) (sym (take-append-drop (k + 1) new)) ∙ sym (append_assoc f.log.entries (take (k + 1) new) (drop (k + 1) new))) h.0.2))))
+          (subst (IsLegalRecord f.log.terms)
+          (ap (λ (l : List Entry). f.log.entries ++ l) (sym (take-append-drop (k + 1) new))
+          ∙ sym (append_assoc f.log.entries (take (k + 1) new) (drop (k + 1) new))) h.0.2))))
     ]
 
 run_left : (xs ys : List Entry) (start : ℕ) (list : List Entry) → IsRun xs start list → IsRun (xs ++ ys) start list
@@ -116,22 +126,31 @@ keeps_entries : (old : FollowerView) (id start : ℕ) (list : List Entry) (l : L
     → Keeps old.log (packet.Entries id start list) l new.log
 keeps_entries old id start list learned.OtherMatch new low h after = λ k. absurd (h k.0)
 keeps_entries old id start list learned.Nothing new low h after =
-    λ k. subst (λ (f : FollowerView). IsRun f.log.entries start list) (sym after) (all_held old.log.entries start list k.1.0 k.1.1 h.1.1)
+    λ k. subst (λ (f : FollowerView). IsRun f.log.entries start list) (sym after)
+    (all_held old.log.entries start list k.1.0 k.1.1 h.1.1)
 keeps_entries old id start list (learned.Conflict n) new low h after =
     λ k. let c = h.1 in
-    absurd (c.5 (subst (λ (m : ℕ). at_number old.log.entries m ≡ Some c.1) (sym c.2) (k.1.0 c.0 c.1 c.4 (omega (arith, c.2, c.3)))))
+    absurd (c.5
+    (subst (λ (m : ℕ). at_number old.log.entries m ≡ Some c.1) (sym c.2)
+    (k.1.0 c.0 c.1 c.4 (omega (arith, c.2, c.3)))))
 keeps_entries old id start list learned.Gap new low h after = λ k. absurd (omega (arith, h.1.1, k.1.1))
 keeps_entries old id start list (learned.Illegal n) new low h after =
     λ k. let all = old.log.entries ++ new_entries old.log.entries start list in
-    absurd (h.1.1.illegal (legal_fronts old.log.terms (take n all) (drop n all) (subst (IsLegalRecord old.log.terms) (sym (take-append-drop n all)) k.2)))
+    absurd (h.1.1.illegal
+    (legal_fronts old.log.terms (take n all) (drop n all)
+    (subst (IsLegalRecord old.log.terms) (sym (take-append-drop n all)) k.2)))
 keeps_entries old id start list learned.Memory new low h after = tt
 keeps_entries old id start list (learned.Grew n) new low h after =
     λ k. let more = grown_so_far old start list n h.1 in
     subst (λ (f : FollowerView). IsRun f.log.entries start list) (sym after.0)
     (subst (λ (l : List Entry). IsRun l start list) (sym more.1)
-    (run_left (old.log.entries ++ new_entries old.log.entries start list) more.0 start list (grown_holds old.log.entries start list low k.1.0 k.1.1)))
+    (run_left (old.log.entries ++ new_entries old.log.entries start list) more.0 start list
+    (grown_holds old.log.entries start list low k.1.0 k.1.1)))
 
-pub keeps : (old : FollowerView) (p : Packet) (l : Learned) (new : FollowerView) → IsPacket p → Learns old p l → IsAfter old p l new → Keeps old.log p l new.log
-keeps old (packet.Want id sender held) l new is h after = keeps_none old.log (packet.Want id sender held) l new.log (λ k. k)
-keeps old (packet.Claim id sender number action) l new is h after = keeps_none old.log (packet.Claim id sender number action) l new.log (λ k. k)
+pub keeps : (old : FollowerView) (p : Packet) (l : Learned) (new : FollowerView) → IsPacket p → Learns old p l
+    → IsAfter old p l new → Keeps old.log p l new.log
+keeps old (packet.Want id sender held) l new is h after =
+    keeps_none old.log (packet.Want id sender held) l new.log (λ k. k)
+keeps old (packet.Claim id sender number action) l new is h after =
+    keeps_none old.log (packet.Claim id sender number action) l new.log (λ k. k)
 keeps old (packet.Entries id start list) l new is h after = keeps_entries old id start list l new is.first_entry h after

@@ -1,5 +1,6 @@
 -- Entries that are kept from a place on.
-use Rattle.std.proofs.Common.{◌≡◌, inl, inr, ℕ, zero, suc, ◌+◌, ◌<◌, ◌≤◌, Option, Some, None, List, [], ◌∷◌, ◌++◌, length, take, slice_get, refl, sym, ◌∙◌, subst, arith}
+use Rattle.std.proofs.Common.{◌≡◌, inl, inr, ℕ, zero, suc, ◌+◌, ◌<◌, ◌≤◌, Option, Some, None, List, [], ◌∷◌, ◌++◌}
+use Rattle.std.proofs.Common.{length, take, slice_get, refl, sym, ◌∙◌, subst, arith}
 use Rattle.std.proofs.lemmas.List.{length-take-le}
 use Rattle.std.proofs.lemmas.Option.{slice_get_within}
 use Rattle.bg_match.specs.declared.entries.Entry.{Entry}
@@ -34,7 +35,8 @@ keeps_more old mid new place i list x within is kept put others =
     }
 
 -- behind the last place nothing is kept
-pub keeps_all : (old new : List (Option Entry)) (place i : ℕ) (list : List Entry) → i < length list → window_size ≤ place + i
+pub keeps_all : (old new : List (Option Entry)) (place i : ℕ) (list : List Entry) → i < length list
+    → window_size ≤ place + i
     → KeepsFrom old place (take i list) new → KeepsFrom old place list new
 keeps_all old new place i list within full kept =
     let size : length (take i list) ≡ i = length-take-le i list (omega arith) in

@@ -1,5 +1,6 @@
 -- What a follower makes of a packet: what it learns, and what it has afterwards.
-use Rattle.std.specs.Prelude.{◌≡◌, ◌⊎◌, ℕ, ◌+◌, ◌-◌, ◌<◌, ◌≤◌, nat_lt, Some, List, [], ◌++◌, length, take, drop, slice_get}
+use Rattle.std.specs.Prelude.{◌≡◌, ◌⊎◌, ℕ, ◌+◌, ◌-◌, ◌<◌, ◌≤◌, nat_lt, Some, List, [], ◌++◌, length, take, drop}
+use Rattle.std.specs.Prelude.{slice_get}
 use Rattle.std.specs.Prelude.{if◌then◌else◌}
 use Rattle.bg_match.specs.Terms.{Terms}
 use Rattle.bg_match.specs.declared.entries.Entry.{Entry}

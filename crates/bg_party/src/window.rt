@@ -6,7 +6,8 @@ use arrayvec::ArrayVec;
 use bg_match::Entry;
 use std::marker::Model;
 
-/// How far behind the last entry of a record an early one may be to be kept.
+/// How far behind the last entry of a record an early one may be to be kept, in entries (docs/PROTOCOL.md, "The
+/// window").
 pub const WINDOW: usize = 32;
 
 /// Early entries. The first place is that of the number behind the last one of the record (docs/PROTOCOL.md, "The

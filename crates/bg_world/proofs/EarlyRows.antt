@@ -1,5 +1,6 @@
 -- What followers keep was shown to them, after each event too.
-use Rattle.std.specs.Prelude.{◌≡◌, ◌⊎◌, ℕ, zero, suc, ◌+◌, List, [], ◌++◌, Option, Some, None, IfSome, Result, Ok, Err, MatchOption, slice_get, slice_set}
+use Rattle.std.specs.Prelude.{◌≡◌, ◌⊎◌, ℕ, zero, suc, ◌+◌, List, [], ◌++◌, Option, Some, None, IfSome, Result, Ok, Err}
+use Rattle.std.specs.Prelude.{MatchOption, slice_get, slice_set}
 use Rattle.std.specs.Global.{Vec}
 use Rattle.std.proofs.Common.{refl, sym, ◌∙◌, ap, subst, inl, inr, arith}
 use Rattle.bg_board.specs.declared.players.Player.{Player}
@@ -24,12 +25,15 @@ use Rattle.bg_world.specs.declared.events.Event.TheVariants as events
 use Rattle.bg_world.specs.declared.events.Outcome.{Outcome}
 use Rattle.bg_world.specs.declared.events.Outcome.TheVariants as outcomes
 use Rattle.bg_world.specs.declared.roles.Role.TheVariants as roles
-use Rattle.bg_world.specs.Calls.{Calls, ChooseCalls, DueCalls, NoCalls, RestartCalls, SaveCalls, SeatTakes, TakeCalls, TickCalls, WatcherTakes, seat_parts}
+use Rattle.bg_world.specs.Calls.{Calls, ChooseCalls, DueCalls, NoCalls, RestartCalls, SaveCalls, SeatTakes, TakeCalls}
+use Rattle.bg_world.specs.Calls.{TickCalls, WatcherTakes, seat_parts}
 use Rattle.bg_world.specs.KeeperCalls.{ComesUp, SaveCallsAt, SaveGoesOn, SaveTold}
 use Rattle.bg_world.specs.LinkCalls.{FollowerTakeCalls, FollowerTickCalls, RefereeTakeCalls, RefereeTickCalls}
 use Rattle.bg_world.specs.Roles.{role}
-use Rattle.bg_world.specs.Views.{KeeperView, LinkView, WorldView, parties, seat_core, seat_keeper, with_seat_core, with_seat_keeper}
-use Rattle.bg_world.specs.WorldState.{AllKeepWhatWasShown, CoresMatch, KeepsWhatWasShown, Restorable, SeatSide, restorable_of}
+use Rattle.bg_world.specs.Views.{KeeperView, LinkView, WorldView, parties, seat_core, seat_keeper, with_seat_core}
+use Rattle.bg_world.specs.Views.{with_seat_keeper}
+use Rattle.bg_world.specs.WorldState.{AllKeepWhatWasShown, CoresMatch, KeepsWhatWasShown, Restorable, SeatSide}
+use Rattle.bg_world.specs.WorldState.{restorable_of}
 use Rattle.bg_world.proofs.EarlyEntries.{none_kept, seat_keeps, shown_more, watcher_keeps}
 use Rattle.bg_world.proofs.LearnRows.{seat_takes, watcher_takes}
 use Rattle.bg_world.proofs.Sides.{get_set_watcher, seat_side}
@@ -53,7 +57,8 @@ after_sends w out n more kept = record {
   o = if_some w.o (λ s. KeepsWhatWasShown w.id w.link.sent 2 s.follower)
       (λ s. KeepsWhatWasShown w.id n.sent 2 s.follower)
       (λ s. shown_more w.id w.link.sent n.sent out 2 s.follower more) kept.o;
-  watchers = λ i f is. shown_more w.id w.link.sent n.sent out (first_watcher + i) f.follower more (kept.watchers i f is);
+  watchers =
+      λ i f is. shown_more w.id w.link.sent n.sent out (first_watcher + i) f.follower more (kept.watchers i f is);
 }
 
 with_seat : (w : WorldView) (q : Player) (s : Option SeatView) → SeatKeeps w.id w.link.sent q s

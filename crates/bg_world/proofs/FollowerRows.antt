@@ -12,7 +12,8 @@ use Rattle.bg_world.specs.declared.events.Outcome.{Outcome}
 use Rattle.bg_world.specs.declared.events.Outcome.TheVariants as outcomes
 use Rattle.bg_world.specs.declared.roles.Role.TheVariants as roles
 use Rattle.bg_world.specs.State.{SeatState, State}
-use Rattle.bg_world.specs.WorldState.{AllKeepWhatWasShown, CoresMatch, Restorable, SeatSide, restorable_of, seat_state, state_of, watcher_log}
+use Rattle.bg_world.specs.WorldState.{AllKeepWhatWasShown, CoresMatch, Restorable, SeatSide, restorable_of, seat_state}
+use Rattle.bg_world.specs.WorldState.{state_of, watcher_log}
 use Rattle.bg_world.specs.LinkCalls.{FollowerTakeCalls}
 use Rattle.bg_world.specs.FollowerTakeStep.{FollowerTakeStep}
 use Rattle.bg_world.specs.Calls.{NoCalls, SeatTakes, TakeCalls, WatcherTakes}

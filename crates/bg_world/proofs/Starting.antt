@@ -1,5 +1,7 @@
--- A world where nothing has happened yet, over an empty link and empty slots, is a reached world: its state is the start.
-use Rattle.std.specs.Prelude.{◌≡◌, ◌⊎◌, ℕ, zero, suc, ◌+◌, List, [], ◌∷◌, ◌++◌, Some, None, Result, Ok, Err, IfOk, MatchResult, length, map, replicate, slice_get}
+-- A world where nothing has happened yet, over an empty link and empty slots, is a reached world: its state is the
+-- start.
+use Rattle.std.specs.Prelude.{◌≡◌, ◌⊎◌, ℕ, zero, suc, ◌+◌, List, [], ◌∷◌, ◌++◌, Some, None, Result, Ok, Err, IfOk}
+use Rattle.std.specs.Prelude.{MatchResult, length, map, replicate, slice_get}
 use Rattle.std.proofs.Common.{refl, sym, ◌∙◌, ap, ap₂, subst, inl, inr, arith, length-append}
 use Rattle.std.proofs.lemmas.List.{map-append}
 use Rattle.std.proofs.lemmas.Option.{same_Some}
@@ -16,7 +18,8 @@ use Rattle.bg_world.specs.Slots.{empty_slots}
 use Rattle.bg_world.specs.Starts.{AreUnused, fresh_watchers, start_of}
 use Rattle.bg_world.specs.State.{IsSetup, start}
 use Rattle.bg_world.specs.Views.{KeeperView, LinkView, WorldView}
-use Rattle.bg_world.specs.WorldState.{CoresMatch, IsReachedWorld, Restorable, WatcherMatches, WatchersMatch, state_of, watcher_log}
+use Rattle.bg_world.specs.WorldState.{CoresMatch, IsReachedWorld, Restorable, WatcherMatches, WatchersMatch, state_of}
+use Rattle.bg_world.specs.WorldState.{watcher_log}
 use Rattle.bg_world.proofs.EarlyEntries.{none_kept}
 
 -- ---- the watchers

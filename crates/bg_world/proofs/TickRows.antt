@@ -1,5 +1,6 @@
 -- What a party sends unasked is a row of the protocol.
-use Rattle.std.specs.Prelude.{◌≡◌, ℕ, zero, suc, ◌+◌, ◌<◌, ◌≤◌, Bool, true, false, List, [], ◌∷◌, Option, Some, None, MatchOption, option_map, map, length, slice_get, slice_set, if◌then◌else◌}
+use Rattle.std.specs.Prelude.{◌≡◌, ℕ, zero, suc, ◌+◌, ◌<◌, ◌≤◌, Bool, true, false, List, [], ◌∷◌, Option, Some, None}
+use Rattle.std.specs.Prelude.{MatchOption, option_map, map, length, slice_get, slice_set, if◌then◌else◌}
 use Rattle.std.specs.List.{AllByRecursion}
 use Rattle.std.proofs.Common.{refl, sym, ◌∙◌, ap, ap₂, subst, arith}
 use Rattle.std.proofs.lemmas.Option.{same_Some}
@@ -28,7 +29,8 @@ use Rattle.bg_world.specs.declared.events.Outcome.{Outcome}
 use Rattle.bg_world.specs.declared.events.Outcome.TheVariants as outcomes
 use Rattle.bg_world.specs.declared.roles.Role.TheVariants as roles
 use Rattle.bg_world.specs.State.{Exists, SeatState, State}
-use Rattle.bg_world.specs.WorldState.{CoresMatch, RefereeMatches, Restorable, SeatMatches, SeatSide, restorable_of, seat_state, state_of, watcher_log}
+use Rattle.bg_world.specs.WorldState.{CoresMatch, RefereeMatches, Restorable, SeatMatches, SeatSide, restorable_of, seat_state}
+use Rattle.bg_world.specs.WorldState.{state_of, watcher_log}
 use Rattle.bg_world.specs.Datagrams.{Carries}
 use Rattle.bg_world.specs.LinkCalls.{FollowerTickCalls, SendCalls, to_referee}
 use Rattle.bg_world.specs.TickStep.{Sends, TickStep, seat_packet, want_packet}
@@ -263,7 +265,8 @@ tick_watcher_goes w c honest is_honest i o new fits h = at (slice_get w.watchers
         let log = f.follower.log in
         let p = want_packet w.id (first_watcher + i) log.entries in
         let may : Datagram → Type 0 = λ d. Carries d referee p in
-        let same_packet : want_of f.party log ≡ p = ap₂ (λ (a b : ℕ). want_packet a b log.entries) fit.log.0 fit.party in
+        let same_packet : want_of f.party log ≡ p =
+        ap₂ (λ (a b : ℕ). want_packet a b log.entries) fit.log.0 fit.party in
         let may_go : referee < parties w → IsPacket (want_of f.party log) → Carries
         (datagram_of referee (want_of f.party log)) referee p =
         λ low range. subst (λ (x : Packet). Carries

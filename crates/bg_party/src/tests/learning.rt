@@ -81,14 +81,21 @@ fn lengths(rt: HostRuntime) -> Result<(), Fail> {
     Ok(())
 }
 
-/// Whether a seat learns an offer to resign under this number, and its rejection. Entries that lack memory are told
-/// again.
-fn learns_an_offer(seat: &mut Seat, number: u8) -> bool {
+/// Whether a seat learns an offer to resign under this number, and its rejection, which may have come before it. Entries
+/// that lack memory are told again.
+fn learns_an_offer(seat: &mut Seat, number: u8, rejection_first: bool) -> bool {
+    let mut rejection = REJECTED.as_slice();
+    if rejection_first {
+        if !one_gives(seat, number.wrapping_add(1), rejection, Learned::Gap) {
+            return false;
+        }
+        rejection = &[];
+    }
     let grew = Some(Learned::Grew(2));
-    let learned = told(seat, number, &OFFERED, &REJECTED);
+    let learned = told(seat, number, &OFFERED, rejection);
     if learned == Some(Learned::Memory) {
         let unchanged = seat.held().len() == Number::from(number).wrapping_sub(1);
-        return unchanged && told(seat, number, &OFFERED, &REJECTED) == grew;
+        return unchanged && told(seat, number, &OFFERED, rejection) == grew;
     }
     learned == grew
 }
@@ -96,7 +103,7 @@ fn learns_an_offer(seat: &mut Seat, number: u8) -> bool {
 /// Whether a seat that holds the opening learns eleven offers to resign, each rejected.
 fn learns_eleven_offers(seat: &mut Seat) -> bool {
     for offers in 1..12 {
-        if !learns_an_offer(seat, 2 * offers) {
+        if !learns_an_offer(seat, 2 * offers, offers % 2 == 0) {
             return false;
         }
     }

@@ -8,8 +8,12 @@ use Rattle.bg_party.proofs.follower.Follower.learn_from.Goals as goal
 
 pub returns-in-Entries-clause-learns : goal.returns-in-Entries-clause-learns
 returns-in-Entries-clause-learns c =
-    let f : FollowerView = record { log = c.self.inside.log; early = c.self.inside.window; retry = c.self.inside.retry } in
+    let f : FollowerView =
+    record { log = c.self.inside.log; early = c.self.inside.window; retry = c.self.inside.retry } in
     let list : c.as_slice.result.now ≡ c.in-Entries.list = c.as_slice.ensures.value ∙ c.list.view_is in
     let same : c.in-Entries.id ≡ c.self.inside.log.id =
     sym (ap id_of c.in-Entries.is) ∙ sym c.id.ensures ∙ c.if-id.false ∙ c.id-2.ensures in
-    rw (c.in-Entries.is, ← c.self.view_is) (learns_entries f c.in-Entries.id c.in-Entries.start c.in-Entries.list c.learn.result same (subst (λ (l : List Entry). Teaches f c.in-Entries.start l c.learn.result) list (rw (← c.self.view_is) at c.learn.ensures.teaches)))
+    rw (c.in-Entries.is, ← c.self.view_is)
+    (learns_entries f c.in-Entries.id c.in-Entries.start c.in-Entries.list c.learn.result same
+    (subst (λ (l : List Entry). Teaches f c.in-Entries.start l c.learn.result) list
+    (rw (← c.self.view_is) at c.learn.ensures.teaches)))

@@ -8,6 +8,8 @@ returns-clause-takes c =
     record {
       learns = e.learns;
       after = e.after;
-      keeps = keeps c.args.self.now c.args.packet.now c.learn_from.result c.learn_from.new.self c.requires e.learns e.after;
-      told = all_told c.args.self.now c.args.packet.now c.learn_from.result c.learn_from.new.self e.follower e.learns e.after;
+      keeps = keeps c.args.self.now c.args.packet.now c.learn_from.result c.learn_from.new.self c.requires e.learns
+          e.after;
+      told = all_told c.args.self.now c.args.packet.now c.learn_from.result c.learn_from.new.self e.follower e.learns
+          e.after;
     }

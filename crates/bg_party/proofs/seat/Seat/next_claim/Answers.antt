@@ -27,7 +27,8 @@ returns c =
     let legal = rw (held) at (c.in_default-check.ensures.ok.0 refl) in
     rw (← c.self.view_is) (
       (
-        subst (λ (p : Player). ActsAfter c.self.inside.follower.log.terms c.self.inside.follower.log.entries (Seat p)) same acts,
+        subst (λ (p : Player). ActsAfter c.self.inside.follower.log.terms c.self.inside.follower.log.entries (Seat p))
+            same acts,
         omega (arith, number, many),
         (c.unwrap-entry.result, rw c.copy.ensures at (rw c.unwrap-entry.ensures at c.entry_of.ensures.answers), legal),
       ),
