@@ -1,2 +1,3 @@
 pub mod Show
 pub mod Ending
+pub mod Sockets

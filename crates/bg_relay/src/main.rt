@@ -2,11 +2,16 @@
 #![tactic(auto)]
 
 mod arguments;
+mod device_faults;
 mod endings;
+mod file_keepers;
 mod files;
+mod loop_faults;
+mod reports;
 mod showing;
 #[cfg(test)]
 mod tests;
+mod udp_links;
 
 use arguments::command;
 use bg_text::{EngineFault, Reading, Writing, judge};
@@ -54,7 +59,7 @@ fn run(rt: &HostRuntime) -> Ending {
 }
 
 /// Says on the standard error what is wrong. Where that cannot be written, there is nobody to tell.
-fn say<D: Display + Drop>(rt: &impl Eprint, message: D) {
+pub(crate) fn say<D: Display + Drop>(rt: &impl Eprint, message: D) {
     let _ = eprintln!(rt; "bg_relay: {message}");
 }
 
