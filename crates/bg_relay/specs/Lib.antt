@@ -1,2 +1,5 @@
 pub mod Show
 pub mod Ending
+pub mod Words
+pub mod AutoAction
+pub mod Attempts

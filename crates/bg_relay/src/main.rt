@@ -2,11 +2,16 @@
 #![tactic(auto)]
 
 mod arguments;
+mod auto_actions;
+#[cfg(test)]
+mod auto_tests;
+mod dice_attempts;
 mod endings;
 mod files;
 mod showing;
 #[cfg(test)]
 mod tests;
+mod words;
 
 use arguments::command;
 use bg_text::{EngineFault, Reading, Writing, judge};
