@@ -1,4 +1,6 @@
 //! Why a match over sockets and files ends before its last round.
+ghost use Rattle.std.specs.Prelude.{◌≡◌};
+ghost use Rattle.bg_relay.specs.declared.loop_faults.LoopFault.TheVariants.{Memory, World};
 
 use bg_world::{Outcome, WorldFault, outcome_text};
 use std::alloc::{AllocError, AllocFailed};
@@ -21,18 +23,24 @@ pub enum LoopFault {
 }
 
 impl From<AllocError> for LoopFault {
+    ghost from_gives = { λ _ fault. fault ≡ Memory };
+
     fn from(_: AllocError) -> LoopFault {
         LoopFault::Memory
     }
 }
 
 impl<T: Drop> From<AllocFailed<T>> for LoopFault {
+    ghost from_gives = { λ _ fault. fault ≡ Memory };
+
     fn from(_: AllocFailed<T>) -> LoopFault {
         LoopFault::Memory
     }
 }
 
 impl From<WorldFault> for LoopFault {
+    ghost from_gives = { λ why fault. fault ≡ World why };
+
     fn from(fault: WorldFault) -> LoopFault {
         LoopFault::World(fault)
     }

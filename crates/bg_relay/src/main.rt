@@ -2,16 +2,24 @@
 #![tactic(auto)]
 
 mod arguments;
+mod auto_actions;
+#[cfg(test)]
+mod auto_tests;
 mod device_faults;
+mod dice_attempts;
 mod endings;
 mod file_keepers;
 mod files;
 mod loop_faults;
+mod loops;
 mod reports;
+mod round_schedule;
+mod rounds;
 mod showing;
 #[cfg(test)]
 mod tests;
 mod udp_links;
+mod words;
 
 use arguments::command;
 use bg_text::{EngineFault, Reading, Writing, judge};

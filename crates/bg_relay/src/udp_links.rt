@@ -1,5 +1,5 @@
 //! UDP sockets that carry a match over the loopback address.
-ghost use Rattle.std.specs.Prelude.{◌≡◌, [], None, length};
+ghost use Rattle.std.specs.Prelude.{◌≡◌, ◌⊎◌, [], None, length, IfErr};
 ghost use Rattle.bg_relay.specs.Sockets.{noted_answer};
 ghost use Rattle.bg_world.specs.Devices.{CountsFailed, HasCause};
 
@@ -122,6 +122,7 @@ impl<'a, R: Eprint> UdpLink<'a, R> {
     pub fn bind(rt: &'a R, parties: u8) -> Result<UdpLink<'a, R>, LoopFault>
     where
         R: Net + AllocGlobal,
+        ensures { IfErr result (λ fault. (fault ≡ LoopFault.Socket) ⊎ (fault ≡ LoopFault.Memory)) }
     {
         let mut ends = Vec::new(rt.alloc());
         for party in 0..parties {

@@ -1,0 +1,2 @@
+pub mod SomeTurn
+pub mod AutoActions
