@@ -8,9 +8,13 @@ mod auto_tests;
 mod device_faults;
 mod dice_attempts;
 mod endings;
+#[cfg(test)]
+mod failing_devices;
 mod file_keepers;
 mod files;
 mod loop_faults;
+#[cfg(test)]
+mod loop_tests;
 mod loops;
 mod reports;
 mod round_schedule;

@@ -151,7 +151,7 @@ impl<'a, R: Eprint> UdpLink<'a, R> {
 }
 
 /// What a take answered, for contracts alone.
-fn note_taken(taken: &Taken) -> Result<Option<History>, DeviceFault>
+pub(crate) fn note_taken(taken: &Taken) -> Result<Option<History>, DeviceFault>
     ensures { noted_answer result ≡ taken.now }
 {
     match taken {
