@@ -5,3 +5,5 @@ pub mod Words
 pub mod AutoAction
 pub mod Attempts
 pub mod Rounds
+pub mod Schedule
+pub mod Simulating

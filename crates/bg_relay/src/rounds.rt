@@ -46,9 +46,37 @@ pub fn run_rounds<L: Link + Drop, K: Keeper + Drop, W: Sink>(
     ensures length { OnOk result (IsMatchLength length) }
     ensures fault { IfErr result (IsRoundsFault (setup_of seed length) (W.failures output.old) (W.failures output.new)) }
 {
+    run_rounds_telling(
+        alloc,
+        seed,
+        length,
+        rounds,
+        link,
+        keepers,
+        output,
+        &mut |_| {},
+    )
+}
+
+/// The same, telling after each round how many are done.
+pub(crate) fn run_rounds_telling<L: Link + Drop, K: Keeper + Drop, W: Sink, F: FnMut(u32)>(
+    alloc: Global,
+    seed: u64,
+    length: u8,
+    rounds: u32,
+    link: L,
+    keepers: Keepers<K>,
+    output: &mut W,
+    tell: &mut F,
+) -> Result<(), LoopFault>
+    requires tell { (f : _) (done : _) → F.pre f done }
+    ensures length { OnOk result (IsMatchLength length) }
+    ensures fault { IfErr result (IsRoundsFault (setup_of seed length) (W.failures output.old) (W.failures output.new)) }
+{
     let mut played = Rounds::begin(alloc, seed, length, link, keepers)?;
-    for _ in 0..rounds {
+    for done in 0..rounds {
         played.round()?;
+        tell(done + 1);
     }
     played.finish(output)
 }
