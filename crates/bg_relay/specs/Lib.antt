@@ -1,2 +1,9 @@
 pub mod Show
 pub mod Ending
+pub mod Sockets
+pub mod Words
+pub mod AutoAction
+pub mod Attempts
+pub mod Rounds
+pub mod Schedule
+pub mod Simulating

@@ -8,6 +8,12 @@ use std::alloc::Global;
 /// The version that `--version` prints.
 const VERSION: &str = "0.1.0";
 
+/// The most rounds that a match over sockets may have.
+const MOST_ROUNDS: u32 = 1_000_000;
+
+/// The most events that an automatic match may have.
+const MOST_STEPS: u32 = 1_000_000;
+
 /// The program's commands, with their help.
 pub(crate) fn command<'a>(alloc: Global) -> Result<Command<'a>, Error> {
     Ok(
@@ -18,7 +24,9 @@ pub(crate) fn command<'a>(alloc: Global) -> Result<Command<'a>, Error> {
             .arg_required_else_help(true)
             .subcommand(judge_command(alloc))?
             .subcommand(show_command(alloc)?)?
-            .subcommand(script_command(alloc)?)?,
+            .subcommand(script_command(alloc)?)?
+            .subcommand(sim_command(alloc)?)?
+            .subcommand(loop_command(alloc)?)?,
     )
 }
 
@@ -60,18 +68,6 @@ fn show_command<'a>(alloc: Global) -> Result<Command<'a>, Error> {
 }
 
 fn script_command<'a>(alloc: Global) -> Result<Command<'a>, Error> {
-    let length = Arg::new(alloc, "length")
-        .long("length")
-        .value_name("N")
-        .value_parser(value_parser!(u8).range(i64::from(SHORTEST_MATCH)..=i64::from(LONGEST_MATCH)))
-        .required(true)
-        .help("The length of the match, in points: 1 to 99");
-    let watchers = Arg::new(alloc, "watchers")
-        .long("watchers")
-        .value_name("N")
-        .value_parser(value_parser!(u8).range(0..=i64::from(MOST_WATCHERS)))
-        .required(true)
-        .help("How many watch it: 0 to 253");
     Ok(
         Command::new(alloc, "script")
             .about("Let the events on standard input happen to a match in memory")
@@ -86,7 +82,94 @@ fn script_command<'a>(alloc: Global) -> Result<Command<'a>, Error> {
              `refused: input too long`. Ends with status 0 where the script is good, 2 where it is refused,\n\
              and 1 where reading, writing or memory failed.",
             )
-            .arg(length)?
-            .arg(watchers)?,
+            .arg(length_option(alloc))?
+            .arg(watchers_option(alloc))?,
     )
+}
+
+fn sim_command<'a>(alloc: Global) -> Result<Command<'a>, Error> {
+    let steps = Arg::new(alloc, "steps")
+        .long("steps")
+        .value_name("N")
+        .value_parser(value_parser!(u32).range(0..=i64::from(MOST_STEPS)))
+        .required(true)
+        .help("How many events happen: 0 to 1000000");
+    Ok(
+        Command::new(alloc, "sim")
+            .about("Play an automatic match in memory")
+            .long_about(
+                "Play an automatic match in memory.\n\
+             \n\
+             Random events happen to a referee, two seats and watchers, over a network that loses, repeats\n\
+             and reorders: packets are sent and taken, players choose, parties save and restart. Prints the\n\
+             transcript of the referee's record, then how many entries each party holds, and the board. The\n\
+             seed and the length alone decide what the entries are, and the rest how many there are. Says\n\
+             each second how far it is, where the standard error is a terminal. Ends with status 0, and 1\n\
+             where writing or memory failed.",
+            )
+            .arg(seed_option(alloc))?
+            .arg(length_option(alloc))?
+            .arg(watchers_option(alloc))?
+            .arg(steps)?,
+    )
+}
+
+fn loop_command<'a>(alloc: Global) -> Result<Command<'a>, Error> {
+    let rounds = Arg::new(alloc, "rounds")
+        .long("rounds")
+        .value_name("N")
+        .value_parser(value_parser!(u32).range(0..=i64::from(MOST_ROUNDS)))
+        .required(true)
+        .help("How many rounds are played: 0 to 1000000");
+    let folder = Arg::new(alloc, "dir")
+        .long("dir")
+        .value_name("DIR")
+        .required(true)
+        .help("The folder of the saved files, which must exist");
+    Ok(
+        Command::new(alloc, "loop")
+            .about("Play an automatic match over UDP sockets and files")
+            .long_about(
+                "Play an automatic match over UDP sockets and files.\n\
+             \n\
+             A referee, two seats and one watcher send each other packets over sockets on 127.0.0.1, and save\n\
+             in the files `party-P.S` of DIR, P the party and S the slot. Over the same folder, with the same\n\
+             seed and length, a match goes on where it was left, also after a crash. Prints how many entries\n\
+             each party holds in the end, and the board. Says each second how far it is, where the standard\n\
+             error is a terminal. Ends with status 0; with 1 where a socket can't be had, the files can't be\n\
+             read or are of another match or damaged, or writing or memory failed; with 2 where DIR is no\n\
+             folder.",
+            )
+            .arg(seed_option(alloc))?
+            .arg(length_option(alloc))?
+            .arg(rounds)?
+            .arg(folder)?,
+    )
+}
+
+fn seed_option<'a>(alloc: Global) -> Arg<'a> {
+    Arg::new(alloc, "seed")
+        .long("seed")
+        .value_name("N")
+        .value_parser(value_parser!(u64))
+        .required(true)
+        .help("What the random words go by, and the number of the match: 0 to 18446744073709551615")
+}
+
+fn length_option<'a>(alloc: Global) -> Arg<'a> {
+    Arg::new(alloc, "length")
+        .long("length")
+        .value_name("N")
+        .value_parser(value_parser!(u8).range(i64::from(SHORTEST_MATCH)..=i64::from(LONGEST_MATCH)))
+        .required(true)
+        .help("The length of the match, in points: 1 to 99")
+}
+
+fn watchers_option<'a>(alloc: Global) -> Arg<'a> {
+    Arg::new(alloc, "watchers")
+        .long("watchers")
+        .value_name("N")
+        .value_parser(value_parser!(u8).range(0..=i64::from(MOST_WATCHERS)))
+        .required(true)
+        .help("How many watch it: 0 to 253")
 }

@@ -24,6 +24,8 @@ pub enum Ending {
     Judged(Verdict),
     /// A script was played, or refused.
     Played(Verdict),
+    /// An automatic match was played.
+    Simulated,
     /// Two saved files were shown; whether one of them loads.
     Shown { loads: bool },
     /// Reading, writing or memory failed.
@@ -37,6 +39,7 @@ impl Ending {
     {
         match self {
             Ending::Told
+            | Ending::Simulated
             | Ending::Judged(Verdict::Fine(_))
             | Ending::Played(Verdict::Fine(_))
             | Ending::Shown { loads: true } => DONE,

@@ -1,12 +1,34 @@
-//! The program: judges backgammon matches, shows saved ones, and plays scripts.
+//! The program: judges backgammon matches, shows saved ones, and plays scripts and automatic matches, in
+//! memory or over sockets and files.
 #![tactic(auto)]
 
 mod arguments;
+mod auto_actions;
+#[cfg(test)]
+mod auto_tests;
+mod device_faults;
+mod dice_attempts;
 mod endings;
+#[cfg(test)]
+mod failing_devices;
+mod file_keepers;
 mod files;
+mod loop_command;
+mod loop_faults;
+#[cfg(test)]
+mod loop_tests;
+mod loops;
+mod progress;
+mod reports;
+mod round_schedule;
+mod rounds;
+mod schedule;
 mod showing;
+mod simulating;
 #[cfg(test)]
 mod tests;
+mod udp_links;
+mod words;
 
 use arguments::command;
 use bg_text::{EngineFault, Reading, Writing, judge};
@@ -15,15 +37,24 @@ use clap::ArgMatches;
 use clap::error::ErrorKind;
 use endings::Ending;
 use files::{read_saved, write_text};
+use loop_command::run_loop_command;
+use progress::Progress;
 use showing::show_text;
+use simulating::Simulation;
 use std::fmt::Display;
 use std::fs::File;
 use std::io;
+use std::io::IsTerminal;
+use std::net::Net;
 use std::process::ExitCode;
 use std::rt::Files;
+use std::time::Clock;
 
 /// The number of the match that scripts play.
 const SCRIPTED_MATCH: u64 = 1;
+
+/// How many events of an automatic match happen between two looks at the clock.
+const BATCH: u32 = 1000;
 
 /// The message where there is no memory.
 const NO_MEMORY: &str = "out of memory";
@@ -48,24 +79,24 @@ fn run(rt: &HostRuntime) -> Ending {
         return failed(rt, NO_MEMORY);
     };
     match command.try_get_matches_from(words.as_slice()) {
-        Ok(matches) => run_command(rt, &matches),
+        Ok(matches) => run_command(rt, &matches, rt.stderr().is_terminal()),
         Err(error) => answer(rt, &error),
     }
 }
 
 /// Says on the standard error what is wrong. Where that cannot be written, there is nobody to tell.
-fn say<D: Display + Drop>(rt: &impl Eprint, message: D) {
+pub(crate) fn say<D: Display + Drop>(rt: &impl Eprint, message: D) {
     let _ = eprintln!(rt; "bg_relay: {message}");
 }
 
 /// Reading, writing or memory failed.
-fn failed<D: Display + Drop>(rt: &impl Eprint, message: D) -> Ending {
+pub(crate) fn failed<D: Display + Drop>(rt: &impl Eprint, message: D) -> Ending {
     say(rt, message);
     Ending::Failed
 }
 
 /// The arguments are refused.
-fn wrong<D: Display + Drop>(rt: &impl Eprint, message: D) -> Ending {
+pub(crate) fn wrong<D: Display + Drop>(rt: &impl Eprint, message: D) -> Ending {
     say(rt, message);
     Ending::WrongArguments
 }
@@ -82,10 +113,11 @@ fn answer(rt: &(impl Print + Eprint), error: &clap::Error) -> Ending {
     }
 }
 
-/// Runs a subcommand.
+/// Runs a subcommand; somebody may watch the standard error.
 fn run_command(
-    rt: &(impl Input + Files<File = File> + Print + Eprint + AllocGlobal),
+    rt: &(impl Input + Files<File = File> + Net + Clock + Print + Eprint + AllocGlobal),
     matches: &ArgMatches<'_>,
+    is_watched: bool,
 ) -> Ending {
     match matches.subcommand() {
         Some(("judge", _)) => run_judge(rt),
@@ -110,6 +142,21 @@ fn run_command(
                 watchers,
             };
             run_script(rt, setup)
+        }
+        Some(("sim", options)) => {
+            let (Some(seed), Some(length), Some(watchers), Some(steps)) = (
+                options.get_one("seed"),
+                options.get_one("length"),
+                options.get_one("watchers"),
+                options.get_one("steps"),
+            ) else {
+                return wrong(rt, "an option is missing");
+            };
+            let progress = Progress::start(rt, is_watched);
+            run_sim(rt, seed, length, watchers, steps, progress)
+        }
+        Some(("loop", options)) => {
+            run_loop_command(rt, options, Progress::start(rt, is_watched))
         }
         _ => wrong(rt, "no such command"),
     }
@@ -145,6 +192,37 @@ fn run_script(rt: &(impl Input + Print + Eprint + AllocGlobal), setup: Setup) ->
             output.error(),
         ),
         Err(ScriptFault::Engine(EngineFault::Memory)) => failed(rt, EngineFault::Memory),
+    }
+}
+
+/// Plays an automatic match, and prints what [`sim_text`](simulating::sim_text) gives.
+fn run_sim(
+    rt: &(impl Clock + Print + Eprint + AllocGlobal),
+    seed: u64,
+    length: u8,
+    watchers: u8,
+    steps: u32,
+    mut progress: Progress,
+) -> Ending {
+    let mut simulation = match Simulation::new(rt.alloc(), seed, length, watchers) {
+        Ok(simulation) => simulation,
+        Err(fault) => return failed(rt, fault),
+    };
+    let mut done = 0;
+    while done < steps {
+        let next = steps.min(done.saturating_add(BATCH));
+        if simulation.run(done..next).is_err() {
+            return failed(rt, NO_MEMORY);
+        }
+        done = next;
+        progress.tell(rt, "events", done, steps);
+    }
+    let Ok(text) = simulation.text() else {
+        return failed(rt, NO_MEMORY);
+    };
+    match write_text(rt, &text) {
+        Ok(()) => Ending::Simulated,
+        Err(error) => failed(rt, format_args!("the output could not be written: {error}")),
     }
 }
 

@@ -2,7 +2,7 @@
 //! turn.
 use crate::WorldFault;
 use crate::row_tests::{THE_CLAIM_KEPT, THE_ROLL_LOST, TO_THE_ROLL, WITH_A_WATCHER};
-use crate::runs::{is_fault, is_memory};
+use crate::runs::is_fault;
 use crate::test_rows::{
     MemoryWorld, NO_FAILURE, Row, TO_THE_CHOICE, TO_THE_CLAIM, check_no_growth_is_left, event, is,
     world,
@@ -43,7 +43,7 @@ fn check_run(rt: &impl Abort, world: &mut MemoryWorld, rows: &[Row], undisturbed
     for (i, row) in rows.iter().enumerate() {
         let outcome = world.step(event(row.0));
         check_fronts(rt, world);
-        if is_memory(&outcome) || is_fault(&outcome) {
+        if outcome.wants_memory() || is_fault(&outcome) {
             undisturbed = false;
         }
         if undisturbed {

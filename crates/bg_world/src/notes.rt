@@ -1,4 +1,4 @@
-//! What the devices in memory note of their calls, for contracts alone.
+//! What devices note of their calls, for contracts alone.
 ghost use Rattle.std.specs.Prelude.{◌≡◌, length};
 ghost use Rattle.bg_world.specs.Devices.{CountsFailed};
 ghost use Rattle.bg_world.specs.Handed.{noted};
@@ -17,8 +17,9 @@ pub(crate) fn note_taken(taken: &Option<ArrayVec<u8, 256>>) -> Option<History>
     }
 }
 
-/// One failure more where the answer is `Failed`.
-pub(crate) fn count_failed<T>(faults: &History, answer: &Result<T, DeviceFault>) -> History
+/// The failures of a device after a call with this answer: one more where it is `Failed`, else as many as before. A
+/// device counts by it, so that its contract holds (`cause` of each call of [`crate::Link`] and [`crate::Keeper`]).
+pub fn count_failed<T>(faults: &History, answer: &Result<T, DeviceFault>) -> History
     ensures { CountsFailed (length faults.now.bytes) (length result.bytes) answer.now }
 {
     match answer {

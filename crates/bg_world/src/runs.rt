@@ -17,17 +17,19 @@ pub struct RunReport {
     pub faults: usize,
 }
 
-/// Whether memory was wanted.
-pub(crate) fn is_memory(outcome: &Outcome) -> bool
-    ensures { result ≡ is_memory outcome.now }
-{
-    matches!(
-        outcome,
-        Outcome::Due(Err(DueFault::Memory))
-            | Outcome::Took(TakeOutcome::Memory)
-            | Outcome::Learned(Learned::Memory)
-            | Outcome::Memory
-    )
+impl Outcome {
+    /// Whether there was no memory for it, in whatever call that was wanted.
+    pub fn wants_memory(&self) -> bool
+        ensures { result ≡ is_memory self.now }
+    {
+        matches!(
+            self,
+            Outcome::Due(Err(DueFault::Memory))
+                | Outcome::Took(TakeOutcome::Memory)
+                | Outcome::Learned(Learned::Memory)
+                | Outcome::Memory
+        )
+    }
 }
 
 /// Whether a device failed, or slots restore nothing for their party.
@@ -50,7 +52,7 @@ fn count(report: &mut RunReport, outcome: &Outcome)
     ensures faults { report.new.faults ≡ report.old.faults + count_by is_fault (outcome.now ∷ []) }
 {
     report.done += 1;
-    if is_memory(outcome) {
+    if outcome.wants_memory() {
         report.memory += 1;
     }
     if is_fault(outcome) {

@@ -1,0 +1,3 @@
+pub mod SomeTurn
+pub mod AutoActions
+pub mod Schedules

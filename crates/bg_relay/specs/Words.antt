@@ -1,0 +1,35 @@
+-- The random words of an automatic match: words of ChaCha20.
+use Rattle.std.specs.Prelude.{ℕ, ◌+◌, ◌*◌, List, ◌++◌, replicate}
+use Rattle.std.specs.Int.{w64, to_be_bytes}
+use Rattle.rand_chacha.specs.ChaCha.{key_of, word_at}
+
+-- ChaCha20 has twenty rounds, which are ten double rounds
+abbrev pub double_rounds : ℕ
+double_rounds = 10
+
+-- the stream of the dice, and that of the schedule
+abbrev pub dice_stream : ℕ
+dice_stream = 1
+
+abbrev pub schedule_stream : ℕ
+schedule_stream = 2
+
+-- the bytes of the key: the seed as eight bytes, the highest first, then 24 bytes 0
+abbrev pub key_bytes : ℕ → List ℕ
+key_bytes seed = to_be_bytes w64 seed ++ replicate 24 0
+
+-- the word at a place, from 0, of a stream
+abbrev pub word_of : ℕ → ℕ → ℕ → ℕ
+word_of seed stream place = word_at double_rounds (key_of (key_bytes seed)) stream place
+
+-- each entry has so many places, one for each attempt
+abbrev pub attempts : ℕ
+attempts = 65536
+
+-- the word for the dice of entry n at an attempt, from 0
+abbrev pub dice_word : ℕ → ℕ → ℕ → ℕ
+dice_word seed n attempt = word_of seed dice_stream (attempts * n + attempt)
+
+-- the two words that choose event i, from 0
+abbrev pub event_words : ℕ → ℕ → ℕ × ℕ
+event_words seed i = (word_of seed schedule_stream (2 * i), word_of seed schedule_stream (2 * i + 1))

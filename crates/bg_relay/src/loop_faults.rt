@@ -1,0 +1,59 @@
+//! Why a match over sockets and files ends before its last round.
+ghost use Rattle.std.specs.Prelude.{◌≡◌};
+ghost use Rattle.bg_relay.specs.declared.loop_faults.LoopFault.TheVariants.{Memory, World};
+
+use bg_world::{Outcome, WorldFault, outcome_text};
+use std::alloc::{AllocError, AllocFailed};
+use std::fmt;
+use std::fmt::{Display, Formatter, Write};
+
+/// Why a match over sockets and files ends before its last round, or begins with none (docs/OPERATING.md, "Messages").
+#[derive(Debug, PartialEq, Eq, Drop)]
+pub enum LoopFault {
+    /// There is no such match.
+    World(WorldFault),
+    /// A socket could not be opened on 127.0.0.1, or not be made non-blocking.
+    Socket,
+    /// An event came to this outcome: the slots of a party could not be restored, or there was no memory.
+    Stopped(Outcome),
+    /// The output could not be written.
+    Write,
+    /// There was no memory.
+    Memory,
+}
+
+impl From<AllocError> for LoopFault {
+    ghost from_gives = { λ _ fault. fault ≡ Memory };
+
+    fn from(_: AllocError) -> LoopFault {
+        LoopFault::Memory
+    }
+}
+
+impl<T: Drop> From<AllocFailed<T>> for LoopFault {
+    ghost from_gives = { λ _ fault. fault ≡ Memory };
+
+    fn from(_: AllocFailed<T>) -> LoopFault {
+        LoopFault::Memory
+    }
+}
+
+impl From<WorldFault> for LoopFault {
+    ghost from_gives = { λ why fault. fault ≡ World why };
+
+    fn from(fault: WorldFault) -> LoopFault {
+        LoopFault::World(fault)
+    }
+}
+
+impl Display for LoopFault {
+    fn fmt<W: Write>(&self, f: &mut Formatter<W>) -> fmt::Result {
+        match self {
+            LoopFault::World(fault) => write!(f, "{fault}"),
+            LoopFault::Socket => f.write_str("a socket could not be opened on 127.0.0.1"),
+            LoopFault::Stopped(outcome) => f.write_str(outcome_text(outcome).as_str()),
+            LoopFault::Write => f.write_str("the output could not be written"),
+            LoopFault::Memory => f.write_str("out of memory"),
+        }
+    }
+}

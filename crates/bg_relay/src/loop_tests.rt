@@ -1,0 +1,183 @@
+//! Matches over sockets and files.
+use crate::failing_devices::{Calls, Failing};
+use crate::file_keepers::FileKeeper;
+use crate::files::read_saved;
+use crate::loop_faults::LoopFault;
+use crate::loops::run_loop;
+use crate::rounds::{PARTIES, run_rounds};
+use crate::udp_links::UdpLink;
+use bg_text::Writing;
+use bg_wire::{REFEREE, SEAT_OF_O, SEAT_OF_X, Saved, restore};
+use bg_world::{Keepers, Outcome, RestoreCause};
+use std::fs;
+use std::test::Fail;
+
+const SEED: u64 = 7;
+
+const AT_THE_START: &str = "party 0: 0 entries
+party 1: 0 entries
+party 2: 0 entries
+party 3: 0 entries
+length 1 game 1 score 0-0 cube 1 middle crawford
+  13  14  15  16  17  18  19  20  21  22  23  24
+  X5   .   .   .  O3   .  O5   .   .   .   .  X2
+  O5   .   .   .  X3   .  X5   .   .   .   .  O2
+  12  11  10   9   8   7   6   5   4   3   2   1
+bar X 0 O 0 off X 0 O 0
+opening
+";
+
+/// A new folder among those that do not last.
+fn new_folder(rt: &HostRuntime, name: &str) -> Result<String, Fail> {
+    let process = std::process::id(rt.process());
+    let temp = std::env::temp_dir(rt)?;
+    let folder = format!(in rt.alloc(); "{}/bg_relay-{process}-{name}", temp.as_str())?;
+    fs::create_dir(rt, folder.as_str())?;
+    Ok(folder)
+}
+
+/// What is printed of a match of length 1 over the folder, or why it ends early.
+fn played(rt: &HostRuntime, folder: &str, seed: u64, rounds: u32) -> Result<Vec<u8>, LoopFault> {
+    let mut text = Vec::new(rt.alloc());
+    run_loop(rt, seed, 1, rounds, folder, &mut Writing::new(&mut text))?;
+    Ok(text)
+}
+
+/// What the files of the referee restore.
+fn saved(rt: &HostRuntime, folder: &str) -> Result<Saved, Fail> {
+    let zero = read_saved(rt, format!(in rt.alloc(); "{folder}/party-0.0")?.as_str())?;
+    let one = read_saved(rt, format!(in rt.alloc(); "{folder}/party-0.1")?.as_str())?;
+    match restore(rt.alloc(), &zero, &one, REFEREE, SEED, 1) {
+        Ok(Some(saved)) => Ok(saved),
+        _ => Err(Fail::from("nothing is restored")),
+    }
+}
+
+/// Whether the record begins with all entries of the earlier one.
+fn begins_with(saved: &Saved, earlier: &Saved) -> bool {
+    for number in 1..=earlier.log.len() {
+        if saved.log.entry(number) != earlier.log.entry(number) {
+            return false;
+        }
+    }
+    true
+}
+
+/// How many entries each party holds by the final text; `None` where a party is down.
+fn counts(text: &[u8]) -> Option<[u32; 4]> {
+    let mut counts = [0; 4];
+    let mut lines = text.split(|byte| *byte == b'\n');
+    for party in 0..4 {
+        let line = str::from_utf8(lines.next()?).ok()?;
+        let (_, rest) = line.split_once(": ")?;
+        let count = rest.strip_suffix(" entries")?;
+        counts[party] = count.parse().ok()?;
+    }
+    Some(counts)
+}
+
+#[test]
+fn no_rounds(rt: HostRuntime) -> Result<(), Fail> {
+    let folder = new_folder(&rt, "no-rounds")?;
+    let text = played(&rt, folder.as_str(), SEED, 0)?;
+    assert!(rt; text.as_slice() == AT_THE_START.as_bytes());
+    fs::remove_dir_all(&rt, folder.as_str())?;
+    Ok(())
+}
+
+#[test]
+fn forty_rounds_and_forty_more(rt: HostRuntime) -> Result<(), Fail> {
+    let folder = new_folder(&rt, "forty-rounds")?;
+    let text = played(&rt, folder.as_str(), SEED, 40)?;
+    assert!(rt; counts(&text).is_some_and(|counts| counts[0] >= 3));
+    let earlier = saved(&rt, folder.as_str())?;
+    played(&rt, folder.as_str(), SEED, 40)?;
+    let later = saved(&rt, folder.as_str())?;
+    assert!(rt; later.log.len() > earlier.log.len() && begins_with(&later, &earlier));
+    fs::remove_dir_all(&rt, folder.as_str())?;
+    Ok(())
+}
+
+/// Whether a match over the folder stops for this cause.
+fn stops(rt: &HostRuntime, folder: &str, seed: u64, cause: RestoreCause) -> bool {
+    played(rt, folder, seed, 10) == Err(LoopFault::Stopped(Outcome::RestoreFault(cause)))
+}
+
+#[test]
+fn other_files(rt: HostRuntime) -> Result<(), Fail> {
+    let folder = new_folder(&rt, "other-files")?;
+    played(&rt, folder.as_str(), SEED, 10)?;
+    assert!(rt; stops(&rt, folder.as_str(), SEED + 1, RestoreCause::WrongMatch));
+    for slot in 0..2 {
+        let path = format!(in rt.alloc(); "{folder}/party-0.{slot}")?;
+        fs::write(&rt, path.as_str(), [0x42])?;
+    }
+    assert!(rt; stops(&rt, folder.as_str(), SEED, RestoreCause::Damaged));
+    fs::remove_dir_all(&rt, folder.as_str())?;
+    Ok(())
+}
+
+#[test]
+fn no_such_matches(rt: HostRuntime) -> Result<(), Fail> {
+    let folder = new_folder(&rt, "no-such-matches")?;
+    for length in [0, 100] {
+        let mut text = Vec::new(rt.alloc());
+        let mut output = Writing::new(&mut text);
+        let refused = run_loop(&rt, SEED, length, 1, folder.as_str(), &mut output);
+        assert!(rt; matches!(refused, Err(LoopFault::World(_))));
+    }
+    fs::remove_dir_all(&rt, folder.as_str())?;
+    Ok(())
+}
+
+/// Plays ten rounds over devices of which one call fails.
+fn play_failing(rt: &HostRuntime, folder: &str, calls: &Calls) -> Result<Vec<u8>, LoopFault> {
+    let link = Failing::new(UdpLink::bind(rt, PARTIES)?, calls);
+    let keepers = Keepers {
+        referee: Failing::new(FileKeeper::new(rt, folder, REFEREE)?, calls),
+        x: Failing::new(FileKeeper::new(rt, folder, SEAT_OF_X)?, calls),
+        o: Failing::new(FileKeeper::new(rt, folder, SEAT_OF_O)?, calls),
+    };
+    let mut text = Vec::new(rt.alloc());
+    run_rounds(
+        rt.alloc(),
+        SEED,
+        1,
+        10,
+        link,
+        keepers,
+        &mut Writing::new(&mut text),
+    )?;
+    Ok(text)
+}
+
+/// Whether all parties are up in the end, and none holds more than the referee.
+fn is_sound(text: &[u8]) -> bool {
+    let Some(counts) = counts(text) else {
+        return false;
+    };
+    counts.iter().all(|count| *count <= counts[0])
+}
+
+#[test]
+fn one_call_that_fails(rt: HostRuntime) -> Result<(), Fail> {
+    for failing in 1..=MOST_CALLS {
+        let folder = new_folder(&rt, "one-call")?;
+        let calls = Calls::new(failing);
+        let result = play_failing(&rt, folder.as_str(), &calls);
+        fs::remove_dir_all(&rt, folder.as_str())?;
+        if calls.made.get() < failing {
+            return Ok(());
+        }
+        if calls.failed_to_read.get() {
+            let device = Outcome::RestoreFault(RestoreCause::Device);
+            assert!(rt; result == Err(LoopFault::Stopped(device)));
+        } else {
+            assert!(rt; is_sound(&result?));
+        }
+    }
+    Err(Fail::from("more calls than expected"))
+}
+
+/// Ten rounds make fewer calls.
+const MOST_CALLS: u32 = 1000;

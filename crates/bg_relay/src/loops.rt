@@ -1,0 +1,69 @@
+//! A match between automatic players over UDP sockets and files.
+ghost use Rattle.std.specs.Prelude.{IfErr, OnOk};
+ghost use Rattle.bg_match.specs.Limits.{IsMatchLength};
+ghost use Rattle.bg_relay.specs.Rounds.{IsLoopFault, setup_of};
+
+use crate::file_keepers::FileKeeper;
+use crate::loop_faults::LoopFault;
+use crate::rounds::{PARTIES, run_rounds_telling};
+use crate::udp_links::UdpLink;
+use bg_text::Sink;
+use bg_wire::{REFEREE, SEAT_OF_O, SEAT_OF_X};
+use bg_world::Keepers;
+use std::fs::File;
+use std::net::Net;
+use std::rt::Files;
+
+/// Plays a match of automatic players as [`run_rounds`](crate::rounds::run_rounds) does, over sockets on 127.0.0.1 and the files of a folder
+/// (docs/OPERATING.md). Over the same folder, with the same seed and length, it goes on where it was left.
+///
+/// # Errors
+/// `Socket` where a socket can't be had, `Memory` where there is no memory for the sockets and the names of the files;
+/// then those of `run_rounds`.
+pub fn run_loop<R: Net + Files<File = File> + AllocGlobal + Eprint, W: Sink>(
+    rt: &R,
+    seed: u64,
+    length: u8,
+    rounds: u32,
+    folder: &str,
+    output: &mut W,
+) -> Result<(), LoopFault>
+    ensures length { OnOk result (IsMatchLength length) }
+    ensures fault { IfErr result (IsLoopFault (setup_of seed length) (W.failures output.old) (W.failures output.new)) }
+{
+    run_loop_telling(rt, seed, length, rounds, folder, output, &mut |_| {})
+}
+
+/// The same, telling after each round how many are done.
+pub(crate) fn run_loop_telling<R, W: Sink, F: FnMut(u32)>(
+    rt: &R,
+    seed: u64,
+    length: u8,
+    rounds: u32,
+    folder: &str,
+    output: &mut W,
+    tell: &mut F,
+) -> Result<(), LoopFault>
+where
+    R: Net + Files<File = File> + AllocGlobal + Eprint,
+    requires tell { (f : _) (done : _) → F.pre f done }
+    ensures length { OnOk result (IsMatchLength length) }
+    ensures fault { IfErr result (IsLoopFault (setup_of seed length) (W.failures output.old) (W.failures output.new)) }
+{
+    let link = UdpLink::bind(rt, PARTIES)?;
+    let keepers = Keepers {
+        referee: FileKeeper::new(rt, folder, REFEREE)?,
+        x: FileKeeper::new(rt, folder, SEAT_OF_X)?,
+        o: FileKeeper::new(rt, folder, SEAT_OF_O)?,
+    };
+    run_rounds_telling(
+        rt.alloc(),
+        seed,
+        length,
+        rounds,
+        link,
+        keepers,
+        output,
+        tell,
+    )
+}

@@ -1,0 +1,146 @@
+//! Automatic matches in memory.
+ghost use Rattle.std.specs.Prelude.{◌≤◌, MatchResult};
+ghost use Rattle.bg_relay.specs.Simulating.{IsSimFault, setup_of};
+ghost use Rattle.bg_world.specs.Starts.{IsWorldFault};
+ghost use Rattle.bg_world.specs.State.{IsSetup, most_watchers};
+
+use crate::dice_attempts::DiceAttempts;
+use crate::schedule::{MemoryWorld, event_of};
+use crate::words::event_words;
+use bg_match::Terms;
+use bg_party::Learned;
+use bg_referee::{DueFault, TakeOutcome};
+use bg_text::{EngineFault, transcript_text};
+use bg_wire::REFEREE;
+use bg_world::{Outcome, Plan, ScriptFault, Setup, WorldFault, final_text, simulate};
+use std::alloc::{AllocError, Global};
+use std::ops::Range;
+
+/// An automatic match, event by event.
+#[derive(Drop)]
+pub struct Simulation {
+    alloc: Global,
+    seed: u64,
+    watchers: u8,
+    world: MemoryWorld,
+    dice: DiceAttempts,
+    ghost few: { watchers ≤ most_watchers },
+}
+
+impl Simulation {
+    /// The start of the match that has the seed as its number.
+    ///
+    /// # Errors
+    /// As of [`World::new`](bg_world::World::new).
+    pub fn new(
+        alloc: Global,
+        seed: u64,
+        length: Terms,
+        watchers: u8,
+    ) -> Result<Simulation, WorldFault>
+        ensures { MatchResult result (λ _. IsSetup seed length watchers)
+            (λ fault. IsWorldFault fault (setup_of seed length watchers)) }
+    {
+        let setup = Setup {
+            id: seed,
+            length,
+            watchers,
+        };
+        let no_failures = Plan {
+            tears: Vec::new(alloc),
+            sends: Vec::new(alloc),
+            reads: Vec::new(alloc),
+        };
+        let (world, _) = simulate(alloc, setup, &no_failures, &[])?;
+        Ok(Simulation {
+            alloc,
+            seed,
+            watchers,
+            world,
+            dice: DiceAttempts::first(Some(0)),
+        })
+    }
+
+    /// Lets the event of this index happen, from 0 (docs/PROTOCOL.md, "Automatic matches").
+    ///
+    /// # Errors
+    /// AllocError where memory was wanted: the match can't go on.
+    pub fn step(&mut self, index: u32) -> Result<(), AllocError> {
+        let (a, b) = event_words(self.seed, index);
+        let word = self.dice.word(self.seed);
+        let event = event_of(self.alloc, &self.world, self.watchers, word, a, b)?;
+        let outcome = self.dice.step(&mut self.world, event);
+        if wants_memory(&outcome) {
+            return Err(AllocError);
+        }
+        Ok(())
+    }
+
+    /// Lets the events of these indices happen, in order.
+    ///
+    /// # Errors
+    /// AllocError where memory was wanted: the match can't go on.
+    pub fn run(&mut self, indices: Range<u32>) -> Result<(), AllocError> {
+        for index in indices {
+            self.step(index)?;
+        }
+        Ok(())
+    }
+
+    /// The text after so many events.
+    fn text_after(&mut self, steps: u32) -> Result<Vec<u8>, AllocError> {
+        self.run(0..steps)?;
+        self.text()
+    }
+
+    /// The transcript of the referee's record, and then the final text.
+    ///
+    /// # Errors
+    /// AllocError where memory runs out.
+    pub fn text(&self) -> Result<Vec<u8>, AllocError> {
+        let mut text = match self.world.held(REFEREE) {
+            None => Vec::new(self.alloc),
+            Some(record) => transcript_text(self.alloc, record)?,
+        };
+        text.extend_from_slice(&final_text(&self.world)?)?;
+        Ok(text)
+    }
+}
+
+/// Whether memory was wanted: over devices in memory that never fail, a save fails for nothing else.
+fn wants_memory(outcome: &Outcome) -> bool {
+    matches!(
+        outcome,
+        Outcome::Due(Err(DueFault::Memory))
+            | Outcome::Took(TakeOutcome::Memory)
+            | Outcome::Learned(Learned::Memory)
+            | Outcome::SaveFault
+            | Outcome::Memory
+    )
+}
+
+/// What an automatic match prints that has the seed as its number, after so many events: the transcript of the
+/// referee's record, and then the final text (docs/PROTOCOL.md, "Automatic matches").
+///
+/// # Errors
+/// `World` where there is no such world, by the first test that fails of [`World::new`](bg_world::World::new). `Engine`
+/// with `Memory` where memory runs out after the world is made.
+pub fn sim_text(
+    alloc: Global,
+    seed: u64,
+    length: u8,
+    watchers: u8,
+    steps: u32,
+) -> Result<Vec<u8>, ScriptFault>
+    ensures { MatchResult result (λ _. IsSetup seed length watchers)
+        (λ fault. IsSimFault fault (setup_of seed length watchers)) }
+{
+    let mut simulation = match Simulation::new(alloc, seed, length, watchers) {
+        Ok(simulation) => simulation,
+        Err(fault) => return Err(ScriptFault::World(fault)),
+    };
+    match simulation.text_after(steps) {
+        Ok(text) => Ok(text),
+        Err(AllocError) => Err(ScriptFault::Engine(EngineFault::Memory)),
+    }
+}
