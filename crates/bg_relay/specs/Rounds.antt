@@ -1,7 +1,9 @@
 -- Why a match that is played round by round ends early.
-use Rattle.std.specs.Prelude.{◌≡◌, ◌⊎◌, ℕ, ◌<◌, true}
+use Rattle.std.specs.Prelude.{◌≡◌, ◌⊎◌, ℕ, ◌+◌, ◌<◌, List, ◌++◌, true}
 use Rattle.bg_match.specs.Terms.{Terms}
+use Rattle.bg_world.specs.FinalText.{IsFinalText}
 use Rattle.bg_world.specs.Starts.{IsWorldFault}
+use Rattle.bg_world.specs.Views.{WorldView}
 use Rattle.bg_world.specs.WorldRuns.{is_memory}
 use Rattle.bg_world.specs.declared.events.Outcome.{Outcome}
 use Rattle.bg_world.specs.declared.events.Outcome.TheVariants.{RestoreFault}
@@ -49,3 +51,11 @@ IsRoundsFault setup before after fault.Memory = Unit {0}
 abbrev pub IsLoopFault : Setup → ℕ → ℕ → LoopFault → Type 0
 IsLoopFault setup before after fault.Socket = Unit {0}
 IsLoopFault setup before after why = IsRoundsFault setup before after why
+
+-- what the output was handed, in all, and how often it was flushed: the final text of a world more, and once more
+pub record GetsFinalText (before after : List ℕ) (flushes_before flushes_after : ℕ) : Type 0 where
+  pub world : WorldView
+  pub text : List ℕ
+  pub is_text : IsFinalText world text
+  pub written : after ≡ before ++ text
+  pub flushed : flushes_after ≡ flushes_before + 1

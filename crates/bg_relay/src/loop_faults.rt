@@ -1,7 +1,8 @@
 //! Why a match over sockets and files ends before its last round.
 ghost use Rattle.std.specs.Prelude.{◌≡◌};
-ghost use Rattle.bg_relay.specs.declared.loop_faults.LoopFault.TheVariants.{Memory, World};
+ghost use Rattle.bg_relay.specs.declared.loop_faults.LoopFault.TheVariants.{Memory, World, Write};
 
+use bg_text::StreamFault;
 use bg_world::{Outcome, WorldFault, outcome_text};
 use std::alloc::{AllocError, AllocFailed};
 use std::fmt;
@@ -35,6 +36,14 @@ impl<T: Drop> From<AllocFailed<T>> for LoopFault {
 
     fn from(_: AllocFailed<T>) -> LoopFault {
         LoopFault::Memory
+    }
+}
+
+impl From<StreamFault> for LoopFault {
+    ghost from_gives = { λ _ fault. fault ≡ Write };
+
+    fn from(_: StreamFault) -> LoopFault {
+        LoopFault::Write
     }
 }
 

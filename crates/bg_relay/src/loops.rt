@@ -1,7 +1,7 @@
 //! A match between automatic players over UDP sockets and files.
 ghost use Rattle.std.specs.Prelude.{IfErr, OnOk};
 ghost use Rattle.bg_match.specs.Limits.{IsMatchLength};
-ghost use Rattle.bg_relay.specs.Rounds.{IsLoopFault, setup_of};
+ghost use Rattle.bg_relay.specs.Rounds.{GetsFinalText, IsLoopFault, setup_of};
 
 use crate::file_keepers::FileKeeper;
 use crate::loop_faults::LoopFault;
@@ -29,6 +29,8 @@ pub fn run_loop<R: Net + Files<File = File> + AllocGlobal + Eprint, W: Sink>(
     output: &mut W,
 ) -> Result<(), LoopFault>
     ensures length { OnOk result (IsMatchLength length) }
+    ensures text { OnOk result (GetsFinalText (W.written output.old) (W.written output.new)
+        (W.flushes output.old) (W.flushes output.new)) }
     ensures fault { IfErr result (IsLoopFault (setup_of seed length) (W.failures output.old) (W.failures output.new)) }
 {
     run_loop_telling(rt, seed, length, rounds, folder, output, &mut |_| {})
@@ -48,6 +50,8 @@ where
     R: Net + Files<File = File> + AllocGlobal + Eprint,
     requires tell { (f : _) (done : _) → F.pre f done }
     ensures length { OnOk result (IsMatchLength length) }
+    ensures text { OnOk result (GetsFinalText (W.written output.old) (W.written output.new)
+        (W.flushes output.old) (W.flushes output.new)) }
     ensures fault { IfErr result (IsLoopFault (setup_of seed length) (W.failures output.old) (W.failures output.new)) }
 {
     let link = UdpLink::bind(rt, PARTIES)?;

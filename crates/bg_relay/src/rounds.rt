@@ -1,7 +1,7 @@
 //! A match between automatic players, round by round, over any link and any keepers.
 ghost use Rattle.std.specs.Prelude.{IfErr, OnOk};
 ghost use Rattle.bg_match.specs.Limits.{IsMatchLength};
-ghost use Rattle.bg_relay.specs.Rounds.{IsBeginFault, IsFinishFault, IsRoundsFault, StopsMatch, setup_of};
+ghost use Rattle.bg_relay.specs.Rounds.{GetsFinalText, IsBeginFault, IsFinishFault, IsRoundsFault, StopsMatch, setup_of};
 
 use crate::auto_actions::auto_action;
 use crate::dice_attempts::DiceAttempts;
@@ -44,6 +44,8 @@ pub fn run_rounds<L: Link + Drop, K: Keeper + Drop, W: Sink>(
 ) -> Result<(), LoopFault>
     // A match is played exactly of a length that there is.
     ensures length { OnOk result (IsMatchLength length) }
+    ensures text { OnOk result (GetsFinalText (W.written output.old) (W.written output.new)
+        (W.flushes output.old) (W.flushes output.new)) }
     ensures fault { IfErr result (IsRoundsFault (setup_of seed length) (W.failures output.old) (W.failures output.new)) }
 {
     run_rounds_telling(
@@ -71,6 +73,8 @@ pub(crate) fn run_rounds_telling<L: Link + Drop, K: Keeper + Drop, W: Sink, F: F
 ) -> Result<(), LoopFault>
     requires tell { (f : _) (done : _) → F.pre f done }
     ensures length { OnOk result (IsMatchLength length) }
+    ensures text { OnOk result (GetsFinalText (W.written output.old) (W.written output.new)
+        (W.flushes output.old) (W.flushes output.new)) }
     ensures fault { IfErr result (IsRoundsFault (setup_of seed length) (W.failures output.old) (W.failures output.new)) }
 {
     let mut played = Rounds::begin(alloc, seed, length, link, keepers)?;
@@ -131,13 +135,14 @@ impl<L: Link + Drop, K: Keeper + Drop> Rounds<L, K> {
 
     /// Writes the final text.
     pub(crate) fn finish<W: Sink>(&self, output: &mut W) -> Result<(), LoopFault>
-        ensures { IfErr result (IsFinishFault (W.failures output.old) (W.failures output.new)) }
+        ensures text { OnOk result (GetsFinalText (W.written output.old) (W.written output.new)
+            (W.flushes output.old) (W.flushes output.new)) }
+        ensures fault { IfErr result (IsFinishFault (W.failures output.old) (W.failures output.new)) }
     {
         let text = final_text(&self.world)?;
-        match output.write_all(&text) {
-            Ok(()) => output.flush().map_err(|_| LoopFault::Write),
-            Err(_) => Err(LoopFault::Write),
-        }
+        output.write_all(&text)?;
+        output.flush()?;
+        Ok(())
     }
 
     /// Plays a part of a round. A party whose save failed is down, and begins again from its slots at once.
