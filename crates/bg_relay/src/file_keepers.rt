@@ -37,7 +37,8 @@ struct SlotFile<'a, R: Eprint> {
     path: String,
     /// Whether the folder was synced since the file was made, so that its name lasts too.
     entered: bool,
-    reports: Reports<'a, R>,
+    writes: Reports<'a, R>,
+    reads: Reports<'a, R>,
 }
 
 impl<'a, R: Files<File = File> + AllocGlobal + Eprint> SlotFile<'a, R> {
@@ -48,7 +49,8 @@ impl<'a, R: Files<File = File> + AllocGlobal + Eprint> SlotFile<'a, R> {
             folder: format!(in rt.alloc(); "{folder}")?,
             path: format!(in rt.alloc(); "{folder}/party-{party}.{slot}")?,
             entered: false,
-            reports: Reports::new(rt),
+            writes: Reports::new(rt),
+            reads: Reports::new(rt),
         })
     }
 
@@ -56,12 +58,12 @@ impl<'a, R: Files<File = File> + AllocGlobal + Eprint> SlotFile<'a, R> {
     fn write(&mut self, bytes: &[u8]) -> Result<(), DeviceFault> {
         match self.put(bytes) {
             Ok(()) => {
-                self.reports.succeeded();
+                self.writes.succeeded();
                 Ok(())
             }
             Err(error) => {
                 let what = format_args!("{} could not be written", self.path);
-                self.reports.failed(what, &error);
+                self.writes.failed(what, &error);
                 Err(fault_of(&error))
             }
         }
@@ -83,12 +85,12 @@ impl<'a, R: Files<File = File> + AllocGlobal + Eprint> SlotFile<'a, R> {
     fn read(&mut self) -> Result<Vec<u8>, DeviceFault> {
         match read_saved(self.rt, &self.path) {
             Ok(bytes) => {
-                self.reports.succeeded();
+                self.reads.succeeded();
                 Ok(bytes)
             }
             Err(error) => {
                 let what = format_args!("{} could not be read", self.path);
-                self.reports.failed(what, &error);
+                self.reads.failed(what, &error);
                 Err(fault_of(&error))
             }
         }

@@ -4,8 +4,8 @@ use crate::say;
 use std::fmt::Display;
 use std::io;
 
-/// Says why calls of a device failed. Of failures that follow each other only the first is said, so that a device that
-/// stays out of order does not fill the screen.
+/// Says why calls of one kind failed at a device. Of failures that follow each other only the first is said, so that a
+/// device that stays out of order does not fill the screen.
 #[derive(Drop)]
 pub(crate) struct Reports<'a, R: Eprint> {
     rt: &'a R,
@@ -13,7 +13,7 @@ pub(crate) struct Reports<'a, R: Eprint> {
 }
 
 impl<'a, R: Eprint> Reports<'a, R> {
-    /// Of a device that has not failed yet.
+    /// Of calls of which none has failed yet.
     pub(crate) fn new(rt: &'a R) -> Reports<'a, R> {
         Reports { rt, failing: false }
     }

@@ -35,7 +35,8 @@ pub struct UdpLink<'a, R: Eprint> {
 #[derive(Drop)]
 struct Sockets<'a, R: Eprint> {
     ends: Vec<End>,
-    reports: Reports<'a, R>,
+    sends: Reports<'a, R>,
+    takes: Reports<'a, R>,
 }
 
 /// A party's socket, and where it is reached.
@@ -74,12 +75,12 @@ impl<'a, R: Eprint> Sockets<'a, R> {
     fn send(&mut self, datagram: &Datagram) -> Result<(), DeviceFault> {
         match self.send_out(datagram) {
             Ok(()) => {
-                self.reports.succeeded();
+                self.sends.succeeded();
                 Ok(())
             }
             Err(error) => {
                 let what = format_args!("no datagram could be sent to party {}", datagram.to);
-                self.reports.failed(what, &error);
+                self.sends.failed(what, &error);
                 Err(fault_of(&error))
             }
         }
@@ -101,12 +102,12 @@ impl<'a, R: Eprint> Sockets<'a, R> {
         };
         match end.receive() {
             Ok(found) => {
-                self.reports.succeeded();
+                self.takes.succeeded();
                 Ok(found)
             }
             Err(error) => {
                 let what = format_args!("the socket of party {party} could not be read");
-                self.reports.failed(what, &error);
+                self.takes.failed(what, &error);
                 Err(fault_of(&error))
             }
         }
@@ -140,7 +141,8 @@ impl<'a, R: Eprint> UdpLink<'a, R> {
         Ok(UdpLink {
             sockets: Sockets {
                 ends,
-                reports: Reports::new(rt),
+                sends: Reports::new(rt),
+                takes: Reports::new(rt),
             },
             takes: History::new(),
             sends: History::new(),
