@@ -11,6 +11,8 @@ mod files;
 mod progress;
 mod schedule;
 mod showing;
+#[cfg(test)]
+mod sim_tests;
 mod simulating;
 #[cfg(test)]
 mod tests;
