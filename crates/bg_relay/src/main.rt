@@ -14,6 +14,7 @@ mod showing;
 #[cfg(test)]
 mod sim_tests;
 mod simulating;
+mod simulation;
 #[cfg(test)]
 mod tests;
 mod words;
@@ -27,7 +28,7 @@ use endings::Ending;
 use files::{read_saved, write_text};
 use progress::Progress;
 use showing::show_text;
-use simulating::Simulation;
+use simulation::Simulation;
 use std::fmt::Display;
 use std::fs::File;
 use std::io;

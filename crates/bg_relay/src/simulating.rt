@@ -1,11 +1,13 @@
 //! Automatic matches in memory.
-ghost use Rattle.std.specs.Prelude.{◌≤◌, MatchResult};
-ghost use Rattle.bg_relay.specs.Simulating.{IsSimFault, setup_of};
+ghost use Rattle.std.specs.Prelude.{◌≡◌, IfOk, MatchResult, OnOk};
+ghost use Rattle.bg_relay.specs.Simulating.{HappensAs, IsPrinted, IsSimFault, setup_of, wants_memory as is_wanting};
+ghost use Rattle.bg_world.specs.Simulations.{memory_view};
 ghost use Rattle.bg_world.specs.Starts.{IsWorldFault};
-ghost use Rattle.bg_world.specs.State.{IsSetup, most_watchers};
+ghost use Rattle.bg_world.specs.State.{IsSetup};
 
 use crate::dice_attempts::DiceAttempts;
-use crate::schedule::{MemoryWorld, event_of};
+use crate::schedule::event_of;
+use crate::simulation::Simulation;
 use crate::words::event_words;
 use bg_match::Terms;
 use bg_party::Learned;
@@ -15,17 +17,6 @@ use bg_wire::REFEREE;
 use bg_world::{Outcome, Plan, ScriptFault, Setup, WorldFault, final_text, simulate};
 use std::alloc::{AllocError, Global};
 use std::ops::Range;
-
-/// An automatic match, event by event.
-#[derive(Drop)]
-pub struct Simulation {
-    alloc: Global,
-    seed: u64,
-    watchers: u8,
-    world: MemoryWorld,
-    dice: DiceAttempts,
-    ghost few: { watchers ≤ most_watchers },
-}
 
 impl Simulation {
     /// The start of the match that has the seed as its number.
@@ -65,7 +56,9 @@ impl Simulation {
     ///
     /// # Errors
     /// AllocError where memory was wanted: the match can't go on.
-    pub fn step(&mut self, index: u32) -> Result<(), AllocError> {
+    pub fn step(&mut self, index: u32) -> Result<(), AllocError>
+        ensures { OnOk result (HappensAs self.old index self.new) }
+    {
         let (a, b) = event_words(self.seed, index);
         let word = self.dice.word(self.seed);
         let event = event_of(self.alloc, &self.world, self.watchers, word, a, b)?;
@@ -97,7 +90,9 @@ impl Simulation {
     ///
     /// # Errors
     /// AllocError where memory runs out.
-    pub fn text(&self) -> Result<Vec<u8>, AllocError> {
+    pub fn text(&self) -> Result<Vec<u8>, AllocError>
+        ensures { IfOk result (λ text. IsPrinted (memory_view self.now.world) text.items) }
+    {
         let mut text = match self.world.held(REFEREE) {
             None => Vec::new(self.alloc),
             Some(record) => transcript_text(self.alloc, record)?,
@@ -108,7 +103,9 @@ impl Simulation {
 }
 
 /// Whether memory was wanted: over devices in memory that never fail, a save fails for nothing else.
-fn wants_memory(outcome: &Outcome) -> bool {
+fn wants_memory(outcome: &Outcome) -> bool
+    ensures { result ≡ is_wanting outcome.now }
+{
     matches!(
         outcome,
         Outcome::Due(Err(DueFault::Memory))
