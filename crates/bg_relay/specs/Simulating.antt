@@ -6,15 +6,17 @@ use Rattle.bg_text.specs.declared.verdicts.EngineFault.TheVariants as engine
 use Rattle.bg_wire.specs.Codes.{first_watcher}
 use Rattle.bg_world.specs.Calls.{Calls}
 use Rattle.bg_world.specs.FinalText.{IsFinalText}
-use Rattle.bg_world.specs.Simulations.{memory_view}
+use Rattle.bg_world.specs.Simulations.{IsEmptyPlan, Simulates, memory_view}
 use Rattle.bg_world.specs.Starts.{IsWorldFault, held_of}
 use Rattle.bg_world.specs.Views.{WorldView}
 use Rattle.bg_world.specs.WorldRuns.{is_memory}
 use Rattle.bg_world.specs.declared.events.Event.{Event}
 use Rattle.bg_world.specs.declared.events.Outcome.{Outcome}
 use Rattle.bg_world.specs.declared.events.Outcome.TheVariants.{SaveFault}
+use Rattle.bg_world.specs.declared.plans.Plan.{Plan}
 use Rattle.bg_world.specs.declared.roles.Role.TheVariants as roles
 use Rattle.bg_world.specs.State.{IsSetup}
+use Rattle.bg_world.specs.declared.runs.RunReport.{RunReport}
 use Rattle.bg_world.specs.declared.scripts.ScriptFault.{ScriptFault}
 use Rattle.bg_world.specs.declared.scripts.ScriptFault.TheVariants.{Engine, World}
 use Rattle.bg_world.specs.declared.setups.Setup.{Setup}
@@ -65,3 +67,21 @@ abbrev pub IsPrinted : WorldView → List ℕ → Type 0
 IsPrinted w text =
     (transcript : List ℕ) × (end : List ℕ) × IsTranscriptOf (held_of w roles.Referee) transcript × IsFinalText w end
     × (text ≡ transcript ++ end)
+
+-- the start of the match that has the seed as its number: a run of no events, over devices that never fail
+pub record IsSimStart (setup : Setup) (start : Simulation) : Type 0 where
+  pub plan : Plan
+  pub report : RunReport
+  pub none_fail : IsEmptyPlan plan
+  pub world : Simulates setup plan [] report (memory_view start.world)
+  pub dice : start.dice ≡ record { held = Some 0; attempt = 0 }
+  pub seed : start.seed ≡ setup.id
+  pub watchers : start.watchers ≡ setup.watchers
+
+-- what is printed of an automatic match after so many events
+pub record IsSimText (seed points watchers steps : ℕ) (text : List ℕ) : Type 0 where
+  pub start : Simulation
+  pub end : Simulation
+  pub starts : IsSimStart (setup_of seed points watchers) start
+  pub runs : RunsFrom 0 steps start end
+  pub printed : IsPrinted (memory_view end.world) text

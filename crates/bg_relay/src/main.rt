@@ -195,7 +195,7 @@ fn run_sim(
     let mut done = 0;
     while done < steps {
         let next = steps.min(done.saturating_add(BATCH));
-        if simulation.run(done..next).is_err() {
+        if simulation.run(done, next).is_err() {
             return failed(rt, NO_MEMORY);
         }
         done = next;

@@ -1,6 +1,6 @@
 //! Automatic matches in memory.
-ghost use Rattle.std.specs.Prelude.{◌≡◌, IfOk, MatchResult, OnOk};
-ghost use Rattle.bg_relay.specs.Simulating.{HappensAs, IsPrinted, IsSimFault, setup_of, wants_memory as is_wanting};
+ghost use Rattle.std.specs.Prelude.{◌≡◌, ◌≤◌, ◌-◌, IfOk, MatchResult, OnOk};
+ghost use Rattle.bg_relay.specs.Simulating.{HappensAs, IsPrinted, IsSimFault, IsSimStart, IsSimText, RunsFrom, setup_of, wants_memory as is_wanting};
 ghost use Rattle.bg_world.specs.Simulations.{memory_view};
 ghost use Rattle.bg_world.specs.Starts.{IsWorldFault};
 ghost use Rattle.bg_world.specs.State.{IsSetup};
@@ -16,7 +16,6 @@ use bg_text::{EngineFault, transcript_text};
 use bg_wire::REFEREE;
 use bg_world::{Outcome, Plan, ScriptFault, Setup, WorldFault, final_text, simulate};
 use std::alloc::{AllocError, Global};
-use std::ops::Range;
 
 impl Simulation {
     /// The start of the match that has the seed as its number.
@@ -29,7 +28,8 @@ impl Simulation {
         length: Terms,
         watchers: u8,
     ) -> Result<Simulation, WorldFault>
-        ensures { MatchResult result (λ _. IsSetup seed length watchers)
+        ensures start { IfOk result (λ start. IsSimStart (setup_of seed length watchers) start) }
+        ensures refusal { MatchResult result (λ _. IsSetup seed length watchers)
             (λ fault. IsWorldFault fault (setup_of seed length watchers)) }
     {
         let setup = Setup {
@@ -69,20 +69,26 @@ impl Simulation {
         Ok(())
     }
 
-    /// Lets the events of these indices happen, in order.
+    /// Lets the events from one index up to another happen, in order, the last one left out.
     ///
     /// # Errors
     /// AllocError where memory was wanted: the match can't go on.
-    pub fn run(&mut self, indices: Range<u32>) -> Result<(), AllocError> {
-        for index in indices {
+    pub fn run(&mut self, from: u32, to: u32) -> Result<(), AllocError>
+        requires { from ≤ to }
+        ensures { OnOk result (RunsFrom from (to - from) self.old self.new) }
+    {
+        for index in from..to {
             self.step(index)?;
         }
         Ok(())
     }
 
     /// The text after so many events.
-    fn text_after(&mut self, steps: u32) -> Result<Vec<u8>, AllocError> {
-        self.run(0..steps)?;
+    fn text_after(&mut self, steps: u32) -> Result<Vec<u8>, AllocError>
+        ensures runs { IfOk result (λ _. RunsFrom 0 steps self.old self.new) }
+        ensures printed { IfOk result (λ text. IsPrinted (memory_view self.new.world) text.items) }
+    {
+        self.run(0, steps)?;
         self.text()
     }
 
@@ -129,7 +135,8 @@ pub fn sim_text(
     watchers: u8,
     steps: u32,
 ) -> Result<Vec<u8>, ScriptFault>
-    ensures { MatchResult result (λ _. IsSetup seed length watchers)
+    ensures text { IfOk result (λ text. IsSimText seed length watchers steps text.items) }
+    ensures refusal { MatchResult result (λ _. IsSetup seed length watchers)
         (λ fault. IsSimFault fault (setup_of seed length watchers)) }
 {
     let mut simulation = match Simulation::new(alloc, seed, length, watchers) {

@@ -1,6 +1,5 @@
-use Rattle.std.proofs.Common.{rules, ◌≡◌, inl, inr, ap, Some}
+use Rattle.std.proofs.Common.{rules, ◌≡◌, inr, ap, Some}
 use Rattle.bg_world.specs.Simulations.{memory_view}
-use Rattle.bg_world.specs.declared.events.Event.{Event}
 use Rattle.bg_world.specs.declared.events.Event.TheVariants.{Tick}
 use Rattle.bg_relay.specs.Schedule.{seat_log}
 use Rattle.bg_relay.proofs.Schedules.{does_nothing}

@@ -1,4 +1,4 @@
-use Rattle.std.proofs.Common.{◌≤◌, ◌≡◌, ◌%◌, ◌+◌, arith}
+use Rattle.std.proofs.Common.{◌≤◌, ◌%◌, ◌+◌, arith}
 use Rattle.std.proofs.lemmas.Result.{IfOk-weaker}
 use Rattle.bg_wire.specs.Codes.{first_watcher}
 use Rattle.bg_world.specs.Simulations.{memory_view}
