@@ -1,6 +1,7 @@
 //! Automatic matches in memory.
 ghost use Rattle.std.specs.Prelude.{◌≡◌, ◌≤◌, ◌-◌, IfOk, MatchResult, OnOk};
-ghost use Rattle.bg_relay.specs.Simulating.{HappensAs, IsPrinted, IsSimFault, IsSimStart, IsSimText, RunsFrom, setup_of, wants_memory as is_wanting};
+ghost use Rattle.bg_relay.specs.Simulating.{HappensAs, IsPrinted, IsSimFault, IsSimStart, IsSimText, RunsFrom};
+ghost use Rattle.bg_relay.specs.Simulating.{setup_of, wants_memory as is_wanting};
 ghost use Rattle.bg_world.specs.Simulations.{memory_view};
 ghost use Rattle.bg_world.specs.Starts.{IsWorldFault};
 ghost use Rattle.bg_world.specs.State.{IsSetup};

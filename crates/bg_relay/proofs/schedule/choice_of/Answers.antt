@@ -9,4 +9,7 @@ pub returns-in-None : goal.returns-in-None
 returns-in-None c =
     let held : seat_log (memory_view c.args.world.now) c.args.player ≡ Some c.in-Some.record.now = search rules in
     let nothing = rw c.in-None.is at c.in_ok-action.ensures.chosen in
-    inr (does_nothing (memory_view c.args.world.now) c.args.player c.in-Some.record.now held nothing, ap Tick c.party_of-party.ensures)
+    inr (
+      does_nothing (memory_view c.args.world.now) c.args.player c.in-Some.record.now held nothing,
+      ap Tick c.party_of-party.ensures,
+    )
