@@ -1,5 +1,6 @@
 -- The entry of what an automatic player does follows the record.
-use Rattle.std.proofs.Common.{◌≡◌, ◌≢◌, ◌⊎◌, ℕ, IfSome, ◌<◌, ◌%◌, true, false, cond, eqb, Bool, Option, Some, None, List, [], ◌∷◌, length, length-append, refl, sym, subst, arith, inl, inr}
+use Rattle.std.proofs.Common.{◌≡◌, ◌≢◌, ◌⊎◌, ℕ, IfSome, ◌<◌, ◌%◌, true, false, cond, eqb, Bool, Option}
+use Rattle.std.proofs.Common.{Some, None, List, [], ◌∷◌, length, length-append, refl, sym, subst, arith, inl, inr}
 use Rattle.std.proofs.lemmas.Option.{get_or_from_slice_get, slice_get_within}
 use Rattle.bg_board.specs.declared.players.Player.{Player}
 use Rattle.bg_board.specs.FromTo.{FromTo}

@@ -1,3 +1,4 @@
 pub mod SomeTurn
 pub mod AutoActions
 pub mod Schedules
+pub mod Runs

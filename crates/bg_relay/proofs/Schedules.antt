@@ -1,5 +1,5 @@
 -- A choice is what the schedule names.
-use Rattle.std.proofs.Common.{◌≡◌, ◌≤◌, ◌%◌, ℕ, Option, Some, None, subst, sym, ◌∙◌, arith}
+use Rattle.std.proofs.Common.{◌≡◌, ◌≤◌, ◌%◌, ℕ, Some, None, subst, sym, ◌∙◌, arith}
 use Rattle.bg_board.specs.declared.players.Player.{Player}
 use Rattle.bg_match.specs.Match.{Log}
 use Rattle.bg_world.specs.Views.{WorldView}

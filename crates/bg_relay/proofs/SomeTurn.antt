@@ -1,5 +1,6 @@
 -- A player has a legal turn in every position, with any dice.
-use Rattle.std.proofs.Common.{◌≡◌, ◌≢◌, ℕ, ◌+◌, ◌<◌, ◌≤◌, zero, suc, Bool, true, false, cond, eqb, max, List, [], ◌∷◌, length, remove, replicate, refl, subst, arith, inl, inr}
+use Rattle.std.proofs.Common.{◌≡◌, ◌≢◌, ℕ, ◌+◌, ◌<◌, ◌≤◌, zero, suc, Bool, true, false, cond}
+use Rattle.std.proofs.Common.{eqb, max, List, [], ◌∷◌, length, remove, replicate, refl, subst, arith, inl, inr}
 use Rattle.std.proofs.lemmas.Bool.{cases_eq, cases_lt, eqb-true}
 use Rattle.std.proofs.lemmas.List.Edits.{length-remove}
 use Rattle.std.specs.Prelude.{Contains, ◌↔◌}

@@ -2,7 +2,8 @@
 use Rattle.std.specs.Prelude.{ℕ, true, false}
 use Rattle.bg_text.specs.declared.verdicts.Verdict.TheVariants.{Fine, Refused, TooLong}
 use Rattle.bg_relay.specs.declared.endings.Ending.{Ending}
-use Rattle.bg_relay.specs.declared.endings.Ending.TheVariants.{Told, WrongArguments, Judged, Played, Simulated, Shown, Failed}
+use Rattle.bg_relay.specs.declared.endings.Ending.TheVariants.{Told, WrongArguments, Judged, Played, Simulated}
+use Rattle.bg_relay.specs.declared.endings.Ending.TheVariants.{Shown, Failed}
 
 -- the command was done, and has nothing to refuse
 abbrev pub done : ℕ

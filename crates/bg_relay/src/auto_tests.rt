@@ -107,9 +107,10 @@ fn turn_goes_by_the_number_of_the_entry(rt: HostRuntime) -> Result<(), Fail> {
             second: Die::One,
         };
         let turns = legal_turns(rt.alloc(), &record.standing().board(), Player::X, dice)?;
-        let index = (usize::from(record.len()) + 1) % turns.len();
-        let turn = turns[index].copy();
-        check_actions(&rt, &record, Some(Action::Move(turn)), None)?;
+        let number = usize::from(record.len()) + 1;
+        let index = number.checked_rem(turns.len()).ok_or("no turns")?;
+        let turn = turns.get(index).ok_or("no turn")?;
+        check_actions(&rt, &record, Some(Action::Move(turn.copy())), None)?;
         record.push(Entry::Resigned(Level::Normal))?;
         record.push(Entry::Rejected)?;
     }

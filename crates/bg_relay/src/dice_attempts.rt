@@ -1,6 +1,7 @@
 //! At which attempt the referee is handed a word for its next entry.
 ghost use Rattle.std.specs.Prelude.{◌≡◌, option_copied};
-ghost use Rattle.bg_relay.specs.Attempts.{Notes, held_entries, restarts_referee as is_restart, was_in_vain as is_in_vain, word_for};
+ghost use Rattle.bg_relay.specs.Attempts.{Notes, held_entries, restarts_referee as is_restart};
+ghost use Rattle.bg_relay.specs.Attempts.{was_in_vain as is_in_vain, word_for};
 ghost use Rattle.bg_world.specs.Calls.{Calls};
 ghost use Rattle.bg_world.specs.Roles.{role};
 ghost use Rattle.bg_world.specs.Starts.{held_of};

@@ -24,7 +24,10 @@ mod round_schedule;
 mod rounds;
 mod schedule;
 mod showing;
+#[cfg(test)]
+mod sim_tests;
 mod simulating;
+mod simulation;
 #[cfg(test)]
 mod tests;
 mod udp_links;
@@ -40,7 +43,7 @@ use files::{read_saved, write_text};
 use loop_command::run_loop_command;
 use progress::Progress;
 use showing::show_text;
-use simulating::Simulation;
+use simulation::Simulation;
 use std::fmt::Display;
 use std::fs::File;
 use std::io;
@@ -211,7 +214,7 @@ fn run_sim(
     let mut done = 0;
     while done < steps {
         let next = steps.min(done.saturating_add(BATCH));
-        if simulation.run(done..next).is_err() {
+        if simulation.run(done, next).is_err() {
             return failed(rt, NO_MEMORY);
         }
         done = next;

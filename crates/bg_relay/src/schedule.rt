@@ -49,7 +49,8 @@ pub fn event_of(
     }
 }
 
-/// Of so many datagrams the one that lies so far back, from 0 for the last; where there is none, a pick that names none.
+/// Of so many datagrams the one that lies so far back, from 0 for the last; where there is none, a pick that names
+/// none.
 fn late_pick(count: u32, back: u32) -> u32
     ensures { result ≡ pick_of count back }
 {

@@ -1,11 +1,14 @@
 //! Automatic matches in memory.
-ghost use Rattle.std.specs.Prelude.{◌≤◌, MatchResult};
-ghost use Rattle.bg_relay.specs.Simulating.{IsSimFault, setup_of};
+ghost use Rattle.std.specs.Prelude.{◌≡◌, ◌≤◌, ◌-◌, IfOk, MatchResult, OnOk};
+ghost use Rattle.bg_relay.specs.Simulating.{HappensAs, IsPrinted, IsSimFault, IsSimStart, IsSimText, RunsFrom};
+ghost use Rattle.bg_relay.specs.Simulating.{setup_of, wants_memory as is_wanting};
+ghost use Rattle.bg_world.specs.Simulations.{memory_view};
 ghost use Rattle.bg_world.specs.Starts.{IsWorldFault};
-ghost use Rattle.bg_world.specs.State.{IsSetup, most_watchers};
+ghost use Rattle.bg_world.specs.State.{IsSetup};
 
 use crate::dice_attempts::DiceAttempts;
-use crate::schedule::{MemoryWorld, event_of};
+use crate::schedule::event_of;
+use crate::simulation::Simulation;
 use crate::words::event_words;
 use bg_match::Terms;
 use bg_party::Learned;
@@ -14,18 +17,6 @@ use bg_text::{EngineFault, transcript_text};
 use bg_wire::REFEREE;
 use bg_world::{Outcome, Plan, ScriptFault, Setup, WorldFault, final_text, simulate};
 use std::alloc::{AllocError, Global};
-use std::ops::Range;
-
-/// An automatic match, event by event.
-#[derive(Drop)]
-pub struct Simulation {
-    alloc: Global,
-    seed: u64,
-    watchers: u8,
-    world: MemoryWorld,
-    dice: DiceAttempts,
-    ghost few: { watchers ≤ most_watchers },
-}
 
 impl Simulation {
     /// The start of the match that has the seed as its number.
@@ -38,7 +29,8 @@ impl Simulation {
         length: Terms,
         watchers: u8,
     ) -> Result<Simulation, WorldFault>
-        ensures { MatchResult result (λ _. IsSetup seed length watchers)
+        ensures start { IfOk result (λ start. IsSimStart (setup_of seed length watchers) start) }
+        ensures refusal { MatchResult result (λ _. IsSetup seed length watchers)
             (λ fault. IsWorldFault fault (setup_of seed length watchers)) }
     {
         let setup = Setup {
@@ -65,7 +57,9 @@ impl Simulation {
     ///
     /// # Errors
     /// AllocError where memory was wanted: the match can't go on.
-    pub fn step(&mut self, index: u32) -> Result<(), AllocError> {
+    pub fn step(&mut self, index: u32) -> Result<(), AllocError>
+        ensures { OnOk result (HappensAs self.old index self.new) }
+    {
         let (a, b) = event_words(self.seed, index);
         let word = self.dice.word(self.seed);
         let event = event_of(self.alloc, &self.world, self.watchers, word, a, b)?;
@@ -76,20 +70,26 @@ impl Simulation {
         Ok(())
     }
 
-    /// Lets the events of these indices happen, in order.
+    /// Lets the events from one index up to another happen, in order, the last one left out.
     ///
     /// # Errors
     /// AllocError where memory was wanted: the match can't go on.
-    pub fn run(&mut self, indices: Range<u32>) -> Result<(), AllocError> {
-        for index in indices {
+    pub fn run(&mut self, from: u32, to: u32) -> Result<(), AllocError>
+        requires { from ≤ to }
+        ensures { OnOk result (RunsFrom from (to - from) self.old self.new) }
+    {
+        for index in from..to {
             self.step(index)?;
         }
         Ok(())
     }
 
     /// The text after so many events.
-    fn text_after(&mut self, steps: u32) -> Result<Vec<u8>, AllocError> {
-        self.run(0..steps)?;
+    fn text_after(&mut self, steps: u32) -> Result<Vec<u8>, AllocError>
+        ensures runs { IfOk result (λ _. RunsFrom 0 steps self.old self.new) }
+        ensures printed { IfOk result (λ text. IsPrinted (memory_view self.new.world) text.items) }
+    {
+        self.run(0, steps)?;
         self.text()
     }
 
@@ -97,7 +97,9 @@ impl Simulation {
     ///
     /// # Errors
     /// AllocError where memory runs out.
-    pub fn text(&self) -> Result<Vec<u8>, AllocError> {
+    pub fn text(&self) -> Result<Vec<u8>, AllocError>
+        ensures { IfOk result (λ text. IsPrinted (memory_view self.now.world) text.items) }
+    {
         let mut text = match self.world.held(REFEREE) {
             None => Vec::new(self.alloc),
             Some(record) => transcript_text(self.alloc, record)?,
@@ -108,7 +110,9 @@ impl Simulation {
 }
 
 /// Whether memory was wanted: over devices in memory that never fail, a save fails for nothing else.
-fn wants_memory(outcome: &Outcome) -> bool {
+fn wants_memory(outcome: &Outcome) -> bool
+    ensures { result ≡ is_wanting outcome.now }
+{
     matches!(
         outcome,
         Outcome::Due(Err(DueFault::Memory))
@@ -132,7 +136,8 @@ pub fn sim_text(
     watchers: u8,
     steps: u32,
 ) -> Result<Vec<u8>, ScriptFault>
-    ensures { MatchResult result (λ _. IsSetup seed length watchers)
+    ensures text { IfOk result (λ text. IsSimText seed length watchers steps text.items) }
+    ensures refusal { MatchResult result (λ _. IsSetup seed length watchers)
         (λ fault. IsSimFault fault (setup_of seed length watchers)) }
 {
     let mut simulation = match Simulation::new(alloc, seed, length, watchers) {

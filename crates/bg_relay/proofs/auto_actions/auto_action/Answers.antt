@@ -5,11 +5,17 @@ use Rattle.bg_relay.proofs.auto_actions.auto_action.Goals as goal
 
 pub returns-clause-chosen : goal.returns-clause-chosen
 returns-clause-chosen c =
-    let few : length c.args.record.now.entries < 65535 = omega (arith, c.len.ensures.value, c.len.ensures.legal.0, c.if-len-eq-MOST_ENTRIES.false) in
+    let few : length c.args.record.now.entries < 65535 =
+    omega (arith, c.len.ensures.value, c.len.ensures.legal.0, c.if-len-eq-MOST_ENTRIES.false) in
     let acts = c.if-not-acts.ensures.yes in
-    IfOk-weaker c.action_in_turn.result _ _ (λ chosen plays. played c.args.record.now c.args.player chosen acts few plays) c.action_in_turn.ensures
+    IfOk-weaker c.action_in_turn.result _ _
+    (λ chosen plays. played c.args.record.now c.args.player chosen acts few plays)
+    c.action_in_turn.ensures
 
 pub returns-clause-follows : goal.returns-clause-follows
 returns-clause-follows c =
-    let few : length c.args.record.now.entries < 65535 = omega (arith, c.len.ensures.value, c.len.ensures.legal.0, c.if-len-eq-MOST_ENTRIES.false) in
-    IfOk-weaker c.action_in_turn.result _ _ (λ chosen plays. played_follows c.args.record.now chosen few plays) c.action_in_turn.ensures
+    let few : length c.args.record.now.entries < 65535 =
+    omega (arith, c.len.ensures.value, c.len.ensures.legal.0, c.if-len-eq-MOST_ENTRIES.false) in
+    IfOk-weaker c.action_in_turn.result _ _
+    (λ chosen plays. played_follows c.args.record.now chosen few plays)
+    c.action_in_turn.ensures

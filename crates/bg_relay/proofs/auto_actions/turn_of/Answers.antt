@@ -15,12 +15,14 @@ read turns k n turn many some is =
 
 pub nonzero_rem-index : goal.nonzero_rem-index
 nonzero_rem-index c =
-    let some = some_turn c.args.board.now c.args.player c.args.dice c.in_ok-turns.turns.items c.in_ok-turns.ensures.exactly in
+    let turns = c.in_ok-turns.turns.items in
+    let some = some_turn c.args.board.now c.args.player c.args.dice turns c.in_ok-turns.ensures.exactly in
     omega (arith, c.len.ensures)
 
 pub swap_remove-requires : goal.swap_remove-requires
 swap_remove-requires c =
-    let some = some_turn c.args.board.now c.args.player c.args.dice c.in_ok-turns.turns.items c.in_ok-turns.ensures.exactly in
+    let turns = c.in_ok-turns.turns.items in
+    let some = some_turn c.args.board.now c.args.player c.args.dice turns c.in_ok-turns.ensures.exactly in
     let below = mod_below c.args.number c.len.result (omega (arith, c.len.ensures)) in
     omega (arith, c.len.ensures)
 
@@ -30,5 +32,6 @@ returns c =
     let some = some_turn c.args.board.now c.args.player c.args.dice turns c.in_ok-turns.ensures.exactly in (
       turns,
       record { exactly = c.in_ok-turns.ensures.exactly; greatest_first = c.in_ok-turns.ensures.greatest_first },
-      read turns c.len.result c.args.number c.swap_remove.result (omega (arith, c.len.ensures)) some c.swap_remove.ensures.value,
+      read turns c.len.result c.args.number c.swap_remove.result (omega (arith, c.len.ensures)) some
+          c.swap_remove.ensures.value,
     )
