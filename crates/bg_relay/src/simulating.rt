@@ -11,8 +11,6 @@ use crate::schedule::event_of;
 use crate::simulation::Simulation;
 use crate::words::event_words;
 use bg_match::Terms;
-use bg_party::Learned;
-use bg_referee::{DueFault, TakeOutcome};
 use bg_text::{EngineFault, transcript_text};
 use bg_wire::REFEREE;
 use bg_world::{Outcome, Plan, ScriptFault, Setup, WorldFault, final_text, simulate};
@@ -113,14 +111,10 @@ impl Simulation {
 fn wants_memory(outcome: &Outcome) -> bool
     ensures { result ≡ is_wanting outcome.now }
 {
-    matches!(
-        outcome,
-        Outcome::Due(Err(DueFault::Memory))
-            | Outcome::Took(TakeOutcome::Memory)
-            | Outcome::Learned(Learned::Memory)
-            | Outcome::SaveFault
-            | Outcome::Memory
-    )
+    match outcome {
+        Outcome::SaveFault => true,
+        other => other.wants_memory(),
+    }
 }
 
 /// What an automatic match prints that has the seed as its number, after so many events: the transcript of the
