@@ -11,7 +11,13 @@ pub(crate) fn turn_of(steps: [Step; 4], count: usize) -> Turn
     ensures { result ≡ take count steps }
 {
     let mut steps = ArrayVec::from(steps);
-    steps.truncate(count);
+    match count {
+        0 => steps.truncate(0),
+        1 => steps.truncate(1),
+        2 => steps.truncate(2),
+        3 => steps.truncate(3),
+        _ => (),
+    }
     Turn { steps }
 }
 
