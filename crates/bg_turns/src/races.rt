@@ -5,6 +5,7 @@ ghost use Rattle.std.specs.Bool.{OnTrue};
 ghost use Rattle.bg_board.specs.Position.{Position, IsPosition, checkers, opponent};
 ghost use Rattle.bg_board.specs.declared.players.Player.{Player as SeenPlayer};
 ghost use Rattle.bg_board.specs.Step.{IsStep, carried as carried_counts};
+ghost use Rattle.bg_turns.specs.declared.races.Race.{Race as SeenRace};
 ghost use Rattle.bg_turns.specs.Race.{IsRace, IsHighest, Stands, can, after, is_off, step_of};
 
 use bg_board::{BAR, Board, CHECKERS, HOME, OFF, Player, Step};
@@ -90,6 +91,17 @@ impl Race {
     {
         self.own[usize::from(step.from())] -= 1;
         self.own[usize::from(step.to())] += 1;
+    }
+
+    /// Takes back a step that was just played.
+    pub(crate) fn take_back(&mut self, step: Step)
+        requires played { (before : SeenRace) × IsRace before × (0 < slice_index before.own step.from)
+            × (self.old ≡ after before step.from step.to) }
+        ensures { (before : SeenRace) → IsRace before → 0 < slice_index before.own step.from
+            → self.old ≡ after before step.from step.to → self.new ≡ before }
+    {
+        self.own[usize::from(step.to())] -= 1;
+        self.own[usize::from(step.from())] += 1;
     }
 
     /// The race after a step.
