@@ -2,18 +2,40 @@
 //! for each number of steps before the last, which then costs no test.
 ghost use Rattle.std.specs.Prelude.{◌≡◌, ◌≤◌, ◌<◌, ◌++◌, take, OnOk};
 ghost use Rattle.bg_turns.specs.declared.races.Race.{Race as SeenRace};
-ghost use Rattle.bg_turns.specs.Race.{one_die, tree, at_each, behind};
-ghost use Rattle.bg_turns.specs.Masks.{ArePlaces, HasPlaces};
+ghost use Rattle.bg_turns.specs.Race.{IsRace, one_die, tree, at_each, behind};
+ghost use Rattle.bg_turns.specs.Masks.{AreMasks, ArePlaces, HasPlaces, HasRace};
 
 use crate::Turn;
 use crate::fronts::{turn_of, with_step};
-use crate::races::step_from;
+use crate::masks::Masks;
 use bg_board::{BAR, Step};
 use std::alloc::AllocError;
 
+/// Adds the lists of one step by a die, behind the first steps of a turn, or these alone where all checkers are off.
+pub(crate) fn add_last(
+    turns: &mut Vec<Turn>,
+    masks: Masks,
+    front: [Step; 4],
+    played: usize,
+    die: u8,
+) -> Result<(), AllocError>
+    requires race { HasRace masks }
+    requires die { 1 ≤ die }
+    requires six { die ≤ 6 }
+    requires room { played < 4 }
+    ensures { (r : SeenRace) → IsRace r → AreMasks masks r → OnOk result
+        (turns.new.items ≡ turns.old.items ++ behind (take played front) (tree die 1 r)) }
+{
+    if masks.is_off() {
+        turns.push(turn_of(front, played))?;
+        return Ok(());
+    }
+    add_leaves(turns, masks.open(die), front, played, die)
+}
+
 /// Adds a turn for each of these places, which ends with the step by the die from there, behind the first
 /// steps of a turn.
-pub(crate) fn add_leaves(
+fn add_leaves(
     turns: &mut Vec<Turn>,
     places: u32,
     front: [Step; 4],
@@ -52,7 +74,7 @@ fn add_leaves_at<const PLAYED: usize>(
         let place = places.trailing_zeros();
         places &= !(1 << place);
         let from = BAR - place as u8;
-        let longer = with_step(front, PLAYED, step_from(from, die));
+        let longer = with_step(front, PLAYED, Step::down(from, die));
         turns.push(turn_of(longer, PLAYED + 1))?;
         below = from - 1;
     }

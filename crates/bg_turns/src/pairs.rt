@@ -5,8 +5,9 @@ ghost use Rattle.bg_turns.specs.Masks.{AreMasks, ArePlaces};
 
 use crate::Turn;
 use crate::fronts::{turn_of, with_step};
+use crate::leaves::add_last;
 use crate::masks::{Masks, holds};
-use crate::races::{Race, step_from};
+use crate::races::Race;
 use crate::trees::add_tree;
 use bg_board::{BAR, Step};
 use std::alloc::AllocError;
@@ -44,9 +45,9 @@ pub(crate) fn add_pairs(
         places &= !(1 << place);
         let from = BAR - place as u8;
         if from <= small && holds(by_small, place) && holds(by_large, place) {
-            let step = step_from(from, small);
+            let step = Step::down(from, small);
             let longer = with_step(front, played, step);
-            let next = masks.after(race, from, step.to());
+            let next = masks.after(race, step);
             race.play(step);
             add_pairs(
                 turns,
@@ -121,9 +122,12 @@ fn add_step(
         return Ok(());
     }
     let from = BAR - place as u8;
-    let step = step_from(from, die);
+    let step = Step::down(from, die);
     let longer = with_step(front, played, step);
-    let after = masks.after(race, from, step.to());
+    let after = masks.after(race, step);
+    if left == 1 {
+        return add_last(turns, after, longer, played + 1, next);
+    }
     race.play(step);
     add_tree(turns, race, after, longer, played + 1, next, left)?;
     race.take_back(step);

@@ -5,9 +5,9 @@ ghost use Rattle.bg_turns.specs.Masks.{AreMasks};
 
 use crate::Turn;
 use crate::fronts::{turn_of, with_step};
-use crate::leaves::add_leaves;
+use crate::leaves::add_last;
 use crate::masks::Masks;
-use crate::races::{Race, step_from};
+use crate::races::Race;
 use bg_board::{BAR, Step};
 use std::alloc::AllocError;
 
@@ -34,21 +34,25 @@ pub(crate) fn add_tree(
         turns.push(turn_of(front, played))?;
         return Ok(());
     }
-    let mut places = masks.open(die);
     if left == 1 {
-        return add_leaves(turns, places, front, played, die);
+        return add_last(turns, masks, front, played, die);
     }
+    let mut places = masks.open(die);
     let mut below = BAR;
     while places != 0 {
         let place = places.trailing_zeros();
         places &= !(1 << place);
         let from = BAR - place as u8;
-        let step = step_from(from, die);
+        let step = Step::down(from, die);
         let longer = with_step(front, played, step);
-        let next = masks.after(race, from, step.to());
-        race.play(step);
-        add_tree(turns, race, next, longer, played + 1, die, left - 1)?;
-        race.take_back(step);
+        let next = masks.after(race, step);
+        if left == 2 {
+            add_last(turns, next, longer, played + 1, die)?;
+        } else {
+            race.play(step);
+            add_tree(turns, race, next, longer, played + 1, die, left - 1)?;
+            race.take_back(step);
+        }
         below = from - 1;
     }
     Ok(())

@@ -17,8 +17,8 @@ overflow_sub-from g c =
     let low = place_low _ _ _ (c.loop-places.invariant.left some.0 some.1) c.loop-places-test.true (omega arith) in
     omega (arith, low)
 
-pub step_from-requires-clause-low : goal.step_from-requires-clause-low
-step_from-requires-clause-low g c =
+pub down-requires-clause-low : goal.down-requires-clause-low
+down-requires-clause-low g c =
     let some = c.requires.places in
     start_low _ _ _ (c.loop-places.invariant.left some.0 some.1) c.loop-places-test.true (omega arith)
 
@@ -37,7 +37,7 @@ loop-places-preserved g c = record {
       (start_low _ _ _ left some (omega arith))
       (listed_there _ _ _ left (one_die r c.args.die (tree c.args.die 0)) (none_by_die r c.args.die (tree c.args.die 0)) (take g.row.PLAYED c.args.front)
       c.loop-places.turns.items c.args.turns.now.items (c.loop-places.invariant.listed r are) some (omega arith))
-      c.step_from.result (omega arith) (place_passed _ _ _ left some (omega arith)) c.step_from.ensures refl
+      c.down.result (omega arith) (place_passed _ _ _ left some (omega arith)) c.down.ensures refl
       (c.in_ok-push.ensures.items ∙ ap (λ x. c.loop-places.turns.items ++ x ∷ []) (c.turn_of.ensures ∙ ap (λ xs. take (g.row.PLAYED + 1) xs) c.with_step-longer.ensures));
 }
 

@@ -1,13 +1,12 @@
 use Rattle.std.proofs.Common.{◌≡◌, ◌∙◌, ◌++◌, ◌∷◌, ◌-◌, ◌<◌, [], take, get_or, inl, inr, refl, sym, ap, arith, w32}
 use Rattle.std.specs.Int.{trailing_zeros}
-use Rattle.std.proofs.lemmas.Result.{on_ok_weaker}
-use Rattle.bg_turns.specs.Race.{one_die, tree, behind}
-use Rattle.bg_turns.proofs.OneDie.{tree-end, tree-at}
+use Rattle.bg_turns.specs.Race.{one_die, tree, after, behind}
+use Rattle.bg_turns.proofs.OneDie.{IsRace-after, tree-end, tree-at}
 use Rattle.bg_turns.proofs.Growing.{behind-empty, add_branch}
 use Rattle.bg_turns.proofs.Opened.{left_first, left_after, listed_there, listed_all, none_by_die, place_low, place_passed, start_low, fewer}
 use Rattle.bg_turns.proofs.Sides.{held_from_can}
 use Rattle.bg_turns.proofs.trees.+add_tree.Goals as goal
-use Rattle.bg_turns.proofs.trees.+add_tree.Goals.{then-left-eq0-via-then-left-eq0, then-left-eq0-via-else-left-eq0+then-is_off}
+use Rattle.bg_turns.proofs.trees.+add_tree.Goals.{then-left-eq0-via-then-left-eq0, then-left-eq0-via-else-left-eq0+then-is_off, then-left-eq2+in_ok-add_last, else-left-eq2+in_ok-add_tree}
 
 pub returns-then-left-eq0-clause-lists : goal.returns-then-left-eq0-clause-lists
 returns-then-left-eq0-clause-lists t c =
@@ -22,17 +21,10 @@ returns-then-left-eq0-clause-lists t c =
     ∙ ap (λ xs. behind (take c.args.played c.args.front) xs) (sym last)))
 
 pub returns-then-left-eq1-clause-lists : goal.returns-then-left-eq1-clause-lists
-returns-then-left-eq1-clause-lists t c =
-    let on = sym (c.is_off.ensures c.args.race.now c.requires.race c.requires.masks) ∙ c.if-is_off.false in
-    let places = c.open-places.ensures c.args.race.now c.requires.race c.requires.masks in
-    on_ok_weaker c.add_leaves.result (λ is. is
-    ∙ ap (λ xs. c.args.turns.now.items ++ behind (take c.args.played c.args.front) xs)
-    (sym (rw c.if-left-eq1.true (tree-at c.args.die 1 c.args.race.now (omega arith) on))))
-    (c.add_leaves.ensures c.args.race.now places)
+returns-then-left-eq1-clause-lists t c = rw c.if-left-eq1.true (c.add_last.ensures c.args.race.now c.requires.race c.requires.masks)
 
-pub add_leaves-requires-clause-places : goal.add_leaves-requires-clause-places
-add_leaves-requires-clause-places t c =
-    (c.args.race.now, c.open-places.ensures c.args.race.now c.requires.race c.requires.masks)
+pub add_last-requires-clause-race : goal.add_last-requires-clause-race
+add_last-requires-clause-race t c = (c.args.race.now, c.requires.race, c.requires.masks)
 
 pub loop-places-init : goal.loop-places-init
 loop-places-init t c = record {
@@ -46,16 +38,25 @@ overflow_sub-from t c =
     let low = place_low _ _ _ c.loop-places.invariant.left c.loop-places-test.true (omega arith) in
     omega (arith, low)
 
-pub step_from-step-requires-clause-low : goal.step_from-step-requires-clause-low
-step_from-step-requires-clause-low t c = start_low _ _ _ c.loop-places.invariant.left c.loop-places-test.true (omega arith)
+pub down-step-requires-clause-low : goal.down-step-requires-clause-low
+down-step-requires-clause-low t c = start_low _ _ _ c.loop-places.invariant.left c.loop-places-test.true (omega arith)
 
 pub after-next-requires-clause-checker : goal.after-next-requires-clause-checker
 after-next-requires-clause-checker t c =
-    rw c.loop-places.invariant.race (held_from_can _ _ _ (place_passed _ _ _ c.loop-places.invariant.left c.loop-places-test.true (omega arith)))
+    rw (c.loop-places.invariant.race, c.down-step.ensures)
+    (held_from_can _ _ _ (place_passed _ _ _ c.loop-places.invariant.left c.loop-places-test.true (omega arith)))
+
+pub add_last-requires-then-left-eq2-clause-race : goal.add_last-requires-then-left-eq2-clause-race
+add_last-requires-then-left-eq2-clause-race t c =
+    let held = held_from_can _ _ _ (place_passed _ _ _ c.loop-places.invariant.left c.loop-places-test.true (omega arith)) in (
+      after c.args.race.now c.down-step.result.from c.down-step.result.to,
+      IsRace-after _ _ _ c.requires.race (omega arith) (omega arith) (rw c.down-step.ensures held),
+      rw c.loop-places.invariant.race at c.after-next.ensures,
+    )
 
 pub play-requires-clause-checker : goal.play-requires-clause-checker
 play-requires-clause-checker t c =
-    rw (c.loop-places.invariant.race, c.step_from-step.ensures)
+    rw (c.loop-places.invariant.race, c.down-step.ensures)
     (held_from_can _ _ _ (place_passed _ _ _ c.loop-places.invariant.left c.loop-places-test.true (omega arith)))
 
 pub loop-places-smaller : goal.loop-places-smaller
@@ -71,15 +72,28 @@ loop-places-preserved t c =
     let there = listed_there _ _ _ left (one_die r c.args.die (tree c.args.die (c.args.left - 1)))
     (none_by_die r c.args.die (tree c.args.die (c.args.left - 1))) (take c.args.played c.args.front)
     c.loop-places.turns.items c.args.turns.now.items c.loop-places.invariant.listed some (omega arith) in
-    let played = rw c.loop-places.invariant.race at c.play.ensures.value in
-    let held : 0 < get_or r.own c.step_from-step.result.from 0 = rw c.step_from-step.ensures (held_from_can _ _ _ passed) in
+    let same = c.loop-places.invariant.race in
+    let step = c.down-step.result in
+    let held : 0 < get_or r.own step.from 0 = rw c.down-step.ensures (held_from_can _ _ _ passed) in
     record {
       left = left_after _ _ _ left some (omega arith);
-      listed = add_branch r c.args.die from c.args.left c.args.played c.args.front c.loop-places.turns.items c.add_tree.new.turns.items _
+      race = elim c.if-left-eq2.branch [
+        | then-left-eq2+in_ok-add_last w ↦ w.race-is ∙ same
+        | else-left-eq2+in_ok-add_tree w ↦
+            w.race-is ∙ w.take_back.ensures r c.requires.race held (w.in_ok-add_tree.ensures.race ∙ rw same at w.play.ensures.value)
+      ];
+      listed = add_branch r c.args.die from c.args.left c.args.played c.args.front c.loop-places.turns.items c.if-left-eq2.turns.items _
           (start_low _ _ _ left some (omega arith)) there
-          c.step_from-step.result (omega arith) passed c.step_from-step.ensures
-          (rw (c.with_step-longer.ensures, played) at c.in_ok-add_tree.ensures.lists);
-      race = c.take_back.ensures r c.requires.race held (c.in_ok-add_tree.ensures.race ∙ played);
+          step (omega arith) passed c.down-step.ensures
+          (elim c.if-left-eq2.branch [
+            | then-left-eq2+in_ok-add_last w ↦
+                let one : c.args.left - 1 ≡ 1 = (let two = w.if-left-eq2.true in omega arith) in
+                let is = IsRace-after r step.from step.to c.requires.race (omega arith) (omega arith) held in
+                let next = rw same at c.after-next.ensures in
+                ap (λ v. v.items) w.turns-is ∙ rw (one, ← c.with_step-longer.ensures) (w.in_ok-add_last.ensures (after r step.from step.to) is next)
+            | else-left-eq2+in_ok-add_tree w ↦
+                ap (λ v. v.items) w.turns-is ∙ rw (c.with_step-longer.ensures, w.play.ensures.value, same) at w.in_ok-add_tree.ensures.lists
+          ]);
     }
 
 pub returns-clause-lists : goal.returns-clause-lists

@@ -1,4 +1,4 @@
-use Rattle.std.proofs.Common.{◌≡◌, ◌<◌, arith}
+use Rattle.std.proofs.Common.{arith}
 use Rattle.bg_turns.proofs.TakenBack.{taken-back}
 use Rattle.bg_turns.proofs.races.Race.take_back.Goals as goal
 
