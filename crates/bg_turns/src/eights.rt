@@ -1,5 +1,5 @@
-//! Eight counts tested at once, as the bytes of one number: testing the 50 counts of a board one by one takes most of the
-//! time of a short search.
+//! Eight counts tested at once, as the bytes of one number: testing the 50 counts of a board one by one takes most of
+//! the time of a short search.
 ghost use Rattle.std.specs.Prelude.{◌≡◌, ◌≤◌, ◌<◌, ◌+◌, ◌-◌, ◌/◌, ℕ, slice_index};
 ghost use Rattle.std.specs.Int.{bit_at};
 

@@ -5,7 +5,7 @@ use crate::Turn;
 use arrayvec::ArrayVec;
 use bg_board::Step;
 
-/// The turn of the first of these steps.
+/// The turn of the first of these steps. Each number of them is written out, so that no loop cuts the rest.
 pub(crate) fn turn_of(steps: [Step; 4], count: usize) -> Turn
     requires { count ≤ 4 }
     ensures { result ≡ take count steps }
