@@ -3,7 +3,7 @@ ghost use Rattle.std.specs.Prelude.{◌≡◌, ◌≤◌, ◌<◌, ◌↔◌, su
 ghost use Rattle.std.specs.Bool.{OnTrue, OnFalse};
 ghost use Rattle.bg_board.specs.Die.{pips};
 ghost use Rattle.bg_board.specs.Position.{Position, IsPosition, AreApart, SharesPoint, HasAllOff, count, count_above, checkers, position_of, start_position};
-ghost use Rattle.bg_board.specs.Step.{carried as carried_counts, hit_by as hit_counts};
+ghost use Rattle.bg_board.specs.Step.{carried, hit_by};
 
 use crate::{Die, Player, Step, StepFault};
 use std::marker::Model;
@@ -160,30 +160,20 @@ impl Board {
         if to == OFF && from < pips && self.count_above(player, from) > 0 {
             return Err(StepFault::HigherChecker);
         }
-        Ok(self.after_step(player, step))
+        let mut after = *self;
+        after.play(player, step);
+        Ok(after)
     }
 
-    /// The board after a step that is legal by some die: as [`Board::play_step`] gives it, for a caller who has
-    /// tested the step already.
-    pub fn after_step(&self, player: Player, step: Step) -> Board
-        requires { IsLegalStep self.now player step }
-        ensures { result ≡ after_step self.now player step }
-    {
-        let from = usize::from(step.from());
-        let to = usize::from(step.to());
-        let own = carried(*self.checkers(player), from, to);
-        let other = hit_by(*self.checkers(player.opponent()), to);
-        Self::of_players(player, own, other)
-    }
-
-    /// The board where the player has these checkers, and his opponent those.
-    fn of_players(player: Player, own: [u8; 26], other: [u8; 26]) -> Board
-        requires { IsPosition (position_of player own other) }
-        ensures { result ≡ position_of player own other }
+    /// Plays a step that is legal by some die, where [`Board::play_step`] gives the board after it: for a caller
+    /// who has tested the step already.
+    pub fn play(&mut self, player: Player, step: Step)
+        requires { IsLegalStep self.old player step }
+        ensures { self.new ≡ after_step self.old player step }
     {
         match player {
-            Player::X => Board { x: own, o: other },
-            Player::O => Board { x: other, o: own },
+            Player::X => carry_and_hit(&mut self.x, &mut self.o, step),
+            Player::O => carry_and_hit(&mut self.o, &mut self.x, step),
         }
     }
 
@@ -216,31 +206,22 @@ fn total(counts: &[u8]) -> u32
     counts.iter().map(|count| u32::from(*count)).sum()
 }
 
-/// One checker is carried from a point to another.
-fn carried(counts: [u8; 26], from: usize, to: usize) -> [u8; 26]
-    requires starts { from ≤ 25 }
-    requires lands { to ≤ 25 }
-    requires checker { 0 < slice_index counts from }
-    requires fifteen { sum counts ≡ 15 }
-    ensures { result ≡ carried_counts counts from to }
+/// A player's checker is carried by a step, and a single checker of the other where it lands goes to the bar.
+fn carry_and_hit(own: &mut [u8; 26], other: &mut [u8; 26], step: Step)
+    requires checker { 0 < slice_index own.old step.from }
+    requires fifteen { sum own.old ≡ 15 }
+    requires other { sum other.old ≡ 15 }
+    ensures carried { own.new ≡ carried own.old step.from step.to }
+    ensures hit { other.new ≡ hit_by other.old step.to }
 {
-    let mut after = counts;
-    after[from] -= 1;
-    after[to] += 1;
-    after
-}
-
-/// A single checker where the opponent lands goes to the bar.
-fn hit_by(counts: [u8; 26], landing: usize) -> [u8; 26]
-    requires lands { landing ≤ 24 }
-    requires fifteen { sum counts ≡ 15 }
-    ensures { result ≡ hit_counts counts landing }
-{
-    let bar = usize::from(BAR);
-    let mut after = counts;
-    if landing > 0 && after[bar - landing] == 1 {
-        after[bar - landing] = 0;
-        after[bar] += 1;
+    own[usize::from(step.from())] -= 1;
+    own[usize::from(step.to())] += 1;
+    if step.to() == OFF {
+        return;
     }
-    after
+    let landing = usize::from(BAR - step.to());
+    if other[landing] == 1 {
+        other[landing] = 0;
+        other[usize::from(BAR)] += 1;
+    }
 }

@@ -8,7 +8,7 @@ use lib.Pow.{pow-add}
 use native.Mathlib.Nat.{div-div-eq-div-mul}
 use Rattle.std.proofs.lemmas.Nat.Bits.{bit_at_and, bit_at_not, bit_at_ones, bit_at_ones_above, bit_at-lt}
 
-bit_at-shr : (n d q : ℕ) → bit_at (n / 2 ^ d) q ≡ bit_at n (d + q)
+pub bit_at-shr : (n d q : ℕ) → bit_at (n / 2 ^ d) q ≡ bit_at n (d + q)
 bit_at-shr n d q =
     ap (λ m. m % 2) (div-div-eq-div-mul n (2 ^ d) (2 ^ q) ∙ ap (λ k. n / k) (sym (pow-add 2 d q)))
 

@@ -1,12 +1,9 @@
 -- The search for the greatest number of steps on a race, from the highest point down.
-use Rattle.std.proofs.Common.{◌≡◌, ◌≢◌, ◌↔◌, map, ℕ, ◌+◌, ◌-◌, ◌<◌, ◌≤◌, max, Bool, true, false, List, [], ◌∷◌, length, get_or, refl, sym, ◌∙◌, ap, not, eqb, subst, arith, inl, inr, w32}
-use mir.Val.{bool_byte}
+use Rattle.std.proofs.Common.{◌≡◌, ◌≢◌, ◌↔◌, ℕ, ◌+◌, ◌-◌, ◌<◌, ◌≤◌, max, Bool, true, false, List, [], ◌∷◌, length, get_or, refl, sym, ◌∙◌, ap, not, eqb, subst, arith, inl, inr, w32}
 use Rattle.std.specs.Int.{trailing_zeros}
 use Rattle.std.specs.Bool.{OnTrue}
 use Rattle.std.proofs.lemmas.Bool.{cases_eq, cases_lt, ne_eqb}
 use Rattle.std.proofs.lemmas.Nat.Bits.{bit_at-zero}
-use Rattle.bg_board.specs.declared.dice.Die.{Die}
-use Rattle.bg_board.specs.Die.{pips}
 use Rattle.bg_board.specs.Position.{Position}
 use Rattle.bg_board.specs.FromTo.{FromTo}
 use Rattle.bg_board.specs.Step.{IsStep, after_step}
@@ -90,11 +87,6 @@ most_of_no_step b p die none = record { reached = ([], tt, refl); greatest = few
   few : (steps : List FromTo) → IsInOrder b p (die ∷ []) steps → length steps ≤ 0
   few [] played = omega arith
   few (step ∷ rest) played = absurd (none (step, played.0))
-
-pub most_by_test : (b : Position) (p : Player) (die : ℕ) (rest : List Die) → length rest ≡ 0 → (t : Bool) (n : ℕ) → (t ≡ true) ↔ CanStep b p die → n ≡ bool_byte t → IsMostInOrder b p (die ∷ map pips rest) n
-most_by_test b p die [] none true n h is = rw is (most_of_step b p die (h.0 refl))
-most_by_test b p die [] none false n h is = rw is (most_of_no_step b p die (λ can_step. let wrong = h.1 can_step in cc))
-most_by_test b p die (d ∷ rest) none t n h is = absurd (omega arith)
 
 module _ (b : Position) (p : Player) (die : ℕ) (dice : List ℕ) where
   above_all : (steps : List FromTo) → IsInOrder b p (die ∷ dice) steps → StartsAbove 25 steps → length steps ≤ 0

@@ -43,7 +43,7 @@ below_highest own highest from h held = elim (cases_lt highest from) [
   | inr below ↦ below
 ]
 
-can-is : (r : Race) (from die : ℕ) → can r from die ≡ can_by (get_or r.own from 0) (get_or r.own 25 0) (get_or r.other (25 - (from - die)) 0) (sum (drop 7 r.own)) (sum (drop (from + 1) r.own)) from die
+pub can-is : (r : Race) (from die : ℕ) → can r from die ≡ can_by (get_or r.own from 0) (get_or r.own 25 0) (get_or r.other (25 - (from - die)) 0) (sum (drop 7 r.own)) (sum (drop (from + 1) r.own)) from die
 unfolding can
 can-is r from die = refl
 

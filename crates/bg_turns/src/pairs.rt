@@ -5,16 +5,17 @@ ghost use Rattle.bg_turns.specs.Masks.{AreMasks, ArePlaces};
 
 use crate::Turn;
 use crate::fronts::{turn_of, with_step};
+use crate::leaves::add_last;
 use crate::masks::{Masks, holds};
-use crate::races::{Race, step_from};
-use crate::trees::{add_last, add_tree};
+use crate::races::Race;
+use crate::trees::add_tree;
 use bg_board::{BAR, Step};
 use std::alloc::AllocError;
 
 /// Adds the lists of steps by two different dice, behind the first steps of a turn.
 pub(crate) fn add_pairs(
     turns: &mut Vec<Turn>,
-    race: &Race,
+    race: &mut Race,
     masks: Masks,
     front: [Step; 4],
     played: usize,
@@ -22,14 +23,15 @@ pub(crate) fn add_pairs(
     large: u8,
     left: u8,
 ) -> Result<(), AllocError>
-    requires race { IsRace race.now }
-    requires masks { AreMasks masks race.now }
+    requires race { IsRace race.old }
+    requires masks { AreMasks masks race.old }
     requires small { 1 ≤ small }
     requires large { small < large }
     requires dice { large ≤ 6 }
     requires room { played + left ≤ 4 }
-    ensures { OnOk result (turns.new.items ≡ turns.old.items ++ behind
-        (take played front) (pairs small large left race.now)) }
+    ensures lists { OnOk result (turns.new.items ≡ turns.old.items ++ behind
+        (take played front) (pairs small large left race.old)) }
+    ensures race { OnOk result (race.new ≡ race.old) }
 {
     if left == 0 || masks.is_off() {
         turns.push(turn_of(front, played))?;
@@ -43,21 +45,21 @@ pub(crate) fn add_pairs(
         places &= !(1 << place);
         let from = BAR - place as u8;
         if from <= small && holds(by_small, place) && holds(by_large, place) {
-            let step = step_from(from, small);
-            let to = step.to();
+            let step = Step::down(from, small);
             let longer = with_step(front, played, step);
-            let after = race.after(from, to);
-            let masks = masks.after(race, from, to);
+            let next = masks.after(race, step);
+            race.play(step);
             add_pairs(
                 turns,
-                &after,
-                masks,
+                race,
+                next,
                 longer,
                 played + 1,
                 small,
                 large,
                 left - 1,
             )?;
+            race.take_back(step);
         } else {
             add_step(
                 turns,
@@ -93,7 +95,7 @@ pub(crate) fn add_pairs(
 /// and go on with another die.
 fn add_step(
     turns: &mut Vec<Turn>,
-    race: &Race,
+    race: &mut Race,
     masks: Masks,
     places: u32,
     place: u32,
@@ -103,29 +105,31 @@ fn add_step(
     next: u8,
     left: u8,
 ) -> Result<(), AllocError>
-    requires race { IsRace race.now }
-    requires masks { AreMasks masks race.now }
-    requires places { ArePlaces places race.now die }
+    requires race { IsRace race.old }
+    requires masks { AreMasks masks race.old }
+    requires places { ArePlaces places race.old die }
     requires place { place ≤ 24 }
     requires die { 1 ≤ die }
     requires six { die ≤ 6 }
     requires next { 1 ≤ next }
     requires next_six { next ≤ 6 }
     requires room { played + left < 4 }
-    ensures { OnOk result (turns.new.items ≡ turns.old.items ++ behind
-        (take played front) (one_die race.now die (tree next left) (25 - place))) }
+    ensures lists { OnOk result (turns.new.items ≡ turns.old.items ++ behind
+        (take played front) (one_die race.old die (tree next left) (25 - place))) }
+    ensures race { OnOk result (race.new ≡ race.old) }
 {
     if !holds(places, place) {
         return Ok(());
     }
     let from = BAR - place as u8;
-    let step = step_from(from, die);
+    let step = Step::down(from, die);
     let longer = with_step(front, played, step);
+    let after = masks.after(race, step);
     if left == 1 {
-        return add_last(turns, race, masks, step, longer, played + 1, next);
+        return add_last(turns, after, longer, played + 1, next);
     }
-    let to = step.to();
-    let after = race.after(from, to);
-    let masks = masks.after(race, from, to);
-    add_tree(turns, &after, masks, longer, played + 1, next, left)
+    race.play(step);
+    add_tree(turns, race, after, longer, played + 1, next, left)?;
+    race.take_back(step);
+    Ok(())
 }

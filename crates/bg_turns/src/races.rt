@@ -4,7 +4,8 @@ ghost use Rattle.std.specs.Prelude.{◌≡◌, ◌≤◌, ◌<◌, ◌↔◌, Is
 ghost use Rattle.std.specs.Bool.{OnTrue};
 ghost use Rattle.bg_board.specs.Position.{Position, IsPosition, checkers, opponent};
 ghost use Rattle.bg_board.specs.declared.players.Player.{Player as SeenPlayer};
-ghost use Rattle.bg_board.specs.Step.{IsStep, carried as carried_counts};
+ghost use Rattle.bg_board.specs.Step.{IsStep};
+ghost use Rattle.bg_turns.specs.declared.races.Race.{Race as SeenRace};
 ghost use Rattle.bg_turns.specs.Race.{IsRace, IsHighest, Stands, can, after, is_off, step_of};
 
 use bg_board::{BAR, Board, CHECKERS, HOME, OFF, Player, Step};
@@ -92,42 +93,14 @@ impl Race {
         self.own[usize::from(step.to())] += 1;
     }
 
-    /// The race after a step.
-    pub(crate) fn after(&self, from: u8, to: u8) -> Race
-        requires race { IsRace self.now }
-        requires starts { from ≤ 25 }
-        requires lands { to < from }
-        requires checker { 0 < slice_index self.now.own from }
-        ensures value { result ≡ after self.now from to }
-        ensures race { IsRace result }
+    /// Takes back a step that was just played.
+    pub(crate) fn take_back(&mut self, step: Step)
+        requires played { (before : SeenRace) × IsRace before × (0 < slice_index before.own step.from)
+            × (self.old ≡ after before step.from step.to) }
+        ensures { (before : SeenRace) → IsRace before → 0 < slice_index before.own step.from
+            → self.old ≡ after before step.from step.to → self.new ≡ before }
     {
-        Race {
-            own: carried(self.own, usize::from(from), usize::from(to)),
-            other: self.other,
-        }
+        self.own[usize::from(step.to())] -= 1;
+        self.own[usize::from(step.from())] += 1;
     }
-}
-
-/// One checker is carried from a point to another.
-fn carried(counts: [u8; 26], from: usize, to: usize) -> [u8; 26]
-    requires starts { from ≤ 25 }
-    requires lands { to ≤ 25 }
-    requires checker { 0 < slice_index counts from }
-    requires fifteen { sum counts ≡ 15 }
-    ensures { result ≡ carried_counts counts from to }
-{
-    let mut after = counts;
-    after[from] -= 1;
-    after[to] += 1;
-    after
-}
-
-/// The step by a die from a point.
-pub(crate) fn step_from(from: u8, die: u8) -> Step
-    requires low { 1 ≤ from }
-    requires high { from ≤ 25 }
-    requires die { 1 ≤ die }
-    ensures { result ≡ step_of from die }
-{
-    Step::new(from, from.saturating_sub(die)).unwrap()
 }

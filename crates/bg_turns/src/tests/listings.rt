@@ -1,5 +1,5 @@
 //! Lists of all legal turns.
-use super::{board, dice, either_die, shut_out, turn};
+use super::{board, dice, either_die, shut_out, three_fours, turn};
 use crate::{Dice, legal_turns};
 use bg_board::{Board, Die, Player};
 use std::alloc::{AllocError, Global};
@@ -45,6 +45,12 @@ fn turns_of_the_last(rt: HostRuntime) -> Result<(), Fail> {
 fn turns_by_the_larger_die(rt: HostRuntime) -> Result<(), Fail> {
     let expected: [&[(u8, u8)]; 1] = [&[(20, 14)]];
     check_turns(&rt, &either_die()?, dice(Die::Six, Die::Five), &expected)
+}
+
+#[test]
+fn turns_of_three_steps(rt: HostRuntime) -> Result<(), Fail> {
+    let expected: [&[(u8, u8)]; 1] = [&[(20, 16), (16, 12), (12, 8)]];
+    check_turns(&rt, &three_fours()?, dice(Die::Four, Die::Four), &expected)
 }
 
 /// Where nothing can be played, the empty turn alone.

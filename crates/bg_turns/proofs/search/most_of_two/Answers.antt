@@ -15,23 +15,21 @@ overflow_sub-from c =
 pub overflow_sub-below : goal.overflow_sub-below
 overflow_sub-below c = start_low _ _ _ c.loop-places.invariant.left c.loop-places-test.true (omega arith)
 
-pub after-after-requires-clause-lands : goal.after-after-requires-clause-lands
-after-after-requires-clause-lands c =
-    let low = start_low _ _ _ c.loop-places.invariant.left c.loop-places-test.true (omega arith) in
-    omega (arith, low, c.saturating_sub.ensures, c.requires.first)
+pub down-requires-clause-low : goal.down-requires-clause-low
+down-requires-clause-low c = start_low _ _ _ c.loop-places.invariant.left c.loop-places-test.true (omega arith)
 
 pub after-after-requires-clause-checker : goal.after-after-requires-clause-checker
 after-after-requires-clause-checker c =
-    held_from_can _ _ _ (place_passed _ _ _ c.loop-places.invariant.left c.loop-places-test.true (omega arith))
+    rw c.down.ensures (held_from_can _ _ _ (place_passed _ _ _ c.loop-places.invariant.left c.loop-places-test.true (omega arith)))
 
 pub can_step-requires-clause-race : goal.can_step-requires-clause-race
 can_step-requires-clause-race c =
     let low = start_low _ _ _ c.loop-places.invariant.left c.loop-places-test.true (omega arith) in
     let held = held_from_can _ _ _ (place_passed _ _ _ c.loop-places.invariant.left c.loop-places-test.true (omega arith)) in
     let from = 25 - trailing_zeros w32 c.loop-places.places in (
-      after c.args.race.now from c.saturating_sub.result,
-      IsRace-after c.args.race.now from c.saturating_sub.result c.requires.race (omega arith) (omega (arith, low, c.saturating_sub.ensures)) held,
-      c.after-after.ensures,
+      after c.args.race.now from (from - c.args.first),
+      IsRace-after c.args.race.now from (from - c.args.first) c.requires.race (omega arith) (omega arith) held,
+      rw c.down.ensures at c.after-after.ensures,
     )
 
 pub loop-places-init : goal.loop-places-init
@@ -49,19 +47,21 @@ returns-then-can_step-clause-most c b p s =
     let low = start_low _ _ _ c.loop-places.invariant.left c.loop-places-test.true (omega arith) in
     let held = held_from_can _ _ _ (place_passed _ _ _ c.loop-places.invariant.left c.loop-places-test.true (omega arith)) in
     let from = 25 - trailing_zeros w32 c.loop-places.places in
-    let is = IsRace-after c.args.race.now from c.saturating_sub.result c.requires.race (omega arith) (omega (arith, low, c.saturating_sub.ensures)) held in
-    let there = c.can_step.ensures (after c.args.race.now from c.saturating_sub.result) is c.after-after.ensures in
+    let is = IsRace-after c.args.race.now from (from - c.args.first) c.requires.race (omega arith) (omega arith) held in
+    let next = rw c.down.ensures at c.after-after.ensures in
+    let there = c.can_step.ensures (after c.args.race.now from (from - c.args.first)) is next in
     deepest_all b p c.args.first (c.args.second ∷ []) c.args.race.now s c.requires.first c.loop-places.below c.loop-places.places
     c.loop-places.invariant.left c.loop-places.most (c.loop-places.invariant.most b p s) c.loop-places-test.true (omega arith)
-    _ 1 c.saturating_sub.ensures (λ b' st. most_of_step b' p c.args.second ((there b' p st).0 c.if-can_step.true)) refl
+    _ 1 refl (λ b' st. most_of_step b' p c.args.second ((there b' p st).0 c.if-can_step.true)) refl
 
 pub loop-places-preserved : goal.loop-places-preserved
 loop-places-preserved c =
     let low = start_low _ _ _ c.loop-places.invariant.left c.loop-places-test.true (omega arith) in
     let held = held_from_can _ _ _ (place_passed _ _ _ c.loop-places.invariant.left c.loop-places-test.true (omega arith)) in
     let from = 25 - trailing_zeros w32 c.loop-places.places in
-    let is = IsRace-after c.args.race.now from c.saturating_sub.result c.requires.race (omega arith) (omega (arith, low, c.saturating_sub.ensures)) held in
-    let there = c.can_step.ensures (after c.args.race.now from c.saturating_sub.result) is c.after-after.ensures in
+    let is = IsRace-after c.args.race.now from (from - c.args.first) c.requires.race (omega arith) (omega arith) held in
+    let next = rw c.down.ensures at c.after-after.ensures in
+    let there = c.can_step.ensures (after c.args.race.now from (from - c.args.first)) is next in
     let few = c.loop-places.invariant.bounded in
     let one : max c.loop-places.most (1 + 0) ≡ 1 = omega arith in
     record {
@@ -70,7 +70,7 @@ loop-places-preserved c =
       most = λ b p s. rw one at
           (deepest_played b p c.args.first (c.args.second ∷ []) c.args.race.now s c.requires.first c.loop-places.below c.loop-places.places
           c.loop-places.invariant.left c.loop-places.most (c.loop-places.invariant.most b p s) c.loop-places-test.true (omega arith)
-          _ 0 c.saturating_sub.ensures (λ b' st. most_of_no_step b' p c.args.second (λ can_step. let wrong = (there b' p st).1 can_step in let off = c.if-can_step.false in cc)));
+          _ 0 refl (λ b' st. most_of_no_step b' p c.args.second (λ can_step. let wrong = (there b' p st).1 can_step in let off = c.if-can_step.false in cc)));
     }
 
 pub returns-clause-most : goal.returns-clause-most

@@ -1,4 +1,4 @@
-use Rattle.std.proofs.Common.{◌-◌, take}
+use Rattle.std.proofs.Common.{◌≡◌, ◌-◌, take}
 use Rattle.bg_turns.specs.Race.{one_die, tree}
 use Rattle.bg_turns.proofs.Opened.{IsLeft, CanFrom, IsListed}
 use Rattle.bg_turns.proofs.trees.+add_tree.Given as goal
@@ -8,8 +8,9 @@ decreases-add_tree l = l.left
 
 abbrev pub invariant-loop-places : goal.invariant-loop-places
 invariant-loop-places l = record {
-  left : IsLeft (CanFrom l.race l.die) l.below l.places;
-  listed : IsListed (one_die l.race l.die (tree l.die (l.left - 1))) (take l.played l.front) l.below l.turns.items l.fn.turns.items;
+  left : IsLeft (CanFrom l.fn.race l.die) l.below l.places;
+  listed : IsListed (one_die l.fn.race l.die (tree l.die (l.left - 1))) (take l.played l.front) l.below l.turns.items l.fn.turns.items;
+  race : l.race ≡ l.fn.race;
 }
 
 abbrev pub decreases-loop-places : goal.decreases-loop-places
