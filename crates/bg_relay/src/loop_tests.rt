@@ -5,11 +5,13 @@ use crate::files::read_saved;
 use crate::loop_faults::LoopFault;
 use crate::loops::run_loop;
 use crate::rounds::{PARTIES, run_rounds};
+use crate::sim_tests::check_no_growth_is_left;
 use crate::udp_links::UdpLink;
 use bg_text::Writing;
 use bg_wire::{REFEREE, SEAT_OF_O, SEAT_OF_X, Saved, restore};
-use bg_world::{Keepers, Outcome, RestoreCause};
+use bg_world::{Keepers, Outcome, RestoreCause, WorldFault};
 use std::fs;
+use std::io;
 use std::test::Fail;
 
 const SEED: u64 = 7;
@@ -28,7 +30,7 @@ opening
 ";
 
 /// A new folder among those that do not last.
-fn new_folder(rt: &HostRuntime, name: &str) -> Result<String, Fail> {
+fn new_folder(rt: &HostRuntime, name: &str) -> io::Result<String> {
     let process = std::process::id(rt.process());
     let temp = std::env::temp_dir(rt)?;
     let folder = format!(in rt.alloc(); "{}/bg_relay-{process}-{name}", temp.as_str())?;
@@ -181,3 +183,34 @@ fn one_call_that_fails(rt: HostRuntime) -> Result<(), Fail> {
 
 /// Ten rounds make fewer calls.
 const MOST_CALLS: u32 = 1000;
+
+/// Whether a match ended for want of memory; the output of these tests is in memory too.
+fn lacked_memory(fault: &LoopFault) -> bool {
+    match fault {
+        LoopFault::World(WorldFault::Memory) | LoopFault::Memory | LoopFault::Write => true,
+        LoopFault::Stopped(outcome) => outcome.wants_memory(),
+        _ => false,
+    }
+}
+
+/// A round that lacked memory loses nothing: over the same folder the match goes on. No run of the tests refuses any,
+/// but `tools/refuse_growths` refuses each growth in turn.
+#[test]
+fn refused_growths_of_a_round(rt: HostRuntime) -> Result<(), Fail> {
+    let folder = match new_folder(&rt, "growths") {
+        Ok(folder) => folder,
+        Err(_) => new_folder(&rt, "growths")?,
+    };
+    let text = match played(&rt, folder.as_str(), SEED, 1) {
+        Ok(text) => text,
+        Err(fault) => {
+            assert!(rt; lacked_memory(&fault));
+            played(&rt, folder.as_str(), SEED, 1)?
+        }
+    };
+    assert!(rt; is_sound(&text));
+    if fs::remove_dir_all(&rt, folder.as_str()).is_err() {
+        fs::remove_dir_all(&rt, folder.as_str())?;
+    }
+    check_no_growth_is_left(rt.alloc())
+}
