@@ -10,9 +10,8 @@ use crate::udp_links::UdpLink;
 use bg_text::Writing;
 use bg_wire::{REFEREE, SEAT_OF_O, SEAT_OF_X, Saved, restore};
 use bg_world::{Keepers, Outcome, RestoreCause, WorldFault};
-use std::fs;
-use std::io;
 use std::test::Fail;
+use std::{fs, io};
 
 const SEED: u64 = 7;
 
