@@ -1,6 +1,6 @@
 -- What the referee knows that the parties have, so that it can send them what they lack.
-use Rattle.std.specs.Prelude.{◌≡◌, ◌==◌, ℕ, zero, suc, ◌+◌, ◌-◌, ◌≤◌, nat_lt, Option, Some, None, List, [], ◌∷◌, ◌++◌}
-use Rattle.std.specs.Prelude.{length, take, min, slice_index_or, slice_set, replicate, if◌then◌else◌}
+use Rattle.std.specs.Prelude.{◌≡◌, ◌==◌, ℕ, zero, suc, ◌+◌, ◌-◌, ◌≤◌, nat_lt, Option, Some, None, List, [], ◌∷◌}
+use Rattle.std.specs.Prelude.{◌++◌, length, take, min, slice_index_or, slice_set, replicate, if◌then◌else◌}
 use Rattle.bg_wire.specs.Codes.{seat_of_x, last_watcher, most_in_packet}
 use Rattle.bg_wire.specs.declared.packets.Packet.{Packet}
 use Rattle.bg_wire.specs.declared.packets.Packet.TheVariants as packet
@@ -21,8 +21,8 @@ most_pushes = 2
 
 -- ---- sessions
 
--- the number of the last entry that each party is known to have, or nothing, in the order of the parties' numbers from 0
--- (the referee's own place has nothing); and the party with which the next round begins
+-- the number of the last entry that each party is known to have, or nothing, in the order of the parties' numbers from
+-- 0 (the referee's own place has nothing); and the party with which the next round begins
 pub record SessionsView : Type 0 where
   pub told : List (Option ℕ)
   pub cursor : ℕ

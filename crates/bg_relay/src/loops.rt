@@ -14,8 +14,9 @@ use std::fs::File;
 use std::net::Net;
 use std::rt::Files;
 
-/// Plays a match of automatic players as [`run_rounds`](crate::rounds::run_rounds) does, over sockets on 127.0.0.1 and the files of a folder
-/// (docs/OPERATING.md). Over the same folder, with the same seed and length, it goes on where it was left.
+/// Plays a match of automatic players as [`run_rounds`](crate::rounds::run_rounds) does, over sockets on 127.0.0.1 and
+/// the files of a folder (docs/OPERATING.md). Over the same folder, with the same seed and length, it goes on where it
+/// was left.
 ///
 /// # Errors
 /// `Socket` where a socket can't be had, `Memory` where there is no memory for the sockets and the names of the files;
@@ -31,7 +32,8 @@ pub fn run_loop<R: Net + Files<File = File> + AllocGlobal + Eprint, W: Sink>(
     ensures length { OnOk result (IsMatchLength length) }
     ensures text { OnOk result (GetsFinalText (W.written output.old) (W.written output.new)
         (W.flushes output.old) (W.flushes output.new)) }
-    ensures fault { IfErr result (IsLoopFault (setup_of seed length) (W.failures output.old) (W.failures output.new)) }
+    ensures fault { IfErr result
+        (IsLoopFault (setup_of seed length) (W.failures output.old) (W.failures output.new)) }
 {
     run_loop_telling(rt, seed, length, rounds, folder, output, &mut |_| {})
 }
@@ -52,7 +54,8 @@ where
     ensures length { OnOk result (IsMatchLength length) }
     ensures text { OnOk result (GetsFinalText (W.written output.old) (W.written output.new)
         (W.flushes output.old) (W.flushes output.new)) }
-    ensures fault { IfErr result (IsLoopFault (setup_of seed length) (W.failures output.old) (W.failures output.new)) }
+    ensures fault { IfErr result
+        (IsLoopFault (setup_of seed length) (W.failures output.old) (W.failures output.new)) }
 {
     let link = UdpLink::bind(rt, PARTIES)?;
     let keepers = Keepers {

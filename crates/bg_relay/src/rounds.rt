@@ -46,7 +46,8 @@ pub fn run_rounds<L: Link + Drop, K: Keeper + Drop, W: Sink>(
     ensures length { OnOk result (IsMatchLength length) }
     ensures text { OnOk result (GetsFinalText (W.written output.old) (W.written output.new)
         (W.flushes output.old) (W.flushes output.new)) }
-    ensures fault { IfErr result (IsRoundsFault (setup_of seed length) (W.failures output.old) (W.failures output.new)) }
+    ensures fault { IfErr result
+        (IsRoundsFault (setup_of seed length) (W.failures output.old) (W.failures output.new)) }
 {
     run_rounds_telling(
         alloc,
@@ -75,7 +76,8 @@ pub(crate) fn run_rounds_telling<L: Link + Drop, K: Keeper + Drop, W: Sink, F: F
     ensures length { OnOk result (IsMatchLength length) }
     ensures text { OnOk result (GetsFinalText (W.written output.old) (W.written output.new)
         (W.flushes output.old) (W.flushes output.new)) }
-    ensures fault { IfErr result (IsRoundsFault (setup_of seed length) (W.failures output.old) (W.failures output.new)) }
+    ensures fault { IfErr result
+        (IsRoundsFault (setup_of seed length) (W.failures output.old) (W.failures output.new)) }
 {
     let mut played = Rounds::begin(alloc, seed, length, link, keepers)?;
     for done in 0..rounds {

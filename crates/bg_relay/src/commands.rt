@@ -1,0 +1,112 @@
+//! The commands that read standard input or files, and those that print a text that is made in memory.
+
+use crate::endings::Ending;
+use crate::files::{read_saved, write_text};
+use crate::progress::Progress;
+use crate::showing::show_text;
+use crate::simulation::Simulation;
+use crate::{NO_MEMORY, failed};
+use bg_text::{EngineFault, Reading, Writing, judge};
+use bg_world::{ScriptFault, Setup, script};
+use std::fs::File;
+use std::io;
+use std::rt::Files;
+use std::time::Clock;
+
+/// How many events of an automatic match happen between two looks at the clock.
+const BATCH: u32 = 1000;
+
+/// Judges the transcript on the standard input.
+pub(crate) fn run_judge(rt: &(impl Input + Print + Eprint + AllocGlobal)) -> Ending {
+    let mut input = Reading::new(rt.reader());
+    let mut output = Writing::new(io::writer(rt));
+    match judge(rt.alloc(), &mut input, &mut output) {
+        Ok(verdict) => Ending::Judged(verdict),
+        Err(EngineFault::Read) => failed_for(rt, EngineFault::Read, input.error()),
+        Err(EngineFault::Write) => failed_for(rt, EngineFault::Write, output.error()),
+        Err(EngineFault::Memory) => failed(rt, EngineFault::Memory),
+    }
+}
+
+/// Plays the script on the standard input.
+pub(crate) fn run_script(rt: &(impl Input + Print + Eprint + AllocGlobal), setup: Setup) -> Ending {
+    let mut input = Reading::new(rt.reader());
+    let mut output = Writing::new(io::writer(rt));
+    match script(rt.alloc(), &mut input, &mut output, setup) {
+        Ok(verdict) => Ending::Played(verdict),
+        Err(ScriptFault::World(fault)) => failed(rt, fault),
+        Err(ScriptFault::Engine(EngineFault::Read)) => failed_for(
+            rt,
+            EngineFault::Read,
+            input.error(),
+        ),
+        Err(ScriptFault::Engine(EngineFault::Write)) => failed_for(
+            rt,
+            EngineFault::Write,
+            output.error(),
+        ),
+        Err(ScriptFault::Engine(EngineFault::Memory)) => failed(rt, EngineFault::Memory),
+    }
+}
+
+/// Plays an automatic match, and prints what [`sim_text`](simulating::sim_text) gives.
+pub(crate) fn run_sim(
+    rt: &(impl Clock + Print + Eprint + AllocGlobal),
+    seed: u64,
+    length: u8,
+    watchers: u8,
+    steps: u32,
+    mut progress: Progress,
+) -> Ending {
+    let mut simulation = match Simulation::new(rt.alloc(), seed, length, watchers) {
+        Ok(simulation) => simulation,
+        Err(fault) => return failed(rt, fault),
+    };
+    let mut done = 0;
+    while done < steps {
+        let next = steps.min(done.saturating_add(BATCH));
+        if simulation.run(done, next).is_err() {
+            return failed(rt, NO_MEMORY);
+        }
+        done = next;
+        progress.tell(rt, "events", done, steps);
+    }
+    let Ok(text) = simulation.text() else {
+        return failed(rt, NO_MEMORY);
+    };
+    match write_text(rt, &text) {
+        Ok(()) => Ending::Simulated,
+        Err(error) => failed(rt, format_args!("the output could not be written: {error}")),
+    }
+}
+
+/// Reading or writing failed, for this reason if it is known.
+fn failed_for(rt: &impl Eprint, fault: EngineFault, reason: Option<&io::Error>) -> Ending {
+    match reason {
+        Some(reason) => failed(rt, format_args!("{fault}: {reason}")),
+        None => failed(rt, fault),
+    }
+}
+
+/// Shows two saved files.
+pub(crate) fn run_show(
+    rt: &(impl Files<File = File> + Print + Eprint + AllocGlobal),
+    path0: &str,
+    path1: &str,
+) -> Ending {
+    let file0 = match read_saved(rt, path0) {
+        Ok(file0) => file0,
+        Err(error) => return failed(rt, format_args!("{path0} could not be read: {error}")),
+    };
+    let file1 = match read_saved(rt, path1) {
+        Ok(file1) => file1,
+        Err(error) => return failed(rt, format_args!("{path1} could not be read: {error}")),
+    };
+    let Ok((text, loads)) = show_text(rt.alloc(), &file0, &file1) else {
+        return failed(rt, NO_MEMORY);
+    };
+    match write_text(rt, &text) {
+        Ok(()) => Ending::Shown { loads },
+        Err(error) => failed(rt, format_args!("the output could not be written: {error}")),
+    }
+}
