@@ -15,11 +15,11 @@ use Rattle.bg_wire.proofs.OneText.{empty_loads}
 use Rattle.bg_party.specs.Views.{WatcherView, fresh_follower, fresh_watcher}
 use Rattle.bg_world.specs.declared.setups.Setup.{Setup}
 use Rattle.bg_world.specs.Slots.{empty_slots}
-use Rattle.bg_world.specs.Starts.{AreUnused, fresh_watchers, start_of}
+use Rattle.bg_world.specs.Starts.{AreUnused, fresh_watchers, fresh_world}
 use Rattle.bg_world.specs.State.{IsSetup, start}
 use Rattle.bg_world.specs.Views.{KeeperView, LinkView, WorldView}
-use Rattle.bg_world.specs.WorldState.{CoresMatch, IsReachedWorld, Restorable, WatcherMatches, WatchersMatch, state_of}
-use Rattle.bg_world.specs.WorldState.{watcher_log}
+use Rattle.bg_world.specs.WorldState.{CoresMatch, IsReachedWorld, Restorable, WatcherMatches, WatchersMatch, protocol_state}
+use Rattle.bg_world.specs.WorldState.{watcher_entries}
 use Rattle.bg_world.proofs.EarlyEntries.{none_kept}
 
 -- ---- the watchers
@@ -37,11 +37,11 @@ more_empty : (n : ℕ) → replicate n no_entries ++ no_entries ∷ [] ≡ no_en
 more_empty zero = refl
 more_empty (suc n) = ap (λ (l : List (List Entry)). no_entries ∷ l) (more_empty n)
 
-empty_logs : (id : ℕ) (terms : Terms) (n : ℕ) → map watcher_log (fresh_watchers id terms n) ≡ replicate n []
+empty_logs : (id : ℕ) (terms : Terms) (n : ℕ) → map watcher_entries (fresh_watchers id terms n) ≡ replicate n []
 unfolding no_entries
 empty_logs id terms zero = refl
 empty_logs id terms (suc n) =
-    map-append watcher_log (fresh_watchers id terms n) (fresh_watcher (first_watcher + n) id terms ∷ [])
+    map-append watcher_entries (fresh_watchers id terms n) (fresh_watcher (first_watcher + n) id terms ∷ [])
     ∙ ap (λ (l : List (List Entry)). l ++ [] ∷ []) (empty_logs id terms n) ∙ more_empty n
 
 get_last : (xs : List WatcherView) (x : WatcherView) (i : ℕ) (f : WatcherView) → slice_get (xs ++ x ∷ []) i ≡ Some f
@@ -101,7 +101,7 @@ nothing = record { referee = None; x = None; o = None }
 module _ (setup : Setup) (link : LinkView) (referee x o : KeeperView) (no_sent : link.sent ≡ [])
     (no_referee : referee.slots ≡ empty_slots)
     (no_x : x.slots ≡ empty_slots) (no_o : o.slots ≡ empty_slots) where
-  start_is : state_of (start_of setup link referee x o) nothing ≡ start setup.id setup.length setup.watchers
+  start_is : protocol_state (fresh_world setup link referee x o) nothing ≡ start setup.id setup.length setup.watchers
   start_is =
       let w = start setup.id setup.length setup.watchers in
       ap₂ (λ (s : List Datagram) (l : List (List Entry)). record w {
@@ -118,7 +118,7 @@ module _ (setup : Setup) (link : LinkView) (referee x o : KeeperView) (no_sent :
       }) no_referee
       ∙ ap₂ (λ (b c : Slots). record w { x = record (w.x) { slots = b }; o = record (w.o) { slots = c } }) no_x no_o
 
-  start_matches : CoresMatch (start_of setup link referee x o) nothing
+  start_matches : CoresMatch (fresh_world setup link referee x o) nothing
   start_matches = record {
     referee = (nothing_restored referee.slots no_referee, record { log = (refl, refl); next = refl });
     x = (nothing_restored x.slots no_x, record { sits_for = refl; log = (refl, refl); next = refl });
@@ -127,7 +127,7 @@ module _ (setup : Setup) (link : LinkView) (referee x o : KeeperView) (no_sent :
   }
 
   pub start_reached : IsSetup setup.id setup.length setup.watchers → IsReachedWorld
-      (start_of setup link referee x o)
+      (fresh_world setup link referee x o)
   start_reached is = record {
     restorable = nothing;
     reached = record {
@@ -148,7 +148,7 @@ module _ (setup : Setup) (link : LinkView) (referee x o : KeeperView) (no_sent :
   }
 
   pub start_state : (is : IsSetup setup.id setup.length setup.watchers)
-      → state_of (start_of setup link referee x o) (start_reached is).restorable
+      → protocol_state (fresh_world setup link referee x o) (start_reached is).restorable
       ≡ start setup.id setup.length setup.watchers
   unfolding start_reached
   start_state is = start_is
@@ -156,7 +156,7 @@ module _ (setup : Setup) (link : LinkView) (referee x o : KeeperView) (no_sent :
 -- a world that is made over devices that nothing was asked of is a reached one
 pub made_reached : {W E : Type 0} (setup : Setup) (link : LinkView) (referee x o : KeeperView) (view : W → WorldView)
     (Refuses : E → Type 0) (result : Result W E)
-    → IfOk result (λ world. view world ≡ start_of setup link referee x o)
+    → IfOk result (λ world. view world ≡ fresh_world setup link referee x o)
     → MatchResult result (λ _. IsSetup setup.id setup.length setup.watchers) Refuses
     → IfOk result (λ world. AreUnused link referee x o → IsReachedWorld (view world))
 made_reached setup link referee x o view Refuses (Ok world) start is = λ unused.

@@ -18,14 +18,14 @@ use Rattle.bg_world.specs.Starts as starts
 use Rattle.bg_world.specs.State.{log_as, seat}
 use Rattle.bg_world.specs.Upholds.{Upholds}
 use Rattle.bg_world.specs.Views.{WorldView}
-use Rattle.bg_world.specs.WorldState.{IsReachedWorld, Restorable, referee_state, restorable_of, seat_state, state_of, watcher_log}
+use Rattle.bg_world.specs.WorldState.{IsReachedWorld, Restorable, referee_state, restorable_of, seat_state, protocol_state, watcher_entries}
 use Rattle.bg_world.proofs.Invariant.{of_seat}
 use Rattle.bg_world.proofs.Reached.{reached, headline, agreement, no_more, no_packet_refused, no_slot_refused, saves_survive}
 use Rattle.bg_world.proofs.Sides.{get_log}
 
 -- the record of a party that is up is the one that the state has
 held_entries : (r : Role) (w : WorldView) (c : Restorable) (log : Log) → held_of w r ≡ Some log
-    → log_as (state_of w c) r ≡ Some log.entries
+    → log_as (protocol_state w c) r ≡ Some log.entries
 held_entries roles.Referee w c log h = at w.referee h
   where
     at : (r : Option RefereeView) → referee_log r ≡ Some log
@@ -46,13 +46,13 @@ held_entries (roles.Seat O) w c log h = at w.o h
     at (Some s) e = ap (λ (l : Log). Some l.entries) (same_Some s.follower.log log e)
 held_entries (roles.Watcher i) w c log h = get_log w.watchers i ∙ at (slice_get w.watchers i) h
   where
-    at : (f : Option WatcherView) → starts.watcher_log f ≡ Some log → option_map watcher_log f ≡ Some log.entries
+    at : (f : Option WatcherView) → starts.watcher_log f ≡ Some log → option_map watcher_entries f ≡ Some log.entries
     at None e = absurd cc
     at (Some f) e = ap (λ (l : Log). Some l.entries) (same_Some f.follower.log log e)
 
 -- what the slots of a seat restore is what the state says
 restorable_of_seat : (w : WorldView) (c : Restorable) (q : Player)
-    → (seat (state_of w c) q).restorable ≡ restorable_of c q
+    → (seat (protocol_state w c) q).restorable ≡ restorable_of c q
 restorable_of_seat w c X = at_x w.x
   where
     at_x : (s : Option SeatView) → (seat_state s w.x_keeper.slots c.x).restorable ≡ c.x
@@ -67,7 +67,7 @@ restorable_of_seat w c O = at_o w.o
 pub upholds : (w : WorldView) → IsReachedWorld w → Upholds w
 upholds w world =
     let c = world.restorable in
-    let v = state_of w c in
+    let v = protocol_state w c in
     let inv = reached v world.reached in
     record {
       world = world;

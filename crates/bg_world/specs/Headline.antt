@@ -7,10 +7,10 @@ use Rattle.bg_match.specs.declared.actions.Action.{Action}
 use Rattle.bg_match.specs.declared.entries.Entry.{Entry}
 use Rattle.bg_world.specs.Agreement.{IsPrefix}
 use Rattle.bg_world.specs.Claims.{IsOnlyClaim}
-use Rattle.bg_world.specs.State.{State, log_of}
+use Rattle.bg_world.specs.State.{ProtocolState, log_of}
 
 -- each entry of a seat in the referee's record answers the one action that this seat ever claimed under its number
-abbrev pub AreAnswered : State → Type 0
+abbrev pub AreAnswered : ProtocolState → Type 0
 AreAnswered w =
     (n : ℕ) (e : Entry) (player : Player) → at_number w.referee.log n ≡ Some e
     → SeatAfter w.terms (take (n - 1) w.referee.log) (Some player)
@@ -18,7 +18,7 @@ AreAnswered w =
 
 -- every party's record is a prefix of the referee's; the referee's record is a legal match; and every entry of a
 -- seat in it answers the one action that this seat ever claimed under that number
-pub record Headline (w : State) : Type 0 where
+pub record Headline (w : ProtocolState) : Type 0 where
   pub prefix : (party : ℕ) (log : List Entry) → log_of w party ≡ Some log → IsPrefix log w.referee.log
   pub legal : IsLegalRecord w.terms w.referee.log
   pub answered : AreAnswered w

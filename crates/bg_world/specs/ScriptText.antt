@@ -32,8 +32,8 @@ abbrev pub event_reason : TextFault → List ℕ
 event_reason NotALine = codes "not an event"
 event_reason why = text_reason why
 
-abbrev pub refused_line : ℕ → TextFault → List ℕ
-refused_line number why = codes "refused at line " ++ decimal number ++ codes ": " ++ event_reason why
+abbrev pub refused_event_line : ℕ → TextFault → List ℕ
+refused_event_line number why = codes "refused at line " ++ decimal number ++ codes ": " ++ event_reason why
 
 -- the line of this number, from 1, is the first that is no event's, and what is wrong with it
 pub record IsRefusedAt (lines : List (List ℕ)) (number : ℕ) (why : TextFault) : Type 0 where
@@ -63,7 +63,7 @@ pub record IsRefused (lines : List (List ℕ)) (text : List ℕ) (verdict : Verd
   pub number : ℕ
   pub why : TextFault
   pub place : IsRefusedAt lines number why
-  pub printed : text ≡ line_text (refused_line number why)
+  pub printed : text ≡ line_text (refused_event_line number why)
   pub refused : verdict ≡ Refused number
 
 -- what is printed of an input by a world, and the verdict

@@ -6,8 +6,8 @@ ghost use Rattle.bg_text.specs.Judging.{lines_of};
 ghost use Rattle.bg_text.specs.Limits.{most_bytes};
 ghost use Rattle.bg_text.specs.Transfers.{ReadsInput, WritesText};
 ghost use Rattle.bg_world.specs.OutcomeText.{outcome_text};
-ghost use Rattle.bg_world.specs.ScriptText.{IsPlayed, IsScriptText, IsTextFrom, SinkFailsOnce, SourceFailsOnce, event_reason, refused_line};
-ghost use Rattle.bg_world.specs.Scripts.{AreGood, IsChecked, IsStart, Plays};
+ghost use Rattle.bg_world.specs.ScriptText.{IsPlayed, IsScriptText, IsTextFrom, SinkFailsOnce, SourceFailsOnce, event_reason, refused_event_line};
+ghost use Rattle.bg_world.specs.Scripts.{AreGood, IsChecked, IsStart, PlaysLines};
 ghost use Rattle.bg_world.specs.Simulations.{memory_view};
 ghost use Rattle.bg_world.specs.Starts.{IsWorldFault};
 ghost use Rattle.bg_world.specs.State.{IsSetup};
@@ -64,7 +64,7 @@ fn play<L: Link, K: Keeper>(
     lines: &[u8],
 ) -> Result<(), AllocError>
     requires { AreGood (lines_of lines.now) }
-    ensures { OnOk result (Plays L.is_honest K.is_honest (view_of L.Link K.Keeper world.old) (lines_of lines.now)
+    ensures { OnOk result (PlaysLines L.is_honest K.is_honest (view_of L.Link K.Keeper world.old) (lines_of lines.now)
         out.old.items out.new.items (view_of L.Link K.Keeper world.new)) }
 {
     let mut rest = lines;
@@ -90,7 +90,7 @@ fn event_reason(fault: TextFault) -> &'static str
 
 /// What is printed where a line is refused.
 fn refused_text(alloc: Global, number: u32, fault: TextFault) -> Result<Vec<u8>, AllocError>
-    ensures { IfOk result (λ text. text.items ≡ line_text (refused_line number fault)) }
+    ensures { IfOk result (λ text. text.items ≡ line_text (refused_event_line number fault)) }
 {
     let mut text = Vec::new(alloc);
     put_text(&mut text, "refused at line ")?;
