@@ -1,15 +1,15 @@
 //! Board texts, transcripts, and the judge over inputs and devices of every kind. The expected texts are those of the
 //! rules and formats, worked out by hand.
 use crate::{
-    EngineFault, Judgement, MOST_BYTES, Reading, Verdict, Writing, board_text, judge, judge_text,
-    transcript_text,
+    EngineFault, Judgement, MOST_BYTES, Reading, Sink, Source, StreamFault, Verdict, Writing,
+    board_text, judge, judge_text, transcript_text,
 };
 use arrayvec::ArrayVec;
 use bg_board::{Board, Die, Player, Step};
 use bg_match::{Cube, Entry, Level, Phase, Record, Standing};
 use bg_turns::Turn;
 use std::alloc::{AllocError, Global};
-use std::io::{self, Read, Write};
+use std::io::{self, ErrorKind, Read, Write};
 use std::process::Abort;
 use std::test::Fail;
 
@@ -593,6 +593,56 @@ fn read_and_written_by_slices(rt: HostRuntime) -> Result<(), Fail> {
     assert_eq!(rt; verdict, Ok(Verdict::Fine(2)));
     assert_eq!(rt; written.as_slice(), TEXT_OF_MATCH.as_bytes());
     Ok(())
+}
+
+/// Fails in all calls, in each for another reason.
+#[derive(Drop)]
+struct Broken {
+    kinds: [ErrorKind; 2],
+}
+
+impl Broken {
+    fn fail(&mut self) -> io::Error {
+        self.kinds.swap(0, 1);
+        self.kinds[1].into()
+    }
+}
+
+impl Read for Broken {
+    fn read(&mut self, _: &mut [u8]) -> io::Result<usize> {
+        Err(self.fail())
+    }
+}
+
+impl Write for Broken {
+    fn write(&mut self, _: &[u8]) -> io::Result<usize> {
+        Err(self.fail())
+    }
+
+    fn flush(&mut self) -> io::Result<()> {
+        Err(self.fail())
+    }
+}
+
+fn kind_of(error: Option<&io::Error>) -> Option<ErrorKind> {
+    error.map(|error| error.kind())
+}
+
+#[test]
+fn last_error_is_kept(rt: HostRuntime) {
+    let kinds = [ErrorKind::TimedOut, ErrorKind::BrokenPipe];
+    let mut input = Reading::new(Broken { kinds });
+    assert_eq!(rt; kind_of(input.error()), None);
+    for kind in kinds {
+        assert_eq!(rt; input.read(&mut [0]), Err(StreamFault));
+        assert_eq!(rt; kind_of(input.error()), Some(kind));
+    }
+    let mut output = Writing::new(Broken { kinds });
+    assert_eq!(rt; kind_of(output.error()), None);
+    assert_eq!(rt; output.write_all(b"a"), Err(StreamFault));
+    assert_eq!(rt; kind_of(output.error()), Some(ErrorKind::TimedOut));
+    assert_eq!(rt; output.flush(), Err(StreamFault));
+    assert_eq!(rt; kind_of(output.error()), Some(ErrorKind::BrokenPipe));
 }
 
 #[test]

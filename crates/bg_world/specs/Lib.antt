@@ -38,6 +38,7 @@ pub mod Upholds
 pub mod EventText
 pub mod EventLines
 pub mod OutcomeText
+pub mod FaultWords
 pub mod FinalText
 pub mod DiceWords
 pub mod Simulations

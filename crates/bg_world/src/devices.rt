@@ -13,16 +13,13 @@ ghost use Rattle.bg_world.specs.declared.plans.FailSend.{FailSend};
 use arrayvec::ArrayVec;
 use bg_wire::{Datagram, Slot};
 use std::alloc::{AllocError, AllocFailed};
-use thiserror::Error;
 
 /// Why a device did not do what it was asked.
-#[derive(Clone, Copy, Debug, PartialEq, Eq, Error)]
+#[derive(Clone, Copy, Debug, PartialEq, Eq)]
 pub enum DeviceFault {
     /// It failed by itself.
-    #[error("the device failed")]
     Failed,
     /// There was no memory.
-    #[error("out of memory")]
     Memory,
 }
 

@@ -28,6 +28,7 @@ mod event_lines;
 mod events;
 #[cfg(test)]
 mod fault_tests;
+mod fault_words;
 #[cfg(test)]
 mod final_tests;
 mod final_texts;

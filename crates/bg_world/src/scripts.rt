@@ -23,7 +23,6 @@ use bg_text::{
     split_line, too_long,
 };
 use std::alloc::{AllocError, Global};
-use thiserror::Error;
 
 /// What is printed of a script.
 #[derive(Drop)]
@@ -174,13 +173,11 @@ fn carry<L: Link, K: Keeper, S: Source, T: Sink>(
 }
 
 /// Why a script came to no verdict, in the order in which the refusals are tested.
-#[derive(Clone, Copy, Debug, PartialEq, Eq, Error)]
+#[derive(Clone, Copy, Debug, PartialEq, Eq)]
 pub enum ScriptFault {
     /// There is no such world. Nothing was read.
-    #[error("{0}")]
     World(WorldFault),
     /// The input could not be read, the output could not be written, or memory ran out.
-    #[error("{0}")]
     Engine(EngineFault),
 }
 

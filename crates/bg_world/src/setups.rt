@@ -6,7 +6,6 @@ ghost use Rattle.bg_world.specs.State.{IsSetup};
 use bg_match::{LONGEST_MATCH, SHORTEST_MATCH, Terms};
 use bg_wire::{FIRST_WATCHER, LAST_WATCHER};
 use std::alloc::{AllocError, AllocFailed};
-use thiserror::Error;
 
 /// The most that may watch a match.
 pub const MOST_WATCHERS: u8 = LAST_WATCHER - FIRST_WATCHER + 1;
@@ -50,16 +49,13 @@ pub struct Keepers<K> {
 }
 
 /// Why there is no world, in the order in which the refusals are tested.
-#[derive(Clone, Copy, Debug, PartialEq, Eq, Error)]
+#[derive(Clone, Copy, Debug, PartialEq, Eq)]
 pub enum WorldFault {
     /// More than 253 watch.
-    #[error("too many watchers")]
     TooManyWatchers,
     /// The length is not from 1 to 99.
-    #[error("length out of range")]
     LengthOutOfRange,
     /// There is no memory for the watchers.
-    #[error("out of memory")]
     Memory,
 }
 
