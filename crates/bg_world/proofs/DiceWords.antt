@@ -143,11 +143,11 @@ module _ (IsWord : ℕ → Type 0) where
   save_at_referee w outcomes.Memory v inv s h = at v w h s
   save_at_referee w _ v inv s h = absurd h
 
-  ticks : (w : ProtocolState) (o : Outcome) (v : ProtocolState) (may : Datagram → Type 0) → Shows w → SendsOnTick may w o v → Shows v
-  ticks w (outcomes.Sent n) v may s h = sends w v may 2 s h.0
-  ticks w outcomes.LinkFault v may s h = sends w v may 2 s h
-  ticks w outcomes.Memory v may s h = sends w v may 2 s h
-  ticks w _ v may s h = absurd h
+  ticks : (w : ProtocolState) (o : Outcome) (v : ProtocolState) (may : Datagram → Type 0) (most : ℕ) → Shows w → SendsOnTick may most w o v → Shows v
+  ticks w (outcomes.Sent n) v may most s h = sends w v may most s h.0
+  ticks w outcomes.LinkFault v may most s h = sends w v may most s h
+  ticks w outcomes.Memory v may most s h = sends w v may most s h
+  ticks w _ v may most s h = absurd h
 
   restarts : (o : Outcome) (v : ProtocolState) (after : Bool → ProtocolState) → ((up : Bool) → Shows (after up))
       → RestartsTo o (λ up. v ≡ after up) → Shows v
@@ -171,9 +171,9 @@ module _ (IsWord : ℕ → Type 0) where
   save_at w (AsWatcher i) o v inv s h = at v w h.1 s
 
   tick_at : (w : ProtocolState) (r : Role) (o : Outcome) (v : ProtocolState) → Shows w → TickStep w r o v → Shows v
-  tick_at w AsReferee o v s h = if_up w.referee.up w o v _ s (ticks w o v _ s) h
-  tick_at w (AsSeat q) o v s h = if_up (seat w q).up w o v _ s (ticks w o v _ s) h
-  tick_at w (AsWatcher i) o v s h = at_watcher w o v (slice_get w.watchers i) _ s (λ log k. ticks w o v _ s k) h
+  tick_at w AsReferee o v s h = if_up w.referee.up w o v _ s (ticks w o v _ 2 s) h
+  tick_at w (AsSeat q) o v s h = if_up (seat w q).up w o v _ s (ticks w o v _ 1 s) h
+  tick_at w (AsWatcher i) o v s h = at_watcher w o v (slice_get w.watchers i) _ s (λ log k. ticks w o v _ 1 s k) h
 
   restart_at : (w : ProtocolState) (r : Role) (o : Outcome) (v : ProtocolState) → Inv w → Shows w → RestartStep w r o v → Shows v
   restart_at w AsReferee o v inv s h = restarts o v _ (λ up. restored) h

@@ -85,11 +85,11 @@ save_at_referee w outcomes.SavesSpent v h = stays w v h
 save_at_referee w outcomes.Memory v h = stays w v h
 save_at_referee w _ v h = absurd h
 
-ticks : (w : ProtocolState) (o : Outcome) (v : ProtocolState) (may : Datagram → Type 0) → SendsOnTick may w o v → Grown w v
-ticks w (outcomes.Sent n) v may h = sends w v may 2 h.0
-ticks w outcomes.LinkFault v may h = sends w v may 2 h
-ticks w outcomes.Memory v may h = sends w v may 2 h
-ticks w _ v may h = absurd h
+ticks : (w : ProtocolState) (o : Outcome) (v : ProtocolState) (may : Datagram → Type 0) (most : ℕ) → SendsOnTick may most w o v → Grown w v
+ticks w (outcomes.Sent n) v may most h = sends w v may most h.0
+ticks w outcomes.LinkFault v may most h = sends w v may most h
+ticks w outcomes.Memory v may most h = sends w v may most h
+ticks w _ v may most h = absurd h
 
 restarts : (o : Outcome) (w v : ProtocolState) (after : Bool → ProtocolState) → ((up : Bool) → (after up).sent ≡ w.sent) → RestartsTo o (λ up. v ≡ after up) → Grown w v
 restarts outcomes.Restarted w v after e h = at w v (after true) h (e true)
@@ -108,9 +108,9 @@ save_at w (AsSeat q) o v h = of_seat_grows w q v _ h
 save_at w (AsWatcher i) o v h = stays w v h.1
 
 tick_at : (w : ProtocolState) (r : Role) (o : Outcome) (v : ProtocolState) → TickStep w r o v → Grown w v
-tick_at w AsReferee o v h = if_up w.referee.up w o v _ (ticks w o v _) h
-tick_at w (AsSeat q) o v h = if_up (seat w q).up w o v _ (ticks w o v _) h
-tick_at w (AsWatcher i) o v h = at_watcher w o v (slice_get w.watchers i) _ (λ log k. ticks w o v _ k) h
+tick_at w AsReferee o v h = if_up w.referee.up w o v _ (ticks w o v _ 2) h
+tick_at w (AsSeat q) o v h = if_up (seat w q).up w o v _ (ticks w o v _ 1) h
+tick_at w (AsWatcher i) o v h = at_watcher w o v (slice_get w.watchers i) _ (λ log k. ticks w o v _ 1 k) h
 
 restart_at : (w : ProtocolState) (r : Role) (o : Outcome) (v : ProtocolState) → RestartStep w r o v → Grown w v
 restart_at w AsReferee o v h = restarts o w v _ (λ up. refl) h

@@ -144,11 +144,11 @@ of_saved_may w d h = let s = sound h.0 h.2 in (h.0, h.1.1, s.0, s.1)
 sends_some : (w v : ProtocolState) (may : Datagram → Type 0) (most : ℕ) → Inv w → ((d : Datagram) → may d → MaySend w d) → SendsAtMost may most w v → Inv v
 sends_some w v may most inv f h = subst Inv (sym h.after) (sends w h.out inv (All-weaker may (MaySend w) f h.out h.each))
 
-ticks : (w : ProtocolState) (o : Outcome) (v : ProtocolState) (may : Datagram → Type 0) → Inv w → ((d : Datagram) → may d → MaySend w d) → SendsOnTick may w o v → Inv v
-ticks w (outcomes.Sent n) v may inv f h = sends_some w v may 2 inv f h.0
-ticks w outcomes.LinkFault v may inv f h = sends_some w v may 2 inv f h
-ticks w outcomes.Memory v may inv f h = sends_some w v may 2 inv f h
-ticks w _ v may inv f h = absurd h
+ticks : (w : ProtocolState) (o : Outcome) (v : ProtocolState) (may : Datagram → Type 0) (most : ℕ) → Inv w → ((d : Datagram) → may d → MaySend w d) → SendsOnTick may most w o v → Inv v
+ticks w (outcomes.Sent n) v may most inv f h = sends_some w v may most inv f h.0
+ticks w outcomes.LinkFault v may most inv f h = sends_some w v may most inv f h
+ticks w outcomes.Memory v may most inv f h = sends_some w v may most inv f h
+ticks w _ v may most inv f h = absurd h
 
 same_number : (p q : Player) → party_of p ≡ party_of q → p ≡ q
 same_number X X h = refl
@@ -454,10 +454,10 @@ save_at w (AsSeat q) o v inv h = of_seat_row w q v _ inv (λ new. when_up (seat 
 save_at w (AsWatcher i) o v inv h = stays w v inv h.1
 
 tick_at : (w : ProtocolState) (r : Role) (o : Outcome) (v : ProtocolState) → Inv w → TickStep w r o v → Inv v
-tick_at w AsReferee o v inv h = if_up w.referee.up w o v _ inv (ticks w o v _ inv (λ d k. of_saved_may w d k.1)) h
+tick_at w AsReferee o v inv h = if_up w.referee.up w o v _ inv (ticks w o v _ 2 inv (λ d k. of_saved_may w d k.1)) h
 tick_at w (AsSeat q) o v inv h =
-    if_up (seat w q).up w o v _ inv (ticks w o v _ inv (λ d k. seat_may w q d (seat w q).claim (seat w q).claim_saved inv (of_seat w q inv).claim_legal (of_seat w q inv).claim_old k)) h
-tick_at w (AsWatcher i) o v inv h = at_watcher w o v (slice_get w.watchers i) _ inv (λ log e k. ticks w o v _ inv (λ d m. want_may w d (3 + i) log (let l = slice_get_within w.watchers i log e in omega (l, arith)) (inv.watchers i log e) m) k) h
+    if_up (seat w q).up w o v _ inv (ticks w o v _ 1 inv (λ d k. seat_may w q d (seat w q).claim (seat w q).claim_saved inv (of_seat w q inv).claim_legal (of_seat w q inv).claim_old k)) h
+tick_at w (AsWatcher i) o v inv h = at_watcher w o v (slice_get w.watchers i) _ inv (λ log e k. ticks w o v _ 1 inv (λ d m. want_may w d (3 + i) log (let l = slice_get_within w.watchers i log e in omega (l, arith)) (inv.watchers i log e) m) k) h
 
 restart_at : (w : ProtocolState) (r : Role) (o : Outcome) (v : ProtocolState) → Inv w → RestartStep w r o v → Inv v
 restart_at w AsReferee o v inv h =

@@ -135,28 +135,28 @@ module _ (honest : Type 0) (is_honest : honest) (many : ℕ) (may : Datagram →
 
 -- so it is a tick of the protocol
 pub ticks_row : (may : Datagram → Type 0) (most : ℕ) (w v : ProtocolState) (sent : List Datagram) (result : Outcome)
-    → most ≤ 2
-    → Went may 0 most w.sent sent result → v ≡ record w { sent = sent } → SendsOnTick may w result v
-ticks_row may most w v sent result two h e = at h.told
+    → (bound : ℕ) → most ≤ bound
+    → Went may 0 most w.sent sent result → v ≡ record w { sent = sent } → SendsOnTick may bound w result v
+ticks_row may most w v sent result bound few_enough h e = at h.told
   where
-    grows : SendsAtMost may 2 w v
+    grows : SendsAtMost may bound w v
     grows = record {
       out = h.out;
-      few = (let few = h.few in omega (few, two, arith));
+      few = (let few = h.few in omega (few, few_enough, arith));
       each = h.each;
       after = e ∙ ap (λ (l : List Datagram). record w { sent = l }) h.sent;
     }
 
-    faulty : (fault : DeviceFault) → SendsOnTick may w (link_outcome fault) v
+    faulty : (fault : DeviceFault) → SendsOnTick may bound w (link_outcome fault) v
     faulty faults.Failed = grows
     faulty faults.Memory = grows
 
     at : (result ≡ outcomes.Sent (0 + length h.out)) ⊎ ((fault : DeviceFault) × (result ≡ link_outcome fault))
-        → SendsOnTick may w result v
-    at (inl f) = subst (λ (x : Outcome). SendsOnTick may w x v) (sym f) (
+        → SendsOnTick may bound w result v
+    at (inl f) = subst (λ (x : Outcome). SendsOnTick may bound w x v) (sym f) (
       record {
         out = h.out;
-        few = (let few = h.few in omega (few, two, arith));
+        few = (let few = h.few in omega (few, few_enough, arith));
         each = h.each;
         after = e ∙ ap (λ (l : List Datagram). record w { sent = l }) h.sent;
       },
@@ -165,4 +165,4 @@ ticks_row may most w v sent result two h e = at h.told
       where
         zero_more : (n : ℕ) → n ≡ 0 + n
         zero_more n = omega arith
-    at (inr f) = subst (λ (x : Outcome). SendsOnTick may w x v) (sym f.1) (faulty f.0)
+    at (inr f) = subst (λ (x : Outcome). SendsOnTick may bound w x v) (sym f.1) (faulty f.0)

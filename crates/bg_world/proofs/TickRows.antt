@@ -88,7 +88,7 @@ tick_referee_goes w c honest is_honest o new fits h = at w.referee fits h
         (record {
           restorable = c;
           step = ticks_row _ (length packets) before (protocol_state (record w { link = k.0; referee = Some after }) c)
-              (k.0).sent o (few_sent r k.1 packets ticks) went refl;
+              (k.0).sent o 2 (few_sent r k.1 packets ticks) went refl;
           cores = record {
             referee = (f.referee.0, other_sessions w.id w.terms c.referee r after f.referee.1);
             x = f.x;
@@ -106,7 +106,7 @@ may_send_when : (due : Bool) (many : ℕ) (p : Packet) (may : Datagram → Type 
 may_send_when true many p may h = (h, tt)
 may_send_when false many p may h = tt
 
-one_at_most : (due : Bool) (p : Packet) → length (to_referee (if due then Some p else None)) ≤ 2
+one_at_most : (due : Bool) (p : Packet) → length (to_referee (if due then Some p else None)) ≤ 1
 one_at_most true p = omega arith
 one_at_most false p = omega arith
 
@@ -132,7 +132,7 @@ same_packet id terms q found s fits =
 abbrev SeatTickRow : ProtocolState → Player → SeatState → Outcome → ProtocolState → Type 0
 SeatTickRow v q old o u =
     IfUp old.up v o u (SendsOnTick (λ d. Carries d referee
-    (seat_packet v.id (party_of q) old.log old.claim old.claim_saved)) v o u)
+    (seat_packet v.id (party_of q) old.log old.claim old.claim_saved)) 1 v o u)
 
 -- a tick later the seat is the same, but for when it sends
 ticked_seat : SeatView → SeatView
@@ -207,7 +207,7 @@ tick_seat_goes w c honest is_honest q o new fits h = at (seat_core w q) (seat_si
         let same : new ≡ with_seat_core (record w { link = k.0 }) q (Some (ticked_seat s)) =
         k.3 ∙ ap (λ (x : SeatView). with_seat_core (record w { link = k.0 }) q (Some x)) ticks.after in
         let row = ticks_row may (length (to_referee (if due then Some (packet_of_seat s) else None))) (protocol_state w c)
-        (protocol_state new c) (k.0).sent o (one_at_most due (packet_of_seat s)) went
+        (protocol_state new c) (k.0).sent o 1 (one_at_most due (packet_of_seat s)) went
         (ap (λ (x : WorldView). protocol_state x c) same ∙ ticked_state w c k.0 q s is) in (
           lift q (protocol_state new c) (subst (λ (x : Option SeatView). SeatTickRow (protocol_state w c) q
               (seat_state x (seat_keeper w q).slots (restorable_of c q)) o (protocol_state new c)) (sym is) row),
@@ -241,12 +241,12 @@ tick_watcher_goes w c honest is_honest i o new fits h = at (slice_get w.watchers
   where
     lift : (f : Option WatcherView) → slice_get w.watchers i ≡ f
         → MatchOption (option_map watcher_entries f) (NoParty (protocol_state w c) o (protocol_state new c))
-        (λ log. SendsOnTick (λ d. Carries d referee (want_packet w.id (first_watcher + i) log)) (protocol_state w c) o
+        (λ log. SendsOnTick (λ d. Carries d referee (want_packet w.id (first_watcher + i) log)) 1 (protocol_state w c) o
         (protocol_state new c))
         → TickStep (protocol_state w c) (roles.Watcher i) o (protocol_state new c)
     lift f is k =
         subst (λ (x : Option (List Entry)). MatchOption x (NoParty (protocol_state w c) o (protocol_state new c))
-        (λ log. SendsOnTick (λ d. Carries d referee (want_packet w.id (first_watcher + i) log)) (protocol_state w c) o
+        (λ log. SendsOnTick (λ d. Carries d referee (want_packet w.id (first_watcher + i) log)) 1 (protocol_state w c) o
         (protocol_state new c)))
         (sym (get_log w.watchers i ∙ ap (option_map watcher_entries) is)) k
 
@@ -282,7 +282,7 @@ tick_watcher_goes w c honest is_honest i o new fits h = at (slice_get w.watchers
         let same : new ≡ record w { link = k.0; watchers = slice_set w.watchers i (ticked_watcher f) } =
         k.3 ∙ ap (λ (x : WatcherView). record w { link = k.0; watchers = slice_set w.watchers i x }) ticks.after in
         let row = ticks_row may (length (to_referee (if due then Some (want_of f.party log) else None))) (protocol_state w c)
-        (protocol_state new c) (k.0).sent o (one_at_most due (want_of f.party log)) went
+        (protocol_state new c) (k.0).sent o 1 (one_at_most due (want_of f.party log)) went
         (ap (λ (x : WorldView). protocol_state x c) same
         ∙ ap (λ (l : List (List Entry)). record (protocol_state w c) { watchers = l; sent = (k.0).sent })
         (ticked_logs w.watchers i f is)) in (
