@@ -13,9 +13,10 @@ ghost use Rattle.bg_world.specs.declared.plans.FailSend.{FailSend};
 use arrayvec::ArrayVec;
 use bg_wire::{Datagram, Slot};
 use std::alloc::{AllocError, AllocFailed};
+use thiserror::Error;
 
 /// Why a device did not do what it was asked.
-#[derive(Clone, Copy, Debug, PartialEq, Eq)]
+#[derive(Clone, Copy, Debug, PartialEq, Eq, Error)]
 pub enum DeviceFault {
     /// It failed by itself.
     Failed,

@@ -17,8 +17,6 @@ impl fmt::Display for DeviceFault {
     }
 }
 
-impl std::error::Error for DeviceFault {}
-
 impl fmt::Display for WorldFault {
     ghost use Rattle.std.specs.Prelude.{Some};
     ghost use Rattle.bg_world.specs.FaultWords.{world_fault_words};
@@ -34,8 +32,6 @@ impl fmt::Display for WorldFault {
     }
 }
 
-impl std::error::Error for WorldFault {}
-
 impl fmt::Display for ScriptFault {
     ghost use Rattle.std.specs.Prelude.{Some};
     ghost use Rattle.bg_world.specs.FaultWords.{script_fault_words};
@@ -49,5 +45,3 @@ impl fmt::Display for ScriptFault {
         }
     }
 }
-
-impl std::error::Error for ScriptFault {}

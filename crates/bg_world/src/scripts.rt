@@ -23,6 +23,7 @@ use bg_text::{
     split_line, too_long,
 };
 use std::alloc::{AllocError, Global};
+use thiserror::Error;
 
 /// What is printed of a script.
 #[derive(Drop)]
@@ -173,7 +174,7 @@ fn carry<L: Link, K: Keeper, S: Source, T: Sink>(
 }
 
 /// Why a script came to no verdict, in the order in which the refusals are tested.
-#[derive(Clone, Copy, Debug, PartialEq, Eq)]
+#[derive(Clone, Copy, Debug, PartialEq, Eq, Error)]
 pub enum ScriptFault {
     /// There is no such world. Nothing was read.
     World(WorldFault),

@@ -6,6 +6,7 @@ ghost use Rattle.bg_world.specs.State.{IsSetup};
 use bg_match::{LONGEST_MATCH, SHORTEST_MATCH, Terms};
 use bg_wire::{FIRST_WATCHER, LAST_WATCHER};
 use std::alloc::{AllocError, AllocFailed};
+use thiserror::Error;
 
 /// The most that may watch a match.
 pub const MOST_WATCHERS: u8 = LAST_WATCHER - FIRST_WATCHER + 1;
@@ -49,7 +50,7 @@ pub struct Keepers<K> {
 }
 
 /// Why there is no world, in the order in which the refusals are tested.
-#[derive(Clone, Copy, Debug, PartialEq, Eq)]
+#[derive(Clone, Copy, Debug, PartialEq, Eq, Error)]
 pub enum WorldFault {
     /// More than 253 watch.
     TooManyWatchers,
