@@ -108,7 +108,7 @@ seat_acts terms entries q h = (h.0, h.1, seated (actor_of (h.0).phase) h.2)
     seated (Seat p) e = cc
     seated Nobody e = cc
 
-pub answered : (w : ProtocolState) → Inv w → AreAnswered w
+pub answered : (w : ProtocolState) → Inv w → AreAnswered w.terms w.referee.log w.sent
 answered w inv zero e q h g = cc
 answered w inv (suc i) e q h g =
     let before : suc i - 1 ≡ i = omega arith in

@@ -1,6 +1,6 @@
 -- A world where nothing has happened yet, over an empty link and empty slots, is a reached world: its state is the
 -- start.
-use Rattle.std.specs.Prelude.{◌≡◌, ◌⊎◌, ℕ, zero, suc, ◌+◌, List, [], ◌∷◌, ◌++◌, Some, None, Result, Ok, Err, IfOk}
+use Rattle.std.specs.Prelude.{◌≡◌, ◌⊎◌, ℕ, zero, suc, ◌+◌, List, [], ◌∷◌, ◌++◌, Option, Some, None, Result, Ok, Err, IfOk}
 use Rattle.std.specs.Prelude.{MatchResult, length, map, replicate, slice_get}
 use Rattle.std.proofs.Common.{refl, sym, ◌∙◌, ap, ap₂, subst, inl, inr, arith, length-append}
 use Rattle.std.proofs.lemmas.List.{map-append}
@@ -9,9 +9,10 @@ use Rattle.bg_match.specs.Terms.{Terms}
 use Rattle.bg_match.specs.declared.entries.Entry.{Entry}
 use Rattle.bg_wire.specs.Codes.{first_watcher}
 use Rattle.bg_wire.specs.Restoring.{SlotsRestore}
+use Rattle.bg_wire.specs.SavedText.{SavedParts}
 use Rattle.bg_wire.specs.SlotLaws.{Slots}
 use Rattle.bg_wire.specs.declared.packets.Datagram.{Datagram}
-use Rattle.bg_wire.proofs.OneText.{empty_loads}
+use Rattle.bg_wire.proofs.OneText.{empty_loads, restores_once}
 use Rattle.bg_party.specs.Views.{WatcherView, fresh_follower, fresh_watcher}
 use Rattle.bg_world.specs.declared.setups.Setup.{Setup}
 use Rattle.bg_world.specs.Slots.{empty_slots}
@@ -20,6 +21,7 @@ use Rattle.bg_world.specs.State.{IsSetup, start}
 use Rattle.bg_world.specs.Views.{KeeperView, LinkView, WorldView}
 use Rattle.bg_world.specs.WorldState.{CoresMatch, IsReachedWorld, Restorable, WatcherMatches, WatchersMatch, protocol_state}
 use Rattle.bg_world.specs.WorldState.{watcher_entries}
+use Rattle.bg_world.specs.WorldLaws.{NewWorldsAreAtTheStart}
 use Rattle.bg_world.proofs.EarlyEntries.{none_kept}
 
 -- ---- the watchers
@@ -152,6 +154,27 @@ module _ (setup : Setup) (link : LinkView) (referee x o : KeeperView) (no_sent :
       ≡ start setup.id setup.length setup.watchers
   unfolding start_reached
   start_state is = start_is
+
+same_restorable : (r : Restorable) → r.referee ≡ None → r.x ≡ None → r.o ≡ None → r ≡ nothing
+same_restorable r referee x o =
+    ap₂ (λ (a b : Option SavedParts). record { referee = a; x = b; o = r.o }) referee x
+    ∙ ap (λ (c : Option SavedParts). record { referee = None; x = None; o = c }) o
+
+pub at_the_start : NewWorldsAreAtTheStart
+at_the_start setup link referee x o is unused =
+    let w = fresh_world setup link referee x o in
+    let one : (slots : Slots) (found : Option SavedParts) → slots ≡ empty_slots
+    → SlotsRestore slots.zero slots.one found → found ≡ None =
+    λ slots found empty restore. restores_once slots.zero slots.one found None restore (nothing_restored slots empty) in (
+      start_reached setup link referee x o unused.none_sent unused.referee_empty unused.x_empty unused.o_empty is,
+      λ reached.
+          let fits = reached.cores in
+          ap (protocol_state w) (same_restorable reached.restorable
+          (one referee.slots reached.restorable.referee unused.referee_empty fits.referee.0)
+          (one x.slots reached.restorable.x unused.x_empty fits.x.0)
+          (one o.slots reached.restorable.o unused.o_empty fits.o.0))
+          ∙ start_is setup link referee x o unused.none_sent unused.referee_empty unused.x_empty unused.o_empty,
+    )
 
 -- a world that is made over devices that nothing was asked of is a reached one
 pub made_reached : {W E : Type 0} (setup : Setup) (link : LinkView) (referee x o : KeeperView) (view : W → WorldView)

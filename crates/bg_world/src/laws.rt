@@ -1,7 +1,8 @@
-//! Laws of the protocol, for whole runs: each is the contract of a function that does nothing.
+//! Laws of the protocol, for whole runs, and of worlds: each is the contract of a function that does nothing.
 ghost use Rattle.bg_board.specs.declared.players.Player.{Player};
 ghost use Rattle.bg_world.specs.Agreement.{Agreement};
 ghost use Rattle.bg_world.specs.Claims.{AreClaimsKept};
+ghost use Rattle.bg_world.specs.GivenBack.{AreSlotsGivenBack};
 ghost use Rattle.bg_world.specs.Headline.{Headline};
 ghost use Rattle.bg_world.specs.Refusals.{IsNoPacketRefused, IsNoSlotRefused};
 ghost use Rattle.bg_world.specs.Runs.{IsReached};
@@ -9,6 +10,7 @@ ghost use Rattle.bg_world.specs.Shown.{ShowsSavedAlone};
 ghost use Rattle.bg_world.specs.Slots.{claim_in};
 ghost use Rattle.bg_world.specs.State.{ProtocolState, seat};
 ghost use Rattle.bg_world.specs.Survival.{SavesSurvive};
+ghost use Rattle.bg_world.specs.WorldLaws.{NewWorldsAreAtTheStart};
 
 /// After any run every party's record is a prefix of the referee's, the referee's record is a legal match, and
 /// every entry of a seat in it answers the one action that this seat ever claimed under that number. What followers
@@ -41,4 +43,16 @@ pub fn nothing_is_refused()
 /// they did before, or it.
 pub fn saves_survive()
     ensures { (w : ProtocolState) → IsReached w → SavesSurvive w }
+{}
+
+/// After any run [`restore`](bg_wire::restore) gives the referee and each seat back exactly what their slots restore,
+/// want of memory aside.
+pub fn slots_are_given_back()
+    ensures { (w : ProtocolState) → IsReached w → AreSlotsGivenBack w }
+{}
+
+/// Over a link that nothing was sent over, and empty slots, a new world is one that a run leads to, and the state of
+/// the protocol that it is in is the start.
+pub fn new_worlds_are_at_the_start()
+    ensures { NewWorldsAreAtTheStart }
 {}

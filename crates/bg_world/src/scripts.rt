@@ -6,7 +6,8 @@ ghost use Rattle.bg_text.specs.Judging.{lines_of};
 ghost use Rattle.bg_text.specs.Limits.{most_bytes};
 ghost use Rattle.bg_text.specs.Transfers.{ReadsInput, WritesText};
 ghost use Rattle.bg_world.specs.OutcomeText.{outcome_text};
-ghost use Rattle.bg_world.specs.ScriptText.{IsPlayed, IsScriptText, IsTextFrom, SinkFailsOnce, SourceFailsOnce, event_reason, refused_event_line};
+ghost use Rattle.bg_world.specs.ScriptText.{IsPlayed, IsScriptFault, IsScriptText, IsTextFrom, SinkFailsOnce};
+ghost use Rattle.bg_world.specs.ScriptText.{SourceFailsOnce, event_reason, refused_event_line};
 ghost use Rattle.bg_world.specs.Scripts.{AreGood, IsChecked, IsStart, PlaysLines};
 ghost use Rattle.bg_world.specs.Simulations.{memory_view};
 ghost use Rattle.bg_world.specs.Starts.{IsWorldFault};
@@ -205,8 +206,8 @@ fn start(alloc: Global, setup: Setup) -> Result<World<MemoryNet, MemoryKeeper>, 
 ///
 /// # Errors
 /// `World` where there is no such world, by the first test that fails of [`World::new`]: nothing was read then.
-/// `Engine` as of [`judge`](bg_text::judge): Read exactly where the source failed, and Memory where memory runs out,
-/// nothing was written then; Write exactly where the sink failed.
+/// `Engine`, only where there is one, as of [`judge`](bg_text::judge): Read exactly where the source failed, and Memory
+/// where memory runs out, nothing was written then; Write exactly where the sink failed.
 pub fn script<S: Source, T: Sink>(
     alloc: Global,
     source: &mut S,
@@ -217,10 +218,11 @@ pub fn script<S: Source, T: Sink>(
         × ReadsInput S.Source source.old source.new input × IsScriptText setup input text verdict
         × WritesText T.Sink sink.old sink.new text
         × IfSome (S.remaining source.old) (λ bytes. IsScriptText setup bytes text verdict)) }
-    ensures setup { IfOk result (λ _. IsSetup setup.id setup.length setup.watchers) }
+    ensures refusal { MatchResult result (λ _. IsSetup setup.id setup.length setup.watchers)
+        (λ fault. IsScriptFault fault setup) }
     // There is no such world: nothing was read, and nothing was written.
     ensures world { (fault : WorldFault) → result ≡ Err (ScriptFault.World fault)
-        → IsWorldFault fault setup × (source.new ≡ source.old) × (sink.new ≡ sink.old) }
+        → (source.new ≡ source.old) × (sink.new ≡ sink.old) }
     ensures untaken { IfErr result (λ _. T.taken sink.new ≡ T.taken sink.old) }
     ensures unwritten { IfErr result (λ fault. fault ≢ ScriptFault.Engine EngineFault.Write → sink.new ≡ sink.old) }
     ensures reads { S.reads source.new ≤ S.reads source.old + most_bytes + 1 }
