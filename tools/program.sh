@@ -2,9 +2,9 @@
 top=$(cd "$(dirname "$(readlink -f "${BASH_SOURCE[0]}")")/.." && pwd)
 program=$top/crates/bg_relay/out/bg_relay
 
-# crates_of_program (the crates of the repository that it is made of, by crates.txt, each behind those that it stands on)
-crates_of_program() {
-    awk '
+# crates_of CRATE (it and the crates of the repository that it stands on, by crates.txt, each behind those it stands on)
+crates_of() {
+    awk -v wanted="$1" '
         function visit(name,    words, count, at) {
             if (!(name in uses) || seen[name]++) return
             count = split(uses[name], words, " ")
@@ -13,17 +13,22 @@ crates_of_program() {
         }
         { sub(/#.*/, "") }
         split($0, halves, ":") == 2 { split(halves[1], words, " "); uses[words[1]] = halves[2] }
-        END { visit("bg_relay") }' "$top/crates.txt"
+        END { visit(wanted) }' "$top/crates.txt"
 }
 
-# is_built (whether a proved program stands here, and no source of its crates is newer; rt ci leaves such a one too)
-is_built() {
-    [ -x "$program" ] || return 1
-    local crate folders=()
-    for crate in $(crates_of_program); do
-        folders+=("$top/crates/$crate/src" "$top/crates/$crate/specs" "$top/crates/$crate/proofs")
+# is_current FILE CRATE (whether what was built of a crate stands there, and no source of it or below it is newer)
+is_current() {
+    [ -x "$1" ] || return 1
+    local name folders=()
+    for name in $(crates_of "$2"); do
+        folders+=("$top/crates/$name/src" "$top/crates/$name/specs" "$top/crates/$name/proofs")
     done
-    [ -z "$(find "${folders[@]}" -newer "$program" -print -quit 2> /dev/null)" ]
+    [ -z "$(find "${folders[@]}" -newer "$1" -print -quit 2> /dev/null)" ]
+}
+
+# is_built (whether the proved program stands; rt ci leaves it there too)
+is_built() {
+    is_current "$program" bg_relay
 }
 
 # needs_rt (ends the script where the toolchain's command is missing)
