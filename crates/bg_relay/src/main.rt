@@ -19,6 +19,7 @@ mod loop_faults;
 #[cfg(test)]
 mod loop_tests;
 mod loops;
+mod onlookers;
 mod progress;
 mod reports;
 mod round_schedule;
