@@ -1,37 +1,22 @@
 //! The command that plays a match over sockets and files.
 
 use crate::endings::Ending;
+use crate::folder_locks::FolderLock;
 use crate::loop_faults::LoopFault;
 use crate::loops::run_loop_before;
-use crate::onlookers::Onlooker;
+use crate::operators::Operator;
+use crate::printable::Printable;
 use crate::progress::Progress;
 use crate::{failed, wrong};
-use bg_match::Number;
 use bg_text::Writing;
-use bg_world::{Event, Outcome};
+use bg_world::WorldFault;
 use clap::ArgMatches;
-use std::fs::File;
+use std::fmt::Display;
+use std::fs::{File, TryLockError};
 use std::net::Net;
 use std::rt::Files;
 use std::time::Clock;
 use std::{fs, io};
-
-/// The operator, who is told on the standard error how the match goes on.
-#[derive(Drop)]
-struct Operator<'a, R> {
-    rt: &'a R,
-    progress: Progress,
-    /// How many rounds there are in all.
-    rounds: u32,
-}
-
-impl<'a, R: Clock + Eprint> Onlooker for Operator<'a, R> {
-    fn happened(&mut self, _event: &Event, _outcome: &Outcome, _held: Option<Number>) {}
-
-    fn played(&mut self, done: u32) {
-        self.progress.tell(self.rt, "rounds", done, self.rounds);
-    }
-}
 
 /// Plays the match that the options name.
 pub(crate) fn run_loop_command<R>(rt: &R, options: &ArgMatches<'_>, progress: Progress) -> Ending
@@ -46,23 +31,42 @@ where
     ) else {
         return wrong(rt, "an option is missing");
     };
+    let shown = Printable(folder);
     match fs::metadata(rt, folder) {
         Ok(found) if found.is_dir() => {}
-        Ok(_) => return wrong(rt, format_args!("{folder} is no folder")),
-        Err(error) => return wrong(rt, format_args!("{folder} can't be used: {error}")),
+        Ok(_) => return wrong(rt, format_args!("{shown} is no folder")),
+        Err(error) => return wrong(rt, format_args!("{shown} can't be used: {error}")),
     }
-    let mut output = Writing::new(io::writer(rt));
-    let mut operator = Operator {
-        rt,
-        progress,
-        rounds,
+    let _lock = match FolderLock::take(rt, folder) {
+        Ok(lock) => lock,
+        Err(TryLockError::WouldBlock) => {
+            return failed(rt, format_args!("another process plays over {shown}"));
+        }
+        Err(TryLockError::Error(error)) => {
+            return failed(rt, format_args!("{shown} could not be locked: {error}"));
+        }
     };
-    match run_loop_before(rt, seed, length, rounds, folder, &mut output, &mut operator) {
+    let mut output = Writing::new(io::writer(rt));
+    let mut operator = Operator::new(rt, progress, rounds);
+    let result = run_loop_before(rt, seed, length, rounds, folder, &mut output, &mut operator);
+    operator.end();
+    match result {
         Ok(()) => Ending::Simulated,
         Err(LoopFault::Write) => match output.error() {
             Some(error) => failed(rt, format_args!("the output could not be written: {error}")),
             None => failed(rt, LoopFault::Write),
         },
+        Err(
+            fault @ (LoopFault::Stopped(_)
+            | LoopFault::Memory
+            | LoopFault::World(WorldFault::Memory)),
+        ) => failed_barely(rt, fault),
         Err(fault) => failed(rt, fault),
     }
+}
+
+/// What ended the match is a line of its own kind, and is said with nothing before it (docs/OPERATING.md, "Messages").
+fn failed_barely<D: Display + Drop>(rt: &impl Eprint, line: D) -> Ending {
+    let _ = rt.eprintln(line);
+    Ending::Failed
 }
