@@ -2,6 +2,7 @@
 
 use crate::endings::Ending;
 use crate::files::{read_saved, write_text};
+use crate::printable::Printable;
 use crate::progress::Progress;
 use crate::showing::show_text;
 use crate::simulation::Simulation;
@@ -96,11 +97,17 @@ pub(crate) fn run_show(
 ) -> Ending {
     let file0 = match read_saved(rt, path0) {
         Ok(file0) => file0,
-        Err(error) => return failed(rt, format_args!("{path0} could not be read: {error}")),
+        Err(error) => return failed(
+            rt,
+            format_args!("{} could not be read: {error}", Printable(path0)),
+        ),
     };
     let file1 = match read_saved(rt, path1) {
         Ok(file1) => file1,
-        Err(error) => return failed(rt, format_args!("{path1} could not be read: {error}")),
+        Err(error) => return failed(
+            rt,
+            format_args!("{} could not be read: {error}", Printable(path1)),
+        ),
     };
     let Ok((text, loads)) = show_text(rt.alloc(), &file0, &file1) else {
         return failed(rt, NO_MEMORY);

@@ -5,7 +5,8 @@ ghost use Rattle.bg_relay.specs.Rounds.{GetsFinalText, IsLoopFault, setup_of};
 
 use crate::file_keepers::FileKeeper;
 use crate::loop_faults::LoopFault;
-use crate::rounds::{PARTIES, run_rounds_telling};
+use crate::onlookers::{NoOnlooker, Onlooker};
+use crate::rounds::{PARTIES, run_rounds_before};
 use crate::udp_links::UdpLink;
 use bg_text::Sink;
 use bg_wire::{REFEREE, SEAT_OF_O, SEAT_OF_X};
@@ -35,22 +36,21 @@ pub fn run_loop<R: Net + Files<File = File> + AllocGlobal + Eprint, W: Sink>(
     ensures fault { IfErr result
         (IsLoopFault (setup_of seed length) (W.failures output.old) (W.failures output.new)) }
 {
-    run_loop_telling(rt, seed, length, rounds, folder, output, &mut |_| {})
+    run_loop_before(rt, seed, length, rounds, folder, output, &mut NoOnlooker)
 }
 
-/// The same, telling after each round how many are done.
-pub(crate) fn run_loop_telling<R, W: Sink, F: FnMut(u32)>(
+/// The same before one who looks on.
+pub(crate) fn run_loop_before<R, W: Sink, O: Onlooker>(
     rt: &R,
     seed: u64,
     length: u8,
     rounds: u32,
     folder: &str,
     output: &mut W,
-    tell: &mut F,
+    onlooker: &mut O,
 ) -> Result<(), LoopFault>
 where
     R: Net + Files<File = File> + AllocGlobal + Eprint,
-    requires tell { (f : _) (done : _) → F.pre f done }
     ensures length { OnOk result (IsMatchLength length) }
     ensures text { OnOk result (GetsFinalText (W.written output.old) (W.written output.new)
         (W.flushes output.old) (W.flushes output.new)) }
@@ -63,7 +63,7 @@ where
         x: FileKeeper::new(rt, folder, SEAT_OF_X)?,
         o: FileKeeper::new(rt, folder, SEAT_OF_O)?,
     };
-    run_rounds_telling(
+    run_rounds_before(
         rt.alloc(),
         seed,
         length,
@@ -71,6 +71,6 @@ where
         link,
         keepers,
         output,
-        tell,
+        onlooker,
     )
 }

@@ -4,8 +4,9 @@ ghost use Rattle.bg_match.specs.Limits.{IsMatchLength};
 ghost use Rattle.bg_relay.specs.Rounds.{GetsFinalText, IsBeginFault, IsFinishFault, IsRoundsFault, StopsMatch, setup_of};
 
 use crate::auto_actions::auto_action;
-use crate::dice_attempts::DiceAttempts;
+use crate::dice_attempts::{DiceAttempts, entries_of};
 use crate::loop_faults::LoopFault;
+use crate::onlookers::{NoOnlooker, Onlooker, party_at};
 use crate::round_schedule::{Part, RESTARTED, ROUND};
 use bg_board::Player;
 use bg_text::Sink;
@@ -49,7 +50,7 @@ pub fn run_rounds<L: Link + Drop, K: Keeper + Drop, W: Sink>(
     ensures fault { IfErr result
         (IsRoundsFault (setup_of seed length) (W.failures output.old) (W.failures output.new)) }
 {
-    run_rounds_telling(
+    run_rounds_before(
         alloc,
         seed,
         length,
@@ -57,12 +58,12 @@ pub fn run_rounds<L: Link + Drop, K: Keeper + Drop, W: Sink>(
         link,
         keepers,
         output,
-        &mut |_| {},
+        &mut NoOnlooker,
     )
 }
 
-/// The same, telling after each round how many are done.
-pub(crate) fn run_rounds_telling<L: Link + Drop, K: Keeper + Drop, W: Sink, F: FnMut(u32)>(
+/// The same before one who looks on.
+pub(crate) fn run_rounds_before<L: Link + Drop, K: Keeper + Drop, W: Sink, O: Onlooker>(
     alloc: Global,
     seed: u64,
     length: u8,
@@ -70,19 +71,18 @@ pub(crate) fn run_rounds_telling<L: Link + Drop, K: Keeper + Drop, W: Sink, F: F
     link: L,
     keepers: Keepers<K>,
     output: &mut W,
-    tell: &mut F,
+    onlooker: &mut O,
 ) -> Result<(), LoopFault>
-    requires tell { (f : _) (done : _) → F.pre f done }
     ensures length { OnOk result (IsMatchLength length) }
     ensures text { OnOk result (GetsFinalText (W.written output.old) (W.written output.new)
         (W.flushes output.old) (W.flushes output.new)) }
     ensures fault { IfErr result
         (IsRoundsFault (setup_of seed length) (W.failures output.old) (W.failures output.new)) }
 {
-    let mut played = Rounds::begin(alloc, seed, length, link, keepers)?;
+    let mut played = Rounds::begin(alloc, seed, length, link, keepers, onlooker)?;
     for done in 0..rounds {
-        played.round()?;
-        tell(done + 1);
+        played.round(onlooker)?;
+        onlooker.played(done + 1);
     }
     played.finish(output)
 }
@@ -98,12 +98,13 @@ pub(crate) struct Rounds<L, K> {
 
 impl<L: Link + Drop, K: Keeper + Drop> Rounds<L, K> {
     /// All that save begin again from their slots.
-    pub(crate) fn begin(
+    pub(crate) fn begin<O: Onlooker>(
         alloc: Global,
         seed: u64,
         length: u8,
         link: L,
         keepers: Keepers<K>,
+        onlooker: &mut O,
     ) -> Result<Rounds<L, K>, LoopFault>
         ensures length { OnOk result (IsMatchLength length) }
         ensures fault { IfErr result (IsBeginFault (setup_of seed length)) }
@@ -120,17 +121,17 @@ impl<L: Link + Drop, K: Keeper + Drop> Rounds<L, K> {
             attempts: DiceAttempts::first(Some(0)),
         };
         for party in RESTARTED {
-            begun.happen(Event::Restart { party })?;
+            begun.happen(Event::Restart { party }, onlooker)?;
         }
         Ok(begun)
     }
 
     /// Plays one round.
-    pub(crate) fn round(&mut self) -> Result<(), LoopFault>
+    pub(crate) fn round<O: Onlooker>(&mut self, onlooker: &mut O) -> Result<(), LoopFault>
         ensures { IfErr result StopsMatch }
     {
         for part in ROUND {
-            self.play(part)?;
+            self.play(part, onlooker)?;
         }
         Ok(())
     }
@@ -148,15 +149,15 @@ impl<L: Link + Drop, K: Keeper + Drop> Rounds<L, K> {
     }
 
     /// Plays a part of a round. A party whose save failed is down, and begins again from its slots at once.
-    fn play(&mut self, part: Part) -> Result<(), LoopFault>
+    fn play<O: Onlooker>(&mut self, part: Part, onlooker: &mut O) -> Result<(), LoopFault>
         ensures { IfErr result StopsMatch }
     {
         let Some(event) = self.event(part)? else {
             return Ok(());
         };
-        match (self.happen(event)?, part) {
+        match (self.happen(event, onlooker)?, part) {
             (Outcome::SaveFault, Part::Save(party)) => {
-                self.happen(Event::Restart { party })?;
+                self.happen(Event::Restart { party }, onlooker)?;
             }
             _ => {}
         }
@@ -196,10 +197,12 @@ impl<L: Link + Drop, K: Keeper + Drop> Rounds<L, K> {
     }
 
     /// Lets an event happen. It ends the match where slots can't be restored, or there is no memory.
-    fn happen(&mut self, event: Event) -> Result<Outcome, LoopFault>
+    fn happen<O: Onlooker>(&mut self, event: Event, onlooker: &mut O) -> Result<Outcome, LoopFault>
         ensures { IfErr result StopsMatch }
     {
-        let outcome = self.attempts.step(&mut self.world, event);
+        let outcome = self.attempts.step(&mut self.world, event.copy());
+        let held = entries_of(self.world.held(party_at(&event)));
+        onlooker.happened(&event, &outcome, held);
         if outcome.wants_memory() || matches!(outcome, Outcome::RestoreFault(_)) {
             return Err(LoopFault::Stopped(outcome));
         }
