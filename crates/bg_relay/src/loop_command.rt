@@ -2,7 +2,7 @@
 
 use crate::endings::Ending;
 use crate::loop_faults::LoopFault;
-use crate::loops::run_loop_before;
+use crate::loops::play_loop;
 use crate::onlookers::Onlooker;
 use crate::progress::Progress;
 use crate::{failed, wrong};
@@ -57,7 +57,7 @@ where
         progress,
         rounds,
     };
-    match run_loop_before(rt, seed, length, rounds, folder, &mut output, &mut operator) {
+    match play_loop(rt, seed, length, rounds, folder, &mut output, &mut operator) {
         Ok(()) => Ending::Simulated,
         Err(LoopFault::Write) => match output.error() {
             Some(error) => failed(rt, format_args!("the output could not be written: {error}")),
