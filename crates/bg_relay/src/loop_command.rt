@@ -3,7 +3,7 @@
 use crate::endings::Ending;
 use crate::folder_locks::FolderLock;
 use crate::loop_faults::LoopFault;
-use crate::loops::run_loop_before;
+use crate::loops::play_loop;
 use crate::operators::Operator;
 use crate::printable::Printable;
 use crate::progress::Progress;
@@ -48,7 +48,7 @@ where
     };
     let mut output = Writing::new(io::writer(rt));
     let mut operator = Operator::new(rt, progress, rounds);
-    let result = run_loop_before(rt, seed, length, rounds, folder, &mut output, &mut operator);
+    let result = play_loop(rt, seed, length, rounds, folder, &mut output, &mut operator);
     operator.end();
     match result {
         Ok(()) => Ending::Simulated,

@@ -1,12 +1,10 @@
 //! A match between automatic players over UDP sockets and files.
-ghost use Rattle.std.specs.Prelude.{IfErr, OnOk};
-ghost use Rattle.bg_match.specs.Limits.{IsMatchLength};
-ghost use Rattle.bg_relay.specs.Rounds.{GetsFinalText, IsLoopFault, setup_of};
+ghost use Rattle.bg_relay.specs.RoundResults.{IsLoopResult, setup_of};
 
 use crate::file_keepers::FileKeeper;
 use crate::loop_faults::LoopFault;
 use crate::onlookers::{NoOnlooker, Onlooker};
-use crate::rounds::{PARTIES, run_rounds_before};
+use crate::rounds::{PARTIES, play_rounds};
 use crate::udp_links::UdpLink;
 use bg_text::Sink;
 use bg_wire::{REFEREE, SEAT_OF_O, SEAT_OF_X};
@@ -30,17 +28,13 @@ pub fn run_loop<R: Net + Files<File = File> + AllocGlobal + Eprint, W: Sink>(
     folder: &str,
     output: &mut W,
 ) -> Result<(), LoopFault>
-    ensures length { OnOk result (IsMatchLength length) }
-    ensures text { OnOk result (GetsFinalText (W.written output.old) (W.written output.new)
-        (W.flushes output.old) (W.flushes output.new)) }
-    ensures fault { IfErr result
-        (IsLoopFault (setup_of seed length) (W.failures output.old) (W.failures output.new)) }
+    ensures { IsLoopResult W.Sink (setup_of seed length) rounds result output.old output.new }
 {
-    run_loop_before(rt, seed, length, rounds, folder, output, &mut NoOnlooker)
+    play_loop(rt, seed, length, rounds, folder, output, &mut NoOnlooker)
 }
 
-/// The same before one who looks on.
-pub(crate) fn run_loop_before<R, W: Sink, O: Onlooker>(
+/// The same, with one who looks on.
+pub(crate) fn play_loop<R, W: Sink, O: Onlooker>(
     rt: &R,
     seed: u64,
     length: u8,
@@ -51,11 +45,7 @@ pub(crate) fn run_loop_before<R, W: Sink, O: Onlooker>(
 ) -> Result<(), LoopFault>
 where
     R: Net + Files<File = File> + AllocGlobal + Eprint,
-    ensures length { OnOk result (IsMatchLength length) }
-    ensures text { OnOk result (GetsFinalText (W.written output.old) (W.written output.new)
-        (W.flushes output.old) (W.flushes output.new)) }
-    ensures fault { IfErr result
-        (IsLoopFault (setup_of seed length) (W.failures output.old) (W.failures output.new)) }
+    ensures { IsLoopResult W.Sink (setup_of seed length) rounds result output.old output.new }
 {
     let link = UdpLink::bind(rt, PARTIES)?;
     let keepers = Keepers {
@@ -63,7 +53,7 @@ where
         x: FileKeeper::new(rt, folder, SEAT_OF_X)?,
         o: FileKeeper::new(rt, folder, SEAT_OF_O)?,
     };
-    run_rounds_before(
+    play_rounds(
         rt.alloc(),
         seed,
         length,
