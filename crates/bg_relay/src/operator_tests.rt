@@ -1,6 +1,6 @@
 //! What the operator of a match over sockets and files is told.
 use crate::files::read_saved;
-use crate::loops::run_loop_before;
+use crate::loops::play_loop;
 use crate::onlookers::Onlooker;
 use crate::operators::Operator;
 use crate::overheard::Overheard;
@@ -139,7 +139,7 @@ fn said_while_played(rt: &HostRuntime, folder: &str, rounds: u32) -> Result<Stri
     let mut told = operator(&heard);
     let mut text = Vec::new(rt.alloc());
     let mut output = Writing::new(&mut text);
-    run_loop_before(&heard, 7, 1, rounds, folder, &mut output, &mut told)?;
+    play_loop(&heard, 7, 1, rounds, folder, &mut output, &mut told)?;
     told.end();
     Ok(heard.said())
 }

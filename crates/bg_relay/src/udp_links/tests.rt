@@ -4,7 +4,7 @@ use crate::file_keepers::FileKeeper;
 use crate::loops::run_loop;
 use crate::onlookers::Onlooker;
 use crate::overheard::Overheard;
-use crate::rounds::{PARTIES, run_rounds_before};
+use crate::rounds::{PARTIES, play_rounds};
 use crate::test_folders::new_folder;
 use arrayvec::ArrayVec;
 use bg_match::Number;
@@ -79,7 +79,7 @@ fn forged_packets_change_nothing(rt: HostRuntime) -> Result<(), Fail> {
     };
     let mut text = Vec::new(rt.alloc());
     let mut output = Writing::new(&mut text);
-    run_rounds_before(
+    play_rounds(
         rt.alloc(),
         SEED,
         1,
