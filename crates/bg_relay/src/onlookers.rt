@@ -10,7 +10,7 @@ pub(crate) trait Onlooker {
     /// the event holds then; `None` where it is down.
     fn happened(&mut self, event: &Event, outcome: &Outcome, held: Option<Number>);
 
-    /// So many rounds are played, from 1; where events follow one another in no rounds, so many events.
+    /// So many rounds are played, from 1; in an automatic match, which has none, so many events.
     fn played(&mut self, done: u32);
 }
 
