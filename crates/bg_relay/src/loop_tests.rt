@@ -131,7 +131,11 @@ fn no_such_matches(rt: HostRuntime) -> Result<(), Fail> {
     Ok(())
 }
 
-/// Plays ten rounds over devices of which one call fails.
+/// The rounds of a match in which one call fails: within them a claim is accepted, saved and told, and each file is
+/// written twice at least. Each call fails in a match of its own, so the time grows with their square.
+const ROUNDS: u32 = 5;
+
+/// Plays so many rounds over devices of which one call fails.
 fn play_failing(rt: &HostRuntime, folder: &str, calls: &Calls) -> Result<Vec<u8>, LoopFault> {
     let link = Failing::new(UdpLink::bind(rt, PARTIES)?, calls);
     let keepers = Keepers {
@@ -144,7 +148,7 @@ fn play_failing(rt: &HostRuntime, folder: &str, calls: &Calls) -> Result<Vec<u8>
         rt.alloc(),
         SEED,
         1,
-        10,
+        ROUNDS,
         link,
         keepers,
         &mut Writing::new(&mut text),
@@ -180,7 +184,7 @@ fn one_call_that_fails(rt: HostRuntime) -> Result<(), Fail> {
     Err(Fail::from("more calls than expected"))
 }
 
-/// Ten rounds make fewer calls.
+/// A match of so many rounds makes fewer calls.
 const MOST_CALLS: u32 = 1000;
 
 /// Whether a match ended for want of memory; the output of these tests is in memory too.

@@ -132,9 +132,7 @@ fn counts(points: &[(usize, u8)]) -> [u8; 26] {
 /// Some bytes, and one byte so many times.
 fn followed_by(alloc: Global, start: &str, byte: u8, count: usize) -> Result<Vec<u8>, Fail> {
     let mut text = Vec::from_slice(alloc, start.as_bytes())?;
-    for _ in 0..count {
-        text.push(byte)?;
-    }
+    text.extend_from_slice(&vec![in alloc; byte; count]?)?;
     Ok(text)
 }
 
@@ -683,7 +681,7 @@ fn check_long_input(
 fn longest_input_is_read(rt: HostRuntime) -> Result<(), Fail> {
     let longest = followed_by(rt.alloc(), "", b'X', MOST_BYTES)?;
     let text = "refused at line 1: not a length line\n";
-    check_long_input(&rt, &longest, 1, Verdict::Refused(1), text);
+    check_long_input(&rt, &longest, 64, Verdict::Refused(1), text);
     check_long_input(&rt, &longest, 4096, Verdict::Refused(1), text);
     let longer = followed_by(rt.alloc(), "", b'X', MOST_BYTES + 1)?;
     check_long_input(&rt, &longer, 1000, Verdict::TooLong, TOO_LONG);
