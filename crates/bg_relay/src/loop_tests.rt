@@ -131,11 +131,7 @@ fn no_such_matches(rt: HostRuntime) -> Result<(), Fail> {
     Ok(())
 }
 
-/// The rounds of a match in which one call fails: within them a claim is accepted, saved and told, and each file is
-/// written twice at least. Each call fails in a match of its own, so the time grows with their square.
-const ROUNDS: u32 = 5;
-
-/// Plays so many rounds over devices of which one call fails.
+/// Plays ten rounds over devices of which one call fails.
 fn play_failing(rt: &HostRuntime, folder: &str, calls: &Calls) -> Result<Vec<u8>, LoopFault> {
     let link = Failing::new(UdpLink::bind(rt, PARTIES)?, calls);
     let keepers = Keepers {
@@ -148,7 +144,7 @@ fn play_failing(rt: &HostRuntime, folder: &str, calls: &Calls) -> Result<Vec<u8>
         rt.alloc(),
         SEED,
         1,
-        ROUNDS,
+        10,
         link,
         keepers,
         &mut Writing::new(&mut text),
@@ -164,13 +160,18 @@ fn is_sound(text: &[u8]) -> bool {
     counts.iter().all(|count| *count <= counts[0])
 }
 
-#[test]
-fn one_call_that_fails(rt: HostRuntime) -> Result<(), Fail> {
+/// Each call of ten rounds fails once, in a match of its own. Of four calls in a row a test takes the one of this rest by
+/// four, so that none takes long.
+fn check_each_fourth_call(rt: &HostRuntime, rest: u32) -> Result<(), Fail> {
+    let name = format!(in rt.alloc(); "one-call-{rest}")?;
     for failing in 1..=MOST_CALLS {
-        let folder = new_folder(&rt, "one-call")?;
+        if failing % 4 != rest {
+            continue;
+        }
+        let folder = new_folder(rt, name.as_str())?;
         let calls = Calls::new(failing);
-        let result = play_failing(&rt, folder.as_str(), &calls);
-        fs::remove_dir_all(&rt, folder.as_str())?;
+        let result = play_failing(rt, folder.as_str(), &calls);
+        fs::remove_dir_all(rt, folder.as_str())?;
         if calls.made.get() < failing {
             return Ok(());
         }
@@ -184,8 +185,28 @@ fn one_call_that_fails(rt: HostRuntime) -> Result<(), Fail> {
     Err(Fail::from("more calls than expected"))
 }
 
-/// A match of so many rounds makes fewer calls.
+/// Ten rounds make fewer calls.
 const MOST_CALLS: u32 = 1000;
+
+#[test]
+fn one_call_that_fails_of_the_first_and_each_fourth(rt: HostRuntime) -> Result<(), Fail> {
+    check_each_fourth_call(&rt, 1)
+}
+
+#[test]
+fn one_call_that_fails_of_the_second_and_each_fourth(rt: HostRuntime) -> Result<(), Fail> {
+    check_each_fourth_call(&rt, 2)
+}
+
+#[test]
+fn one_call_that_fails_of_the_third_and_each_fourth(rt: HostRuntime) -> Result<(), Fail> {
+    check_each_fourth_call(&rt, 3)
+}
+
+#[test]
+fn one_call_that_fails_of_the_fourth_and_each_fourth(rt: HostRuntime) -> Result<(), Fail> {
+    check_each_fourth_call(&rt, 0)
+}
 
 /// Whether a match ended for want of memory; the output of these tests is in memory too.
 fn lacked_memory(fault: &LoopFault) -> bool {
