@@ -13,6 +13,8 @@ mod endings;
 #[cfg(test)]
 mod failing_devices;
 mod file_keepers;
+#[cfg(test)]
+mod file_tests;
 mod files;
 mod loop_command;
 mod loop_faults;
@@ -20,8 +22,12 @@ mod loop_faults;
 mod loop_tests;
 mod loops;
 mod progress;
+#[cfg(test)]
+mod recording_devices;
 mod reports;
 mod round_schedule;
+#[cfg(test)]
+mod round_tests;
 mod rounds;
 mod schedule;
 mod showing;
@@ -30,8 +36,12 @@ mod sim_tests;
 mod simulating;
 mod simulation;
 #[cfg(test)]
+mod stand_ins;
+#[cfg(test)]
 mod tests;
 mod udp_links;
+#[cfg(test)]
+mod udp_tests;
 mod words;
 
 use arguments::command;
