@@ -7,16 +7,13 @@ ghost use Rattle.bg_board.specs.Step.{carried, hit_by};
 
 use crate::{Die, Player, Step, StepFault};
 use std::marker::Model;
-use thiserror::Error;
 
 /// Why counts are no board (docs/RULES.md, "The board").
-#[derive(Clone, Copy, Debug, PartialEq, Eq, Error)]
+#[derive(Clone, Copy, Debug, PartialEq, Eq)]
 pub enum BoardFault {
     /// A player does not have fifteen checkers.
-    #[error("a player does not have fifteen checkers")]
     NotFifteen,
     /// Both players have checkers on one point.
-    #[error("both players have checkers on one point")]
     SharedPoint,
 }
 

@@ -13,13 +13,11 @@ use crate::{
 use bg_board::Player;
 use std::alloc::{AllocError, Global};
 use std::marker::Model;
-use thiserror::Error;
 
 /// Why there is no match of this length.
-#[derive(Clone, Copy, Debug, PartialEq, Eq, Error)]
+#[derive(Clone, Copy, Debug, PartialEq, Eq)]
 pub enum LengthFault {
     /// The length is not from 1 to 99.
-    #[error("length out of range")]
     LengthOutOfRange,
 }
 

@@ -4,3 +4,4 @@ pub mod Views
 pub mod Learns
 pub mod Takes
 pub mod Claims
+pub mod FaultWords

@@ -15,6 +15,7 @@
 //! ```
 #![tactic(auto)]
 
+mod fault_words;
 mod follower;
 mod laws;
 mod outcomes;

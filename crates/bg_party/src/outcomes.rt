@@ -1,6 +1,5 @@
 //! What followers answer.
 use bg_match::{EntryFault, Number};
-use thiserror::Error;
 
 /// What a follower learns from a packet, in the order in which the cases are tested (docs/PROTOCOL.md, "What a
 /// follower learns").
@@ -23,15 +22,12 @@ pub enum Learned {
 }
 
 /// Why a seat does not claim an action, in the order in which the refusals are tested (docs/PROTOCOL.md, "Claims").
-#[derive(Clone, Copy, Debug, PartialEq, Eq, Error)]
+#[derive(Clone, Copy, Debug, PartialEq, Eq)]
 pub enum ChooseFault {
     /// By its record another party acts, or nobody.
-    #[error("not your turn")]
     NotYourTurn,
     /// The seat has a claim that its record does not answer yet.
-    #[error("already claimed")]
     AlreadyClaimed,
     /// The action does not follow its record. The reason is never `Memory`.
-    #[error("illegal action: {0}")]
     Illegal(EntryFault),
 }

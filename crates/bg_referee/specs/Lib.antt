@@ -4,3 +4,4 @@ pub mod Dues
 pub mod Claims
 pub mod Takes
 pub mod Ticks
+pub mod FaultWords

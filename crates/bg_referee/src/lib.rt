@@ -18,6 +18,7 @@
 #![tactic(auto)]
 
 mod answers;
+mod fault_words;
 mod outcomes;
 mod referee;
 mod saves;

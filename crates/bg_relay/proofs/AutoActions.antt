@@ -1,6 +1,6 @@
 -- The entry of what an automatic player does follows the record.
 use Rattle.std.proofs.Common.{◌≡◌, ◌≢◌, ◌⊎◌, ℕ, IfSome, ◌<◌, ◌%◌, true, false, cond, eqb, Bool, Option}
-use Rattle.std.proofs.Common.{Some, None, List, [], ◌∷◌, length, length-append, refl, sym, subst, arith, inl, inr}
+use Rattle.std.proofs.Common.{Some, None, List, [], ◌∷◌, length, length-append, refl, sym, ap, subst, arith, inl, inr}
 use Rattle.std.proofs.lemmas.Option.{get_or_from_slice_get, slice_get_within}
 use Rattle.bg_board.specs.declared.players.Player.{Player}
 use Rattle.bg_board.specs.FromTo.{FromTo}
@@ -23,7 +23,7 @@ use Rattle.bg_match.specs.declared.phases.Actor.TheVariants.{Nobody, Referee, Se
 use Rattle.bg_match.specs.Actor.{actor_of}
 use Rattle.bg_match.proofs.Legal.{one_actor}
 use Rattle.bg_match.proofs.Runs.{Leads-push}
-use Rattle.bg_relay.specs.AutoAction.{Does, IsAutoAction, IsTurnOf, Plays, next_number}
+use Rattle.bg_relay.specs.AutoAction.{Does, IsAutoAction, IsToMove, IsTurnOf, Plays, next_number}
 
 -- a turn that the list names is legal
 turn_is_legal : (board : Position) (p : Player) (dice : Dice) (n : ℕ) (turn : List FromTo)
@@ -108,3 +108,12 @@ nobody_plays log s at stands is (inr over) = λ p acts.
 pub another_acts : (log : Log) (actor : Actor) (p : Player) → ActsAfter log.terms log.entries actor → actor ≢ Seat p
     → ActsAfter log.terms log.entries (Seat p) → ⊥
 another_acts log actor p acts differ also = differ (one_actor log.terms log.entries actor (Seat p) acts also)
+
+-- who acts where a player is to move is that player
+pub acting_moves : (log : Log) (player mover : Player) → ActsAfter log.terms log.entries (Seat player) → IsToMove log mover
+    → IsToMove log player
+acting_moves log player mover acts moves =
+    let named = one_actor log.terms log.entries (Seat mover) (Seat player)
+    (moves.0, moves.2, ap actor_of (sym moves.3)) acts in
+    let same : mover ≡ player = cc in
+    subst (λ (p : Player). IsToMove log p) same moves

@@ -1,4 +1,5 @@
 pub mod SomeTurn
 pub mod AutoActions
 pub mod Schedules
-pub mod Runs
+pub mod PlayingParts
+pub mod LoopResults

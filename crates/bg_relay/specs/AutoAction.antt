@@ -67,6 +67,11 @@ Plays log None = (player : Player) → ActsAfter log.terms log.entries (Seat pla
 Plays log (Some does) =
     (s : State) × StandsAt log.terms log.entries s × Does log.terms log.entries s.board s.phase does
 
+-- after a record this player is to move
+abbrev pub IsToMove : Log → Player → Type 0
+IsToMove log player =
+    (s : State) × (dice : Dice) × StandsAt log.terms log.entries s × (s.phase ≡ phase.ToMove player dice)
+
 -- what a player does after a record: nothing exactly where he does not act, or the record is full
 abbrev pub IsAutoAction : Log → Player → Option Action → Type 0
 IsAutoAction log player None =

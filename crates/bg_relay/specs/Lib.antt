@@ -4,6 +4,7 @@ pub mod Sockets
 pub mod Words
 pub mod AutoAction
 pub mod Attempts
-pub mod Rounds
 pub mod Schedule
+pub mod Rounds
+pub mod RoundResults
 pub mod Simulating

@@ -52,11 +52,10 @@ pub record HappensAs (old : Simulation) (i : ℕ) (new : Simulation) : Type 0 wh
   pub seed : new.seed ≡ old.seed
   pub watchers : new.watchers ≡ old.watchers
 
--- n events happen, in order, from one of this index on
-abbrev pub RunsFrom : ℕ → ℕ → Simulation → Simulation → Type 0
-RunsFrom from zero old new = new ≡ old
-RunsFrom from (suc n) old new =
-    (before : Simulation) × RunsFrom from n old before × HappensAs before (from + n) new
+-- n events happen, in order, from index 0 on
+abbrev pub Runs : ℕ → Simulation → Simulation → Type 0
+Runs zero old new = new ≡ old
+Runs (suc n) old new = (before : Simulation) × Runs n old before × HappensAs before n new
 
 -- what is printed of a world: the transcript of the referee's record, where it is up, and then the final text
 abbrev pub IsTranscriptOf : Option Log → List ℕ → Type 0
@@ -83,5 +82,5 @@ pub record IsSimText (seed points watchers steps : ℕ) (text : List ℕ) : Type
   pub start : Simulation
   pub end : Simulation
   pub starts : IsSimStart (setup_of seed points watchers) start
-  pub runs : RunsFrom 0 steps start end
+  pub runs : Runs steps start end
   pub printed : IsPrinted (memory_view end.world) text

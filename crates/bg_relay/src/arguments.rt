@@ -14,6 +14,35 @@ const MOST_ROUNDS: u32 = 1_000_000;
 /// The most events that an automatic match may have.
 const MOST_STEPS: u32 = 1_000_000;
 
+/// A file that is named to a command which reads the standard input. It is an argument that help leaves out, so that the
+/// answer can say how to hand the file in.
+pub(crate) const MISPLACED_FILE: &str = "FILE";
+
+/// What `judge` does, with a transcript and what it prints of it.
+const ABOUT_JUDGE: &str = "Judge the transcript of a match on standard input: bg_relay judge < FILE
+
+A transcript has a line with the length of the match, and then one for each entry:
+
+    length 1
+    open 3 1
+    X move 8-5 6-5
+
+Prints the board after the good lines, and then `ok N` with the number of entries, or
+`refused at line L: REASON`. For these three lines:
+
+    length 1 game 1 score 0-0 cube 1 middle crawford
+      13  14  15  16  17  18  19  20  21  22  23  24
+      X5   .   .   .  O3   .  O5   .   .   .   .  X2
+      O5   .   .   .  X2   .  X4  X2   .   .   .  O2
+      12  11  10   9   8   7   6   5   4   3   2   1
+    bar X 0 O 0 off X 0 O 0
+    O to roll
+    ok 2
+
+Where line 1 is refused it prints that line alone, and for an input of more than 4194304 bytes
+`refused: input too long`. Ends with status 0 where the transcript is good, 2 where it is refused,
+and 1 where reading, writing or memory failed.";
+
 /// The program's commands, with their help.
 pub(crate) fn command<'a>(alloc: Global) -> Result<Command<'a>, Error> {
     Ok(
@@ -22,7 +51,7 @@ pub(crate) fn command<'a>(alloc: Global) -> Result<Command<'a>, Error> {
             .version(VERSION)
             .subcommand_required(true)
             .arg_required_else_help(true)
-            .subcommand(judge_command(alloc))?
+            .subcommand(judge_command(alloc)?)?
             .subcommand(show_command(alloc)?)?
             .subcommand(script_command(alloc)?)?
             .subcommand(sim_command(alloc)?)?
@@ -30,17 +59,17 @@ pub(crate) fn command<'a>(alloc: Global) -> Result<Command<'a>, Error> {
     )
 }
 
-fn judge_command<'a>(alloc: Global) -> Command<'a> {
-    Command::new(alloc, "judge")
-        .about("Judge the transcript of a match on standard input")
-        .long_about(
-            "Judge the transcript of a match on standard input.\n\
-             \n\
-             Prints the board after the good lines, and then `ok N` with the number of entries, or\n\
-             `refused at line L: REASON`. Where line 1 is refused it prints that line alone, and for an\n\
-             input of more than 4194304 bytes `refused: input too long`. Ends with status 0 where the\n\
-             transcript is good, 2 where it is refused, and 1 where reading, writing or memory failed.",
-        )
+fn judge_command<'a>(alloc: Global) -> Result<Command<'a>, Error> {
+    Ok(
+        Command::new(alloc, "judge")
+            .about("Judge the transcript of a match on standard input")
+            .long_about(ABOUT_JUDGE)
+            .arg(misplaced_file(alloc))?,
+    )
+}
+
+fn misplaced_file<'a>(alloc: Global) -> Arg<'a> {
+    Arg::new(alloc, MISPLACED_FILE).hide(true)
 }
 
 fn show_command<'a>(alloc: Global) -> Result<Command<'a>, Error> {
@@ -83,7 +112,8 @@ fn script_command<'a>(alloc: Global) -> Result<Command<'a>, Error> {
              and 1 where reading, writing or memory failed.",
             )
             .arg(length_option(alloc))?
-            .arg(watchers_option(alloc))?,
+            .arg(watchers_option(alloc))?
+            .arg(misplaced_file(alloc))?,
     )
 }
 
@@ -136,9 +166,9 @@ fn loop_command<'a>(alloc: Global) -> Result<Command<'a>, Error> {
              in the files `party-P.S` of DIR, P the party and S the slot. Over the same folder, with the same\n\
              seed and length, a match goes on where it was left, also after a crash. Prints how many entries\n\
              each party holds in the end, and the board. Says each second how far it is, where the standard\n\
-             error is a terminal. Ends with status 0; with 1 where a socket can't be had, the files can't be\n\
-             read or are of another match or damaged, or writing or memory failed; with 2 where DIR is no\n\
-             folder.",
+             error is a terminal. Ends with status 0; with 1 where another process plays over DIR, a socket\n\
+             can't be had, the files can't be read or are of another match or damaged, or writing or memory\n\
+             failed; with 2 where DIR is no folder.",
             )
             .arg(seed_option(alloc))?
             .arg(length_option(alloc))?

@@ -1,11 +1,11 @@
 //! What an automatic player does.
-ghost use Rattle.std.specs.Prelude.{◌≡◌, IfOk, IfSome};
+ghost use Rattle.std.specs.Prelude.{◌≡◌, IfErr, IfOk, IfSome};
 ghost use Rattle.std.specs.Bool.{OnFalse, OnTrue};
 ghost use Rattle.bg_match.specs.Answers.{IsAnswer};
 ghost use Rattle.bg_match.specs.Match.{ActsAfter, IsNext};
 ghost use Rattle.bg_match.specs.declared.entries.Entry.{Entry as AnEntry};
 ghost use Rattle.bg_match.specs.declared.phases.Actor.TheVariants as acting;
-ghost use Rattle.bg_relay.specs.AutoAction.{DoublesOrRolls, IsAutoAction, IsTurnOf, Plays, next_number};
+ghost use Rattle.bg_relay.specs.AutoAction.{DoublesOrRolls, IsAutoAction, IsToMove, IsTurnOf, Plays, next_number};
 
 use bg_board::{Board, Player};
 use bg_match::{Action, Actor, Entry, MOST_ENTRIES, Phase, Record};
@@ -22,7 +22,7 @@ const DROPS_EVERY: u32 = 5;
 /// players"). `None` exactly where the player does not act, or the record is full.
 ///
 /// # Errors
-/// AllocError where there is no memory for the list of legal turns.
+/// AllocError where there is no memory for the list of legal turns of a player who is to move.
 pub fn auto_action(
     alloc: Global,
     record: &Record,
@@ -32,6 +32,7 @@ pub fn auto_action(
     // Its entry follows the record: a roll with any dice.
     ensures follows { IfOk result (λ chosen. IfSome chosen (λ action. (entry : AnEntry) → IsAnswer action entry
         → IsNext «record».now.terms «record».now.entries entry)) }
+    ensures memory { IfErr result (λ _. IsToMove «record».now player) }
 {
     if record.len() == MOST_ENTRIES || !acts(record, player) {
         return Ok(None);
@@ -53,7 +54,8 @@ fn acts(record: &Record, player: Player) -> bool
 
 /// What the player does who acts, if one does.
 fn action_in_turn(alloc: Global, record: &Record) -> Result<Option<Action>, AllocError>
-    ensures { IfOk result (λ chosen. Plays «record».now chosen) }
+    ensures plays { IfOk result (λ chosen. Plays «record».now chosen) }
+    ensures memory { IfErr result (λ _. (player : Player) × IsToMove «record».now player) }
 {
     let standing = record.standing();
     let number = u32::from(record.len()) + 1;

@@ -2,19 +2,41 @@
 
 use crate::endings::Ending;
 use crate::files::{read_saved, write_text};
+use crate::onlookers::Onlooker;
+use crate::printable::Printable;
 use crate::progress::Progress;
 use crate::showing::show_text;
-use crate::simulation::Simulation;
+use crate::simulating::play_sim;
 use crate::{NO_MEMORY, failed};
+use bg_match::Number;
 use bg_text::{EngineFault, Reading, Writing, judge};
-use bg_world::{ScriptFault, Setup, script};
+use bg_world::{Event, Outcome, ScriptFault, Setup, script};
 use std::fs::File;
 use std::io;
 use std::rt::Files;
 use std::time::Clock;
 
-/// How many events of an automatic match happen between two looks at the clock.
+/// After how many events of an automatic match the clock is looked at.
 const BATCH: u32 = 1000;
+
+/// The operator, who is told on the standard error how far an automatic match is.
+#[derive(Drop)]
+struct Operator<'a, R> {
+    rt: &'a R,
+    progress: Progress,
+    /// How many events there are in all.
+    steps: u32,
+}
+
+impl<'a, R: Clock + Eprint> Onlooker for Operator<'a, R> {
+    fn happened(&mut self, _event: &Event, _outcome: &Outcome, _held: Option<Number>) {}
+
+    fn played(&mut self, done: u32) {
+        if done % BATCH == 0 {
+            self.progress.tell(self.rt, "events", done, self.steps);
+        }
+    }
+}
 
 /// Judges the transcript on the standard input.
 pub(crate) fn run_judge(rt: &(impl Input + Print + Eprint + AllocGlobal)) -> Ending {
@@ -49,30 +71,23 @@ pub(crate) fn run_script(rt: &(impl Input + Print + Eprint + AllocGlobal), setup
     }
 }
 
-/// Plays an automatic match, and prints what [`sim_text`](simulating::sim_text) gives.
+/// Plays an automatic match, and prints what [`sim_text`](simulating::sim_text) gives of it.
 pub(crate) fn run_sim(
     rt: &(impl Clock + Print + Eprint + AllocGlobal),
     seed: u64,
     length: u8,
     watchers: u8,
     steps: u32,
-    mut progress: Progress,
+    progress: Progress,
 ) -> Ending {
-    let mut simulation = match Simulation::new(rt.alloc(), seed, length, watchers) {
-        Ok(simulation) => simulation,
-        Err(fault) => return failed(rt, fault),
+    let mut operator = Operator {
+        rt,
+        progress,
+        steps,
     };
-    let mut done = 0;
-    while done < steps {
-        let next = steps.min(done.saturating_add(BATCH));
-        if simulation.run(done, next).is_err() {
-            return failed(rt, NO_MEMORY);
-        }
-        done = next;
-        progress.tell(rt, "events", done, steps);
-    }
-    let Ok(text) = simulation.text() else {
-        return failed(rt, NO_MEMORY);
+    let text = match play_sim(rt.alloc(), seed, length, watchers, steps, &mut operator) {
+        Ok(text) => text,
+        Err(fault) => return failed(rt, fault),
     };
     match write_text(rt, &text) {
         Ok(()) => Ending::Simulated,
@@ -96,11 +111,17 @@ pub(crate) fn run_show(
 ) -> Ending {
     let file0 = match read_saved(rt, path0) {
         Ok(file0) => file0,
-        Err(error) => return failed(rt, format_args!("{path0} could not be read: {error}")),
+        Err(error) => return failed(
+            rt,
+            format_args!("{} could not be read: {error}", Printable(path0)),
+        ),
     };
     let file1 = match read_saved(rt, path1) {
         Ok(file1) => file1,
-        Err(error) => return failed(rt, format_args!("{path1} could not be read: {error}")),
+        Err(error) => return failed(
+            rt,
+            format_args!("{} could not be read: {error}", Printable(path1)),
+        ),
     };
     let Ok((text, loads)) = show_text(rt.alloc(), &file0, &file1) else {
         return failed(rt, NO_MEMORY);

@@ -79,7 +79,7 @@ fn restarts_referee(event: &Event) -> bool
 }
 
 /// How many entries a party holds that is up.
-fn entries_of(held: Option<&Record>) -> Option<Number>
+pub(crate) fn entries_of(held: Option<&Record>) -> Option<Number>
     ensures { result ≡ held_entries (option_copied held.entry) }
 {
     match held {

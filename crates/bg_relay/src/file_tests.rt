@@ -1,8 +1,8 @@
 //! Which file has what: single calls of the files of a match, and the first rounds.
 use crate::file_keepers::FileKeeper;
-use crate::loop_tests::new_folder;
 use crate::loops::run_loop;
 use crate::stand_ins::StandIn;
+use crate::test_folders::new_folder;
 use bg_text::Writing;
 use bg_wire::{Slot, load};
 use bg_world::{DeviceFault, Keeper};

@@ -1,24 +1,25 @@
 //! The command that plays a match over sockets and files.
 
 use crate::endings::Ending;
+use crate::folder_locks::FolderLock;
 use crate::loop_faults::LoopFault;
-use crate::loops::run_loop_telling;
+use crate::loops::play_loop;
+use crate::operators::Operator;
+use crate::printable::Printable;
 use crate::progress::Progress;
 use crate::{failed, wrong};
 use bg_text::Writing;
+use bg_world::WorldFault;
 use clap::ArgMatches;
-use std::fs::File;
+use std::fmt::Display;
+use std::fs::{File, TryLockError};
 use std::net::Net;
 use std::rt::Files;
 use std::time::Clock;
 use std::{fs, io};
 
 /// Plays the match that the options name.
-pub(crate) fn run_loop_command<R>(
-    rt: &R,
-    options: &ArgMatches<'_>,
-    mut progress: Progress,
-) -> Ending
+pub(crate) fn run_loop_command<R>(rt: &R, options: &ArgMatches<'_>, progress: Progress) -> Ending
 where
     R: Net + Files<File = File> + Clock + Print + Eprint + AllocGlobal,
 {
@@ -30,19 +31,42 @@ where
     ) else {
         return wrong(rt, "an option is missing");
     };
+    let shown = Printable(folder);
     match fs::metadata(rt, folder) {
         Ok(found) if found.is_dir() => {}
-        Ok(_) => return wrong(rt, format_args!("{folder} is no folder")),
-        Err(error) => return wrong(rt, format_args!("{folder} can't be used: {error}")),
+        Ok(_) => return wrong(rt, format_args!("{shown} is no folder")),
+        Err(error) => return wrong(rt, format_args!("{shown} can't be used: {error}")),
     }
+    let _lock = match FolderLock::take(rt, folder) {
+        Ok(lock) => lock,
+        Err(TryLockError::WouldBlock) => {
+            return failed(rt, format_args!("another process plays over {shown}"));
+        }
+        Err(TryLockError::Error(error)) => {
+            return failed(rt, format_args!("{shown} could not be locked: {error}"));
+        }
+    };
     let mut output = Writing::new(io::writer(rt));
-    let mut tell = |done: u32| progress.tell(rt, "rounds", done, rounds);
-    match run_loop_telling(rt, seed, length, rounds, folder, &mut output, &mut tell) {
+    let mut operator = Operator::new(rt, progress, rounds);
+    let result = play_loop(rt, seed, length, rounds, folder, &mut output, &mut operator);
+    operator.end();
+    match result {
         Ok(()) => Ending::Simulated,
         Err(LoopFault::Write) => match output.error() {
             Some(error) => failed(rt, format_args!("the output could not be written: {error}")),
             None => failed(rt, LoopFault::Write),
         },
+        Err(
+            fault @ (LoopFault::Stopped(_)
+            | LoopFault::Memory
+            | LoopFault::World(WorldFault::Memory)),
+        ) => failed_barely(rt, fault),
         Err(fault) => failed(rt, fault),
     }
+}
+
+/// What ended the match is a line of its own kind, and is said with nothing before it (docs/OPERATING.md, "Messages").
+fn failed_barely<D: Display + Drop>(rt: &impl Eprint, line: D) -> Ending {
+    let _ = rt.eprintln(line);
+    Ending::Failed
 }

@@ -31,7 +31,7 @@ opening
 ";
 
 /// A new folder among those that do not last.
-pub(crate) fn new_folder(rt: &HostRuntime, name: &str) -> io::Result<String> {
+fn new_folder(rt: &HostRuntime, name: &str) -> io::Result<String> {
     let process = std::process::id(rt.process());
     let temp = std::env::temp_dir(rt)?;
     let folder = format!(in rt.alloc(); "{}/bg_relay-{process}-{name}", temp.as_str())?;
@@ -106,23 +106,26 @@ fn forty_rounds_and_forty_more(rt: HostRuntime) -> Result<(), Fail> {
     Ok(())
 }
 
-/// A match of length 3 whose first game is over with entry 76.
-const SHORT_GAME: u64 = 417;
+/// Matches of length 3, so many rounds of each, and how many entries these have at least. The first game of match 417 is
+/// over with entry 76; the first two words of match 8 have equal dice, 5 5 and 4 4, and open no game.
+const PLAYED: [(u64, u32, u16); 2] = [(417, 170, 80), (8, 12, 4)];
 
-/// The entries are those that seed and length decide, in a second game too: those of the automatic match in memory.
+/// The entries are those that seed and length decide: those of the automatic match in memory.
 #[test]
 fn entries_are_those_of_the_match_in_memory(rt: HostRuntime) -> Result<(), Fail> {
-    let folder = new_folder(&rt, "entries")?;
-    let mut text = Vec::new(rt.alloc());
-    let mut output = Writing::new(&mut text);
-    run_loop(&rt, SHORT_GAME, 3, 170, folder.as_str(), &mut output)?;
-    let played = saved_by_referee(&rt, folder.as_str(), SHORT_GAME, 3)?;
-    fs::remove_dir_all(&rt, folder.as_str())?;
-    assert!(rt; played.log.len() >= 80);
-    assert!(rt; matches!(played.log.entry(77), Some(Entry::Opening(..))));
-    let transcript = transcript_text(rt.alloc(), &played.log)?;
-    let in_memory = sim_text(rt.alloc(), SHORT_GAME, 3, 0, 14_000)?;
-    assert!(rt; in_memory.starts_with(&transcript));
+    for (seed, rounds, least) in PLAYED {
+        let folder = new_folder(&rt, "entries")?;
+        let mut text = Vec::new(rt.alloc());
+        let mut output = Writing::new(&mut text);
+        run_loop(&rt, seed, 3, rounds, folder.as_str(), &mut output)?;
+        let played = saved_by_referee(&rt, folder.as_str(), seed, 3)?;
+        fs::remove_dir_all(&rt, folder.as_str())?;
+        assert!(rt; played.log.len() >= least);
+        assert!(rt; seed != 417 || matches!(played.log.entry(77), Some(Entry::Opening(..))));
+        let transcript = transcript_text(rt.alloc(), &played.log)?;
+        let in_memory = sim_text(rt.alloc(), seed, 3, 0, 14_000)?;
+        assert!(rt; in_memory.starts_with(&transcript));
+    }
     Ok(())
 }
 
@@ -187,13 +190,18 @@ fn is_sound(text: &[u8]) -> bool {
     counts.iter().all(|count| *count <= counts[0])
 }
 
-#[test]
-fn one_call_that_fails(rt: HostRuntime) -> Result<(), Fail> {
+/// Each call of ten rounds fails once, in a match of its own. Of four calls in a row a test takes the one of this rest by
+/// four, so that none takes long.
+fn check_each_fourth_call(rt: &HostRuntime, rest: u32) -> Result<(), Fail> {
+    let name = format!(in rt.alloc(); "one-call-{rest}")?;
     for failing in 1..=MOST_CALLS {
-        let folder = new_folder(&rt, "one-call")?;
+        if failing % 4 != rest {
+            continue;
+        }
+        let folder = new_folder(rt, name.as_str())?;
         let calls = Calls::new(failing);
-        let result = play_failing(&rt, folder.as_str(), &calls);
-        fs::remove_dir_all(&rt, folder.as_str())?;
+        let result = play_failing(rt, folder.as_str(), &calls);
+        fs::remove_dir_all(rt, folder.as_str())?;
         if calls.made.get() < failing {
             return Ok(());
         }
@@ -209,6 +217,26 @@ fn one_call_that_fails(rt: HostRuntime) -> Result<(), Fail> {
 
 /// Ten rounds make fewer calls.
 const MOST_CALLS: u32 = 1000;
+
+#[test]
+fn one_call_that_fails_of_the_first_and_each_fourth(rt: HostRuntime) -> Result<(), Fail> {
+    check_each_fourth_call(&rt, 1)
+}
+
+#[test]
+fn one_call_that_fails_of_the_second_and_each_fourth(rt: HostRuntime) -> Result<(), Fail> {
+    check_each_fourth_call(&rt, 2)
+}
+
+#[test]
+fn one_call_that_fails_of_the_third_and_each_fourth(rt: HostRuntime) -> Result<(), Fail> {
+    check_each_fourth_call(&rt, 3)
+}
+
+#[test]
+fn one_call_that_fails_of_the_fourth_and_each_fourth(rt: HostRuntime) -> Result<(), Fail> {
+    check_each_fourth_call(&rt, 0)
+}
 
 /// Whether a match ended for want of memory; the output of these tests is in memory too.
 fn lacked_memory(fault: &LoopFault) -> bool {

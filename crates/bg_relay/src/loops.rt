@@ -1,11 +1,10 @@
 //! A match between automatic players over UDP sockets and files.
-ghost use Rattle.std.specs.Prelude.{IfErr, OnOk};
-ghost use Rattle.bg_match.specs.Limits.{IsMatchLength};
-ghost use Rattle.bg_relay.specs.Rounds.{GetsFinalText, IsLoopFault, setup_of};
+ghost use Rattle.bg_relay.specs.RoundResults.{IsLoopResult, setup_of};
 
 use crate::file_keepers::FileKeeper;
 use crate::loop_faults::LoopFault;
-use crate::rounds::{PARTIES, run_rounds_telling};
+use crate::onlookers::{NoOnlooker, Onlooker};
+use crate::rounds::{PARTIES, play_rounds};
 use crate::udp_links::UdpLink;
 use bg_text::Sink;
 use bg_wire::{REFEREE, SEAT_OF_O, SEAT_OF_X};
@@ -29,33 +28,24 @@ pub fn run_loop<R: Net + Files<File = File> + AllocGlobal + Eprint, W: Sink>(
     folder: &str,
     output: &mut W,
 ) -> Result<(), LoopFault>
-    ensures length { OnOk result (IsMatchLength length) }
-    ensures text { OnOk result (GetsFinalText (W.written output.old) (W.written output.new)
-        (W.flushes output.old) (W.flushes output.new)) }
-    ensures fault { IfErr result
-        (IsLoopFault (setup_of seed length) (W.failures output.old) (W.failures output.new)) }
+    ensures { IsLoopResult W.Sink (setup_of seed length) rounds result output.old output.new }
 {
-    run_loop_telling(rt, seed, length, rounds, folder, output, &mut |_| {})
+    play_loop(rt, seed, length, rounds, folder, output, &mut NoOnlooker)
 }
 
-/// The same, telling after each round how many are done.
-pub(crate) fn run_loop_telling<R, W: Sink, F: FnMut(u32)>(
+/// The same, with one who looks on.
+pub(crate) fn play_loop<R, W: Sink, O: Onlooker>(
     rt: &R,
     seed: u64,
     length: u8,
     rounds: u32,
     folder: &str,
     output: &mut W,
-    tell: &mut F,
+    onlooker: &mut O,
 ) -> Result<(), LoopFault>
 where
     R: Net + Files<File = File> + AllocGlobal + Eprint,
-    requires tell { (f : _) (done : _) → F.pre f done }
-    ensures length { OnOk result (IsMatchLength length) }
-    ensures text { OnOk result (GetsFinalText (W.written output.old) (W.written output.new)
-        (W.flushes output.old) (W.flushes output.new)) }
-    ensures fault { IfErr result
-        (IsLoopFault (setup_of seed length) (W.failures output.old) (W.failures output.new)) }
+    ensures { IsLoopResult W.Sink (setup_of seed length) rounds result output.old output.new }
 {
     let link = UdpLink::bind(rt, PARTIES)?;
     let keepers = Keepers {
@@ -63,7 +53,7 @@ where
         x: FileKeeper::new(rt, folder, SEAT_OF_X)?,
         o: FileKeeper::new(rt, folder, SEAT_OF_O)?,
     };
-    run_rounds_telling(
+    play_rounds(
         rt.alloc(),
         seed,
         length,
@@ -71,6 +61,6 @@ where
         link,
         keepers,
         output,
-        tell,
+        onlooker,
     )
 }

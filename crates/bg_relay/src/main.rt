@@ -12,15 +12,30 @@ mod dice_attempts;
 mod endings;
 #[cfg(test)]
 mod failing_devices;
+#[cfg(test)]
+mod file_keeper_tests;
 mod file_keepers;
 #[cfg(test)]
 mod file_tests;
 mod files;
+mod folder_locks;
+#[cfg(test)]
+mod lock_tests;
 mod loop_command;
 mod loop_faults;
 #[cfg(test)]
 mod loop_tests;
 mod loops;
+mod onlookers;
+#[cfg(test)]
+mod operator_tests;
+mod operators;
+#[cfg(test)]
+mod overheard;
+mod own_sockets;
+mod printable;
+#[cfg(test)]
+mod printable_tests;
 mod progress;
 #[cfg(test)]
 mod recording_devices;
@@ -38,19 +53,22 @@ mod simulation;
 #[cfg(test)]
 mod stand_ins;
 #[cfg(test)]
+mod test_folders;
+#[cfg(test)]
 mod tests;
 mod udp_links;
 #[cfg(test)]
 mod udp_tests;
 mod words;
 
-use arguments::command;
+use arguments::{MISPLACED_FILE, command};
 use bg_world::Setup;
 use clap::ArgMatches;
 use clap::error::ErrorKind;
 use commands::{run_judge, run_script, run_show, run_sim};
 use endings::Ending;
 use loop_command::run_loop_command;
+use printable::PrintableLines;
 use progress::Progress;
 use std::fmt::Display;
 use std::fs::File;
@@ -110,12 +128,18 @@ pub(crate) fn wrong<D: Display + Drop>(rt: &impl Eprint, message: D) -> Ending {
 }
 
 /// Prints help or the version, or what is wrong with the arguments.
-fn answer(rt: &(impl Print + Eprint), error: &clap::Error) -> Ending {
+fn answer(rt: &(impl Print + Eprint + AllocGlobal), error: &clap::Error) -> Ending {
     if let ErrorKind::OutOfMemory = error.kind() {
         return failed(rt, NO_MEMORY);
     }
-    match error.print(rt) {
-        _ if error.use_stderr() => Ending::WrongArguments,
+    let Ok(text) = error.to_string(rt.alloc()) else {
+        return failed(rt, NO_MEMORY);
+    };
+    if error.use_stderr() {
+        let _ = rt.eprint(PrintableLines(&text));
+        return Ending::WrongArguments;
+    }
+    match rt.print(text) {
         Ok(()) => Ending::Told,
         Err(error) => failed(rt, format_args!("the output could not be written: {error}")),
     }
@@ -128,6 +152,16 @@ fn run_command(
     is_watched: bool,
 ) -> Ending {
     match matches.subcommand() {
+        Some(("judge", named)) if named.contains_id(MISPLACED_FILE) => {
+            wrong(
+                rt,
+                "a file is handed in on the standard input: bg_relay judge < FILE",
+            )
+        }
+        Some(("script", named)) if named.contains_id(MISPLACED_FILE) => wrong(
+            rt,
+            "a file is handed in on the standard input: bg_relay script --length N --watchers N < FILE",
+        ),
         Some(("judge", _)) => run_judge(rt),
         Some(("show", files)) => {
             let file0 = files.get_str("FILE0").unwrap_or_default();

@@ -198,11 +198,36 @@ const NEXT_GAME: [Call; 17] = [
     Send(0, Want(3, 0)),
 ];
 
+/// What the slots of a party have.
+#[derive(Clone, Copy)]
+struct Slots<'a> {
+    zero: &'a [u8],
+    one: &'a [u8],
+}
+
+const EMPTY: Slots<'static> = Slots {
+    zero: &[],
+    one: &[],
+};
+
+/// Where both have one byte, the first of a saved text.
+const ONE_BYTE: Slots<'static> = Slots {
+    zero: &[0x42],
+    one: &[0x42],
+};
+
+/// Slots in which save 1 stands alone.
+fn first_save<'a>(one: &'a [u8]) -> Slots<'a> {
+    Slots { zero: &[], one }
+}
+
 /// The devices of a match as it begins.
 #[derive(Clone, Copy)]
 struct Devices<'a> {
-    /// What slot 0 and slot 1 of the referee, of X and of O have.
-    slots: [[&'a [u8]; 2]; 3],
+    /// What the slots of the referee have, of X and of O.
+    of_referee: Slots<'a>,
+    of_x: Slots<'a>,
+    of_o: Slots<'a>,
     /// How many datagrams that are no packets wait for the referee, for X and for O.
     garbled: [u8; 3],
     /// The party and the number of the save whose write fails, if one does.
@@ -211,7 +236,9 @@ struct Devices<'a> {
 
 /// Devices of which nothing was asked.
 const UNUSED: Devices<'static> = Devices {
-    slots: [[&[], &[]], [&[], &[]], [&[], &[]]],
+    of_referee: EMPTY,
+    of_x: EMPTY,
+    of_o: EMPTY,
     garbled: [0, 0, 0],
     failing: None,
 };
@@ -221,10 +248,9 @@ fn keeper<'a>(
     recorder: &'a Recorder,
     alloc: Global,
     party: u8,
-    slots: [&[u8]; 2],
+    slots: Slots<'_>,
 ) -> Result<RecordingKeeper<'a>, AllocError> {
-    let [zero, one] = slots;
-    let slots = (zero.to_vec(alloc)?, one.to_vec(alloc)?);
+    let slots = (slots.zero.to_vec(alloc)?, slots.one.to_vec(alloc)?);
     Ok(RecordingKeeper::new(recorder, party, slots))
 }
 
@@ -244,9 +270,9 @@ fn calls_of(
         }
     }
     let keepers = Keepers {
-        referee: keeper(&recorder, alloc, 0, devices.slots[0])?,
-        x: keeper(&recorder, alloc, 1, devices.slots[1])?,
-        o: keeper(&recorder, alloc, 2, devices.slots[2])?,
+        referee: keeper(&recorder, alloc, 0, devices.of_referee)?,
+        x: keeper(&recorder, alloc, 1, devices.of_x)?,
+        o: keeper(&recorder, alloc, 2, devices.of_o)?,
     };
     let mut text = Vec::new(alloc);
     let mut output = Writing::new(&mut text);
@@ -322,7 +348,9 @@ fn game_is_opened_in_the_round_that_ends_the_last(rt: HostRuntime) -> Result<(),
     of_x[4] = 1;
     of_o[4] = 2;
     let devices = Devices {
-        slots: [[&[], &BEFORE_THE_DROP], [&[], &of_x], [&[], &of_o]],
+        of_referee: first_save(&BEFORE_THE_DROP),
+        of_x: first_save(&of_x),
+        of_o: first_save(&of_o),
         garbled: [7, 0, 0],
         failing: None,
     };
@@ -368,16 +396,35 @@ fn party_restarts_where_its_save_fails(rt: HostRuntime) -> Result<(), Fail> {
     check_failing_save(&rt, 2, &[&ROUND_2[..15], &of_o, &after_o])
 }
 
-/// Where both slots of a party have one byte, which begins a saved text but is none, the match stops at its restart.
+/// A match of these devices stops at the restart of a party, which has read its slots.
+fn check_damaged(
+    rt: &(impl AllocGlobal + Abort),
+    devices: &Devices<'_>,
+    expected: &[Call],
+) -> Result<(), Fail> {
+    let (calls, result) = calls_of(rt.alloc(), X_BEGINS, 1, 4, devices)?;
+    let damaged = Outcome::RestoreFault(RestoreCause::Damaged);
+    assert!(rt; result == Err(LoopFault::Stopped(damaged)));
+    check_calls(rt, &calls, &[expected]);
+    Ok(())
+}
+
+/// Slots of one byte restore nothing, and are not empty: the match stops.
 #[test]
 fn slots_of_one_byte_stop_the_match(rt: HostRuntime) -> Result<(), Fail> {
-    for party in 0..3 {
-        let mut devices = UNUSED;
-        devices.slots[party] = [&[0x42], &[0x42]];
-        let (calls, result) = calls_of(rt.alloc(), X_BEGINS, 1, 4, &devices)?;
-        let damaged = Outcome::RestoreFault(RestoreCause::Damaged);
-        assert!(rt; result == Err(LoopFault::Stopped(damaged)));
-        check_calls(&rt, &calls, &[&START[..2 * party + 2]]);
-    }
-    Ok(())
+    let of_referee = Devices {
+        of_referee: ONE_BYTE,
+        ..UNUSED
+    };
+    check_damaged(&rt, &of_referee, &START[..2])?;
+    let of_x = Devices {
+        of_x: ONE_BYTE,
+        ..UNUSED
+    };
+    check_damaged(&rt, &of_x, &START[..4])?;
+    let of_o = Devices {
+        of_o: ONE_BYTE,
+        ..UNUSED
+    };
+    check_damaged(&rt, &of_o, &START)
 }

@@ -1,16 +1,22 @@
 //! A match between automatic players, round by round, over any link and any keepers.
-ghost use Rattle.std.specs.Prelude.{IfErr, OnOk};
-ghost use Rattle.bg_match.specs.Limits.{IsMatchLength};
-ghost use Rattle.bg_relay.specs.Rounds.{GetsFinalText, IsBeginFault, IsFinishFault, IsRoundsFault, StopsMatch, setup_of};
+ghost use Rattle.std.specs.Prelude.{◌≡◌, false, true, IfErr, IfOk, MatchResult, OnErr, OnOk};
+ghost use Rattle.bg_relay.specs.RoundResults.{FailsOnce, IsGood, IsRoundsResult, WritesEnd, moment_of, setup_of};
+ghost use Rattle.bg_relay.specs.RoundResults.{IsWriteFault, start_moment};
+ghost use Rattle.bg_relay.specs.Rounds.{Happens, IsChosen, IsEventOf, MayLackMemory, PlaysPart, PlaysParts, StopsAt};
+ghost use Rattle.bg_relay.specs.Rounds.{StopsIn, ends, match_parts, next_word};
+ghost use Rattle.bg_world.specs.Starts.{IsWorldFault};
+ghost use Rattle.bg_world.specs.Views.{keeper_view, link_view};
+ghost use Rattle.bg_world.specs.declared.events.Outcome.{Outcome as AnOutcome};
 
 use crate::auto_actions::auto_action;
-use crate::dice_attempts::DiceAttempts;
+use crate::dice_attempts::{DiceAttempts, entries_of};
 use crate::loop_faults::LoopFault;
-use crate::round_schedule::{Part, RESTARTED, ROUND};
+use crate::onlookers::{NoOnlooker, Onlooker, party_at};
+use crate::round_schedule::{FIRST, Part, ROUND, follow_up};
 use bg_board::Player;
 use bg_text::Sink;
 use bg_wire::{REFEREE, party_of};
-use bg_world::{Event, Keeper, Keepers, Link, Outcome, Setup, World, final_text};
+use bg_world::{Event, Keeper, Keepers, Link, Outcome, Setup, World, WorldFault, final_text};
 use std::alloc::{AllocError, Global};
 
 /// How many watch.
@@ -32,7 +38,8 @@ const NO_PICK: u32 = 0;
 ///
 /// # Errors
 /// The first that is met: `World` where there is no such match; `Stopped` where slots can't be restored, or there is no
-/// memory for an event; `Memory` where there is none for the rest; `Write` where the output fails.
+/// memory for an event; `Memory` where there is none for a choice or the final text; `Write` exactly where the output
+/// fails. But for `Write` the output is as it was.
 pub fn run_rounds<L: Link + Drop, K: Keeper + Drop, W: Sink>(
     alloc: Global,
     seed: u64,
@@ -42,14 +49,11 @@ pub fn run_rounds<L: Link + Drop, K: Keeper + Drop, W: Sink>(
     keepers: Keepers<K>,
     output: &mut W,
 ) -> Result<(), LoopFault>
-    // A match is played exactly of a length that there is.
-    ensures length { OnOk result (IsMatchLength length) }
-    ensures text { OnOk result (GetsFinalText (W.written output.old) (W.written output.new)
-        (W.flushes output.old) (W.flushes output.new)) }
-    ensures fault { IfErr result
-        (IsRoundsFault (setup_of seed length) (W.failures output.old) (W.failures output.new)) }
+    ensures { IsRoundsResult W.Sink L.is_honest K.is_honest (setup_of seed length)
+        (start_moment (setup_of seed length) (link_view L.Link link) (keeper_view K.Keeper keepers.referee)
+        (keeper_view K.Keeper keepers.x) (keeper_view K.Keeper keepers.o)) rounds result output.old output.new }
 {
-    run_rounds_telling(
+    play_rounds(
         alloc,
         seed,
         length,
@@ -57,12 +61,12 @@ pub fn run_rounds<L: Link + Drop, K: Keeper + Drop, W: Sink>(
         link,
         keepers,
         output,
-        &mut |_| {},
+        &mut NoOnlooker,
     )
 }
 
-/// The same, telling after each round how many are done.
-pub(crate) fn run_rounds_telling<L: Link + Drop, K: Keeper + Drop, W: Sink, F: FnMut(u32)>(
+/// The same, with one who looks on.
+pub(crate) fn play_rounds<L: Link + Drop, K: Keeper + Drop, W: Sink, O: Onlooker>(
     alloc: Global,
     seed: u64,
     length: u8,
@@ -70,20 +74,14 @@ pub(crate) fn run_rounds_telling<L: Link + Drop, K: Keeper + Drop, W: Sink, F: F
     link: L,
     keepers: Keepers<K>,
     output: &mut W,
-    tell: &mut F,
+    onlooker: &mut O,
 ) -> Result<(), LoopFault>
-    requires tell { (f : _) (done : _) → F.pre f done }
-    ensures length { OnOk result (IsMatchLength length) }
-    ensures text { OnOk result (GetsFinalText (W.written output.old) (W.written output.new)
-        (W.flushes output.old) (W.flushes output.new)) }
-    ensures fault { IfErr result
-        (IsRoundsFault (setup_of seed length) (W.failures output.old) (W.failures output.new)) }
+    ensures { IsRoundsResult W.Sink L.is_honest K.is_honest (setup_of seed length)
+        (start_moment (setup_of seed length) (link_view L.Link link) (keeper_view K.Keeper keepers.referee)
+        (keeper_view K.Keeper keepers.x) (keeper_view K.Keeper keepers.o)) rounds result output.old output.new }
 {
-    let mut played = Rounds::begin(alloc, seed, length, link, keepers)?;
-    for done in 0..rounds {
-        played.round()?;
-        tell(done + 1);
-    }
+    let mut played = Rounds::new(alloc, seed, length, link, keepers)?;
+    played.run(rounds, onlooker)?;
     played.finish(output)
 }
 
@@ -97,74 +95,82 @@ pub(crate) struct Rounds<L, K> {
 }
 
 impl<L: Link + Drop, K: Keeper + Drop> Rounds<L, K> {
-    /// All that save begin again from their slots.
-    pub(crate) fn begin(
+    /// A match where nothing has happened yet.
+    fn new(
         alloc: Global,
         seed: u64,
         length: u8,
         link: L,
         keepers: Keepers<K>,
-    ) -> Result<Rounds<L, K>, LoopFault>
-        ensures length { OnOk result (IsMatchLength length) }
-        ensures fault { IfErr result (IsBeginFault (setup_of seed length)) }
+    ) -> Result<Rounds<L, K>, WorldFault>
+        ensures start { IfOk result (λ played. moment_of L.Link K.Keeper played ≡ start_moment (setup_of seed length)
+            (link_view L.Link link) (keeper_view K.Keeper keepers.referee) (keeper_view K.Keeper keepers.x)
+            (keeper_view K.Keeper keepers.o)) }
+        ensures refusal { MatchResult result (λ _. IsGood (setup_of seed length))
+            (λ fault. IsWorldFault fault (setup_of seed length)) }
     {
         let setup = Setup {
             id: seed,
             length,
             watchers: WATCHERS,
         };
-        let mut begun = Rounds {
+        Ok(Rounds {
             alloc,
             seed,
             world: World::new(alloc, setup, link, keepers)?,
             attempts: DiceAttempts::first(Some(0)),
-        };
-        for party in RESTARTED {
-            begun.happen(Event::Restart { party })?;
-        }
-        Ok(begun)
+        })
     }
 
-    /// Plays one round.
-    pub(crate) fn round(&mut self) -> Result<(), LoopFault>
-        ensures { IfErr result StopsMatch }
+    /// Plays so many rounds, from the start.
+    fn run<O: Onlooker>(&mut self, rounds: u32, onlooker: &mut O) -> Result<(), LoopFault>
+        ensures played { OnOk result (PlaysParts L.is_honest K.is_honest (moment_of L.Link K.Keeper self.old)
+            (match_parts rounds) (moment_of L.Link K.Keeper self.new)) }
+        ensures stopped { IfErr result (StopsIn L.is_honest K.is_honest (moment_of L.Link K.Keeper self.old)
+            (match_parts rounds)) }
     {
-        for part in ROUND {
-            self.play(part)?;
+        self.play_all(&FIRST, onlooker)?;
+        for done in 0..rounds {
+            self.play_all(&ROUND, onlooker)?;
+            onlooker.played(done + 1);
         }
         Ok(())
     }
 
-    /// Writes the final text.
-    pub(crate) fn finish<W: Sink>(&self, output: &mut W) -> Result<(), LoopFault>
-        ensures text { OnOk result (GetsFinalText (W.written output.old) (W.written output.new)
-            (W.flushes output.old) (W.flushes output.new)) }
-        ensures fault { IfErr result (IsFinishFault (W.failures output.old) (W.failures output.new)) }
+    /// Plays these parts, in order.
+    fn play_all<O: Onlooker>(&mut self, parts: &[Part], onlooker: &mut O) -> Result<(), LoopFault>
+        ensures played { OnOk result (PlaysParts L.is_honest K.is_honest (moment_of L.Link K.Keeper self.old)
+            parts.now (moment_of L.Link K.Keeper self.new)) }
+        ensures stopped { IfErr result (StopsIn L.is_honest K.is_honest (moment_of L.Link K.Keeper self.old)
+            parts.now) }
     {
-        let text = final_text(&self.world)?;
-        output.write_all(&text)?;
-        output.flush()?;
+        for part in parts {
+            self.play(*part, onlooker)?;
+        }
         Ok(())
     }
 
-    /// Plays a part of a round. A party whose save failed is down, and begins again from its slots at once.
-    fn play(&mut self, part: Part) -> Result<(), LoopFault>
-        ensures { IfErr result StopsMatch }
+    /// Plays a part.
+    fn play<O: Onlooker>(&mut self, part: Part, onlooker: &mut O) -> Result<(), LoopFault>
+        ensures played { OnOk result (PlaysPart L.is_honest K.is_honest (moment_of L.Link K.Keeper self.old) part
+            (moment_of L.Link K.Keeper self.new)) }
+        ensures stopped { IfErr result (StopsAt L.is_honest K.is_honest (moment_of L.Link K.Keeper self.old) part) }
     {
         let Some(event) = self.event(part)? else {
             return Ok(());
         };
-        match (self.happen(event)?, part) {
-            (Outcome::SaveFault, Part::Save(party)) => {
-                self.happen(Event::Restart { party })?;
-            }
-            _ => {}
+        let outcome = self.happen(event, onlooker)?;
+        if let Some(next) = follow_up(part, &outcome) {
+            self.happen(next, onlooker)?;
         }
         Ok(())
     }
 
     /// The event of a part; none where it is a choice of a player who does not act.
-    fn event(&self, part: Part) -> Result<Option<Event>, AllocError> {
+    fn event(&self, part: Part) -> Result<Option<Event>, AllocError>
+        ensures event { IfOk result (IsEventOf (moment_of L.Link K.Keeper self.now) part) }
+        ensures memory { OnErr result (MayLackMemory (moment_of L.Link K.Keeper self.now) part) }
+    {
         let event = match part {
             Part::Due => Event::Due { word: self.word() },
             Part::Take(party) => Event::Take {
@@ -172,37 +178,76 @@ impl<L: Link + Drop, K: Keeper + Drop> Rounds<L, K> {
                 pick: NO_PICK,
                 word: if party == REFEREE { self.word() } else { 0 },
             },
-            Part::Choose(seat) => return self.choice(seat),
+            Part::Choose(player) => return self.choice(player),
             Part::Save(party) => Event::Save { party },
             Part::Tick(party) => Event::Tick { party },
+            Part::Restart(party) => Event::Restart { party },
         };
         Ok(Some(event))
     }
 
     /// What an automatic player chooses, if it acts by its own record.
-    fn choice(&self, seat: Player) -> Result<Option<Event>, AllocError> {
-        let Some(record) = self.world.held(party_of(seat)) else {
+    fn choice(&self, player: Player) -> Result<Option<Event>, AllocError>
+        ensures chosen { IfOk result (IsChosen (moment_of L.Link K.Keeper self.now) player) }
+        ensures memory { OnErr result (MayLackMemory (moment_of L.Link K.Keeper self.now) (Part.Choose player)) }
+    {
+        let Some(record) = self.world.held(party_of(player)) else {
             return Ok(None);
         };
-        let Some(action) = auto_action(self.alloc, record, seat)? else {
+        let Some(action) = auto_action(self.alloc, record, player)? else {
             return Ok(None);
         };
-        Ok(Some(Event::Choose { seat, action }))
+        Ok(Some(Event::Choose {
+            seat: player,
+            action,
+        }))
     }
 
-    /// The word that the referee is handed.
-    fn word(&self) -> u32 {
+    /// The word for the referee's next entry.
+    fn word(&self) -> u32
+        ensures { result ≡ next_word (moment_of L.Link K.Keeper self.now) }
+    {
         self.attempts.word(self.seed)
     }
 
-    /// Lets an event happen. It ends the match where slots can't be restored, or there is no memory.
-    fn happen(&mut self, event: Event) -> Result<Outcome, LoopFault>
-        ensures { IfErr result StopsMatch }
+    /// Lets an event happen.
+    ///
+    /// # Errors
+    /// `Stopped` where its outcome ends the match.
+    fn happen<O: Onlooker>(&mut self, event: Event, onlooker: &mut O) -> Result<Outcome, LoopFault>
+        ensures happens { IfOk result (λ outcome. Happens L.is_honest K.is_honest (moment_of L.Link K.Keeper self.old)
+            event outcome (moment_of L.Link K.Keeper self.new) × (ends outcome ≡ false)) }
+        ensures stopped { IfErr result (λ why. (outcome : AnOutcome) × (why ≡ LoopFault.Stopped outcome)
+            × Happens L.is_honest K.is_honest (moment_of L.Link K.Keeper self.old) event outcome
+            (moment_of L.Link K.Keeper self.new) × (ends outcome ≡ true)) }
     {
-        let outcome = self.attempts.step(&mut self.world, event);
-        if outcome.wants_memory() || matches!(outcome, Outcome::RestoreFault(_)) {
+        let outcome = self.attempts.step(&mut self.world, event.copy());
+        let held = entries_of(self.world.held(party_at(&event)));
+        onlooker.happened(&event, &outcome, held);
+        if ends_match(&outcome) {
             return Err(LoopFault::Stopped(outcome));
         }
         Ok(outcome)
+    }
+
+    /// Writes the final text.
+    fn finish<W: Sink>(&self, output: &mut W) -> Result<(), LoopFault>
+        ensures text { OnOk result (WritesEnd W.Sink (moment_of L.Link K.Keeper self.now) output.old output.new) }
+        ensures fault { IfErr result (IsWriteFault W.Sink output.old output.new) }
+    {
+        let text = final_text(&self.world)?;
+        output.write_all(&text)?;
+        output.flush()?;
+        Ok(())
+    }
+}
+
+/// Whether the outcome ends the match: slots can't be restored, or there was no memory.
+fn ends_match(outcome: &Outcome) -> bool
+    ensures { result ≡ ends outcome.now }
+{
+    match outcome {
+        Outcome::RestoreFault(_) => true,
+        other => other.wants_memory(),
     }
 }

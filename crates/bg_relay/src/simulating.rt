@@ -1,12 +1,13 @@
 //! Automatic matches in memory.
-ghost use Rattle.std.specs.Prelude.{◌≡◌, ◌≤◌, ◌-◌, IfOk, MatchResult, OnOk};
-ghost use Rattle.bg_relay.specs.Simulating.{HappensAs, IsPrinted, IsSimFault, IsSimStart, IsSimText, RunsFrom};
+ghost use Rattle.std.specs.Prelude.{◌≡◌, IfOk, MatchResult, OnOk};
+ghost use Rattle.bg_relay.specs.Simulating.{HappensAs, IsPrinted, IsSimFault, IsSimStart, IsSimText, Runs};
 ghost use Rattle.bg_relay.specs.Simulating.{setup_of, wants_memory as is_wanting};
 ghost use Rattle.bg_world.specs.Simulations.{memory_view};
 ghost use Rattle.bg_world.specs.Starts.{IsWorldFault};
 ghost use Rattle.bg_world.specs.State.{IsSetup};
 
 use crate::dice_attempts::DiceAttempts;
+use crate::onlookers::{NoOnlooker, Onlooker};
 use crate::schedule::event_of;
 use crate::simulation::Simulation;
 use crate::words::event_words;
@@ -68,26 +69,30 @@ impl Simulation {
         Ok(())
     }
 
-    /// Lets the events from one index up to another happen, in order, the last one left out.
+    /// Lets so many events happen, in order.
     ///
     /// # Errors
     /// AllocError where memory was wanted: the match can't go on.
-    pub fn run(&mut self, from: u32, to: u32) -> Result<(), AllocError>
-        requires { from ≤ to }
-        ensures { OnOk result (RunsFrom from (to - from) self.old self.new) }
+    fn run<O: Onlooker>(&mut self, steps: u32, onlooker: &mut O) -> Result<(), AllocError>
+        ensures { OnOk result (Runs steps self.old self.new) }
     {
-        for index in from..to {
+        for index in 0..steps {
             self.step(index)?;
+            onlooker.played(index + 1);
         }
         Ok(())
     }
 
     /// The text after so many events.
-    fn text_after(&mut self, steps: u32) -> Result<Vec<u8>, AllocError>
-        ensures runs { IfOk result (λ _. RunsFrom 0 steps self.old self.new) }
+    fn text_after<O: Onlooker>(
+        &mut self,
+        steps: u32,
+        onlooker: &mut O,
+    ) -> Result<Vec<u8>, AllocError>
+        ensures runs { OnOk result (Runs steps self.old self.new) }
         ensures printed { IfOk result (λ text. IsPrinted (memory_view self.new.world) text.items) }
     {
-        self.run(0, steps)?;
+        self.run(steps, onlooker)?;
         self.text()
     }
 
@@ -134,11 +139,27 @@ pub fn sim_text(
     ensures refusal { MatchResult result (λ _. IsSetup seed length watchers)
         (λ fault. IsSimFault fault (setup_of seed length watchers)) }
 {
+    play_sim(alloc, seed, length, watchers, steps, &mut NoOnlooker)
+}
+
+/// The same, with one who looks on: who is told how many events are played, and not what they came to.
+pub(crate) fn play_sim<O: Onlooker>(
+    alloc: Global,
+    seed: u64,
+    length: u8,
+    watchers: u8,
+    steps: u32,
+    onlooker: &mut O,
+) -> Result<Vec<u8>, ScriptFault>
+    ensures text { IfOk result (λ text. IsSimText seed length watchers steps text.items) }
+    ensures refusal { MatchResult result (λ _. IsSetup seed length watchers)
+        (λ fault. IsSimFault fault (setup_of seed length watchers)) }
+{
     let mut simulation = match Simulation::new(alloc, seed, length, watchers) {
         Ok(simulation) => simulation,
         Err(fault) => return Err(ScriptFault::World(fault)),
     };
-    match simulation.text_after(steps) {
+    match simulation.text_after(steps, onlooker) {
         Ok(text) => Ok(text),
         Err(AllocError) => Err(ScriptFault::Engine(EngineFault::Memory)),
     }

@@ -3,23 +3,24 @@ ghost use Rattle.std.specs.Prelude.{◌≡◌, ◌⊎◌, [], None, length, IfEr
 ghost use Rattle.bg_relay.specs.Sockets.{noted_answer};
 ghost use Rattle.bg_world.specs.Devices.{CountsFailed, HasCause};
 
+#[cfg(test)]
+mod tests;
+
 use crate::device_faults::fault_of;
 use crate::loop_faults::LoopFault;
+use crate::own_sockets::OwnSocket;
 use crate::reports::Reports;
 use crate::say;
-use arrayvec::ArrayVec;
 use bg_text::History;
 use bg_wire::Datagram;
 use bg_world::{DeviceFault, Link, Taken, count_failed};
 use std::io;
 use std::io::ErrorKind;
-use std::net::{Ipv4Addr, Net, SocketAddr, UdpSocket};
-
-/// The most bytes that are taken of a datagram. No packet's text has as many; what goes beyond them is cut.
-const MOST_BYTES: usize = 256;
+use std::net::Net;
 
 /// A non-blocking UDP socket on 127.0.0.1 for each party, the party of a socket being its place (docs/OPERATING.md,
-/// "Sockets"). It says nothing of honesty: the system may lose datagrams, and others may send to these sockets.
+/// "Sockets"). A datagram goes out of the socket of the party that it goes to, and none comes from elsewhere. It says
+/// nothing of honesty: the system may lose datagrams.
 ///
 /// Each failure is said on the standard error, with the system's words for it.
 #[derive(Drop)]
@@ -34,38 +35,60 @@ pub struct UdpLink<'a, R: Eprint> {
 /// The sockets of all parties, in the order of their numbers from 0.
 #[derive(Drop)]
 struct Sockets<'a, R: Eprint> {
-    ends: Vec<End>,
+    ends: Vec<End<'a, R>>,
+    /// Of sends to parties that have no socket.
+    misdirected: Reports<'a, R>,
+}
+
+/// A party's socket.
+#[derive(Drop)]
+struct End<'a, R: Eprint> {
+    party: u8,
+    socket: OwnSocket,
     sends: Reports<'a, R>,
     takes: Reports<'a, R>,
 }
 
-/// A party's socket, and where it is reached.
-#[derive(Drop)]
-struct End {
-    socket: UdpSocket,
-    address: SocketAddr,
-}
-
-impl End {
-    /// A socket with a port that the system chooses.
-    fn open(rt: &impl Net) -> io::Result<End> {
-        let socket = UdpSocket::bind(rt, (Ipv4Addr::LOCALHOST, 0))?;
-        socket.set_nonblocking(true)?;
-        let address = socket.local_addr()?;
-        Ok(End { socket, address })
+impl<'a, R: Eprint> End<'a, R> {
+    fn open(rt: &'a R, party: u8) -> io::Result<End<'a, R>>
+    where
+        R: Net,
+    {
+        Ok(End {
+            party,
+            socket: OwnSocket::open(rt)?,
+            sends: Reports::new(rt),
+            takes: Reports::new(rt),
+        })
     }
 
-    /// The bytes of the datagram that has waited longest, if one has.
-    fn receive(&self) -> io::Result<Option<ArrayVec<u8, MOST_BYTES>>> {
-        let mut buffer = [0; MOST_BYTES];
-        match self.socket.recv_from(&mut buffer) {
-            Ok((count, _sender)) => {
-                let mut bytes = ArrayVec::new();
-                bytes.try_extend_from_slice(&buffer[..count]).unwrap();
-                Ok(Some(bytes))
+    /// Sends bytes to the party.
+    fn send(&mut self, bytes: &[u8]) -> Result<(), DeviceFault> {
+        match self.socket.send(bytes) {
+            Ok(()) => {
+                self.sends.succeeded();
+                Ok(())
             }
-            Err(error) if error.kind() == ErrorKind::WouldBlock => Ok(None),
-            Err(error) => Err(error),
+            Err(error) => {
+                let what = format_args!("no datagram could be sent to party {}", self.party);
+                self.sends.failed(what, &error);
+                Err(fault_of(&error))
+            }
+        }
+    }
+
+    /// What has come for the party.
+    fn take(&mut self) -> Taken {
+        match self.socket.receive() {
+            Ok(found) => {
+                self.takes.succeeded();
+                Ok(found)
+            }
+            Err(error) => {
+                let what = format_args!("the socket of party {} could not be read", self.party);
+                self.takes.failed(what, &error);
+                Err(fault_of(&error))
+            }
         }
     }
 }
@@ -73,43 +96,20 @@ impl End {
 impl<'a, R: Eprint> Sockets<'a, R> {
     /// Sends a datagram to its party.
     fn send(&mut self, datagram: &Datagram) -> Result<(), DeviceFault> {
-        match self.send_out(datagram) {
-            Ok(()) => {
-                self.sends.succeeded();
-                Ok(())
-            }
-            Err(error) => {
-                let what = format_args!("no datagram could be sent to party {}", datagram.to);
-                self.sends.failed(what, &error);
-                Err(fault_of(&error))
-            }
+        if let Some(end) = self.ends.get_mut(usize::from(datagram.to)) {
+            return end.send(datagram.bytes.bytes.as_slice());
         }
-    }
-
-    fn send_out(&self, datagram: &Datagram) -> io::Result<()> {
-        let Some(end) = self.ends.get(usize::from(datagram.to)) else {
-            return Err(io::Error::from(ErrorKind::AddrNotAvailable));
-        };
-        let bytes = datagram.bytes.bytes.as_slice();
-        end.socket.send_to(bytes, end.address)?;
-        Ok(())
+        let error = io::Error::from(ErrorKind::AddrNotAvailable);
+        let what = format_args!("no datagram could be sent to party {}", datagram.to);
+        self.misdirected.failed(what, &error);
+        Err(fault_of(&error))
     }
 
     /// What has come for a party.
     fn take(&mut self, party: u8) -> Taken {
-        let Some(end) = self.ends.get(usize::from(party)) else {
-            return Ok(None);
-        };
-        match end.receive() {
-            Ok(found) => {
-                self.takes.succeeded();
-                Ok(found)
-            }
-            Err(error) => {
-                let what = format_args!("the socket of party {party} could not be read");
-                self.takes.failed(what, &error);
-                Err(fault_of(&error))
-            }
+        match self.ends.get_mut(usize::from(party)) {
+            Some(end) => end.take(),
+            None => Ok(None),
         }
     }
 }
@@ -127,7 +127,7 @@ impl<'a, R: Eprint> UdpLink<'a, R> {
     {
         let mut ends = Vec::new(rt.alloc());
         for party in 0..parties {
-            match End::open(rt) {
+            match End::open(rt, party) {
                 Ok(end) => ends.push(end)?,
                 Err(error) => {
                     say(
@@ -141,8 +141,7 @@ impl<'a, R: Eprint> UdpLink<'a, R> {
         Ok(UdpLink {
             sockets: Sockets {
                 ends,
-                sends: Reports::new(rt),
-                takes: Reports::new(rt),
+                misdirected: Reports::new(rt),
             },
             takes: History::new(),
             sends: History::new(),

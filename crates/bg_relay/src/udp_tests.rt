@@ -1,9 +1,9 @@
 //! Single calls of the sockets of a match.
 use crate::device_faults::fault_of;
 use crate::loop_faults::LoopFault;
-use crate::loop_tests::new_folder;
 use crate::loops::run_loop;
 use crate::stand_ins::StandIn;
+use crate::test_folders::new_folder;
 use crate::udp_links::UdpLink;
 use arrayvec::ArrayVec;
 use bg_text::Writing;

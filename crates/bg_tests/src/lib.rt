@@ -1,4 +1,5 @@
-//! Tests that cross crates: whole worlds under random events and failing devices, and bytes that nobody sent.
+//! Tests that cross crates: whole worlds under random events and failing devices, bytes that nobody sent, and the uses
+//! that the documents show.
 #![tactic(auto)]
 
 #[cfg(test)]
@@ -8,6 +9,14 @@ mod altered_bytes;
 #[cfg(test)]
 mod fronts;
 #[cfg(test)]
+mod host_tests;
+#[cfg(test)]
+mod own_devices;
+#[cfg(test)]
 mod random_runs;
+#[cfg(test)]
+mod referee_host;
+#[cfg(test)]
+mod slot_files;
 #[cfg(test)]
 mod uses;

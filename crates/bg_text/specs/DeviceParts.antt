@@ -1,5 +1,6 @@
 -- What contracts see of a reader as a source, and of a writer as a sink.
-use Rattle.std.specs.Prelude.{ℕ, Bool, List, length, is_some}
+use Rattle.std.specs.Prelude.{ℕ, List, Option, length}
+use Rattle.std.specs.declared.io.Error.{Error}
 use Rattle.bg_text.specs.declared.devices.Reading.{Reading}
 use Rattle.bg_text.specs.declared.devices.Writing.{Writing}
 
@@ -7,9 +8,9 @@ module _ {R : Type 0} where
   abbrev pub reader_of : Reading R → R
   reader_of source = source.reader
 
-  -- whether it knows why the reader failed
-  abbrev pub has_read_error : Reading R → Bool
-  has_read_error source = is_some source.error
+  -- why the reader failed last, if it did
+  abbrev pub read_error_of : Reading R → Option Error
+  read_error_of source = source.error
 
   abbrev pub given_of : Reading R → List ℕ
   given_of source = source.given.bytes
@@ -27,9 +28,9 @@ module _ {W : Type 0} where
   abbrev pub writer_of : Writing W → W
   writer_of sink = sink.writer
 
-  -- whether it knows why the writer failed
-  abbrev pub has_write_error : Writing W → Bool
-  has_write_error sink = is_some sink.error
+  -- why the writer failed last, if it did
+  abbrev pub write_error_of : Writing W → Option Error
+  write_error_of sink = sink.error
 
   abbrev pub written_of : Writing W → List ℕ
   written_of sink = sink.written.bytes

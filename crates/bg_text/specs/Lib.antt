@@ -7,6 +7,7 @@ pub mod EntryShape
 pub mod Pairs
 pub mod Lines
 pub mod Reason
+pub mod FaultWords
 pub mod BoardText
 pub mod Transcript
 pub mod EngineFault

@@ -1,5 +1,5 @@
 //! What the judge reads from and writes to: devices whose bytes and failures contracts see.
-ghost use Rattle.std.specs.Prelude.{◌≡◌, ℕ, ◌+◌, List, [], Option, OnOk};
+ghost use Rattle.std.specs.Prelude.{◌≡◌, ℕ, ◌+◌, List, [], Option, None, Some, OnOk, option_copied};
 ghost use Rattle.std.specs.Io.{ReadsAtMost};
 ghost use Rattle.std.specs.Io.KnownBytes.{Appends, Keeps, ReadConsumes};
 ghost use Rattle.bg_text.specs.Devices.{CountsEnd, CountsFailure, Gives, TakesWritten, WritesBytes};
@@ -7,12 +7,18 @@ ghost use Rattle.bg_text.specs.Devices.{CountsEnd, CountsFailure, Gives, TakesWr
 use crate::History;
 use std::io;
 use std::io::{Read, Write};
-use thiserror::Error;
 
 /// A source or a sink did not do what was asked of it.
-#[derive(Clone, Copy, Debug, PartialEq, Eq, Error)]
-#[error("the device failed")]
+#[derive(Clone, Copy, Debug, PartialEq, Eq)]
 pub struct StreamFault;
+
+/// Keeps why a device failed, in the place of what was kept of an earlier failure.
+fn keep_error(last: &mut Option<io::Error>, error: io::Error) -> StreamFault
+    ensures { last.new ≡ Some error }
+{
+    *last = Some(error);
+    StreamFault
+}
 
 /// What bytes come from. Contracts see what it gave, how often it was asked and how often it failed.
 pub trait Source {
@@ -88,14 +94,13 @@ pub struct Reading<R> {
 }
 
 impl<R: Read> Reading<R> {
-    ghost use Rattle.std.specs.Prelude.{false, is_some};
-    ghost use Rattle.bg_text.specs.DeviceParts.{has_read_error, reader_of, given_of, ends_of, reads_of};
+    ghost use Rattle.bg_text.specs.DeviceParts.{read_error_of, reader_of, given_of, ends_of, reads_of};
     ghost use Rattle.bg_text.specs.DeviceParts.{read_failures_of};
 
     /// Reads from this reader. It has not been asked yet, so it has given nothing and has not failed.
     pub fn new(reader: R) -> Reading<R>
         ensures reader { reader_of result ≡ reader }
-        ensures error { has_read_error result ≡ false }
+        ensures error { read_error_of result ≡ None }
         ensures given { given_of result ≡ [] }
         ensures ends { ends_of result ≡ 0 }
         ensures reads { reads_of result ≡ 0 }
@@ -113,7 +118,7 @@ impl<R: Read> Reading<R> {
 
     /// Why the reader failed last, if it did.
     pub fn error(&self) -> Option<&io::Error>
-        ensures { is_some result ≡ has_read_error self.now }
+        ensures { option_copied result ≡ read_error_of self.now }
     {
         self.error.as_ref()
     }
@@ -144,8 +149,7 @@ impl<R: Read> Source for Reading<R> {
             }
             Err(error) => {
                 self.failures = self.failures.marked();
-                self.error = Some(error);
-                Err(StreamFault)
+                Err(keep_error(&mut self.error, error))
             }
         }
     }
@@ -163,14 +167,13 @@ pub struct Writing<W> {
 }
 
 impl<W: Write> Writing<W> {
-    ghost use Rattle.std.specs.Prelude.{false, is_some};
-    ghost use Rattle.bg_text.specs.DeviceParts.{has_write_error, writer_of, written_of, taken_of, flushes_of};
+    ghost use Rattle.bg_text.specs.DeviceParts.{write_error_of, writer_of, written_of, taken_of, flushes_of};
     ghost use Rattle.bg_text.specs.DeviceParts.{write_failures_of};
 
     /// Writes to this writer. It has taken nothing yet, and has not failed.
     pub fn new(writer: W) -> Writing<W>
         ensures writer { writer_of result ≡ writer }
-        ensures error { has_write_error result ≡ false }
+        ensures error { write_error_of result ≡ None }
         ensures written { written_of result ≡ [] }
         ensures taken { taken_of result ≡ [] }
         ensures flushes { flushes_of result ≡ 0 }
@@ -188,7 +191,7 @@ impl<W: Write> Writing<W> {
 
     /// Why the writer failed last, if it did.
     pub fn error(&self) -> Option<&io::Error>
-        ensures { is_some result ≡ has_write_error self.now }
+        ensures { option_copied result ≡ write_error_of self.now }
     {
         self.error.as_ref()
     }
@@ -210,8 +213,7 @@ impl<W: Write> Sink for Writing<W> {
     fn write_all(&mut self, bytes: &[u8]) -> Result<(), StreamFault> {
         if let Err(error) = self.writer.write_all(bytes) {
             self.failures = self.failures.marked();
-            self.error = Some(error);
-            return Err(StreamFault);
+            return Err(keep_error(&mut self.error, error));
         }
         self.written = self.written.then(bytes);
         Ok(())
@@ -221,8 +223,7 @@ impl<W: Write> Sink for Writing<W> {
         self.flushes = self.flushes.marked();
         if let Err(error) = self.writer.flush() {
             self.failures = self.failures.marked();
-            self.error = Some(error);
-            return Err(StreamFault);
+            return Err(keep_error(&mut self.error, error));
         }
         self.taken = self.written.copy();
         Ok(())

@@ -1,15 +1,15 @@
 //! Board texts, transcripts, and the judge over inputs and devices of every kind. The expected texts are those of the
 //! rules and formats, worked out by hand.
 use crate::{
-    EngineFault, Judgement, MOST_BYTES, Reading, Verdict, Writing, board_text, judge, judge_text,
-    transcript_text,
+    EngineFault, Judgement, MOST_BYTES, Reading, Sink, Source, StreamFault, Verdict, Writing,
+    board_text, judge, judge_text, transcript_text,
 };
 use arrayvec::ArrayVec;
 use bg_board::{Board, Die, Player, Step};
 use bg_match::{Cube, Entry, Level, Phase, Record, Standing};
 use bg_turns::Turn;
 use std::alloc::{AllocError, Global};
-use std::io::{self, Read, Write};
+use std::io::{self, ErrorKind, Read, Write};
 use std::process::Abort;
 use std::test::Fail;
 
@@ -132,9 +132,7 @@ fn counts(points: &[(usize, u8)]) -> [u8; 26] {
 /// Some bytes, and one byte so many times.
 fn followed_by(alloc: Global, start: &str, byte: u8, count: usize) -> Result<Vec<u8>, Fail> {
     let mut text = Vec::from_slice(alloc, start.as_bytes())?;
-    for _ in 0..count {
-        text.push(byte)?;
-    }
+    text.extend_from_slice(&vec![in alloc; byte; count]?)?;
     Ok(text)
 }
 
@@ -595,6 +593,56 @@ fn read_and_written_by_slices(rt: HostRuntime) -> Result<(), Fail> {
     Ok(())
 }
 
+/// Fails in all calls, in each for another reason.
+#[derive(Drop)]
+struct Broken {
+    kinds: [ErrorKind; 2],
+}
+
+impl Broken {
+    fn fail(&mut self) -> io::Error {
+        self.kinds.swap(0, 1);
+        self.kinds[1].into()
+    }
+}
+
+impl Read for Broken {
+    fn read(&mut self, _: &mut [u8]) -> io::Result<usize> {
+        Err(self.fail())
+    }
+}
+
+impl Write for Broken {
+    fn write(&mut self, _: &[u8]) -> io::Result<usize> {
+        Err(self.fail())
+    }
+
+    fn flush(&mut self) -> io::Result<()> {
+        Err(self.fail())
+    }
+}
+
+fn kind_of(error: Option<&io::Error>) -> Option<ErrorKind> {
+    error.map(|error| error.kind())
+}
+
+#[test]
+fn last_error_is_kept(rt: HostRuntime) {
+    let kinds = [ErrorKind::TimedOut, ErrorKind::BrokenPipe];
+    let mut input = Reading::new(Broken { kinds });
+    assert_eq!(rt; kind_of(input.error()), None);
+    for kind in kinds {
+        assert_eq!(rt; input.read(&mut [0]), Err(StreamFault));
+        assert_eq!(rt; kind_of(input.error()), Some(kind));
+    }
+    let mut output = Writing::new(Broken { kinds });
+    assert_eq!(rt; kind_of(output.error()), None);
+    assert_eq!(rt; output.write_all(b"a"), Err(StreamFault));
+    assert_eq!(rt; kind_of(output.error()), Some(ErrorKind::TimedOut));
+    assert_eq!(rt; output.flush(), Err(StreamFault));
+    assert_eq!(rt; kind_of(output.error()), Some(ErrorKind::BrokenPipe));
+}
+
 #[test]
 fn readers_that_fail(rt: HostRuntime) {
     for fails_at in [1, 2, 20, 33, 34] {
@@ -633,7 +681,7 @@ fn check_long_input(
 fn longest_input_is_read(rt: HostRuntime) -> Result<(), Fail> {
     let longest = followed_by(rt.alloc(), "", b'X', MOST_BYTES)?;
     let text = "refused at line 1: not a length line\n";
-    check_long_input(&rt, &longest, 1, Verdict::Refused(1), text);
+    check_long_input(&rt, &longest, 64, Verdict::Refused(1), text);
     check_long_input(&rt, &longest, 4096, Verdict::Refused(1), text);
     let longer = followed_by(rt.alloc(), "", b'X', MOST_BYTES + 1)?;
     check_long_input(&rt, &longer, 1000, Verdict::TooLong, TOO_LONG);

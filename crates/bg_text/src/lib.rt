@@ -12,6 +12,7 @@
 
 mod board_texts;
 mod devices;
+mod fault_words;
 mod faults;
 mod histories;
 mod inputs;

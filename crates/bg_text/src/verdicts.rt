@@ -1,7 +1,5 @@
 //! The verdict on a transcript.
 
-use thiserror::Error;
-
 /// What the judge finds.
 #[derive(Clone, Copy, Debug, PartialEq, Eq)]
 pub enum Verdict {
@@ -14,15 +12,12 @@ pub enum Verdict {
 }
 
 /// Why no verdict was reached.
-#[derive(Clone, Copy, Debug, PartialEq, Eq, Error)]
+#[derive(Clone, Copy, Debug, PartialEq, Eq)]
 pub enum EngineFault {
     /// The reader failed. Nothing was written.
-    #[error("the input could not be read")]
     Read,
     /// The writer failed. Nothing is said of how much was written.
-    #[error("the output could not be written")]
     Write,
     /// Memory ran out. Nothing was written.
-    #[error("out of memory")]
     Memory,
 }

@@ -2,7 +2,7 @@
 ghost use Rattle.std.specs.Prelude.{◌≡◌, ◌≤◌, length};
 ghost use Rattle.bg_wire.specs.FaultWords.{numbered, wire_fault_words, load_fault_words};
 
-use crate::{LoadFault, WireFault};
+use crate::{LoadFault, RestoreRefusal, SaveRefusal, WireFault};
 use std::fmt;
 
 impl WireFault {
@@ -70,3 +70,36 @@ impl fmt::Display for LoadFault {
 }
 
 impl std::error::Error for LoadFault {}
+
+impl fmt::Display for SaveRefusal {
+    ghost use Rattle.std.specs.Prelude.{Some};
+    ghost use Rattle.bg_wire.specs.FaultWords.{save_refusal_words};
+
+    ghost output = { λ fault. Some (save_refusal_words fault) };
+
+    fn fmt<W: fmt::Write>(&self, f: &mut fmt::Formatter<W>) -> fmt::Result {
+        f.write_str(match self {
+            SaveRefusal::SavesSpent => "saves spent",
+            SaveRefusal::Memory => "out of memory",
+        })
+    }
+}
+
+impl std::error::Error for SaveRefusal {}
+
+impl fmt::Display for RestoreRefusal {
+    ghost use Rattle.std.specs.Prelude.{Some};
+    ghost use Rattle.bg_wire.specs.FaultWords.{restore_refusal_words};
+
+    ghost output = { λ fault. Some (restore_refusal_words fault) };
+
+    fn fmt<W: fmt::Write>(&self, f: &mut fmt::Formatter<W>) -> fmt::Result {
+        f.write_str(match self {
+            RestoreRefusal::Damaged => "damaged",
+            RestoreRefusal::WrongMatch => "wrong match",
+            RestoreRefusal::Memory => "out of memory",
+        })
+    }
+}
+
+impl std::error::Error for RestoreRefusal {}

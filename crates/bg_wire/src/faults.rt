@@ -1,6 +1,5 @@
 //! Why bytes are no packet, and no saved text; why there is no text to save.
 use bg_match::Number;
-use thiserror::Error;
 
 /// Why bytes are no packet's text. Bytes are read from left to right, a field is tested once all its bytes are there,
 /// and the first fault met is named (docs/FORMATS.md, "Packets").
@@ -40,27 +39,22 @@ pub enum LoadFault {
 }
 
 /// Why a party has no text to save, in the order in which the refusals are tested (docs/PROTOCOL.md, "Saving").
-#[derive(Clone, Copy, Debug, PartialEq, Eq, Error)]
+#[derive(Clone, Copy, Debug, PartialEq, Eq)]
 pub enum SaveRefusal {
     /// The last save had the greatest number, 4294967295.
-    #[error("saves spent")]
     SavesSpent,
     /// There is no memory for the text.
-    #[error("out of memory")]
     Memory,
 }
 
 /// Why nothing is restored of two slots, in the order in which the refusals are tested; want of memory comes in
 /// place of any other answer (docs/FORMATS.md, "Saved files").
-#[derive(Clone, Copy, Debug, PartialEq, Eq, Error)]
+#[derive(Clone, Copy, Debug, PartialEq, Eq)]
 pub enum RestoreRefusal {
     /// Neither slot has a saved text, and slot 0 is not empty.
-    #[error("damaged")]
     Damaged,
     /// The saved text is of another party, or of another match.
-    #[error("wrong match")]
     WrongMatch,
     /// There is no memory for the entries.
-    #[error("out of memory")]
     Memory,
 }

@@ -12,7 +12,7 @@ use Rattle.bg_party.specs.Views.{SeatView}
 use Rattle.bg_world.specs.declared.events.Event.TheVariants as events
 use Rattle.bg_world.specs.declared.events.Outcome.{Outcome}
 use Rattle.bg_world.specs.declared.events.Outcome.TheVariants as outcomes
-use Rattle.bg_world.specs.WorldState.{CoresMatch, Restorable, SeatMatches, SeatSide, restorable_of, seat_state, state_of}
+use Rattle.bg_world.specs.WorldState.{CoresMatch, Restorable, SeatMatches, SeatSide, restorable_of, seat_state, protocol_state}
 use Rattle.bg_world.specs.Calls.{ChooseCalls, NoCalls}
 use Rattle.bg_world.specs.Views.{WorldView, seat_core, seat_keeper, with_seat_core}
 use Rattle.bg_world.specs.Frames.{SeatChanges, SeatIfUp}
@@ -66,7 +66,7 @@ pub choose_goes : (w : WorldView) (c : Restorable) (q : Player) (a : Action) (o 
 choose_goes w c q a o new fits h = at (seat_core w q) (seat_side w c q fits) refl h
   where
     went : (x : Outcome) (n : WorldView) → o ≡ x → new ≡ n
-        → SeatChanges (state_of w c) q (state_of n c) (ChooseRow w.terms q a x (seat (state_of w c) q))
+        → SeatChanges (protocol_state w c) q (protocol_state n c) (ChooseRow w.terms q a x (seat (protocol_state w c) q))
         → CoresMatch n c → StepsTo w c (events.Choose q a) o new
     went x n e f row fit =
         subst (λ (y : Outcome). StepsTo w c (events.Choose q a) y new) (sym e)

@@ -27,10 +27,10 @@ use Rattle.bg_world.specs.Roles.{role}
 use Rattle.bg_world.specs.Runs.{Run}
 use Rattle.bg_world.specs.SaveStep.{RefereeSaveStep, SaveStep, to_save_referee}
 use Rattle.bg_world.specs.Slots.{entries_in}
-use Rattle.bg_world.specs.State.{SeatState, State, seat, with_seat}
+use Rattle.bg_world.specs.State.{SeatState, ProtocolState, seat, with_seat}
 use Rattle.bg_world.specs.Step.{Step}
 use Rattle.bg_world.specs.TakeStep.{TakeStep}
-use Rattle.bg_world.specs.TickStep.{Sends, TickStep}
+use Rattle.bg_world.specs.TickStep.{SendsOnTick, TickStep}
 use Rattle.bg_world.specs.WorldRuns.{history_of}
 use Rattle.bg_world.specs.declared.events.Event.{Event}
 use Rattle.bg_world.specs.declared.events.Event.TheVariants as events
@@ -45,7 +45,7 @@ use Rattle.bg_world.proofs.Saving.{SlotsOk, after_torn}
 
 module _ (IsWord : ℕ → Type 0) where
   -- the dice of the referee's record are those of such words
-  abbrev Shows : State → Type 0
+  abbrev Shows : ProtocolState → Type 0
   Shows w = All (ShowsWord IsWord) w.referee.log
 
   fewer : (xs ys : List Entry) → IsPrefix xs ys → All (ShowsWord IsWord) ys → All (ShowsWord IsWord) xs
@@ -76,34 +76,34 @@ module _ (IsWord : ℕ → Type 0) where
 
   -- ---- the rows
 
-  at : (v u : State) → v ≡ u → Shows u → Shows v
+  at : (v u : ProtocolState) → v ≡ u → Shows u → Shows v
   at v u e h = subst Shows (sym e) h
 
-  if_up : (b : Bool) (w : State) (o : Outcome) (v : State) (P : Type 0) → Shows w → (P → Shows v)
+  if_up : (b : Bool) (w : ProtocolState) (o : Outcome) (v : ProtocolState) (P : Type 0) → Shows w → (P → Shows v)
       → IfUp b w o v P → Shows v
   if_up true w o v P s f h = f h
   if_up false w o v P s f h = at v w h.1 s
 
-  of_seat : (w : State) (q : Player) (v : State) (P : SeatState → Type 0) → Shows w → SeatChanges w q v P → Shows v
+  of_seat : (w : ProtocolState) (q : Player) (v : ProtocolState) (P : SeatState → Type 0) → Shows w → SeatChanges w q v P → Shows v
   of_seat w X v P s h = at v (with_seat w X h.0) h.2 s
   of_seat w O v P s h = at v (with_seat w O h.0) h.2 s
 
-  at_watcher : (w : State) (o : Outcome) (v : State) (old : Option (List Entry)) (P : List Entry → Type 0) → Shows w
+  at_watcher : (w : ProtocolState) (o : Outcome) (v : ProtocolState) (old : Option (List Entry)) (P : List Entry → Type 0) → Shows w
       → ((log : List Entry) → P log → Shows v) → MatchOption old (NoParty w o v) P → Shows v
   at_watcher w o v None P s f h = at v w h.1 s
   at_watcher w o v (Some log) P s f h = f log h
 
-  sends : (w v : State) (may : Datagram → Type 0) (most : ℕ) → Shows w → SendsAtMost may most w v → Shows v
+  sends : (w v : ProtocolState) (may : Datagram → Type 0) (most : ℕ) → Shows w → SendsAtMost may most w v → Shows v
   sends w v may most s h = at v _ h.after s
 
-  due : (w : State) (word : ℕ) (o : Outcome) (v : State) → IsWord word → Shows w → DueStep w word o v → Shows v
+  due : (w : ProtocolState) (word : ℕ) (o : Outcome) (v : ProtocolState) → IsWord word → Shows w → DueStep w word o v → Shows v
   due w word (outcomes.Due (Ok n)) v is s h =
       at v _ h.2 (All-push (ShowsWord IsWord) w.referee.log h.0 s
       (opening_shows w.terms w.referee.log word h.0 is h.1))
   due w word (outcomes.Due (Err f)) v is s h = at v w h.1 s
   due w word _ v is s h = absurd h
 
-  took : (w : State) (word : ℕ) (p : Packet) (t : TakeOutcome) (v : State) → IsWord word → Shows w
+  took : (w : ProtocolState) (word : ℕ) (p : Packet) (t : TakeOutcome) (v : ProtocolState) → IsWord word → Shows w
       → ReplyStep w word p t v → Shows v
   took w word p (takes.Accepted n) v is s h =
       at v _ h.2 (All-push (ShowsWord IsWord) w.referee.log h.0 s
@@ -112,7 +112,7 @@ module _ (IsWord : ℕ → Type 0) where
   took w word p takes.Memory v is s h = at v w h s
   took w word p _ v is s h = at v w h.1 s
 
-  take_at_referee : (w : State) (word : ℕ) (o : Outcome) (v : State) → IsWord word → Shows w
+  take_at_referee : (w : ProtocolState) (word : ℕ) (o : Outcome) (v : ProtocolState) → IsWord word → Shows w
       → RefereeTakeStep w word o v → Shows v
   take_at_referee w word (outcomes.Took t) v is s h = took w word h.0 t v is s h.2
   take_at_referee w word outcomes.NoDatagram v is s h = at v w h s
@@ -121,7 +121,7 @@ module _ (IsWord : ℕ → Type 0) where
   take_at_referee w word outcomes.Memory v is s h = sends w v _ 1 s h
   take_at_referee w word _ v is s h = absurd h
 
-  save_at_referee : (w : State) (o : Outcome) (v : State) → Inv w → Shows w → RefereeSaveStep w o v → Shows v
+  save_at_referee : (w : ProtocolState) (o : Outcome) (v : ProtocolState) → Inv w → Shows w → RefereeSaveStep w o v → Shows v
   save_at_referee w (outcomes.Saved k) v inv s h = at v _ h.1.3 s
   save_at_referee w outcomes.SaveFault v inv s h =
       at v (record w { referee = restored_referee h.0 h.1 false }) h.3
@@ -143,13 +143,13 @@ module _ (IsWord : ℕ → Type 0) where
   save_at_referee w outcomes.Memory v inv s h = at v w h s
   save_at_referee w _ v inv s h = absurd h
 
-  ticks : (w : State) (o : Outcome) (v : State) (may : Datagram → Type 0) → Shows w → Sends may w o v → Shows v
-  ticks w (outcomes.Sent n) v may s h = sends w v may 2 s h.0
-  ticks w outcomes.LinkFault v may s h = sends w v may 2 s h
-  ticks w outcomes.Memory v may s h = sends w v may 2 s h
-  ticks w _ v may s h = absurd h
+  ticks : (w : ProtocolState) (o : Outcome) (v : ProtocolState) (may : Datagram → Type 0) (most : ℕ) → Shows w → SendsOnTick may most w o v → Shows v
+  ticks w (outcomes.Sent n) v may most s h = sends w v may most s h.0
+  ticks w outcomes.LinkFault v may most s h = sends w v may most s h
+  ticks w outcomes.Memory v may most s h = sends w v may most s h
+  ticks w _ v may most s h = absurd h
 
-  restarts : (o : Outcome) (v : State) (after : Bool → State) → ((up : Bool) → Shows (after up))
+  restarts : (o : Outcome) (v : ProtocolState) (after : Bool → ProtocolState) → ((up : Bool) → Shows (after up))
       → RestartsTo o (λ up. v ≡ after up) → Shows v
   restarts outcomes.Restarted v after s h = at v (after true) h (s true)
   restarts (outcomes.RestoreFault cause) v after s h = at v (after false) h (s false)
@@ -158,24 +158,24 @@ module _ (IsWord : ℕ → Type 0) where
 
   -- ---- the steps
 
-  take_at : (w : State) (r : Role) (word : ℕ) (o : Outcome) (v : State) → IsWord word → Shows w
+  take_at : (w : ProtocolState) (r : Role) (word : ℕ) (o : Outcome) (v : ProtocolState) → IsWord word → Shows w
       → TakeStep w r word o v → Shows v
   take_at w AsReferee word o v is s h = if_up w.referee.up w o v _ s (take_at_referee w word o v is s) h
   take_at w (AsSeat q) word o v is s h = of_seat w q v _ s h
   take_at w (AsWatcher i) word o v is s h =
       at_watcher w o v (slice_get w.watchers i) _ s (λ log k. at v _ k.2 s) h
 
-  save_at : (w : State) (r : Role) (o : Outcome) (v : State) → Inv w → Shows w → SaveStep w r o v → Shows v
+  save_at : (w : ProtocolState) (r : Role) (o : Outcome) (v : ProtocolState) → Inv w → Shows w → SaveStep w r o v → Shows v
   save_at w AsReferee o v inv s h = if_up w.referee.up w o v _ s (save_at_referee w o v inv s) h
   save_at w (AsSeat q) o v inv s h = of_seat w q v _ s h
   save_at w (AsWatcher i) o v inv s h = at v w h.1 s
 
-  tick_at : (w : State) (r : Role) (o : Outcome) (v : State) → Shows w → TickStep w r o v → Shows v
-  tick_at w AsReferee o v s h = if_up w.referee.up w o v _ s (ticks w o v _ s) h
-  tick_at w (AsSeat q) o v s h = if_up (seat w q).up w o v _ s (ticks w o v _ s) h
-  tick_at w (AsWatcher i) o v s h = at_watcher w o v (slice_get w.watchers i) _ s (λ log k. ticks w o v _ s k) h
+  tick_at : (w : ProtocolState) (r : Role) (o : Outcome) (v : ProtocolState) → Shows w → TickStep w r o v → Shows v
+  tick_at w AsReferee o v s h = if_up w.referee.up w o v _ s (ticks w o v _ 2 s) h
+  tick_at w (AsSeat q) o v s h = if_up (seat w q).up w o v _ s (ticks w o v _ 1 s) h
+  tick_at w (AsWatcher i) o v s h = at_watcher w o v (slice_get w.watchers i) _ s (λ log k. ticks w o v _ 1 s k) h
 
-  restart_at : (w : State) (r : Role) (o : Outcome) (v : State) → Inv w → Shows w → RestartStep w r o v → Shows v
+  restart_at : (w : ProtocolState) (r : Role) (o : Outcome) (v : ProtocolState) → Inv w → Shows w → RestartStep w r o v → Shows v
   restart_at w AsReferee o v inv s h = restarts o v _ (λ up. restored) h
     where
       restored : All (ShowsWord IsWord) (entries_in w.referee.restorable)
@@ -186,7 +186,7 @@ module _ (IsWord : ℕ → Type 0) where
   restart_at w (AsWatcher i) o v inv s h =
       at_watcher w o v (slice_get w.watchers i) _ s (λ log k. at v _ k.1 s) h
 
-  step_shows : (w : State) (e : Event) (o : Outcome) (v : State) → Inv w
+  step_shows : (w : ProtocolState) (e : Event) (o : Outcome) (v : ProtocolState) → Inv w
       → ((word : ℕ) → IsWordOf e word → IsWord word) → Shows w → Step w e o v → Shows v
   step_shows w (events.Due word) o v inv is s h =
       if_up w.referee.up w o v _ s (due w word o v (is word refl) s) h
@@ -197,7 +197,7 @@ module _ (IsWord : ℕ → Type 0) where
   step_shows w (events.Restart party) o v inv is s h = restart_at w (role party) o v inv s h
 
   -- a run of events that hand in such words
-  pub run_shows : (w : State) (es : List Event) (os : List Outcome) (v : State) → Inv w
+  pub run_shows : (w : ProtocolState) (es : List Event) (os : List Outcome) (v : ProtocolState) → Inv w
       → ((word : ℕ) → HandsIn es word → IsWord word) → All (ShowsWord IsWord) w.referee.log
       → Run w (history_of es os) v → All (ShowsWord IsWord) v.referee.log
   run_shows w [] [] v inv is s h = at v w h s

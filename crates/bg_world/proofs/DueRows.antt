@@ -14,8 +14,8 @@ use Rattle.bg_referee.specs.Takes.{TellsSaved}
 use Rattle.bg_world.specs.declared.events.Event.TheVariants as events
 use Rattle.bg_world.specs.declared.events.Outcome.{Outcome}
 use Rattle.bg_world.specs.declared.events.Outcome.TheVariants as outcomes
-use Rattle.bg_world.specs.State.{State}
-use Rattle.bg_world.specs.WorldState.{CoresMatch, RefereeMatches, Restorable, referee_state, state_of}
+use Rattle.bg_world.specs.State.{ProtocolState}
+use Rattle.bg_world.specs.WorldState.{CoresMatch, RefereeMatches, Restorable, referee_state, protocol_state}
 use Rattle.bg_world.specs.DueStep.{DueStep, with_entry}
 use Rattle.bg_world.specs.Calls.{DueCalls}
 use Rattle.bg_world.specs.RefereeTakeStep.{IsOfSaved}
@@ -39,9 +39,9 @@ pub other_sessions : (id : ℕ) (terms : Terms) (found : Option SavedParts) (r r
 other_sessions id terms found r r' fits = record { log = fits.log; next = fits.next }
 
 -- the state with this list, and a referee that is up
-abbrev pub at_referee : WorldView → Restorable → List Datagram → RefereeView → State
+abbrev pub at_referee : WorldView → Restorable → List Datagram → RefereeView → ProtocolState
 at_referee w c sent r =
-    record (state_of w c) { sent = sent; referee = referee_state (Some r) w.referee_keeper.slots c.referee }
+    record (protocol_state w c) { sent = sent; referee = referee_state (Some r) w.referee_keeper.slots c.referee }
 
 pub same_state : (w : WorldView) (c : Restorable) (sent new : List Datagram) (r r' : RefereeView) → new ≡ sent → r' ≡ r
     → at_referee w c new r' ≡ at_referee w c sent r

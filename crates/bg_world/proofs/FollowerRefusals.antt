@@ -16,19 +16,19 @@ use Rattle.bg_party.specs.declared.outcomes.Learned.TheVariants as learned
 use Rattle.bg_world.specs.Datagrams.{WasSent}
 use Rattle.bg_world.specs.NotRefused.{IsNotRefusedByFollower}
 use Rattle.bg_world.specs.Refusals.{IsNoPacketRefused, IsSound}
-use Rattle.bg_world.specs.State.{State, log_of}
+use Rattle.bg_world.specs.State.{ProtocolState, log_of}
 use Rattle.bg_world.specs.WorldState.{IsLogOf}
 
 legal_take : (m : Terms) (n : ℕ) (entries : List Entry) → IsLegalRecord m entries → IsLegalRecord m (take n entries)
 legal_take m n entries h =
     legal_fronts m (take n entries) (drop n entries) (subst (IsLegalRecord m) (sym (take-append-drop n entries)) h)
 
-sound_id : (v : State) (p : Packet) → IsSound v p → id_of p ≡ v.id
+sound_id : (v : ProtocolState) (p : Packet) → IsSound v p → id_of p ≡ v.id
 sound_id v (packet.Want id sender held) h = h.0
 sound_id v (packet.Claim id sender n a) h = h.0
 sound_id v (packet.Entries id start list) h = h.0
 
-module _ (v : State) (refused : IsNoPacketRefused v) (party : ℕ) (f : FollowerView) (above : 0 < party)
+module _ (v : ProtocolState) (refused : IsNoPacketRefused v) (party : ℕ) (f : FollowerView) (above : 0 < party)
     (some : log_of v party ≡ Some f.log.entries)
     (of : IsLogOf v.id v.terms f.log) where
   pub not_refused : (p : Packet) (l : Learned) → WasSent v.sent party p → Learns f p l → IsNotRefusedByFollower l

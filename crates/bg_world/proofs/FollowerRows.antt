@@ -11,9 +11,9 @@ use Rattle.bg_party.specs.Views.{SeatView, WatcherView}
 use Rattle.bg_world.specs.declared.events.Outcome.{Outcome}
 use Rattle.bg_world.specs.declared.events.Outcome.TheVariants as outcomes
 use Rattle.bg_world.specs.declared.roles.Role.TheVariants as roles
-use Rattle.bg_world.specs.State.{SeatState, State}
+use Rattle.bg_world.specs.State.{SeatState, ProtocolState}
 use Rattle.bg_world.specs.WorldState.{AllKeepWhatWasShown, CoresMatch, Restorable, SeatSide, restorable_of, seat_state}
-use Rattle.bg_world.specs.WorldState.{state_of, watcher_log}
+use Rattle.bg_world.specs.WorldState.{protocol_state, watcher_entries}
 use Rattle.bg_world.specs.LinkCalls.{FollowerTakeCalls}
 use Rattle.bg_world.specs.FollowerTakeStep.{FollowerTakeStep}
 use Rattle.bg_world.specs.Calls.{NoCalls, SeatTakes, TakeCalls, WatcherTakes}
@@ -27,34 +27,34 @@ use Rattle.bg_world.proofs.LearnRows.{seat_takes, watcher_takes}
 -- ---- a seat
 
 -- the row of a seat's take, between its states
-abbrev SeatTakeRow : State → Player → Outcome → SeatState → SeatState → Type 0
+abbrev SeatTakeRow : ProtocolState → Player → Outcome → SeatState → SeatState → Type 0
 SeatTakeRow v q o old new =
     SeatIfUp old.up o old new ((log : List Entry) × FollowerTakeStep v.id v.terms v.sent (party_of q) o old.log log
     × (new ≡ record old { log = log }))
 
 -- the row of a seat's take, between worlds
 abbrev SeatTook : WorldView → Restorable → Player → ℕ → Outcome → WorldView → Type 0
-SeatTook w c q word x n = TakeStep (state_of w c) (roles.Seat q) word x (state_of n c) × CoresMatch n c
+SeatTook w c q word x n = TakeStep (protocol_state w c) (roles.Seat q) word x (protocol_state n c) × CoresMatch n c
 
 pub take_seat_goes : (w : WorldView) (c : Restorable) (honest : Type 0) → honest
     → (q : Player) (pick word : ℕ) (o : Outcome) (new : WorldView) → CoresMatch w c → AllKeepWhatWasShown w
     → TakeCalls honest w (roles.Seat q) (party_of q) pick word o new
-    → TakeStep (state_of w c) (roles.Seat q) word o (state_of new c) × CoresMatch new c
+    → TakeStep (protocol_state w c) (roles.Seat q) word o (protocol_state new c) × CoresMatch new c
 take_seat_goes w c honest is_honest q pick word o new fits kept h = at (seat_core w q) (seat_side w c q fits) refl h
   where
     moved : (x : Outcome) (n : LinkView) (s : Option SeatView) → n.sent ≡ w.link.sent
-        → SeatTakeRow (state_of w c) q x (seat_state (seat_core w q) (seat_keeper w q).slots (restorable_of c q))
+        → SeatTakeRow (protocol_state w c) q x (seat_state (seat_core w q) (seat_keeper w q).slots (restorable_of c q))
         (seat_state s (seat_keeper w q).slots (restorable_of c q))
         → SeatSide w.id w.terms q s (seat_keeper w q) (restorable_of c q)
         → SeatTook w c q word x (with_seat_core (record w { link = n }) q s)
-    moved x n s same row side = seat_moves w c q n s (SeatTakeRow (state_of w c) q x) fits same row side
+    moved x n s same row side = seat_moves w c q n s (SeatTakeRow (protocol_state w c) q x) fits same row side
 
     at : (s : Option SeatView) → SeatSide w.id w.terms q s (seat_keeper w q) (restorable_of c q) → seat_core w q ≡ s
         → MatchOption s (NoCalls outcomes.Down w o new)
         (λ s. (n : LinkView) × (s' : SeatView)
         × FollowerTakeCalls SeatTakes honest (party_of q) w.link s pick o n s'
         × (new ≡ with_seat_core (record w { link = n }) q (Some s')))
-        → TakeStep (state_of w c) (roles.Seat q) word o (state_of new c) × CoresMatch new c
+        → TakeStep (protocol_state w c) (roles.Seat q) word o (protocol_state new c) × CoresMatch new c
     at None side is k =
         subst (λ (x : Outcome). SeatTook w c q word x new) (sym k.0)
         (subst (SeatTook w c q word outcomes.Down) (same_seat q (seat_core w q) refl ∙ sym k.1)
@@ -65,7 +65,7 @@ take_seat_goes w c honest is_honest q pick word o new fits kept h = at (seat_cor
         same_seat O s e = ap (λ (x : Option SeatView). record w { o = x }) e
 
         down : (s : Option SeatView) → s ≡ None
-            → SeatTakeRow (state_of w c) q outcomes.Down (seat_state s (seat_keeper w q).slots (restorable_of c q))
+            → SeatTakeRow (protocol_state w c) q outcomes.Down (seat_state s (seat_keeper w q).slots (restorable_of c q))
             (seat_state s (seat_keeper w q).slots (restorable_of c q))
         down None e = (refl, refl)
         down (Some s) e = absurd cc
@@ -73,7 +73,7 @@ take_seat_goes w c honest is_honest q pick word o new fits kept h = at (seat_cor
         let t = seat_takes w.id w.terms honest is_honest (party_of q) pick w.link k.0 s o k.1 side.1.log
         (seat_keeps w q s kept is) k.2 in
         subst (SeatTook w c q word o) (sym k.3) (moved o k.0 (Some k.1) t.2
-        (subst (λ (x : Option SeatView). SeatTakeRow (state_of w c) q o
+        (subst (λ (x : Option SeatView). SeatTakeRow (protocol_state w c) q o
         (seat_state x (seat_keeper w q).slots (restorable_of c q))
         (seat_state (Some k.1) (seat_keeper w q).slots (restorable_of c q))) (sym is) (
           (k.1).follower.log.entries,
@@ -93,20 +93,20 @@ take_seat_goes w c honest is_honest q pick word o new fits kept h = at (seat_cor
 pub take_watcher_goes : (w : WorldView) (c : Restorable) (honest : Type 0) → honest
     → (i party pick word : ℕ) (o : Outcome) (new : WorldView) → party ≡ first_watcher + i → CoresMatch w c
     → AllKeepWhatWasShown w → TakeCalls honest w (roles.Watcher i) party pick word o new
-    → TakeStep (state_of w c) (roles.Watcher i) word o (state_of new c) × CoresMatch new c
+    → TakeStep (protocol_state w c) (roles.Watcher i) word o (protocol_state new c) × CoresMatch new c
 take_watcher_goes w c honest is_honest i party pick word o new is_party fits kept h = at (slice_get w.watchers i) refl h
   where
     at : (f : Option WatcherView) → slice_get w.watchers i ≡ f
         → MatchOption f (NoCalls outcomes.NoSuchParty w o new)
         (λ f. (n : LinkView) × (f' : WatcherView) × FollowerTakeCalls WatcherTakes honest party w.link f pick o n f'
         × (new ≡ record w { link = n; watchers = slice_set w.watchers i f' }))
-        → TakeStep (state_of w c) (roles.Watcher i) word o (state_of new c) × CoresMatch new c
+        → TakeStep (protocol_state w c) (roles.Watcher i) word o (protocol_state new c) × CoresMatch new c
     at None is k = (
-      subst (λ (x : Option (List Entry)). MatchOption x (NoParty (state_of w c) o (state_of new c))
+      subst (λ (x : Option (List Entry)). MatchOption x (NoParty (protocol_state w c) o (protocol_state new c))
           (λ old. (log : List Entry) × FollowerTakeStep w.id w.terms w.link.sent (first_watcher + i) o old log
-          × (state_of new c ≡ record (state_of w c) { watchers = slice_set (map watcher_log w.watchers) i log })))
-          (sym (get_log w.watchers i ∙ ap (option_map watcher_log) is))
-          (k.0, ap (λ (x : WorldView). state_of x c) k.1),
+          × (protocol_state new c ≡ record (protocol_state w c) { watchers = slice_set (map watcher_entries w.watchers) i log })))
+          (sym (get_log w.watchers i ∙ ap (option_map watcher_entries) is))
+          (k.0, ap (λ (x : WorldView). protocol_state x c) k.1),
       subst (λ (x : WorldView). CoresMatch x c) (sym k.1) fits,
     )
     at (Some f) is k =
@@ -115,15 +115,15 @@ take_watcher_goes w c honest is_honest i party pick word o new is_party fits kep
         (watcher_keeps w i party f kept is_party is) k.2 in
         let row = subst (λ (p : ℕ). FollowerTakeStep w.id w.terms w.link.sent p o f.follower.log.entries
         (k.1).follower.log.entries) is_party t.0.0 in
-        let after : state_of new c ≡ record
-        (state_of w c) { watchers = slice_set (map watcher_log w.watchers) i (k.1).follower.log.entries } =
-        ap (λ (x : WorldView). state_of x c) k.3
-        ∙ ap₂ (λ (l : List (List Entry)) (s : List Datagram). record (state_of w c) { watchers = l; sent = s })
+        let after : protocol_state new c ≡ record
+        (protocol_state w c) { watchers = slice_set (map watcher_entries w.watchers) i (k.1).follower.log.entries } =
+        ap (λ (x : WorldView). protocol_state x c) k.3
+        ∙ ap₂ (λ (l : List (List Entry)) (s : List Datagram). record (protocol_state w c) { watchers = l; sent = s })
         (set_log w.watchers i k.1) t.2 in (
-          subst (λ (x : Option (List Entry)). MatchOption x (NoParty (state_of w c) o (state_of new c))
+          subst (λ (x : Option (List Entry)). MatchOption x (NoParty (protocol_state w c) o (protocol_state new c))
               (λ old. (log : List Entry) × FollowerTakeStep w.id w.terms w.link.sent (first_watcher + i) o old log
-              × (state_of new c ≡ record (state_of w c) { watchers = slice_set (map watcher_log w.watchers) i log })))
-              (sym (get_log w.watchers i ∙ ap (option_map watcher_log) is))
+              × (protocol_state new c ≡ record (protocol_state w c) { watchers = slice_set (map watcher_entries w.watchers) i log })))
+              (sym (get_log w.watchers i ∙ ap (option_map watcher_entries) is))
               ((k.1).follower.log.entries, row, after),
           subst (λ (x : WorldView). CoresMatch x c) (sym k.3) (record {
             referee = fits.referee;

@@ -14,7 +14,7 @@ use Rattle.bg_world.specs.Runs.{Run}
 use Rattle.bg_world.specs.Step.{Step}
 use Rattle.bg_world.specs.Views.{WorldView}
 use Rattle.bg_world.specs.WorldRuns.{CallsAll, RunsAll, RunsCalls, RunsProtocol, StepsProtocol}
-use Rattle.bg_world.specs.WorldState.{AllKeepWhatWasShown, CoresMatch, IsReachedWorld, Restorable, state_of}
+use Rattle.bg_world.specs.WorldState.{AllKeepWhatWasShown, CoresMatch, IsReachedWorld, Restorable, protocol_state}
 use Rattle.bg_world.proofs.Invariant.{Inv}
 use Rattle.bg_world.proofs.Reached.{reached, reached_more}
 use Rattle.bg_world.proofs.DueRows.{due_goes}
@@ -33,15 +33,15 @@ watching i = omega arith
 
 module _ (w : WorldView) (c : Restorable) (link_honest keepers_honest : Type 0) (link : link_honest)
     (keepers : keepers_honest)
-    (fits : CoresMatch w c) (kept : AllKeepWhatWasShown w) (inv : Inv (state_of w c)) where
+    (fits : CoresMatch w c) (kept : AllKeepWhatWasShown w) (inv : Inv (protocol_state w c)) where
   -- what the slots restore stays
-  stays : (e : Event) (o : Outcome) (new : WorldView) → Step (state_of w c) e o (state_of new c) × CoresMatch new c
+  stays : (e : Event) (o : Outcome) (new : WorldView) → Step (protocol_state w c) e o (protocol_state new c) × CoresMatch new c
       → StepsTo w c e o new
   stays e o new h = record { restorable = c; step = h.0; cores = h.1 }
 
   -- the slots restore this then
   leaves : (e : Event) (o : Outcome) (new : WorldView)
-      → (d : Restorable) × Step (state_of w c) e o (state_of new d) × CoresMatch new d → StepsTo w c e o new
+      → (d : Restorable) × Step (protocol_state w c) e o (protocol_state new d) × CoresMatch new d → StepsTo w c e o new
   leaves e o new h = record { restorable = h.0; step = h.1; cores = h.2 }
 
   take_goes : (party pick word : ℕ) (o : Outcome) (new : WorldView)
@@ -102,13 +102,13 @@ pub goes : (link_honest keepers_honest : Type 0) (old : WorldView) (event : Even
     → Calls link_honest keepers_honest old event result new → link_honest → keepers_honest
     → StepsProtocol old event result new
 goes link_honest keepers_honest old event result new calls link keepers before =
-    let w = state_of old before.restorable in
+    let w = protocol_state old before.restorable in
     let to = step_goes old before.restorable link_honest keepers_honest link keepers before.cores before.early
     (reached w before.reached) event result new calls in
-    let grows = step_grows w event result (state_of new to.restorable) to.step in (
+    let grows = step_grows w event result (protocol_state new to.restorable) to.step in (
       record {
         restorable = to.restorable;
-        reached = reached_more w event result (state_of new to.restorable) before.reached to.step;
+        reached = reached_more w event result (protocol_state new to.restorable) before.reached to.step;
         cores = to.cores;
         early = still_keep old before.restorable link_honest keepers_honest link before.cores before.early new grows.0
             grows.1 event result calls;
@@ -123,13 +123,13 @@ pub runs_protocol : (link_honest keepers_honest : Type 0) (old : WorldView) (eve
     → RunsProtocol old events outcomes new
 runs_protocol link_honest keepers_honest old [] [] new calls link keepers before =
     subst (λ (w : WorldView). (after : IsReachedWorld w)
-    × Run (state_of old before.restorable) [] (state_of w after.restorable)) (sym calls) (before, refl)
+    × Run (protocol_state old before.restorable) [] (protocol_state w after.restorable)) (sym calls) (before, refl)
 runs_protocol link_honest keepers_honest old [] (o ∷ os) new calls link keepers before = absurd calls
 runs_protocol link_honest keepers_honest old (e ∷ es) [] new calls link keepers before = absurd calls
 runs_protocol link_honest keepers_honest old (e ∷ es) (o ∷ os) new calls link keepers before =
     let first = goes link_honest keepers_honest old e o calls.0 calls.1 link keepers before in
     let rest = runs_protocol link_honest keepers_honest calls.0 es os new calls.2 link keepers first.0 in
-    (rest.0, (state_of calls.0 (first.0).restorable, first.1, rest.1))
+    (rest.0, (protocol_state calls.0 (first.0).restorable, first.1, rest.1))
 
 -- the same of the calls that a report counts
 pub runs_all : (link_honest keepers_honest : Type 0) (old : WorldView) (events : List Event) (report : RunReport)

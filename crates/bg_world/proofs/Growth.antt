@@ -22,55 +22,55 @@ use Rattle.bg_world.specs.RefereeTakeStep.{ReplyStep, RefereeTakeStep}
 use Rattle.bg_world.specs.RestartStep.{RestartsTo, RestartStep}
 use Rattle.bg_world.specs.Roles.{role}
 use Rattle.bg_world.specs.SaveStep.{RefereeSaveStep, SaveStep}
-use Rattle.bg_world.specs.State.{State, SeatState, seat, with_seat}
+use Rattle.bg_world.specs.State.{ProtocolState, SeatState, seat, with_seat}
 use Rattle.bg_world.specs.Step.{Step}
-use Rattle.bg_world.specs.TickStep.{Sends, TickStep}
+use Rattle.bg_world.specs.TickStep.{SendsOnTick, TickStep}
 use Rattle.bg_world.proofs.Invariant.{WasSent-more}
 use Rattle.bg_world.specs.DueStep.{DueStep}
 use Rattle.bg_world.specs.TakeStep.{TakeStep}
 
-abbrev Grown : State → State → Type 0
+abbrev Grown : ProtocolState → ProtocolState → Type 0
 Grown w v = (out : List Datagram) × (v.sent ≡ w.sent ++ out)
 
-same : (w v : State) → v.sent ≡ w.sent → Grown w v
+same : (w v : ProtocolState) → v.sent ≡ w.sent → Grown w v
 same w v e = ([], e ∙ sym (append-nil w.sent))
 
-stays : (w v : State) → v ≡ w → Grown w v
-stays w v e = same w v (ap (λ (x : State). x.sent) e)
+stays : (w v : ProtocolState) → v ≡ w → Grown w v
+stays w v e = same w v (ap (λ (x : ProtocolState). x.sent) e)
 
-at : (w v u : State) → v ≡ u → u.sent ≡ w.sent → Grown w v
-at w v u e f = same w v (ap (λ (x : State). x.sent) e ∙ f)
+at : (w v u : ProtocolState) → v ≡ u → u.sent ≡ w.sent → Grown w v
+at w v u e f = same w v (ap (λ (x : ProtocolState). x.sent) e ∙ f)
 
-if_up : (b : Bool) (w : State) (o : Outcome) (v : State) (P : Type 0) → (P → Grown w v) → IfUp b w o v P → Grown w v
+if_up : (b : Bool) (w : ProtocolState) (o : Outcome) (v : ProtocolState) (P : Type 0) → (P → Grown w v) → IfUp b w o v P → Grown w v
 if_up true w o v P f h = f h
 if_up false w o v P f h = stays w v h.1
 
-seat_sent : (w : State) (q : Player) (f : SeatState) → (with_seat w q f).sent ≡ w.sent
+seat_sent : (w : ProtocolState) (q : Player) (f : SeatState) → (with_seat w q f).sent ≡ w.sent
 seat_sent w X f = refl
 seat_sent w O f = refl
 
-of_seat_grows : (w : State) (q : Player) (v : State) (P : SeatState → Type 0) → SeatChanges w q v P → Grown w v
+of_seat_grows : (w : ProtocolState) (q : Player) (v : ProtocolState) (P : SeatState → Type 0) → SeatChanges w q v P → Grown w v
 of_seat_grows w q v P h = at w v (with_seat w q h.0) h.2 (seat_sent w q h.0)
 
-at_watcher : (w : State) (o : Outcome) (v : State) (old : Option (List Entry)) (P : List Entry → Type 0) → ((log : List Entry) → P log → Grown w v) → MatchOption old (NoParty w o v) P → Grown w v
+at_watcher : (w : ProtocolState) (o : Outcome) (v : ProtocolState) (old : Option (List Entry)) (P : List Entry → Type 0) → ((log : List Entry) → P log → Grown w v) → MatchOption old (NoParty w o v) P → Grown w v
 at_watcher w o v None P f h = stays w v h.1
 at_watcher w o v (Some log) P f h = f log h
 
-sends : (w v : State) (may : Datagram → Type 0) (most : ℕ) → SendsAtMost may most w v → Grown w v
-sends w v may most h = (h.out, ap (λ (x : State). x.sent) h.after)
+sends : (w v : ProtocolState) (may : Datagram → Type 0) (most : ℕ) → SendsAtMost may most w v → Grown w v
+sends w v may most h = (h.out, ap (λ (x : ProtocolState). x.sent) h.after)
 
-due : (w : State) (word : ℕ) (o : Outcome) (v : State) → DueStep w word o v → Grown w v
+due : (w : ProtocolState) (word : ℕ) (o : Outcome) (v : ProtocolState) → DueStep w word o v → Grown w v
 due w word (outcomes.Due (Ok n)) v h = at w v _ h.2 refl
 due w word (outcomes.Due (Err f)) v h = stays w v h.1
 due w word _ v h = absurd h
 
-took : (w : State) (word : ℕ) (p : Packet) (t : TakeOutcome) (v : State) → ReplyStep w word p t v → Grown w v
+took : (w : ProtocolState) (word : ℕ) (p : Packet) (t : TakeOutcome) (v : ProtocolState) → ReplyStep w word p t v → Grown w v
 took w word p (takes.Accepted n) v h = at w v _ h.2 refl
-took w word p (takes.Answer to answer) v h = (h.2.0 ∷ [], ap (λ (x : State). x.sent) h.2.2)
+took w word p (takes.Answer to answer) v h = (h.2.0 ∷ [], ap (λ (x : ProtocolState). x.sent) h.2.2)
 took w word p takes.Memory v h = stays w v h
 took w word p _ v h = stays w v h.1
 
-take_at_referee : (w : State) (word : ℕ) (o : Outcome) (v : State) → RefereeTakeStep w word o v → Grown w v
+take_at_referee : (w : ProtocolState) (word : ℕ) (o : Outcome) (v : ProtocolState) → RefereeTakeStep w word o v → Grown w v
 take_at_referee w word (outcomes.Took t) v h = took w word h.0 t v h.2
 take_at_referee w word outcomes.NoDatagram v h = stays w v h
 take_at_referee w word (outcomes.NotAPacket why) v h = stays w v h
@@ -78,46 +78,46 @@ take_at_referee w word outcomes.LinkFault v h = sends w v _ 1 h
 take_at_referee w word outcomes.Memory v h = sends w v _ 1 h
 take_at_referee w word _ v h = absurd h
 
-save_at_referee : (w : State) (o : Outcome) (v : State) → RefereeSaveStep w o v → Grown w v
+save_at_referee : (w : ProtocolState) (o : Outcome) (v : ProtocolState) → RefereeSaveStep w o v → Grown w v
 save_at_referee w (outcomes.Saved k) v h = at w v _ h.1.3 refl
 save_at_referee w outcomes.SaveFault v h = at w v _ h.3 refl
 save_at_referee w outcomes.SavesSpent v h = stays w v h
 save_at_referee w outcomes.Memory v h = stays w v h
 save_at_referee w _ v h = absurd h
 
-ticks : (w : State) (o : Outcome) (v : State) (may : Datagram → Type 0) → Sends may w o v → Grown w v
-ticks w (outcomes.Sent n) v may h = sends w v may 2 h.0
-ticks w outcomes.LinkFault v may h = sends w v may 2 h
-ticks w outcomes.Memory v may h = sends w v may 2 h
-ticks w _ v may h = absurd h
+ticks : (w : ProtocolState) (o : Outcome) (v : ProtocolState) (may : Datagram → Type 0) (most : ℕ) → SendsOnTick may most w o v → Grown w v
+ticks w (outcomes.Sent n) v may most h = sends w v may most h.0
+ticks w outcomes.LinkFault v may most h = sends w v may most h
+ticks w outcomes.Memory v may most h = sends w v may most h
+ticks w _ v may most h = absurd h
 
-restarts : (o : Outcome) (w v : State) (after : Bool → State) → ((up : Bool) → (after up).sent ≡ w.sent) → RestartsTo o (λ up. v ≡ after up) → Grown w v
+restarts : (o : Outcome) (w v : ProtocolState) (after : Bool → ProtocolState) → ((up : Bool) → (after up).sent ≡ w.sent) → RestartsTo o (λ up. v ≡ after up) → Grown w v
 restarts outcomes.Restarted w v after e h = at w v (after true) h (e true)
 restarts (outcomes.RestoreFault cause) w v after e h = at w v (after false) h (e false)
 restarts outcomes.Memory w v after e h = at w v (after false) h (e false)
 restarts _ w v after e h = absurd h
 
-take_at : (w : State) (r : Role) (word : ℕ) (o : Outcome) (v : State) → TakeStep w r word o v → Grown w v
+take_at : (w : ProtocolState) (r : Role) (word : ℕ) (o : Outcome) (v : ProtocolState) → TakeStep w r word o v → Grown w v
 take_at w AsReferee word o v h = if_up w.referee.up w o v _ (take_at_referee w word o v) h
 take_at w (AsSeat q) word o v h = of_seat_grows w q v _ h
 take_at w (AsWatcher i) word o v h = at_watcher w o v (slice_get w.watchers i) _ (λ log k. at w v _ k.2 refl) h
 
-save_at : (w : State) (r : Role) (o : Outcome) (v : State) → SaveStep w r o v → Grown w v
+save_at : (w : ProtocolState) (r : Role) (o : Outcome) (v : ProtocolState) → SaveStep w r o v → Grown w v
 save_at w AsReferee o v h = if_up w.referee.up w o v _ (save_at_referee w o v) h
 save_at w (AsSeat q) o v h = of_seat_grows w q v _ h
 save_at w (AsWatcher i) o v h = stays w v h.1
 
-tick_at : (w : State) (r : Role) (o : Outcome) (v : State) → TickStep w r o v → Grown w v
-tick_at w AsReferee o v h = if_up w.referee.up w o v _ (ticks w o v _) h
-tick_at w (AsSeat q) o v h = if_up (seat w q).up w o v _ (ticks w o v _) h
-tick_at w (AsWatcher i) o v h = at_watcher w o v (slice_get w.watchers i) _ (λ log k. ticks w o v _ k) h
+tick_at : (w : ProtocolState) (r : Role) (o : Outcome) (v : ProtocolState) → TickStep w r o v → Grown w v
+tick_at w AsReferee o v h = if_up w.referee.up w o v _ (ticks w o v _ 2) h
+tick_at w (AsSeat q) o v h = if_up (seat w q).up w o v _ (ticks w o v _ 1) h
+tick_at w (AsWatcher i) o v h = at_watcher w o v (slice_get w.watchers i) _ (λ log k. ticks w o v _ 1 k) h
 
-restart_at : (w : State) (r : Role) (o : Outcome) (v : State) → RestartStep w r o v → Grown w v
+restart_at : (w : ProtocolState) (r : Role) (o : Outcome) (v : ProtocolState) → RestartStep w r o v → Grown w v
 restart_at w AsReferee o v h = restarts o w v _ (λ up. refl) h
 restart_at w (AsSeat q) o v h = of_seat_grows w q v _ h
 restart_at w (AsWatcher i) o v h = at_watcher w o v (slice_get w.watchers i) _ (λ log k. at w v _ k.1 refl) h
 
-pub step_grows : (w : State) (e : Event) (o : Outcome) (v : State) → Step w e o v → Grown w v
+pub step_grows : (w : ProtocolState) (e : Event) (o : Outcome) (v : ProtocolState) → Step w e o v → Grown w v
 step_grows w (events.Due word) o v h = if_up w.referee.up w o v _ (due w word o v) h
 step_grows w (events.Take party pick word) o v h = take_at w (role party) word o v h
 step_grows w (events.Choose q a) o v h = of_seat_grows w q v _ h

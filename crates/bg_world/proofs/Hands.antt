@@ -12,7 +12,7 @@ use Rattle.bg_world.specs.declared.devices.DeviceFault.{DeviceFault}
 use Rattle.bg_world.specs.declared.devices.DeviceFault.TheVariants as faults
 use Rattle.bg_world.specs.declared.events.Outcome.{Outcome}
 use Rattle.bg_world.specs.declared.events.Outcome.TheVariants as outcomes
-use Rattle.bg_world.specs.State.{State}
+use Rattle.bg_world.specs.State.{ProtocolState}
 use Rattle.bg_world.specs.Datagrams.{Carries}
 use Rattle.bg_world.specs.Frames.{SendsAtMost}
 use Rattle.bg_world.specs.DeviceCalls.{IsHand, datagram_of}
@@ -37,7 +37,7 @@ pub carries : (to : ℕ) (p : Packet) → IsPacket p → Carries (datagram_of to
 carries to p fits = (refl, record { in_range = fits; spelled = refl })
 
 -- the list is as it was
-pub grows_none : (may : Datagram → Type 0) (most : ℕ) (w v : State) → v ≡ w → SendsAtMost may most w v
+pub grows_none : (may : Datagram → Type 0) (most : ℕ) (w v : ProtocolState) → v ≡ w → SendsAtMost may most w v
 grows_none may most w v e = record {
   out = [];
   few = omega arith;
@@ -45,7 +45,7 @@ grows_none may most w v e = record {
   after = e ∙ ap (λ (l : List Datagram). record w { sent = l }) (sym (append-nil w.sent));
 }
 
-pub grows_one : (may : Datagram → Type 0) (most : ℕ) (w v : State) (d : Datagram) → 1 ≤ most → may d
+pub grows_one : (may : Datagram → Type 0) (most : ℕ) (w v : ProtocolState) (d : Datagram) → 1 ≤ most → may d
     → v ≡ record w { sent = w.sent ++ d ∷ [] } → SendsAtMost may most w v
 grows_one may most w v d one h e = record {
   out = d ∷ [];

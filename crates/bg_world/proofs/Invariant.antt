@@ -24,7 +24,7 @@ use Rattle.bg_world.specs.Claims.{AreClaimsKept}
 use Rattle.bg_world.specs.Datagrams.{WasSent, Carries, Claimed}
 use Rattle.bg_world.specs.Refusals.{IsLegalClaim, IsSound}
 use Rattle.bg_world.specs.Slots.{entries_in, claim_in}
-use Rattle.bg_world.specs.State.{State, RefereeState, SeatState, IsSetup, seat, with_seat, saved_log, start}
+use Rattle.bg_world.specs.State.{ProtocolState, RefereeState, SeatState, IsSetup, seat, with_seat, saved_log, start}
 use Rattle.bg_world.proofs.Lists.{prefix_trans, prefix_length, prefix_front, prefix_run, get_set}
 use Rattle.bg_world.proofs.Saving.{SlotsOk}
 
@@ -62,7 +62,7 @@ pub record RefereeOk (id : ℕ) (terms : Terms) (sent : List Datagram) (r : Refe
   pub slots : SlotsOk id terms 0 r.slots r.restorable
   pub answered : Answered terms sent r.log
 
-pub record Inv (w : State) : Type 0 where
+pub record Inv (w : ProtocolState) : Type 0 where
   pub setup : IsSetup w.id w.terms (length w.watchers)
   pub referee : RefereeOk w.id w.terms w.sent w.referee
   pub x : SeatOk w.id w.terms w.sent (saved_log w) X w.x
@@ -70,7 +70,7 @@ pub record Inv (w : State) : Type 0 where
   pub watchers : (i : ℕ) (log : List Entry) → slice_get w.watchers i ≡ Some log → IsPrefix log (saved_log w)
   pub datagrams : (to : ℕ) (p : Packet) → WasSent w.sent to p → IsSound w p
 
-pub of_seat : (w : State) (q : Player) → Inv w → SeatOk w.id w.terms w.sent (saved_log w) q (seat w q)
+pub of_seat : (w : ProtocolState) (q : Player) → Inv w → SeatOk w.id w.terms w.sent (saved_log w) q (seat w q)
 of_seat w X inv = inv.x
 of_seat w O inv = inv.o
 
@@ -107,7 +107,7 @@ SeatOk-more id terms sent S T q f p h = record {
 }
 
 -- a step of the referee that sends nothing
-pub referee_steps : (w : State) (r : RefereeState) → Inv w → RefereeOk w.id w.terms w.sent r → IsPrefix (saved_log w) (take r.saved r.log) → Inv (record w { referee = r })
+pub referee_steps : (w : ProtocolState) (r : RefereeState) → Inv w → RefereeOk w.id w.terms w.sent r → IsPrefix (saved_log w) (take r.saved r.log) → Inv (record w { referee = r })
 referee_steps w r inv ok p = record {
   setup = inv.setup;
   referee = ok;
@@ -127,7 +127,7 @@ referee_steps w r inv ok p = record {
     sound (packet.Entries id start list) h = (h.0, prefix_run (saved_log w) (take r.saved r.log) start list p h.1)
 
 -- a step of a seat that sends nothing
-pub seat_steps : (w : State) (q : Player) (f : SeatState) → Inv w → SeatOk w.id w.terms w.sent (saved_log w) q f → Inv (with_seat w q f)
+pub seat_steps : (w : ProtocolState) (q : Player) (f : SeatState) → Inv w → SeatOk w.id w.terms w.sent (saved_log w) q f → Inv (with_seat w q f)
 seat_steps w X f inv ok = record { setup = inv.setup; referee = inv.referee; x = ok; o = inv.o; watchers = inv.watchers; datagrams = λ to packet h. sound packet (inv.datagrams to packet h) }
   where
     sound : (p : Packet) → IsSound w p → IsSound (record w { x = f }) p
@@ -142,7 +142,7 @@ seat_steps w O f inv ok = record { setup = inv.setup; referee = inv.referee; x =
     sound (packet.Entries id start list) h = h
 
 -- a step of a watcher that sends nothing
-pub watcher_steps : (w : State) (i : ℕ) (log : List Entry) → Inv w → IsPrefix log (saved_log w) → Inv (record w { watchers = slice_set w.watchers i log })
+pub watcher_steps : (w : ProtocolState) (i : ℕ) (log : List Entry) → Inv w → IsPrefix log (saved_log w) → Inv (record w { watchers = slice_set w.watchers i log })
 watcher_steps w i log inv p = record {
   setup = subst (λ (n : ℕ). IsSetup w.id w.terms n) (sym (length-set w.watchers i log)) inv.setup;
   referee = inv.referee;
@@ -162,15 +162,15 @@ watcher_steps w i log inv p = record {
     at_write j l (inr e) = inv.watchers j l e
 
 -- what may be sent: what is sound, and of claims what the seat's slots restore
-abbrev pub IsKeptClaim : State → Packet → Type 0
+abbrev pub IsKeptClaim : ProtocolState → Packet → Type 0
 IsKeptClaim w (packet.Claim id sender n a) = (q : Player) → sender ≡ party_of q → claim_in (seat w q).restorable ≡ Some (n, a)
 IsKeptClaim w _ = Unit {0}
 
-abbrev pub MaySend : State → Datagram → Type 0
+abbrev pub MaySend : ProtocolState → Datagram → Type 0
 MaySend w d = (p : Packet) × IsText p d.bytes × IsSound w p × IsKeptClaim w p
 
 -- a packet of a datagram that may be sent
-may_send : (w : State) (d : Datagram) (to : ℕ) (p : Packet) → MaySend w d → Carries d to p → IsSound w p × IsKeptClaim w p
+may_send : (w : ProtocolState) (d : Datagram) (to : ℕ) (p : Packet) → MaySend w d → Carries d to p → IsSound w p × IsKeptClaim w p
 may_send w d to p m c =
     let same = one_packet m.0 p d.bytes m.1 c.1 in
     subst (λ (x : Packet). IsSound w x × IsKeptClaim w x) same (m.2, m.3)
@@ -229,7 +229,7 @@ SeatOk-sends id terms sent out S q f new h = record {
 }
 
 -- a step that sends what may be sent
-pub sends : (w : State) (out : List Datagram) → Inv w → All (MaySend w) out → Inv (record w { sent = w.sent ++ out })
+pub sends : (w : ProtocolState) (out : List Datagram) → Inv w → All (MaySend w) out → Inv (record w { sent = w.sent ++ out })
 sends w out inv may = record {
   setup = inv.setup;
   referee = record {

@@ -29,7 +29,7 @@ use Rattle.bg_world.specs.Roles.{role}
 use Rattle.bg_world.specs.State.{log_of}
 use Rattle.bg_world.specs.Views.{LinkView, WorldView, parties, seat_core, seat_keeper, with_seat_core}
 use Rattle.bg_world.specs.WorldRuns.{CallsAll}
-use Rattle.bg_world.specs.WorldState.{CoresMatch, IsLogOf, IsReachedWorld, RefereeMatches, Restorable, SeatSide, referee_state, restorable_of, seat_state, state_of, watcher_log}
+use Rattle.bg_world.specs.WorldState.{CoresMatch, IsLogOf, IsReachedWorld, RefereeMatches, Restorable, SeatSide, referee_state, restorable_of, seat_state, protocol_state, watcher_entries}
 use Rattle.bg_world.proofs.Invariant.{Inv}
 use Rattle.bg_world.proofs.Reached.{reached, no_packet_refused}
 use Rattle.bg_world.proofs.Hands.{empty_hand}
@@ -43,13 +43,13 @@ use Rattle.bg_world.proofs.Goes.{goes}
 
 module _ (w : WorldView) (c : Restorable) (link_honest keepers_honest : Type 0) (link : link_honest)
     (keepers : keepers_honest)
-    (fits : CoresMatch w c) (inv : Inv (state_of w c)) where
+    (fits : CoresMatch w c) (inv : Inv (protocol_state w c)) where
   -- what a core that follows makes of what is in hand
   hand_all : {C : Type 0} (CoreTakes : C → Packet → Learned → C → Type 0) (follower : C → FollowerView)
       → ((s : C) (p : Packet) (l : Learned) (s' : C) → CoreTakes s p l s' → FollowerTakes (follower s) p l
       (follower s'))
       → (party pick : ℕ) (n : LinkView) (s s' : C) (o : Outcome) → 0 < party
-      → log_of (state_of w c) party ≡ Some (follower s).log.entries
+      → log_of (protocol_state w c) party ≡ Some (follower s).log.entries
       → IsLogOf w.id w.terms (follower s).log → FollowerTakeCalls CoreTakes link_honest party w.link s pick o n s'
       → IsNotRefused o
   hand_all {C} CoreTakes follower follows party pick n s s' o above some of h = at h.0 h.1 h.2
@@ -59,7 +59,7 @@ module _ (w : WorldView) (c : Restorable) (link_honest keepers_honest : Type 0) 
       at (Err x) receives k = named o x k.0 (no_hand x (empty_hand n.taken x receives.is_hand))
       at (Ok p) receives k =
           let t = follows s p k.0 s' k.1 in
-          let fine = at_follower.not_refused (state_of w c) (no_packet_refused (state_of w c) inv) party
+          let fine = at_follower.not_refused (protocol_state w c) (no_packet_refused (protocol_state w c) inv) party
           (follower s) above some of p k.0 (receives.was_sent link) t.learns in
           named o (outcomes.Learned k.0) k.2 fine
 
@@ -72,7 +72,7 @@ module _ (w : WorldView) (c : Restorable) (link_honest keepers_honest : Type 0) 
       number O = omega arith
 
       log : (p : Player) (s : SeatView) → seat_core w p ≡ Some s
-          → log_of (state_of w c) (party_of p) ≡ Some s.follower.log.entries
+          → log_of (protocol_state w c) (party_of p) ≡ Some s.follower.log.entries
       log X s e = ap (λ (x : Option SeatView). Some (seat_state x w.x_keeper.slots c.x).log) e
       log O s e = ap (λ (x : Option SeatView). Some (seat_state x w.o_keeper.slots c.o).log) e
 
@@ -102,7 +102,7 @@ module _ (w : WorldView) (c : Restorable) (link_honest keepers_honest : Type 0) 
       at (Some f) is k =
           hand_all WatcherTakes (λ x. x.follower) (λ x p l y t. t.takes) (suc (suc (suc i))) pick k.0 f k.1 o
           (omega arith)
-          (get_log w.watchers i ∙ ap (option_map watcher_log) is) (fits.watchers i f is).log k.2
+          (get_log w.watchers i ∙ ap (option_map watcher_entries) is) (fits.watchers i f is).log k.2
 
   take_all : (party pick word : ℕ) (o : Outcome) (new : WorldView)
       → TakeCalls link_honest w (role party) party pick word o new → IsNotRefused o
@@ -129,8 +129,8 @@ module _ (w : WorldView) (c : Restorable) (link_honest keepers_honest : Type 0) 
           in_hand (Err x) mid receives m = named o x m.0 (no_hand x (empty_hand mid.taken x receives.is_hand))
           in_hand (Ok p) mid receives m =
               let t = m.1 in
-              let fine = at_referee.not_refused (state_of w c)
-              (no_packet_refused (state_of w c) inv) r (with_sessions_of r k.1) fit.log entries saved word p m.0
+              let fine = at_referee.not_refused (protocol_state w c)
+              (no_packet_refused (protocol_state w c) inv) r (with_sessions_of r k.1) fit.log entries saved word p m.0
               (receives.was_sent link) t.takes in
               answers_all link_honest (parties w) mid k.0 m.0 o fine m.2
   take_all (suc zero) pick word o new h = seat_take X pick word o new h
@@ -236,7 +236,7 @@ pub never_refused : (link_honest keepers_honest : Type 0) (old : WorldView) (eve
     → IsNotRefused result
 never_refused link_honest keepers_honest old event result new calls link keepers before =
     event_all old before.restorable link_honest keepers_honest link keepers before.cores
-    (reached (state_of old before.restorable) before.reached) event result new calls
+    (reached (protocol_state old before.restorable) before.reached) event result new calls
 
 -- nor does any event of a run from there
 pub none_refused : (link_honest keepers_honest : Type 0) (old : WorldView) (events : List Event)

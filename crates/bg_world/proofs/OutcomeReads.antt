@@ -21,7 +21,7 @@ use Rattle.bg_referee.specs.declared.outcomes.TakeOutcome.TheVariants as take
 use Rattle.bg_party.specs.declared.outcomes.ChooseFault.{ChooseFault}
 use Rattle.bg_party.specs.declared.outcomes.ChooseFault.TheVariants as choose_fault
 use Rattle.bg_party.specs.declared.outcomes.Learned.TheVariants as learn
-use Rattle.bg_world.specs.OutcomeText.{HasChooseNumber, HasFaultNumber, HasNumbers, HasReasonNumber, IsNumber, choose_reason, outcome_text}
+use Rattle.bg_world.specs.OutcomeText.{HasChooseNumber, HasFaultNumber, HasNumbers, HasReasonNumber, FitsIn64Bits, choose_reason, outcome_text}
 use Rattle.bg_world.specs.declared.events.Outcome.{Outcome}
 use Rattle.bg_world.specs.declared.events.Outcome.TheVariants as outcome
 use Rattle.bg_world.specs.declared.events.RestoreCause.{RestoreCause}
@@ -43,7 +43,7 @@ begins letters text = five text == five letters
 abbrev number_behind : ℕ → List ℕ → ℕ
 number_behind letters text = digits_value 10 (drop letters text)
 
-pub number_read : (n : ℕ) → IsNumber n → digits_value 10 (decimal n) ≡ n
+pub number_read : (n : ℕ) → FitsIn64Bits n → digits_value 10 (decimal n) ≡ n
 number_read n low = digits_value-decimal own n (omega (arith, low))
 
 -- ---- reasons
@@ -74,7 +74,7 @@ read_reason text =
     else if get_or text 11 0 == 110 then entry_fault.NoDouble no_double.NotOwner
     else entry_fault.NoDouble no_double.AtCap)
 
-number_first : (n : ℕ) (rest : List ℕ) → IsNumber n → first_word (decimal n ++ 32 ∷ rest) ≡ decimal n
+number_first : (n : ℕ) (rest : List ℕ) → FitsIn64Bits n → first_word (decimal n ++ 32 ∷ rest) ≡ decimal n
 number_first n rest low =
     ap first_of (first_piece 32 (decimal n ++ 32 ∷ rest) (decimal n) rest (decimal_lacks 32 n refl low) refl)
 

@@ -9,7 +9,7 @@ use Rattle.bg_wire.specs.declared.packets.Packet.{Packet}
 use Rattle.bg_referee.specs.declared.outcomes.DueFault.TheVariants as due_fault
 use Rattle.bg_referee.specs.declared.outcomes.TakeOutcome.TheVariants as take
 use Rattle.bg_party.specs.declared.outcomes.Learned.TheVariants as learn
-use Rattle.bg_world.specs.OutcomeText.{AreAnswersAlike, HasNumbers, IsNothing, IsNumber, IsOtherMatch, OutcomeTextsDiffer, ShareLine, entries_told, outcome_text, told_part}
+use Rattle.bg_world.specs.OutcomeText.{AreAnswersAlike, HasNumbers, IsNothing, FitsIn64Bits, IsOtherMatch, OutcomeTextsDiffer, ShareLine, entries_told, outcome_text, told_part}
 use Rattle.bg_world.specs.WorldRuns.{is_memory}
 use Rattle.bg_world.specs.declared.events.Outcome.{Outcome}
 use Rattle.bg_world.specs.declared.events.Outcome.TheVariants as outcome
@@ -33,7 +33,7 @@ cut_at c a b rest other ha hb e =
     )
 
 abbrev HasRange : Option (ℕ × ℕ) → Type 0
-HasRange told = IfSome told (λ range. IsNumber range.0 × IsNumber range.1)
+HasRange told = IfSome told (λ range. FitsIn64Bits range.0 × FitsIn64Bits range.1)
 
 same_pair : (a b c d : ℕ) → a ≡ c → b ≡ d
     → ◌≡◌ {A = Option (ℕ × ℕ)} (Some (a, b)) (Some (c, d))
@@ -60,7 +60,7 @@ colon_first : (told : Option (ℕ × ℕ)) → told_part told ≡ 58 ∷ drop 1 
 colon_first None = refl
 colon_first (Some range) = refl
 
-same_answer : (to other : ℕ) (x y : Option (ℕ × ℕ)) → IsNumber to → IsNumber other → HasRange x → HasRange y
+same_answer : (to other : ℕ) (x y : Option (ℕ × ℕ)) → FitsIn64Bits to → FitsIn64Bits other → HasRange x → HasRange y
     → answer_line to x ≡ answer_line other y → (to ≡ other) × (x ≡ y)
 same_answer to other x y a b h k e =
     let behind : decimal to ++ told_part x ≡ decimal other ++ told_part y = ap (drop 10) e in

@@ -28,7 +28,7 @@ use Rattle.bg_world.specs.Refusals.{IsLegalClaim, IsNoClaimRefused, AreNoEntries
 use Rattle.bg_world.specs.Runs.{Run, IsReached}
 use Rattle.bg_world.specs.SaveStep.{to_save_referee, to_save_seat}
 use Rattle.bg_world.specs.Shown.{ShowsSavedAlone}
-use Rattle.bg_world.specs.State.{State, SeatState, IsSetup, start, seat, saved_log, log_of, start_seat}
+use Rattle.bg_world.specs.State.{ProtocolState, SeatState, IsSetup, start, seat, saved_log, log_of, start_seat}
 use Rattle.bg_world.specs.Step.{Step}
 use Rattle.bg_world.specs.Survival.{SavesSurvive}
 use Rattle.bg_world.proofs.Lists.{prefix_none, prefix_same, prefix_take, prefix_trans, prefix_back, prefix_more, get_within, get_drop}
@@ -79,24 +79,24 @@ start_keeps id terms watchers h = record {
   datagrams = λ to p g. absurd (none_sent g.0 g.1);
 }
 
-run_keeps : (w : State) (hs : List (Event × Outcome)) (v : State) → Inv w → Run w hs v → Inv v
+run_keeps : (w : ProtocolState) (hs : List (Event × Outcome)) (v : ProtocolState) → Inv w → Run w hs v → Inv v
 run_keeps w [] v inv r = subst Inv (sym r) inv
 run_keeps w (h ∷ hs) v inv r = run_keeps r.0 hs v (step_keeps w h.0 h.1 r.0 inv r.1) r.2
 
-pub reached : (w : State) → IsReached w → Inv w
+pub reached : (w : ProtocolState) → IsReached w → Inv w
 reached w h = run_keeps _ h.history w (start_keeps h.id h.terms h.watchers h.setup) h.run
 
-pub followers : (w : State) → Inv w → (party : ℕ) (log : List Entry) → 0 < party → log_of w party ≡ Some log → IsPrefix log (saved_log w)
+pub followers : (w : ProtocolState) → Inv w → (party : ℕ) (log : List Entry) → 0 < party → log_of w party ≡ Some log → IsPrefix log (saved_log w)
 followers w inv zero log l h = absurd (omega (l, arith))
 followers w inv (suc zero) log l h = let e : w.x.log ≡ log = cc in subst (λ (r : List Entry). IsPrefix r (saved_log w)) e inv.x.log
 followers w inv (suc (suc zero)) log l h = let e : w.o.log ≡ log = cc in subst (λ (r : List Entry). IsPrefix r (saved_log w)) e inv.o.log
 followers w inv (suc (suc (suc i))) log l h = inv.watchers i log h
 
-prefix : (w : State) → Inv w → (party : ℕ) (log : List Entry) → log_of w party ≡ Some log → IsPrefix log w.referee.log
+prefix : (w : ProtocolState) → Inv w → (party : ℕ) (log : List Entry) → log_of w party ≡ Some log → IsPrefix log w.referee.log
 prefix w inv zero log h = let e : w.referee.log ≡ log = cc in subst (λ (r : List Entry). IsPrefix r w.referee.log) e (prefix_same w.referee.log)
 prefix w inv (suc n) log h = prefix_trans log (saved_log w) w.referee.log (followers w inv (suc n) log (omega arith) h) (prefix_take w.referee.saved w.referee.log)
 
-pub agreement : (w : State) → Inv w → Agreement w
+pub agreement : (w : ProtocolState) → Inv w → Agreement w
 agreement w inv = record { saved = prefix_take w.referee.saved w.referee.log; followers = followers w inv; datagrams = λ to id first list h. (inv.datagrams to (packet.Entries id first list) h).1 }
 
 -- the seat that acts is the actor
@@ -108,7 +108,7 @@ seat_acts terms entries q h = (h.0, h.1, seated (actor_of (h.0).phase) h.2)
     seated (Seat p) e = cc
     seated Nobody e = cc
 
-pub answered : (w : State) → Inv w → AreAnswered w
+pub answered : (w : ProtocolState) → Inv w → AreAnswered w.terms w.referee.log w.sent
 answered w inv zero e q h g = cc
 answered w inv (suc i) e q h g =
     let before : suc i - 1 ≡ i = omega arith in
@@ -116,10 +116,10 @@ answered w inv (suc i) e q h g =
     let c = inv.referee.answered i e q h (seat_acts w.terms (take i w.referee.log) q g') in
     (c.0, (c.1, λ b d. (of_seat w q inv).claims.one (suc i) b c.0 d c.1), c.2)
 
-pub headline : (w : State) → Inv w → Headline w
+pub headline : (w : ProtocolState) → Inv w → Headline w
 headline w inv = record { prefix = prefix w inv; legal = inv.referee.legal; answered = answered w inv }
 
-pub no_more : (w : State) → Inv w → ShowsSavedAlone w
+pub no_more : (w : ProtocolState) → Inv w → ShowsSavedAlone w
 no_more w inv to id first list i e h g = within (first + i) ((inv.datagrams to (packet.Entries id first list) h).1 i e g)
   where
     within : (n : ℕ) → at_number (saved_log w) n ≡ Some e → n ≤ w.referee.saved
@@ -128,7 +128,7 @@ no_more w inv to id first list i e h g = within (first + i) ((inv.datagrams to (
 
 -- ---- what is refused of no packet and no slot
 
-next_claim : (w : State) → Inv w → (id sender n : ℕ) (a : Action) → WasSent w.sent 0 (packet.Claim id sender n a) → n ≡ length w.referee.log + 1
+next_claim : (w : ProtocolState) → Inv w → (id sender n : ℕ) (a : Action) → WasSent w.sent 0 (packet.Claim id sender n a) → n ≡ length w.referee.log + 1
     → (q : Player) × (sender ≡ party_of q) × IsLegalClaim w.terms (saved_log w) q n a × (saved_log w ≡ w.referee.log)
 next_claim w inv id sender n a h e =
     let s = (inv.datagrams 0 (packet.Claim id sender n a) h).1 in
@@ -138,18 +138,18 @@ next_claim w inv id sender n a h e =
     let all : w.referee.saved ≡ length w.referee.log = omega (arith, k, l, m, e, length-take w.referee.saved w.referee.log) in
     (s.0, s.1, s.2, ap (λ (x : ℕ). take x w.referee.log) all ∙ take_all (length w.referee.log) w.referee.log (omega arith))
 
-before_all : (w : State) (q : Player) (n : ℕ) (a : Action) (h : IsLegalClaim w.terms (saved_log w) q n a) → n ≡ length w.referee.log + 1 → saved_log w ≡ w.referee.log → take h.before (saved_log w) ≡ w.referee.log
+before_all : (w : ProtocolState) (q : Player) (n : ℕ) (a : Action) (h : IsLegalClaim w.terms (saved_log w) q n a) → n ≡ length w.referee.log + 1 → saved_log w ≡ w.referee.log → take h.before (saved_log w) ≡ w.referee.log
 before_all w q n a h e all =
     let k = h.number in
     let m : h.before ≡ length w.referee.log = omega (k, e, arith) in
     ap (λ (x : ℕ). take x (saved_log w)) m ∙ (ap (take (length w.referee.log)) all ∙ take_all (length w.referee.log) w.referee.log (omega arith))
 
-legal_follower : (w : State) → Inv w → (log : List Entry) → IsPrefix log (saved_log w) → IsLegalRecord w.terms log
+legal_follower : (w : ProtocolState) → Inv w → (log : List Entry) → IsPrefix log (saved_log w) → IsLegalRecord w.terms log
 legal_follower w inv log p =
     let q = prefix_trans log (saved_log w) w.referee.log p (prefix_take w.referee.saved w.referee.log) in
     legal_fronts w.terms log q.0 (subst (IsLegalRecord w.terms) (sym q.1) inv.referee.legal)
 
-no_claim_refused : (w : State) → Inv w → IsNoClaimRefused w
+no_claim_refused : (w : ProtocolState) → Inv w → IsNoClaimRefused w
 no_claim_refused w inv = record {
   not_ahead = λ id sender n a h.
       let s = (inv.datagrams 0 (packet.Claim id sender n a) h).1 in
@@ -166,7 +166,7 @@ no_claim_refused w inv = record {
       rolls_any_dice w.terms w.referee.log a (Some trial_dice) dice s.2.entry f s.2.of_action g l;
 }
 
-no_entries_refused : (w : State) → Inv w → AreNoEntriesRefused w
+no_entries_refused : (w : ProtocolState) → Inv w → AreNoEntriesRefused w
 no_entries_refused w inv = record {
   agree = λ party log to id first list l g h i e k m.
       prefix_back log (saved_log w) (first + i) e (followers w inv party log l g) m ((inv.datagrams to (packet.Entries id first list) h).1 i e k);
@@ -181,11 +181,11 @@ no_entries_refused w inv = record {
         let j : first + (length log + 1 - first + i) ≡ suc n = omega (k, m, arith) in
         subst (λ (x : ℕ). at_number (saved_log w) x ≡ Some e) j r
 
-pub no_packet_refused : (w : State) → Inv w → IsNoPacketRefused w
+pub no_packet_refused : (w : ProtocolState) → Inv w → IsNoPacketRefused w
 no_packet_refused w inv =
     record { sound = inv.datagrams; claims = no_claim_refused w inv; entries = no_entries_refused w inv }
 
-pub no_slot_refused : (w : State) → Inv w → IsNoSlotRefused w
+pub no_slot_refused : (w : ProtocolState) → Inv w → IsNoSlotRefused w
 no_slot_refused w inv = record {
   referee = whole_slots w.id w.terms 0 w.referee.slots w.referee.restorable inv.referee.slots;
   seats = λ q. whole_slots w.id w.terms (party_of q) (seat w q).slots (seat w q).restorable (of_seat w q inv).slots;
@@ -193,11 +193,11 @@ no_slot_refused w inv = record {
 
 -- ---- what a world relies on from one step to the next
 
-run_more : (w : State) (hs : List (Event × Outcome)) (u : State) (e : Event) (o : Outcome) (v : State) → Run w hs u → Step u e o v → Run w (hs ++ (e, o) ∷ []) v
-run_more w [] u e o v r h = (v, subst (λ (x : State). Step x e o v) r h, refl)
+run_more : (w : ProtocolState) (hs : List (Event × Outcome)) (u : ProtocolState) (e : Event) (o : Outcome) (v : ProtocolState) → Run w hs u → Step u e o v → Run w (hs ++ (e, o) ∷ []) v
+run_more w [] u e o v r h = (v, subst (λ (x : ProtocolState). Step x e o v) r h, refl)
 run_more w (g ∷ hs) u e o v r h = (r.0, r.1, run_more r.0 hs u e o v r.2 h)
 
-pub reached_more : (w : State) (e : Event) (o : Outcome) (v : State) → IsReached w → Step w e o v → IsReached v
+pub reached_more : (w : ProtocolState) (e : Event) (o : Outcome) (v : ProtocolState) → IsReached w → Step w e o v → IsReached v
 reached_more w e o v h s = record {
   id = h.id;
   terms = h.terms;
@@ -209,12 +209,12 @@ reached_more w e o v h s = record {
 
 -- ---- saves
 
-pub saves_survive : (w : State) → Inv w → SavesSurvive w
+pub saves_survive : (w : ProtocolState) → Inv w → SavesSurvive w
 saves_survive w inv = record {
   referee_saved = λ k v h.
-      ap (λ (x : State). x.referee.restorable) h.1.3 ∙ (after_whole w.id w.terms 0 w.referee.slots w.referee.restorable (to_save_referee w) h.1.0 h.1.1 inv.referee.slots (referee_of w) refl h.1.2).1;
+      ap (λ (x : ProtocolState). x.referee.restorable) h.1.3 ∙ (after_whole w.id w.terms 0 w.referee.slots w.referee.restorable (to_save_referee w) h.1.0 h.1.1 inv.referee.slots (referee_of w) refl h.1.2).1;
   referee_failed = λ v h.
-      subst (λ (x : State). (x.referee.restorable ≡ w.referee.restorable) ⊎ (x.referee.restorable ≡ Some (to_save_referee w))) (sym h.3)
+      subst (λ (x : ProtocolState). (x.referee.restorable ≡ w.referee.restorable) ⊎ (x.referee.restorable ≡ Some (to_save_referee w))) (sym h.3)
       (after_torn w.id w.terms 0 w.referee.slots w.referee.restorable (to_save_referee w) h.0 h.1 inv.referee.slots (referee_of w) refl h.2).1;
   seat_saved = λ q k new h.
       ap (λ (x : SeatState). x.restorable) h.1.3

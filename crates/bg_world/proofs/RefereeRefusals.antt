@@ -22,10 +22,10 @@ use Rattle.bg_referee.proofs.Accepting.{either}
 use Rattle.bg_world.specs.Datagrams.{WasSent}
 use Rattle.bg_world.specs.NotRefused.{IsNotRefusedByReferee}
 use Rattle.bg_world.specs.Refusals.{IsNoPacketRefused}
-use Rattle.bg_world.specs.State.{State}
+use Rattle.bg_world.specs.State.{ProtocolState}
 use Rattle.bg_world.specs.WorldState.{IsLogOf}
 
-module _ (v : State) (refused : IsNoPacketRefused v) (r r' : RefereeView) (log : IsLogOf v.id v.terms r.log)
+module _ (v : ProtocolState) (refused : IsNoPacketRefused v) (r r' : RefereeView) (log : IsLogOf v.id v.terms r.log)
     (entries : r.log.entries ≡ v.referee.log) (saved : r.saved ≡ v.referee.saved) (word : ℕ) where
   said : (what t : TakeOutcome) → IsNotRefusedByReferee what → (t ≡ what) × (r' ≡ r) → IsNotRefusedByReferee t
   said what t h k = subst IsNotRefusedByReferee (sym k.0) h

@@ -24,7 +24,7 @@ use Rattle.bg_world.specs.declared.events.Event.TheVariants as events
 use Rattle.bg_world.specs.declared.events.Outcome.{Outcome}
 use Rattle.bg_world.specs.declared.events.Outcome.TheVariants as outcomes
 use Rattle.bg_world.specs.declared.roles.Role.TheVariants as roles
-use Rattle.bg_world.specs.WorldState.{CoresMatch, RefereeMatches, Restorable, state_of, watcher_log}
+use Rattle.bg_world.specs.WorldState.{CoresMatch, RefereeMatches, Restorable, protocol_state, watcher_entries}
 use Rattle.bg_world.specs.Datagrams.{WasSent}
 use Rattle.bg_world.specs.LinkCalls.{AnswerCalls, ComesTo, RefereeHandles, RefereeTakeCalls}
 use Rattle.bg_world.specs.RefereeTakeStep.{AcceptsNone, RefereeTakeStep, ReplyStep, ShowsSaved}
@@ -85,7 +85,7 @@ module _ (w : WorldView) (c : Restorable) (word : ℕ) (r : RefereeView)
 
         at : (x : Packet) → IsSound (at_referee w c w.link.sent r) x → IsSentBy to x → to < parties w
         at (packet.Want id sender held) s t = let there = s.1 in omega
-            (there, t, length-map w.watchers watcher_log, arith)
+            (there, t, length-map w.watchers watcher_entries, arith)
         at (packet.Claim id sender n a) s t = seats s.1.0 sender s.1.1 t
         at (packet.Entries id start list) s t = absurd t
 
@@ -217,12 +217,12 @@ module _ (w : WorldView) (c : Restorable) (word : ℕ) (r : RefereeView)
           (row.0, other_sessions w.id w.terms c.referee r r' row.1)
 
 pub take_referee_goes : (w : WorldView) (c : Restorable) (honest : Type 0) → honest
-    → (party pick word : ℕ) (o : Outcome) (new : WorldView) → CoresMatch w c → Inv (state_of w c)
+    → (party pick word : ℕ) (o : Outcome) (new : WorldView) → CoresMatch w c → Inv (protocol_state w c)
     → TakeCalls honest w roles.Referee party pick word o new → StepsTo w c (events.Take 0 pick word) o new
 take_referee_goes w c honest is_honest party pick word o new fits inv h = at w.referee fits inv h
   where
     at : (r : Option RefereeView) → CoresMatch (record w { referee = r }) c
-        → Inv (state_of (record w { referee = r }) c)
+        → Inv (protocol_state (record w { referee = r }) c)
         → TakeCalls honest (record w { referee = r }) roles.Referee party pick word o new
         → StepsTo (record w { referee = r }) c (events.Take 0 pick word) o new
     at None f i k =

@@ -17,7 +17,7 @@ use Rattle.bg_world.specs.declared.events.Outcome.{Outcome}
 use Rattle.bg_world.specs.declared.events.Outcome.TheVariants as outcomes
 use Rattle.bg_world.specs.declared.events.RestoreCause.TheVariants as causes
 use Rattle.bg_world.specs.declared.roles.Role.TheVariants as roles
-use Rattle.bg_world.specs.WorldState.{CoresMatch, RefereeMatches, Restorable, SeatMatches, referee_state, restorable_of, seat_state, state_of, watcher_log, with_restorable}
+use Rattle.bg_world.specs.WorldState.{CoresMatch, RefereeMatches, Restorable, SeatMatches, referee_state, restorable_of, seat_state, protocol_state, watcher_entries, with_restorable}
 use Rattle.bg_world.specs.Calls.{NoCalls, RestartCalls}
 use Rattle.bg_world.specs.RestartStep.{RestartStep, RestartsTo, restored_referee, restored_seat}
 use Rattle.bg_world.specs.Views.{WorldView, seat_core, seat_keeper, with_seat_core, with_seat_keeper}
@@ -97,9 +97,9 @@ same_restored None slots found up = refl
 same_restored (Some r) slots found up = refl
 
 pub restart_referee_goes : (w : WorldView) (c : Restorable) (honest : Type 0) → honest
-    → (o : Outcome) (new : WorldView) → CoresMatch w c → Inv (state_of w c)
+    → (o : Outcome) (new : WorldView) → CoresMatch w c → Inv (protocol_state w c)
     → RestartCalls honest w roles.Referee 0 o new
-    → RestartStep (state_of w c) roles.Referee o (state_of new c) × CoresMatch new c
+    → RestartStep (protocol_state w c) roles.Referee o (protocol_state new c) × CoresMatch new c
 restart_referee_goes w c honest is_honest o new fits inv h =
     let k = h.0 in
     let r = h.1 in
@@ -114,12 +114,12 @@ restart_referee_goes w c honest is_honest o new fits inv h =
     let both = comes_both o (λ up. referee_state r slots c.referee ≡ restored_referee slots c.referee up)
     (IfSome r (RefereeMatches w.id w.terms c.referee)) back in
     let row = comes_as o (λ up. referee_state r slots c.referee ≡ restored_referee slots c.referee up)
-    (λ up. state_of new c ≡ record (state_of w c) {
+    (λ up. protocol_state new c ≡ record (protocol_state w c) {
       referee = restored_referee
           (referee_state w.referee slots c.referee).slots (referee_state w.referee slots c.referee).restorable up;
     })
-    (λ up e. ap (λ (x : WorldView). state_of x c) h.3
-    ∙ ap (λ (x : RefereeState). record (state_of w c) { referee = x })
+    (λ up e. ap (λ (x : WorldView). protocol_state x c) h.3
+    ∙ ap (λ (x : RefereeState). record (protocol_state w c) { referee = x })
     (ap (λ (x : Slots). referee_state r x c.referee) read.1 ∙ e
     ∙ sym (same_restored w.referee slots c.referee up))) both.0 in (
       row,
@@ -170,9 +170,9 @@ same_restorable c X = refl
 same_restorable c O = refl
 
 pub restart_seat_goes : (w : WorldView) (c : Restorable) (honest : Type 0) → honest
-    → (q : Player) (o : Outcome) (new : WorldView) → CoresMatch w c → Inv (state_of w c)
+    → (q : Player) (o : Outcome) (new : WorldView) → CoresMatch w c → Inv (protocol_state w c)
     → RestartCalls honest w (roles.Seat q) (party_of q) o new
-    → RestartStep (state_of w c) (roles.Seat q) o (state_of new c) × CoresMatch new c
+    → RestartStep (protocol_state w c) (roles.Seat q) o (protocol_state new c) × CoresMatch new c
 restart_seat_goes w c honest is_honest q o new fits inv h =
     let k = h.0 in
     let s = h.1 in
@@ -195,9 +195,9 @@ restart_seat_goes w c honest is_honest q o new fits inv h =
     ∙ sym (same_restored_seat (seat_core w q) old.slots found up)) both.0 in
     let moved = seat_saves w c q s k found (BackRow o) fits row
     (subst (λ (x : Slots). SlotsRestore x.zero x.one found) (sym read.1) side.0, both.1) in
-    subst (λ (n : WorldView). RestartStep (state_of w c) (roles.Seat q) o (state_of n c) × CoresMatch n c) (sym h.3)
-    (subst (λ (d : Restorable). SeatChanges (state_of w c) q
-    (state_of (with_seat_keeper (with_seat_core w q s) q k) d) (BackRow o (seat (state_of w c) q))
+    subst (λ (n : WorldView). RestartStep (protocol_state w c) (roles.Seat q) o (protocol_state n c) × CoresMatch n c) (sym h.3)
+    (subst (λ (d : Restorable). SeatChanges (protocol_state w c) q
+    (protocol_state (with_seat_keeper (with_seat_core w q s) q k) d) (BackRow o (seat (protocol_state w c) q))
     × CoresMatch (with_seat_keeper (with_seat_core w q s) q k) d) (same_restorable c q) moved)
 
 -- ---- a watcher
@@ -205,19 +205,19 @@ restart_seat_goes w c honest is_honest q o new fits inv h =
 pub restart_watcher_goes : (w : WorldView) (c : Restorable) (honest : Type 0)
     → (i party : ℕ) (o : Outcome) (new : WorldView) → party ≡ first_watcher + i → CoresMatch w c
     → RestartCalls honest w (roles.Watcher i) party o new
-    → RestartStep (state_of w c) (roles.Watcher i) o (state_of new c) × CoresMatch new c
+    → RestartStep (protocol_state w c) (roles.Watcher i) o (protocol_state new c) × CoresMatch new c
 restart_watcher_goes w c honest i party o new is_party fits h = at (slice_get w.watchers i) refl h
   where
     lift : (f : Option WatcherView) → slice_get w.watchers i ≡ f
-        → MatchOption (option_map watcher_log f) (NoParty (state_of w c) o (state_of new c))
+        → MatchOption (option_map watcher_entries f) (NoParty (protocol_state w c) o (protocol_state new c))
         (λ log. (o ≡ outcomes.Restarted)
-        × (state_of new c ≡ record (state_of w c) { watchers = slice_set (map watcher_log w.watchers) i [] }))
-        → RestartStep (state_of w c) (roles.Watcher i) o (state_of new c)
+        × (protocol_state new c ≡ record (protocol_state w c) { watchers = slice_set (map watcher_entries w.watchers) i [] }))
+        → RestartStep (protocol_state w c) (roles.Watcher i) o (protocol_state new c)
     lift f is k =
-        subst (λ (x : Option (List Entry)). MatchOption x (NoParty (state_of w c) o (state_of new c))
+        subst (λ (x : Option (List Entry)). MatchOption x (NoParty (protocol_state w c) o (protocol_state new c))
         (λ log. (o ≡ outcomes.Restarted)
-        × (state_of new c ≡ record (state_of w c) { watchers = slice_set (map watcher_log w.watchers) i [] })))
-        (sym (get_log w.watchers i ∙ ap (option_map watcher_log) is)) k
+        × (protocol_state new c ≡ record (protocol_state w c) { watchers = slice_set (map watcher_entries w.watchers) i [] })))
+        (sym (get_log w.watchers i ∙ ap (option_map watcher_entries) is)) k
 
     at : (f : Option WatcherView) → slice_get w.watchers i ≡ f
         → MatchOption f (NoCalls outcomes.NoSuchParty w o new)
@@ -225,16 +225,16 @@ restart_watcher_goes w c honest i party o new is_party fits h = at (slice_get w.
           watchers = slice_set w.watchers i
               (fresh_watcher party w.id w.terms);
         }))
-        → RestartStep (state_of w c) (roles.Watcher i) o (state_of new c) × CoresMatch new c
+        → RestartStep (protocol_state w c) (roles.Watcher i) o (protocol_state new c) × CoresMatch new c
     at None is k = (
-      lift None is (k.0, ap (λ (x : WorldView). state_of x c) k.1),
+      lift None is (k.0, ap (λ (x : WorldView). protocol_state x c) k.1),
       subst (λ (x : WorldView). CoresMatch x c) (sym k.1) fits,
     )
     at (Some f) is k = (
       lift (Some f) is (
         k.0,
-        ap (λ (x : WorldView). state_of x c) k.1
-            ∙ ap (λ (l : List (List Entry)). record (state_of w c) { watchers = l })
+        ap (λ (x : WorldView). protocol_state x c) k.1
+            ∙ ap (λ (l : List (List Entry)). record (protocol_state w c) { watchers = l })
             (set_log w.watchers i (fresh_watcher party w.id w.terms)),
       ),
       subst (λ (x : WorldView). CoresMatch x c) (sym k.1) (record {

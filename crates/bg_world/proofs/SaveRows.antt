@@ -17,7 +17,7 @@ use Rattle.bg_world.specs.declared.events.Event.TheVariants as events
 use Rattle.bg_world.specs.declared.events.Outcome.{Outcome}
 use Rattle.bg_world.specs.declared.events.Outcome.TheVariants as outcomes
 use Rattle.bg_world.specs.declared.roles.Role.TheVariants as roles
-use Rattle.bg_world.specs.WorldState.{CoresMatch, RefereeMatches, Restorable, SeatMatches, SeatSide, referee_state, restorable_of, seat_state, state_of, with_restorable}
+use Rattle.bg_world.specs.WorldState.{CoresMatch, RefereeMatches, Restorable, SeatMatches, SeatSide, referee_state, restorable_of, seat_state, protocol_state, with_restorable}
 use Rattle.bg_world.specs.SaveStep.{RefereeSaveStep, SaveStep, SeatSaveStep, to_save_referee, to_save_seat}
 use Rattle.bg_world.specs.Calls.{SaveCalls, referee_parts, seat_parts}
 use Rattle.bg_world.specs.Views.{KeeperView, WorldView, seat_core, seat_keeper, with_seat_core, with_seat_keeper}
@@ -51,7 +51,7 @@ same_parts party claim entries id id' terms terms' save save' e f g =
     ∙ ap (λ (n : ℕ). make_parts party claim entries id' terms' n) g
 
 same_referee_parts : (w : WorldView) (c : Restorable) (r : RefereeView) → RefereeMatches w.id w.terms c.referee r
-    → referee_parts r ≡ to_save_referee (state_of (record w { referee = Some r }) c)
+    → referee_parts r ≡ to_save_referee (protocol_state (record w { referee = Some r }) c)
 unfolding make_parts
 same_referee_parts w c r fits =
     same_parts referee None r.log.entries r.log.id w.id r.log.terms w.terms r.next_save
@@ -73,17 +73,17 @@ same_seat_parts id terms q slots found s fits =
 abbrev RefereeSaved : WorldView → Restorable → RefereeView → Outcome → Slots → Option RefereeView → Type 0
 RefereeSaved w c r o slots s =
     (found : Option SavedParts)
-    × RefereeSaveStep (state_of (record w { referee = Some r }) c) o
-    (record (state_of w c) { referee = referee_state s slots found })
+    × RefereeSaveStep (protocol_state (record w { referee = Some r }) c) o
+    (record (protocol_state w c) { referee = referee_state s slots found })
     × SlotsRestore slots.zero slots.one found × IfSome s (RefereeMatches w.id w.terms found)
 
 module _ (w : WorldView) (c : Restorable) (r : RefereeView) (fits : RefereeMatches w.id w.terms c.referee r)
     (ok : SlotsOk w.id w.terms referee w.referee_keeper.slots c.referee) where
   to_save : SavedParts
-  to_save = to_save_referee (state_of (record w { referee = Some r }) c)
+  to_save = to_save_referee (protocol_state (record w { referee = Some r }) c)
 
   stays : (x o : Outcome) (slots : Slots) (s : Option RefereeView)
-      → RefereeSaveStep (state_of (record w { referee = Some r }) c) x (state_of (record w { referee = Some r }) c)
+      → RefereeSaveStep (protocol_state (record w { referee = Some r }) c) x (protocol_state (record w { referee = Some r }) c)
       → o ≡ x → slots ≡ w.referee_keeper.slots → s ≡ Some r → RefereeSaved w c r o slots s
   stays x o slots s row e f g =
       subst (λ (y : Outcome). RefereeSaved w c r y slots s) (sym e)
@@ -99,8 +99,8 @@ module _ (w : WorldView) (c : Restorable) (r : RefereeView) (fits : RefereeMatch
       subst (λ (x : Outcome). RefereeSaved w c r x slots s) (sym e)
       (subst (λ (y : Option RefereeView). RefereeSaved w c r (outcomes.Saved (next_number c.referee)) slots y)
       (sym f) (
-        Some (to_save_referee (state_of (record w { referee = Some r }) c)),
-        (refl, (slots, Some (to_save_referee (state_of (record w { referee = Some r }) c)), writes, refl)),
+        Some (to_save_referee (protocol_state (record w { referee = Some r }) c)),
+        (refl, (slots, Some (to_save_referee (protocol_state (record w { referee = Some r }) c)), writes, refl)),
         writes.after.restore,
         record { log = fits.log; next = number_after (next_number c.referee) },
       ))
@@ -121,12 +121,12 @@ module _ (w : WorldView) (c : Restorable) (r : RefereeView) (fits : RefereeMatch
 
 pub save_referee_goes : (w : WorldView) (c : Restorable) (honest : Type 0) → honest → (o : Outcome)
     (new : WorldView)
-    → CoresMatch w c → Inv (state_of w c)
+    → CoresMatch w c → Inv (protocol_state w c)
     → SaveCalls honest w roles.Referee o new → StepsTo w c (events.Save 0) o new
 save_referee_goes w c honest is_honest o new fits inv h = at w.referee fits inv h
   where
     at : (r : Option RefereeView) → CoresMatch (record w { referee = r }) c
-        → Inv (state_of (record w { referee = r }) c)
+        → Inv (protocol_state (record w { referee = r }) c)
         → SaveCalls honest (record w { referee = r }) roles.Referee o new
         → StepsTo (record w { referee = r }) c (events.Save 0) o new
     at None f i k =
@@ -217,19 +217,19 @@ same_world w X s k e f = ap₂ (λ (a : Option SeatView) (b : KeeperView). recor
 same_world w O s k e f = ap₂ (λ (a : Option SeatView) (b : KeeperView). record w { o = a; o_keeper = b }) e f
 
 pub save_seat_goes : (w : WorldView) (c : Restorable) (honest : Type 0) → honest
-    → (q : Player) (o : Outcome) (new : WorldView) → CoresMatch w c → Inv (state_of w c)
+    → (q : Player) (o : Outcome) (new : WorldView) → CoresMatch w c → Inv (protocol_state w c)
     → SaveCalls honest w (roles.Seat q) o new
-    → (d : Restorable) × SaveStep (state_of w c) (roles.Seat q) o (state_of new d) × CoresMatch new d
+    → (d : Restorable) × SaveStep (protocol_state w c) (roles.Seat q) o (protocol_state new d) × CoresMatch new d
 save_seat_goes w c honest is_honest q o new fits inv h = at (seat_core w q) (seat_side w c q fits) refl h.2
   where
     at : (s : Option SeatView) → SeatSide w.id w.terms q s (seat_keeper w q) (restorable_of c q) → seat_core w q ≡ s
         → SaveCallsAt seat_parts seat_after_save honest (seat_keeper w q) s o h.0 h.1
-        → (d : Restorable) × SaveStep (state_of w c) (roles.Seat q) o (state_of new d) × CoresMatch new d
+        → (d : Restorable) × SaveStep (protocol_state w c) (roles.Seat q) o (protocol_state new d) × CoresMatch new d
     at None side is k =
-        subst (λ (x : Outcome). (d : Restorable) × SaveStep (state_of w c) (roles.Seat q) x (state_of new d)
+        subst (λ (x : Outcome). (d : Restorable) × SaveStep (protocol_state w c) (roles.Seat q) x (protocol_state new d)
         × CoresMatch new d) (sym k.0)
         (subst (λ (n : WorldView). (d : Restorable)
-        × SaveStep (state_of w c) (roles.Seat q) outcomes.Down (state_of n d) × CoresMatch n d)
+        × SaveStep (protocol_state w c) (roles.Seat q) outcomes.Down (protocol_state n d) × CoresMatch n d)
         (sym (h.3 ∙ same_world w q h.1 h.0 (k.2 ∙ sym is) k.1))
         (c, seat_stays w c q (SaveRow w.id w.terms q outcomes.Down) is (λ s down. down_row s.up s _ down), fits))
     at (Some s) side is k =
@@ -239,5 +239,5 @@ save_seat_goes w c honest is_honest q o new fits inv h = at (seat_core w q) (sea
         (subst (λ (x : Option SeatView). SaveRow w.id w.terms q o
         (seat_state x (seat_keeper w q).slots (restorable_of c q)) (seat_state h.1 (h.0).slots t.0))
         (sym is) t.1) t.2 in
-        subst (λ (n : WorldView). (d : Restorable) × SaveStep (state_of w c) (roles.Seat q) o (state_of n d)
+        subst (λ (n : WorldView). (d : Restorable) × SaveStep (protocol_state w c) (roles.Seat q) o (protocol_state n d)
         × CoresMatch n d) (sym h.3) (with_restorable c q t.0, moved.0, moved.1)

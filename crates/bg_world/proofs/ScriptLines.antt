@@ -16,7 +16,7 @@ use Rattle.bg_world.specs.EventText.{IsEvent, IsEventTextFault, event_text}
 use Rattle.bg_world.specs.FinalText.{IsFinalText}
 use Rattle.bg_world.specs.OutcomeText.{outcome_text}
 use Rattle.bg_world.specs.ScriptText.{IsPlayed, IsRefused, IsRefusedAt, IsScriptText, IsTextFrom}
-use Rattle.bg_world.specs.Scripts.{AreGood, IsChecked, IsPartChecked, IsPartPlayed, Plays}
+use Rattle.bg_world.specs.Scripts.{AreGood, IsChecked, IsPartChecked, IsPartPlayed, PlaysLines}
 use Rattle.bg_world.specs.Simulations.{start_in_memory}
 use Rattle.bg_world.specs.Views.{WorldView}
 use Rattle.bg_world.specs.declared.setups.Setup.{Setup}
@@ -146,7 +146,7 @@ played_more lh kh old mid new lines before so_far now rest after line e outcome 
         ∙ ap (λ (t : List ℕ). lines_text (map outcome_text outcomes) ++ t) (append-nil (line_text (outcome_text o)))
 
 pub played_all : (lh kh : Type 0) (old new : WorldView) (lines : List (List ℕ)) (before after rest : List ℕ)
-    → IsPartPlayed lh kh old lines before after new rest → rest ≡ [] → Plays lh kh old lines before after new
+    → IsPartPlayed lh kh old lines before after new rest → rest ≡ [] → PlaysLines lh kh old lines before after new
 played_all lh kh old new lines before after rest h none = record {
   events = h.events;
   outcomes = h.outcomes;
@@ -167,7 +167,7 @@ same_length lines a b h k =
 
 pub is_played : (lh kh : Type 0) (old new : WorldView) (lines : List (List ℕ)) (count : ℕ)
     (before told slice end text : List ℕ)
-    → IsChecked lines (Ok count) → Plays lh kh old lines before told new → before ≡ [] → IsFinalText new end
+    → IsChecked lines (Ok count) → PlaysLines lh kh old lines before told new → before ≡ [] → IsFinalText new end
     → text ≡ told ++ slice → slice ≡ end → IsPlayed lh kh old lines text (Fine count)
 is_played lh kh old new lines count before told slice end text checked plays empty ended printed same = record {
   events = plays.events;

@@ -11,9 +11,9 @@ use Rattle.bg_wire.specs.declared.packets.Packet.{Packet}
 use Rattle.bg_wire.specs.PacketText.{IsPacket}
 use Rattle.bg_world.specs.declared.events.Outcome.{Outcome}
 use Rattle.bg_world.specs.declared.events.Outcome.TheVariants as outcomes
-use Rattle.bg_world.specs.State.{State}
+use Rattle.bg_world.specs.State.{ProtocolState}
 use Rattle.bg_world.specs.LinkCalls.{SendCalls}
-use Rattle.bg_world.specs.TickStep.{Sends}
+use Rattle.bg_world.specs.TickStep.{SendsOnTick}
 use Rattle.bg_world.specs.Views.{LinkView}
 use Rattle.bg_world.specs.Frames.{SendsAtMost}
 use Rattle.bg_world.specs.DeviceCalls.{Posts, datagram_of, link_outcome}
@@ -134,29 +134,29 @@ module _ (honest : Type 0) (is_honest : honest) (many : ℕ) (may : Datagram →
       at again false e k = fewer (again before old k)
 
 -- so it is a tick of the protocol
-pub ticks_row : (may : Datagram → Type 0) (most : ℕ) (w v : State) (sent : List Datagram) (result : Outcome)
-    → most ≤ 2
-    → Went may 0 most w.sent sent result → v ≡ record w { sent = sent } → Sends may w result v
-ticks_row may most w v sent result two h e = at h.told
+pub ticks_row : (may : Datagram → Type 0) (most : ℕ) (w v : ProtocolState) (sent : List Datagram) (result : Outcome)
+    → (bound : ℕ) → most ≤ bound
+    → Went may 0 most w.sent sent result → v ≡ record w { sent = sent } → SendsOnTick may bound w result v
+ticks_row may most w v sent result bound few_enough h e = at h.told
   where
-    grows : SendsAtMost may 2 w v
+    grows : SendsAtMost may bound w v
     grows = record {
       out = h.out;
-      few = (let few = h.few in omega (few, two, arith));
+      few = (let few = h.few in omega (few, few_enough, arith));
       each = h.each;
       after = e ∙ ap (λ (l : List Datagram). record w { sent = l }) h.sent;
     }
 
-    faulty : (fault : DeviceFault) → Sends may w (link_outcome fault) v
+    faulty : (fault : DeviceFault) → SendsOnTick may bound w (link_outcome fault) v
     faulty faults.Failed = grows
     faulty faults.Memory = grows
 
     at : (result ≡ outcomes.Sent (0 + length h.out)) ⊎ ((fault : DeviceFault) × (result ≡ link_outcome fault))
-        → Sends may w result v
-    at (inl f) = subst (λ (x : Outcome). Sends may w x v) (sym f) (
+        → SendsOnTick may bound w result v
+    at (inl f) = subst (λ (x : Outcome). SendsOnTick may bound w x v) (sym f) (
       record {
         out = h.out;
-        few = (let few = h.few in omega (few, two, arith));
+        few = (let few = h.few in omega (few, few_enough, arith));
         each = h.each;
         after = e ∙ ap (λ (l : List Datagram). record w { sent = l }) h.sent;
       },
@@ -165,4 +165,4 @@ ticks_row may most w v sent result two h e = at h.told
       where
         zero_more : (n : ℕ) → n ≡ 0 + n
         zero_more n = omega arith
-    at (inr f) = subst (λ (x : Outcome). Sends may w x v) (sym f.1) (faulty f.0)
+    at (inr f) = subst (λ (x : Outcome). SendsOnTick may bound w x v) (sym f.1) (faulty f.0)

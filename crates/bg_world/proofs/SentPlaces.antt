@@ -4,7 +4,7 @@ use Rattle.std.specs.Prelude.{slice_get, ◌==◌}
 use Rattle.std.specs.Global.{Vec}
 use Rattle.bg_wire.specs.declared.packets.Datagram.{Datagram}
 use Rattle.bg_world.specs.Handed.{sent_to}
-use Rattle.bg_world.specs.Places.{places_from, list_at, at_place, IsIndexOf}
+use Rattle.bg_world.specs.Places.{places_from, places_at, datagram_at, IsIndexOf}
 
 -- one datagram more has the next place, in its party's list alone
 pub places_from-push : (xs : List Datagram) (d : Datagram) (p n : ℕ)
@@ -32,16 +32,16 @@ slice_get-seam (y ∷ ys) x xs = slice_get-seam ys x xs
 
 -- behind others, the i-th place of a party has the i-th datagram to it
 place_found : (before xs : List Datagram) (p i : ℕ)
-    → at_place (before ++ xs) (slice_get (places_from (length before) p xs) i) ≡ slice_get (sent_to p xs) i
+    → datagram_at (before ++ xs) (slice_get (places_from (length before) p xs) i) ≡ slice_get (sent_to p xs) i
 place_found before [] p i = refl
 place_found before (x ∷ xs) p i = go (λ j. rw (append_assoc before (x ∷ []) xs, longer) at (place_found (before ++ x ∷ []) xs p j)) (x.to == p) i
   where
     longer : length (before ++ x ∷ []) ≡ suc (length before)
     longer = length-append before (x ∷ []) ∙ omega arith
 
-    go : ((j : ℕ) → at_place (before ++ x ∷ xs) (slice_get (places_from (suc (length before)) p xs) j) ≡ slice_get (sent_to p xs) j)
+    go : ((j : ℕ) → datagram_at (before ++ x ∷ xs) (slice_get (places_from (suc (length before)) p xs) j) ≡ slice_get (sent_to p xs) j)
         → (b : Bool) (i : ℕ)
-        → at_place (before ++ x ∷ xs) (slice_get (cond b (length before ∷ places_from (suc (length before)) p xs) (places_from (suc (length before)) p xs)) i)
+        → datagram_at (before ++ x ∷ xs) (slice_get (cond b (length before ∷ places_from (suc (length before)) p xs) (places_from (suc (length before)) p xs)) i)
         ≡ slice_get (cond b (x ∷ sent_to p xs) (sent_to p xs)) i
     go others true zero = slice_get-seam before x xs
     go others true (suc i) = others i
@@ -59,20 +59,20 @@ length-places (x ∷ xs) p n = go (x.to == p) (length-places xs p (suc n))
 -- ---- of lists that have the places
 
 pub found_at : (sent : List Datagram) (lists : List (Vec ℕ)) → IsIndexOf sent lists
-    → (p i : ℕ) → at_place sent (slice_get (list_at lists p) i) ≡ slice_get (sent_to p sent) i
-found_at sent lists index p i = subst (λ (places : List ℕ). at_place sent (slice_get places i) ≡ slice_get (sent_to p sent) i) (sym (index p)) (place_found [] sent p i)
+    → (p i : ℕ) → datagram_at sent (slice_get (places_at lists p) i) ≡ slice_get (sent_to p sent) i
+found_at sent lists index p i = subst (λ (places : List ℕ). datagram_at sent (slice_get places i) ≡ slice_get (sent_to p sent) i) (sym (index p)) (place_found [] sent p i)
 
-pub length-list_at : (sent : List Datagram) (lists : List (Vec ℕ)) → IsIndexOf sent lists
-    → (p : ℕ) → length (list_at lists p) ≡ length (sent_to p sent)
-length-list_at sent lists index p = ap length (index p) ∙ length-places sent p 0
+pub length-places_at : (sent : List Datagram) (lists : List (Vec ℕ)) → IsIndexOf sent lists
+    → (p : ℕ) → length (places_at lists p) ≡ length (sent_to p sent)
+length-places_at sent lists index p = ap length (index p) ∙ length-places sent p 0
 
 pub pushed_index : (sent : List Datagram) (d : Datagram) (old new : List (Vec ℕ)) → IsIndexOf sent old
-    → ((p : ℕ) → list_at new p ≡ cond (d.to == p) (list_at old p ++ length sent ∷ []) (list_at old p))
+    → ((p : ℕ) → places_at new p ≡ cond (d.to == p) (places_at old p ++ length sent ∷ []) (places_at old p))
     → IsIndexOf (sent ++ d ∷ []) new
 pushed_index sent d old new index grown p =
     let first : 0 + length sent ≡ length sent = omega arith in
     grown p ∙ ap (λ (places : List ℕ). cond (d.to == p) (places ++ length sent ∷ []) places) (index p) ∙ sym (rw first at (places_from-push sent d p 0))
 
 pub same_index : (sent : List Datagram) (old new : List (Vec ℕ)) → IsIndexOf sent old
-    → ((p : ℕ) → list_at new p ≡ list_at old p) → IsIndexOf sent new
+    → ((p : ℕ) → places_at new p ≡ places_at old p) → IsIndexOf sent new
 same_index sent old new index same p = same p ∙ index p

@@ -16,7 +16,7 @@ use Rattle.bg_party.specs.Views.{SeatView, WatcherView}
 use Rattle.bg_world.specs.declared.events.Event.{Event}
 use Rattle.bg_world.specs.declared.events.Outcome.{Outcome}
 use Rattle.bg_world.specs.declared.events.Outcome.TheVariants as outcomes
-use Rattle.bg_world.specs.WorldState.{CoresMatch, Restorable, SeatSide, WatcherMatches, WatchersMatch, referee_state, restorable_of, seat_state, state_of, watcher_log, with_restorable}
+use Rattle.bg_world.specs.WorldState.{CoresMatch, Restorable, SeatSide, WatcherMatches, WatchersMatch, referee_state, restorable_of, seat_state, protocol_state, watcher_entries, with_restorable}
 use Rattle.bg_world.specs.Views.{KeeperView, LinkView, WorldView, seat_core, seat_keeper, with_seat_core, with_seat_keeper}
 use Rattle.bg_world.specs.Frames.{SeatChanges, SeatIfUp}
 use Rattle.bg_world.specs.State.{SeatState, seat}
@@ -28,7 +28,7 @@ use Rattle.bg_world.proofs.Invariant.{Inv}
 pub record StepsTo (w : WorldView) (c : Restorable) (event : Event) (result : Outcome)
     (new : WorldView) : Type 0 where
   pub restorable : Restorable
-  pub step : Step (state_of w c) event result (state_of new restorable)
+  pub step : Step (protocol_state w c) event result (protocol_state new restorable)
   pub cores : CoresMatch new restorable
 
 -- what is told of an outcome and a world is told of equal ones
@@ -49,14 +49,14 @@ pub seat_moves : (w : WorldView) (c : Restorable) (q : Player) (n : LinkView) (s
     → P (seat_state (seat_core w q) (seat_keeper w q).slots (restorable_of c q))
     (seat_state s (seat_keeper w q).slots (restorable_of c q))
     → SeatSide w.id w.terms q s (seat_keeper w q) (restorable_of c q)
-    → SeatChanges (state_of w c) q (state_of (with_seat_core (record w { link = n }) q s) c)
-    (P (seat (state_of w c) q))
+    → SeatChanges (protocol_state w c) q (protocol_state (with_seat_core (record w { link = n }) q s) c)
+    (P (seat (protocol_state w c) q))
     × CoresMatch (with_seat_core (record w { link = n }) q s) c
 seat_moves w c X n s P fits same p side = (
   (
     seat_state s w.x_keeper.slots c.x,
     p,
-    ap (λ (l : List Datagram). record (state_of w c) { x = seat_state s w.x_keeper.slots c.x; sent = l }) same,
+    ap (λ (l : List Datagram). record (protocol_state w c) { x = seat_state s w.x_keeper.slots c.x; sent = l }) same,
   ),
   record { referee = fits.referee; x = side; o = fits.o; watchers = fits.watchers },
 )
@@ -64,7 +64,7 @@ seat_moves w c O n s P fits same p side = (
   (
     seat_state s w.o_keeper.slots c.o,
     p,
-    ap (λ (l : List Datagram). record (state_of w c) { o = seat_state s w.o_keeper.slots c.o; sent = l }) same,
+    ap (λ (l : List Datagram). record (protocol_state w c) { o = seat_state s w.o_keeper.slots c.o; sent = l }) same,
   ),
   record { referee = fits.referee; x = fits.x; o = side; watchers = fits.watchers },
 )
@@ -75,8 +75,8 @@ pub seat_saves : (w : WorldView) (c : Restorable) (q : Player) (s : Option SeatV
     → CoresMatch w c
     → P (seat_state (seat_core w q) (seat_keeper w q).slots (restorable_of c q)) (seat_state s k.slots found)
     → SeatSide w.id w.terms q s k found
-    → SeatChanges (state_of w c) q (state_of (with_seat_keeper (with_seat_core w q s) q k)
-    (with_restorable c q found)) (P (seat (state_of w c) q))
+    → SeatChanges (protocol_state w c) q (protocol_state (with_seat_keeper (with_seat_core w q s) q k)
+    (with_restorable c q found)) (P (seat (protocol_state w c) q))
     × CoresMatch (with_seat_keeper (with_seat_core w q s) q k) (with_restorable c q found)
 seat_saves w c X s k found P fits p side = (
   (seat_state s k.slots found, p, refl),
@@ -114,12 +114,12 @@ watchers_match id terms watchers i f all one j g h = at (get_set_watcher watcher
 
 -- the record of a watcher
 pub get_log : (watchers : List WatcherView) (i : ℕ)
-    → slice_get (map watcher_log watchers) i ≡ option_map watcher_log (slice_get watchers i)
-get_log watchers i = slice_get-map watcher_log watchers i
+    → slice_get (map watcher_entries watchers) i ≡ option_map watcher_entries (slice_get watchers i)
+get_log watchers i = slice_get-map watcher_entries watchers i
 
 pub set_log : (watchers : List WatcherView) (i : ℕ) (f : WatcherView)
-    → map watcher_log (slice_set watchers i f) ≡ slice_set (map watcher_log watchers) i (watcher_log f)
-set_log watchers i f = map-set watcher_log watchers i f
+    → map watcher_entries (slice_set watchers i f) ≡ slice_set (map watcher_entries watchers) i (watcher_entries f)
+set_log watchers i f = map-set watcher_entries watchers i f
 
 -- ---- a seat that is down
 
@@ -136,7 +136,7 @@ seat_down (Some s) slots found e = absurd cc
 pub seat_stays : (w : WorldView) (c : Restorable) (q : Player) (P : SeatState → SeatState → Type 0)
     → seat_core w q ≡ None
     → ((s : SeatState) → s.up ≡ false → P s s)
-    → SeatChanges (state_of w c) q (state_of w c) (P (seat (state_of w c) q))
+    → SeatChanges (protocol_state w c) q (protocol_state w c) (P (seat (protocol_state w c) q))
 seat_stays w c X P none p = (
   seat_state w.x w.x_keeper.slots c.x,
   p (seat_state w.x w.x_keeper.slots c.x) (seat_down w.x w.x_keeper.slots c.x none),
@@ -150,7 +150,7 @@ seat_stays w c O P none p = (
 
 -- ---- the slots of the state are those of the keepers
 
-pub slots_of_referee : (w : WorldView) (c : Restorable) → Inv (state_of w c)
+pub slots_of_referee : (w : WorldView) (c : Restorable) → Inv (protocol_state w c)
     → SlotsOk w.id w.terms referee w.referee_keeper.slots c.referee
 slots_of_referee w c inv = slots w.referee inv.referee.slots
   where
@@ -161,7 +161,7 @@ slots_of_referee w c inv = slots w.referee inv.referee.slots
     slots None h = h
     slots (Some r) h = h
 
-pub slots_of_seat : (w : WorldView) (c : Restorable) (q : Player) → Inv (state_of w c)
+pub slots_of_seat : (w : WorldView) (c : Restorable) (q : Player) → Inv (protocol_state w c)
     → SlotsOk w.id w.terms (party_of q) (seat_keeper w q).slots (restorable_of c q)
 slots_of_seat w c X inv = slots w.x inv.x.slots
   where

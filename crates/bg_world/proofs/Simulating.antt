@@ -5,11 +5,11 @@ use Rattle.std.proofs.lemmas.List.Elements.{All-nil}
 use Rattle.bg_wire.specs.Codes.{referee, seat_of_x, seat_of_o}
 use Rattle.bg_world.specs.DiceWords.{HandsIn, ShowsWord}
 use Rattle.bg_world.specs.Simulations.{IsEmptyPlan, IsOfWords, NoneFailed, Simulates, start_in_memory, unused_keeper, unused_link}
-use Rattle.bg_world.specs.State.{IsSetup, State, start}
+use Rattle.bg_world.specs.State.{IsSetup, ProtocolState, start}
 use Rattle.bg_world.specs.Runs.{Run}
 use Rattle.bg_world.specs.Views.{WorldView}
 use Rattle.bg_world.specs.WorldRuns.{RunsAll, history_of}
-use Rattle.bg_world.specs.WorldState.{IsReachedWorld, state_of}
+use Rattle.bg_world.specs.WorldState.{IsReachedWorld, protocol_state}
 use Rattle.bg_world.specs.declared.events.Event.{Event}
 use Rattle.bg_world.specs.declared.plans.FailRead.{FailRead}
 use Rattle.bg_world.specs.declared.plans.FailSend.{FailSend}
@@ -33,7 +33,7 @@ module _ (setup : Setup) (plan : Plan) (is_setup : IsSetup setup.id setup.length
       start_reached setup (unused_link plan) (unused_keeper referee plan) (unused_keeper seat_of_x plan)
       (unused_keeper seat_of_o plan) refl refl refl refl is_setup
 
-  from_start : state_of (start_in_memory setup plan) begin.restorable ≡ start setup.id setup.length setup.watchers
+  from_start : protocol_state (start_in_memory setup plan) begin.restorable ≡ start setup.id setup.length setup.watchers
   unfolding begin
   from_start =
       start_state setup (unused_link plan) (unused_keeper referee plan) (unused_keeper seat_of_x plan)
@@ -49,7 +49,7 @@ module _ (setup : Setup) (plan : Plan) (is_setup : IsSetup setup.id setup.length
         reports = h.reports;
         reached = to.0;
         run =
-            subst (λ (w : State). Run w (history_of events h.outcomes) (state_of new (to.0).restorable)) from_start
+            subst (λ (w : ProtocolState). Run w (history_of events h.outcomes) (protocol_state new (to.0).restorable)) from_start
             to.1;
       }
 
@@ -57,10 +57,10 @@ module _ (setup : Setup) (plan : Plan) (is_setup : IsSetup setup.id setup.length
       → RunsInMemory setup plan events report new → IsOfWords events new
   is_of_words events report new h =
       let to = h.protocol tt tt begin in
-      let w = state_of (start_in_memory setup plan) begin.restorable in
+      let w = protocol_state (start_in_memory setup plan) begin.restorable in
       record {
         reached = to.0;
-        words = run_shows (HandsIn events) w events h.outcomes (state_of new (to.0).restorable)
+        words = run_shows (HandsIn events) w events h.outcomes (protocol_state new (to.0).restorable)
             (reached w begin.reached) (λ word k. k) (All-nil (ShowsWord (HandsIn events))) to.1;
       }
 

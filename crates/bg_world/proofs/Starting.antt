@@ -1,6 +1,6 @@
 -- A world where nothing has happened yet, over an empty link and empty slots, is a reached world: its state is the
 -- start.
-use Rattle.std.specs.Prelude.{◌≡◌, ◌⊎◌, ℕ, zero, suc, ◌+◌, List, [], ◌∷◌, ◌++◌, Some, None, Result, Ok, Err, IfOk}
+use Rattle.std.specs.Prelude.{◌≡◌, ◌⊎◌, ℕ, zero, suc, ◌+◌, List, [], ◌∷◌, ◌++◌, Option, Some, None, Result, Ok, Err, IfOk}
 use Rattle.std.specs.Prelude.{MatchResult, length, map, replicate, slice_get}
 use Rattle.std.proofs.Common.{refl, sym, ◌∙◌, ap, ap₂, subst, inl, inr, arith, length-append}
 use Rattle.std.proofs.lemmas.List.{map-append}
@@ -9,17 +9,19 @@ use Rattle.bg_match.specs.Terms.{Terms}
 use Rattle.bg_match.specs.declared.entries.Entry.{Entry}
 use Rattle.bg_wire.specs.Codes.{first_watcher}
 use Rattle.bg_wire.specs.Restoring.{SlotsRestore}
+use Rattle.bg_wire.specs.SavedText.{SavedParts}
 use Rattle.bg_wire.specs.SlotLaws.{Slots}
 use Rattle.bg_wire.specs.declared.packets.Datagram.{Datagram}
-use Rattle.bg_wire.proofs.OneText.{empty_loads}
+use Rattle.bg_wire.proofs.OneText.{empty_loads, restores_once}
 use Rattle.bg_party.specs.Views.{WatcherView, fresh_follower, fresh_watcher}
 use Rattle.bg_world.specs.declared.setups.Setup.{Setup}
 use Rattle.bg_world.specs.Slots.{empty_slots}
-use Rattle.bg_world.specs.Starts.{AreUnused, fresh_watchers, start_of}
+use Rattle.bg_world.specs.Starts.{AreUnused, fresh_watchers, fresh_world}
 use Rattle.bg_world.specs.State.{IsSetup, start}
 use Rattle.bg_world.specs.Views.{KeeperView, LinkView, WorldView}
-use Rattle.bg_world.specs.WorldState.{CoresMatch, IsReachedWorld, Restorable, WatcherMatches, WatchersMatch, state_of}
-use Rattle.bg_world.specs.WorldState.{watcher_log}
+use Rattle.bg_world.specs.WorldState.{CoresMatch, IsReachedWorld, Restorable, WatcherMatches, WatchersMatch, protocol_state}
+use Rattle.bg_world.specs.WorldState.{watcher_entries}
+use Rattle.bg_world.specs.WorldLaws.{NewWorldsAreAtTheStart}
 use Rattle.bg_world.proofs.EarlyEntries.{none_kept}
 
 -- ---- the watchers
@@ -37,11 +39,11 @@ more_empty : (n : ℕ) → replicate n no_entries ++ no_entries ∷ [] ≡ no_en
 more_empty zero = refl
 more_empty (suc n) = ap (λ (l : List (List Entry)). no_entries ∷ l) (more_empty n)
 
-empty_logs : (id : ℕ) (terms : Terms) (n : ℕ) → map watcher_log (fresh_watchers id terms n) ≡ replicate n []
+empty_logs : (id : ℕ) (terms : Terms) (n : ℕ) → map watcher_entries (fresh_watchers id terms n) ≡ replicate n []
 unfolding no_entries
 empty_logs id terms zero = refl
 empty_logs id terms (suc n) =
-    map-append watcher_log (fresh_watchers id terms n) (fresh_watcher (first_watcher + n) id terms ∷ [])
+    map-append watcher_entries (fresh_watchers id terms n) (fresh_watcher (first_watcher + n) id terms ∷ [])
     ∙ ap (λ (l : List (List Entry)). l ++ [] ∷ []) (empty_logs id terms n) ∙ more_empty n
 
 get_last : (xs : List WatcherView) (x : WatcherView) (i : ℕ) (f : WatcherView) → slice_get (xs ++ x ∷ []) i ≡ Some f
@@ -101,7 +103,7 @@ nothing = record { referee = None; x = None; o = None }
 module _ (setup : Setup) (link : LinkView) (referee x o : KeeperView) (no_sent : link.sent ≡ [])
     (no_referee : referee.slots ≡ empty_slots)
     (no_x : x.slots ≡ empty_slots) (no_o : o.slots ≡ empty_slots) where
-  start_is : state_of (start_of setup link referee x o) nothing ≡ start setup.id setup.length setup.watchers
+  start_is : protocol_state (fresh_world setup link referee x o) nothing ≡ start setup.id setup.length setup.watchers
   start_is =
       let w = start setup.id setup.length setup.watchers in
       ap₂ (λ (s : List Datagram) (l : List (List Entry)). record w {
@@ -118,7 +120,7 @@ module _ (setup : Setup) (link : LinkView) (referee x o : KeeperView) (no_sent :
       }) no_referee
       ∙ ap₂ (λ (b c : Slots). record w { x = record (w.x) { slots = b }; o = record (w.o) { slots = c } }) no_x no_o
 
-  start_matches : CoresMatch (start_of setup link referee x o) nothing
+  start_matches : CoresMatch (fresh_world setup link referee x o) nothing
   start_matches = record {
     referee = (nothing_restored referee.slots no_referee, record { log = (refl, refl); next = refl });
     x = (nothing_restored x.slots no_x, record { sits_for = refl; log = (refl, refl); next = refl });
@@ -127,7 +129,7 @@ module _ (setup : Setup) (link : LinkView) (referee x o : KeeperView) (no_sent :
   }
 
   pub start_reached : IsSetup setup.id setup.length setup.watchers → IsReachedWorld
-      (start_of setup link referee x o)
+      (fresh_world setup link referee x o)
   start_reached is = record {
     restorable = nothing;
     reached = record {
@@ -148,15 +150,36 @@ module _ (setup : Setup) (link : LinkView) (referee x o : KeeperView) (no_sent :
   }
 
   pub start_state : (is : IsSetup setup.id setup.length setup.watchers)
-      → state_of (start_of setup link referee x o) (start_reached is).restorable
+      → protocol_state (fresh_world setup link referee x o) (start_reached is).restorable
       ≡ start setup.id setup.length setup.watchers
   unfolding start_reached
   start_state is = start_is
 
+same_restorable : (r : Restorable) → r.referee ≡ None → r.x ≡ None → r.o ≡ None → r ≡ nothing
+same_restorable r referee x o =
+    ap₂ (λ (a b : Option SavedParts). record { referee = a; x = b; o = r.o }) referee x
+    ∙ ap (λ (c : Option SavedParts). record { referee = None; x = None; o = c }) o
+
+pub at_the_start : NewWorldsAreAtTheStart
+at_the_start setup link referee x o is unused =
+    let w = fresh_world setup link referee x o in
+    let one : (slots : Slots) (found : Option SavedParts) → slots ≡ empty_slots
+    → SlotsRestore slots.zero slots.one found → found ≡ None =
+    λ slots found empty restore. restores_once slots.zero slots.one found None restore (nothing_restored slots empty) in (
+      start_reached setup link referee x o unused.none_sent unused.referee_empty unused.x_empty unused.o_empty is,
+      λ reached.
+          let fits = reached.cores in
+          ap (protocol_state w) (same_restorable reached.restorable
+          (one referee.slots reached.restorable.referee unused.referee_empty fits.referee.0)
+          (one x.slots reached.restorable.x unused.x_empty fits.x.0)
+          (one o.slots reached.restorable.o unused.o_empty fits.o.0))
+          ∙ start_is setup link referee x o unused.none_sent unused.referee_empty unused.x_empty unused.o_empty,
+    )
+
 -- a world that is made over devices that nothing was asked of is a reached one
 pub made_reached : {W E : Type 0} (setup : Setup) (link : LinkView) (referee x o : KeeperView) (view : W → WorldView)
     (Refuses : E → Type 0) (result : Result W E)
-    → IfOk result (λ world. view world ≡ start_of setup link referee x o)
+    → IfOk result (λ world. view world ≡ fresh_world setup link referee x o)
     → MatchResult result (λ _. IsSetup setup.id setup.length setup.watchers) Refuses
     → IfOk result (λ world. AreUnused link referee x o → IsReachedWorld (view world))
 made_reached setup link referee x o view Refuses (Ok world) start is = λ unused.

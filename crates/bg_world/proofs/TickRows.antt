@@ -28,12 +28,12 @@ use Rattle.bg_world.specs.declared.events.Event.TheVariants as events
 use Rattle.bg_world.specs.declared.events.Outcome.{Outcome}
 use Rattle.bg_world.specs.declared.events.Outcome.TheVariants as outcomes
 use Rattle.bg_world.specs.declared.roles.Role.TheVariants as roles
-use Rattle.bg_world.specs.State.{Exists, SeatState, State}
+use Rattle.bg_world.specs.State.{Exists, SeatState, ProtocolState}
 use Rattle.bg_world.specs.WorldState.{CoresMatch, RefereeMatches, Restorable, SeatMatches, SeatSide, restorable_of, seat_state}
-use Rattle.bg_world.specs.WorldState.{state_of, watcher_log}
+use Rattle.bg_world.specs.WorldState.{protocol_state, watcher_entries}
 use Rattle.bg_world.specs.Datagrams.{Carries}
 use Rattle.bg_world.specs.LinkCalls.{FollowerTickCalls, SendCalls, to_referee}
-use Rattle.bg_world.specs.TickStep.{Sends, TickStep, seat_packet, want_packet}
+use Rattle.bg_world.specs.TickStep.{SendsOnTick, TickStep, seat_packet, want_packet}
 use Rattle.bg_world.specs.RefereeTakeStep.{ShowsSaved}
 use Rattle.bg_world.specs.Calls.{NoCalls, TickCalls}
 use Rattle.bg_world.specs.Views.{LinkView, WorldView, parties, seat_core, seat_keeper, with_seat_core}
@@ -55,7 +55,7 @@ may_go : (w : WorldView) (c : Restorable) (r : RefereeView) → RefereeMatches w
 may_go w c r fits [] tells = tt
 may_go w c r fits (push ∷ rest) tells = (
   λ low range. (
-    omega (low, length-map w.watchers watcher_log, arith),
+    omega (low, length-map w.watchers watcher_entries, arith),
     (push.1, carries push.0 push.1 range, of_saved w c r fits push.1 tells.0),
   ),
   may_go w c r fits rest tells.1,
@@ -75,7 +75,7 @@ tick_referee_goes w c honest is_honest o new fits h = at w.referee fits h
         (record w { referee = None }) k.0 k.1
         (record { restorable = c; step = (refl, refl); cores = f })
     at (Some r) f k =
-        let before = state_of (record w { referee = Some r }) c in
+        let before = protocol_state (record w { referee = Some r }) c in
         let packets = k.2.0 in
         let ticks = k.2.1 in
         let after = record r { sessions = after_pushes r.sessions r.saved (pushed r.sessions r.saved) } in
@@ -87,8 +87,8 @@ tick_referee_goes w c honest is_honest o new fits h = at w.referee fits h
         (k.3 ∙ ap (λ (x : RefereeView). record w { link = k.0; referee = Some x }) ticks.after)
         (record {
           restorable = c;
-          step = ticks_row _ (length packets) before (state_of (record w { link = k.0; referee = Some after }) c)
-              (k.0).sent o (few_sent r k.1 packets ticks) went refl;
+          step = ticks_row _ (length packets) before (protocol_state (record w { link = k.0; referee = Some after }) c)
+              (k.0).sent o 2 (few_sent r k.1 packets ticks) went refl;
           cores = record {
             referee = (f.referee.0, other_sessions w.id w.terms c.referee r after f.referee.1);
             x = f.x;
@@ -106,7 +106,7 @@ may_send_when : (due : Bool) (many : ℕ) (p : Packet) (may : Datagram → Type 
 may_send_when true many p may h = (h, tt)
 may_send_when false many p may h = tt
 
-one_at_most : (due : Bool) (p : Packet) → length (to_referee (if due then Some p else None)) ≤ 2
+one_at_most : (due : Bool) (p : Packet) → length (to_referee (if due then Some p else None)) ≤ 1
 one_at_most true p = omega arith
 one_at_most false p = omega arith
 
@@ -129,24 +129,24 @@ same_packet id terms q found s fits =
     (party_of p) s.follower.log.entries s.claim s.claim_saved) fits.log.0 fits.sits_for
 
 -- the row of a seat's tick, by the seat's state
-abbrev SeatTickRow : State → Player → SeatState → Outcome → State → Type 0
+abbrev SeatTickRow : ProtocolState → Player → SeatState → Outcome → ProtocolState → Type 0
 SeatTickRow v q old o u =
-    IfUp old.up v o u (Sends (λ d. Carries d referee
-    (seat_packet v.id (party_of q) old.log old.claim old.claim_saved)) v o u)
+    IfUp old.up v o u (SendsOnTick (λ d. Carries d referee
+    (seat_packet v.id (party_of q) old.log old.claim old.claim_saved)) 1 v o u)
 
 -- a tick later the seat is the same, but for when it sends
 ticked_seat : SeatView → SeatView
 ticked_seat s = record s { follower = ticked s.follower }
 
 ticked_state : (w : WorldView) (c : Restorable) (n : LinkView) (q : Player) (s : SeatView) → seat_core w q ≡ Some s
-    → state_of (with_seat_core (record w { link = n }) q (Some (ticked_seat s))) c
-    ≡ record (state_of w c) { sent = n.sent }
+    → protocol_state (with_seat_core (record w { link = n }) q (Some (ticked_seat s))) c
+    ≡ record (protocol_state w c) { sent = n.sent }
 unfolding ticked_seat
 ticked_state w c n X s is =
-    ap (λ (x : Option SeatView). record (state_of w c) { x = seat_state x w.x_keeper.slots c.x; sent = n.sent })
+    ap (λ (x : Option SeatView). record (protocol_state w c) { x = seat_state x w.x_keeper.slots c.x; sent = n.sent })
     (sym is)
 ticked_state w c n O s is =
-    ap (λ (x : Option SeatView). record (state_of w c) { o = seat_state x w.o_keeper.slots c.o; sent = n.sent })
+    ap (λ (x : Option SeatView). record (protocol_state w c) { o = seat_state x w.o_keeper.slots c.o; sent = n.sent })
     (sym is)
 
 ticked_matches : (w : WorldView) (c : Restorable) (n : LinkView) (q : Player) (s : SeatView) → CoresMatch w c
@@ -168,13 +168,13 @@ ticked_matches w c n O s fits m = record {
 
 pub tick_seat_goes : (w : WorldView) (c : Restorable) (honest : Type 0) → honest
     → (q : Player) (o : Outcome) (new : WorldView) → CoresMatch w c → TickCalls honest w (roles.Seat q) o new
-    → TickStep (state_of w c) (roles.Seat q) o (state_of new c) × CoresMatch new c
+    → TickStep (protocol_state w c) (roles.Seat q) o (protocol_state new c) × CoresMatch new c
 unfolding ticked_seat
 tick_seat_goes w c honest is_honest q o new fits h = at (seat_core w q) (seat_side w c q fits) refl h
   where
-    lift : (p : Player) (u : State)
-        → SeatTickRow (state_of w c) p (seat_state (seat_core w p) (seat_keeper w p).slots (restorable_of c p)) o u
-        → TickStep (state_of w c) (roles.Seat p) o u
+    lift : (p : Player) (u : ProtocolState)
+        → SeatTickRow (protocol_state w c) p (seat_state (seat_core w p) (seat_keeper w p).slots (restorable_of c p)) o u
+        → TickStep (protocol_state w c) (roles.Seat p) o u
     lift X u k = k
     lift O u k = k
 
@@ -182,11 +182,11 @@ tick_seat_goes w c honest is_honest q o new fits h = at (seat_core w q) (seat_si
         → MatchOption s (NoCalls outcomes.Down w o new)
         (λ s. (n : LinkView) × (s' : SeatView) × FollowerTickCalls SeatTicks honest (parties w) w.link s o n s'
         × (new ≡ with_seat_core (record w { link = n }) q (Some s')))
-        → TickStep (state_of w c) (roles.Seat q) o (state_of new c) × CoresMatch new c
+        → TickStep (protocol_state w c) (roles.Seat q) o (protocol_state new c) × CoresMatch new c
     at None side is k = (
-      lift q (state_of new c) (subst (λ (s : Option SeatView). SeatTickRow (state_of w c) q
-          (seat_state s (seat_keeper w q).slots (restorable_of c q)) o (state_of new c)) (sym is)
-          (k.0, ap (λ (x : WorldView). state_of x c) k.1)),
+      lift q (protocol_state new c) (subst (λ (s : Option SeatView). SeatTickRow (protocol_state w c) q
+          (seat_state s (seat_keeper w q).slots (restorable_of c q)) o (protocol_state new c)) (sym is)
+          (k.0, ap (λ (x : WorldView). protocol_state x c) k.1)),
       subst (λ (x : WorldView). CoresMatch x c) (sym k.1) fits,
     )
     at (Some s) side is k =
@@ -206,11 +206,11 @@ tick_seat_goes w c honest is_honest q o new fits h = at (seat_core w q) (seat_si
         (may_send_when due (parties w) (packet_of_seat s) may may_go) one in
         let same : new ≡ with_seat_core (record w { link = k.0 }) q (Some (ticked_seat s)) =
         k.3 ∙ ap (λ (x : SeatView). with_seat_core (record w { link = k.0 }) q (Some x)) ticks.after in
-        let row = ticks_row may (length (to_referee (if due then Some (packet_of_seat s) else None))) (state_of w c)
-        (state_of new c) (k.0).sent o (one_at_most due (packet_of_seat s)) went
-        (ap (λ (x : WorldView). state_of x c) same ∙ ticked_state w c k.0 q s is) in (
-          lift q (state_of new c) (subst (λ (x : Option SeatView). SeatTickRow (state_of w c) q
-              (seat_state x (seat_keeper w q).slots (restorable_of c q)) o (state_of new c)) (sym is) row),
+        let row = ticks_row may (length (to_referee (if due then Some (packet_of_seat s) else None))) (protocol_state w c)
+        (protocol_state new c) (k.0).sent o 1 (one_at_most due (packet_of_seat s)) went
+        (ap (λ (x : WorldView). protocol_state x c) same ∙ ticked_state w c k.0 q s is) in (
+          lift q (protocol_state new c) (subst (λ (x : Option SeatView). SeatTickRow (protocol_state w c) q
+              (seat_state x (seat_keeper w q).slots (restorable_of c q)) o (protocol_state new c)) (sym is) row),
           subst (λ (x : WorldView). CoresMatch x c) (sym same) (ticked_matches w c k.0 q s fits side.1),
         )
 
@@ -227,37 +227,37 @@ ticked_watcher : WatcherView → WatcherView
 ticked_watcher f = record f { follower = ticked f.follower }
 
 ticked_logs : (watchers : List WatcherView) (i : ℕ) (f : WatcherView) → slice_get watchers i ≡ Some f
-    → map watcher_log (slice_set watchers i (ticked_watcher f)) ≡ map watcher_log watchers
+    → map watcher_entries (slice_set watchers i (ticked_watcher f)) ≡ map watcher_entries watchers
 unfolding ticked_watcher
 ticked_logs watchers i f is =
     set_log watchers i (ticked_watcher f) ∙ sym (set_log watchers i f)
-    ∙ ap (map watcher_log) (set_same watchers i f is)
+    ∙ ap (map watcher_entries) (set_same watchers i f is)
 
 pub tick_watcher_goes : (w : WorldView) (c : Restorable) (honest : Type 0) → honest
     → (i : ℕ) (o : Outcome) (new : WorldView) → CoresMatch w c → TickCalls honest w (roles.Watcher i) o new
-    → TickStep (state_of w c) (roles.Watcher i) o (state_of new c) × CoresMatch new c
+    → TickStep (protocol_state w c) (roles.Watcher i) o (protocol_state new c) × CoresMatch new c
 unfolding ticked_watcher
 tick_watcher_goes w c honest is_honest i o new fits h = at (slice_get w.watchers i) refl h
   where
     lift : (f : Option WatcherView) → slice_get w.watchers i ≡ f
-        → MatchOption (option_map watcher_log f) (NoParty (state_of w c) o (state_of new c))
-        (λ log. Sends (λ d. Carries d referee (want_packet w.id (first_watcher + i) log)) (state_of w c) o
-        (state_of new c))
-        → TickStep (state_of w c) (roles.Watcher i) o (state_of new c)
+        → MatchOption (option_map watcher_entries f) (NoParty (protocol_state w c) o (protocol_state new c))
+        (λ log. SendsOnTick (λ d. Carries d referee (want_packet w.id (first_watcher + i) log)) 1 (protocol_state w c) o
+        (protocol_state new c))
+        → TickStep (protocol_state w c) (roles.Watcher i) o (protocol_state new c)
     lift f is k =
-        subst (λ (x : Option (List Entry)). MatchOption x (NoParty (state_of w c) o (state_of new c))
-        (λ log. Sends (λ d. Carries d referee (want_packet w.id (first_watcher + i) log)) (state_of w c) o
-        (state_of new c)))
-        (sym (get_log w.watchers i ∙ ap (option_map watcher_log) is)) k
+        subst (λ (x : Option (List Entry)). MatchOption x (NoParty (protocol_state w c) o (protocol_state new c))
+        (λ log. SendsOnTick (λ d. Carries d referee (want_packet w.id (first_watcher + i) log)) 1 (protocol_state w c) o
+        (protocol_state new c)))
+        (sym (get_log w.watchers i ∙ ap (option_map watcher_entries) is)) k
 
     at : (f : Option WatcherView) → slice_get w.watchers i ≡ f
         → MatchOption f (NoCalls outcomes.NoSuchParty w o new)
         (λ f. (n : LinkView) × (f' : WatcherView)
         × FollowerTickCalls WatcherTicks honest (parties w) w.link f o n f'
         × (new ≡ record w { link = n; watchers = slice_set w.watchers i f' }))
-        → TickStep (state_of w c) (roles.Watcher i) o (state_of new c) × CoresMatch new c
+        → TickStep (protocol_state w c) (roles.Watcher i) o (protocol_state new c) × CoresMatch new c
     at None is k = (
-      lift None is (k.0, ap (λ (x : WorldView). state_of x c) k.1),
+      lift None is (k.0, ap (λ (x : WorldView). protocol_state x c) k.1),
       subst (λ (x : WorldView). CoresMatch x c) (sym k.1) fits,
     )
     at (Some f) is k =
@@ -281,10 +281,10 @@ tick_watcher_goes w c honest is_honest i o new fits h = at (slice_get w.watchers
         (may_send_when due (parties w) (want_of f.party log) may may_go) one in
         let same : new ≡ record w { link = k.0; watchers = slice_set w.watchers i (ticked_watcher f) } =
         k.3 ∙ ap (λ (x : WatcherView). record w { link = k.0; watchers = slice_set w.watchers i x }) ticks.after in
-        let row = ticks_row may (length (to_referee (if due then Some (want_of f.party log) else None))) (state_of w c)
-        (state_of new c) (k.0).sent o (one_at_most due (want_of f.party log)) went
-        (ap (λ (x : WorldView). state_of x c) same
-        ∙ ap (λ (l : List (List Entry)). record (state_of w c) { watchers = l; sent = (k.0).sent })
+        let row = ticks_row may (length (to_referee (if due then Some (want_of f.party log) else None))) (protocol_state w c)
+        (protocol_state new c) (k.0).sent o 1 (one_at_most due (want_of f.party log)) went
+        (ap (λ (x : WorldView). protocol_state x c) same
+        ∙ ap (λ (l : List (List Entry)). record (protocol_state w c) { watchers = l; sent = (k.0).sent })
         (ticked_logs w.watchers i f is)) in (
           lift (Some f) is row,
           subst (λ (x : WorldView). CoresMatch x c) (sym same) (record {

@@ -37,7 +37,7 @@ use Rattle.bg_world.specs.Datagrams.{Carries, WasSent}
 use Rattle.bg_world.specs.DueStep.{with_entry}
 use Rattle.bg_world.specs.RefereeTakeStep.{ReplyStep}
 use Rattle.bg_world.specs.Runs.{Run, IsReached}
-use Rattle.bg_world.specs.State.{State, with_seat, saved_log, log_of, start}
+use Rattle.bg_world.specs.State.{ProtocolState, with_seat, saved_log, log_of, start}
 use Rattle.bg_world.specs.Step.{Step}
 use Rattle.bg_world.proofs.Lists.{prefix_length}
 use Rattle.bg_world.proofs.Reached.{reached, agreement}
@@ -221,13 +221,13 @@ turn_fits = record {
 }
 
 -- match 1, which is played to one point, with one watcher
-abbrev started : State
+abbrev started : ProtocolState
 started = start 1 1 1
 
-abbrev opened : State
+abbrev opened : ProtocolState
 opened = with_entry started opening
 
-abbrev opening_saved : State
+abbrev opening_saved : ProtocolState
 opening_saved = record opened {
   referee = record (opened.referee) {
     saved = 1;
@@ -236,32 +236,32 @@ opening_saved = record opened {
   };
 }
 
-abbrev x_asked : State
+abbrev x_asked : ProtocolState
 x_asked = record opening_saved { sent = datagram 0 (want 1 0) ∷ [] }
 
-abbrev x_answered : State
+abbrev x_answered : ProtocolState
 x_answered = record x_asked { sent = x_asked.sent ++ datagram 1 opening_told ∷ [] }
 
-abbrev x_learned : State
+abbrev x_learned : ProtocolState
 x_learned = with_seat x_answered X (record (x_answered.x) { log = opening ∷ [] })
 
-abbrev x_chose : State
+abbrev x_chose : ProtocolState
 x_chose = with_seat x_learned X (record (x_learned.x) { claim = Some (2, action.Move turn); claim_saved = false })
 
-abbrev claim_saved : State
+abbrev claim_saved : ProtocolState
 claim_saved = with_seat x_chose X (record (x_chose.x) {
   claim_saved = true;
   slots = record { zero = []; one = saved_text save_of_claim };
   restorable = Some save_of_claim;
 })
 
-abbrev x_claimed : State
+abbrev x_claimed : ProtocolState
 x_claimed = record claim_saved { sent = claim_saved.sent ++ datagram 0 claim ∷ [] }
 
-abbrev accepted : State
+abbrev accepted : ProtocolState
 accepted = with_entry x_claimed move
 
-abbrev turn_saved : State
+abbrev turn_saved : ProtocolState
 turn_saved = record accepted {
   referee = record (accepted.referee) {
     saved = 2;
@@ -270,13 +270,13 @@ turn_saved = record accepted {
   };
 }
 
-abbrev watcher_asked : State
+abbrev watcher_asked : ProtocolState
 watcher_asked = record turn_saved { sent = turn_saved.sent ++ datagram 0 (want 3 0) ∷ [] }
 
-abbrev watcher_answered : State
+abbrev watcher_answered : ProtocolState
 watcher_answered = record watcher_asked { sent = watcher_asked.sent ++ datagram 3 turn_told ∷ [] }
 
-abbrev watcher_learned : State
+abbrev watcher_learned : ProtocolState
 watcher_learned = record watcher_answered { watchers = (opening ∷ move ∷ []) ∷ [] }
 
 game_opens : Step started (events.Due 12) (outcomes.Due (Ok 1)) opened
@@ -513,7 +513,7 @@ first_turn_is_a_run = (
 -- ---- what is no run, and no step
 
 -- no run leads to a state in which a watcher holds more than the referee has saved, as a roll that is not saved
-pub unsaved_roll_is_held_by_nobody : (w : State) (log : List Entry) → log_of w 3 ≡ Some log → w.referee.saved < length log → IsReached w → ⊥
+pub unsaved_roll_is_held_by_nobody : (w : ProtocolState) (log : List Entry) → log_of w 3 ≡ Some log → w.referee.saved < length log → IsReached w → ⊥
 unsaved_roll_is_held_by_nobody w log holds more h =
     let p = (agreement w (reached w h)).followers 3 log (omega arith) holds in
     omega (arith, prefix_length log (saved_log w) p, length-take-most w.referee.saved w.referee.log)
@@ -524,5 +524,5 @@ unsaved_roll_is_held_by_nobody w log holds more h =
     length-take-most (suc n) (x ∷ xs) = let k = length-take-most n xs in omega arith
 
 -- the claim of the move is accepted once: where the referee holds the move, taking the same claim again is no such step
-pub claim_is_accepted_once : (word n : ℕ) (v : State) → ReplyStep accepted word claim (takes.Accepted n) v → ⊥
+pub claim_is_accepted_once : (word n : ℕ) (v : ProtocolState) → ReplyStep accepted word claim (takes.Accepted n) v → ⊥
 claim_is_accepted_once word n v h = let next = h.1.1 in omega arith

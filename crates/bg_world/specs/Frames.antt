@@ -5,15 +5,15 @@ use Rattle.bg_match.specs.declared.entries.Entry.{Entry}
 use Rattle.bg_wire.specs.declared.packets.Datagram.{Datagram}
 use Rattle.bg_world.specs.declared.events.Outcome.{Outcome}
 use Rattle.bg_world.specs.declared.events.Outcome.TheVariants as outcomes
-use Rattle.bg_world.specs.State.{State, SeatState, with_seat}
+use Rattle.bg_world.specs.State.{ProtocolState, SeatState, with_seat}
 
 -- the party is up and this happens; or it is down, the outcome says so, and nothing changes
-abbrev pub IfUp : Bool → State → Outcome → State → Type 0 → Type 0
+abbrev pub IfUp : Bool → ProtocolState → Outcome → ProtocolState → Type 0 → Type 0
 IfUp true w o v Happens = Happens
 IfUp false w o v Happens = (o ≡ outcomes.Down) × (v ≡ w)
 
 -- a seat comes from one state to another, and nothing else changes
-abbrev pub SeatChanges : State → Player → State → (SeatState → Type 0) → Type 0
+abbrev pub SeatChanges : ProtocolState → Player → ProtocolState → (SeatState → Type 0) → Type 0
 SeatChanges w player v Becomes = (new : SeatState) × Becomes new × (v ≡ with_seat w player new)
 
 -- the same, where an event does nothing to a seat that is down
@@ -22,15 +22,15 @@ SeatIfUp true o old new Happens = Happens
 SeatIfUp false o old new Happens = (o ≡ outcomes.Down) × (new ≡ old)
 
 -- there is no such party, the outcome says so, and nothing changes
-abbrev pub NoParty : State → Outcome → State → Type 0
+abbrev pub NoParty : ProtocolState → Outcome → ProtocolState → Type 0
 NoParty w o v = (o ≡ outcomes.NoSuchParty) × (v ≡ w)
 
 -- there is a watcher of this index, to whose record this happens; or there is no such party
-abbrev pub AtWatcher : State → ℕ → Outcome → State → (List Entry → Type 0) → Type 0
+abbrev pub AtWatcher : ProtocolState → ℕ → Outcome → ProtocolState → (List Entry → Type 0) → Type 0
 AtWatcher w index o v Happens = MatchOption (slice_get w.watchers index) (NoParty w o v) Happens
 
 -- at most so many datagrams are sent, each of which may be, and nothing else changes
-pub record SendsAtMost (may : Datagram → Type 0) (most : ℕ) (w v : State) : Type 0 where
+pub record SendsAtMost (may : Datagram → Type 0) (most : ℕ) (w v : ProtocolState) : Type 0 where
   pub out : List Datagram
   pub few : length out ≤ most
   pub each : All may out

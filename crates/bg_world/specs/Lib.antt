@@ -19,6 +19,7 @@ pub mod Claims
 pub mod Headline
 pub mod Refusals
 pub mod Survival
+pub mod GivenBack
 pub mod Devices
 pub mod Handed
 pub mod Plan
@@ -35,9 +36,11 @@ pub mod World
 pub mod Starts
 pub mod NotRefused
 pub mod Upholds
+pub mod WorldLaws
 pub mod EventText
 pub mod EventLines
 pub mod OutcomeText
+pub mod FaultWords
 pub mod FinalText
 pub mod DiceWords
 pub mod Simulations

@@ -98,43 +98,43 @@ outcome_text outcome.Memory = codes "out of memory"
 -- ---- which outcomes have one line
 
 -- as each number of the program is
-abbrev pub IsNumber : ℕ → Type 0
-IsNumber n = n < 2 ^ 64
+abbrev pub FitsIn64Bits : ℕ → Type 0
+FitsIn64Bits n = n < 2 ^ 64
 
 abbrev pub HasReasonNumber : EntryFault → Type 0
-HasReasonNumber (entry_fault.Turn (turn_fault.StepIllegal played)) = IsNumber (played + 1)
+HasReasonNumber (entry_fault.Turn (turn_fault.StepIllegal played)) = FitsIn64Bits (played + 1)
 HasReasonNumber _ = Unit {0}
 
 abbrev pub HasTakeNumbers : TakeOutcome → Type 0
 HasTakeNumbers (take.Answer to p) =
-    IsNumber to × IfSome (entries_told p) (λ range. IsNumber range.0 × IsNumber range.1)
+    FitsIn64Bits to × IfSome (entries_told p) (λ range. FitsIn64Bits range.0 × FitsIn64Bits range.1)
 HasTakeNumbers (take.Illegal why) = HasReasonNumber why
-HasTakeNumbers (take.Accepted n) = IsNumber n
+HasTakeNumbers (take.Accepted n) = FitsIn64Bits n
 HasTakeNumbers _ = Unit {0}
 
 abbrev pub HasLearnNumber : Learned → Type 0
-HasLearnNumber (learn.Conflict n) = IsNumber n
-HasLearnNumber (learn.Illegal n) = IsNumber n
-HasLearnNumber (learn.Grew count) = IsNumber count
+HasLearnNumber (learn.Conflict n) = FitsIn64Bits n
+HasLearnNumber (learn.Illegal n) = FitsIn64Bits n
+HasLearnNumber (learn.Grew count) = FitsIn64Bits count
 HasLearnNumber _ = Unit {0}
 
 abbrev pub HasChooseNumber : Result ℕ ChooseFault → Type 0
-HasChooseNumber (Ok n) = IsNumber n
+HasChooseNumber (Ok n) = FitsIn64Bits n
 HasChooseNumber (Err (choose_fault.Illegal why)) = HasReasonNumber why
 HasChooseNumber _ = Unit {0}
 
 abbrev pub HasFaultNumber : WireFault → Type 0
-HasFaultNumber (wire_fault.Field at) = IsNumber at
+HasFaultNumber (wire_fault.Field at) = FitsIn64Bits at
 HasFaultNumber _ = Unit {0}
 
 -- the numbers that the line has
 abbrev pub HasNumbers : Outcome → Type 0
-HasNumbers (outcome.Due result) = IfOk result IsNumber
+HasNumbers (outcome.Due result) = IfOk result FitsIn64Bits
 HasNumbers (outcome.Took took) = HasTakeNumbers took
 HasNumbers (outcome.Learned learned) = HasLearnNumber learned
 HasNumbers (outcome.Chose result) = HasChooseNumber result
-HasNumbers (outcome.Saved number) = IsNumber number
-HasNumbers (outcome.Sent count) = IsNumber count
+HasNumbers (outcome.Saved number) = FitsIn64Bits number
+HasNumbers (outcome.Sent count) = FitsIn64Bits count
 HasNumbers (outcome.NotAPacket why) = HasFaultNumber why
 HasNumbers _ = Unit {0}
 

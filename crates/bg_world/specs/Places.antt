@@ -14,14 +14,14 @@ list_of None = []
 list_of (Some places) = places.items
 
 -- the list of a party; it is empty where there is none
-abbrev pub list_at : List (Vec ℕ) → ℕ → List ℕ
-list_at lists party = list_of (slice_get lists party)
+abbrev pub places_at : List (Vec ℕ) → ℕ → List ℕ
+places_at lists party = list_of (slice_get lists party)
 
 -- each party's list has the places of the datagrams to it
 abbrev pub IsIndexOf : List Datagram → List (Vec ℕ) → Type 0
-IsIndexOf sent lists = (party : ℕ) → list_at lists party ≡ places_from 0 party sent
+IsIndexOf sent lists = (party : ℕ) → places_at lists party ≡ places_from 0 party sent
 
 -- the datagram at a place, if there is one
-abbrev pub at_place : List Datagram → Option ℕ → Option Datagram
-at_place sent None = None
-at_place sent (Some place) = slice_get sent place
+abbrev pub datagram_at : List Datagram → Option ℕ → Option Datagram
+datagram_at sent None = None
+datagram_at sent (Some place) = slice_get sent place

@@ -14,24 +14,24 @@ use Rattle.bg_world.specs.declared.events.Outcome.TheVariants as outcomes
 use Rattle.bg_world.specs.Datagrams.{Carries, WasSent}
 use Rattle.bg_world.specs.DueStep.{with_entry}
 use Rattle.bg_world.specs.Frames.{SendsAtMost}
-use Rattle.bg_world.specs.State.{State, saved_log}
+use Rattle.bg_world.specs.State.{ProtocolState, saved_log}
 
 -- the packet tells entries of this match that the referee has saved, under their own numbers
-abbrev pub IsOfSaved : State → Packet → Type 0
+abbrev pub IsOfSaved : ProtocolState → Packet → Type 0
 IsOfSaved w (packet.Entries id start list) = (id ≡ w.id) × IsRun (saved_log w) start list
 IsOfSaved w _ = ⊥
 
 -- a datagram of such a packet
-abbrev pub ShowsSaved : State → Datagram → Type 0
+abbrev pub ShowsSaved : ProtocolState → Datagram → Type 0
 ShowsSaved w d = (p : Packet) × Carries d d.to p × IsOfSaved w p
 
 -- the packet claims no entry that the referee accepts
-abbrev pub AcceptsNone : State → ℕ → Packet → Type 0
+abbrev pub AcceptsNone : ProtocolState → ℕ → Packet → Type 0
 AcceptsNone w word p = (e : Entry) → IsAccepted w.id w.terms w.referee.log word p e → ⊥
 
 -- The referee's record grows by the entry that the packet in hand claims, exactly where it is accepted, want of
 -- memory aside. At an answer the list of datagrams grows by just that answer.
-abbrev pub ReplyStep : State → ℕ → Packet → TakeOutcome → State → Type 0
+abbrev pub ReplyStep : ProtocolState → ℕ → Packet → TakeOutcome → ProtocolState → Type 0
 ReplyStep w word p (takes.Accepted n) v =
     (e : Entry) × IsAccepted w.id w.terms w.referee.log word p e × (v ≡ with_entry w e) × (n ≡ length w.referee.log + 1)
 ReplyStep w word p (takes.Answer party answer) v =
@@ -42,7 +42,7 @@ ReplyStep w word p _ v = AcceptsNone w word p × (v ≡ w)
 
 -- The packet in hand is one that was sent to the referee. Where the link or memory fails, an answer may have gone
 -- out.
-abbrev pub RefereeTakeStep : State → ℕ → Outcome → State → Type 0
+abbrev pub RefereeTakeStep : ProtocolState → ℕ → Outcome → ProtocolState → Type 0
 RefereeTakeStep w word (outcomes.Took took) v = (p : Packet) × WasSent w.sent referee p × ReplyStep w word p took v
 RefereeTakeStep w word outcomes.NoDatagram v = v ≡ w
 RefereeTakeStep w word (outcomes.NotAPacket why) v = v ≡ w

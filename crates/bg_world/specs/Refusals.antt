@@ -19,7 +19,7 @@ use Rattle.bg_wire.specs.declared.packets.Packet.TheVariants as packet
 use Rattle.bg_party.specs.Claims.{trial_dice}
 use Rattle.bg_party.specs.Learns.{Agrees, new_entries}
 use Rattle.bg_world.specs.Datagrams.{WasSent}
-use Rattle.bg_world.specs.State.{State, Exists, saved_log, log_of, seat}
+use Rattle.bg_world.specs.State.{ProtocolState, Exists, saved_log, log_of, seat}
 
 -- the claim could be made after a front of the saved entries: the seat acts there, and the action's entry may follow
 pub record IsLegalClaim (terms : Terms) (saved : List Entry) (player : Player) (n : ℕ) (action : Action) : Type 0 where
@@ -33,7 +33,7 @@ pub record IsLegalClaim (terms : Terms) (saved : List Entry) (player : Player) (
 
 -- the packet is of this match, and says what its sender may say: a party that exists asks for no more than is
 -- saved, a seat claims what it could claim, and entries are saved ones under their own numbers
-abbrev pub IsSound : State → Packet → Type 0
+abbrev pub IsSound : ProtocolState → Packet → Type 0
 IsSound w (packet.Want id sender held) = (id ≡ w.id) × Exists w sender × (held ≤ w.referee.saved)
 IsSound w (packet.Claim id sender n action) =
     (id ≡ w.id) × ((player : Player) × (sender ≡ party_of player) × IsLegalClaim w.terms (saved_log w) player n action)
@@ -41,7 +41,7 @@ IsSound w (packet.Entries id start list) = (id ≡ w.id) × IsRun (saved_log w) 
 
 -- what the referee may be handed: a claim is no later than the next entry, and there it is of the seat that acts,
 -- and its entry may follow, with any dice
-pub record IsNoClaimRefused (w : State) : Type 0 where
+pub record IsNoClaimRefused (w : ProtocolState) : Type 0 where
   pub not_ahead : (id sender n : ℕ) (a : Action) → WasSent w.sent referee (packet.Claim id sender n a)
       → n ≤ length w.referee.log + 1
   pub turn : (id sender n : ℕ) (a : Action) → WasSent w.sent referee (packet.Claim id sender n a)
@@ -52,7 +52,7 @@ pub record IsNoClaimRefused (w : State) : Type 0 where
       → (dice : Option Dice) (e : Entry) → Answers a dice e → IsNext w.terms w.referee.log e
 
 -- what a follower may be handed: entries agree with its record, and where they join it they continue it legally
-pub record AreNoEntriesRefused (w : State) : Type 0 where
+pub record AreNoEntriesRefused (w : ProtocolState) : Type 0 where
   pub agree : (party : ℕ) (log : List Entry) (to id start : ℕ) (list : List Entry)
       → 0 < party → log_of w party ≡ Some log → WasSent w.sent to (packet.Entries id start list) → Agrees log start list
   pub follow : (party : ℕ) (log : List Entry) (to id start : ℕ) (list : List Entry)
@@ -61,7 +61,7 @@ pub record AreNoEntriesRefused (w : State) : Type 0 where
       → IsLegalRecord w.terms (log ++ new_entries log start list)
 
 -- no packet that was ever sent is refused for its match, its number, its turn or its rules
-pub record IsNoPacketRefused (w : State) : Type 0 where
+pub record IsNoPacketRefused (w : ProtocolState) : Type 0 where
   pub sound : (to : ℕ) (p : Packet) → WasSent w.sent to p → IsSound w p
   pub claims : IsNoClaimRefused w
   pub entries : AreNoEntriesRefused w
@@ -72,7 +72,7 @@ pub record AreWhole (id : ℕ) (terms : Terms) (party : ℕ) (slots : Slots) (re
   pub of_match : AreOfMatch party id terms slots restorable
 
 -- no slot is refused for its text
-pub record IsNoSlotRefused (w : State) : Type 0 where
+pub record IsNoSlotRefused (w : ProtocolState) : Type 0 where
   pub referee : AreWhole w.id w.terms referee w.referee.slots w.referee.restorable
   pub seats : (player : Player)
       → AreWhole w.id w.terms (party_of player) (seat w player).slots (seat w player).restorable

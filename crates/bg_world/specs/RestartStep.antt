@@ -8,7 +8,7 @@ use Rattle.bg_world.specs.declared.roles.Role.TheVariants.{Referee as AsReferee,
 use Rattle.bg_world.specs.Frames.{SeatChanges, AtWatcher}
 use Rattle.bg_wire.specs.SlotLaws.{Slots}
 use Rattle.bg_world.specs.Slots.{entries_in, claim_in}
-use Rattle.bg_world.specs.State.{State, RefereeState, SeatState, seat}
+use Rattle.bg_world.specs.State.{ProtocolState, RefereeState, SeatState, seat}
 
 -- the referee with what its slots restore, all of which counts as saved; it is up, or down
 abbrev pub restored_referee : Slots → Option SavedParts → Bool → RefereeState
@@ -39,7 +39,7 @@ RestartsTo outcomes.Memory Becomes = Becomes false
 RestartsTo _ Becomes = ⊥
 
 -- The party has what its slots restore, whether it was up or down; a watcher has the empty record.
-abbrev pub RestartStep : State → Role → Outcome → State → Type 0
+abbrev pub RestartStep : ProtocolState → Role → Outcome → ProtocolState → Type 0
 RestartStep w AsReferee o v =
     RestartsTo o (λ up. v ≡ record w { referee = restored_referee w.referee.slots w.referee.restorable up })
 RestartStep w (AsSeat player) o v =

@@ -13,10 +13,10 @@ use Rattle.bg_world.specs.declared.roles.Role.TheVariants.{Referee as AsReferee,
 use Rattle.bg_world.specs.Frames.{IfUp, SeatChanges, SeatIfUp, NoParty}
 use Rattle.bg_world.specs.RestartStep.{restored_referee, restored_seat}
 use Rattle.bg_world.specs.Slots.{SaveWritten, SaveTorn, next_number}
-use Rattle.bg_world.specs.State.{State, SeatState, seat}
+use Rattle.bg_world.specs.State.{ProtocolState, SeatState, seat}
 
 -- what the next save of the referee tells: its number is one above that of the save that the slots restore
-abbrev pub to_save_referee : State → SavedParts
+abbrev pub to_save_referee : ProtocolState → SavedParts
 to_save_referee w = record {
   party = referee;
   id = w.id;
@@ -39,7 +39,7 @@ to_save_seat id terms player f = record {
 
 -- Where the save is written, all entries count as saved. Where it is not, the referee is down, with what its slots
 -- restore.
-abbrev pub RefereeSaveStep : State → Outcome → State → Type 0
+abbrev pub RefereeSaveStep : ProtocolState → Outcome → ProtocolState → Type 0
 RefereeSaveStep w (outcomes.Saved k) v =
     (k ≡ next_number w.referee.restorable)
     × ((slots : Slots) × (restorable : Option SavedParts)
@@ -71,7 +71,7 @@ SeatSaveStep id terms player outcomes.Memory old new = new ≡ old
 SeatSaveStep id terms player _ old new = ⊥
 
 -- The referee and the seats save, and a watcher does not.
-abbrev pub SaveStep : State → Role → Outcome → State → Type 0
+abbrev pub SaveStep : ProtocolState → Role → Outcome → ProtocolState → Type 0
 SaveStep w AsReferee o v = IfUp w.referee.up w o v (RefereeSaveStep w o v)
 SaveStep w (AsSeat player) o v =
     SeatChanges w player v (λ new. SeatIfUp (seat w player).up o (seat w player) new

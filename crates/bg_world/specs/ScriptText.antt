@@ -15,13 +15,15 @@ use Rattle.bg_world.specs.EventText.{IsEvent, IsEventTextFault, event_text}
 use Rattle.bg_world.specs.FinalText.{IsFinalText}
 use Rattle.bg_world.specs.OutcomeText.{outcome_text}
 use Rattle.bg_world.specs.Simulations.{IsEmptyPlan, start_in_memory}
+use Rattle.bg_world.specs.Starts.{IsWorldFault}
+use Rattle.bg_world.specs.State.{IsSetup}
 use Rattle.bg_world.specs.Views.{WorldView}
 use Rattle.bg_world.specs.WorldRuns.{CallsAll}
 use Rattle.bg_world.specs.declared.events.Event.{Event}
 use Rattle.bg_world.specs.declared.events.Outcome.{Outcome}
 use Rattle.bg_world.specs.declared.plans.Plan.{Plan}
 use Rattle.bg_world.specs.declared.scripts.ScriptFault.{ScriptFault}
-use Rattle.bg_world.specs.declared.scripts.ScriptFault.TheVariants.{Engine}
+use Rattle.bg_world.specs.declared.scripts.ScriptFault.TheVariants.{Engine, World}
 use Rattle.bg_world.specs.declared.setups.Setup.{Setup}
 
 -- the lines are the texts of the events
@@ -32,8 +34,8 @@ abbrev pub event_reason : TextFault → List ℕ
 event_reason NotALine = codes "not an event"
 event_reason why = text_reason why
 
-abbrev pub refused_line : ℕ → TextFault → List ℕ
-refused_line number why = codes "refused at line " ++ decimal number ++ codes ": " ++ event_reason why
+abbrev pub refused_event_line : ℕ → TextFault → List ℕ
+refused_event_line number why = codes "refused at line " ++ decimal number ++ codes ": " ++ event_reason why
 
 -- the line of this number, from 1, is the first that is no event's, and what is wrong with it
 pub record IsRefusedAt (lines : List (List ℕ)) (number : ℕ) (why : TextFault) : Type 0 where
@@ -63,7 +65,7 @@ pub record IsRefused (lines : List (List ℕ)) (text : List ℕ) (verdict : Verd
   pub number : ℕ
   pub why : TextFault
   pub place : IsRefusedAt lines number why
-  pub printed : text ≡ line_text (refused_line number why)
+  pub printed : text ≡ line_text (refused_event_line number why)
   pub refused : verdict ≡ Refused number
 
 -- what is printed of an input by a world, and the verdict
@@ -79,6 +81,11 @@ abbrev pub IsScriptText : Setup → List ℕ → List ℕ → Verdict → Type 0
 IsScriptText setup input text verdict =
     (plan : Plan) × IsEmptyPlan plan
     × IsTextFrom (Unit {0}) (Unit {0}) (start_in_memory setup plan) input text verdict
+
+-- there is no such world; or there is one, and a device failed, or memory ran out
+abbrev pub IsScriptFault : ScriptFault → Setup → Type 0
+IsScriptFault (World why) setup = IsWorldFault why setup
+IsScriptFault (Engine why) setup = IsSetup setup.id setup.length setup.watchers
 
 -- how often the source and the sink failed: once each where the answer is their fault, and else not at all
 abbrev pub SourceFailsOnce : {T : Type 0} → Result T ScriptFault → ℕ → ℕ → Type 0

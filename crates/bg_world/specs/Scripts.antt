@@ -33,7 +33,8 @@ pub record IsPartChecked (input : List ℕ) (count : ℕ) (rest : List ℕ) : Ty
   pub few : count + length rest ≤ length input
 
 -- the events of the lines happen, and the lines of what they come to are added
-pub record Plays (link_honest keepers_honest : Type 0) (old : WorldView) (lines : List (List ℕ)) (before after : List ℕ)
+pub record PlaysLines
+    (link_honest keepers_honest : Type 0) (old : WorldView) (lines : List (List ℕ)) (before after : List ℕ)
     (new : WorldView) : Type 0 where
   pub events : List Event
   pub outcomes : List Outcome

@@ -3,10 +3,10 @@ use Rattle.std.specs.Prelude.{◌≡◌, ℕ, ◌+◌, ◌≤◌, Some, List, sl
 use Rattle.bg_match.specs.declared.entries.Entry.{Entry}
 use Rattle.bg_wire.specs.declared.packets.Packet.TheVariants as packet
 use Rattle.bg_world.specs.Datagrams.{WasSent}
-use Rattle.bg_world.specs.State.{State}
+use Rattle.bg_world.specs.State.{ProtocolState}
 
 -- no datagram ever sent shows an entry under a number above that of the last saved one
-abbrev pub ShowsSavedAlone : State → Type 0
+abbrev pub ShowsSavedAlone : ProtocolState → Type 0
 ShowsSavedAlone w =
     (to id start : ℕ) (list : List Entry) (i : ℕ) (e : Entry) → WasSent w.sent to (packet.Entries id start list)
     → slice_get list i ≡ Some e → start + i ≤ w.referee.saved

@@ -5,11 +5,11 @@ use Rattle.bg_world.specs.DiceWords.{ShowsWordsOf}
 use Rattle.bg_world.specs.MemoryDevices.{memory_link_view, memory_keeper_view}
 use Rattle.bg_world.specs.Runs.{Run}
 use Rattle.bg_world.specs.Slots.{empty_slots}
-use Rattle.bg_world.specs.Starts.{IsWorldFault, start_of}
+use Rattle.bg_world.specs.Starts.{IsWorldFault, fresh_world}
 use Rattle.bg_world.specs.State.{IsSetup, start}
 use Rattle.bg_world.specs.Views.{KeeperView, LinkView, WorldView}
 use Rattle.bg_world.specs.WorldRuns.{CallsAll, Reports, history_of}
-use Rattle.bg_world.specs.WorldState.{IsReachedWorld, state_of}
+use Rattle.bg_world.specs.WorldState.{IsReachedWorld, protocol_state}
 use Rattle.bg_world.specs.declared.events.Event.{Event}
 use Rattle.bg_world.specs.declared.events.Outcome.{Outcome}
 use Rattle.bg_world.specs.declared.memory_keeper.MemoryKeeper.{MemoryKeeper}
@@ -42,7 +42,7 @@ unused_keeper party plan = record {
 -- a world over such devices where nothing has happened yet
 abbrev pub start_in_memory : Setup → Plan → WorldView
 start_in_memory setup plan =
-    start_of setup (unused_link plan) (unused_keeper referee plan) (unused_keeper seat_of_x plan)
+    fresh_world setup (unused_link plan) (unused_keeper referee plan) (unused_keeper seat_of_x plan)
     (unused_keeper seat_of_o plan)
 
 -- a world over devices in memory, as contracts see it
@@ -84,12 +84,12 @@ pub record Simulates
   pub reports : Reports report events outcomes
   pub reached : IsReachedWorld new
   pub run : Run (start setup.id setup.length setup.watchers) (history_of events outcomes)
-      (state_of new reached.restorable)
+      (protocol_state new reached.restorable)
 
 -- the dice of the referee's record are those of words that the events handed in
 pub record IsOfWords (events : List Event) (w : WorldView) : Type 0 where
   pub reached : IsReachedWorld w
-  pub words : ShowsWordsOf events (state_of w reached.restorable).referee.log
+  pub words : ShowsWordsOf events (protocol_state w reached.restorable).referee.log
 
 -- no device ever failed
 pub record NoneFailed (w : WorldView) : Type 0 where

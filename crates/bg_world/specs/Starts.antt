@@ -30,8 +30,8 @@ fresh_watchers id terms (suc count) =
     fresh_watchers id terms count ++ fresh_watcher (first_watcher + count) id terms ∷ []
 
 -- a world between these devices where all parties are fresh and up
-abbrev pub start_of : Setup → LinkView → KeeperView → KeeperView → KeeperView → WorldView
-start_of setup link referee_keeper x_keeper o_keeper = record {
+abbrev pub fresh_world : Setup → LinkView → KeeperView → KeeperView → KeeperView → WorldView
+fresh_world setup link referee_keeper x_keeper o_keeper = record {
   id = setup.id;
   terms = setup.length;
   link = link;

@@ -35,7 +35,7 @@ pub record SeatState : Type 0 where
 
 -- a match, its parties, and every datagram that was ever sent; of a watcher, who is never down, there is its record
 -- alone
-pub record State : Type 0 where
+pub record ProtocolState : Type 0 where
   pub id : ℕ
   pub terms : Terms
   pub referee : RefereeState
@@ -45,30 +45,30 @@ pub record State : Type 0 where
   pub sent : List Datagram
 
 -- the seat of a player
-abbrev pub seat : State → Player → SeatState
+abbrev pub seat : ProtocolState → Player → SeatState
 seat w X = w.x
 seat w O = w.o
 
 -- the state with another seat of the player
-abbrev pub with_seat : State → Player → SeatState → State
+abbrev pub with_seat : ProtocolState → Player → SeatState → ProtocolState
 with_seat w X new = record w { x = new }
 with_seat w O new = record w { o = new }
 
 -- there is a party of this number
-abbrev pub Exists : State → ℕ → Type 0
+abbrev pub Exists : ProtocolState → ℕ → Type 0
 Exists w party = party < first_watcher + length w.watchers
 
 -- the entries that the referee has saved
-abbrev pub saved_log : State → List Entry
+abbrev pub saved_log : ProtocolState → List Entry
 saved_log w = take w.referee.saved w.referee.log
 
 -- the record of a party, where there is such a party
-abbrev pub log_as : State → Role → Option (List Entry)
+abbrev pub log_as : ProtocolState → Role → Option (List Entry)
 log_as w AsReferee = Some w.referee.log
 log_as w (AsSeat player) = Some (seat w player).log
 log_as w (AsWatcher index) = slice_get w.watchers index
 
-abbrev pub log_of : State → ℕ → Option (List Entry)
+abbrev pub log_of : ProtocolState → ℕ → Option (List Entry)
 log_of w party = log_as w (role party)
 
 -- so many watchers have numbers
@@ -88,7 +88,7 @@ abbrev pub start_seat : SeatState
 start_seat = record { up = true; log = []; claim = None; claim_saved = true; slots = empty_slots; restorable = None }
 
 -- the start: all records, all slots and the list of datagrams are empty, there is no claim, and all parties are up
-abbrev pub start : ℕ → Terms → ℕ → State
+abbrev pub start : ℕ → Terms → ℕ → ProtocolState
 start id terms watchers = record {
   id = id;
   terms = terms;

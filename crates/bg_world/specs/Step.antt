@@ -8,13 +8,13 @@ use Rattle.bg_world.specs.Frames.{IfUp, SeatChanges, SeatIfUp}
 use Rattle.bg_world.specs.RestartStep.{RestartStep}
 use Rattle.bg_world.specs.Roles.{role}
 use Rattle.bg_world.specs.SaveStep.{SaveStep}
-use Rattle.bg_world.specs.State.{State, seat}
+use Rattle.bg_world.specs.State.{ProtocolState, seat}
 use Rattle.bg_world.specs.TakeStep.{TakeStep}
 use Rattle.bg_world.specs.TickStep.{TickStep}
 
 -- From w, the event may come to this outcome and leave v: a case for each kind of event. What a case does not name
 -- stays.
-abbrev pub Step : State → Event → Outcome → State → Type 0
+abbrev pub Step : ProtocolState → Event → Outcome → ProtocolState → Type 0
 Step w (events.Due word) o v = IfUp w.referee.up w o v (DueStep w word o v)
 Step w (events.Take party pick word) o v = TakeStep w (role party) word o v
 Step w (events.Choose player action) o v =

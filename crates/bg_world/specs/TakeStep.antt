@@ -9,10 +9,10 @@ use Rattle.bg_world.specs.declared.roles.Role.TheVariants.{Referee as AsReferee,
 use Rattle.bg_world.specs.FollowerTakeStep.{FollowerTakeStep}
 use Rattle.bg_world.specs.Frames.{IfUp, SeatChanges, SeatIfUp, AtWatcher}
 use Rattle.bg_world.specs.RefereeTakeStep.{RefereeTakeStep}
-use Rattle.bg_world.specs.State.{State, seat}
+use Rattle.bg_world.specs.State.{ProtocolState, seat}
 
 -- The referee answers, or accepts a claim. Of a follower only the record changes.
-abbrev pub TakeStep : State → Role → ℕ → Outcome → State → Type 0
+abbrev pub TakeStep : ProtocolState → Role → ℕ → Outcome → ProtocolState → Type 0
 TakeStep w AsReferee word o v = IfUp w.referee.up w o v (RefereeTakeStep w word o v)
 TakeStep w (AsSeat player) word o v =
     SeatChanges w player v (λ new. SeatIfUp (seat w player).up o (seat w player) new

@@ -14,15 +14,15 @@ use Rattle.bg_world.specs.declared.roles.Role.TheVariants.{Referee as AsReferee,
 use Rattle.bg_world.specs.Datagrams.{Carries}
 use Rattle.bg_world.specs.Frames.{IfUp, AtWatcher, SendsAtMost}
 use Rattle.bg_world.specs.RefereeTakeStep.{ShowsSaved}
-use Rattle.bg_world.specs.State.{State, Exists, seat}
+use Rattle.bg_world.specs.State.{ProtocolState, Exists, seat}
 
--- so many datagrams are sent as the outcome says, two at most; where the link or memory fails, those before and
--- perhaps one more
-abbrev pub Sends : (Datagram → Type 0) → State → Outcome → State → Type 0
-Sends may w (outcomes.Sent n) v = (sends : SendsAtMost may 2 w v) × (length sends.out ≡ n)
-Sends may w outcomes.LinkFault v = SendsAtMost may 2 w v
-Sends may w outcomes.Memory v = SendsAtMost may 2 w v
-Sends may w _ v = ⊥
+-- so many datagrams are sent as the outcome says, at most as many as this; where the link or memory fails, those
+-- before and perhaps one more, at most as many too
+abbrev pub SendsOnTick : (Datagram → Type 0) → ℕ → ProtocolState → Outcome → ProtocolState → Type 0
+SendsOnTick may most w (outcomes.Sent n) v = (sends : SendsAtMost may most w v) × (length sends.out ≡ n)
+SendsOnTick may most w outcomes.LinkFault v = SendsAtMost may most w v
+SendsOnTick may most w outcomes.Memory v = SendsAtMost may most w v
+SendsOnTick may most w _ v = ⊥
 
 -- what a party that holds these entries asks the referee for: those after them
 abbrev pub want_packet : ℕ → ℕ → List Entry → Packet
@@ -34,13 +34,14 @@ seat_packet id party log (Some claim) true =
     if nat_lt (length log) claim.0 then packet.Claim id party claim.0 claim.1 else want_packet id party log
 seat_packet id party log _ _ = want_packet id party log
 
--- The referee sends saved entries, under their own numbers, to parties that exist. A follower sends to the referee
--- what it asks for, and a seat its saved claim.
-abbrev pub TickStep : State → Role → Outcome → State → Type 0
-TickStep w AsReferee o v = IfUp w.referee.up w o v (Sends (λ d. Exists w d.to × ShowsSaved w d) w o v)
+-- The referee sends two datagrams at most, of saved entries, under their own numbers, to parties that exist. A follower
+-- sends one at most, to the referee: what it asks for, or a seat its saved claim.
+abbrev pub TickStep : ProtocolState → Role → Outcome → ProtocolState → Type 0
+TickStep w AsReferee o v = IfUp w.referee.up w o v (SendsOnTick (λ d. Exists w d.to × ShowsSaved w d) 2 w o v)
 TickStep w (AsSeat player) o v =
     let f = seat w player in
     IfUp f.up w o v
-    (Sends (λ d. Carries d referee (seat_packet w.id (party_of player) f.log f.claim f.claim_saved)) w o v)
+    (SendsOnTick (λ d. Carries d referee (seat_packet w.id (party_of player) f.log f.claim f.claim_saved)) 1 w o v)
 TickStep w (AsWatcher index) o v =
-    AtWatcher w index o v (λ log. Sends (λ d. Carries d referee (want_packet w.id (first_watcher + index) log)) w o v)
+    AtWatcher w index o v
+    (λ log. SendsOnTick (λ d. Carries d referee (want_packet w.id (first_watcher + index) log)) 1 w o v)

@@ -1,10 +1,11 @@
 -- What holds of a reached world.
 use Rattle.std.specs.Prelude.{◌≡◌, ℕ, Some}
 use Rattle.bg_board.specs.declared.players.Player.{Player}
-use Rattle.bg_match.specs.Match.{Log}
-use Rattle.bg_world.specs.Agreement.{Agreement}
+use Rattle.bg_match.specs.Match.{IsLegalRecord, Log}
+use Rattle.bg_wire.specs.Codes.{referee}
+use Rattle.bg_world.specs.Agreement.{Agreement, IsPrefix}
 use Rattle.bg_world.specs.Claims.{AreClaimsKept}
-use Rattle.bg_world.specs.Headline.{Headline}
+use Rattle.bg_world.specs.Headline.{AreAnswered, Headline}
 use Rattle.bg_world.specs.Refusals.{IsNoPacketRefused, IsNoSlotRefused}
 use Rattle.bg_world.specs.Roles.{role}
 use Rattle.bg_world.specs.Shown.{ShowsSavedAlone}
@@ -13,17 +14,28 @@ use Rattle.bg_world.specs.Starts.{held_of}
 use Rattle.bg_world.specs.State.{log_of}
 use Rattle.bg_world.specs.Survival.{SavesSurvive}
 use Rattle.bg_world.specs.Views.{WorldView}
-use Rattle.bg_world.specs.WorldState.{IsReachedWorld, restorable_of, state_of}
+use Rattle.bg_world.specs.WorldState.{IsLogOf, IsReachedWorld, restorable_of, protocol_state}
 
--- the laws of runs, of the state of the world; and the record of a party that is up is the one that the state has
+-- The headline over what a world holds, where its referee is up and has this record: each record that a party holds is
+-- of the world's match, and a prefix of it; it is a legal match; and each entry of a seat in it answers the one action
+-- that this seat ever claimed under its number.
+pub record HeadlineHeld (w : WorldView) (log : Log) : Type 0 where
+  pub of_match : (party : ℕ) (held : Log) → held_of w (role party) ≡ Some held → IsLogOf w.id w.terms held
+  pub prefix : (party : ℕ) (held : Log) → held_of w (role party) ≡ Some held → IsPrefix held.entries log.entries
+  pub legal : IsLegalRecord w.terms log.entries
+  pub answered : AreAnswered w.terms log.entries w.link.sent
+
+-- The headline over what a world holds, and over the state of the protocol that it is in; and the other laws of runs.
+-- The record of a party that is up is the one that the state has.
 pub record Upholds (w : WorldView) : Type 0 where
   pub world : IsReachedWorld w
-  pub headline : Headline (state_of w world.restorable)
-  pub agreement : Agreement (state_of w world.restorable)
+  pub held_headline : (log : Log) → held_of w (role referee) ≡ Some log → HeadlineHeld w log
+  pub headline : Headline (protocol_state w world.restorable)
+  pub agreement : Agreement (protocol_state w world.restorable)
   pub claims : (player : Player) → AreClaimsKept w.link.sent player (claim_in (restorable_of world.restorable player))
-  pub saved_alone : ShowsSavedAlone (state_of w world.restorable)
-  pub packets : IsNoPacketRefused (state_of w world.restorable)
-  pub slots : IsNoSlotRefused (state_of w world.restorable)
-  pub survive : SavesSurvive (state_of w world.restorable)
+  pub saved_alone : ShowsSavedAlone (protocol_state w world.restorable)
+  pub packets : IsNoPacketRefused (protocol_state w world.restorable)
+  pub slots : IsNoSlotRefused (protocol_state w world.restorable)
+  pub survive : SavesSurvive (protocol_state w world.restorable)
   pub held : (party : ℕ) (log : Log) → held_of w (role party) ≡ Some log
-      → log_of (state_of w world.restorable) party ≡ Some log.entries
+      → log_of (protocol_state w world.restorable) party ≡ Some log.entries

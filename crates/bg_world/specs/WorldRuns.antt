@@ -10,7 +10,7 @@ use Rattle.bg_world.specs.Calls.{Calls}
 use Rattle.bg_world.specs.Runs.{Run}
 use Rattle.bg_world.specs.Step.{Step}
 use Rattle.bg_world.specs.Views.{WorldView}
-use Rattle.bg_world.specs.WorldState.{IsReachedWorld, state_of}
+use Rattle.bg_world.specs.WorldState.{IsReachedWorld, protocol_state}
 use Rattle.bg_world.specs.declared.events.Event.{Event}
 use Rattle.bg_world.specs.declared.events.Outcome.{Outcome}
 use Rattle.bg_world.specs.declared.events.Outcome.TheVariants as outcomes
@@ -20,7 +20,8 @@ use Rattle.bg_world.specs.declared.runs.RunReport.{RunReport}
 abbrev pub StepsProtocol : WorldView → Event → Outcome → WorldView → Type 0
 StepsProtocol old event result new =
     (before : IsReachedWorld old)
-    → (after : IsReachedWorld new) × Step (state_of old before.restorable) event result (state_of new after.restorable)
+    → (after : IsReachedWorld new)
+    × Step (protocol_state old before.restorable) event result (protocol_state new after.restorable)
 
 -- ---- what a report counts
 
@@ -77,7 +78,7 @@ abbrev pub RunsProtocol : WorldView → List Event → List Outcome → WorldVie
 RunsProtocol old events outcomes new =
     (before : IsReachedWorld old)
     → (after : IsReachedWorld new)
-    × Run (state_of old before.restorable) (history_of events outcomes) (state_of new after.restorable)
+    × Run (protocol_state old before.restorable) (history_of events outcomes) (protocol_state new after.restorable)
 
 -- All events happen, in order, and the report counts what they come to.
 pub record RunsCalls

@@ -16,7 +16,7 @@ use Rattle.bg_world.specs.Datagrams.{WasShown}
 use Rattle.bg_world.specs.RestartStep.{restored_referee, restored_seat}
 use Rattle.bg_world.specs.Runs.{IsReached}
 use Rattle.bg_world.specs.Slots.{next_number}
-use Rattle.bg_world.specs.State.{State, RefereeState, SeatState}
+use Rattle.bg_world.specs.State.{ProtocolState, RefereeState, SeatState}
 use Rattle.bg_world.specs.Views.{KeeperView, WorldView}
 
 -- what the slots of the three parties that save restore
@@ -51,17 +51,17 @@ seat_state (Some core) slots found = record {
   restorable = found;
 }
 
-abbrev pub watcher_log : WatcherView → List Entry
-watcher_log core = core.follower.log.entries
+abbrev pub watcher_entries : WatcherView → List Entry
+watcher_entries core = core.follower.log.entries
 
-abbrev pub state_of : WorldView → Restorable → State
-state_of w r = record {
+abbrev pub protocol_state : WorldView → Restorable → ProtocolState
+protocol_state w r = record {
   id = w.id;
   terms = w.terms;
   referee = referee_state w.referee w.referee_keeper.slots r.referee;
   x = seat_state w.x w.x_keeper.slots r.x;
   o = seat_state w.o w.o_keeper.slots r.o;
-  watchers = map watcher_log w.watchers;
+  watchers = map watcher_entries w.watchers;
   sent = w.link.sent;
 }
 
@@ -121,6 +121,6 @@ pub record AllKeepWhatWasShown (w : WorldView) : Type 0 where
 -- a run leads to the state of the world, its cores match that, and what they keep was shown to them
 pub record IsReachedWorld (w : WorldView) : Type 0 where
   pub restorable : Restorable
-  pub reached : IsReached (state_of w restorable)
+  pub reached : IsReached (protocol_state w restorable)
   pub cores : CoresMatch w restorable
   pub early : AllKeepWhatWasShown w

@@ -19,10 +19,8 @@ use thiserror::Error;
 #[derive(Clone, Copy, Debug, PartialEq, Eq, Error)]
 pub enum DeviceFault {
     /// It failed by itself.
-    #[error("the device failed")]
     Failed,
     /// There was no memory.
-    #[error("out of memory")]
     Memory,
 }
 

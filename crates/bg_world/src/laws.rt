@@ -1,44 +1,58 @@
-//! Laws of the protocol, for whole runs: each is the contract of a function that does nothing.
+//! Laws of the protocol, for whole runs, and of worlds: each is the contract of a function that does nothing.
 ghost use Rattle.bg_board.specs.declared.players.Player.{Player};
 ghost use Rattle.bg_world.specs.Agreement.{Agreement};
 ghost use Rattle.bg_world.specs.Claims.{AreClaimsKept};
+ghost use Rattle.bg_world.specs.GivenBack.{AreSlotsGivenBack};
 ghost use Rattle.bg_world.specs.Headline.{Headline};
 ghost use Rattle.bg_world.specs.Refusals.{IsNoPacketRefused, IsNoSlotRefused};
 ghost use Rattle.bg_world.specs.Runs.{IsReached};
 ghost use Rattle.bg_world.specs.Shown.{ShowsSavedAlone};
 ghost use Rattle.bg_world.specs.Slots.{claim_in};
-ghost use Rattle.bg_world.specs.State.{State, seat};
+ghost use Rattle.bg_world.specs.State.{ProtocolState, seat};
 ghost use Rattle.bg_world.specs.Survival.{SavesSurvive};
+ghost use Rattle.bg_world.specs.WorldLaws.{NewWorldsAreAtTheStart};
 
 /// After any run every party's record is a prefix of the referee's, the referee's record is a legal match, and
 /// every entry of a seat in it answers the one action that this seat ever claimed under that number. What followers
 /// hold is a prefix of what the referee has saved, and so is what datagrams tell.
 pub fn parties_agree()
-    ensures headline { (w : State) → IsReached w → Headline w }
-    ensures agreement { (w : State) → IsReached w → Agreement w }
+    ensures headline { (w : ProtocolState) → IsReached w → Headline w }
+    ensures agreement { (w : ProtocolState) → IsReached w → Agreement w }
 {}
 
 /// After any run a seat has claimed one action under a number, none above the claim that its slots restore, and
 /// that claim at its number.
 pub fn claims_are_kept()
-    ensures { (w : State) (player : Player) → IsReached w →
+    ensures { (w : ProtocolState) (player : Player) → IsReached w →
         AreClaimsKept w.sent player (claim_in (seat w player).restorable) }
 {}
 
 /// After any run no datagram ever sent shows an entry that is not saved.
 pub fn saved_entries_alone_are_shown()
-    ensures { (w : State) → IsReached w → ShowsSavedAlone w }
+    ensures { (w : ProtocolState) → IsReached w → ShowsSavedAlone w }
 {}
 
 /// After any run no packet that was ever sent is refused for its match, its number, its turn or its rules, and no
 /// slot for its text.
 pub fn nothing_is_refused()
-    ensures packets { (w : State) → IsReached w → IsNoPacketRefused w }
-    ensures slots { (w : State) → IsReached w → IsNoSlotRefused w }
+    ensures packets { (w : ProtocolState) → IsReached w → IsNoPacketRefused w }
+    ensures slots { (w : ProtocolState) → IsReached w → IsNoSlotRefused w }
 {}
 
 /// After any run a save that is written is what the slots restore; after one that is not written they restore what
 /// they did before, or it.
 pub fn saves_survive()
-    ensures { (w : State) → IsReached w → SavesSurvive w }
+    ensures { (w : ProtocolState) → IsReached w → SavesSurvive w }
+{}
+
+/// After any run [`restore`](bg_wire::restore) gives the referee and each seat back exactly what their slots restore,
+/// want of memory aside.
+pub fn slots_are_given_back()
+    ensures { (w : ProtocolState) → IsReached w → AreSlotsGivenBack w }
+{}
+
+/// Over a link that nothing was sent over, and empty slots, a new world is one that a run leads to, and the state of
+/// the protocol that it is in is the start.
+pub fn new_worlds_are_at_the_start()
+    ensures { NewWorldsAreAtTheStart }
 {}

@@ -68,11 +68,20 @@ impl<L: Link, K: Keeper> World<L, K> {
 
     /// All events, in order (docs/PROTOCOL.md, "The state and its steps"), and how many of them wanted memory or came
     /// to a fault. No outcome ends the run.
+    ///
+    /// Over honest devices, from a world that a run leads to (docs/PROTOCOL.md, "What all parties together promise"):
+    /// After any list of events (deliveries, losses, repeats, reorderings, ticks, failed saves and restarts), every
+    /// party's record is a prefix of the referee's; the referee's record is a legal match; every entry of a seat in it
+    /// answers the one action that this seat ever claimed under that number; and each event changed the records just as
+    /// a protocol step does. [`World::held`] gives these records.
     pub fn run(&mut self, events: &[Event]) -> RunReport
-        // The calls of each event; over honest devices they are a run of the protocol.
+        // The calls of each event, on any devices. Over honest ones they are a run of the protocol: "each event changed
+        // the records just as a protocol step does" (`RunsProtocol`).
         ensures run { RunsAll L.is_honest K.is_honest (view_of L.Link K.Keeper self.old) events.now
             result (view_of L.Link K.Keeper self.new) }
-        // What holds after any list of events, over honest devices.
+        // "Every party's record is a prefix of the referee's; the referee's record is a legal match; every entry of a
+        // seat in it answers the one action that this seat ever claimed under that number": over what `held` gives
+        // (`HeadlineHeld`), and over the protocol's state (`Headline`).
         ensures upholds { L.is_honest → K.is_honest → IsReachedWorld (view_of L.Link K.Keeper self.old)
             → Upholds (view_of L.Link K.Keeper self.new) }
     {

@@ -6,8 +6,9 @@ ghost use Rattle.bg_text.specs.Judging.{lines_of};
 ghost use Rattle.bg_text.specs.Limits.{most_bytes};
 ghost use Rattle.bg_text.specs.Transfers.{ReadsInput, WritesText};
 ghost use Rattle.bg_world.specs.OutcomeText.{outcome_text};
-ghost use Rattle.bg_world.specs.ScriptText.{IsPlayed, IsScriptText, IsTextFrom, SinkFailsOnce, SourceFailsOnce, event_reason, refused_line};
-ghost use Rattle.bg_world.specs.Scripts.{AreGood, IsChecked, IsStart, Plays};
+ghost use Rattle.bg_world.specs.ScriptText.{IsPlayed, IsScriptFault, IsScriptText, IsTextFrom, SinkFailsOnce};
+ghost use Rattle.bg_world.specs.ScriptText.{SourceFailsOnce, event_reason, refused_event_line};
+ghost use Rattle.bg_world.specs.Scripts.{AreGood, IsChecked, IsStart, PlaysLines};
 ghost use Rattle.bg_world.specs.Simulations.{memory_view};
 ghost use Rattle.bg_world.specs.Starts.{IsWorldFault};
 ghost use Rattle.bg_world.specs.State.{IsSetup};
@@ -64,7 +65,7 @@ fn play<L: Link, K: Keeper>(
     lines: &[u8],
 ) -> Result<(), AllocError>
     requires { AreGood (lines_of lines.now) }
-    ensures { OnOk result (Plays L.is_honest K.is_honest (view_of L.Link K.Keeper world.old) (lines_of lines.now)
+    ensures { OnOk result (PlaysLines L.is_honest K.is_honest (view_of L.Link K.Keeper world.old) (lines_of lines.now)
         out.old.items out.new.items (view_of L.Link K.Keeper world.new)) }
 {
     let mut rest = lines;
@@ -90,7 +91,7 @@ fn event_reason(fault: TextFault) -> &'static str
 
 /// What is printed where a line is refused.
 fn refused_text(alloc: Global, number: u32, fault: TextFault) -> Result<Vec<u8>, AllocError>
-    ensures { IfOk result (λ text. text.items ≡ line_text (refused_line number fault)) }
+    ensures { IfOk result (λ text. text.items ≡ line_text (refused_event_line number fault)) }
 {
     let mut text = Vec::new(alloc);
     put_text(&mut text, "refused at line ")?;
@@ -177,10 +178,8 @@ fn carry<L: Link, K: Keeper, S: Source, T: Sink>(
 #[derive(Clone, Copy, Debug, PartialEq, Eq, Error)]
 pub enum ScriptFault {
     /// There is no such world. Nothing was read.
-    #[error("{0}")]
     World(WorldFault),
     /// The input could not be read, the output could not be written, or memory ran out.
-    #[error("{0}")]
     Engine(EngineFault),
 }
 
@@ -207,8 +206,8 @@ fn start(alloc: Global, setup: Setup) -> Result<World<MemoryNet, MemoryKeeper>, 
 ///
 /// # Errors
 /// `World` where there is no such world, by the first test that fails of [`World::new`]: nothing was read then.
-/// `Engine` as of [`judge`](bg_text::judge): Read exactly where the source failed, and Memory where memory runs out,
-/// nothing was written then; Write exactly where the sink failed.
+/// `Engine`, only where there is one, as of [`judge`](bg_text::judge): Read exactly where the source failed, and Memory
+/// where memory runs out, nothing was written then; Write exactly where the sink failed.
 pub fn script<S: Source, T: Sink>(
     alloc: Global,
     source: &mut S,
@@ -219,10 +218,11 @@ pub fn script<S: Source, T: Sink>(
         × ReadsInput S.Source source.old source.new input × IsScriptText setup input text verdict
         × WritesText T.Sink sink.old sink.new text
         × IfSome (S.remaining source.old) (λ bytes. IsScriptText setup bytes text verdict)) }
-    ensures setup { IfOk result (λ _. IsSetup setup.id setup.length setup.watchers) }
+    ensures refusal { MatchResult result (λ _. IsSetup setup.id setup.length setup.watchers)
+        (λ fault. IsScriptFault fault setup) }
     // There is no such world: nothing was read, and nothing was written.
     ensures world { (fault : WorldFault) → result ≡ Err (ScriptFault.World fault)
-        → IsWorldFault fault setup × (source.new ≡ source.old) × (sink.new ≡ sink.old) }
+        → (source.new ≡ source.old) × (sink.new ≡ sink.old) }
     ensures untaken { IfErr result (λ _. T.taken sink.new ≡ T.taken sink.old) }
     ensures unwritten { IfErr result (λ fault. fault ≢ ScriptFault.Engine EngineFault.Write → sink.new ≡ sink.old) }
     ensures reads { S.reads source.new ≤ S.reads source.old + most_bytes + 1 }

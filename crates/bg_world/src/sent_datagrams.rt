@@ -2,7 +2,7 @@
 ghost use Rattle.std.specs.Prelude.{◌≡◌, ℕ, ◌+◌, ◌<◌, ◌==◌, if◌then◌else◌, ◌∷◌, ◌++◌, [], length, slice_get, vec_len};
 ghost use Rattle.std.specs.Prelude.{vec_capacity, IfOk, OnOk, OnErr};
 ghost use Rattle.bg_world.specs.Handed.{bytes_handed, count_to, sent_to};
-ghost use Rattle.bg_world.specs.Places.{at_place, list_at};
+ghost use Rattle.bg_world.specs.Places.{datagram_at, places_at};
 
 use arrayvec::ArrayVec;
 use bg_wire::Datagram;
@@ -108,7 +108,7 @@ impl SentDatagrams {
 
 /// The list of the party; where there is none, an empty one.
 fn places_of(lists: &[Vec<usize>], party: u8) -> &[usize]
-    ensures { result.now ≡ list_at lists.now party }
+    ensures { result.now ≡ places_at lists.now party }
 {
     match lists.get(usize::from(party)) {
         Some(places) => places,
@@ -118,7 +118,7 @@ fn places_of(lists: &[Vec<usize>], party: u8) -> &[usize]
 
 /// The bytes of the datagram at the place of this index.
 fn find_bytes(datagrams: &[KeptDatagram], places: &[usize], index: u32) -> Option<ArrayVec<u8, 256>>
-    ensures { result ≡ bytes_handed (at_place datagrams.now (slice_get places.now index)) }
+    ensures { result ≡ bytes_handed (datagram_at datagrams.now (slice_get places.now index)) }
 {
     let place = places.get(index as usize)?;
     let kept = datagrams.get(*place)?;
@@ -127,7 +127,7 @@ fn find_bytes(datagrams: &[KeptDatagram], places: &[usize], index: u32) -> Optio
 
 /// Makes lists, empty ones, up to that of the party.
 fn make_lists(alloc: Global, lists: &mut Vec<Vec<usize>>, party: u8) -> Result<(), AllocError>
-    ensures same { (p : ℕ) → list_at lists.new.items p ≡ list_at lists.old.items p }
+    ensures same { (p : ℕ) → places_at lists.new.items p ≡ places_at lists.old.items p }
     ensures there { OnOk result (party < vec_len lists.new) }
 {
     while lists.len() <= usize::from(party) {
@@ -143,9 +143,9 @@ fn note_place(
     party: u8,
     place: usize,
 ) -> Result<(), AllocError>
-    ensures ok { OnOk result ((p : ℕ) → list_at lists.new.items p ≡
-        (if party == p then list_at lists.old.items p ++ place ∷ [] else list_at lists.old.items p)) }
-    ensures err { OnErr result ((p : ℕ) → list_at lists.new.items p ≡ list_at lists.old.items p) }
+    ensures ok { OnOk result ((p : ℕ) → places_at lists.new.items p ≡
+        (if party == p then places_at lists.old.items p ++ place ∷ [] else places_at lists.old.items p)) }
+    ensures err { OnErr result ((p : ℕ) → places_at lists.new.items p ≡ places_at lists.old.items p) }
 {
     make_lists(alloc, lists, party)?;
     lists[usize::from(party)].push(place)?;

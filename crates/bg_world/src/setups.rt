@@ -53,13 +53,10 @@ pub struct Keepers<K> {
 #[derive(Clone, Copy, Debug, PartialEq, Eq, Error)]
 pub enum WorldFault {
     /// More than 253 watch.
-    #[error("too many watchers")]
     TooManyWatchers,
     /// The length is not from 1 to 99.
-    #[error("length out of range")]
     LengthOutOfRange,
     /// There is no memory for the watchers.
-    #[error("out of memory")]
     Memory,
 }
 

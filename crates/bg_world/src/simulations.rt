@@ -44,6 +44,11 @@ fn world_in_memory(
 /// plan (docs/PROTOCOL.md, "The state and its steps" and "Devices"). It gives the world, and how many events wanted
 /// memory or came to a fault; no outcome ends the run.
 ///
+/// After any list of events (deliveries, losses, repeats, reorderings, ticks, failed saves and restarts), every party's
+/// record is a prefix of the referee's; the referee's record is a legal match; every entry of a seat in it answers the
+/// one action that this seat ever claimed under that number; and each event changed the records just as a protocol step
+/// does (docs/PROTOCOL.md, "What all parties together promise"). [`World::held`] gives these records.
+///
 /// # Errors
 /// The first that holds: `TooManyWatchers` where more than 253 watch, `LengthOutOfRange` where the length is not from 1
 /// to 99, `Memory` where there is no memory for the watchers or for what the plan says.
@@ -57,7 +62,9 @@ pub fn simulate(
         (λ fault. IsSimulationFault fault setup plan.now) }
     // The calls of each event; they are a run of the protocol.
     ensures simulates { IfOk result (λ ran. Simulates setup plan.now events.now ran.1 (memory_view ran.0)) }
-    // What holds after any list of events.
+    // "Every party's record is a prefix of the referee's; the referee's record is a legal match; every entry of a seat
+    // in it answers the one action that this seat ever claimed under that number": over what `held` gives
+    // (`HeadlineHeld`), and over the protocol's state (`Headline`).
     ensures upholds { IfOk result (λ ran. Upholds (memory_view ran.0)) }
     // The dice of the match are those of words that the events handed in.
     ensures words { IfOk result (λ ran. IsOfWords events.now (memory_view ran.0)) }

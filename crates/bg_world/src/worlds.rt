@@ -53,7 +53,7 @@ pub struct World<L, K> {
 }
 
 impl<L: Link + Drop, K: Keeper + Drop> World<L, K> {
-    ghost use Rattle.bg_world.specs.Starts.{AreUnused, start_of};
+    ghost use Rattle.bg_world.specs.Starts.{AreUnused, fresh_world};
     ghost use Rattle.bg_world.specs.Views.{keeper_view, link_view};
     ghost use Rattle.bg_world.specs.World.{view_of};
     ghost use Rattle.bg_world.specs.WorldState.{IsReachedWorld};
@@ -70,7 +70,7 @@ impl<L: Link + Drop, K: Keeper + Drop> World<L, K> {
         link: L,
         keepers: Keepers<K>,
     ) -> Result<World<L, K>, WorldFault>
-        ensures start { IfOk result (λ world. view_of L.Link K.Keeper world ≡ start_of setup
+        ensures start { IfOk result (λ world. view_of L.Link K.Keeper world ≡ fresh_world setup
             (link_view L.Link link) (keeper_view K.Keeper keepers.referee) (keeper_view K.Keeper keepers.x)
             (keeper_view K.Keeper keepers.o)) }
         // Over a link that nothing was sent over, and empty slots, it is a world that a run leads to.
@@ -90,7 +90,7 @@ impl<L: Link + Drop, K: Keeper + Drop> World<L, K> {
         link: L,
         keepers: Keepers<K>,
     ) -> Result<World<L, K>, WorldFault>
-        ensures start { IfOk result (λ world. view_of L.Link K.Keeper world ≡ start_of setup
+        ensures start { IfOk result (λ world. view_of L.Link K.Keeper world ≡ fresh_world setup
             (link_view L.Link link) (keeper_view K.Keeper keepers.referee) (keeper_view K.Keeper keepers.x)
             (keeper_view K.Keeper keepers.o)) }
         ensures refusal { MatchResult result (λ _. IsSetup setup.id setup.length setup.watchers)

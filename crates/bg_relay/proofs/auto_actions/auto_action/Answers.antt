@@ -1,6 +1,6 @@
 use Rattle.std.proofs.Common.{◌<◌, length, arith}
-use Rattle.std.proofs.lemmas.Result.{IfOk-weaker}
-use Rattle.bg_relay.proofs.AutoActions.{played, played_follows}
+use Rattle.std.proofs.lemmas.Result.{IfErr-weaker, IfOk-weaker}
+use Rattle.bg_relay.proofs.AutoActions.{acting_moves, played, played_follows}
 use Rattle.bg_relay.proofs.auto_actions.auto_action.Goals as goal
 
 pub returns-clause-chosen : goal.returns-clause-chosen
@@ -10,7 +10,7 @@ returns-clause-chosen c =
     let acts = c.if-not-acts.ensures.yes in
     IfOk-weaker c.action_in_turn.result _ _
     (λ chosen plays. played c.args.record.now c.args.player chosen acts few plays)
-    c.action_in_turn.ensures
+    c.action_in_turn.ensures.plays
 
 pub returns-clause-follows : goal.returns-clause-follows
 returns-clause-follows c =
@@ -18,4 +18,10 @@ returns-clause-follows c =
     omega (arith, c.len.ensures.value, c.len.ensures.legal.0, c.if-len-eq-MOST_ENTRIES.false) in
     IfOk-weaker c.action_in_turn.result _ _
     (λ chosen plays. played_follows c.args.record.now chosen few plays)
-    c.action_in_turn.ensures
+    c.action_in_turn.ensures.plays
+
+pub returns-clause-memory : goal.returns-clause-memory
+returns-clause-memory c =
+    IfErr-weaker c.action_in_turn.result _ _
+    (λ why moves. acting_moves c.args.record.now c.args.player moves.0 c.if-not-acts.ensures.yes moves.1)
+    c.action_in_turn.ensures.memory

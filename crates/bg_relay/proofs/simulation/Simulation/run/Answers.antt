@@ -1,7 +1,9 @@
-use Rattle.bg_relay.proofs.Runs.{runs_on}
+use Rattle.std.proofs.Common.{◌≡◌, ℕ, suc, ◌+◌, arith, subst}
+use Rattle.bg_relay.specs.Simulating.{Runs}
 use Rattle.bg_relay.proofs.simulation.Simulation.run.Goals as goal
 
 pub loop-index-preserved : goal.loop-index-preserved
-loop-index-preserved c =
-    runs_on c.args.from c.loop-index.index c.args.self.now c.loop-index.self c.step.new.self c.loop-index.auto.index
-    c.loop-index.invariant c.in_ok-step.ensures
+loop-index-preserved g c =
+    let next : suc c.loop-index.index ≡ c.loop-index.index + 1 = omega arith in
+    subst (λ (n : ℕ). Runs n c.args.self.now c.step.new.self) next
+    (c.loop-index.self, c.loop-index.invariant, c.in_ok-step.ensures)

@@ -1,0 +1,37 @@
+//! Texts of others, shown so that they can't break a terminal.
+
+use std::fmt;
+use std::fmt::{Display, Formatter, Write};
+
+/// The name of a file or a folder as messages show it: what can't be printed stands there as its escape, a line feed as
+/// `\n` and a terminal's escape character as `\u{1b}`. A backslash and a double quote have a backslash before them.
+#[derive(Clone, Copy)]
+pub(crate) struct Printable<'a>(pub(crate) &'a str);
+
+impl<'a> Display for Printable<'a> {
+    fn fmt<W: Write>(&self, f: &mut Formatter<W>) -> fmt::Result {
+        for (index, part) in self.0.split('\'').enumerate() {
+            if index > 0 {
+                f.write_str("'")?;
+            }
+            write!(f, "{}", part.escape_debug())?;
+        }
+        Ok(())
+    }
+}
+
+/// Lines of which each is shown as a name is.
+#[derive(Clone, Copy)]
+pub(crate) struct PrintableLines<'a>(pub(crate) &'a str);
+
+impl<'a> Display for PrintableLines<'a> {
+    fn fmt<W: Write>(&self, f: &mut Formatter<W>) -> fmt::Result {
+        for (index, line) in self.0.split('\n').enumerate() {
+            if index > 0 {
+                f.write_str("\n")?;
+            }
+            write!(f, "{}", Printable(line))?;
+        }
+        Ok(())
+    }
+}

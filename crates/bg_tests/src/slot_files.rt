@@ -1,0 +1,56 @@
+//! Two files that keep the saved texts of a party.
+use bg_wire::Slot;
+use std::fs::File;
+use std::io::{ErrorKind, Write};
+use std::rt::Files;
+use std::{fs, io};
+
+/// The two files of a party in a folder, and a third by whose lock no other process writes to them.
+#[derive(Drop)]
+pub(crate) struct SlotFiles<'a, R> {
+    rt: &'a R,
+    folder: String,
+    zero: String,
+    one: String,
+    _lock: File,
+}
+
+impl<'a, R: Files<File = File> + AllocGlobal> SlotFiles<'a, R> {
+    /// The files `party-P.0` and `party-P.1` of the folder. An error where another process has them.
+    pub(crate) fn open(rt: &'a R, folder: &str, party: u8) -> io::Result<SlotFiles<'a, R>> {
+        let alloc = rt.alloc();
+        let lock = File::create(rt, &format!(in alloc; "{folder}/party-{party}.lock")?)?;
+        lock.try_lock()?;
+        Ok(SlotFiles {
+            rt,
+            folder: format!(in alloc; "{folder}")?,
+            zero: format!(in alloc; "{folder}/party-{party}.0")?,
+            one: format!(in alloc; "{folder}/party-{party}.1")?,
+            _lock: lock,
+        })
+    }
+
+    fn path(&self, slot: Slot) -> &String {
+        match slot {
+            Slot::Zero => &self.zero,
+            Slot::One => &self.one,
+        }
+    }
+
+    /// What the slot has: nothing where its file is missing.
+    pub(crate) fn read(&self, slot: Slot) -> io::Result<Vec<u8>> {
+        match fs::read(self.rt, self.path(slot)) {
+            Err(error) if error.kind() == ErrorKind::NotFound => Ok(Vec::new(self.rt.alloc())),
+            result => result,
+        }
+    }
+
+    /// Puts a text in the place of what the slot has, through to the disk.
+    pub(crate) fn write(&self, slot: Slot, text: &[u8]) -> io::Result<()> {
+        let mut file = File::create(self.rt, self.path(slot))?;
+        file.write_all(text)?;
+        file.sync_all()?;
+        // The name of a new file lasts once its folder is synced too.
+        File::open(self.rt, &self.folder)?.sync_all()
+    }
+}

@@ -1,0 +1,47 @@
+/* To be preloaded: cuts a write to a file of a party, and kills the process there, so that the file is torn. CUT_WRITE is
+ * the number of the write, from 1, and CUT_SHARE how many 255ths of its bytes are written: 0 leaves the file empty, 255
+ * writes all. */
+#define _GNU_SOURCE
+#include <dlfcn.h>
+#include <fcntl.h>
+#include <signal.h>
+#include <stdarg.h>
+#include <stdlib.h>
+#include <string.h>
+#include <unistd.h>
+
+#define MOST_FILES 1024
+
+static char is_party[MOST_FILES];
+static long writes;
+
+static long number(const char *name)
+{
+    const char *text = getenv(name);
+    return text ? atol(text) : 0;
+}
+
+int open(const char *path, int flags, ...)
+{
+    int (*real)(const char *, int, ...) = dlsym(RTLD_NEXT, "open");
+    va_list more;
+    va_start(more, flags);
+    int mode = va_arg(more, int);
+    va_end(more);
+    int file = real(path, flags, mode);
+    if (file >= 0 && file < MOST_FILES)
+        is_party[file] = (flags & O_ACCMODE) == O_WRONLY && strstr(path, "/party-") != NULL;
+    return file;
+}
+
+ssize_t write(int file, const void *bytes, size_t count)
+{
+    ssize_t (*real)(int, const void *, size_t) = dlsym(RTLD_NEXT, "write");
+    if (file >= 0 && file < MOST_FILES && is_party[file] && ++writes == number("CUT_WRITE")) {
+        size_t kept = count * number("CUT_SHARE") / 255;
+        if (kept > 0 && real(file, bytes, kept) < 0)
+            abort();
+        kill(getpid(), SIGKILL);
+    }
+    return real(file, bytes, count);
+}
