@@ -6,8 +6,10 @@ use crate::loop_faults::LoopFault;
 use crate::loops::run_loop;
 use crate::rounds::{PARTIES, run_rounds};
 use crate::sim_tests::check_no_growth_is_left;
+use crate::simulating::sim_text;
 use crate::udp_links::UdpLink;
-use bg_text::Writing;
+use bg_match::Entry;
+use bg_text::{Writing, transcript_text};
 use bg_wire::{REFEREE, SEAT_OF_O, SEAT_OF_X, Saved, restore};
 use bg_world::{Keepers, Outcome, RestoreCause, WorldFault};
 use std::test::Fail;
@@ -44,11 +46,16 @@ fn played(rt: &HostRuntime, folder: &str, seed: u64, rounds: u32) -> Result<Vec<
     Ok(text)
 }
 
-/// What the files of the referee restore.
+/// What the files of the referee restore of the match of these tests.
 fn saved(rt: &HostRuntime, folder: &str) -> Result<Saved, Fail> {
+    saved_by_referee(rt, folder, SEED, 1)
+}
+
+/// What the files of the referee restore of a match.
+fn saved_by_referee(rt: &HostRuntime, folder: &str, seed: u64, length: u8) -> Result<Saved, Fail> {
     let zero = read_saved(rt, format!(in rt.alloc(); "{folder}/party-0.0")?.as_str())?;
     let one = read_saved(rt, format!(in rt.alloc(); "{folder}/party-0.1")?.as_str())?;
-    match restore(rt.alloc(), &zero, &one, REFEREE, SEED, 1) {
+    match restore(rt.alloc(), &zero, &one, REFEREE, seed, length) {
         Ok(Some(saved)) => Ok(saved),
         _ => Err(Fail::from("nothing is restored")),
     }
@@ -96,6 +103,29 @@ fn forty_rounds_and_forty_more(rt: HostRuntime) -> Result<(), Fail> {
     let later = saved(&rt, folder.as_str())?;
     assert!(rt; later.log.len() > earlier.log.len() && begins_with(&later, &earlier));
     fs::remove_dir_all(&rt, folder.as_str())?;
+    Ok(())
+}
+
+/// Matches of length 3, so many rounds of each, and how many entries these have at least. The first game of match 417 is
+/// over with entry 76; the first two words of match 8 have equal dice, 5 5 and 4 4, and open no game.
+const PLAYED: [(u64, u32, u16); 2] = [(417, 170, 80), (8, 12, 4)];
+
+/// The entries are those that seed and length decide: those of the automatic match in memory.
+#[test]
+fn entries_are_those_of_the_match_in_memory(rt: HostRuntime) -> Result<(), Fail> {
+    for (seed, rounds, least) in PLAYED {
+        let folder = new_folder(&rt, "entries")?;
+        let mut text = Vec::new(rt.alloc());
+        let mut output = Writing::new(&mut text);
+        run_loop(&rt, seed, 3, rounds, folder.as_str(), &mut output)?;
+        let played = saved_by_referee(&rt, folder.as_str(), seed, 3)?;
+        fs::remove_dir_all(&rt, folder.as_str())?;
+        assert!(rt; played.log.len() >= least);
+        assert!(rt; seed != 417 || matches!(played.log.entry(77), Some(Entry::Opening(..))));
+        let transcript = transcript_text(rt.alloc(), &played.log)?;
+        let in_memory = sim_text(rt.alloc(), seed, 3, 0, 14_000)?;
+        assert!(rt; in_memory.starts_with(&transcript));
+    }
     Ok(())
 }
 

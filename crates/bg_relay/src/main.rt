@@ -15,6 +15,8 @@ mod failing_devices;
 #[cfg(test)]
 mod file_keeper_tests;
 mod file_keepers;
+#[cfg(test)]
+mod file_tests;
 mod files;
 mod folder_locks;
 #[cfg(test)]
@@ -35,8 +37,12 @@ mod printable;
 #[cfg(test)]
 mod printable_tests;
 mod progress;
+#[cfg(test)]
+mod recording_devices;
 mod reports;
 mod round_schedule;
+#[cfg(test)]
+mod round_tests;
 mod rounds;
 mod schedule;
 mod showing;
@@ -45,10 +51,14 @@ mod sim_tests;
 mod simulating;
 mod simulation;
 #[cfg(test)]
+mod stand_ins;
+#[cfg(test)]
 mod test_folders;
 #[cfg(test)]
 mod tests;
 mod udp_links;
+#[cfg(test)]
+mod udp_tests;
 mod words;
 
 use arguments::{MISPLACED_FILE, command};

@@ -1,6 +1,9 @@
 //! Automatic matches.
 use crate::auto_actions::auto_action;
+use crate::commands::run_sim;
+use crate::progress::Progress;
 use crate::simulating::sim_text;
+use crate::stand_ins::StandIn;
 use bg_board::{Die, Player};
 use bg_match::{Action, Entry, Record};
 use bg_text::{EngineFault, Verdict, judge_text};
@@ -57,6 +60,34 @@ fn refused_matches(rt: HostRuntime) {
     assert!(rt; sim_text(rt.alloc(), 1, 0, 0, 1) == Err(no_length));
     assert!(rt; sim_text(rt.alloc(), 1, 100, 253, 1) == Err(no_length));
     assert!(rt; sim_text(rt.alloc(), u64::MAX, 99, 253, 1).is_ok());
+}
+
+/// What the command prints of a match of length 3, with two watchers.
+fn printed(rt: &HostRuntime, seed: u64, steps: u32) -> Option<Vec<u8>> {
+    let system = StandIn::new(rt, 0);
+    let progress = Progress::start(&system, false);
+    let ending = run_sim(&system, seed, 3, 2, steps, progress);
+    if ending.status() != 0 || system.said.get() != 0 {
+        return None;
+    }
+    Some(system.into_printed())
+}
+
+/// The command plays its events in batches of 1,000, and prints what `sim_text` gives: up to each of these events and one
+/// event further, which says more.
+#[test]
+fn command_prints_the_text_beyond_one_batch(rt: HostRuntime) -> Result<(), Fail> {
+    for (seed, steps) in [(34, 999), (4, 1000), (127, 1999), (127, 2000), (3, 2500)] {
+        let text = sim_text(rt.alloc(), seed, 3, 2, steps)?;
+        let further = sim_text(rt.alloc(), seed, 3, 2, steps.saturating_add(1))?;
+        assert!(rt; text != further, "{seed} {steps}");
+        assert!(rt; printed(&rt, seed, steps) == Some(text), "{seed} {steps}");
+        assert!(rt;
+            printed(&rt, seed, steps.saturating_add(1)) == Some(further),
+            "{seed} {steps}"
+        );
+    }
+    Ok(())
 }
 
 /// No party counts more entries than the referee, which comes first.

@@ -145,7 +145,9 @@ fn shown_files_that_both_load(rt: HostRuntime) -> Result<(), Fail> {
 
 #[test]
 fn files_that_do_not_load(rt: HostRuntime) -> Result<(), Fail> {
-    check_shown(&rt, b"", b"B", "file 0: short\nfile 1: short\n", "", false)?;
+    let short = "file 0: short\nfile 1: short\n";
+    check_shown(&rt, b"", b"B", short, "", false)?;
+    check_shown(&rt, &[0x42], &[0x42], short, "", false)?;
     let mut illegal = SEAT;
     illegal[31] = 3;
     let mut field = SEAT;

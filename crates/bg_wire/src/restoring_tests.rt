@@ -64,6 +64,10 @@ fn no_texts(rt: HostRuntime) {
     check_restored(&rt, &[], &[42], Ok(None));
     check_restored(&rt, &[42], &[42], damaged);
     check_restored(&rt, &[42], &[], damaged);
+    // The first byte of a saved text, alone.
+    check_restored(&rt, &[0x42], &[0x42], damaged);
+    check_restored(&rt, &[0x42], &[], damaged);
+    check_restored(&rt, &[], &[0x42], Ok(None));
     check_restored(&rt, &THIRD[..23], &FOURTH[..29], damaged);
 }
 

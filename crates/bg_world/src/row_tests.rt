@@ -136,6 +136,36 @@ fn a_watcher_alone(rt: HostRuntime) -> Result<(), Fail> {
     Ok(())
 }
 
+/// A party that nothing comes to sends on its ticks 1, 2, 4, 8, 16, 32, 64, 96 and 128, and on no other up to 128.
+fn check_gaps(rt: &impl Abort, world: &mut MemoryWorld, party: u8) {
+    for tick in 1..129 {
+        let sends = matches!(tick, 1 | 2 | 4 | 8 | 16 | 32 | 64 | 96 | 128);
+        let expected = ComesTo::Sent(if sends { 1 } else { 0 });
+        check_rows(rt, world, &[(Happens::Tick(party), expected)]);
+    }
+}
+
+/// What the seats and the watchers send goes to the referee, who takes none of it and sends nothing.
+#[test]
+fn ticks_of_parties_that_are_alone(rt: HostRuntime) -> Result<(), Fail> {
+    let mut world = world(rt.alloc(), 1, 2, NO_FAILURE)?;
+    for (party, sent) in [(1, 9), (2, 18), (3, 27), (4, 36)] {
+        check_gaps(&rt, &mut world, party);
+        assert!(rt; world.link().sent_to(0) == sent);
+    }
+    for _ in 0..128 {
+        check_rows(&rt, &mut world, &[(Happens::Tick(0), ComesTo::Sent(0))]);
+    }
+    // A restart begins anew.
+    check_rows(
+        &rt,
+        &mut world,
+        &[(Happens::Restart(3), ComesTo::Restarted)],
+    );
+    check_gaps(&rt, &mut world, 3);
+    Ok(())
+}
+
 #[test]
 fn a_move_is_pushed(rt: HostRuntime) -> Result<(), Fail> {
     let mut world = world(rt.alloc(), 1, 0, NO_FAILURE)?;

@@ -40,6 +40,20 @@ fn an_early_entry_that_does_not_follow(rt: HostRuntime) -> Result<(), Fail> {
     Ok(())
 }
 
+/// An early entry that does not follow the opening, 8-5 6-4 after 3 1, is not appended with it, nor kept: the entry that
+/// follows is then taken in its place.
+#[test]
+fn one_early_entry_that_does_not_follow(rt: HostRuntime) -> Result<(), Fail> {
+    let mut watcher = Watcher::fresh(rt.alloc(), FIRST_WATCHER, 1, 1)?;
+    assert!(rt; watcher_learns(&mut watcher, 2, &MOVED_OTHERWISE, &[], Learned::Gap));
+    assert!(rt; watcher.held().is_empty());
+    assert!(rt; watcher_learns(&mut watcher, 1, &OPENING, &[], Learned::Grew(1)));
+    assert!(rt; watcher.held().len() == 1);
+    assert!(rt; watcher_learns(&mut watcher, 2, &MOVED, &[], Learned::Grew(1)));
+    assert!(rt; watcher.held().len() == 2 && watcher_holds_the_move(&watcher));
+    Ok(())
+}
+
 #[test]
 fn early_entries_that_come_twice(rt: HostRuntime) -> Result<(), Fail> {
     let mut watcher = Watcher::fresh(rt.alloc(), FIRST_WATCHER, 1, 1)?;
