@@ -15,7 +15,7 @@ use std::fs;
 use std::test::Fail;
 
 /// An operator who is told of no round.
-fn operator<'a>(heard: &'a Overheard<'a>) -> Operator<'a, Overheard<'a>> {
+fn operator<'a, 'b>(heard: &'a Overheard<'b>) -> Operator<'a, Overheard<'b>> {
     Operator::new(heard, Progress::start(heard, false), 10)
 }
 

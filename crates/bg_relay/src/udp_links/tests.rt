@@ -106,10 +106,10 @@ fn datagram(to: u8) -> Datagram {
 }
 
 /// Sockets of three parties. Those of the first two reach a port that nobody has, so that the call after each send fails.
-fn broken<'a>(
+fn broken<'a, 'b>(
     rt: &HostRuntime,
-    heard: &'a Overheard<'a>,
-) -> Result<UdpLink<'a, Overheard<'a>>, Fail> {
+    heard: &'a Overheard<'b>,
+) -> Result<UdpLink<'a, Overheard<'b>>, Fail> {
     let link = UdpLink::bind(heard, 3)?;
     for end in link.sockets.ends.iter().take(2) {
         let closed = UdpSocket::bind(rt, (Ipv4Addr::LOCALHOST, 0))?.local_addr()?;
