@@ -205,11 +205,13 @@ fn check_each_fourth_call(rt: &HostRuntime, rest: u32) -> Result<(), Fail> {
         if calls.made.get() < failing {
             return Ok(());
         }
-        if calls.failed_to_read.get() {
-            let device = Outcome::RestoreFault(RestoreCause::Device);
-            assert!(rt; result == Err(LoopFault::Stopped(device)));
-        } else {
-            assert!(rt; is_sound(&result?));
+        let device = LoopFault::Stopped(Outcome::RestoreFault(RestoreCause::Device));
+        let is_as_expected = match result {
+            Ok(text) => !calls.failed_to_read.get() && is_sound(&text),
+            Err(fault) => calls.failed_to_read.get() && fault == device,
+        };
+        if !is_as_expected {
+            return Err(Fail::from("a failed call is not as expected"));
         }
     }
     Err(Fail::from("more calls than expected"))
