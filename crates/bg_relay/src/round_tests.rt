@@ -17,6 +17,9 @@ const X_BEGINS: u64 = 7;
 /// The first word of this match opens it with 2 4, so that O begins.
 const O_BEGINS: u64 = 1;
 
+/// The first words of this match have the dice 5 5, 4 4 and 3 2.
+const TWO_IN_VAIN: u64 = 8;
+
 /// The referee and both seats begin again from their slots, 0 before 1.
 const START: [Call; 6] = [
     Read(0, Zero),
@@ -117,6 +120,14 @@ const ROUND_4: [Call; 19] = [
     Send(0, Want(1, 2)),
     Send(0, Claim(2, 3)),
     Send(0, Want(3, 2)),
+];
+
+/// The referee takes what all want, and has nothing for them.
+const VAIN_WANTS: [Call; 4] = [
+    Take(0, 0, Want(1, 0)),
+    Take(0, 0, Want(2, 0)),
+    Take(0, 0, Want(3, 0)),
+    Take(0, 0, Nothing),
 ];
 
 /// In the first two rounds, where three datagrams that are no packets wait for each seat: what the seats take at first, and
@@ -314,6 +325,35 @@ fn calls_of_the_first_rounds(rt: HostRuntime) -> Result<(), Fail> {
     check_rounds(&rt, X_BEGINS, 1, 0, &UNUSED, &parts[..1])?;
     check_rounds(&rt, X_BEGINS, 1, 1, &UNUSED, &parts[..2])?;
     check_rounds(&rt, X_BEGINS, 1, 4, &UNUSED, &parts)
+}
+
+/// In each round the referee is handed one word, the next one where the last had equal dice. The opening is then pushed to
+/// the first two, who have asked; nobody asks on the third tick.
+#[test]
+fn game_is_opened_in_the_third_round(rt: HostRuntime) -> Result<(), Fail> {
+    let second = [Write(1, Zero, 2, 0, 0), Write(2, Zero, 2, 0, 0)];
+    let third = [
+        Write(1, One, 3, 0, 0),
+        Write(2, One, 3, 0, 0),
+        Send(1, Entries(1, 1)),
+        Send(2, Entries(1, 1)),
+    ];
+    let parts: [&[Call]; 13] = [
+        &START,
+        &ROUND_1[..4],
+        &[Write(0, One, 1, 0, 0)],
+        &ROUND_1[5..],
+        &VAIN_WANTS,
+        &[Write(0, Zero, 2, 0, 0)],
+        &ROUND_1[5..11],
+        &second,
+        &ROUND_1[13..],
+        &VAIN_WANTS,
+        &[Write(0, One, 3, 0, 1)],
+        &ROUND_1[5..11],
+        &third,
+    ];
+    check_rounds(&rt, TWO_IN_VAIN, 1, 3, &UNUSED, &parts)
 }
 
 /// A seat that learns the opening by what it takes second claims its move in the same round, X as well as O.
