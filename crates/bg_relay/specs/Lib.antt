@@ -8,3 +8,4 @@ pub mod Schedule
 pub mod Rounds
 pub mod RoundResults
 pub mod Simulating
+pub mod FaultWords
