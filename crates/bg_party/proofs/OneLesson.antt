@@ -11,7 +11,7 @@ use Rattle.bg_wire.specs.declared.packets.Packet.TheVariants as packet
 use Rattle.bg_wire.proofs.Numbers.{get_take}
 use Rattle.bg_party.specs.declared.outcomes.Learned.{Learned}
 use Rattle.bg_party.specs.declared.outcomes.Learned.TheVariants as learned
-use Rattle.bg_party.specs.Views.{FollowerView, IsFollower}
+use Rattle.bg_party.specs.Views.{FollowerView}
 use Rattle.bg_party.specs.Learns.{Agrees, IsConflict, FollowsFor, Teaches, Learns, TeachesOneThing, coming, new_entries}
 
 nat_order : (a b : ℕ) → (a < b) ⊎ (a ≡ b) ⊎ (b < a)
@@ -101,7 +101,7 @@ one_count m entries list n k h j = elim (nat_order n k) [
   | inr rest ↦ elim rest [ inl same ↦ same | inr more ↦ absurd (no_more_follow m entries list k n j h more) ]
 ]
 
-module _ (f : FollowerView) (start : ℕ) (list : List Entry) (is : IsFollower f) where
+module _ (f : FollowerView) (start : ℕ) (list : List Entry) (is : IsLegalRecord f.log.terms f.log.entries) where
   -- the answers are tried in this order, so one of them excludes the later ones
   apart : (a b : Learned) → Teaches f start list a → Teaches f start list b → a ≢ learned.Memory → b ≢ learned.Memory
       → a ≡ b
@@ -125,13 +125,13 @@ module _ (f : FollowerView) (start : ℕ) (list : List Entry) (is : IsFollower f
   apart learned.Nothing learned.Nothing h k x y = refl
   apart learned.Nothing (learned.Illegal m) h k x y =
       absurd (not_all f.log.terms m (f.log.entries ++ new_entries f.log.entries start list) k.1
-      (none_follow f.log.terms f.log.entries (new_entries f.log.entries start list) is.legal h.1))
+      (none_follow f.log.terms f.log.entries (new_entries f.log.entries start list) is h.1))
   apart learned.Nothing (learned.Grew m) h k x y = absurd (k.0.1 h.1)
   apart (learned.Illegal n) (learned.Conflict m) h k x y = absurd (no_conflict f.log.entries start m list k h.0.0)
   apart (learned.Illegal n) learned.Gap h k x y = absurd (omega (arith, k.1, h.0.1))
   apart (learned.Illegal n) learned.Nothing h k x y =
       absurd (not_all f.log.terms n (f.log.entries ++ new_entries f.log.entries start list) h.1
-      (none_follow f.log.terms f.log.entries (new_entries f.log.entries start list) is.legal k.1))
+      (none_follow f.log.terms f.log.entries (new_entries f.log.entries start list) is k.1))
   apart (learned.Illegal n) (learned.Illegal m) h k x y =
       ap learned.Illegal (one_illegal f.log.terms n m (f.log.entries ++ new_entries f.log.entries start list) h.1 k.1)
   apart (learned.Illegal n) (learned.Grew m) h k x y =

@@ -7,7 +7,7 @@ use Rattle.bg_wire.specs.PacketText.{IsOfMatch}
 use Rattle.bg_wire.specs.SavedText.{IsFirstIllegal}
 use Rattle.bg_wire.specs.declared.packets.Packet.{Packet}
 use Rattle.bg_wire.specs.declared.packets.Packet.TheVariants as packet
-use Rattle.bg_party.specs.Views.{FollowerView, IsFollower}
+use Rattle.bg_party.specs.Views.{FollowerView}
 use Rattle.bg_party.specs.Window.{early_behind}
 use Rattle.bg_party.specs.declared.outcomes.Learned.{Learned}
 use Rattle.bg_party.specs.declared.outcomes.Learned.TheVariants as learned
@@ -78,7 +78,7 @@ abbrev pub Learns : FollowerView → Packet → Learned → Type 0
 Learns f p learned.OtherMatch = IsOfMatch f.log.id p → ⊥
 Learns f p l = IsOfMatch f.log.id p × TeachesWithin f p l
 
--- a packet teaches a follower one thing, want of memory aside
+-- a packet teaches a follower whose record is legal one thing, want of memory aside
 abbrev pub TeachesOneThing : Type 0
-TeachesOneThing = (f : FollowerView) (p : Packet) (a b : Learned) → IsFollower f
+TeachesOneThing = (f : FollowerView) (p : Packet) (a b : Learned) → IsLegalRecord f.log.terms f.log.entries
     → Learns f p a → Learns f p b → a ≢ learned.Memory → b ≢ learned.Memory → a ≡ b

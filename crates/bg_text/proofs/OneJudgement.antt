@@ -95,7 +95,7 @@ module _ (s : State) (e : Entry) where
       let player : h.0 ≡ k.0 = cc in
       ap NoDouble (one_double_fault s k.0 why other (rw player at h.3) k.3)
 
-  one_entry_fault : (why other : EntryFault) → IsEntryFault why s e → IsEntryFault other s e → why ≡ other
+  pub one_entry_fault : (why other : EntryFault) → IsEntryFault why s e → IsEntryFault other s e → why ≡ other
   one_entry_fault RecordFull other h k = absurd h
   one_entry_fault Memory other h k = absurd h
   one_entry_fault MatchOver RecordFull h k = absurd k

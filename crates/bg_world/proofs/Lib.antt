@@ -42,3 +42,8 @@ pub mod DiceWords
 pub mod NoFailures
 pub mod Simulating
 pub mod ScriptLines
+pub mod OneOutcome
+pub mod OneSend
+pub mod OneTake
+pub mod OneRestart
+pub mod OneWorld

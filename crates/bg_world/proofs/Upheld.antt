@@ -28,7 +28,7 @@ use Rattle.bg_world.proofs.Reached.{reached, headline, agreement, no_more, no_pa
 use Rattle.bg_world.proofs.Sides.{get_log, seat_side}
 
 -- the record of a party that is up is the one that the state has
-held_entries : (r : Role) (w : WorldView) (c : Restorable) (log : Log) → held_of w r ≡ Some log
+pub held_entries : (r : Role) (w : WorldView) (c : Restorable) (log : Log) → held_of w r ≡ Some log
     → log_as (protocol_state w c) r ≡ Some log.entries
 held_entries roles.Referee w c log h = at w.referee h
   where
@@ -55,7 +55,7 @@ held_entries (roles.Watcher i) w c log h = get_log w.watchers i ∙ at (slice_ge
     at (Some f) e = ap (λ (l : Log). Some l.entries) (same_Some f.follower.log log e)
 
 -- and it is of the world's match
-held_match : (w : WorldView) (c : Restorable) → CoresMatch w c → (r : Role) (log : Log) → held_of w r ≡ Some log
+pub held_match : (w : WorldView) (c : Restorable) → CoresMatch w c → (r : Role) (log : Log) → held_of w r ≡ Some log
     → IsLogOf w.id w.terms log
 held_match w c fits roles.Referee log h = at w.referee fits.referee.1 h
   where

@@ -1,9 +1,15 @@
 -- Laws of worlds: each is proved.
-use Rattle.std.specs.Prelude.{◌≡◌}
+use Rattle.std.specs.Prelude.{◌≡◌, false, IsSome}
+use Rattle.bg_board.specs.declared.players.Player.{Player}
+use Rattle.bg_world.specs.Calls.{Calls}
 use Rattle.bg_world.specs.Starts.{AreUnused, fresh_world}
 use Rattle.bg_world.specs.State.{IsSetup, start}
-use Rattle.bg_world.specs.Views.{KeeperView, LinkView}
+use Rattle.bg_world.specs.Views.{KeeperView, LinkView, WorldView, seat_keeper}
+use Rattle.bg_world.specs.WorldRuns.{is_memory}
 use Rattle.bg_world.specs.WorldState.{IsReachedWorld, protocol_state}
+use Rattle.bg_world.specs.declared.events.Event.{Event}
+use Rattle.bg_world.specs.declared.events.Event.TheVariants as events
+use Rattle.bg_world.specs.declared.events.Outcome.{Outcome}
 use Rattle.bg_world.specs.declared.setups.Setup.{Setup}
 
 -- over unused devices a run leads to a new world, and the state of the protocol that it is in is the start
@@ -15,3 +21,32 @@ NewWorldsAreAtTheStart =
     IsReachedWorld w
     × ((reached : IsReachedWorld w)
     → protocol_state w reached.restorable ≡ start setup.id setup.length setup.watchers)
+
+-- the event asks nothing of a device, or nothing but one write, of which a world shows the answer
+abbrev pub NoDeviceIsHeard : Event → Type 0
+NoDeviceIsHeard (events.Due word) = Unit {0}
+NoDeviceIsHeard (events.Choose player action) = Unit {0}
+NoDeviceIsHeard (events.Save party) = Unit {0}
+NoDeviceIsHeard _ = ⊥
+
+-- between the same two worlds such an event comes to one outcome, on any devices, honest or not
+abbrev pub OutcomesAreFixed : Type 0 → Type 0 → Type 0
+OutcomesAreFixed link_honest keepers_honest =
+    (old : WorldView) (event : Event) (a b : Outcome) (new : WorldView)
+    → NoDeviceIsHeard event → Calls link_honest keepers_honest old event a new
+    → Calls link_honest keepers_honest old event b new → a ≡ b
+
+-- it is known of each device which of its calls fail
+pub record ArePlansKnown (w : WorldView) : Type 0 where
+  pub link : IsSome w.link.plan
+  pub referee : IsSome w.referee_keeper.plan
+  pub seats : (player : Player) → IsSome (seat_keeper w player).plan
+
+-- between the same two worlds any event comes to one outcome, over honest devices with known plans, from a world that a
+-- run leads to, want of memory aside
+abbrev pub ComeToOneOutcome : Type 0 → Type 0 → Type 0
+ComeToOneOutcome link_honest keepers_honest =
+    link_honest → keepers_honest
+    → (old : WorldView) (event : Event) (a b : Outcome) (new : WorldView) → IsReachedWorld old → ArePlansKnown old
+    → is_memory a ≡ false → is_memory b ≡ false
+    → Calls link_honest keepers_honest old event a new → Calls link_honest keepers_honest old event b new → a ≡ b

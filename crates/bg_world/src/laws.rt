@@ -10,7 +10,9 @@ ghost use Rattle.bg_world.specs.Shown.{ShowsSavedAlone};
 ghost use Rattle.bg_world.specs.Slots.{claim_in};
 ghost use Rattle.bg_world.specs.State.{ProtocolState, seat};
 ghost use Rattle.bg_world.specs.Survival.{SavesSurvive};
-ghost use Rattle.bg_world.specs.WorldLaws.{NewWorldsAreAtTheStart};
+ghost use Rattle.bg_world.specs.WorldLaws.{ComeToOneOutcome, NewWorldsAreAtTheStart, OutcomesAreFixed};
+
+use crate::{Keeper, Link};
 
 /// After any run every party's record is a prefix of the referee's, the referee's record is a legal match, and
 /// every entry of a seat in it answers the one action that this seat ever claimed under that number. What followers
@@ -55,4 +57,12 @@ pub fn slots_are_given_back()
 /// the protocol that it is in is the start.
 pub fn new_worlds_are_at_the_start()
     ensures { NewWorldsAreAtTheStart }
+{}
+
+/// Between the same two worlds an event comes to one outcome: what opens a game, claims an action or saves on any
+/// devices, and any event over honest devices whose plans are known, from a world that a run leads to, want of memory
+/// aside. So of two lists of outcomes that fit the same calls there is one, where the worlds between them are the same.
+pub fn outcomes_are_fixed<L: Link, K: Keeper>()
+    ensures unheard { OutcomesAreFixed L.is_honest K.is_honest }
+    ensures all { ComeToOneOutcome L.is_honest K.is_honest }
 {}

@@ -76,8 +76,8 @@ pub use event_lines::{event_texts_differ, parse_event};
 pub use events::{Event, Outcome, RestoreCause};
 pub use final_texts::final_text;
 pub use laws::{
-    claims_are_kept, new_worlds_are_at_the_start, nothing_is_refused, parties_agree,
-    saved_entries_alone_are_shown, saves_survive, slots_are_given_back,
+    claims_are_kept, new_worlds_are_at_the_start, nothing_is_refused, outcomes_are_fixed,
+    parties_agree, saved_entries_alone_are_shown, saves_survive, slots_are_given_back,
 };
 pub use memory_keeper::MemoryKeeper;
 pub use memory_net::MemoryNet;
