@@ -1,5 +1,5 @@
 -- Between the same two worlds an event comes to one outcome.
-use Rattle.std.specs.Prelude.{◌≡◌, ◌≢◌, ◌⊎◌, ℕ, ◌+◌, ◌<◌, ◌≤◌, Option, Some, None, List, [], ◌∷◌, ◌++◌, length, Result, Ok, Err}
+use Rattle.std.specs.Prelude.{◌≡◌, ◌≢◌, ◌⊎◌, ℕ, ◌+◌, ◌<◌, ◌≤◌, Option, Some, None, [], ◌∷◌, ◌++◌, length, Result, Ok, Err}
 use Rattle.std.specs.Prelude.{MatchOption}
 use Rattle.std.specs.Global.{Vec}
 use Rattle.std.proofs.Common.{refl, sym, ◌∙◌, ap, subst, inl, inr, arith, length-append}
@@ -32,14 +32,12 @@ use Rattle.bg_party.specs.Claims.{IsChooseFault, SeatChooses, trial_dice}
 use Rattle.bg_party.specs.Views.{SeatView, seat_after_save}
 use Rattle.bg_party.specs.declared.outcomes.ChooseFault.{ChooseFault}
 use Rattle.bg_party.specs.declared.outcomes.ChooseFault.TheVariants as choose_faults
-
 use Rattle.bg_world.specs.Calls.{ChooseCalls, DueCalls, NoCalls, SaveCalls, referee_parts, seat_parts}
 use Rattle.bg_world.specs.KeeperCalls.{SaveCallsAt, SaveGoesOn, SaveTold}
 use Rattle.bg_world.specs.Roles.{role}
 use Rattle.bg_world.specs.Views.{KeeperView, WorldView, seat_core, seat_keeper, with_seat_core, with_seat_keeper}
-use Rattle.bg_world.specs.WorldLaws.{NoDeviceIsHeard, OutcomesAreFixed}
+use Rattle.bg_world.specs.WorldLaws.{OutcomesAreFixed}
 use Rattle.bg_world.specs.declared.devices.DeviceFault.{DeviceFault}
-use Rattle.bg_world.specs.declared.events.Event.{Event}
 use Rattle.bg_world.specs.declared.events.Event.TheVariants as events
 use Rattle.bg_world.specs.declared.events.Outcome.{Outcome}
 use Rattle.bg_world.specs.declared.events.Outcome.TheVariants as outcomes

@@ -1,11 +1,11 @@
 -- What a restart comes to is told by the worlds before and after it, want of memory aside.
-use Rattle.std.specs.Prelude.{◌≡◌, ◌≢◌, ℕ, ◌+◌, Option, Some, None, IfSome, IfOk, List, Result, Ok, Err, MatchResult}
+use Rattle.std.specs.Prelude.{◌≡◌, ◌≢◌, ℕ, ◌+◌, Option, Some, None, IfSome, List, Result, Ok, Err, MatchResult}
 use Rattle.std.specs.Global.{Vec}
 use Rattle.std.proofs.Common.{refl, sym, ◌∙◌, ap, subst, arith}
 use Rattle.bg_match.specs.Terms.{Terms}
 use Rattle.bg_wire.specs.Restoring.{Restores, SlotsRestore}
-use Rattle.bg_wire.specs.SavedText.{SavedParts, parts_of}
-use Rattle.bg_wire.specs.SlotLaws.{Slots, bytes_in}
+use Rattle.bg_wire.specs.SavedText.{SavedParts}
+use Rattle.bg_wire.specs.SlotLaws.{Slots}
 use Rattle.bg_wire.specs.declared.faults.RestoreRefusal.{RestoreRefusal}
 use Rattle.bg_wire.specs.declared.faults.RestoreRefusal.TheVariants as refusals
 use Rattle.bg_wire.specs.declared.saves.Saved.{Saved}
@@ -14,7 +14,7 @@ use Rattle.bg_wire.specs.declared.slots.Slot.TheVariants.{Zero, One}
 use Rattle.bg_wire.proofs.OneText.{restores_once}
 use Rattle.bg_world.specs.DeviceCalls.{ReadsOnce, read_outcome}
 use Rattle.bg_world.specs.Devices.{CountsFailed}
-use Rattle.bg_world.specs.KeeperCalls.{ComesUp, ReadsBoth, ReadsSecond, RestartCallsAt, restored_of}
+use Rattle.bg_world.specs.KeeperCalls.{ComesUp, ReadsSecond, RestartCallsAt, restored_of}
 use Rattle.bg_world.specs.Plan.{KeeperPlan}
 use Rattle.bg_world.specs.Views.{KeeperView}
 use Rattle.bg_world.specs.declared.devices.DeviceFault.{DeviceFault}

@@ -1,5 +1,5 @@
 -- What a link with a known plan was sent, and how often it was asked and failed, tell what its sends answered.
-use Rattle.std.specs.Prelude.{◌≡◌, ℕ, suc, ◌+◌, ◌<◌, ◌≤◌, Bool, true, false, Option, Some, None, IfSome, List, [], ◌∷◌, ◌++◌, length}
+use Rattle.std.specs.Prelude.{◌≡◌, ℕ, ◌+◌, ◌≤◌, Bool, true, false, Option, Some, None, IfSome, List, [], ◌∷◌, ◌++◌, length}
 use Rattle.std.specs.Prelude.{Result, Ok, Err, MatchResult, nat_lt}
 use Rattle.std.specs.Bool.{MatchBool}
 use Rattle.std.proofs.Common.{refl, sym, ◌∙◌, ap, ap₂, subst, arith, length-append}
@@ -14,7 +14,6 @@ use Rattle.bg_world.specs.Views.{LinkView}
 use Rattle.bg_world.specs.declared.devices.DeviceFault.{DeviceFault}
 use Rattle.bg_world.specs.declared.devices.DeviceFault.TheVariants.{Failed, Memory}
 use Rattle.bg_world.specs.declared.events.Outcome.{Outcome}
-use Rattle.bg_world.specs.declared.events.Outcome.TheVariants as outcomes
 use Rattle.bg_world.specs.declared.plans.FailSend.{FailSend}
 
 longer : (before : List Datagram) (d : Datagram) → before ++ d ∷ [] ≡ before → ⊥

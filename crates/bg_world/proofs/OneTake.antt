@@ -1,30 +1,27 @@
 -- What a take comes to is told by the worlds before and after it.
-use Rattle.std.specs.Prelude.{◌≡◌, ◌≢◌, ℕ, zero, suc, ◌+◌, ◌<◌, ◌≤◌, Bool, true, false, Option, Some, None, IfSome, List, [], ◌∷◌, ◌++◌, length}
-use Rattle.std.specs.Prelude.{Result, Ok, Err, MatchOption, nat_lt, slice_get}
+use Rattle.std.specs.Prelude.{◌≡◌, ℕ, suc, ◌+◌, Bool, true, false, Option, Some, None, List, [], ◌∷◌, length}
+use Rattle.std.specs.Prelude.{Result, Ok, Err, nat_lt, slice_get}
 use Rattle.std.specs.Bool.{MatchBool}
-use Rattle.std.specs.List.{AllZip}
-use Rattle.std.proofs.Common.{refl, sym, ◌∙◌, ap, ap₂, subst, arith, length-append}
+use Rattle.std.proofs.Common.{refl, sym, ◌∙◌, ap, ap₂, subst, arith}
 use Rattle.std.proofs.lemmas.Option.{same_Some}
 use Rattle.arrayvec.specs.ArrayVec.{ArrayVec}
 use Rattle.bg_turns.specs.Dice.{dice_of}
 use Rattle.bg_turns.specs.declared.throws.Dice.{Dice}
 use Rattle.bg_match.specs.Answers.{Answers, CanAnswer}
-use Rattle.bg_match.specs.Match.{IsNext, IsRecordFault, at_number}
+use Rattle.bg_match.specs.Match.{IsNext, IsRecordFault}
 use Rattle.bg_match.specs.declared.actions.Action.{Action}
 use Rattle.bg_match.specs.declared.actions.Action.TheVariants as action
 use Rattle.bg_match.specs.declared.entries.Entry.{Entry}
 use Rattle.bg_match.specs.declared.phases.Actor.{Actor}
 use Rattle.bg_match.proofs.Answering.{one_answer}
 use Rattle.bg_match.proofs.Legal.{one_actor}
-use Rattle.bg_wire.specs.Faults.{IsWireFault}
-use Rattle.bg_wire.specs.PacketText.{IsText}
 use Rattle.bg_wire.specs.declared.packets.Packet.{Packet}
 use Rattle.bg_wire.specs.declared.packets.Packet.TheVariants as packet
 use Rattle.bg_wire.proofs.OneText.{one_packet}
 use Rattle.bg_wire.proofs.PacketFaults.{one_wire_fault, packets_have_no_fault}
-use Rattle.bg_referee.specs.Referee.{Appends, IsShown, RefereeView, with_sessions_of}
+use Rattle.bg_referee.specs.Referee.{IsShown, RefereeView, with_sessions_of}
 use Rattle.bg_referee.specs.Takes.{ComesOf, RefereeTakes, Replies, Reply, Says, Shows, Tries, reply_to}
-use Rattle.bg_referee.specs.Ticks.{ArePushes, IsPush}
+use Rattle.bg_referee.specs.Ticks.{ArePushes}
 use Rattle.bg_referee.specs.declared.outcomes.TakeOutcome.{TakeOutcome}
 use Rattle.bg_referee.specs.declared.outcomes.TakeOutcome.TheVariants as takes
 use Rattle.bg_world.specs.DeviceCalls.{IsHand, Posts, link_outcome}

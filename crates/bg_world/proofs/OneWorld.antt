@@ -1,5 +1,5 @@
 -- Over honest devices with known plans an event comes to one outcome between the same two worlds, want of memory aside.
-use Rattle.std.specs.Prelude.{◌≡◌, ◌≢◌, ℕ, zero, suc, ◌+◌, [], ◌∷◌, Bool, true, false, Option, Some, None, IfSome, IsSome, List, ◌++◌, slice_get, slice_set}
+use Rattle.std.specs.Prelude.{◌≡◌, ◌≢◌, ℕ, zero, suc, [], ◌∷◌, true, false, Option, Some, None, IfSome, IsSome, List, slice_get, slice_set}
 use Rattle.std.specs.Prelude.{Result, Ok, Err, MatchOption}
 use Rattle.std.proofs.Common.{refl, sym, ◌∙◌, ap, subst}
 use Rattle.std.proofs.lemmas.Option.{same_Some}
@@ -7,37 +7,32 @@ use Rattle.arrayvec.specs.ArrayVec.{ArrayVec}
 use Rattle.bg_board.specs.declared.players.Player.{Player}
 use Rattle.bg_board.specs.declared.players.Player.TheVariants.{X, O}
 use Rattle.bg_match.specs.Match.{IsLegalRecord, Log}
-use Rattle.bg_match.specs.declared.entries.Entry.{Entry}
 use Rattle.bg_match.proofs.Legal.{legal_fronts}
 use Rattle.bg_wire.specs.Codes.{referee}
 use Rattle.bg_wire.specs.Parties.{party_of}
 use Rattle.bg_wire.specs.declared.packets.Packet.{Packet}
 use Rattle.bg_referee.specs.Referee.{RefereeView, fresh_referee, resumed_referee}
 use Rattle.bg_referee.specs.Takes.{RefereeTakes}
-use Rattle.bg_referee.specs.Ticks.{RefereeTicks}
 use Rattle.bg_referee.specs.declared.outcomes.TakeOutcome.{TakeOutcome}
 use Rattle.bg_party.specs.Claims.{SeatTicks, WatcherTicks}
 use Rattle.bg_party.specs.Takes.{FollowerTakes}
 use Rattle.bg_party.specs.Views.{FollowerView, SeatView, WatcherView, fresh_seat, fresh_watcher, resumed_seat}
 use Rattle.bg_party.specs.declared.outcomes.Learned.{Learned}
-use Rattle.bg_party.specs.declared.outcomes.Learned.TheVariants as learns
 use Rattle.bg_party.proofs.OneLesson.{teaches_one_thing}
-use Rattle.bg_world.specs.Calls.{Calls, NoCalls, RestartCalls, SeatTakes, TakeCalls, TickCalls, WatcherTakes}
+use Rattle.bg_world.specs.Calls.{NoCalls, RestartCalls, SeatTakes, TakeCalls, TickCalls, WatcherTakes}
 use Rattle.bg_world.specs.DeviceCalls.{Receives}
 use Rattle.bg_world.specs.Devices.{CountsFailed}
 use Rattle.bg_world.specs.Handed.{handed}
 use Rattle.bg_world.specs.KeeperCalls.{RestartCallsAt}
 use Rattle.bg_world.specs.LinkCalls.{AnswerCalls, FollowerHandles, FollowerTakeCalls, FollowerTickCalls, RefereeHandles}
 use Rattle.bg_world.specs.LinkCalls.{RefereeTakeCalls, RefereeTickCalls, SendCalls, to_referee}
-use Rattle.bg_world.specs.Plan.{KeeperPlan}
 use Rattle.bg_world.specs.Roles.{role}
 use Rattle.bg_world.specs.Starts.{held_of, seat_log, watcher_log}
-use Rattle.bg_world.specs.Views.{KeeperView, LinkView, WorldView, parties, seat_core, seat_keeper, with_seat_core, with_seat_keeper}
+use Rattle.bg_world.specs.Views.{KeeperView, LinkView, WorldView, parties, seat_core, seat_keeper, with_seat_core}
 use Rattle.bg_world.specs.WorldLaws.{ArePlansKnown, ComeToOneOutcome}
 use Rattle.bg_world.specs.WorldRuns.{is_memory}
 use Rattle.bg_world.specs.WorldState.{IsReachedWorld, protocol_state}
 use Rattle.bg_world.specs.declared.devices.DeviceFault.{DeviceFault}
-use Rattle.bg_world.specs.declared.events.Event.{Event}
 use Rattle.bg_world.specs.declared.events.Event.TheVariants as events
 use Rattle.bg_world.specs.declared.events.Outcome.{Outcome}
 use Rattle.bg_world.specs.declared.events.Outcome.TheVariants as outcomes
@@ -210,8 +205,8 @@ module _ (lh kh : Type 0) (link_honest : lh) (keepers_honest : kh) (old : WorldV
           sym (link_there (record old { link = y.0 }) q (Some y.1)) ∙ ap (λ (w : WorldView). w.link) worlds
           ∙ link_there (record old { link = x.0 }) q (Some x.1) in
           let cores : y.1 ≡ x.1 = same_Some y.1 x.1 (
-            sym (core_there (record old { link = y.0 }) q (Some y.1)) ∙ ap (λ (w : WorldView). seat_core w q) worlds
-            ∙ core_there (record old { link = x.0 }) q (Some x.1)
+          sym (core_there (record old { link = y.0 }) q (Some y.1)) ∙ ap (λ (w : WorldView). seat_core w q) worlds
+          ∙ core_there (record old { link = x.0 }) q (Some x.1)
           ) in
           follower_takes SeatTakes (λ (s : SeatView). s.follower) (λ c p l d t. t.takes) core x.1
           (legal_held old world (party_of q) core.follower.log (seat_held old q core up)) lh party pick old.link x.0 a b
