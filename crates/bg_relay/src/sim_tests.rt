@@ -73,10 +73,9 @@ fn printed(rt: &HostRuntime, seed: u64, steps: u32) -> Option<Vec<u8>> {
     Some(system.into_printed())
 }
 
-/// The command plays its events in batches of 1,000, and prints what `sim_text` gives: up to each of these events and one
-/// event further, which says more.
+/// The command prints what `sim_text` gives of the same match: after so many events, and after one more, which tell more.
 #[test]
-fn command_prints_the_text_beyond_one_batch(rt: HostRuntime) -> Result<(), Fail> {
+fn command_prints_the_text_after_thousands_of_events(rt: HostRuntime) -> Result<(), Fail> {
     for (seed, steps) in [(34, 999), (4, 1000), (127, 1999), (127, 2000), (3, 2500)] {
         let text = sim_text(rt.alloc(), seed, 3, 2, steps)?;
         let further = sim_text(rt.alloc(), seed, 3, 2, steps.saturating_add(1))?;
