@@ -7,4 +7,5 @@ pub mod Attempts
 pub mod Schedule
 pub mod Rounds
 pub mod RoundResults
+pub mod LoopFaultWords
 pub mod Simulating

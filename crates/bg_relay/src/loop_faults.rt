@@ -5,27 +5,41 @@ ghost use Rattle.bg_relay.specs.declared.loop_faults.LoopFault.TheVariants.{Memo
 use bg_text::StreamFault;
 use bg_world::{Outcome, WorldFault, outcome_text};
 use std::alloc::{AllocError, AllocFailed};
-use thiserror::Error;
+use std::error::Error;
+use std::fmt;
 
 /// Why a match over sockets and files ends before its last round, or begins with none (docs/OPERATING.md, "Messages").
-#[derive(Debug, PartialEq, Eq, Drop, Error)]
+#[derive(Debug, PartialEq, Eq, Drop)]
 pub enum LoopFault {
     /// There is no such match.
-    #[error("{0}")]
     World(WorldFault),
     /// A socket could not be opened on 127.0.0.1, or not be made non-blocking.
-    #[error("a socket could not be opened on 127.0.0.1")]
     Socket,
     /// An event came to this outcome: the slots of a party could not be restored, or there was no memory.
-    #[error("{}", outcome_text(.0).as_str())]
     Stopped(Outcome),
     /// The output could not be written.
-    #[error("the output could not be written")]
     Write,
     /// There was no memory.
-    #[error("out of memory")]
     Memory,
 }
+
+impl fmt::Display for LoopFault {
+    ghost use Rattle.bg_relay.specs.LoopFaultWords.{loop_fault_words};
+
+    ghost output = { loop_fault_words ⟦<WorldFault as fmt::Display>⟧.output };
+
+    fn fmt<W: fmt::Write>(&self, f: &mut fmt::Formatter<W>) -> fmt::Result {
+        match self {
+            LoopFault::World(fault) => write!(f, "{fault}"),
+            LoopFault::Socket => f.write_str("a socket could not be opened on 127.0.0.1"),
+            LoopFault::Stopped(outcome) => f.write_str(outcome_text(outcome).as_str()),
+            LoopFault::Write => f.write_str("the output could not be written"),
+            LoopFault::Memory => f.write_str("out of memory"),
+        }
+    }
+}
+
+impl Error for LoopFault {}
 
 impl From<AllocError> for LoopFault {
     ghost from_gives = { λ _ fault. fault ≡ Memory };
