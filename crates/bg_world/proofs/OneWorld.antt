@@ -1,7 +1,7 @@
 -- Over honest devices with known plans an event comes to one outcome between the same two worlds, want of memory aside.
 use Rattle.std.specs.Prelude.{◌≡◌, ◌≢◌, ℕ, zero, suc, [], ◌∷◌, true, false, Option, Some, None, IfSome, IsSome, List, slice_get, slice_set}
 use Rattle.std.specs.Prelude.{Result, Ok, Err, MatchOption}
-use Rattle.std.proofs.Common.{refl, sym, ◌∙◌, ap, subst}
+use Rattle.std.proofs.Common.{refl, sym, ◌∙◌, absurd, ap, subst}
 use Rattle.std.proofs.lemmas.Option.{same_Some}
 use Rattle.arrayvec.specs.ArrayVec.{ArrayVec}
 use Rattle.bg_board.specs.declared.players.Player.{Player}
@@ -29,7 +29,7 @@ use Rattle.bg_world.specs.LinkCalls.{RefereeTakeCalls, RefereeTickCalls, SendCal
 use Rattle.bg_world.specs.Roles.{role}
 use Rattle.bg_world.specs.Starts.{held_of, seat_log, watcher_log}
 use Rattle.bg_world.specs.Views.{KeeperView, LinkView, WorldView, parties, seat_core, seat_keeper, with_seat_core}
-use Rattle.bg_world.specs.WorldLaws.{ArePlansKnown, ComeToOneOutcome}
+use Rattle.bg_world.specs.WorldLaws.{ArePlansKnown, ComeToOneList, ComeToOneOutcome}
 use Rattle.bg_world.specs.WorldRuns.{is_memory}
 use Rattle.bg_world.specs.WorldState.{IsReachedWorld, protocol_state}
 use Rattle.bg_world.specs.declared.devices.DeviceFault.{DeviceFault}
@@ -339,3 +339,15 @@ one_outcome lh kh link keepers old (events.Tick party) a b new world plans m n h
     tick_fixed lh kh link keepers old world plans (role party) a b new h k
 one_outcome lh kh link keepers old (events.Restart party) a b new world plans m n h k =
     restart_fixed lh kh link keepers old world plans (role party) party a b new m n h k
+
+pub one_list : (lh kh : Type 0) → ComeToOneList lh kh
+one_list lh kh link keepers old [] [] [] [] known m n h k = refl
+one_list lh kh link keepers old [] [] [] (v ∷ vs) known m n h k = absurd h
+one_list lh kh link keepers old [] [] (b ∷ bs) worlds known m n h k = absurd k
+one_list lh kh link keepers old [] (a ∷ xs) b worlds known m n h k = absurd h
+one_list lh kh link keepers old (e ∷ es) [] b worlds known m n h k = absurd h
+one_list lh kh link keepers old (e ∷ es) (a ∷ xs) [] worlds known m n h k = absurd k
+one_list lh kh link keepers old (e ∷ es) (a ∷ xs) (b ∷ ys) [] known m n h k = absurd h
+one_list lh kh link keepers old (e ∷ es) (a ∷ xs) (b ∷ ys) (v ∷ vs) known m n h k =
+    ap (λ (l : List Outcome). a ∷ l) (one_list lh kh link keepers v es xs ys vs known.1 m.1 n.1 h.1 k.1)
+    ∙ ap (λ (o : Outcome). o ∷ ys) (one_outcome lh kh link keepers old e a b v known.0.0 known.0.1 m.0 n.0 h.0 k.0)

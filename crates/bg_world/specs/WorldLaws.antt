@@ -1,5 +1,6 @@
 -- Laws of worlds: each is proved.
-use Rattle.std.specs.Prelude.{◌≡◌, false, IsSome}
+use Rattle.std.specs.Prelude.{◌≡◌, false, IsSome, List, [], ◌∷◌}
+use Rattle.std.specs.List.{AllByRecursion}
 use Rattle.bg_board.specs.declared.players.Player.{Player}
 use Rattle.bg_world.specs.Calls.{Calls}
 use Rattle.bg_world.specs.Starts.{AreUnused, fresh_world}
@@ -50,3 +51,21 @@ ComeToOneOutcome link_honest keepers_honest =
     → (old : WorldView) (event : Event) (a b : Outcome) (new : WorldView) → IsReachedWorld old → ArePlansKnown old
     → is_memory a ≡ false → is_memory b ≡ false
     → Calls link_honest keepers_honest old event a new → Calls link_honest keepers_honest old event b new → a ≡ b
+
+-- the calls of the events, one event after the other, with what each came to and the world after it
+abbrev pub CallsThrough : Type 0 → Type 0 → WorldView → List Event → List Outcome → List WorldView → Type 0
+CallsThrough link_honest keepers_honest old [] [] [] = Unit {0}
+CallsThrough link_honest keepers_honest old (event ∷ events) (outcome ∷ outcomes) (new ∷ worlds) =
+    Calls link_honest keepers_honest old event outcome new
+    × CallsThrough link_honest keepers_honest new events outcomes worlds
+CallsThrough link_honest keepers_honest old _ _ _ = ⊥
+
+-- of two lists of outcomes that fit the same calls through the same worlds there is one, under these premises
+abbrev pub ComeToOneList : Type 0 → Type 0 → Type 0
+ComeToOneList link_honest keepers_honest =
+    link_honest → keepers_honest
+    → (old : WorldView) (events : List Event) (a b : List Outcome) (worlds : List WorldView)
+    → AllByRecursion (λ w. IsReachedWorld w × ArePlansKnown w) (old ∷ worlds)
+    → AllByRecursion (λ o. is_memory o ≡ false) a → AllByRecursion (λ o. is_memory o ≡ false) b
+    → CallsThrough link_honest keepers_honest old events a worlds
+    → CallsThrough link_honest keepers_honest old events b worlds → a ≡ b

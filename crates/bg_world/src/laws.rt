@@ -10,7 +10,7 @@ ghost use Rattle.bg_world.specs.Shown.{ShowsSavedAlone};
 ghost use Rattle.bg_world.specs.Slots.{claim_in};
 ghost use Rattle.bg_world.specs.State.{ProtocolState, seat};
 ghost use Rattle.bg_world.specs.Survival.{SavesSurvive};
-ghost use Rattle.bg_world.specs.WorldLaws.{ComeToOneOutcome, NewWorldsAreAtTheStart, OutcomesAreFixed};
+ghost use Rattle.bg_world.specs.WorldLaws.{ComeToOneList, ComeToOneOutcome, NewWorldsAreAtTheStart, OutcomesAreFixed};
 
 use crate::{Keeper, Link};
 
@@ -65,4 +65,5 @@ pub fn new_worlds_are_at_the_start()
 pub fn outcomes_are_fixed<L: Link, K: Keeper>()
     ensures unheard { OutcomesAreFixed L.is_honest K.is_honest }
     ensures all { ComeToOneOutcome L.is_honest K.is_honest }
+    ensures lists { ComeToOneList L.is_honest K.is_honest }
 {}
