@@ -33,12 +33,12 @@ const FORGED: [&[u8]; 5] = [
 #[derive(Drop)]
 struct Forger {
     socket: UdpSocket,
-    addresses: [SocketAddr; 4],
+    addresses: Vec<SocketAddr>,
 }
 
 impl Onlooker for Forger {
     fn happened(&mut self, _event: &Event, _outcome: &Outcome, _held: Option<Number>) {
-        for address in self.addresses {
+        for address in self.addresses.iter().copied() {
             for packet in FORGED {
                 let _ = self.socket.send_to(packet, address);
             }
@@ -68,9 +68,10 @@ fn forged_packets_change_nothing(rt: HostRuntime) -> Result<(), Fail> {
     let folder = besieged.as_str();
     let link = UdpLink::bind(&rt, PARTIES)?;
     assert!(rt; link.sockets.ends.len() == 4);
+    let ends = link.sockets.ends.iter();
     let mut forger = Forger {
         socket: UdpSocket::bind(&rt, (Ipv4Addr::LOCALHOST, 0))?,
-        addresses: [0, 1, 2, 3].map(|party: usize| link.sockets.ends[party].socket.address),
+        addresses: ends.map(|end| end.socket.address).collect(rt.alloc())?,
     };
     let keepers = Keepers {
         referee: FileKeeper::new(&rt, folder, REFEREE)?,
