@@ -1,5 +1,5 @@
 -- What a match comes to over some devices is what it comes to over sockets and files.
-use Rattle.std.proofs.Common.{◌≡◌, ℕ, Result, Ok, Err}
+use Rattle.std.proofs.Common.{ℕ, Result, Ok, Err}
 use Rattle.bg_text.specs.declared.devices.Sink.{Ghosts as SinkGhosts}
 use Rattle.bg_world.specs.Views.{KeeperView, LinkView}
 use Rattle.bg_world.specs.declared.setups.Setup.{Setup}

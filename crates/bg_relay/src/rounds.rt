@@ -1,6 +1,6 @@
 //! A match between automatic players, round by round, over any link and any keepers.
 ghost use Rattle.std.specs.Prelude.{◌≡◌, false, true, IfErr, IfOk, MatchResult, OnErr, OnOk};
-ghost use Rattle.bg_relay.specs.RoundResults.{FailsOnce, IsGood, IsRoundsResult, WritesEnd, moment_of, setup_of};
+ghost use Rattle.bg_relay.specs.RoundResults.{IsGood, IsRoundsResult, WritesEnd, moment_of, setup_of};
 ghost use Rattle.bg_relay.specs.RoundResults.{IsWriteFault, start_moment};
 ghost use Rattle.bg_relay.specs.Rounds.{Happens, IsChosen, IsEventOf, MayLackMemory, PlaysPart, PlaysParts, StopsAt};
 ghost use Rattle.bg_relay.specs.Rounds.{StopsIn, ends, match_parts, next_word};

@@ -1,4 +1,4 @@
-use Rattle.std.proofs.Common.{◌≡◌, Option, Some, None, refl, sym, ap, subst, ◌∙◌}
+use Rattle.std.proofs.Common.{Option, Some, sym, ap, subst}
 use Rattle.bg_world.specs.declared.events.Event.{Event}
 use Rattle.bg_relay.specs.RoundResults.{moment_of}
 use Rattle.bg_relay.specs.Rounds.{GoesOn, Happens, IsEventOf, follow_up}

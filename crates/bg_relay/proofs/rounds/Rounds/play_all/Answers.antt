@@ -1,4 +1,3 @@
-use Rattle.std.proofs.Common.{◌≡◌, ap}
 use Rattle.std.proofs.lemmas.Result.{err_from_is_err_and}
 use Rattle.bg_relay.specs.RoundResults.{moment_of}
 use Rattle.bg_relay.specs.declared.round_schedule.Part.TheVariants.{Due}
