@@ -1,6 +1,6 @@
-/* To be preloaded: cuts a write to a file of a party, and kills the process there, so that the file is torn. CUT_WRITE is
- * the number of the write, from 1, and CUT_SHARE how many 255ths of its bytes are written: 0 leaves the file empty, 255
- * writes all. */
+/* To be preloaded: cuts a write to a file of a party, and kills the process there, so that the file is torn.
+ * CUT_WRITE is the number of the write, from 1, and CUT_SHARE how many 255ths of its bytes are written: 0 leaves the
+ * file empty, 255 writes all. */
 #define _GNU_SOURCE
 #include <dlfcn.h>
 #include <fcntl.h>

@@ -1,5 +1,5 @@
-/* To be preloaded: refuses one growth of memory. REFUSE_GROWTH is its number among the calls of malloc and realloc, from 1;
- * the file that REFUSED_FILE names is made where it was refused. */
+/* To be preloaded: refuses one growth of memory. REFUSE_GROWTH is its number among the calls of malloc and realloc,
+ * from 1; the file that REFUSED_FILE names is made where it was refused. */
 #define _GNU_SOURCE
 #include <dlfcn.h>
 #include <errno.h>
