@@ -92,31 +92,16 @@ struct Waiting {
     bytes: ArrayVec<u8, 256>,
 }
 
-/// A link that hands over to each party what was sent to it, in order and once.
+/// What waits for the parties, in the order in which it was sent.
 #[derive(Drop)]
-pub(crate) struct OrderedLink<'a> {
+struct Queue<'a> {
     recorder: &'a Recorder,
     waiting: Vec<Waiting>,
-    takes: History,
-    sends: History,
-    faults: History,
-    taken: Result<Option<History>, DeviceFault>,
 }
 
-impl<'a> OrderedLink<'a> {
-    pub(crate) fn new(recorder: &'a Recorder) -> OrderedLink<'a> {
-        OrderedLink {
-            recorder,
-            waiting: Vec::new(recorder.alloc),
-            takes: History::new(),
-            sends: History::new(),
-            faults: History::new(),
-            taken: Ok(None),
-        }
-    }
-
+impl<'a> Queue<'a> {
     /// Bytes wait for a party, behind what does so already.
-    pub(crate) fn wait(&mut self, party: u8, bytes: &[u8]) -> Result<(), DeviceFault> {
+    fn wait(&mut self, party: u8, bytes: &[u8]) -> Result<(), DeviceFault> {
         let mut waiting = ArrayVec::new();
         if waiting.try_extend_from_slice(bytes).is_err() {
             return Err(DeviceFault::Failed);
@@ -152,6 +137,36 @@ impl<'a> OrderedLink<'a> {
     }
 }
 
+/// A link that hands over to each party what was sent to it, in order and once.
+#[derive(Drop)]
+pub(crate) struct OrderedLink<'a> {
+    queue: Queue<'a>,
+    takes: History,
+    sends: History,
+    faults: History,
+    taken: Result<Option<History>, DeviceFault>,
+}
+
+impl<'a> OrderedLink<'a> {
+    pub(crate) fn new(recorder: &'a Recorder) -> OrderedLink<'a> {
+        OrderedLink {
+            queue: Queue {
+                recorder,
+                waiting: Vec::new(recorder.alloc),
+            },
+            takes: History::new(),
+            sends: History::new(),
+            faults: History::new(),
+            taken: Ok(None),
+        }
+    }
+
+    /// Bytes wait for a party, behind what does so already.
+    pub(crate) fn wait(&mut self, party: u8, bytes: &[u8]) -> Result<(), DeviceFault> {
+        self.queue.wait(party, bytes)
+    }
+}
+
 impl<'a> Link for OrderedLink<'a> {
     ghost is_honest = { ⊥ };
 
@@ -169,53 +184,30 @@ impl<'a> Link for OrderedLink<'a> {
 
     fn send(&mut self, datagram: &Datagram) -> Result<(), DeviceFault> {
         self.sends = self.sends.marked();
-        let result = self.send_on(datagram);
+        let result = self.queue.send_on(datagram);
         self.faults = count_failed(&self.faults, &result);
         result
     }
 
     fn take(&mut self, party: u8, pick: u32) -> Taken {
         self.takes = self.takes.marked();
-        let result = self.hand_over(party, pick);
+        let result = self.queue.hand_over(party, pick);
         self.faults = count_failed(&self.faults, &result);
         self.taken = note_taken(&result);
         result
     }
 }
 
-/// The keeper of a party, which has what was last written to its slots.
+/// What was last written to the slots of a party.
 #[derive(Drop)]
-pub(crate) struct RecordingKeeper<'a> {
+struct Written<'a> {
     recorder: &'a Recorder,
     party: u8,
     zero: Vec<u8>,
     one: Vec<u8>,
-    writes: History,
-    reads: History,
-    faults: History,
-    written: Result<(), DeviceFault>,
 }
 
-impl<'a> RecordingKeeper<'a> {
-    /// The keeper of a party whose slots have these bytes.
-    pub(crate) fn new(
-        recorder: &'a Recorder,
-        party: u8,
-        slots: (Vec<u8>, Vec<u8>),
-    ) -> RecordingKeeper<'a> {
-        let (zero, one) = slots;
-        RecordingKeeper {
-            recorder,
-            party,
-            zero,
-            one,
-            writes: History::new(),
-            reads: History::new(),
-            faults: History::new(),
-            written: Ok(()),
-        }
-    }
-
+impl<'a> Written<'a> {
     fn put(&mut self, slot: Slot, bytes: &[u8]) -> Result<(), DeviceFault> {
         let Ok(saved) = load(self.recorder.alloc, bytes) else {
             return Err(DeviceFault::Failed);
@@ -250,6 +242,39 @@ impl<'a> RecordingKeeper<'a> {
     }
 }
 
+/// The keeper of a party, which has what was last written to its slots.
+#[derive(Drop)]
+pub(crate) struct RecordingKeeper<'a> {
+    slots: Written<'a>,
+    writes: History,
+    reads: History,
+    faults: History,
+    written: Result<(), DeviceFault>,
+}
+
+impl<'a> RecordingKeeper<'a> {
+    /// The keeper of a party whose slots have these bytes.
+    pub(crate) fn new(
+        recorder: &'a Recorder,
+        party: u8,
+        slots: (Vec<u8>, Vec<u8>),
+    ) -> RecordingKeeper<'a> {
+        let (zero, one) = slots;
+        RecordingKeeper {
+            slots: Written {
+                recorder,
+                party,
+                zero,
+                one,
+            },
+            writes: History::new(),
+            reads: History::new(),
+            faults: History::new(),
+            written: Ok(()),
+        }
+    }
+}
+
 impl<'a> Keeper for RecordingKeeper<'a> {
     ghost is_honest = { ⊥ };
 
@@ -267,14 +292,14 @@ impl<'a> Keeper for RecordingKeeper<'a> {
 
     fn write(&mut self, slot: Slot, bytes: &[u8]) -> Result<(), DeviceFault> {
         self.writes = self.writes.marked();
-        self.written = self.put(slot, bytes);
+        self.written = self.slots.put(slot, bytes);
         self.faults = count_failed(&self.faults, &self.written);
         self.written
     }
 
     fn read(&mut self, slot: Slot) -> Result<Vec<u8>, DeviceFault> {
         self.reads = self.reads.marked();
-        let result = self.get(slot);
+        let result = self.slots.get(slot);
         self.faults = count_failed(&self.faults, &result);
         result
     }
