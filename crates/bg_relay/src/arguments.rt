@@ -14,8 +14,8 @@ const MOST_ROUNDS: u32 = 1_000_000;
 /// The most events that an automatic match may have.
 const MOST_STEPS: u32 = 1_000_000;
 
-/// A file that is named to a command which reads the standard input. It is an argument that help leaves out, so that the
-/// answer can say how to hand the file in.
+/// A file that is named to a command which reads the standard input. It is an argument that help leaves out, so that
+/// the answer can say how to hand the file in.
 pub(crate) const MISPLACED_FILE: &str = "FILE";
 
 /// What `judge` does, with a transcript and what it prints of it.

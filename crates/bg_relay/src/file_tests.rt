@@ -67,8 +67,8 @@ fn files_of_slots(rt: HostRuntime) -> Result<(), Fail> {
     Ok(())
 }
 
-/// Where a file can't be opened, want of memory is told from other failures, by reads as by writes; it is said each time
-/// that it begins.
+/// Where a file can't be opened, want of memory is told from other failures, by reads as by writes; it is said each
+/// time that it begins.
 #[test]
 fn files_that_fail(rt: HostRuntime) -> Result<(), Fail> {
     let folder = new_folder(&rt, "files-that-fail")?;

@@ -106,8 +106,8 @@ fn forty_rounds_and_forty_more(rt: HostRuntime) -> Result<(), Fail> {
     Ok(())
 }
 
-/// Matches of length 3, so many rounds of each, and how many entries these have at least. The first game of match 417 is
-/// over with entry 76; the first two words of match 8 have equal dice, 5 5 and 4 4, and open no game.
+/// Matches of length 3, so many rounds of each, and how many entries these have at least. The first game of match 417
+/// is over with entry 76; the first two words of match 8 have equal dice, 5 5 and 4 4, and open no game.
 const PLAYED: [(u64, u32, u16); 2] = [(417, 170, 80), (8, 12, 4)];
 
 /// The entries are those that seed and length decide: those of the automatic match in memory.
@@ -190,8 +190,8 @@ fn is_sound(text: &[u8]) -> bool {
     counts.iter().all(|count| *count <= counts[0])
 }
 
-/// Each call of ten rounds fails once, in a match of its own. Of four calls in a row a test takes the one of this rest by
-/// four, so that none takes long.
+/// Each call of ten rounds fails once, in a match of its own. Of four calls in a row a test takes the one of this
+/// rest by four, so that none takes long.
 fn check_each_fourth_call(rt: &HostRuntime, rest: u32) -> Result<(), Fail> {
     let name = format!(in rt.alloc(); "one-call-{rest}")?;
     for failing in 1..=MOST_CALLS {

@@ -14,8 +14,8 @@ pub(crate) const MOST_BYTES: usize = 256;
 /// So many datagrams of others are passed over in one call at most.
 const MOST_PASSED_OVER: u32 = 1000;
 
-/// A non-blocking socket on 127.0.0.1 that is connected to itself, so that the system hands it nothing that was sent from
-/// another one (docs/OPERATING.md, "Sockets").
+/// A non-blocking socket on 127.0.0.1 that is connected to itself, so that the system hands it nothing that was sent
+/// from another one (docs/OPERATING.md, "Sockets").
 #[derive(Drop)]
 pub(crate) struct OwnSocket {
     socket: UdpSocket,
@@ -50,7 +50,8 @@ impl OwnSocket {
         Ok(())
     }
 
-    /// The bytes of the datagram that has waited longest, if one has that the socket sent itself. Others are passed over.
+    /// The bytes of the datagram that has waited longest, if one has that the socket sent itself. Others are passed
+    /// over.
     pub(crate) fn receive(&self) -> io::Result<Option<ArrayVec<u8, MOST_BYTES>>> {
         for _ in 0..MOST_PASSED_OVER {
             let mut buffer = [0; MOST_BYTES];

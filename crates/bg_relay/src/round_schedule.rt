@@ -52,8 +52,8 @@ pub(crate) const ROUND: [Part; 20] = [
     Part::Tick(WATCHER),
 ];
 
-/// What happens at once after a part came to this outcome: a party whose save failed is down, and begins again from what
-/// its slots restore.
+/// What happens at once after a part came to this outcome: a party whose save failed is down, and begins again from
+/// what its slots restore.
 pub(crate) fn follow_up(part: Part, outcome: &Outcome) -> Option<Event>
     ensures { result ≡ follow_up_of part outcome.now }
 {

@@ -75,8 +75,8 @@ const ROUND_2: [Call; 19] = [
     Send(0, Want(3, 1)),
 ];
 
-/// The referee accepts the move, and saves it before it tells it: its tick pushes it to the first two who lack it. Nobody
-/// has learned anything, so all send what they sent, one tick after the last.
+/// The referee accepts the move, and saves it before it tells it: its tick pushes it to the first two who lack it.
+/// Nobody has learned anything, so all send what they sent, one tick after the last.
 const ROUND_3: [Call; 18] = [
     Take(0, 0, Claim(1, 2)),
     Take(0, 0, Want(2, 1)),
@@ -130,8 +130,8 @@ const VAIN_WANTS: [Call; 4] = [
     Take(0, 0, Nothing),
 ];
 
-/// In the first two rounds, where three datagrams that are no packets wait for each seat: what the seats take at first, and
-/// what they take once more.
+/// In the first two rounds, where three datagrams that are no packets wait for each seat: what the seats take at
+/// first, and what they take once more.
 const GARBLED_TAKES: [Call; 6] = [
     Take(1, 0, Garbled),
     Take(2, 0, Garbled),
@@ -187,8 +187,8 @@ const DROP_CLAIMED: [Call; 16] = [
     Send(0, Want(3, 0)),
 ];
 
-/// The claim is the last that the referee takes in the next round: with it the game is over. The next one is opened in the
-/// same round, and both entries are saved at once.
+/// The claim is the last that the referee takes in the next round: with it the game is over. The next one is opened
+/// in the same round, and both entries are saved at once.
 const NEXT_GAME: [Call; 17] = [
     Take(0, 0, Garbled),
     Take(0, 0, Garbled),
@@ -327,8 +327,8 @@ fn calls_of_the_first_rounds(rt: HostRuntime) -> Result<(), Fail> {
     check_rounds(&rt, X_BEGINS, 1, 4, &UNUSED, &parts)
 }
 
-/// In each round the referee is handed one word, the next one where the last had equal dice. The opening is then pushed to
-/// the first two, who have asked; nobody asks on the third tick.
+/// In each round the referee is handed one word, the next one where the last had equal dice. The opening is then
+/// pushed to the first two, who have asked; nobody asks on the third tick.
 #[test]
 fn game_is_opened_in_the_third_round(rt: HostRuntime) -> Result<(), Fail> {
     let second = [Write(1, Zero, 2, 0, 0), Write(2, Zero, 2, 0, 0)];
@@ -413,8 +413,8 @@ fn check_failing_save(
     check_rounds(rt, X_BEGINS, 1, 2, &devices, &all)
 }
 
-/// A party whose save fails reads its slots at once, and goes on from what it saved before: the referee with the opening,
-/// the seats with nothing.
+/// A party whose save fails reads its slots at once, and goes on from what it saved before: the referee with the
+/// opening, the seats with nothing.
 #[test]
 fn party_restarts_where_its_save_fails(rt: HostRuntime) -> Result<(), Fail> {
     let of_referee = [FailedWrite(0, Zero, 2, 0, 1), Read(0, Zero), Read(0, One)];

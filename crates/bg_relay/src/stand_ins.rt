@@ -1,5 +1,5 @@
-//! A runtime that stands in for the system's: it has so many sockets and no more, opens files or none, and keeps what is
-//! printed.
+//! A runtime that stands in for the system's: it has so many sockets and no more, opens files or none, and keeps what
+//! is printed.
 use std::alloc::{Alloc, Allocator, Global};
 use std::cell::{Cell, RefCell};
 use std::fmt::Display;

@@ -19,8 +19,8 @@ use std::test::Fail;
 /// The number of the match.
 const SEED: u64 = 7;
 
-/// Packets of match 7 that no party of it sends: an opening 5 6, another one 1 2, a claim of X and one of O to resign as
-/// entry 2, and party 1 asking for what follows entry 65535.
+/// Packets of match 7 that no party of it sends: an opening 5 6, another one 1 2, a claim of X and one of O to resign
+/// as entry 2, and party 1 asking for what follows entry 65535.
 const FORGED: [&[u8]; 5] = [
     &[0x42, 0x47, 1, 3, 0, 0, 0, 0, 0, 0, 0, 7, 0, 1, 1, 1, 5, 6],
     &[0x42, 0x47, 1, 3, 0, 0, 0, 0, 0, 0, 0, 7, 0, 1, 1, 1, 1, 2],
@@ -106,7 +106,8 @@ fn datagram(to: u8) -> Datagram {
     }
 }
 
-/// Sockets of three parties. Those of the first two reach a port that nobody has, so that the call after each send fails.
+/// Sockets of three parties. Those of the first two reach a port that nobody has, so that the call after each send
+/// fails.
 fn broken<'a, 'b>(
     rt: &HostRuntime,
     heard: &'a Overheard<'b>,
