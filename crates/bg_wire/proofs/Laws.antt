@@ -41,10 +41,6 @@ OneByte before w = w ≡ 1
 abbrev pub Single : ℕ → List ℕ → ℕ → Type 0
 Single size before w = (before ≡ []) × (w ≡ size)
 
--- the one that a layout says
-abbrev pub By : (List ℕ → ℕ) → List ℕ → ℕ → Type 0
-By width before w = w ≡ width before
-
 -- the field of this offset is wrong: what stands before it begins a text, and what stands behind it does not matter
 pub record FailsAt {A : Type 0} (F : List ℕ → ℕ → Type 0) (read : Cursor → Read A) (Text : A → List ℕ → Type 0) (c : Cursor) (n : ℕ) : Type 0 where
   pub before : List ℕ
@@ -229,6 +225,32 @@ other_fields read to law = record {
   cuts = λ c some fits e.
       let h = law.cuts c some fits e in
       record { before = h.before; part = h.part; width = h.width; split = h.split; small = h.small; whole = to h.before h.width h.whole; begins = h.begins };
+}
+
+-- and with what stands before the field a text begins, and is not at its end
+abbrev pub Begun : {A : Type 0} → (List ℕ → ℕ → Type 0) → (A → List ℕ → Type 0) → List ℕ → ℕ → Type 0
+Begun F T before w = F before w × GoesOn T before
+
+pub begun_fields : {A : Type 0} {T : A → List ℕ → Type 0} {F : List ℕ → ℕ → Type 0} (read : Cursor → Read A) → Law F read T → Law (Begun F T) read T
+begun_fields read law = record {
+  takes = law.takes;
+  again = law.again;
+  grows = law.grows;
+  fails = λ c n some fits e.
+      let h = law.fails c n some fits e in
+      record {
+        before = h.before;
+        wrong = h.wrong;
+        behind = h.behind;
+        split = h.split;
+        offset = h.offset;
+        whole = (h.whole, h.begins);
+        begins = h.begins;
+        already = h.already;
+      };
+  cuts = λ c some fits e.
+      let h = law.cuts c some fits e in
+      record { before = h.before; part = h.part; width = h.width; split = h.split; small = h.small; whole = (h.whole, h.begins); begins = h.begins };
 }
 
 -- nothing is read, and the value is this

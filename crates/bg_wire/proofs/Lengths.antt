@@ -17,7 +17,7 @@ use Rattle.bg_wire.specs.PacketText.{packet_text, IsPacket}
 use Rattle.bg_wire.specs.SavedReading.{front_of, text_of_front}
 use Rattle.bg_wire.specs.SavedText.{SavedParts, claim_text, saved_text, IsClaimOf, IsInLayout}
 
-length-steps : (steps : List FromTo) → length (flat_map step_bytes steps) ≡ 2 * length steps
+pub length-steps : (steps : List FromTo) → length (flat_map step_bytes steps) ≡ 2 * length steps
 length-steps [] = refl
 length-steps (step ∷ steps) = omega (arith, ap length (flat_map-cons step_bytes step steps), length-steps steps)
 

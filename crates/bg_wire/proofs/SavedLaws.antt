@@ -1,30 +1,33 @@
 -- The law of saved texts, and what follows from it.
-use Rattle.std.proofs.Common.{◌≡◌, ◌≢◌, ℕ, zero, suc, ◌^◌, ◌<◌, ◌≤◌, Bool, true, false, cond, List, [], ◌∷◌, ◌++◌, length, Option, Some, None, Ok, Err, refl, sym, ap, subst, ◌∙◌, arith, get_or, append_assoc, ◌+◌}
+use Rattle.std.proofs.Common.{◌≡◌, ◌≢◌, ℕ, zero, suc, ◌*◌, ◌^◌, ◌<◌, ◌≤◌, Bool, true, false, cond, List, [], ◌∷◌, ◌++◌, length, Option, Some, None, Ok, Err, refl, sym, ap, subst, ◌∙◌, arith}
 use Rattle.std.specs.Prelude.{◌==◌}
 use Rattle.std.specs.Int.{w16, w32, w64, to_be_bytes}
 use Rattle.std.proofs.lemmas.Bool.{eqb-true, eqb-false}
 use Rattle.std.proofs.lemmas.Bool.Decides.{nat_tests}
-use Rattle.std.proofs.lemmas.List.{get_or-append-add}
+use Rattle.std.specs.List.{flat_map}
 use Rattle.bg_match.specs.Terms.{Terms}
 use Rattle.bg_match.specs.Entry.{IsEntry, IsAction}
 use Rattle.bg_match.specs.declared.actions.Action.{Action}
+use Rattle.bg_match.specs.declared.actions.Action.TheVariants as action
 use Rattle.bg_match.specs.declared.entries.Entry.{Entry}
 use Rattle.bg_match.specs.Limits.{shortest_match, longest_match}
-use Rattle.bg_wire.specs.Codes.{last_saved_number, first_number, seat_of_x, referee, seat_of_o, saved_magic, magic_offset, no_claim_flag, claim_flag, least_save, greatest_save}
+use Rattle.bg_wire.specs.Codes.{moved_code, resigned_code, last_saved_number, first_number, seat_of_x, referee, seat_of_o, saved_magic, magic_offset, no_claim_flag, claim_flag, least_save, greatest_save}
 use Rattle.bg_wire.specs.declared.faults.LoadFault.TheVariants as fault
 use Rattle.bg_wire.specs.declared.reader.ReadFault.{ReadFault}
 use Rattle.bg_wire.specs.declared.reader.ReadFault.TheVariants as read_fault
 use Rattle.bg_wire.specs.declared.saved_version_one.Front.{Front}
-use Rattle.bg_wire.specs.EntryText.{action_bytes, entry_bytes, entries_bytes}
-use Rattle.bg_wire.specs.SavedText.{SavedParts, claim_text, saved_text, saved_width, IsClaimOf, IsInLayout, IsLayoutOf, IsSavedText}
+use Rattle.bg_wire.specs.Fields.{Fields, Done, Field, followed_by, bytes_each, first_byte, width_of}
+use Rattle.bg_wire.specs.EntryText.{step_bytes, action_bytes, entry_bytes, entries_bytes, behind_code, action_fields}
+use Rattle.bg_wire.specs.SavedText.{SavedParts, claim_text, saved_text, behind_flag, claim_fields, save_fields, saved_fields, saved_width, IsClaimOf, IsInLayout, IsLayoutOf, IsSavedText}
 use Rattle.bg_wire.specs.Faults.{IsLoadFault}
-use Rattle.bg_wire.specs.Texts.{ArePrefixFree, IsWrongAt, width_at}
+use Rattle.bg_wire.specs.Texts.{ArePrefixFree, IsWrongAt}
 use Rattle.bg_wire.specs.Reading.{◌>>=◌, Cursor, Read, u8_at, u16_at, u32_at, u64_at, many_at, whole_of, with}
 use Rattle.bg_wire.specs.EntryReading.{action_at, entry_at}
 use Rattle.bg_wire.specs.SavedReading.{front_of, text_of_front, load_fault, most_flag, kept_claim_at, flagged_at, saved_claim_at, front_at, parts_of_front, saved_at, layout_of, entries_of, fields_of}
-use Rattle.bg_wire.proofs.Laws.{IsBytes, is_wrong_at, Law, Then, Nothing, Mapped, Each, Choice, HasText, has_then, has_mapped, has_choice, has_each, with_law, other_text, many_law, from_front, prefix_free, Single, By, then_of, done_of, is_cut}
-use Rattle.bg_wire.proofs.Widths.{Wide, next_field, then_field, byte_fields, choice_wide}
-use Rattle.bg_wire.proofs.Fields.{Byte, Number, Long, Word, has_byte, has_number, has_long, has_word, one_byte, u16_law, u32_law, u64_law, any_law}
+use Rattle.bg_wire.proofs.Laws.{IsBytes, is_wrong_at, Law, Then, Nothing, Mapped, Each, Choice, HasText, has_then, has_mapped, has_choice, has_each, with_law, other_text, many_law, from_front, prefix_free, then_of, done_of, is_cut}
+use Rattle.bg_wire.proofs.Lengths.{length-steps}
+use Rattle.bg_wire.proofs.Widths.{Of, IsAll, AreBytes, then_field, then_fields, last_field, each_field, bytes_each_one, choice_of, done_behind, all_of_both, all_of_field, all_each}
+use Rattle.bg_wire.proofs.Fields.{Byte, Number, Long, Word, has_byte, has_number, has_long, has_word, one_byte, u16_law, u32_law, u64_law}
 use Rattle.bg_wire.proofs.EntryLaws.{Spells, each_to, each_from, action_law, entry_law, has_action, has_entry}
 
 -- ---- the claim
@@ -50,41 +53,53 @@ long_len low high n front h = ap length h.3
 word_len : (n : ℕ) (front : List ℕ) → Word n front → length front ≡ 8
 word_len n front h = ap length h.1
 
-kept_law : Law (Wide (2 ∷ [])) kept_claim_at KeptParts
+-- each byte of an action is a field
+behind_are_bytes : (code : ℕ) → AreBytes (behind_code code)
+behind_are_bytes code = go (code == moved_code) (code == resigned_code)
+  where
+    go : (a b : Bool) → AreBytes (
+        cond a (Field 1 (λ count. bytes_each (2 * first_byte count))) (cond b (Field 1 (λ level. Done)) Done)
+        )
+    go true b = (refl, λ bytes. bytes_each_one (2 * first_byte bytes))
+    go false true = (refl, λ bytes. tt)
+    go false false = tt
+
+action_are_bytes : AreBytes action_fields
+action_are_bytes = (refl, λ code. behind_are_bytes (first_byte code))
+
+action_all : (a : Action) → IsAll action_fields (action_bytes a)
+action_all action.Roll = (omega arith, omega arith, refl)
+action_all action.Double = (omega arith, omega arith, refl)
+action_all action.Take = (omega arith, omega arith, refl)
+action_all action.Drop = (omega arith, omega arith, refl)
+action_all (action.Move turn) = (
+  omega arith,
+  omega arith,
+  (omega arith, omega arith, all_each (2 * length turn) (flat_map step_bytes turn) (length-steps turn)),
+)
+action_all (action.Resign level) = (omega arith, omega arith, (omega arith, omega arith, refl))
+action_all action.Accept = (omega arith, omega arith, refl)
+action_all action.Reject = (omega arith, omega arith, refl)
+
+kept_law : Law (Of (Field 2 (λ number. action_fields))) kept_claim_at KeptParts
 unfolding kept_claim_at
 kept_law =
-    then_field 2 [] (u16_at first_number last_saved_number) (λ n c. with (claim_with n) (action_at c)) (omega arith) (u16_law first_number last_saved_number) (number_len first_number last_saved_number)
-    (λ n. with_law (claim_with n) action_at (byte_fields action_at action_law)) (λ n first h. has_mapped (claim_with n) has_action)
+    then_field 2 _ (λ n. action_fields) (u16_at first_number last_saved_number)
+    (λ n c. with (claim_with n) (action_at c)) (omega arith)
+    (u16_law first_number last_saved_number) (number_len first_number last_saved_number) (λ n first h. refl)
+    (λ n. with_law (claim_with n) action_at (each_field action_fields action_at action_are_bytes action_law))
+    (λ n first h. has_mapped (claim_with n) has_action)
 
 has_kept : HasText KeptParts
-has_kept = has_then (has_number first_number last_saved_number (omega arith) (omega arith)) (λ n first h. has_mapped (claim_with n) has_action)
+has_kept = has_then (has_number first_number last_saved_number (omega arith) (omega arith))
+    (λ n first h. has_mapped (claim_with n) has_action)
 
 abbrev Flagged : ℕ → Claim → List ℕ → Type 0
 Flagged flag = Choice (flag == no_claim_flag) (Nothing None) KeptParts
 
--- the widths behind the flag
-abbrev flagged_widths : ℕ → List ℕ
-flagged_widths flag = cond (flag == no_claim_flag) [] (2 ∷ [])
-
-flagged_law : (flag : ℕ) → Law (Wide (flagged_widths flag)) (flagged_at flag) (Flagged flag)
-flagged_law flag = choice_wide (flag == no_claim_flag) [] (2 ∷ []) (λ c. Ok (None, c)) kept_claim_at (done_of (Wide []) None) kept_law
-
--- the width of the field behind some bytes, where so many bytes stand before the flag, in fields of these widths
-abbrev staged : List ℕ → ℕ → List ℕ → ℕ
-staged widths skip before = width_at (widths ++ 1 ∷ flagged_widths (get_or before skip 0)) (length before)
-
-next_staged : (size skip : ℕ) (widths first before : List ℕ) (w : ℕ) → 0 < size → length first ≡ size → w ≡ staged widths skip before → w ≡ staged (size ∷ widths) (size + skip) (first ++ before)
-next_staged size skip widths first before w some len h =
-    let flag : get_or (first ++ before) (size + skip) 0 ≡ get_or before skip 0 = ap (λ (n : ℕ). get_or (first ++ before) (n + skip) 0) (sym len) ∙ get_or-append-add first before skip 0 in
-    next_field size (widths ++ 1 ∷ flagged_widths (get_or before skip 0)) first before w some len h
-    ∙ ap (λ (flag : ℕ). width_at (size ∷ (widths ++ 1 ∷ flagged_widths flag)) (length (first ++ before))) (sym flag)
-
-then_staged : {A B : Type 0} {T : A → List ℕ → Type 0} {U : A → B → List ℕ → Type 0} (size skip : ℕ) (widths : List ℕ) (one : Cursor → Read A) (two : A → Cursor → Read B) → 0 < size
-    → Law (Single size) one T → ((x : A) (first : List ℕ) → T x first → length first ≡ size) → ((x : A) → Law (By (staged widths skip)) (two x) (U x))
-    → ((x : A) (first : List ℕ) → T x first → HasText (U x)) → Law (By (staged (size ∷ widths) (size + skip))) (λ c. one c >>= λ x. two x.0 x.1) (Then T U)
-then_staged size skip widths one two some p len q more =
-    then_of (By (staged (size ∷ widths) (size + skip))) one two p q more (λ before w h. h.1 ∙ ap (staged (size ∷ widths) (size + skip)) (sym h.0))
-    (λ x first t before w h. next_staged size skip widths first before w some (len x first t) h)
+flagged_law : (flag : ℕ) → Law (Of (behind_flag flag)) (flagged_at flag) (Flagged flag)
+flagged_law flag =
+    choice_of (flag == no_claim_flag) Done _ (λ c. Ok (None, c)) kept_claim_at (done_of (Of Done) None) kept_law
 
 has_flagged : (flag : ℕ) → HasText (Flagged flag)
 has_flagged flag = has_choice (flag == no_claim_flag) (None, [], (refl, refl)) has_kept
@@ -108,45 +123,71 @@ most_flag_is : (party : ℕ) → most_flag party ≤ claim_flag
 most_flag_is zero = omega arith
 most_flag_is (suc party) = let is = seat_flag party in omega (arith, is)
 
-claim_to : (party : ℕ) (k : Claim) (front : List ℕ) → ClaimParts party k front → Spells (IsClaimOf party) claim_text k front
+claim_to : (party : ℕ) (k : Claim) (front : List ℕ) → ClaimParts party k front
+    → Spells (IsClaimOf party) claim_text k front
 claim_to party k front h = go h.0 refl
   where
     go : (flag : ℕ) → h.0 ≡ flag → Spells (IsClaimOf party) claim_text k front
     go zero is =
         let rest = subst (λ (n : ℕ). Flagged n k h.2) is h.4 in
-        let text : front ≡ no_claim_flag ∷ [] = h.5 ∙ ap (λ (r : List ℕ). r ++ h.2) h.3.2 ∙ ap (λ (n : ℕ). n ∷ h.2) is ∙ ap (λ (r : List ℕ). no_claim_flag ∷ r) rest.1 in
+        let text : front ≡ no_claim_flag ∷ [] = h.5 ∙ ap (λ (r : List ℕ). r ++ h.2) h.3.2 ∙ ap (λ (n : ℕ). n ∷ h.2) is
+        ∙ ap (λ (r : List ℕ). no_claim_flag ∷ r) rest.1 in
         subst (λ (x : Claim). Spells (IsClaimOf party) claim_text x front) rest.0 (tt, text)
     go (suc zero) is =
         let rest = subst (λ (n : ℕ). Flagged n k h.2) is h.4 in
         let seat = flag_of_seat party (omega (arith, is, h.3.1)) in
-        let last : h.2 ≡ to_be_bytes w16 rest.0 ++ action_bytes rest.4.0 = rest.5 ∙ ap (λ (r : List ℕ). r ++ rest.2) rest.3.3 ∙ ap (λ (r : List ℕ). to_be_bytes w16 rest.0 ++ r) rest.4.1.1 in
-        let text : front ≡ claim_text (claim_with rest.0 rest.4.0) = h.5 ∙ ap (λ (r : List ℕ). r ++ h.2) h.3.2 ∙ ap (λ (n : ℕ). n ∷ h.2) is ∙ ap (λ (r : List ℕ). claim_flag ∷ r) last in
-        subst (λ (x : Claim). Spells (IsClaimOf party) claim_text x front) rest.4.2 ((seat, (rest.3.0, rest.3.1, rest.4.1.0)), text)
+        let last : h.2 ≡ to_be_bytes w16 rest.0 ++ action_bytes rest.4.0 =
+        rest.5 ∙ ap (λ (r : List ℕ). r ++ rest.2) rest.3.3
+        ∙ ap (λ (r : List ℕ). to_be_bytes w16 rest.0 ++ r) rest.4.1.1 in
+        let text : front ≡ claim_text (claim_with rest.0 rest.4.0) =
+        h.5 ∙ ap (λ (r : List ℕ). r ++ h.2) h.3.2 ∙ ap (λ (n : ℕ). n ∷ h.2) is
+        ∙ ap (λ (r : List ℕ). claim_flag ∷ r) last in
+        subst (λ (x : Claim). Spells (IsClaimOf party) claim_text x front) rest.4.2
+        ((seat, (rest.3.0, rest.3.1, rest.4.1.0)), text)
     go (suc (suc n)) is = absurd (omega (arith, is, h.3.1, most_flag_is party))
 
-claim_from : (party : ℕ) (k : Claim) (front : List ℕ) → Spells (IsClaimOf party) claim_text k front → ClaimParts party k front
-claim_from party None front h = (no_claim_flag, no_claim_flag ∷ [], [], (omega arith, omega arith, refl), (refl, refl), h.1)
+claim_from : (party : ℕ) (k : Claim) (front : List ℕ) → Spells (IsClaimOf party) claim_text k front
+    → ClaimParts party k front
+claim_from party None front h =
+    (no_claim_flag, no_claim_flag ∷ [], [], (omega arith, omega arith, refl), (refl, refl), h.1)
 claim_from party (Some x) front h =
     let kept = h.0.1 in
-    let last = to_be_bytes w16 x.0 ++ action_bytes x.1 in
-    (claim_flag, claim_flag ∷ [], last, (omega arith, seat_may party h.0.0, refl), (x.0, to_be_bytes w16 x.0, action_bytes x.1, (kept.0, kept.1, omega (arith, kept.1), refl), (x.1, (kept.2, refl), refl), refl), h.1)
+    let last = to_be_bytes w16 x.0 ++ action_bytes x.1 in (
+      claim_flag,
+      claim_flag ∷ [],
+      last,
+      (omega arith, seat_may party h.0.0, refl),
+      (
+        x.0,
+        to_be_bytes w16 x.0,
+        action_bytes x.1,
+        (kept.0, kept.1, omega (arith, kept.1), refl),
+        (x.1, (kept.2, refl), refl),
+        refl,
+      ),
+      h.1,
+    )
 
-behind_flag : (flag : ℕ) (before : List ℕ) (w : ℕ) → Wide (flagged_widths flag) before w → w ≡ staged [] 0 (flag ∷ before)
-behind_flag flag before w h = next_field 1 (flagged_widths flag) (flag ∷ []) before w (omega arith) refl h
-
--- behind a claim each byte is a field
-behind_claim : (k : Claim) (before : List ℕ) → 1 ≡ staged [] 0 (claim_text k ++ before)
-behind_claim None before = behind_flag no_claim_flag before 1 refl
-behind_claim (Some x) before =
-    let number = to_be_bytes w16 x.0 in
-    subst (λ (r : List ℕ). 1 ≡ staged [] 0 (claim_flag ∷ r)) (sym (append_assoc number (action_bytes x.1) before))
-    (behind_flag claim_flag (number ++ (action_bytes x.1 ++ before)) 1 (next_field 2 [] number (action_bytes x.1 ++ before) 1 (omega arith) refl refl))
-
-claim_law : (party : ℕ) → Law (By (staged [] 0)) (saved_claim_at party) (Spells (IsClaimOf party) claim_text)
+claim_law : (party : ℕ) → Law (Of claim_fields) (saved_claim_at party) (Spells (IsClaimOf party) claim_text)
 unfolding saved_claim_at
 claim_law party =
-    other_text _ (claim_to party) (claim_from party) (then_of (By (staged [] 0)) (u8_at no_claim_flag (most_flag party)) flagged_at (one_byte no_claim_flag (most_flag party)) flagged_law (λ flag first h. has_flagged flag)
-    (λ before w h. h.1 ∙ ap (staged [] 0) (sym h.0)) (λ flag first t before w h. subst (λ (f : List ℕ). w ≡ staged [] 0 (f ++ before)) (sym t.2) (behind_flag flag before w h)))
+    other_text _ (claim_to party) (claim_from party)
+    (then_field 1 _ behind_flag (u8_at no_claim_flag (most_flag party)) flagged_at (omega arith)
+    (one_byte no_claim_flag (most_flag party)) (byte_len no_claim_flag (most_flag party))
+    (λ flag first h. ap (λ (f : List ℕ). behind_flag (first_byte f)) h.2) flagged_law
+    (λ flag first h. has_flagged flag))
+
+claim_text_all : (k : Claim) → IsAll claim_fields (claim_text k)
+claim_text_all None = (omega arith, omega arith, refl)
+claim_text_all (Some x) =
+    all_of_field 1 (λ flag. behind_flag (first_byte flag)) (claim_flag ∷ []) (to_be_bytes w16 x.0 ++ action_bytes x.1)
+    (omega arith) refl
+    (all_of_field 2 (λ number. action_fields) (to_be_bytes w16 x.0) (action_bytes x.1) (omega arith) refl
+    (action_all x.1))
+
+claim_all : (party : ℕ) (k : Claim) (front : List ℕ) → Spells (IsClaimOf party) claim_text k front
+    → IsAll claim_fields front
+claim_all party k front h = subst (IsAll claim_fields) (sym h.1) (claim_text_all k)
 
 has_claim : (party : ℕ) → HasText (Spells (IsClaimOf party) claim_text)
 has_claim party = (None, claim_text None, (tt, refl))
@@ -157,9 +198,13 @@ abbrev front_with : ℕ → ℕ → Terms → ℕ → Claim → ℕ → Front
 front_with party id terms save claim count =
     record { party = party; id = id; terms = terms; save = save; claim = claim; count = count }
 
+abbrev count_field : Fields
+count_field = Field 2 (λ count. Done)
+
 module _ (party : ℕ) where
   abbrev from_claim : ℕ → ℕ → ℕ → Cursor → Read Front
-  from_claim id n save c = saved_claim_at party c >>= λ k. with (front_with party id n save k.0) (u16_at 0 last_saved_number k.1)
+  from_claim id n save c =
+      saved_claim_at party c >>= λ k. with (front_with party id n save k.0) (u16_at 0 last_saved_number k.1)
 
   abbrev from_save : ℕ → ℕ → Cursor → Read Front
   from_save id n c = u32_at least_save greatest_save c >>= λ save. from_claim id n save.0 save.1
@@ -171,7 +216,8 @@ module _ (party : ℕ) where
   from_id c = u64_at c >>= λ id. from_length id.0 id.1
 
   abbrev ClaimOn : ℕ → ℕ → ℕ → Front → List ℕ → Type 0
-  ClaimOn id n save = Then (Spells (IsClaimOf party) claim_text) (λ k. Mapped (front_with party id n save k) (Number 0 last_saved_number))
+  ClaimOn id n save = Then (Spells (IsClaimOf party) claim_text)
+      (λ k. Mapped (front_with party id n save k) (Number 0 last_saved_number))
 
   abbrev SaveOn : ℕ → ℕ → Front → List ℕ → Type 0
   SaveOn id n = Then (Long least_save greatest_save) (ClaimOn id n)
@@ -183,13 +229,15 @@ module _ (party : ℕ) where
   IdOn = Then Word LengthOn
 
   has_count : (id n save : ℕ) (k : Claim) → HasText (Mapped (front_with party id n save k) (Number 0 last_saved_number))
-  has_count id n save k = has_mapped (front_with party id n save k) (has_number 0 last_saved_number (omega arith) (omega arith))
+  has_count id n save k =
+      has_mapped (front_with party id n save k) (has_number 0 last_saved_number (omega arith) (omega arith))
 
   has_claim_on : (id n save : ℕ) → HasText (ClaimOn id n save)
   has_claim_on id n save = has_then (has_claim party) (λ k first h. has_count id n save k)
 
   has_save_on : (id n : ℕ) → HasText (SaveOn id n)
-  has_save_on id n = has_then (has_long least_save greatest_save (omega arith) (omega arith)) (λ save first h. has_claim_on id n save)
+  has_save_on id n = has_then (has_long least_save greatest_save (omega arith) (omega arith))
+      (λ save first h. has_claim_on id n save)
 
   has_length_on : (id : ℕ) → HasText (LengthOn id)
   has_length_on id = has_then (has_byte shortest_match longest_match (omega arith)) (λ n first h. has_save_on id n)
@@ -197,30 +245,60 @@ module _ (party : ℕ) where
   has_id_on : HasText IdOn
   has_id_on = has_then has_word (λ id first h. has_length_on id)
 
-  claim_on : (id n save : ℕ) → Law (By (staged [] 0)) (from_claim id n save) (ClaimOn id n save)
+  claim_on : (id n save : ℕ)
+      → Law (Of (followed_by claim_fields count_field)) (from_claim id n save) (ClaimOn id n save)
   claim_on id n save =
-      then_of (By (staged [] 0)) (saved_claim_at party) (λ k c. with (front_with party id n save k) (u16_at 0 last_saved_number c)) (claim_law party)
-      (λ k. with_law (front_with party id n save k) (u16_at 0 last_saved_number) (any_law last_saved_number refl)) (λ k first h. has_count id n save k)
-      (λ before w h. h) (λ k first t before w h. h ∙ subst (λ (f : List ℕ). 1 ≡ staged [] 0 (f ++ before)) (sym t.1) (behind_claim k before))
+      then_fields claim_fields count_field (saved_claim_at party)
+      (λ k c. with (front_with party id n save k) (u16_at 0 last_saved_number c)) (claim_law party) (claim_all party)
+      (λ k. with_law (front_with party id n save k) (u16_at 0 last_saved_number)
+      (last_field 2 (λ count. Done) (u16_at 0 last_saved_number) (u16_law 0 last_saved_number)))
+      (λ k first h. has_count id n save k)
 
-  save_on : (id n : ℕ) → Law (By (staged (4 ∷ []) 4)) (from_save id n) (SaveOn id n)
-  save_on id n = then_staged 4 0 [] (u32_at least_save greatest_save) (from_claim id n) (omega arith) (u32_law least_save greatest_save) (long_len least_save greatest_save) (claim_on id n) (λ save first h. has_claim_on id n save)
+  save_on : (id n : ℕ) → Law (Of save_fields) (from_save id n) (SaveOn id n)
+  save_on id n =
+      then_field 4 _ (λ save. followed_by claim_fields count_field) (u32_at least_save greatest_save) (from_claim id n)
+      (omega arith) (u32_law least_save greatest_save) (long_len least_save greatest_save) (λ save first h. refl)
+      (claim_on id n) (λ save first h. has_claim_on id n save)
 
-  length_on : (id : ℕ) → Law (By (staged (1 ∷ 4 ∷ []) 5)) (from_length id) (LengthOn id)
-  length_on id = then_staged 1 4 (4 ∷ []) (u8_at shortest_match longest_match) (from_save id) (omega arith) (one_byte shortest_match longest_match) (byte_len shortest_match longest_match) (save_on id) (λ n first h. has_save_on id n)
+  length_on : (id : ℕ) → Law (Of (Field 1 (λ terms. save_fields))) (from_length id) (LengthOn id)
+  length_on id =
+      then_field 1 _ (λ n. save_fields) (u8_at shortest_match longest_match) (from_save id) (omega arith)
+      (one_byte shortest_match longest_match) (byte_len shortest_match longest_match) (λ n first h. refl)
+      (save_on id) (λ n first h. has_save_on id n)
 
-  id_on : Law (By (staged (8 ∷ 1 ∷ 4 ∷ []) 13)) from_id IdOn
-  id_on = then_staged 8 5 (1 ∷ 4 ∷ []) u64_at from_length (omega arith) u64_law word_len length_on (λ id first h. has_length_on id)
+  id_on : Law (Of (Field 8 (λ id. Field 1 (λ terms. save_fields)))) from_id IdOn
+  id_on =
+      then_field 8 _ (λ id. Field 1 (λ terms. save_fields)) u64_at from_length (omega arith) u64_law word_len
+      (λ id first h. refl) length_on (λ id first h. has_length_on id)
+
+-- the fields from the party on
+abbrev party_fields : Fields
+party_fields = Field 1 (λ party. Field 8 (λ id. Field 1 (λ terms. save_fields)))
+
+abbrev PartyOn : Front → List ℕ → Type 0
+PartyOn = Then (Byte referee seat_of_o) IdOn
+
+has_party_on : HasText PartyOn
+has_party_on = has_then (has_byte referee seat_of_o (omega arith)) (λ party first h. has_id_on party)
+
+abbrev from_party : Cursor → Read Front
+from_party c = u8_at referee seat_of_o c >>= λ party. from_id party.0 party.1
+
+party_on : Law (Of party_fields) from_party PartyOn
+party_on =
+    then_field 1 _ (λ party. Field 8 (λ id. Field 1 (λ terms. save_fields))) (u8_at referee seat_of_o) from_id
+    (omega arith) (one_byte referee seat_of_o) (byte_len referee seat_of_o) (λ party first h. refl)
+    id_on (λ party first h. has_id_on party)
 
 abbrev FrontParts : Front → List ℕ → Type 0
-FrontParts = Then (Long saved_magic saved_magic) (λ m. Then (Byte referee seat_of_o) IdOn)
+FrontParts = Then (Long saved_magic saved_magic) (λ m. PartyOn)
 
-front_parts_law : Law (By saved_width) front_at FrontParts
+front_parts_law : Law (Of saved_fields) front_at FrontParts
 unfolding front_at
 front_parts_law =
-    then_staged 4 14 (1 ∷ 8 ∷ 1 ∷ 4 ∷ []) (u32_at saved_magic saved_magic) (λ m c. u8_at referee seat_of_o c >>= λ party. from_id party.0 party.1) (omega arith) (u32_law saved_magic saved_magic) (long_len saved_magic saved_magic)
-    (λ m. then_staged 1 13 (8 ∷ 1 ∷ 4 ∷ []) (u8_at referee seat_of_o) from_id (omega arith) (one_byte referee seat_of_o) (byte_len referee seat_of_o) id_on (λ party first h. has_id_on party))
-    (λ m first h. has_then (has_byte referee seat_of_o (omega arith)) (λ party first h. has_id_on party))
+    then_field 4 _ (λ m. party_fields) (u32_at saved_magic saved_magic) (λ m. from_party) (omega arith)
+    (u32_law saved_magic saved_magic) (long_len saved_magic saved_magic) (λ m first h. refl)
+    (λ m. party_on) (λ m first h. has_party_on)
 
 record IsFront (f : Front) : Type 0 where
   party : f.party ≤ seat_of_o
@@ -242,7 +320,9 @@ front_to f front h =
     let m : h.0 ≡ saved_magic = omega (arith, h.3.0, h.3.1) in
     let made : Front = front_with party.0 id.0 n.0 save.0 claim.0 claim.4.0 in
     let text : front ≡ text_of_front made =
-    join h.5 (h.3.3 ∙ ap (to_be_bytes w32) m) (join party.5 party.3.2 (join id.5 id.3.1 (join n.5 n.3.2 (join save.5 save.3.3 (join claim.5 claim.3.1 claim.4.1.3))))) in
+    join h.5 (h.3.3 ∙ ap (to_be_bytes w32) m)
+    (join party.5 party.3.2
+    (join id.5 id.3.1 (join n.5 n.3.2 (join save.5 save.3.3 (join claim.5 claim.3.1 claim.4.1.3))))) in
     subst (λ (x : Front). Spells IsFront text_of_front x front) claim.4.2 (
       record {
         party = party.3.1;
@@ -290,7 +370,14 @@ front_from f front h =
               to_be_bytes w32 f.save,
               from_claim_text,
               (r.first_save, r.last_save, omega (arith, r.last_save), refl),
-              (f.claim, claim_text f.claim, count_text, (r.claim, refl), (f.count, (omega arith, r.few, omega (arith, r.few), refl), refl), refl),
+              (
+                f.claim,
+                claim_text f.claim,
+                count_text,
+                (r.claim, refl),
+                (f.count, (omega arith, r.few, omega (arith, r.few), refl), refl),
+                refl,
+              ),
               refl,
             ),
             refl,
@@ -302,13 +389,36 @@ front_from f front h =
       h.1,
     )
 
-front_law : Law (By saved_width) front_at (Spells IsFront text_of_front)
+front_law : Law (Of saved_fields) front_at (Spells IsFront text_of_front)
 front_law = other_text _ front_to front_from front_parts_law
+
+-- what stands before the entries has just the fields
+pub front_all : (f : Front) → IsAll saved_fields (text_of_front f)
+front_all f =
+    let count = to_be_bytes w16 f.count in
+    let from_claim_text = claim_text f.claim ++ count in
+    let from_terms_text = f.terms ∷ (to_be_bytes w32 f.save ++ from_claim_text) in
+    let from_terms : Fields = Field 1 (λ terms. save_fields) in
+    let counted : IsAll count_field count = (omega arith, omega arith, refl) in
+    let claimed = all_of_both claim_fields count_field (claim_text f.claim) count (claim_text_all f.claim) counted in
+    let saved : IsAll from_terms from_terms_text = (
+      omega arith,
+      omega arith,
+      all_of_field 4 (λ save. followed_by claim_fields count_field) (to_be_bytes w32 f.save) from_claim_text
+          (omega arith) refl claimed,
+    ) in
+    all_of_field 4 (λ magic. party_fields) (to_be_bytes w32 saved_magic)
+    (f.party ∷ (to_be_bytes w64 f.id ++ from_terms_text)) (omega arith) refl (
+      omega arith,
+      omega arith,
+      all_of_field 8 (λ id. from_terms) (to_be_bytes w64 f.id) from_terms_text (omega arith) refl saved,
+    )
 
 -- ---- the whole
 
 abbrev SavedParted : SavedParts → List ℕ → Type 0
-SavedParted = Then (Spells IsFront text_of_front) (λ f. Mapped (parts_of_front f) (Each (Spells IsEntry entry_bytes) f.count))
+SavedParted = Then (Spells IsFront text_of_front)
+    (λ f. Mapped (parts_of_front f) (Each (Spells IsEntry entry_bytes) f.count))
 
 parted_to : (p : SavedParts) (front : List ℕ) → SavedParted p front → IsLayoutOf p front
 parted_to p front h =
@@ -316,7 +426,8 @@ parted_to p front h =
     let es = h.4.0 in
     let r = h.3.0 in
     let each = each_to IsEntry entry_bytes f.count es h.2 h.4.1 in
-    let counted : f ≡ front_of (parts_of_front f es) = ap (front_with f.party f.id f.terms f.save f.claim) (sym each.0) in
+    let counted : f ≡ front_of (parts_of_front f es) =
+    ap (front_with f.party f.id f.terms f.save f.claim) (sym each.0) in
     let text : front ≡ saved_text (parts_of_front f es) = join h.5 (h.3.1 ∙ ap text_of_front counted) each.2 in
     subst (λ (x : SavedParts). IsLayoutOf x front) h.4.2 (record {
       in_layout = record {
@@ -346,32 +457,29 @@ parted_from p front h =
       last_save = r.last_save;
       claim = r.claim;
       few = r.few;
-    } in
-    (f, text_of_front f, entries_bytes p.entries, (is, refl), (p.entries, each_from IsEntry entry_bytes (length p.entries) p.entries (entries_bytes p.entries) refl r.in_range refl, refl), h.spelled)
+    } in (
+      f,
+      text_of_front f,
+      entries_bytes p.entries,
+      (is, refl),
+      (
+        p.entries,
+        each_from IsEntry entry_bytes (length p.entries) p.entries (entries_bytes p.entries) refl r.in_range
+            refl,
+        refl,
+      ),
+      h.spelled,
+    )
 
--- behind what stands before the entries each byte is a field
-behind_front : (f : Front) (before : List ℕ) → 1 ≡ saved_width (text_of_front f ++ before)
-behind_front f before =
-    let magic = to_be_bytes w32 saved_magic in
-    let id = to_be_bytes w64 f.id in
-    let save = to_be_bytes w32 f.save in
-    let count = to_be_bytes w16 f.count in
-    let from_claim = claim_text f.claim ++ (count ++ before) in
-    let at_save = next_staged 4 0 [] save from_claim 1 (omega arith) refl (behind_claim f.claim (count ++ before)) in
-    let at_terms = next_staged 1 4 (4 ∷ []) (f.terms ∷ []) (save ++ from_claim) 1 (omega arith) refl at_save in
-    let at_id = next_staged 8 5 (1 ∷ 4 ∷ []) id (f.terms ∷ (save ++ from_claim)) 1 (omega arith) refl at_terms in
-    let at_party = next_staged 1 13 (8 ∷ 1 ∷ 4 ∷ []) (f.party ∷ []) (id ++ (f.terms ∷ (save ++ from_claim))) 1 (omega arith) refl at_id in
-    let at_magic = next_staged 4 14 (1 ∷ 8 ∷ 1 ∷ 4 ∷ []) magic (f.party ∷ (id ++ (f.terms ∷ (save ++ from_claim)))) 1 (omega arith) refl at_party in
-    subst (λ (r : List ℕ). 1 ≡ saved_width (magic ++ (f.party ∷ (id ++ (f.terms ∷ (save ++ r)))))) (sym (append_assoc (claim_text f.claim) count before)) at_magic
-
-pub saved_law : Law (By saved_width) saved_at IsLayoutOf
+pub saved_law : Law (Of saved_fields) saved_at IsLayoutOf
 unfolding saved_at
 saved_law =
     other_text _ parted_to parted_from
-    (then_of (By saved_width) front_at (λ f c. with (parts_of_front f) (many_at entry_at f.count c)) front_law
+    (then_of (Of saved_fields) front_at (λ f c. with (parts_of_front f) (many_at entry_at f.count c)) front_law
     (λ f. with_law (parts_of_front f) (many_at entry_at f.count) (many_law entry_at entry_law f.count))
-    (λ f first h. has_mapped (parts_of_front f) (has_each has_entry f.count))
-    (λ before w h. h) (λ f first t before w h. h ∙ subst (λ (r : List ℕ). 1 ≡ saved_width (r ++ before)) (sym t.1) (behind_front f before)))
+    (λ f first h. has_mapped (parts_of_front f) (has_each has_entry f.count)) (λ before w h. h)
+    (λ f first t before w h. h ∙ subst (λ (r : List ℕ). 1 ≡ width_of saved_fields (r ++ before)) (sym t.1)
+    (sym (done_behind saved_fields (text_of_front f) before (front_all f)))))
 
 pub not_extra : (f : ReadFault) → load_fault f ≢ fault.Extra
 not_extra read_fault.Short e = absurd cc
@@ -396,11 +504,14 @@ module _ (bytes : List ℕ) where
     unfolding layout_of saved_at
     by_entries = rw read (go (many_at entry_at front.count c))
       where
-        ended : (entries : List Entry) (b : Bool) → cond b (Ok (parts_of_front front entries)) (Err fault.Extra) ≡ fields_of front (cond b (Ok entries) (Err fault.Extra))
+        ended : (entries : List Entry) (b : Bool)
+            → cond b (Ok (parts_of_front front entries)) (Err fault.Extra)
+            ≡ fields_of front (cond b (Ok entries) (Err fault.Extra))
         ended entries true = refl
         ended entries false = refl
 
-        go : (r : Read (List Entry)) → whole_of load_fault fault.Extra (r >>= λ x. Ok (parts_of_front front x.0, x.1)) ≡ fields_of front (whole_of load_fault fault.Extra r)
+        go : (r : Read (List Entry)) → whole_of load_fault fault.Extra (r >>= λ x. Ok (parts_of_front front x.0, x.1))
+            ≡ fields_of front (whole_of load_fault fault.Extra r)
         go (Ok x) = ended x.0 (length (x.1).rest == 0)
         go (Err f) = refl
 
@@ -408,7 +519,8 @@ module _ (bytes : List ℕ) where
 
 has_saved : HasText IsLayoutOf
 has_saved =
-    let p : SavedParts = record { party = referee; id = 0; terms = shortest_match; save = least_save; claim = None; entries = [] } in
+    let p : SavedParts =
+    record { party = referee; id = 0; terms = shortest_match; save = least_save; claim = None; entries = [] } in
     let r : IsInLayout p = record {
       party = omega arith;
       id_fits = omega arith;
@@ -422,8 +534,10 @@ has_saved =
     } in
     (p, saved_text p, record { in_layout = r; spelled = refl })
 
-pub says_field : (bytes : List ℕ) → IsBytes bytes → (f : ReadFault) → saved_at (from_front bytes) ≡ Err f → IsLoadFault (load_fault f) bytes
-says_field bytes fits read_fault.Short e = is_cut saved_at saved_law saved_width (λ before w h. h) bytes has_saved fits e
+pub says_field : (bytes : List ℕ) → IsBytes bytes → (f : ReadFault) → saved_at (from_front bytes) ≡ Err f
+    → IsLoadFault (load_fault f) bytes
+says_field bytes fits read_fault.Short e =
+    is_cut saved_at saved_law saved_width (λ before w h. h) bytes has_saved fits e
 says_field bytes fits (read_fault.Field at) e = named (at == magic_offset) refl
   where
     wrong : IsWrongAt IsLayoutOf saved_width bytes at

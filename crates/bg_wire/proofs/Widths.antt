@@ -1,80 +1,24 @@
 -- Fields in a row, by their widths.
-use Rattle.std.proofs.Common.{◌≡◌, ℕ, ◌+◌, ◌-◌, ◌<◌, ◌≤◌, Bool, true, false, cond, List, [], ◌∷◌, ◌++◌, length, get_or, refl, sym, ap, ◌∙◌, arith, inl, inr}
+use Rattle.std.proofs.Common.{◌≡◌, ◌≢◌, ℕ, zero, suc, ◌+◌, ◌-◌, ◌<◌, ◌≤◌, Bool, true, false, cond, List, [], ◌∷◌, ◌++◌, length, take, drop, refl, sym, ap, subst, ◌∙◌, arith, inl, inr}
 use Rattle.std.specs.Prelude.{◌==◌, nat_lt}
 use Rattle.std.proofs.lemmas.Bool.{cases_lt}
 use Rattle.std.proofs.lemmas.Bool.Decides.{nat_tests}
-use Rattle.std.proofs.lemmas.List.{length-append, get_or_append_left}
+use Rattle.std.proofs.lemmas.List.{append-nil, length-append, length-drop, nil_from_length, take_at, drop_at, take-append-le, drop-append-le}
+use Rattle.bg_wire.specs.Fields.{Fields, Done, Field, followed_by, bytes_each, width_of}
 use Rattle.bg_wire.specs.Reading.{◌>>=◌, Cursor, Read}
-use Rattle.bg_wire.specs.Texts.{width_at}
-use Rattle.bg_wire.proofs.Laws.{Law, Then, Choice, HasText, Single, OneByte, then_of, other_fields}
+use Rattle.bg_wire.specs.Texts.{GoesOn}
+use Rattle.bg_wire.proofs.Laws.{Law, Then, Choice, HasText, Single, OneByte, then_of, other_fields, begun_fields, Begun}
 
--- the layout's fields have these widths
-abbrev pub Wide : List ℕ → List ℕ → ℕ → Type 0
-Wide widths before w = w ≡ width_at widths (length before)
+-- the layout's fields are these
+abbrev pub Of : Fields → List ℕ → ℕ → Type 0
+Of fields before w = w ≡ width_of fields before
 
--- and the bytes end before so many
-abbrev pub Inside : List ℕ → ℕ → List ℕ → ℕ → Type 0
-Inside widths total before w = Wide widths before w × (length before < total)
+-- the text has just these fields
+abbrev pub IsAll : Fields → List ℕ → Type 0
+IsAll Done text = text ≡ []
+IsAll (Field width next) text = (0 < width) × (width ≤ length text) × IsAll (next (take width text)) (drop width text)
 
-not_zero : (width at : ℕ) → 0 < width → (width + at == 0) ≡ false
-not_zero width at some = grind (arith, nat_tests)
-
-not_less : (width at : ℕ) → nat_lt (width + at) width ≡ false
-not_less width at = grind (arith, nat_tests)
-
-minus : (width at : ℕ) → width + at - width ≡ at
-minus width at = omega arith
-
-pub width_next : (width at : ℕ) (widths : List ℕ) → 0 < width → width_at (width ∷ widths) (width + at) ≡ width_at widths at
-width_next width at widths some = rw (not_zero width at some, not_less width at, minus width at) refl
-
-first_field : (size : ℕ) (widths before : List ℕ) (w : ℕ) → Single size before w → Wide (size ∷ widths) before w
-first_field size widths before w h = h.1 ∙ ap (λ (b : List ℕ). width_at (size ∷ widths) (length b)) (sym h.0)
-
-pub next_field : (size : ℕ) (widths first before : List ℕ) (w : ℕ) → 0 < size → length first ≡ size → Wide widths before w → Wide (size ∷ widths) (first ++ before) w
-next_field size widths first before w some len h =
-    let all : length (first ++ before) ≡ size + length before = length-append first before ∙ ap (λ (n : ℕ). n + length before) len in
-    h ∙ sym (width_next size (length before) widths some) ∙ ap (width_at (size ∷ widths)) (sym all)
-
-pub then_field : {A B : Type 0} {T : A → List ℕ → Type 0} {U : A → B → List ℕ → Type 0} (size : ℕ) (widths : List ℕ) (one : Cursor → Read A) (two : A → Cursor → Read B) → 0 < size
-    → Law (Single size) one T → ((x : A) (first : List ℕ) → T x first → length first ≡ size) → ((x : A) → Law (Wide widths) (two x) (U x))
-    → ((x : A) (first : List ℕ) → T x first → HasText (U x)) → Law (Wide (size ∷ widths)) (λ c. one c >>= λ x. two x.0 x.1) (Then T U)
-then_field size widths one two some p len q more =
-    then_of (Wide (size ∷ widths)) one two p q more (first_field size widths) (λ x first t before w h. next_field size widths first before w some (len x first t) h)
-
-pub then_inside : {A B : Type 0} {T : A → List ℕ → Type 0} {U : A → B → List ℕ → Type 0} (size total : ℕ) (widths : List ℕ) (one : Cursor → Read A) (two : A → Cursor → Read B) → 0 < size
-    → Law (Single size) one T → ((x : A) (first : List ℕ) → T x first → length first ≡ size) → ((x : A) → Law (Inside widths total) (two x) (U x))
-    → ((x : A) (first : List ℕ) → T x first → HasText (U x)) → Law (Inside (size ∷ widths) (size + total)) (λ c. one c >>= λ x. two x.0 x.1) (Then T U)
-then_inside size total widths one two some p len q more =
-    then_of (Inside (size ∷ widths) (size + total)) one two p q more (λ before w h. (first_field size widths before w h, omega (arith, some, ap length h.0)))
-    (λ x first t before w h. (next_field size widths first before w some (len x first t) h.0, omega (arith, length-append first before, len x first t, h.1)))
-
-pub last_field : {A : Type 0} {T : A → List ℕ → Type 0} (size : ℕ) (read : Cursor → Read A) → Law (Single size) read T → Law (Wide (size ∷ [])) read T
-last_field size read law = other_fields read (first_field size []) law
-
-pub last_inside : {A : Type 0} {T : A → List ℕ → Type 0} (size : ℕ) (read : Cursor → Read A) → 0 < size → Law (Single size) read T → Law (Inside (size ∷ []) size) read T
-last_inside size read some law = other_fields read (λ before w h. (first_field size [] before w h, omega (arith, some, ap length h.0))) law
-
-pub byte_fields : {A : Type 0} {T : A → List ℕ → Type 0} (read : Cursor → Read A) → Law OneByte read T → Law (Wide []) read T
-byte_fields read law = other_fields read (λ before w h. h) law
-
-pub choice_wide : {A : Type 0} {T U : A → List ℕ → Type 0} (b : Bool) (ones twos : List ℕ) (one two : Cursor → Read A) → Law (Wide ones) one T → Law (Wide twos) two U
-    → Law (Wide (cond b ones twos)) (λ c. cond b (one c) (two c)) (Choice b T U)
-choice_wide true ones twos one two p q = record { takes = p.takes; again = p.again; grows = p.grows; fails = p.fails; cuts = p.cuts }
-choice_wide false ones twos one two p q = record { takes = q.takes; again = q.again; grows = q.grows; fails = q.fails; cuts = q.cuts }
-
--- ---- where fields begin and end
-
-abbrev pub total : List ℕ → ℕ
-total [] = 0
-total (width ∷ widths) = width + total widths
-
-abbrev pub AreSome : List ℕ → Type 0
-AreSome [] = Unit {0}
-AreSome (width ∷ widths) = (0 < width) × AreSome widths
-
-at_start : (width at : ℕ) (widths : List ℕ) → at ≡ 0 → width_at (width ∷ widths) at ≡ width
-at_start width at widths e = ap (width_at (width ∷ widths)) e
+-- ---- where the next field begins
 
 some_at : (at : ℕ) → 0 < at → (at == 0) ≡ false
 some_at at some = grind (arith, nat_tests)
@@ -85,87 +29,244 @@ is_less m n lt = grind (arith, nat_tests)
 no_less : (m n : ℕ) → n ≤ m → nat_lt m n ≡ false
 no_less m n le = grind (arith, nat_tests)
 
-at_within : (width at : ℕ) (widths : List ℕ) → 0 < at → at < width → width_at (width ∷ widths) at ≡ 0
-at_within width at widths some lt = rw (some_at at some, is_less at width lt) refl
+module _ (width : ℕ) (next : List ℕ → Fields) (before : List ℕ) where
+  pub at_start : length before ≡ 0 → width_of (Field width next) before ≡ width
+  unfolding width_of
+  at_start none = rw none refl
 
-at_behind : (width at : ℕ) (widths : List ℕ) → 0 < at → width ≤ at → width_at (width ∷ widths) at ≡ width_at widths (at - width)
-at_behind width at widths some le = rw (some_at at some, no_less at width le) refl
+  pub at_within : 0 < length before → length before < width → width_of (Field width next) before ≡ 0
+  unfolding width_of
+  at_within some lt = rw (some_at (length before) some, is_less (length before) width lt) refl
+
+  pub at_behind : 0 < length before → width ≤ length before
+      → width_of (Field width next) before ≡ width_of (next (take width before)) (drop width before)
+  unfolding width_of
+  at_behind some le = rw (some_at (length before) some, no_less (length before) width le) refl
+
+pub at_done : (before : List ℕ) → width_of Done before ≡ 1
+unfolding width_of
+at_done before = refl
+
+-- behind the first field
+pub behind_first : (width : ℕ) (next : List ℕ → Fields) (first before : List ℕ) → 0 < width → length first ≡ width
+    → width_of (Field width next) (first ++ before) ≡ width_of (next first) before
+behind_first width next first before some len =
+    let all = length-append first before in
+    at_behind width next (first ++ before) (omega (arith, all, len, some)) (omega (arith, all, len))
+    ∙ ap (λ (f : List ℕ). width_of (next f) (drop width (first ++ before))) (take_at first before width len)
+    ∙ ap (width_of (next first)) (drop_at first before width len)
+
+-- ---- laws
+
+first_field : (width : ℕ) (next : List ℕ → Fields) (before : List ℕ) (w : ℕ) → Single width before w
+    → Of (Field width next) before w
+first_field width next before w h = h.1 ∙ sym (at_start width next before (ap length h.0))
+
+pub then_field : {A B : Type 0} {T : A → List ℕ → Type 0} {U : A → B → List ℕ → Type 0} (width : ℕ)
+    (next : List ℕ → Fields) (of : A → Fields)
+    (one : Cursor → Read A) (two : A → Cursor → Read B) → 0 < width
+    → Law (Single width) one T → ((x : A) (first : List ℕ) → T x first → length first ≡ width)
+    → ((x : A) (first : List ℕ) → T x first → next first ≡ of x)
+    → ((x : A) → Law (Of (of x)) (two x) (U x)) → ((x : A) (first : List ℕ) → T x first → HasText (U x))
+    → Law (Of (Field width next)) (λ c. one c >>= λ x. two x.0 x.1) (Then T U)
+then_field width next of one two some p len is q more =
+    then_of (Of (Field width next)) one two p q more (first_field width next)
+    (λ x first t before w h. h ∙ ap (λ (f : Fields). width_of f before) (sym (is x first t))
+    ∙ sym (behind_first width next first before some (len x first t)))
+
+pub last_field : {A : Type 0} {T : A → List ℕ → Type 0} (width : ℕ) (next : List ℕ → Fields) (read : Cursor → Read A)
+    → Law (Single width) read T → Law (Of (Field width next)) read T
+last_field width next read law = other_fields read (first_field width next) law
+
+pub byte_fields : {A : Type 0} {T : A → List ℕ → Type 0} (read : Cursor → Read A) → Law OneByte read T
+    → Law (Of Done) read T
+byte_fields read law = other_fields read (λ before w h. h ∙ sym (at_done before)) law
+
+-- where each field is a byte
+abbrev pub AreBytes : Fields → Type 0
+AreBytes Done = Unit {0}
+AreBytes (Field width next) = (width ≡ 1) × ((bytes : List ℕ) → AreBytes (next bytes))
+
+pub bytes_one : (f : Fields) (before : List ℕ) → AreBytes f → width_of f before ≡ 1
+bytes_one Done before h = at_done before
+bytes_one (Field width next) before h = elim (cases_lt 0 (length before)) [
+  | inl some ↦
+      let le : width ≤ length before = omega (arith, some, h.0) in
+      at_behind width next before some le
+      ∙ bytes_one (next (take width before)) (drop width before) (h.1 (take width before))
+  | inr none ↦ at_start width next before (omega (arith, none)) ∙ h.0
+]
+
+pub bytes_each_one : (n : ℕ) → AreBytes (bytes_each n)
+bytes_each_one zero = tt
+bytes_each_one (suc n) = (refl, λ bytes. bytes_each_one n)
+
+pub each_field : {A : Type 0} {T : A → List ℕ → Type 0} (f : Fields) (read : Cursor → Read A) → AreBytes f
+    → Law OneByte read T → Law (Of f) read T
+each_field f read bytes law = other_fields read (λ before w h. h ∙ sym (bytes_one f before bytes)) law
+
+pub choice_of : {A : Type 0} {T U : A → List ℕ → Type 0} (b : Bool) (f g : Fields) (one two : Cursor → Read A)
+    → Law (Of f) one T → Law (Of g) two U
+    → Law (Of (cond b f g)) (λ c. cond b (one c) (two c)) (Choice b T U)
+choice_of true f g one two p q =
+    record { takes = p.takes; again = p.again; grows = p.grows; fails = p.fails; cuts = p.cuts }
+choice_of false f g one two p q =
+    record { takes = q.takes; again = q.again; grows = q.grows; fails = q.fails; cuts = q.cuts }
+
+-- ---- fields behind others
+
+-- behind the last one each byte is a field
+pub done_behind : (f : Fields) (first before : List ℕ) → IsAll f first → width_of f (first ++ before) ≡ 1
+done_behind Done first before h = at_done (first ++ before)
+done_behind (Field width next) first before h =
+    let all = length-append first before in
+    at_behind width next (first ++ before) (omega (arith, all, h.0, h.1)) (omega (arith, all, h.1))
+    ∙ ap (λ (t : List ℕ). width_of (next t) (drop width (first ++ before))) (take-append-le width first before h.1)
+    ∙ ap (width_of (next (take width first))) (drop-append-le width first before h.1)
+    ∙ done_behind (next (take width first)) (drop width first) before h.2
+
+pub behind_all : (f g : Fields) (first before : List ℕ) → IsAll f first
+    → width_of (followed_by f g) (first ++ before) ≡ width_of g before
+behind_all Done g first before h = ap (λ (t : List ℕ). width_of g (t ++ before)) h
+behind_all (Field width next) g first before h =
+    let all = length-append first before in
+    at_behind width (λ bytes. followed_by (next bytes) g) (first ++ before) (omega (arith, all, h.0, h.1))
+    (omega (arith, all, h.1))
+    ∙ ap (λ (t : List ℕ). width_of (followed_by (next t) g) (drop width (first ++ before)))
+    (take-append-le width first before h.1)
+    ∙ ap (width_of (followed_by (next (take width first)) g)) (drop-append-le width first before h.1)
+    ∙ behind_all (next (take width first)) g (drop width first) before h.2
+
+pub before_all : (f g : Fields) (before rest : List ℕ) → IsAll f (before ++ rest) → rest ≢ []
+    → width_of f before ≡ width_of (followed_by f g) before
+before_all Done g before rest h some =
+    absurd (some (nil_from_length rest (let n = ap length h in let l = length-append before rest in
+    omega (arith, n, l))))
+before_all (Field width next) g before rest h some = elim (cases_lt 0 (length before)) [
+  | inl begun ↦ elim (cases_lt (length before) width) [
+    | inl within ↦ at_within width next before begun within
+        ∙ sym (at_within width (λ bytes. followed_by (next bytes) g) before begun within)
+    | inr behind ↦
+        let front : take width (before ++ rest) ≡ take width before = take-append-le width before rest behind in
+        let others : drop width (before ++ rest) ≡ drop width before ++ rest =
+        drop-append-le width before rest behind in
+        let all : IsAll (next (take width before)) (drop width before ++ rest) =
+        subst (λ (t : List ℕ). IsAll (next (take width before)) t) others
+        (subst (λ (t : List ℕ). IsAll (next t) (drop width (before ++ rest))) front h.2) in
+        at_behind width next before begun behind
+        ∙ before_all (next (take width before)) g (drop width before) rest all some
+        ∙ sym (at_behind width (λ bytes. followed_by (next bytes) g) before begun behind)
+  ]
+  | inr none ↦
+      let empty : length before ≡ 0 = omega (arith, none) in
+      at_start width next before empty ∙ sym (at_start width (λ bytes. followed_by (next bytes) g) before empty)
+]
+
+pub then_fields : {A B : Type 0} {T : A → List ℕ → Type 0} {U : A → B → List ℕ → Type 0} (f g : Fields)
+    (one : Cursor → Read A) (two : A → Cursor → Read B)
+    → Law (Of f) one T → ((x : A) (first : List ℕ) → T x first → IsAll f first) → ((x : A) → Law (Of g) (two x) (U x))
+    → ((x : A) (first : List ℕ) → T x first → HasText (U x))
+    → Law (Of (followed_by f g)) (λ c. one c >>= λ x. two x.0 x.1) (Then T U)
+then_fields {A} {B} {T} {U} f g one two p all q more =
+    then_of (Of (followed_by f g)) one two (begun_fields one p) q more
+    (λ before w h. h.0 ∙ (let b = h.1 in before_all f g before b.1 (all b.0 (before ++ b.1) b.2) b.3))
+    (λ x first t before w h. h ∙ sym (behind_all f g first before (all x first t)))
+
+-- ---- where fields begin and end
 
 -- within a field no field begins
-pub inside_at : (widths : List ℕ) (n m : ℕ) → 0 < m → m < width_at widths n → width_at widths (n + m) ≡ 0
-inside_at [] n m some lt = absurd (omega (arith, some, lt))
-inside_at (width ∷ widths) n m some lt = elim (cases_lt 0 n) [
-  | inl first ↦ elim (cases_lt n width) [
-    | inl within ↦ let none = at_within width n widths first within in absurd (omega (arith, none, lt))
+pub inside_of : (f : Fields) (before mid : List ℕ) → 0 < length mid → length mid < width_of f before
+    → width_of f (before ++ mid) ≡ 0
+inside_of Done before mid some lt = absurd (let one = at_done before in omega (arith, some, lt, one))
+inside_of (Field width next) before mid some lt = elim (cases_lt 0 (length before)) [
+  | inl begun ↦ elim (cases_lt (length before) width) [
+    | inl within ↦ absurd (let none = at_within width next before begun within in omega (arith, none, lt))
     | inr behind ↦
-        let here = at_behind width n widths first behind in
-        let rest = inside_at widths (n - width) m some (omega (arith, here, lt)) in
-        let sum : n - width + m ≡ n + m - width = omega (arith, behind) in
-        at_behind width (n + m) widths (omega (arith, first)) (omega (arith, behind)) ∙ ap (width_at widths) (sym sum) ∙ rest
-  ]
-  | inr start ↦
-      let here = at_start width n widths (omega (arith, start)) in
-      at_within width (n + m) widths (omega (arith, some)) (omega (arith, start, here, lt))
-]
-
--- a field ends before the last of the first ones does, or with it
-pub ends_at : (widths : List ℕ) (n : ℕ) → n < total widths → n + width_at widths n ≤ total widths
-ends_at [] n lt = absurd (omega (arith, lt))
-ends_at (width ∷ widths) n lt = elim (cases_lt 0 n) [
-  | inl first ↦ elim (cases_lt n width) [
-    | inl within ↦ let none = at_within width n widths first within in omega (arith, none, lt)
-    | inr behind ↦
-        let here = at_behind width n widths first behind in
-        let rest = ends_at widths (n - width) (omega (arith, lt, behind)) in
-        omega (arith, here, rest, behind)
-  ]
-  | inr start ↦ let here = at_start width n widths (omega (arith, start)) in omega (arith, here, start)
-]
-
--- behind the first ones each field is a byte
-pub beyond : (widths : List ℕ) (n : ℕ) → AreSome widths → total widths ≤ n → width_at widths n ≡ 1
-beyond [] n some le = refl
-beyond (width ∷ widths) n some le =
-    let first = some.0 in
-    at_behind width n widths (omega (arith, first, le)) (omega (arith, le)) ∙ beyond widths (n - width) some.1 (omega (arith, le))
-
--- where a text has all of the first ones, each field of it ends in it
-pub fits_at : (widths : List ℕ) (n len : ℕ) → AreSome widths → total widths ≤ len → n < len → n + width_at widths n ≤ len
-fits_at widths n len some le lt = elim (cases_lt n (total widths)) [
-  | inl within ↦ let ends = ends_at widths n within in omega (arith, ends, le)
-  | inr behind ↦ let one = beyond widths n some behind in omega (arith, one, lt)
-]
-
--- what stands behind the first ones does not matter before their end
-pub first_at : (widths more : List ℕ) (n : ℕ) → n < total widths → width_at (widths ++ more) n ≡ width_at widths n
-first_at [] more n lt = absurd (omega (arith, lt))
-first_at (width ∷ widths) more n lt = elim (cases_lt 0 n) [
-  | inl first ↦ elim (cases_lt n width) [
-    | inl within ↦ at_within width n (widths ++ more) first within ∙ sym (at_within width n widths first within)
-    | inr behind ↦
-        at_behind width n (widths ++ more) first behind ∙ first_at widths more (n - width) (omega (arith, lt, behind)) ∙ sym (at_behind width n widths first behind)
-  ]
-  | inr start ↦ let e : n ≡ 0 = omega (arith, start) in at_start width n (widths ++ more) e ∙ sym (at_start width n widths e)
-]
-
--- the first fields, of which the last is a byte that says which follow
-module _ (widths : List ℕ) (tail : ℕ → List ℕ) (skip : ℕ) (last : skip + 1 ≡ total widths) where
-  abbrev pub width_by : List ℕ → ℕ
-  width_by before = width_at (widths ++ tail (get_or before skip 0)) (length before)
-
-  pub inside_by : (before mid : List ℕ) → 0 < length mid → length mid < width_by before → width_by (before ++ mid) ≡ 0
-  inside_by before mid some lt = elim (cases_lt (length before) (total widths)) [
-    | inl within ↦
-        let here = first_at widths (tail (get_or before skip 0)) (length before) within in
-        let ends = ends_at widths (length before) within in
-        let lt' : length mid < width_at widths (length before) = omega (arith, here, lt) in
-        let none = inside_at widths (length before) (length mid) some lt' in
+        let here = at_behind width next before begun behind in
         let len = length-append before mid in
-        first_at widths (tail (get_or (before ++ mid) skip 0)) (length (before ++ mid)) (omega (arith, len, ends, lt'))
-        ∙ ap (width_at widths) len ∙ none
-    | inr behind ↦
-        let same = get_or_append_left before mid 0 skip (omega (arith, behind, last)) in
-        let none = inside_at (widths ++ tail (get_or before skip 0)) (length before) (length mid) some lt in
-        ap (λ (k : ℕ). width_at (widths ++ tail k) (length (before ++ mid))) same
-        ∙ ap (width_at (widths ++ tail (get_or before skip 0))) (length-append before mid) ∙ none
+        at_behind width next (before ++ mid) (omega (arith, len, begun)) (omega (arith, len, behind))
+        ∙ ap (λ (t : List ℕ). width_of (next t) (drop width (before ++ mid))) (take-append-le width before mid behind)
+        ∙ ap (width_of (next (take width before))) (drop-append-le width before mid behind)
+        ∙ inside_of (next (take width before)) (drop width before) mid some (omega (arith, here, lt))
   ]
+  | inr none ↦
+      let empty : length before ≡ 0 = omega (arith, none) in
+      let len = length-append before mid in
+      let wide = at_start width next before empty in
+      at_within width next (before ++ mid) (omega (arith, len, some)) (omega (arith, len, empty, lt, wide))
+]
+
+-- the bytes begin with all of the fields
+abbrev pub HasAll : Fields → List ℕ → Type 0
+HasAll Done text = Unit {0}
+HasAll (Field width next) text = (0 < width) × (width ≤ length text) × HasAll (next (take width text)) (drop width text)
+
+pub has_all : (f : Fields) (text more : List ℕ) → IsAll f text → HasAll f (text ++ more)
+has_all Done text more h = tt
+has_all (Field width next) text more h =
+    let len = length-append text more in
+    let front : take width text ≡ take width (text ++ more) = sym (take-append-le width text more h.1) in
+    let others : drop width text ++ more ≡ drop width (text ++ more) = sym (drop-append-le width text more h.1) in
+    let rest = has_all (next (take width text)) (drop width text) more h.2 in (
+      h.0,
+      omega (arith, len, h.1),
+      subst (λ (t : List ℕ). HasAll (next (take width (text ++ more))) t) others
+          (subst (λ (t : List ℕ). HasAll (next t) (drop width text ++ more)) front rest),
+    )
+
+-- where bytes have all of the fields, each field of them ends in them
+pub fits_of : (f : Fields) (before rest : List ℕ) → HasAll f (before ++ rest) → 0 < length rest
+    → width_of f before ≤ length rest
+fits_of Done before rest h some = let one = at_done before in omega (arith, one, some)
+fits_of (Field width next) before rest h some = elim (cases_lt 0 (length before)) [
+  | inl begun ↦ elim (cases_lt (length before) width) [
+    | inl within ↦ (let none = at_within width next before begun within in omega (arith, none))
+    | inr behind ↦
+        let here = at_behind width next before begun behind in
+        let front : take width (before ++ rest) ≡ take width before = take-append-le width before rest behind in
+        let others : drop width (before ++ rest) ≡ drop width before ++ rest =
+        drop-append-le width before rest behind in
+        let all : HasAll (next (take width before)) (drop width before ++ rest) =
+        subst (λ (t : List ℕ). HasAll (next (take width before)) t) others
+        (subst (λ (t : List ℕ). HasAll (next t) (drop width (before ++ rest))) front h.2) in
+        let fits = fits_of (next (take width before)) (drop width before) rest all some in
+        omega (arith, here, fits)
+  ]
+  | inr none ↦
+      let wide = at_start width next before (omega (arith, none)) in
+      let len = length-append before rest in
+      omega (arith, wide, len, h.1, none)
+]
+
+-- some fields, and all of others behind them
+pub all_of_both : (f g : Fields) (first second : List ℕ) → IsAll f first → IsAll g second
+    → IsAll (followed_by f g) (first ++ second)
+all_of_both Done g first second h k = subst (λ (t : List ℕ). IsAll g (t ++ second)) (sym h) k
+all_of_both (Field width next) g first second h k =
+    let len = length-append first second in
+    let front : take width first ≡ take width (first ++ second) = sym (take-append-le width first second h.1) in
+    let others : drop width first ++ second ≡ drop width (first ++ second) =
+    sym (drop-append-le width first second h.1) in
+    let rest = all_of_both (next (take width first)) g (drop width first) second h.2 k in (
+      h.0,
+      omega (arith, len, h.1),
+      subst
+          (λ (t : List ℕ). IsAll (followed_by (next (take width (first ++ second))) g) t) others
+          (subst (λ (t : List ℕ). IsAll (followed_by (next t) g) (drop width first ++ second)) front rest),
+    )
+
+pub all_of_field : (width : ℕ) (next : List ℕ → Fields) (first second : List ℕ) → 0 < width → length first ≡ width
+    → IsAll (next first) second → IsAll (Field width next) (first ++ second)
+all_of_field width next first second some len h =
+    let all = length-append first second in (
+      some,
+      omega (arith, all, len),
+      subst (λ (t : List ℕ). IsAll (next (take width (first ++ second))) t)
+          (sym (drop_at first second width len))
+          (subst (λ (t : List ℕ). IsAll (next t) second) (sym (take_at first second width len)) h),
+    )
+
+pub all_each : (n : ℕ) (text : List ℕ) → length text ≡ n → IsAll (bytes_each n) text
+all_each zero text len = nil_from_length text len
+all_each (suc n) [] len = absurd (omega (arith, len))
+all_each (suc n) (b ∷ text) len = (omega arith, omega arith, all_each n text (omega (arith, len)))

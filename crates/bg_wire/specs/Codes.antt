@@ -148,7 +148,3 @@ no_claim_flag = 0
 
 abbrev pub claim_flag : ℕ
 claim_flag = 1
-
--- the offset of the claim flag
-abbrev pub flag_offset : ℕ
-flag_offset = 18

@@ -1,5 +1,5 @@
 -- The one text of each entry, and of each action.
-use Rattle.std.specs.Prelude.{ℕ, List, [], ◌∷◌, length, Option, Some, None, slice_get}
+use Rattle.std.specs.Prelude.{◌==◌, ◌*◌, ℕ, List, [], ◌∷◌, length, Option, Some, None, slice_get, if◌then◌else◌}
 use Rattle.std.specs.List.{flat_map}
 use Rattle.bg_board.specs.Die.{pips}
 use Rattle.bg_board.specs.FromTo.{FromTo}
@@ -11,6 +11,7 @@ use Rattle.bg_match.specs.declared.entries.Entry.TheVariants as entry
 use Rattle.bg_match.specs.declared.levels.Level.{Level}
 use Rattle.bg_match.specs.declared.levels.Level.TheVariants.{Normal, Gammon, Backgammon}
 use Rattle.bg_wire.specs.Codes.{opening_code, rolled_code, doubled_code, taken_code, dropped_code, moved_code, resigned_code, accepted_code, rejected_code, normal_code, gammon_code, backgammon_code}
+use Rattle.bg_wire.specs.Fields.{Fields, Done, Field, bytes_each, first_byte}
 
 abbrev pub step_bytes : FromTo → List ℕ
 step_bytes step = step.from ∷ step.to ∷ []
@@ -36,6 +37,16 @@ action_bytes (action.Move turn) = moved_code ∷ turn_bytes turn
 action_bytes (action.Resign level) = resigned_code ∷ level_code level ∷ []
 action_bytes action.Accept = accepted_code ∷ []
 action_bytes action.Reject = rejected_code ∷ []
+
+-- the fields of an action: its code, and what follows, each byte by itself
+abbrev pub behind_code : ℕ → Fields
+behind_code code =
+    if code == moved_code then Field 1 (λ count. bytes_each (2 * first_byte count))
+    else if code == resigned_code then Field 1 (λ level. Done)
+    else Done
+
+abbrev pub action_fields : Fields
+action_fields = Field 1 (λ code. behind_code (first_byte code))
 
 abbrev pub entry_bytes : Entry → List ℕ
 entry_bytes (entry.Opening x o) = opening_code ∷ dice_bytes x o

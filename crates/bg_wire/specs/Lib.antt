@@ -1,6 +1,7 @@
 pub mod Codes
 pub mod Reading
 pub mod Texts
+pub mod Fields
 pub mod EntryText
 pub mod EntryReading
 pub mod PacketText

@@ -50,12 +50,6 @@ entries_at id c = do
   list ← list_at start.0 start.1
   Ok (packet.Entries id start.0 list.0, list.1)
 
-unfoldable pub kind_at : Cursor → Read ℕ
-kind_at c = do
-  magic ← u16_at packet_magic packet_magic c
-  version ← u8_at packet_version packet_version magic.1
-  u8_at want_kind entries_kind version.1
-
 -- what follows the header
 unfoldable pub body_at : ℕ → ℕ → Cursor → Read Packet
 body_at kind id c =
@@ -63,11 +57,18 @@ body_at kind id c =
     else if kind == claim_kind then claim_at id c
     else entries_at id c
 
+-- what follows the kind
+unfoldable pub behind_kind_at : ℕ → Cursor → Read Packet
+behind_kind_at kind c = do
+  id ← u64_at c
+  body_at kind id.0 id.1
+
 unfoldable pub packet_at : Cursor → Read Packet
 packet_at c = do
-  kind ← kind_at c
-  id ← u64_at kind.1
-  body_at kind.0 id.0 id.1
+  magic ← u16_at packet_magic packet_magic c
+  version ← u8_at packet_version packet_version magic.1
+  kind ← u8_at want_kind entries_kind version.1
+  behind_kind_at kind.0 kind.1
 
 -- all of the bytes
 unfoldable pub packet_of : List ℕ → Result Packet WireFault

@@ -1,13 +1,13 @@
 -- The one text of each packet.
-use Rattle.std.specs.Prelude.{◌≡◌, ℕ, ◌+◌, ◌<◌, ◌≤◌, ◌^◌, List, [], ◌∷◌, ◌++◌, length, get_or, ◌==◌, if◌then◌else◌}
+use Rattle.std.specs.Prelude.{◌≡◌, ℕ, ◌+◌, ◌<◌, ◌≤◌, ◌^◌, List, [], ◌∷◌, ◌++◌, length, ◌==◌, if◌then◌else◌}
 use Rattle.std.specs.List.{AllByRecursion}
 use Rattle.std.specs.Int.{w16, w64, to_be_bytes}
 use Rattle.bg_match.specs.Entry.{IsEntry, IsAction}
 use Rattle.bg_match.specs.declared.actions.Action.{Action}
 use Rattle.bg_match.specs.declared.entries.Entry.{Entry}
 use Rattle.bg_match.specs.Limits.{most_entries}
-use Rattle.bg_wire.specs.Codes.{most_in_packet, packet_magic, packet_version, want_kind, claim_kind, entries_kind, kind_offset, first_number, seat_of_x, seat_of_o, last_watcher}
-use Rattle.bg_wire.specs.Texts.{width_at}
+use Rattle.bg_wire.specs.Codes.{most_in_packet, packet_magic, packet_version, want_kind, claim_kind, entries_kind, first_number, seat_of_x, seat_of_o, last_watcher}
+use Rattle.bg_wire.specs.Fields.{Fields, Done, Field, first_byte, width_of}
 use Rattle.bg_wire.specs.EntryText.{action_bytes, entries_bytes}
 use Rattle.bg_wire.specs.declared.packets.Packet.{Packet}
 use Rattle.bg_wire.specs.declared.packets.Packet.TheVariants as packet
@@ -59,19 +59,20 @@ pub record IsText (p : Packet) (bytes : List ℕ) : Type 0 where
   pub in_range : IsPacket p
   pub spelled : bytes ≡ packet_text p
 
--- the widths of the first fields behind the header, by the kind: the sender and a number, or the number where the
--- entries start. Behind them each byte is a field
-abbrev pub body_widths : ℕ → List ℕ
-body_widths kind =
-    if kind == want_kind then 1 ∷ 2 ∷ [] else if kind == claim_kind then 1 ∷ 2 ∷ [] else 2 ∷ []
+-- the fields behind the header, by the kind. Behind them each byte is a field, of an action or of the list of entries
+abbrev pub body_fields : ℕ → Fields
+body_fields kind =
+    if kind == want_kind then Field 1 (λ sender. Field 2 (λ held. Done))
+    else if kind == claim_kind then Field 1 (λ sender. Field 2 (λ number. Done))
+    else Field 2 (λ start. Done)
 
--- the widths of the first fields of a packet: magic, version, kind and match id, and those
-abbrev pub packet_widths : ℕ → List ℕ
-packet_widths kind = 2 ∷ 1 ∷ 1 ∷ 8 ∷ body_widths kind
+abbrev pub packet_fields : Fields
+packet_fields =
+    Field 2 (λ magic. Field 1 (λ version. Field 1 (λ kind. Field 8 (λ id. body_fields (first_byte kind)))))
 
 -- the width of the field that begins behind these bytes of a packet
 abbrev pub packet_width : List ℕ → ℕ
-packet_width before = width_at (packet_widths (get_or before kind_offset 0)) (length before)
+packet_width before = width_of packet_fields before
 
 -- the match that the packet is of
 abbrev pub id_of : Packet → ℕ

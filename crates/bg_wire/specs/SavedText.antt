@@ -1,5 +1,5 @@
 -- The one text of what a party saves.
-use Rattle.std.specs.Prelude.{◌≡◌, ◌≢◌, ℕ, ◌-◌, ◌<◌, ◌≤◌, ◌^◌, List, [], ◌∷◌, ◌++◌, length, take, get_or, ◌==◌, if◌then◌else◌, Option, Some, None}
+use Rattle.std.specs.Prelude.{◌≡◌, ◌≢◌, ℕ, ◌-◌, ◌<◌, ◌≤◌, ◌^◌, List, [], ◌∷◌, ◌++◌, length, take, ◌==◌, if◌then◌else◌, Option, Some, None}
 use Rattle.std.specs.List.{AllByRecursion}
 use Rattle.std.specs.Int.{w16, w32, w64, to_be_bytes}
 use Rattle.bg_match.specs.Terms.{Terms, match_length}
@@ -8,9 +8,9 @@ use Rattle.bg_match.specs.Match.{Log, IsLegalRecord}
 use Rattle.bg_match.specs.declared.actions.Action.{Action}
 use Rattle.bg_match.specs.declared.entries.Entry.{Entry}
 use Rattle.bg_match.specs.Limits.{shortest_match, longest_match}
-use Rattle.bg_wire.specs.Codes.{last_saved_number, first_number, seat_of_x, seat_of_o, saved_magic, no_claim_flag, claim_flag, flag_offset, least_save, greatest_save}
-use Rattle.bg_wire.specs.Texts.{width_at}
-use Rattle.bg_wire.specs.EntryText.{action_bytes, entries_bytes}
+use Rattle.bg_wire.specs.Codes.{last_saved_number, first_number, seat_of_x, seat_of_o, saved_magic, no_claim_flag, claim_flag, least_save, greatest_save}
+use Rattle.bg_wire.specs.Fields.{Fields, Done, Field, followed_by, first_byte, width_of}
+use Rattle.bg_wire.specs.EntryText.{action_bytes, entries_bytes, action_fields}
 use Rattle.bg_wire.specs.declared.saves.Saved.{Saved}
 
 -- what a saved text tells, which is all of a `Saved` but the room for further entries
@@ -49,14 +49,24 @@ abbrev pub saved_text : SavedParts → List ℕ
 saved_text p =
     front_text p.party p.id p.terms p.save p.claim (length p.entries) ++ entries_bytes p.entries
 
--- the widths of the first fields of a saved text: magic, party, match id, terms, save and claim flag; then a
--- claim's number. Behind them each byte is a field, also each of the two of the count: any two bytes are a count
-abbrev pub saved_widths : ℕ → List ℕ
-saved_widths flag = 4 ∷ 1 ∷ 8 ∷ 1 ∷ 4 ∷ 1 ∷ (if flag == no_claim_flag then [] else 2 ∷ [])
+-- the claim flag, and then the number and the action of a claim, if there is one
+abbrev pub behind_flag : ℕ → Fields
+behind_flag flag = if flag == no_claim_flag then Done else Field 2 (λ number. action_fields)
+
+abbrev pub claim_fields : Fields
+claim_fields = Field 1 (λ flag. behind_flag (first_byte flag))
+
+-- the save number, the claim, and the count of the entries
+abbrev pub save_fields : Fields
+save_fields = Field 4 (λ save. followed_by claim_fields (Field 2 (λ count. Done)))
+
+-- the fields before the entries. Of the entries each byte is a field
+abbrev pub saved_fields : Fields
+saved_fields = Field 4 (λ magic. Field 1 (λ party. Field 8 (λ id. Field 1 (λ terms. save_fields))))
 
 -- the width of the field that begins behind these bytes of a saved text
 abbrev pub saved_width : List ℕ → ℕ
-saved_width before = width_at (saved_widths (get_or before flag_offset 0)) (length before)
+saved_width before = width_of saved_fields before
 
 -- the number and the action of a claim are in their ranges
 abbrev pub IsKeptClaim : Option (ℕ × Action) → Type 0

@@ -1,5 +1,5 @@
 -- What holds of all texts together.
-use Rattle.std.specs.Prelude.{◌≡◌, ◌≢◌, ◌==◌, ℕ, ◌-◌, ◌<◌, List, [], ◌∷◌, ◌++◌, length, nat_lt, if◌then◌else◌}
+use Rattle.std.specs.Prelude.{◌≡◌, ◌≢◌, ℕ, ◌<◌, List, [], ◌++◌, length}
 
 -- the bytes are a text, and more behind it
 abbrev pub HasMore : {A : Type 0} → (A → List ℕ → Type 0) → List ℕ → Type 0
@@ -18,13 +18,6 @@ IsFront {A} IsTextOf bytes = (x : A) × (rest : List ℕ) × IsTextOf x (bytes +
 -- the bytes begin a text, and are not all of it
 abbrev pub GoesOn : {A : Type 0} → (A → List ℕ → Type 0) → List ℕ → Type 0
 GoesOn {A} IsTextOf bytes = (x : A) × (rest : List ℕ) × IsTextOf x (bytes ++ rest) × (rest ≢ [])
-
--- the width of the field that begins at this offset, where the first fields have these widths and each byte behind
--- them is a field; 0 where no field begins there
-abbrev pub width_at : List ℕ → ℕ → ℕ
-width_at [] at = 1
-width_at (width ∷ widths) at =
-    if at == 0 then width else if nat_lt at width then 0 else width_at widths (at - width)
 
 -- the bytes end within a field, or before one: what stands before that field begins a text, and too few bytes follow.
 -- How wide the field is, the bytes before it say

@@ -8,7 +8,7 @@ ghost use Rattle.bg_match.specs.Entry.{IsEntry};
 ghost use Rattle.bg_wire.specs.Reading.{Reads, many_at};
 ghost use Rattle.bg_wire.specs.EntryReading.{entry_at};
 ghost use Rattle.bg_wire.specs.PacketText.{IsPacket, header_text, list_text, packet_text};
-ghost use Rattle.bg_wire.specs.PacketReading.{want_at, claim_at, most_from, list_at, entries_at, kind_at, body_at, packet_at, wire_fault};
+ghost use Rattle.bg_wire.specs.PacketReading.{want_at, claim_at, most_from, list_at, entries_at, behind_kind_at, body_at, packet_at, wire_fault};
 
 use crate::codes::FIRST_ENTRY;
 use crate::entry_reading::{action, entry};
@@ -129,15 +129,6 @@ fn entries(reader: &mut Reader<'_>, id: u64) -> Result<Packet, ReadFault>
     Ok(Packet::Entries { id, start, list })
 }
 
-#[tactic(auto, unfolding(crate::specs::PacketReading::kind_at))]
-fn kind(reader: &mut Reader<'_>) -> Result<u8, ReadFault>
-    ensures { Reads result reader.new (kind_at reader.old) }
-{
-    reader.read_u16(MAGIC, MAGIC)?;
-    reader.read_u8(VERSION, VERSION)?;
-    reader.read_u8(WANT, ENTRIES)
-}
-
 /// What follows the header.
 #[tactic(auto, unfolding(crate::specs::PacketReading::body_at))]
 fn body(reader: &mut Reader<'_>, kind: u8, id: u64) -> Result<Packet, ReadFault>
@@ -150,14 +141,24 @@ fn body(reader: &mut Reader<'_>, kind: u8, id: u64) -> Result<Packet, ReadFault>
     }
 }
 
+/// What follows the kind.
+#[tactic(auto, unfolding(crate::specs::PacketReading::behind_kind_at))]
+fn behind_kind(reader: &mut Reader<'_>, kind: u8) -> Result<Packet, ReadFault>
+    ensures { Reads result reader.new (behind_kind_at kind reader.old) }
+{
+    let id = reader.read_u64()?;
+    body(reader, kind, id)
+}
+
 /// A packet at the front of the bytes.
 #[tactic(auto, unfolding(crate::specs::PacketReading::packet_at))]
 pub(crate) fn packet(reader: &mut Reader<'_>) -> Result<Packet, ReadFault>
     ensures { Reads result reader.new (packet_at reader.old) }
 {
-    let kind = kind(reader)?;
-    let id = reader.read_u64()?;
-    body(reader, kind, id)
+    reader.read_u16(MAGIC, MAGIC)?;
+    reader.read_u8(VERSION, VERSION)?;
+    let kind = reader.read_u8(WANT, ENTRIES)?;
+    behind_kind(reader, kind)
 }
 
 fn put_number(out: &mut Bytes, number: Number)
