@@ -3,7 +3,7 @@ use Rattle.std.specs.Prelude.{ℕ, ◌≤◌}
 
 -- entries are numbered from 1 to this number
 abbrev pub most_entries : ℕ
-most_entries = 65535
+most_entries = 1000000
 
 -- a match is played to so many points
 abbrev pub shortest_match : ℕ

@@ -17,7 +17,7 @@ pub(crate) struct Made {
 pub(crate) fn made_at(made: &[Made], number: Number) -> Option<&Made>
     ensures { option_copied result ≡ at_number made.now number }
 {
-    made.get(usize::from(number).checked_sub(1)?)
+    made.get((number as usize).checked_sub(1)?)
 }
 
 /// Makes room for this many more entries, and for as many again as there are. Where there is room for this many already

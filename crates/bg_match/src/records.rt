@@ -146,7 +146,7 @@ impl Record {
     /// Whether an entry may follow. The answer is that of `push`, but never `Memory`.
     ///
     /// # Errors
-    /// `RecordFull` where there are 65535 entries, else as [`Standing::next`].
+    /// `RecordFull` where there are 1000000 entries, else as [`Standing::next`].
     pub fn check(&self, entry: &Entry) -> Result<(), EntryFault>
         ensures ok { IsOk result ↔ IsNext self.now.terms self.now.entries entry.now }
         ensures fault { IfErr result (λ fault. IsRecordFault fault self.now entry.now) }
@@ -160,7 +160,7 @@ impl Record {
     /// that a record of any length is written in linear time.
     ///
     /// # Errors
-    /// `RecordFull` where there are 65535 entries, else as [`Standing::next`]; at last `Memory` where there is no room,
+    /// `RecordFull` where there are 1000000 entries, else as [`Standing::next`]; at last `Memory` where there is no room,
     /// and no memory for more.
     pub fn push(&mut self, entry: Entry) -> Result<(), EntryFault>
         ensures ok { result ≢ Err EntryFault.Memory → (IsOk result ↔ IsNext self.old.terms self.old.entries entry) }
@@ -198,7 +198,7 @@ impl Record {
         ensures there { count ≤ self.old.spare → IsOk result × (self.new ≡ self.old) }
         ensures err { OnErr result (self.new ≡ self.old) }
     {
-        make_room(&mut self.made, usize::from(count))
+        make_room(&mut self.made, count as usize)
     }
 
     /// The same record, with room for its entries alone.
@@ -232,7 +232,7 @@ impl Record {
         ensures fault { IfErr result (λ fault. IsRecordFault fault self.now entry.now) }
         ensures memory { result ≢ Err EntryFault.Memory }
     {
-        if self.made.len() >= usize::from(MOST_ENTRIES) {
+        if self.made.len() >= MOST_ENTRIES as usize {
             return Err(EntryFault::RecordFull);
         }
         self.standing.next(entry)

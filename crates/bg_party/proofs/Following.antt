@@ -4,6 +4,7 @@ use Rattle.std.proofs.Common.{drop, get_or, refl, sym, ◌∙◌, ap, subst, ari
 use Rattle.std.specs.Prelude.{IsOk, IfErr}
 use Rattle.std.proofs.Math.Seq.{take-suc, split_at}
 use Rattle.std.proofs.lemmas.List.{take_all}
+use Rattle.bg_match.specs.Limits.{most_entries}
 use Rattle.bg_match.specs.Terms.{Terms}
 use Rattle.bg_match.specs.declared.entries.Entry.{Entry}
 use Rattle.bg_match.specs.declared.entries.EntryFault.{EntryFault}
@@ -47,20 +48,20 @@ goes_on terms entries new i x s t within is at follows =
 -- an entry that does not follow is the first such one
 pub stops : (terms len : ℕ) (entries new : List Entry) (i : ℕ) (x : Entry) (s : State) → i < length new
     → x ≡ get_or new i x
-    → len ≡ length entries → length entries + length new ≤ 65535 → length (take i new) ≡ i
+    → len ≡ length entries → length entries + length new ≤ most_entries → length (take i new) ≡ i
     → StandsAt terms (entries ++ take i new) s → (CanFollow s x → ⊥)
     → IsFirstIllegal terms (entries ++ new) (len + i + 1)
 stops terms len entries new i x s within is many few taken at stuck =
     let front = entries ++ take i new in
     let size = length-append entries (take i new) in
-    let room : length front < 65535 = omega arith in
+    let room : length front < most_entries = omega arith in
     is_first_illegal terms (len + i + 1) front (drop (suc i) new) (entries ++ new) x (omega arith)
     (rest_of entries new i x within is)
     (omega arith, (s, at)) (λ legal. stuck ((legal_follow terms front x s at room).0 legal))
 
 -- all of them follow
 pub all_follow : (terms : Terms) (entries new : List Entry) (i : ℕ) (s : State) → length new ≤ i
-    → length entries + length new ≤ 65535 → StandsAt terms (entries ++ take i new) s
+    → length entries + length new ≤ most_entries → StandsAt terms (entries ++ take i new) s
     → IsLegalRecord terms (entries ++ new)
 all_follow terms entries new i s all few at = (
   omega (arith, length-append entries new),
@@ -91,12 +92,12 @@ appended (Err (fault.NoDouble d)) log e why room ok legal = (ok (λ h. absurd (c
 -- an entry that does not follow ends those that do
 pub follows_for : (terms : Terms) (entries list : List Entry) (i : ℕ) (x : Entry) (s : State) → i < length list
     → x ≡ get_or list i x
-    → length entries + length list ≤ 65535 → length (take i list) ≡ i
+    → length entries + length list ≤ most_entries → length (take i list) ≡ i
     → StandsAt terms (entries ++ take i list) s → (CanFollow s x → ⊥) → FollowsFor terms entries list i
 follows_for terms entries list i x s within is few taken at stuck =
     let front = entries ++ take i list in
     let size = length-append entries (take i list) in
-    let room : length front < 65535 = omega arith in
+    let room : length front < most_entries = omega arith in
     record {
       within = omega arith;
       legal = (omega arith, (s, at));

@@ -4,6 +4,7 @@ use Rattle.std.proofs.Common.{take, drop, if◌then◌else◌, refl, sym, ◌∙
 use Rattle.std.proofs.Math.Seq.{take-append-add}
 use Rattle.std.proofs.lemmas.List.{length-drop}
 use Rattle.std.proofs.lemmas.Bool.Decides.{nat_tests}
+use Rattle.bg_match.specs.Limits.{most_entries}
 use Rattle.bg_match.specs.declared.entries.Entry.{Entry}
 use Rattle.bg_match.specs.Match.{Log, IsLegalRecord}
 use Rattle.bg_match.specs.Terms.{Terms}
@@ -113,8 +114,8 @@ appends_all f start list new early count l after same_new same_early extends fol
 
 -- the new entries of a list have numbers
 pub new_fits : (entries : List Entry) (start : ℕ) (list : List Entry) → 1 ≤ start → start ≤ length entries + 1
-    → start + length list ≤ 65536
-    → length entries ≤ 65535 → length entries + length (new_entries entries start list) ≤ 65535
+    → start + length list ≤ most_entries + 1
+    → length entries ≤ most_entries → length entries + length (new_entries entries start list) ≤ most_entries
 new_fits entries start list low joins last few =
     let size = length-drop (length entries + 1 - start) list in omega arith
 

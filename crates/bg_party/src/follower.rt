@@ -2,8 +2,9 @@
 ghost use Rattle.std.specs.Prelude.{◌≡◌, ◌≤◌, ◌+◌, ◌↔◌, ◌++◌, length, IsOk, IfOk};
 ghost use Rattle.bg_party.specs.Retry.{at_once, is_due};
 ghost use Rattle.bg_party.specs.Window.{early_behind, window_size};
-ghost use Rattle.bg_match.specs.Limits.{IsMatchLength};
+ghost use Rattle.bg_match.specs.Limits.{IsMatchLength, most_entries};
 ghost use Rattle.bg_match.specs.Match.{IsLegalRecord};
+ghost use Rattle.bg_wire.specs.Codes.{most_in_packet};
 ghost use Rattle.bg_wire.specs.PacketText.{IsPacket};
 
 use crate::Learned;
@@ -126,8 +127,8 @@ impl Follower {
     fn learn(&mut self, start: Number, list: &[Entry]) -> Learned
         requires first { 1 ≤ start }
         requires some { 1 ≤ length list.now }
-        requires few { length list.now ≤ 8 }
-        requires last { start + length list.now ≤ 65536 }
+        requires few { length list.now ≤ most_in_packet }
+        requires last { start + length list.now ≤ most_entries + 1 }
         ensures teaches { Teaches self.old start list.now result }
         ensures after { IsAfter self.old (Packet.Entries self.old.log.id start list.now) result self.new }
         ensures follower { IsFollower self.new }
@@ -155,7 +156,7 @@ impl Follower {
     /// Appends new entries that follow, and the first ones of those that are kept right behind them, so many as follow,
     /// where there is room or memory for all.
     fn grow(&mut self, new: &[Entry], early: &[Entry], count: usize) -> Learned
-        requires few { length new.now ≤ 8 }
+        requires few { length new.now ≤ most_in_packet }
         requires room { length early.now ≤ window_size }
         requires early { early.now ≡ early_behind self.old.early (length new.now) }
         requires follow { FollowsFor self.old.log.terms (self.old.log.entries ++ new.now) early.now count }

@@ -1,5 +1,6 @@
 //! Entries that a packet tells, beside a record: whether they agree with it, and whether they follow.
 ghost use Rattle.std.specs.Prelude.{◌≡◌, ◌≤◌, ◌<◌, ◌+◌, ◌++◌, length, MatchOption, MatchResult};
+ghost use Rattle.bg_match.specs.Limits.{most_entries};
 ghost use Rattle.bg_match.specs.Match.{IsLegalRecord, StandsAt};
 ghost use Rattle.bg_wire.specs.SavedText.{IsFirstIllegal};
 ghost use Rattle.bg_party.specs.Learns.{Agrees, IsConflict, FollowsFor, new_entries};
@@ -10,7 +11,7 @@ use bg_match::{Entry, Number, Record, Standing};
 /// one that is held.
 pub(crate) fn first_conflict(log: &Record, start: Number, list: &[Entry]) -> Option<Number>
     requires first { 1 ≤ start }
-    requires last { start + length list.now ≤ 65536 }
+    requires last { start + length list.now ≤ most_entries + 1 }
     ensures { MatchOption result (Agrees log.now.entries start list.now)
         (λ n. IsConflict log.now.entries start list.now n) }
 {
@@ -38,7 +39,7 @@ pub(crate) fn not_held<'a>(log: &Record, start: Number, list: &'a [Entry]) -> Op
 
 /// Where new entries lead, or the number of the first that does not follow those before it.
 pub(crate) fn follow(log: &Record, new: &[Entry]) -> Result<Standing, Number>
-    requires few { length log.now.entries + length new.now ≤ 65535 }
+    requires few { length log.now.entries + length new.now ≤ most_entries }
     ensures { MatchResult result
         (λ s. StandsAt log.now.terms (log.now.entries ++ new.now) s)
         (λ n. IsFirstIllegal log.now.terms (log.now.entries ++ new.now) n) }
@@ -61,7 +62,7 @@ pub(crate) fn count_that_follow(
     list: &[Entry],
 ) -> usize
     requires stands { StandsAt log.now.terms (log.now.entries ++ new.now) standing }
-    requires few { length log.now.entries + length new.now + length list.now ≤ 65535 }
+    requires few { length log.now.entries + length new.now + length list.now ≤ most_entries }
     ensures { FollowsFor log.now.terms (log.now.entries ++ new.now) list.now result }
 {
     for (index, entry) in list.iter().enumerate() {

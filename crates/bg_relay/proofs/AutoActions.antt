@@ -7,6 +7,7 @@ use Rattle.bg_board.specs.FromTo.{FromTo}
 use Rattle.bg_board.specs.Position.{Position}
 use Rattle.bg_turns.specs.Turn.{IsLegalTurn}
 use Rattle.bg_turns.specs.declared.throws.Dice.{Dice}
+use Rattle.bg_match.specs.Limits.{most_entries}
 use Rattle.bg_match.specs.Answers.{IsAnswer}
 use Rattle.bg_match.specs.Follows.{CanFollow}
 use Rattle.bg_match.specs.Match.{ActsAfter, IsNext, Log, StandsAt}
@@ -33,20 +34,20 @@ turn_is_legal board p dice n turn h =
     (h.1.exactly turn).0 (at, slice_get_within h.0 at turn h.2, get_or_from_slice_get h.0 at turn turn h.2)
 
 -- an entry that follows where the record stands is the next one
-next_of : (terms : Terms) (entries : List Entry) (s : State) (e : Entry) → length entries < 65535
+next_of : (terms : Terms) (entries : List Entry) (s : State) (e : Entry) → length entries < most_entries
     → StandsAt terms entries s → CanFollow s e → IsNext terms entries e
 next_of terms entries s e few stands can = (
   omega (arith, length-append entries (e ∷ [])),
   (can.0, Leads-push (start_of terms) entries e s can.0 stands can.1),
 )
 
-next_like : (terms : Terms) (entries : List Entry) (s : State) (e f : Entry) → f ≡ e → length entries < 65535
+next_like : (terms : Terms) (entries : List Entry) (s : State) (e f : Entry) → f ≡ e → length entries < most_entries
     → StandsAt terms entries s → CanFollow s e → IsNext terms entries f
 next_like terms entries s e f same few stands can =
     subst (λ (x : Entry). IsNext terms entries x) (sym same) (next_of terms entries s e few stands can)
 
 follows_in : (terms : Terms) (entries : List Entry) (s : State) (at : Phase) (does : Action) (e : Entry)
-    → s.phase ≡ at → length entries < 65535 → StandsAt terms entries s → Does terms entries s.board at does
+    → s.phase ≡ at → length entries < most_entries → StandsAt terms entries s → Does terms entries s.board at does
     → IsAnswer does e → IsNext terms entries e
 follows_in terms entries s phase.Opening does e is few stands h answers = absurd h
 follows_in terms entries s (phase.Over p) does e is few stands h answers = absurd h
@@ -80,7 +81,7 @@ follows_in terms entries s (phase.Resigned p level back) does e is few stands h 
     next_like terms entries s entry.Rejected e rejects few stands (_, (p, level, back, is, refl))
 
 -- the entry of what is played follows
-pub played_follows : (log : Log) (does : Option Action) → length log.entries < 65535 → Plays log does
+pub played_follows : (log : Log) (does : Option Action) → length log.entries < most_entries → Plays log does
     → IfSome does (λ action. (e : Entry) → IsAnswer action e → IsNext log.terms log.entries e)
 played_follows log None few plays = tt
 played_follows log (Some does) few plays = λ e answers.
@@ -88,7 +89,7 @@ played_follows log (Some does) few plays = λ e answers.
 
 -- what the player plays who acts is what he does
 pub played : (log : Log) (player : Player) (does : Option Action) → ActsAfter log.terms log.entries (Seat player)
-    → length log.entries < 65535 → Plays log does → IsAutoAction log player does
+    → length log.entries < most_entries → Plays log does → IsAutoAction log player does
 played log player None acts few plays = inl (plays player)
 played log player (Some does) acts few plays = (acts, few, plays)
 

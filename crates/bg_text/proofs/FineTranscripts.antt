@@ -91,6 +91,15 @@ step_short step h =
       omega (arith, first, all, source_few, target_few),
     )
 
+step_fits : (step : FromTo) → IsDownward step → length (step_text step) ≤ 7
+step_fits step h =
+    let low : step.to < step.from = h.lower in
+    let source_few = source_short (source_text step.from) (source_shape step.from h.starts) in
+    let target_few = target_short (target_text step.to) (target_shape step.to (omega (arith, low, h.starts))) in
+    let first = length-append (source_text step.from) (codes "-") in
+    let all = length-append (source_text step.from ++ codes "-") (target_text step.to) in
+    omega (arith, first, all, source_few, target_few)
+
 steps_short : (steps : List FromTo) → AllByRecursion IsDownward steps → AllByRecursion IsShortWord (map step_text steps)
 steps_short [] h = tt
 steps_short (step ∷ steps) h = (step_short step h.0, steps_short steps h.1)
@@ -118,21 +127,6 @@ entry_short (entry.Resigned level) h = (short_by_test (codes "resign") refl (ome
 entry_short entry.Accepted h = (short_by_test (codes "accept") refl (omega arith), tt)
 entry_short entry.Rejected h = (short_by_test (codes "reject") refl (omega arith), tt)
 
-steps_few : (steps : List FromTo) → length (map step_text steps) ≡ length steps
-steps_few [] = refl
-steps_few (step ∷ steps) = ap suc (steps_few steps)
-
-entry_few : (e : Entry) → IsEntry e → length (entry_words e) ≤ 5
-entry_few (entry.Opening x o) h = omega arith
-entry_few (entry.Rolled dice) h = omega arith
-entry_few entry.Doubled h = omega arith
-entry_few entry.Taken h = omega arith
-entry_few entry.Dropped h = omega arith
-entry_few (entry.Moved steps) h = omega (arith, h.few, steps_few steps)
-entry_few (entry.Resigned level) h = omega arith
-entry_few entry.Accepted h = omega arith
-entry_few entry.Rejected h = omega arith
-
 spaced_feedless : (words : List (List ℕ)) → AllByRecursion IsShortWord words → IsFeedless (spaced words)
 spaced_feedless [] h = All-nil (λ b. b ≢ 10)
 spaced_feedless (word ∷ []) h = h.0.0
@@ -140,28 +134,44 @@ spaced_feedless (word ∷ next ∷ words) h =
     let P : ℕ → Type 0 = λ b. b ≢ 10 in
     All-append P word (32 ∷ spaced (next ∷ words)) h.0.0 (All-cons P 32 (spaced (next ∷ words)) (omega arith) (spaced_feedless (next ∷ words) h.1))
 
-spaced_length : (words : List (List ℕ)) → AllByRecursion IsShortWord words → length (spaced words) ≤ 11 * length words
-spaced_length [] h = omega arith
-spaced_length (word ∷ []) h = omega (arith, h.0.1)
-spaced_length (word ∷ next ∷ words) h = omega (arith, h.0.1, length-append word (32 ∷ spaced (next ∷ words)), spaced_length (next ∷ words) h.1)
+-- the words, with a space in front of each
+abbrev spread : List (List ℕ) → ℕ
+spread [] = 0
+spread (word ∷ words) = 1 + length word + spread words
+
+spaced_spread : (words : List (List ℕ)) → length (spaced words) ≤ spread words
+spaced_spread [] = omega arith
+spaced_spread (word ∷ []) = omega arith
+spaced_spread (word ∷ next ∷ words) = omega (arith, length-append word (32 ∷ spaced (next ∷ words)), spaced_spread (next ∷ words))
+
+steps_spread : (steps : List FromTo) → AllByRecursion IsDownward steps → spread (map step_text steps) ≤ 8 * length steps
+steps_spread [] h = omega arith
+steps_spread (step ∷ steps) h = omega (arith, (step_fits step h.0), steps_spread steps h.1)
+
+entry_spread : (e : Entry) → IsEntry e → spread (entry_words e) ≤ 38
+entry_spread (entry.Opening x o) h = omega (arith, (die_short x).1, (die_short o).1)
+entry_spread (entry.Rolled dice) h = omega (arith, (die_short dice.first).1, (die_short dice.second).1)
+entry_spread entry.Doubled h = omega arith
+entry_spread entry.Taken h = omega arith
+entry_spread entry.Dropped h = omega arith
+entry_spread (entry.Moved steps) h = omega (arith, h.few, steps_spread steps h.each)
+entry_spread (entry.Resigned level) h = omega (arith, (level_short level).1)
+entry_spread entry.Accepted h = omega arith
+entry_spread entry.Rejected h = omega arith
 
 -- a line that a transcript can have
 abbrev pub IsShortLine : List ℕ → Type 0
-IsShortLine line = IsFeedless line × (length line ≤ 63)
-
-spaced_first : (word : List ℕ) (words : List (List ℕ)) → length (spaced (word ∷ words)) ≤ length word + 1 + length (spaced words)
-spaced_first word [] = omega arith
-spaced_first word (next ∷ words) = omega (arith, length-append word (32 ∷ spaced (next ∷ words)))
+IsShortLine line = IsFeedless line × (length line ≤ 40)
 
 letter_length : (player : Player) → length (letter player) ≡ 1
 letter_length X = refl
 letter_length O = refl
 
 line_short : (seat : Option Player) (e : Entry) → IsEntry e → IsShortLine (entry_text seat e)
-line_short None e h = (spaced_feedless (entry_words e) (entry_short e h), omega (arith, spaced_length (entry_words e) (entry_short e h), entry_few e h))
+line_short None e h = (spaced_feedless (entry_words e) (entry_short e h), omega (arith, spaced_spread (entry_words e), entry_spread e h))
 line_short (Some player) e h = (
   spaced_feedless (letter player ∷ entry_words e) (letter_short player, entry_short e h),
-  omega (arith, spaced_first (letter player) (entry_words e), letter_length player, spaced_length (entry_words e) (entry_short e h), entry_few e h),
+  omega (arith, letter_length player, spaced_spread (letter player ∷ entry_words e), entry_spread e h),
 )
 
 lines_short : (s : State) (entries : List Entry) (lines : List (List ℕ)) (t : State) → AreLinesOf s entries lines t → AllByRecursion IsShortLine lines
@@ -184,7 +194,7 @@ lines_of-text : (lines : List (List ℕ)) → AllByRecursion IsShortLine lines �
 lines_of-text [] h = refl
 lines_of-text (line ∷ lines) h = lines_of-line line (lines_text lines) h.0.0 ∙ ap (λ rest. line ∷ rest) (lines_of-text lines h.1)
 
-text_length : (lines : List (List ℕ)) → AllByRecursion IsShortLine lines → length (lines_text lines) ≤ 64 * length lines
+text_length : (lines : List (List ℕ)) → AllByRecursion IsShortLine lines → length (lines_text lines) ≤ 41 * length lines
 text_length [] h = omega arith
 text_length (line ∷ lines) h = omega (arith, h.0.1, length-append line (10 ∷ []), length-append (line_text line) (lines_text lines), text_length lines h.1)
 

@@ -3,4 +3,4 @@ use Rattle.std.specs.Prelude.{ℕ}
 
 -- an input has so many bytes at most
 abbrev pub most_bytes : ℕ
-most_bytes = 4194304
+most_bytes = 41943040

@@ -16,9 +16,9 @@ use memchr::memchr;
 use std::alloc::Global;
 
 /// The most bytes of an input.
-pub const MOST_BYTES: usize = 4_194_304;
+pub const MOST_BYTES: usize = 41_943_040;
 
-/// Reads all of an input, up to the source's end, or 4194305 bytes of a longer one, which is one more than the limit
+/// Reads all of an input, up to the source's end, or 41943041 bytes of a longer one, which is one more than the limit
 /// ([`MOST_BYTES`]), in at most as many reads.
 ///
 /// # Errors

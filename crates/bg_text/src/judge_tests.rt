@@ -6,7 +6,7 @@ use crate::{
 };
 use arrayvec::ArrayVec;
 use bg_board::{Board, Die, Player, Step};
-use bg_match::{Cube, Entry, Level, Phase, Record, Standing};
+use bg_match::{Cube, Entry, Level, MOST_ENTRIES, Phase, Record, Standing};
 use bg_turns::Turn;
 use std::alloc::{AllocError, Global};
 use std::io::{self, ErrorKind, Read, Write};
@@ -304,22 +304,23 @@ fn transcript_of_a_record(rt: HostRuntime) -> Result<(), Fail> {
 fn full_record(alloc: Global) -> Result<Record, Fail> {
     let mut record = Record::new(alloc, 1, 99)?;
     record.push(Entry::Opening(Die::Three, Die::One))?;
-    for _ in 0..32767 {
+    for _ in 0..499_999 {
         record.push(Entry::Resigned(Level::Backgammon))?;
         record.push(Entry::Rejected)?;
     }
+    record.push(Entry::Resigned(Level::Backgammon))?;
     Ok(record)
 }
 
 #[test]
 fn transcript_of_a_full_record(rt: HostRuntime) -> Result<(), Fail> {
     let record = full_record(rt.alloc())?;
-    assert!(rt; record.len() == 65535);
+    assert_eq!(rt; record.len(), MOST_ENTRIES);
     let text = transcript_text(rt.alloc(), &record)?;
-    assert!(rt; text.len() == 10 + 9 + 32767 * (20 + 9));
+    assert!(rt; text.len() == 10 + 9 + 499_999 * (20 + 9) + 20);
     let judged = judge_text(rt.alloc(), &text)?;
-    assert!(rt; judged.verdict == Verdict::Fine(65535));
-    assert!(rt; judged.text.ends_with(b"X to move 3 1\nok 65535\n"));
+    assert!(rt; judged.verdict == Verdict::Fine(MOST_ENTRIES));
+    assert!(rt; judged.text.ends_with(b"X resigns backgammon\nok 1000000\n"));
     Ok(())
 }
 
@@ -655,12 +656,12 @@ fn readers_that_fail(rt: HostRuntime) {
 
 #[test]
 fn readers_that_never_end(rt: HostRuntime) {
-    for step in [1, 1000, 10_000_000] {
+    for step in [64, 1000, 100_000_000] {
         let mut reader = Fed::new(b"", step);
         reader.endless = true;
         let verdict = Ok(Verdict::TooLong);
         check_read(&rt, &mut reader, 1000, verdict, TOO_LONG.as_bytes());
-        assert!(rt; reader.reads <= 4_194_305 && reader.given == 4_194_305);
+        assert!(rt; reader.reads <= 41_943_041 && reader.given == 41_943_041);
     }
 }
 
@@ -674,7 +675,7 @@ fn check_long_input(
 ) {
     let mut reader = Fed::new(input, step);
     check_read(rt, &mut reader, 1000, Ok(verdict), text.as_bytes());
-    assert!(rt; reader.reads <= 4_194_305 && reader.given == input.len());
+    assert!(rt; reader.reads <= 41_943_041 && reader.given == input.len());
 }
 
 #[test]

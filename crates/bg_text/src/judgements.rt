@@ -61,7 +61,7 @@ pub(crate) fn refused(alloc: Global, log: &Record, why: LineFault) -> Result<Jud
         × (judgement.text.items ≡ text_of_board t ++ line_text (refused_line (length log.now.entries + 2) why))
         × (judgement.verdict ≡ Verdict.Refused (length log.now.entries + 2))) }
 {
-    let number = u32::from(log.len()) + 2;
+    let number = log.len() + 2;
     let mut text = board_text(alloc, &log.standing())?;
     put_refused(&mut text, number, why)?;
     Ok(Judgement {
@@ -76,7 +76,7 @@ pub(crate) fn fine(alloc: Global, log: &Record) -> Result<Judgement, AllocError>
         × (judgement.text.items ≡ text_of_board t ++ line_text (fine_line (length log.now.entries)))
         × (judgement.verdict ≡ Verdict.Fine (length log.now.entries))) }
 {
-    let entries = u32::from(log.len());
+    let entries = log.len();
     let mut text = board_text(alloc, &log.standing())?;
     put_fine(&mut text, entries)?;
     Ok(Judgement {

@@ -133,8 +133,8 @@ pub fn transcripts_are_fine()
 {}
 
 /// Judges a transcript: reads all of the input, writes the board and the verdict on what it read, and flushes them, as
-/// docs/FORMATS.md, "The judge", says. The input has at most 4194304 bytes, which take at most 4194305 reads; of a
-/// longer one 4194305 bytes are read, and it is TooLong. The sink is flushed once, at the end.
+/// docs/FORMATS.md, "The judge", says. The input has at most 41943040 bytes, which take at most 41943041 reads; of a
+/// longer one 41943041 bytes are read, and it is TooLong. The sink is flushed once, at the end.
 ///
 /// # Errors
 /// Read exactly where the source failed, and Memory where memory runs out: nothing was written then. Write exactly

@@ -9,10 +9,11 @@ use std::test::Fail;
 /// After the opening X offers to resign again and again, until there is no room for more.
 fn full_record(alloc: Global) -> Result<Record, Fail> {
     let mut record = record(alloc, 1, &[Entry::Opening(Die::Three, Die::One)])?;
-    for _ in 0..32767 {
+    for _ in 0..499_999 {
         record.push(Entry::Resigned(Level::Normal))?;
         record.push(Entry::Rejected)?;
     }
+    record.push(Entry::Resigned(Level::Normal))?;
     Ok(record)
 }
 
@@ -30,9 +31,9 @@ fn check_full_copy(rt: &impl Abort, record: &Record) -> Result<(), Fail> {
 fn longest_record(rt: HostRuntime) -> Result<(), Fail> {
     let mut record = full_record(rt.alloc())?;
     assert_eq!(rt; record.len(), MOST_ENTRIES);
-    let offer = Entry::Resigned(Level::Normal);
-    assert_eq!(rt; record.check(&offer), Err(EntryFault::RecordFull));
-    assert_eq!(rt; record.push(offer), Err(EntryFault::RecordFull));
+    let answer = Entry::Rejected;
+    assert_eq!(rt; record.check(&answer), Err(EntryFault::RecordFull));
+    assert_eq!(rt; record.push(answer), Err(EntryFault::RecordFull));
     check_full_copy(&rt, &record)
 }
 

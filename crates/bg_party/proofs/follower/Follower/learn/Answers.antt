@@ -1,5 +1,6 @@
 use Rattle.std.proofs.Common.{◌≡◌, ◌∙◌, ◌≤◌, ◌+◌, ◌++◌, List, length, sym, subst, arith, length-append}
 use Rattle.std.proofs.lemmas.Bool.Decides.{nat_tests}
+use Rattle.bg_match.specs.Limits.{most_entries}
 use Rattle.bg_match.specs.declared.entries.Entry.{Entry}
 use Rattle.bg_party.specs.Views.{FollowerView}
 use Rattle.bg_party.specs.Learns.{Extends, FollowsFor}
@@ -26,20 +27,20 @@ returns-in-Err-clause-teaches c =
 
 pub count_that_follow-count-requires-clause-few : goal.count_that_follow-count-requires-clause-few
 count_that_follow-count-requires-clause-few c =
-    let some : length c.self.inside.log.entries + length c.in-Some-not_held.new.now ≤ 65535 =
+    let some : length c.self.inside.log.entries + length c.in-Some-not_held.new.now ≤ most_entries =
     rw c.in-Some-not_held.ensures.1
     (new_fits c.self.inside.log.entries c.args.start c.args.list.now c.requires.first c.in-Some-not_held.ensures.0
     c.requires.last c.self.invariant.legal.0) in
     rw (c.as_slice.ensures.value, c.behind-early.ensures)
     (early_fits c.self.inside.window (length c.self.inside.log.entries)
-    (length c.in-Some-not_held.new.now) 65535 c.self.invariant.numbered some)
+    (length c.in-Some-not_held.new.now) most_entries c.self.invariant.numbered some)
 
 pub returns-clause-teaches : goal.returns-clause-teaches
 returns-clause-teaches c =
     let log = c.self.inside.log in
     let new = c.in-Some-not_held.new.now in
     let f : FollowerView = record { log = log; early = c.self.inside.window; retry = c.self.inside.retry } in
-    let some : length log.entries + length new ≤ 65535 =
+    let some : length log.entries + length new ≤ most_entries =
     rw c.in-Some-not_held.ensures.1
     (new_fits log.entries c.args.start c.args.list.now c.requires.first c.in-Some-not_held.ensures.0 c.requires.last
     c.self.invariant.legal.0) in
