@@ -9,6 +9,10 @@ use Rattle.bg_wire.specs.declared.reader.ReadFault.{ReadFault}
 use Rattle.bg_wire.specs.declared.reader.ReadFault.TheVariants.{Short, Field}
 use Rattle.bg_wire.specs.Reading.{Cursor, is_outside, byte_of, u8_at, number_at, u16_at, u32_at, u64_at}
 use Rattle.bg_wire.specs.Texts.{GoesOn}
+use Rattle.bg_wire.specs.SavedLayouts.{last_number, number_width, number_text}
+use Rattle.bg_wire.specs.SavedReading.{number_in}
+use Rattle.bg_wire.specs.declared.saved_layouts.Layout.{Layout}
+use Rattle.bg_wire.specs.declared.saved_layouts.Layout.TheVariants.{One, Two}
 use Rattle.bg_wire.proofs.Laws.{IsBytes, longer, Grows, HasText, cursor, Single, OneByte, FailsAt, CutAt, Law, other_text, other_fields, ok_is}
 
 IsBytes-take : (n : ℕ) (bytes : List ℕ) → IsBytes bytes → IsBytes (take n bytes)
@@ -223,3 +227,36 @@ unfolding u64_at
 u64_law =
     other_text _ (λ n front h. (h.1, h.2)) (λ n front h. (refl, h.0, h.1))
     (number_law 8 (2 ^ 64) (from_be_bytes w64) (to_be_bytes w64) (λ n. false) (λ n. refl) eight_bytes from_be_bytes-to_be_bytes_8 (omega arith))
+
+-- ---- a number of an entry, as a layout of saved texts has it
+
+abbrev pub number_limit : Layout → ℕ
+number_limit One = 2 ^ 16
+number_limit Two = 2 ^ 32
+
+abbrev pub NumberIn : Layout → ℕ → ℕ → List ℕ → Type 0
+NumberIn layout low n front =
+    (low ≤ n) × (n ≤ last_number layout) × (n < number_limit layout) × (front ≡ number_text layout n)
+
+pub last_fits : (layout : Layout) → last_number layout < number_limit layout
+last_fits One = omega arith
+last_fits Two = omega arith
+
+pub number_some : (layout : Layout) → 0 < number_width layout
+number_some One = omega arith
+number_some Two = omega arith
+
+pub number_len : (layout : Layout) (n : ℕ) → length (number_text layout n) ≡ number_width layout
+number_len One n = refl
+number_len Two n = refl
+
+pub has_number_in : (layout : Layout) (low : ℕ) → low ≤ last_number layout → HasText (NumberIn layout low)
+has_number_in layout low le =
+    let fits = last_fits layout in
+    (low, number_text layout low, (omega arith, le, omega (arith, le, fits), refl))
+
+pub number_in_law : (layout : Layout) (low : ℕ)
+    → Law (Single (number_width layout)) (number_in layout low) (NumberIn layout low)
+unfolding number_in
+number_in_law One low = u16_law low (last_number One)
+number_in_law Two low = u32_law low (last_number Two)

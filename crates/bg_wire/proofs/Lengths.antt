@@ -1,6 +1,6 @@
 -- How long texts are at most.
 use Rattle.std.proofs.Common.{◌≡◌, ℕ, ◌*◌, ◌≤◌, List, [], ◌∷◌, length, Option, Some, None, refl, ap, arith, length-append}
-use Rattle.std.specs.Int.{w16, to_be_bytes}
+use Rattle.std.specs.Int.{w32, to_be_bytes}
 use Rattle.std.specs.List.{flat_map, AllByRecursion}
 use Rattle.std.proofs.lemmas.List.Concat.{flat_map-cons}
 use Rattle.bg_board.specs.FromTo.{FromTo}
@@ -14,8 +14,11 @@ use Rattle.bg_wire.specs.declared.packets.Packet.{Packet}
 use Rattle.bg_wire.specs.declared.packets.Packet.TheVariants as packet
 use Rattle.bg_wire.specs.EntryText.{step_bytes, turn_bytes, action_bytes, entry_bytes, entries_bytes}
 use Rattle.bg_wire.specs.PacketText.{packet_text, IsPacket}
+use Rattle.bg_wire.specs.Codes.{longest_packet, longest_saved_text}
 use Rattle.bg_wire.specs.SavedReading.{front_of, text_of_front}
-use Rattle.bg_wire.specs.SavedText.{SavedParts, claim_text, saved_text, IsClaimOf, IsInLayout}
+use Rattle.bg_wire.specs.SavedLayouts.{claim_text}
+use Rattle.bg_wire.specs.declared.saved_layouts.Layout.TheVariants.{Two}
+use Rattle.bg_wire.specs.SavedText.{SavedParts, saved_text, IsClaimOf, IsInLayout}
 
 pub length-steps : (steps : List FromTo) → length (flat_map step_bytes steps) ≡ 2 * length steps
 length-steps [] = refl
@@ -45,23 +48,31 @@ length-entry_text (entry.Resigned level) h = omega arith
 length-entry_text entry.Accepted h = omega arith
 length-entry_text entry.Rejected h = omega arith
 
-length-entries_text : (entries : List Entry) → AllByRecursion IsEntry entries → length (entries_bytes entries) ≤ 10 * length entries
+length-entries_text : (entries : List Entry) → AllByRecursion IsEntry entries
+    → length (entries_bytes entries) ≤ 10 * length entries
 length-entries_text [] h = omega arith
 length-entries_text (e ∷ entries) h =
-    omega (arith, ap length (flat_map-cons entry_bytes e entries), length-append (entry_bytes e) (entries_bytes entries), length-entry_text e h.0, length-entries_text entries h.1)
+    let first = ap length (flat_map-cons entry_bytes e entries) in
+    let both = length-append (entry_bytes e) (entries_bytes entries) in
+    omega (arith, first, both, length-entry_text e h.0, length-entries_text entries h.1)
 
-pub length-packet_text : (p : Packet) → IsPacket p → length (packet_text p) ≤ 95
+pub length-packet_text : (p : Packet) → IsPacket p → length (packet_text p) ≤ longest_packet
 length-packet_text (packet.Want id sender held) h = omega arith
 length-packet_text (packet.Claim id sender number action) h = omega (arith, length-action_text action h.action_in_range)
 length-packet_text (packet.Entries id start list) h = omega (arith, length-entries_text list h.in_range, h.few)
 
-length-claim_text : (party : ℕ) (claim : Option (ℕ × Action)) → IsClaimOf party claim → length (claim_text claim) ≤ 13
+length-claim_text : (party : ℕ) (claim : Option (ℕ × Action)) → IsClaimOf party claim
+    → length (claim_text Two claim) ≤ 15
 length-claim_text party None h = omega arith
 length-claim_text party (Some claim) h = omega (arith, length-action_text claim.1 h.1.2)
 
-length-front_text : (p : SavedParts) → IsInLayout p → length (text_of_front (front_of p)) ≤ 33
-length-front_text p h = omega (arith, length-append (claim_text p.claim) (to_be_bytes w16 (length p.entries)), length-claim_text p.party p.claim h.claim)
+length-front_text : (p : SavedParts) → IsInLayout Two p → length (text_of_front (front_of Two p)) ≤ 38
+length-front_text p h =
+    let behind_save = length-append (claim_text Two p.claim) (to_be_bytes w32 (length p.entries)) in
+    omega (arith, behind_save, length-claim_text p.party p.claim h.claim)
 
-pub length-saved_text : (p : SavedParts) → IsInLayout p → length (saved_text p) ≤ 655383
+-- the text that is written
+pub length-saved_text : (p : SavedParts) → IsInLayout Two p → length (saved_text Two p) ≤ longest_saved_text
 length-saved_text p h =
-    omega (arith, length-append (text_of_front (front_of p)) (entries_bytes p.entries), length-front_text p h, length-entries_text p.entries h.in_range, h.few)
+    let all = length-append (text_of_front (front_of Two p)) (entries_bytes p.entries) in
+    omega (arith, all, length-front_text p h, length-entries_text p.entries h.in_range, h.few)

@@ -4,6 +4,8 @@ pub mod Fields
 pub mod Lengths
 pub mod EntryLaws
 pub mod PacketLaws
+pub mod SavedClaims
+pub mod SavedFronts
 pub mod SavedLaws
 pub mod SavedEntries
 pub mod Loading

@@ -18,8 +18,9 @@ use Rattle.bg_wire.specs.Reading.{Read, whole_of}
 use Rattle.bg_wire.specs.SavedText.{SavedParts, IsSavable, IsLayoutOf, IsSavedText, IsFirstIllegal, IsIllegalAt, HasEntries, parts_of}
 use Rattle.bg_wire.specs.Faults.{IsLoadFault}
 use Rattle.bg_wire.specs.SavedReading.{load_fault, saved_at, layout_of, fields_of, Replays, Loads}
-use Rattle.bg_wire.specs.declared.saved_version_one.Front.{Front}
+use Rattle.bg_wire.specs.declared.saved_layouts.Front.{Front}
 use Rattle.bg_wire.proofs.Laws.{IsBytes, from_front, is_found, is_read, is_short, has_more, is_extra, says_why}
+use Rattle.bg_wire.proofs.SavedClaims.{claim_may}
 use Rattle.bg_wire.proofs.SavedLaws.{saved_law, says_field, not_extra}
 
 -- ---- the first entry that does not follow
@@ -142,7 +143,10 @@ module _ (bytes : List ℕ) (result : Result Saved LoadFault) (loads : Loads res
     where
       go : (r : Result Saved LoadFault) → IfOk r (λ s. IsSavedText (parts_of s) bytes) → IfOk r (λ s. IsSavable (parts_of s))
       go (Err f) h = tt
-      go (Ok s) h = let r = h.layout.in_layout in record { party = r.party; first_save = r.first_save; last_save = r.last_save; claim = r.claim }
+      go (Ok s) h =
+          let r = h.layout.1.in_layout in
+          let claim = claim_may h.layout.0 s.party s.claim r.claim in
+          record { party = r.party; first_save = r.first_save; last_save = r.last_save; claim = claim }
 
   pub only : (p : SavedParts) → IsSavedText p bytes → result ≢ Err fault.Memory → IsOk result × IfOk result (λ s. parts_of s ≡ p)
   only p text ample = go result (by_layout (Ok p) (laid bytes p text.layout)) ample

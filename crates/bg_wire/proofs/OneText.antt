@@ -3,7 +3,9 @@ use Rattle.std.proofs.Common.{◌≡◌, ℕ, List, [], Some, None, refl, sym, �
 use Rattle.std.specs.Prelude.{◌⊎◌, Bool, true, false, cond, nat_lt}
 use Rattle.std.proofs.lemmas.List.{append-nil}
 use Rattle.bg_wire.specs.PacketText.{IsText}
-use Rattle.bg_wire.specs.SavedText.{SavedParts, IsSavedText}
+use Rattle.bg_wire.specs.SavedText.{SavedParts, IsSavedText, saved_text}
+use Rattle.bg_wire.specs.declared.saved_layouts.Layout.{Layout}
+use Rattle.bg_wire.specs.declared.saved_layouts.Layout.TheVariants.{One, Two}
 use Rattle.bg_wire.specs.Texts.{ArePrefixFree, IsOneText}
 use Rattle.bg_wire.specs.Restoring.{LoadsAs, newer}
 use Rattle.bg_wire.specs.SlotLaws.{FrontsLoadAsNothing, EmptyLoadsAsNothing, LoadAsOneThing, RestoreOneThing, RestoreOneOfBoth}
@@ -25,7 +27,11 @@ pub front_loads : FrontsLoadAsNothing
 front_loads p front rest h more q k = more (saved_prefix_free q p front rest k h).0
 
 pub empty_loads : EmptyLoadsAsNothing
-empty_loads p h = let e = h.layout.spelled in cc
+empty_loads p h = by_layout h.layout.0 h.layout.1.spelled
+  where
+    by_layout : (layout : Layout) → [] ≡ saved_text layout p → ⊥
+    by_layout One e = cc
+    by_layout Two e = cc
 
 pub loads_once : LoadAsOneThing
 loads_once bytes None None h k = refl

@@ -2,7 +2,7 @@
 use Rattle.std.proofs.Common.{false, ◌≡◌, ◌≢◌, ℕ, ◌<◌, ◌≤◌, List, [], ◌∷◌, ◌++◌, length, refl, sym, subst, arith, inl, inr}
 use Rattle.std.specs.Prelude.{◌==◌}
 use Rattle.std.proofs.lemmas.Bool.Decides.{nat_tests}
-use Rattle.std.specs.Int.{w16, to_be_bytes}
+use Rattle.std.specs.Int.{w32, to_be_bytes}
 use Rattle.bg_wire.specs.Codes.{magic_offset, version_offset, kind_offset, want_kind, claim_kind, entries_kind}
 use Rattle.bg_wire.specs.EntryText.{action_bytes}
 use Rattle.bg_wire.specs.declared.packets.Packet.{Packet}
@@ -27,18 +27,18 @@ has_header : (kind id : ℕ) (rest : List ℕ) → HasAll (body_fields kind) res
 has_header kind id rest h = (
   omega arith,
   omega arith,
-  (omega arith, omega arith, (omega arith, omega arith, (omega arith, omega arith, h))),
+  (omega arith, omega arith, (omega arith, omega arith, (omega arith, omega arith, (omega arith, omega arith, h)))),
 )
 
 -- a packet's text has all of the first fields
 has_fields : (p : Packet) → HasAll packet_fields (packet_text p)
 has_fields (packet.Want id sender held) =
-    has_header want_kind id (sender ∷ to_be_bytes w16 held) (omega arith, omega arith, (omega arith, omega arith, tt))
+    has_header want_kind id (sender ∷ to_be_bytes w32 held) (omega arith, omega arith, (omega arith, omega arith, tt))
 has_fields (packet.Claim id sender number a) =
-    has_header claim_kind id (sender ∷ (to_be_bytes w16 number ++ action_bytes a))
+    has_header claim_kind id (sender ∷ (to_be_bytes w32 number ++ action_bytes a))
     (omega arith, omega arith, (omega arith, omega arith, tt))
 has_fields (packet.Entries id start list) =
-    has_header entries_kind id (to_be_bytes w16 start ++ list_text list) (omega arith, omega arith, tt)
+    has_header entries_kind id (to_be_bytes w32 start ++ list_text list) (omega arith, omega arith, tt)
 
 whole : (p : Packet) (before rest : List ℕ) → IsText p (before ++ rest) → 0 < length rest
     → packet_width before ≤ length rest

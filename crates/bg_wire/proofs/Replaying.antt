@@ -11,7 +11,7 @@ use Rattle.bg_wire.specs.declared.faults.LoadFault.TheVariants as fault
 use Rattle.bg_wire.specs.Reading.{Cursor, Read, many_at, whole_of}
 use Rattle.bg_wire.specs.EntryReading.{entry_at}
 use Rattle.bg_wire.specs.declared.reader.ReadFault.{ReadFault}
-use Rattle.bg_wire.specs.declared.saved_version_one.Front.{Front}
+use Rattle.bg_wire.specs.declared.saved_layouts.Front.{Front}
 use Rattle.bg_wire.specs.SavedReading.{load_fault, entries_of, fields_of, append_fault, Passes, Replays, Loads}
 use Rattle.bg_wire.proofs.Many.{with_front, many_len, passed_of, passed_list, passed_not}
 use Rattle.bg_wire.proofs.Loading.{is_first_illegal}

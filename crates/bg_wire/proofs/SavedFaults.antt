@@ -7,7 +7,8 @@ use Rattle.bg_wire.specs.EntryText.{entries_bytes}
 use Rattle.bg_wire.specs.declared.faults.LoadFault.{LoadFault}
 use Rattle.bg_wire.specs.declared.faults.LoadFault.TheVariants as fault
 use Rattle.bg_wire.specs.declared.reader.ReadFault.TheVariants as read_fault
-use Rattle.bg_wire.specs.SavedText.{SavedParts, IsLayoutOf, IsSavedText, IsIllegalAt, IsFirstIllegal, saved_fields, saved_width}
+use Rattle.bg_wire.specs.SavedText.{SavedParts, IsLayoutOf, IsSavedText, IsIllegalAt, IsFirstIllegal, saved_width}
+use Rattle.bg_wire.specs.SavedLayouts.{saved_fields}
 use Rattle.bg_wire.specs.SavedReading.{saved_at, load_fault, front_of, text_of_front}
 use Rattle.bg_wire.specs.Faults.{IsLoadFault}
 use Rattle.bg_wire.specs.FaultLaws.{HaveOneLoadFault, SavedTextsHaveNoFault}
@@ -23,8 +24,8 @@ inside before mid some lt = inside_of saved_fields before mid some lt
 
 has_fields : (p : SavedParts) (bytes : List ℕ) → IsLayoutOf p bytes → HasAll saved_fields bytes
 has_fields p bytes h =
-    let front = front_of p in
-    subst (HasAll saved_fields) (sym h.spelled)
+    let front = front_of h.0 p in
+    subst (HasAll saved_fields) (sym h.1.spelled)
     (has_all saved_fields (text_of_front front) (entries_bytes p.entries) (front_all front))
 
 whole : (p : SavedParts) (before rest : List ℕ) → IsLayoutOf p (before ++ rest) → 0 < length rest

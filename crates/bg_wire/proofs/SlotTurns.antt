@@ -1,5 +1,5 @@
 -- Saves go to the two slots by turns, and what is restored after each.
-use Rattle.std.proofs.Common.{◌≡◌, ◌≢◌, ℕ, ◌+◌, ◌<◌, ◌%◌, List, Option, Some, None, Ok, Err, refl, sym, ◌∙◌, ap, subst, arith, inl, inr}
+use Rattle.std.proofs.Common.{◌++◌, ◌≡◌, ◌≢◌, ℕ, ◌+◌, ◌<◌, ◌%◌, List, Option, Some, None, Ok, Err, refl, sym, ◌∙◌, ap, subst, arith, inl, inr}
 use Rattle.std.specs.Prelude.{◌⊎◌, nat_lt, Bool, true, false, cond}
 use Rattle.std.proofs.lemmas.Bool.{cases_lt}
 use Rattle.std.proofs.lemmas.Bool.Decides.{nat_tests}
@@ -11,6 +11,7 @@ use Rattle.bg_wire.specs.SlotLaws.{Slots, bytes_in, with_slot, slot_number, save
 use Rattle.bg_wire.specs.declared.slots.Slot.{Slot}
 use Rattle.bg_wire.specs.declared.slots.Slot.TheVariants.{Zero, One}
 use Rattle.bg_wire.specs.declared.faults.RestoreRefusal.TheVariants as refusal
+use Rattle.bg_wire.proofs.SavedLaws.{written_is_saved}
 use Rattle.bg_wire.proofs.OneText.{front_loads, restores_once}
 
 -- ---- whose turn it is
@@ -128,11 +129,11 @@ written_restores slots old p text h =
     let lt : save_in old < p.save = omega (arith, h.next) in
     let now = sym (written_there slots here text) in
     record {
-      restore = restores_of (with_slot slots here text) here (Some p) old (Some p) (subst (IsSavedText p) now h.spelled)
+      restore = restores_of (with_slot slots here text) here (Some p) old (Some p) (subst (IsSavedText p) now (written_is_saved p text h.spelled))
           (old_stays slots old p.save text h.written h.next) (newer_before p old lt) (newer_after p old lt);
       in_its_slot = λ q e.
           let same : p ≡ q = same_Some p q e in
-          subst (λ (x : SavedParts). IsSavedText x (bytes_in (with_slot slots here text) (slot_of x.save))) same (subst (IsSavedText p) now h.spelled);
+          subst (λ (x : SavedParts). IsSavedText x (bytes_in (with_slot slots here text) (slot_of x.save))) same (subst (IsSavedText p) now (written_is_saved p text h.spelled));
     }
 
 last_of_none : (old : Option SavedParts) → old ≡ newer old None
@@ -143,7 +144,7 @@ pub torn_restores : TornIsNotRestored
 torn_restores slots old p front rest h more =
     let here = slot_of p.save in
     let new = with_slot slots here front in
-    let none = subst (λ (b : List ℕ). LoadsAs b None) (sym (written_there slots here front)) (front_loads p front rest h.spelled more) in
+    let none = subst (λ (b : List ℕ). LoadsAs b None) (sym (written_there slots here front)) (front_loads p front rest (written_is_saved p (front ++ rest) h.spelled) more) in
     record {
       restore = restores_of new here None old old none (old_stays slots old p.save front h.written h.next) refl (last_of_none old);
       in_its_slot = λ q e.

@@ -89,7 +89,7 @@ abbrev pub packet_magic : ℕ
 packet_magic = 0x4247
 
 abbrev pub packet_version : ℕ
-packet_version = 1
+packet_version = 2
 
 abbrev pub want_kind : ℕ
 want_kind = 1
@@ -105,7 +105,7 @@ most_in_packet = 8
 
 -- how many bytes a packet's text has at most
 abbrev pub longest_packet : ℕ
-longest_packet = 95
+longest_packet = 98
 
 -- how many bytes a datagram has at most
 abbrev pub longest_datagram : ℕ
@@ -122,19 +122,16 @@ version_offset = 2
 abbrev pub kind_offset : ℕ
 kind_offset = 3
 
+-- ---- the rules that a match is played by
+
+abbrev pub rules_one : ℕ
+rules_one = 1
+
 -- ---- saved texts
-
--- the bytes 42 47 53 31
-abbrev pub saved_magic : ℕ
-saved_magic = 0x42475331
-
--- the greatest number of an entry that this layout tells
-abbrev pub last_saved_number : ℕ
-last_saved_number = 65535
 
 -- how many bytes a saved text has at most
 abbrev pub longest_saved_text : ℕ
-longest_saved_text = 655383
+longest_saved_text = 10000038
 
 abbrev pub least_save : ℕ
 least_save = 1

@@ -6,6 +6,7 @@ pub mod EntryText
 pub mod EntryReading
 pub mod PacketText
 pub mod PacketReading
+pub mod SavedLayouts
 pub mod SavedText
 pub mod SavedReading
 pub mod Faults
@@ -16,4 +17,5 @@ pub mod Restoring
 pub mod SlotReading
 pub mod SlotLaws
 pub mod FaultLaws
+pub mod WrittenLaws
 pub mod FaultWords

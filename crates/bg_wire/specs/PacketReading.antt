@@ -2,8 +2,8 @@
 use Rattle.std.specs.Prelude.{◌==◌, ℕ, ◌+◌, ◌-◌, List, Result, Ok, nat_lt, if◌then◌else◌}
 use Rattle.bg_match.specs.declared.entries.Entry.{Entry}
 use Rattle.bg_match.specs.Limits.{most_entries}
-use Rattle.bg_wire.specs.Codes.{most_in_packet, packet_magic, packet_version, want_kind, claim_kind, entries_kind, magic_offset, version_offset, kind_offset, first_number, seat_of_x, seat_of_o, last_watcher}
-use Rattle.bg_wire.specs.Reading.{◌>>=◌, Cursor, Read, u8_at, u16_at, u64_at, many_at, whole_of}
+use Rattle.bg_wire.specs.Codes.{most_in_packet, packet_magic, packet_version, want_kind, claim_kind, entries_kind, magic_offset, version_offset, kind_offset, first_number, rules_one, seat_of_x, seat_of_o, last_watcher}
+use Rattle.bg_wire.specs.Reading.{◌>>=◌, Cursor, Read, u8_at, u16_at, u32_at, u64_at, many_at, whole_of}
 use Rattle.bg_wire.specs.EntryReading.{action_at, entry_at}
 use Rattle.bg_wire.specs.declared.faults.WireFault.{WireFault}
 use Rattle.bg_wire.specs.declared.faults.WireFault.TheVariants as fault
@@ -24,13 +24,13 @@ wire_fault (read_fault.Field at) =
 unfoldable pub want_at : ℕ → Cursor → Read Packet
 want_at id c = do
   sender ← u8_at seat_of_x last_watcher c
-  held ← u16_at 0 most_entries sender.1
+  held ← u32_at 0 most_entries sender.1
   Ok (packet.Want id sender.0 held.0, held.1)
 
 unfoldable pub claim_at : ℕ → Cursor → Read Packet
 claim_at id c = do
   sender ← u8_at seat_of_x seat_of_o c
-  number ← u16_at first_number most_entries sender.1
+  number ← u32_at first_number most_entries sender.1
   action ← action_at number.1
   Ok (packet.Claim id sender.0 number.0 action.0, action.1)
 
@@ -46,7 +46,7 @@ list_at start c = do
 
 unfoldable pub entries_at : ℕ → Cursor → Read Packet
 entries_at id c = do
-  start ← u16_at first_number most_entries c
+  start ← u32_at first_number most_entries c
   list ← list_at start.0 start.1
   Ok (packet.Entries id start.0 list.0, list.1)
 
@@ -61,7 +61,8 @@ body_at kind id c =
 unfoldable pub behind_kind_at : ℕ → Cursor → Read Packet
 behind_kind_at kind c = do
   id ← u64_at c
-  body_at kind id.0 id.1
+  rules ← u8_at rules_one rules_one id.1
+  body_at kind id.0 rules.1
 
 unfoldable pub packet_at : Cursor → Read Packet
 packet_at c = do

@@ -1,29 +1,30 @@
 -- The one text of each packet.
 use Rattle.std.specs.Prelude.{◌≡◌, ℕ, ◌+◌, ◌<◌, ◌≤◌, ◌^◌, List, [], ◌∷◌, ◌++◌, length, ◌==◌, if◌then◌else◌}
 use Rattle.std.specs.List.{AllByRecursion}
-use Rattle.std.specs.Int.{w16, w64, to_be_bytes}
+use Rattle.std.specs.Int.{w16, w32, w64, to_be_bytes}
 use Rattle.bg_match.specs.Entry.{IsEntry, IsAction}
 use Rattle.bg_match.specs.declared.actions.Action.{Action}
 use Rattle.bg_match.specs.declared.entries.Entry.{Entry}
 use Rattle.bg_match.specs.Limits.{most_entries}
-use Rattle.bg_wire.specs.Codes.{most_in_packet, packet_magic, packet_version, want_kind, claim_kind, entries_kind, first_number, seat_of_x, seat_of_o, last_watcher}
+use Rattle.bg_wire.specs.Codes.{most_in_packet, packet_magic, packet_version, want_kind, claim_kind, entries_kind, first_number, rules_one, seat_of_x, seat_of_o, last_watcher}
 use Rattle.bg_wire.specs.Fields.{Fields, Done, Field, first_byte, width_of}
 use Rattle.bg_wire.specs.EntryText.{action_bytes, entries_bytes}
 use Rattle.bg_wire.specs.declared.packets.Packet.{Packet}
 use Rattle.bg_wire.specs.declared.packets.Packet.TheVariants as packet
 
 abbrev pub header_text : ℕ → ℕ → List ℕ
-header_text kind id = to_be_bytes w16 packet_magic ++ (packet_version ∷ kind ∷ to_be_bytes w64 id)
+header_text kind id =
+    to_be_bytes w16 packet_magic ++ (packet_version ∷ kind ∷ (to_be_bytes w64 id ++ rules_one ∷ []))
 
 -- the count of the entries, then each
 abbrev pub list_text : List Entry → List ℕ
 list_text list = length list ∷ entries_bytes list
 
 abbrev pub packet_text : Packet → List ℕ
-packet_text (packet.Want id sender held) = header_text want_kind id ++ (sender ∷ to_be_bytes w16 held)
+packet_text (packet.Want id sender held) = header_text want_kind id ++ (sender ∷ to_be_bytes w32 held)
 packet_text (packet.Claim id sender number action) =
-    header_text claim_kind id ++ (sender ∷ (to_be_bytes w16 number ++ action_bytes action))
-packet_text (packet.Entries id start list) = header_text entries_kind id ++ (to_be_bytes w16 start ++ list_text list)
+    header_text claim_kind id ++ (sender ∷ (to_be_bytes w32 number ++ action_bytes action))
+packet_text (packet.Entries id start list) = header_text entries_kind id ++ (to_be_bytes w32 start ++ list_text list)
 
 pub record IsWant (id sender held : ℕ) : Type 0 where
   pub id_fits : id < 2 ^ 64
@@ -62,13 +63,14 @@ pub record IsText (p : Packet) (bytes : List ℕ) : Type 0 where
 -- the fields behind the header, by the kind. Behind them each byte is a field, of an action or of the list of entries
 abbrev pub body_fields : ℕ → Fields
 body_fields kind =
-    if kind == want_kind then Field 1 (λ sender. Field 2 (λ held. Done))
-    else if kind == claim_kind then Field 1 (λ sender. Field 2 (λ number. Done))
-    else Field 2 (λ start. Done)
+    if kind == want_kind then Field 1 (λ sender. Field 4 (λ held. Done))
+    else if kind == claim_kind then Field 1 (λ sender. Field 4 (λ number. Done))
+    else Field 4 (λ start. Done)
 
 abbrev pub packet_fields : Fields
 packet_fields =
-    Field 2 (λ magic. Field 1 (λ version. Field 1 (λ kind. Field 8 (λ id. body_fields (first_byte kind)))))
+    Field 2 (λ magic. Field 1 (λ version. Field 1 (λ kind. Field 8 (λ id. Field 1 (λ rules.
+    body_fields (first_byte kind))))))
 
 -- the width of the field that begins behind these bytes of a packet
 abbrev pub packet_width : List ℕ → ℕ

@@ -5,17 +5,20 @@ use Rattle.bg_match.specs.declared.entries.Entry.{Entry}
 use Rattle.bg_match.specs.declared.entries.EntryFault.{EntryFault}
 use Rattle.bg_match.specs.declared.entries.EntryFault.TheVariants as entry_fault
 use Rattle.bg_match.specs.Limits.{shortest_match, longest_match}
-use Rattle.bg_wire.specs.Codes.{last_saved_number, first_number, referee, seat_of_o, saved_magic, magic_offset, no_claim_flag, claim_flag, least_save, greatest_save}
+use Rattle.bg_wire.specs.Codes.{first_number, rules_one, referee, seat_of_o, magic_offset, no_claim_flag, claim_flag, least_save, greatest_save}
 use Rattle.bg_wire.specs.Reading.{◌>>=◌, Cursor, Read, u8_at, u16_at, u32_at, u64_at, many_at, whole_of}
 use Rattle.bg_wire.specs.EntryReading.{action_at, entry_at}
 use Rattle.bg_match.specs.Match.{Log, IsLegalRecord}
-use Rattle.bg_wire.specs.SavedText.{SavedParts, front_text, parts_of, IsFirstIllegal}
+use Rattle.bg_wire.specs.SavedText.{SavedParts, parts_of, IsFirstIllegal}
 use Rattle.bg_wire.specs.declared.saves.Saved.{Saved}
 use Rattle.bg_wire.specs.declared.faults.LoadFault.{LoadFault}
 use Rattle.bg_wire.specs.declared.faults.LoadFault.TheVariants as fault
 use Rattle.bg_wire.specs.declared.reader.ReadFault.{ReadFault}
 use Rattle.bg_wire.specs.declared.reader.ReadFault.TheVariants as read_fault
-use Rattle.bg_wire.specs.declared.saved_version_one.Front.{Front}
+use Rattle.bg_wire.specs.declared.saved_layouts.Front.{Front}
+use Rattle.bg_wire.specs.declared.saved_layouts.Layout.{Layout}
+use Rattle.bg_wire.specs.declared.saved_layouts.Layout.TheVariants.{One, Two}
+use Rattle.bg_wire.specs.SavedLayouts.{magic_of, last_number, front_text, layout_of_magic}
 
 -- the first field has a fault of its own
 abbrev pub load_fault : ReadFault → LoadFault
@@ -26,24 +29,35 @@ load_fault (read_fault.Field at) = if at == magic_offset then fault.Magic else f
 abbrev pub most_flag : ℕ → ℕ
 most_flag party = if party == referee then no_claim_flag else claim_flag
 
-unfoldable pub kept_claim_at : Cursor → Read (Option (ℕ × Action))
-kept_claim_at c = do
-  number ← u16_at first_number last_saved_number c
+-- a number of an entry, from low to the greatest of the layout
+unfoldable pub number_in : Layout → ℕ → Cursor → Read ℕ
+number_in One low = u16_at low (last_number One)
+number_in Two low = u32_at low (last_number Two)
+
+unfoldable pub kept_claim_in : Layout → Cursor → Read (Option (ℕ × Action))
+kept_claim_in layout c = do
+  number ← number_in layout first_number c
   action ← action_at number.1
   Ok (Some (number.0, action.0), action.1)
 
 -- what follows the claim flag
-abbrev pub flagged_at : ℕ → Cursor → Read (Option (ℕ × Action))
-flagged_at flag c = if flag == no_claim_flag then Ok (None, c) else kept_claim_at c
+abbrev pub flagged_in : Layout → ℕ → Cursor → Read (Option (ℕ × Action))
+flagged_in layout flag c = if flag == no_claim_flag then Ok (None, c) else kept_claim_in layout c
 
-unfoldable pub saved_claim_at : ℕ → Cursor → Read (Option (ℕ × Action))
-saved_claim_at party c = do
+unfoldable pub saved_claim_in : Layout → ℕ → Cursor → Read (Option (ℕ × Action))
+saved_claim_in layout party c = do
   flag ← u8_at no_claim_flag (most_flag party) c
-  flagged_at flag.0 flag.1
+  flagged_in layout flag.0 flag.1
+
+-- the rules, where they are told
+unfoldable pub rules_in : Layout → Cursor → Read ℕ
+rules_in One c = Ok (rules_one, c)
+rules_in Two c = u8_at rules_one rules_one c
 
 -- what stands before the entries, as its reader holds it
-abbrev pub front_of : SavedParts → Front
-front_of p = record {
+abbrev pub front_of : Layout → SavedParts → Front
+front_of layout p = record {
+  layout = layout;
   party = p.party;
   id = p.id;
   terms = p.terms;
@@ -54,18 +68,35 @@ front_of p = record {
 
 -- its text
 abbrev pub text_of_front : Front → List ℕ
-text_of_front f = front_text f.party f.id f.terms f.save f.claim f.count
+text_of_front f = front_text f.layout f.party f.id f.terms f.save f.claim f.count
+
+-- what stands behind the magic
+unfoldable pub front_in : Layout → Cursor → Read Front
+front_in layout c = do
+  party ← u8_at referee seat_of_o c
+  id ← u64_at party.1
+  terms ← u8_at shortest_match longest_match id.1
+  rules ← rules_in layout terms.1
+  save ← u32_at least_save greatest_save rules.1
+  claim ← saved_claim_in layout party.0 save.1
+  count ← number_in layout 0 claim.1
+  Ok (
+    record {
+      layout = layout;
+      party = party.0;
+      id = id.0;
+      terms = terms.0;
+      save = save.0;
+      claim = claim.0;
+      count = count.0;
+    },
+    count.1,
+  )
 
 unfoldable pub front_at : Cursor → Read Front
 front_at c = do
-  magic ← u32_at saved_magic saved_magic c
-  party ← u8_at referee seat_of_o magic.1
-  id ← u64_at party.1
-  terms ← u8_at shortest_match longest_match id.1
-  save ← u32_at least_save greatest_save terms.1
-  claim ← saved_claim_at party.0 save.1
-  count ← u16_at 0 last_saved_number claim.1
-  Ok (record { party = party.0; id = id.0; terms = terms.0; save = save.0; claim = claim.0; count = count.0 }, count.1)
+  magic ← u32_at (magic_of One) (magic_of Two) c
+  front_in (layout_of_magic magic.0) magic.1
 
 abbrev pub parts_of_front : Front → List Entry → SavedParts
 parts_of_front f entries = record {

@@ -41,3 +41,6 @@ pub(crate) const MOST_STEPS: u8 = 4;
 
 /// The number of the first entry of a match.
 pub(crate) const FIRST_ENTRY: Number = 1;
+
+/// The rules that a match is played by.
+pub(crate) const RULES_ONE: u8 = 1;

@@ -41,7 +41,7 @@ fn wire_faults(rt: HostRuntime) -> Result<(), AllocError> {
     check_wire(&rt, WireFault::Magic, "bad magic")?;
     check_wire(&rt, WireFault::Version, "bad version")?;
     check_wire(&rt, WireFault::Kind, "bad kind")?;
-    check_wire(&rt, WireFault::Field(94), "bad field at 94")?;
+    check_wire(&rt, WireFault::Field(97), "bad field at 97")?;
     check_wire(&rt, WireFault::Extra, "extra bytes")
 }
 
@@ -49,9 +49,9 @@ fn wire_faults(rt: HostRuntime) -> Result<(), AllocError> {
 fn load_faults(rt: HostRuntime) -> Result<(), AllocError> {
     check_load(&rt, LoadFault::Short, "short")?;
     check_load(&rt, LoadFault::Magic, "bad magic")?;
-    check_load(&rt, LoadFault::Field(655382), "bad field at 655382")?;
+    check_load(&rt, LoadFault::Field(10000037), "bad field at 10000037")?;
     check_load(&rt, LoadFault::Extra, "extra bytes")?;
-    check_load(&rt, LoadFault::Illegal(65535), "illegal entry 65535")?;
+    check_load(&rt, LoadFault::Illegal(1000000), "illegal entry 1000000")?;
     check_load(&rt, LoadFault::Memory, "out of memory")
 }
 

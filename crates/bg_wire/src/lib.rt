@@ -8,7 +8,7 @@
 //!     held: 0,
 //! };
 //! let bytes = encode(&packet);
-//! assert!(rt; bytes.len() == 15 && decode(bytes.as_slice()) == Ok(packet));
+//! assert!(rt; bytes.len() == 18 && decode(bytes.as_slice()) == Ok(packet));
 //! ```
 #![tactic(auto)]
 
@@ -20,20 +20,28 @@ mod entry_writing;
 mod fault_tests;
 mod fault_words;
 mod faults;
-mod packet_version_one;
+mod packet_layout;
+#[cfg(test)]
+mod packet_tests;
 mod packets;
 mod parties;
 mod reader;
+#[cfg(test)]
+mod refused_packet_tests;
+#[cfg(test)]
+mod refused_save_tests;
 mod restoring;
 #[cfg(test)]
 mod restoring_tests;
-mod saved_version_one;
+mod saved_layouts;
+#[cfg(test)]
+mod saved_tests;
 mod saves;
 mod saving;
 mod slot_laws;
 mod slots;
 #[cfg(test)]
-mod tests;
+mod test_bytes;
 
 pub use codec::{decode, encode, packet_texts_are_prefix_free};
 pub use faults::{LoadFault, RestoreRefusal, SaveRefusal, WireFault};
@@ -47,6 +55,6 @@ pub use saves::{FIRST_SAVE, LAST_SAVE, LONGEST_SAVED_TEXT, Saved};
 pub use saving::{load, next_save, save_text, saved_texts_are_prefix_free};
 pub use slot_laws::{
     laws_of_constants, laws_of_faults, laws_of_loading, laws_of_restoring, laws_of_saving,
-    laws_of_texts,
+    laws_of_texts, laws_of_written_texts,
 };
 pub use slots::Slot;

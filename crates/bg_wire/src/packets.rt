@@ -15,7 +15,7 @@ const ENTRY_ROOM: usize = MOST_ENTRIES_IN_PACKET as usize;
 pub const MOST_DATAGRAM_BYTES: usize = 128;
 
 /// The most bytes of a packet's text.
-pub const LONGEST_PACKET: usize = 95;
+pub const LONGEST_PACKET: usize = 98;
 
 /// At most eight entries that follow each other. Contracts see it as the list of its entries.
 #[derive(Debug, PartialEq, Eq, Drop)]
@@ -45,7 +45,7 @@ pub enum Packet {
         id: u64,
         /// The party that asks, from 1 to 255.
         sender: u8,
-        /// How many entries it holds, from 0 to 65535.
+        /// How many entries it holds, from 0 to 1000000.
         held: Number,
     },
     /// A seat claims an action.
@@ -54,7 +54,7 @@ pub enum Packet {
         id: u64,
         /// The seat's party, 1 or 2.
         sender: u8,
-        /// The number of the entry that shall answer the action, from 1 to 65535.
+        /// The number of the entry that shall answer the action, from 1 to 1000000.
         number: Number,
         /// What the seat does.
         action: Action,
@@ -63,7 +63,7 @@ pub enum Packet {
     Entries {
         /// The number of the match.
         id: u64,
-        /// The number of the first of these entries, from 1 to 65535. The number of the last is at most 65535.
+        /// The number of the first of these entries, from 1 to 1000000. The number of the last is at most 1000000.
         start: Number,
         /// The entries, from 1 to 8.
         list: EntryList,

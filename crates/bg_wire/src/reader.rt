@@ -64,10 +64,10 @@ impl<'a> Reader<'a> {
     }
 
     /// So many, and no more than there are bytes left.
-    pub(crate) fn at_most(&self, count: u16) -> u16
+    pub(crate) fn at_most(&self, count: u32) -> u32
         ensures { result ≤ count }
     {
-        u16::try_from(self.rest.len()).unwrap_or(count).min(count)
+        u32::try_from(self.rest.len()).unwrap_or(count).min(count)
     }
 
     /// A byte from low to high.
@@ -111,7 +111,9 @@ impl<'a> Reader<'a> {
     /// A number of four bytes, from low to high.
     #[tactic(auto, unfolding(crate::specs::Reading::u32_at))]
     pub(crate) fn read_u32(&mut self, low: u32, high: u32) -> Result<u32, ReadFault>
-        ensures { Reads result self.new (u32_at low high self.old) }
+        ensures reads { Reads result self.new (u32_at low high self.old) }
+        ensures low { IfOk result (λ number. low ≤ number) }
+        ensures high { IfOk result (λ number. number ≤ high) }
     {
         let Some((bytes, rest)) = self.rest.split_first_chunk::<4>() else {
             return Err(ReadFault::Short);

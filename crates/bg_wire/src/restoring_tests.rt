@@ -1,26 +1,31 @@
 //! What two slots restore: worked slots, torn texts, and which of two counts.
+use crate::saved_tests::OLD_REFEREE_SAVE;
+use crate::test_bytes::with_byte;
 use crate::{RestoreRefusal, restore};
 use bg_match::Number;
 use std::alloc::Global;
 use std::process::Abort;
 
 /// The referee's save 3 of match 1, of length 1, which holds the opening 3 1.
-const THIRD: [u8; 24] = [
-    0x42, 0x47, 0x53, 0x31, 0, 0, 0, 0, 0, 0, 0, 0, 0x01, 0x01, 0, 0, 0, 0x03, 0, 0, 0x01, 0x01,
-    0x03, 0x01,
+const THIRD: [u8; 27] = [
+    0x42, 0x47, 0x53, 0x32, 0, 0, 0, 0, 0, 0, 0, 0, 0x01, 0x01, 0x01, 0, 0, 0, 0x03, 0, 0, 0, 0,
+    0x01, 0x01, 0x03, 0x01,
 ];
 
 /// Its save 4, with the turn 8-5 6-5 after it.
-const FOURTH: [u8; 30] = [
-    0x42, 0x47, 0x53, 0x31, 0, 0, 0, 0, 0, 0, 0, 0, 0x01, 0x01, 0, 0, 0, 0x04, 0, 0, 0x02, 0x01,
-    0x03, 0x01, 0x06, 0x02, 0x08, 0x05, 0x06, 0x05,
+const FOURTH: [u8; 33] = [
+    0x42, 0x47, 0x53, 0x32, 0, 0, 0, 0, 0, 0, 0, 0, 0x01, 0x01, 0x01, 0, 0, 0, 0x04, 0, 0, 0, 0,
+    0x02, 0x01, 0x03, 0x01, 0x06, 0x02, 0x08, 0x05, 0x06, 0x05,
 ];
 
 /// A save 3 that holds both entries.
-const OTHER_THIRD: [u8; 30] = [
-    0x42, 0x47, 0x53, 0x31, 0, 0, 0, 0, 0, 0, 0, 0, 0x01, 0x01, 0, 0, 0, 0x03, 0, 0, 0x02, 0x01,
-    0x03, 0x01, 0x06, 0x02, 0x08, 0x05, 0x06, 0x05,
+const OTHER_THIRD: [u8; 33] = [
+    0x42, 0x47, 0x53, 0x32, 0, 0, 0, 0, 0, 0, 0, 0, 0x01, 0x01, 0x01, 0, 0, 0, 0x03, 0, 0, 0, 0,
+    0x02, 0x01, 0x03, 0x01, 0x06, 0x02, 0x08, 0x05, 0x06, 0x05,
 ];
+
+/// Its save 2 in the first layout, which holds both entries too.
+const OLD_SECOND: [u8; 30] = OLD_REFEREE_SAVE;
 
 /// What the referee of match 1 restores: the numbers of the save and of its entries, if there is one.
 fn restored(
@@ -60,7 +65,7 @@ fn cut_texts(rt: HostRuntime) {
 fn no_texts(rt: HostRuntime) {
     let damaged = Err(RestoreRefusal::Damaged);
     check_restored(&rt, &[], &[], Ok(None));
-    check_restored(&rt, &[], &THIRD[..23], Ok(None));
+    check_restored(&rt, &[], &THIRD[..26], Ok(None));
     check_restored(&rt, &[], &[42], Ok(None));
     check_restored(&rt, &[42], &[42], damaged);
     check_restored(&rt, &[42], &[], damaged);
@@ -68,7 +73,7 @@ fn no_texts(rt: HostRuntime) {
     check_restored(&rt, &[0x42], &[0x42], damaged);
     check_restored(&rt, &[0x42], &[], damaged);
     check_restored(&rt, &[], &[0x42], Ok(None));
-    check_restored(&rt, &THIRD[..23], &FOURTH[..29], damaged);
+    check_restored(&rt, &THIRD[..26], &FOURTH[..32], damaged);
 }
 
 /// Of two saves with one number the one in slot 0 counts, and the number counts before the length of the text.
@@ -78,6 +83,31 @@ fn equal_saves(rt: HostRuntime) {
     check_restored(&rt, &OTHER_THIRD, &THIRD, Ok(Some((3, 2))));
     check_restored(&rt, &[], &THIRD, Ok(Some((3, 1))));
     check_restored(&rt, &THIRD, &[], Ok(Some((3, 1))));
+}
+
+/// A text of the first layout is restored, and the number of its save decides against one of the second.
+#[test]
+fn old_texts(rt: HostRuntime) {
+    check_restored(&rt, &OLD_SECOND, &[], Ok(Some((2, 2))));
+    check_restored(&rt, &OLD_SECOND, &THIRD, Ok(Some((3, 1))));
+    check_restored(&rt, &THIRD, &OLD_SECOND, Ok(Some((3, 1))));
+    let old_fifth = with_byte(&rt, &OLD_SECOND, 17, 5);
+    check_restored(&rt, old_fifth.as_slice(), &THIRD, Ok(Some((5, 2))));
+    check_restored(&rt, &THIRD, old_fifth.as_slice(), Ok(Some((5, 2))));
+    // Of equal numbers the one in slot 0 counts, in whichever layout.
+    let old_third = with_byte(&rt, &OLD_SECOND, 17, 3);
+    check_restored(&rt, old_third.as_slice(), &THIRD, Ok(Some((3, 2))));
+    check_restored(&rt, &THIRD, old_third.as_slice(), Ok(Some((3, 1))));
+}
+
+/// Every cut of a text of the first layout leaves the other one.
+#[test]
+fn cut_old_texts(rt: HostRuntime) {
+    let old_fifth = with_byte(&rt, &OLD_SECOND, 17, 5);
+    for cut in 0..OLD_SECOND.len() {
+        let torn = old_fifth.as_slice().get(..cut).expect(&rt, "a front");
+        check_restored(&rt, torn, &THIRD, Ok(Some((3, 1))));
+    }
 }
 
 /// The refusal of a party of a match, of slots that have save 4 and save 3.

@@ -7,7 +7,7 @@ pub const FIRST_SAVE: u32 = 1;
 pub const LAST_SAVE: u32 = u32::MAX;
 
 /// The most bytes of a saved text.
-pub const LONGEST_SAVED_TEXT: usize = 655_383;
+pub const LONGEST_SAVED_TEXT: usize = 10_000_038;
 
 /// What a party keeps over a restart (docs/FORMATS.md, "Saved files").
 #[derive(Debug, Drop)]
@@ -16,7 +16,7 @@ pub struct Saved {
     pub party: u8,
     /// The number of the save, from 1.
     pub save: u32,
-    /// The last claim of a seat, with the number of the entry that shall answer it, from 1 to 65535. The referee has
+    /// The last claim of a seat, with the number of the entry that shall answer it, from 1 to 1000000. The referee has
     /// none.
     pub claim: Option<(Number, Action)>,
     /// The match, as far as the party knows it.

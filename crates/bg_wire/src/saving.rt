@@ -16,12 +16,12 @@ ghost use Rattle.bg_wire.specs.SavedReading.{layout_of, entries_of, append_fault
 use crate::entry_reading::entry;
 use crate::entry_writing::put_entry;
 use crate::reader::Reader;
-use crate::{LoadFault, SaveRefusal, Saved, Slot, saved_version_one as layout};
+use crate::{LoadFault, SaveRefusal, Saved, Slot, saved_layouts as layout};
 use arrayvec::ArrayVec;
 use bg_match::{Action, EntryFault, MOST_ENTRIES, Number, Record};
 use std::alloc::{AllocError, Global};
 
-/// The saved text, at most 655383 bytes (docs/FORMATS.md, "Saved files").
+/// The saved text, at most 10000038 bytes (docs/FORMATS.md, "Saved files").
 ///
 /// # Errors
 /// AllocError where there is no memory for it.

@@ -7,6 +7,7 @@ ghost use Rattle.bg_wire.specs.Texts.{IsOneText};
 ghost use Rattle.bg_wire.specs.FaultLaws.{HaveOneWireFault, PacketsHaveNoFault, HaveOneLoadFault, SavedTextsHaveNoFault};
 ghost use Rattle.bg_wire.specs.SlotLaws.{FrontsLoadAsNothing, EmptyLoadsAsNothing, LoadAsOneThing, RestoreOneThing, RestoreOneOfBoth};
 ghost use Rattle.bg_wire.specs.SlotLaws.{GoesByTurns, NextGoesToTheOther, WrittenIsRestored, TornIsNotRestored, GivesWhatSlotsRestore};
+ghost use Rattle.bg_wire.specs.WrittenLaws.{HaveWrittenText, HaveOneWrittenText, WrittenAreSaved};
 
 use crate::{FIRST_WATCHER, LONGEST_PACKET, LONGEST_SAVED_TEXT, MOST_DATAGRAM_BYTES};
 
@@ -30,6 +31,13 @@ pub fn laws_of_faults()
 pub fn laws_of_texts()
     ensures packets { IsOneText IsText }
     ensures saved { IsOneText IsSavedText }
+{}
+
+/// What may be saved has one text that is written, and that is a saved text of the same value.
+pub fn laws_of_written_texts()
+    ensures some { HaveWrittenText }
+    ensures one { HaveOneWrittenText }
+    ensures saved { WrittenAreSaved }
 {}
 
 /// What bytes load as: one thing, and nothing where they are empty, or a saved text that was cut short.

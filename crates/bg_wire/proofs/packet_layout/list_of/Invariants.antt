@@ -2,7 +2,7 @@ use Rattle.std.proofs.Common.{◌≡◌, ◌-◌, length}
 use Rattle.bg_wire.specs.Reading.{many_at}
 use Rattle.bg_wire.specs.EntryReading.{entry_at}
 use Rattle.bg_wire.proofs.Many.{with_front}
-use Rattle.bg_wire.proofs.packet_version_one.list_of.Given as goal
+use Rattle.bg_wire.proofs.packet_layout.list_of.Given as goal
 
 abbrev pub invariant-loop : goal.invariant-loop
 invariant-loop l = record {

@@ -2,7 +2,7 @@ use Rattle.bg_wire.specs.Reading.{many_at}
 use Rattle.bg_wire.specs.EntryReading.{entry_at}
 use Rattle.bg_wire.proofs.Many.{passed_of, passes, stops, passed_all}
 use Rattle.bg_wire.proofs.Replaying.{passes_not, passes_to}
-use Rattle.bg_wire.proofs.saved_version_one.pass_entries.Goals as goal
+use Rattle.bg_wire.proofs.saved_layouts.pass_entries.Goals as goal
 
 pub returns-in-Err : goal.returns-in-Err
 returns-in-Err c =

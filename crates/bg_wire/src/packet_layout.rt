@@ -1,6 +1,6 @@
-//! The layout of packets, version 1 (docs/FORMATS.md, "Packets").
+//! The layout of packets, version 2 (docs/FORMATS.md, "Packets").
 ghost use Rattle.std.specs.Prelude.{◌≡◌, ◌≤◌, ◌+◌, ◌++◌, length};
-ghost use Rattle.std.specs.Int.{w16, w64, to_be_bytes};
+ghost use Rattle.std.specs.Int.{w32, to_be_bytes};
 ghost use Rattle.std.specs.List.{AllByRecursion};
 ghost use Rattle.bg_match.specs.Limits.{most_entries};
 ghost use Rattle.arrayvec.specs.ArrayVec.{array_vec_len};
@@ -10,7 +10,7 @@ ghost use Rattle.bg_wire.specs.EntryReading.{entry_at};
 ghost use Rattle.bg_wire.specs.PacketText.{IsPacket, header_text, list_text, packet_text};
 ghost use Rattle.bg_wire.specs.PacketReading.{want_at, claim_at, most_from, list_at, entries_at, behind_kind_at, body_at, packet_at, wire_fault};
 
-use crate::codes::FIRST_ENTRY;
+use crate::codes::{FIRST_ENTRY, RULES_ONE};
 use crate::entry_reading::{action, entry};
 use crate::entry_writing::{Bytes, put_action, put_entry};
 use crate::reader::{ReadFault, Reader};
@@ -25,7 +25,7 @@ use bg_match::{MOST_ENTRIES, Number};
 pub(crate) const MAGIC: u16 = 0x4247;
 
 /// The version that this layout is of.
-pub(crate) const VERSION: u8 = 1;
+pub(crate) const VERSION: u8 = 2;
 
 /// The kind of a Want.
 pub(crate) const WANT: u8 = 1;
@@ -65,7 +65,7 @@ fn want(reader: &mut Reader<'_>, id: u64) -> Result<Packet, ReadFault>
     ensures { Reads result reader.new (want_at id reader.old) }
 {
     let sender = reader.read_u8(SEAT_OF_X, LAST_WATCHER)?;
-    let held = reader.read_u16(0, MOST_ENTRIES)?;
+    let held = reader.read_u32(0, MOST_ENTRIES)?;
     Ok(Packet::Want { id, sender, held })
 }
 
@@ -74,7 +74,7 @@ fn claim(reader: &mut Reader<'_>, id: u64) -> Result<Packet, ReadFault>
     ensures { Reads result reader.new (claim_at id reader.old) }
 {
     let sender = reader.read_u8(SEAT_OF_X, SEAT_OF_O)?;
-    let number = reader.read_u16(FIRST_ENTRY, MOST_ENTRIES)?;
+    let number = reader.read_u32(FIRST_ENTRY, MOST_ENTRIES)?;
     let action = action(reader)?;
     Ok(Packet::Claim {
         id,
@@ -124,7 +124,7 @@ fn list(reader: &mut Reader<'_>, start: Number) -> Result<EntryList, ReadFault>
 fn entries(reader: &mut Reader<'_>, id: u64) -> Result<Packet, ReadFault>
     ensures { Reads result reader.new (entries_at id reader.old) }
 {
-    let start = reader.read_u16(FIRST_ENTRY, MOST_ENTRIES)?;
+    let start = reader.read_u32(FIRST_ENTRY, MOST_ENTRIES)?;
     let list = list(reader, start)?;
     Ok(Packet::Entries { id, start, list })
 }
@@ -147,6 +147,7 @@ fn behind_kind(reader: &mut Reader<'_>, kind: u8) -> Result<Packet, ReadFault>
     ensures { Reads result reader.new (behind_kind_at kind reader.old) }
 {
     let id = reader.read_u64()?;
+    reader.read_u8(RULES_ONE, RULES_ONE)?;
     body(reader, kind, id)
 }
 
@@ -162,8 +163,8 @@ pub(crate) fn packet(reader: &mut Reader<'_>) -> Result<Packet, ReadFault>
 }
 
 fn put_number(out: &mut Bytes, number: Number)
-    requires { array_vec_len out.old + 2 ≤ MOST_DATAGRAM_BYTES }
-    ensures { out.new.items ≡ out.old.items ++ to_be_bytes w16 number }
+    requires { array_vec_len out.old + 4 ≤ MOST_DATAGRAM_BYTES }
+    ensures { out.new.items ≡ out.old.items ++ to_be_bytes w32 number }
 {
     out.try_extend_from_slice(&number.to_be_bytes()).unwrap()
 }
@@ -189,6 +190,7 @@ fn header(kind: u8, id: u64) -> Bytes
     out.push(VERSION);
     out.push(kind);
     out.try_extend_from_slice(&id.to_be_bytes()).unwrap();
+    out.push(RULES_ONE);
     out
 }
 

@@ -1,7 +1,7 @@
 use Rattle.std.proofs.Common.{ap, ◌∙◌, sym}
 use Rattle.bg_wire.specs.SavedReading.{front_at}
 use Rattle.bg_wire.proofs.SavedLaws.{front_fails, by_entries}
-use Rattle.bg_wire.proofs.saved_version_one.split_front.Goals as goal
+use Rattle.bg_wire.proofs.saved_layouts.split_front.Goals as goal
 
 pub returns-in-Ok-clause-reads : goal.returns-in-Ok-clause-reads
 returns-in-Ok-clause-reads c = by_entries c.args.bytes.now c.in-Ok.front c.read_front.new.reader (ap front_at (sym c.new-reader.ensures) ∙ c.in-Ok.ensures.reads)

@@ -1,7 +1,7 @@
 use Rattle.std.proofs.Common.{◌≡◌, ◌+◌, ◌*◌, ◌++◌, ◌∷◌, ◌≤◌, length, take}
 use Rattle.std.specs.List.{flat_map}
 use Rattle.bg_wire.specs.EntryText.{entry_bytes}
-use Rattle.bg_wire.proofs.packet_version_one.put_list.Given as goal
+use Rattle.bg_wire.proofs.packet_layout.put_list.Given as goal
 
 abbrev pub invariant-loop-entry : goal.invariant-loop-entry
 invariant-loop-entry l = record {

@@ -1,14 +1,15 @@
-//! The layout of saved texts, version 1 (docs/FORMATS.md, "Saved files").
+//! The layouts of saved texts: the first, which is only read, and the second (docs/FORMATS.md, "Saved files").
 ghost use Rattle.std.specs.Prelude.{◌≡◌, ◌≤◌, ◌+◌, ◌++◌, ◌==◌, Ok, Err, if◌then◌else◌, length, IfOk};
 ghost use Rattle.arrayvec.specs.ArrayVec.{array_vec_len};
 ghost use Rattle.bg_match.specs.Limits.{longest_match, shortest_match};
 ghost use Rattle.bg_match.specs.Match.{IsLegalRecord};
 ghost use Rattle.bg_wire.specs.Reading.{Reads};
 ghost use Rattle.bg_wire.specs.declared.faults.LoadFault.{LoadFault as Fault};
-ghost use Rattle.bg_wire.specs.SavedText.{IsSavable, IsKeptClaim, IsInLayout, parts_with, front_text, claim_text};
-ghost use Rattle.bg_wire.specs.SavedReading.{most_flag, kept_claim_at, saved_claim_at, front_at, load_fault, entries_of, ReadsFront, Passes};
+ghost use Rattle.bg_wire.specs.SavedLayouts.{layout_of_magic, claim_text, front_text};
+ghost use Rattle.bg_wire.specs.SavedText.{IsSavable, IsKeptClaim, IsInLayout, parts_with};
+ghost use Rattle.bg_wire.specs.SavedReading.{most_flag, number_in, kept_claim_in, saved_claim_in, rules_in, front_in, front_at, load_fault, entries_of, ReadsFront, Passes};
 
-use crate::codes::FIRST_ENTRY;
+use crate::codes::{FIRST_ENTRY, RULES_ONE};
 use crate::entry_reading::{action, entry};
 use crate::entry_writing::{Bytes, put_action};
 use crate::reader::{ReadFault, Reader};
@@ -16,8 +17,12 @@ use crate::{FIRST_SAVE, LAST_SAVE, LoadFault, MOST_DATAGRAM_BYTES, REFEREE, SEAT
 use arrayvec::ArrayVec;
 use bg_match::{Action, LONGEST_MATCH, MOST_ENTRIES, Number, Record, SHORTEST_MATCH, Terms};
 
-/// What every saved text of this version begins with, as a number of four bytes.
-pub(crate) const MAGIC: u32 = 0x4247_5331;
+/// What every text of the first layout begins with, as a number of four bytes.
+pub(crate) const FIRST_MAGIC: u32 = 0x4247_5331;
+/// What every text of the second layout begins with: the next number, so that both are one field.
+pub(crate) const SECOND_MAGIC: u32 = 0x4247_5332;
+/// The greatest number of an entry in the first layout.
+pub(crate) const FIRST_MOST_ENTRIES: u16 = u16::MAX;
 /// The offset of the field whose fault has a name of its own.
 pub(crate) const MAGIC_AT: usize = 0;
 
@@ -26,9 +31,19 @@ pub(crate) const NO_CLAIM: u8 = 0;
 /// The flag where one is kept.
 pub(crate) const KEPT_CLAIM: u8 = 1;
 
+/// How a saved text is laid out.
+#[derive(Clone, Copy, Debug, PartialEq, Eq)]
+pub(crate) enum Layout {
+    /// Without the rules, and with two bytes for the number of an entry. It is only read.
+    One,
+    /// With the rules, and with four bytes for the number of an entry.
+    Two,
+}
+
 /// What stands before the entries.
 #[derive(Debug, Drop)]
 pub(crate) struct Front {
+    pub(crate) layout: Layout,
     pub(crate) party: u8,
     pub(crate) id: u64,
     pub(crate) terms: Terms,
@@ -50,11 +65,38 @@ impl LoadFault {
     }
 }
 
-#[tactic(auto, unfolding(crate::specs::SavedReading::kept_claim_at))]
-fn kept_claim(reader: &mut Reader<'_>) -> Result<Option<(Number, Action)>, ReadFault>
-    ensures { Reads result reader.new (kept_claim_at reader.old) }
+impl Layout {
+    /// The layout of texts that begin with this.
+    fn of_magic(magic: u32) -> Layout
+        ensures { result ≡ layout_of_magic magic }
+    {
+        if magic == FIRST_MAGIC {
+            Layout::One
+        } else {
+            Layout::Two
+        }
+    }
+}
+
+/// A number of an entry, from low to the greatest of the layout.
+#[tactic(auto, unfolding(crate::specs::SavedReading::number_in))]
+fn number(reader: &mut Reader<'_>, layout: Layout, low: u16) -> Result<Number, ReadFault>
+    ensures { Reads result reader.new (number_in layout low reader.old) }
 {
-    let number = reader.read_u16(FIRST_ENTRY, MOST_ENTRIES)?;
+    match layout {
+        Layout::One => Ok(reader.read_u16(low, FIRST_MOST_ENTRIES)?.into()),
+        Layout::Two => reader.read_u32(low.into(), MOST_ENTRIES),
+    }
+}
+
+#[tactic(auto, unfolding(crate::specs::SavedReading::kept_claim_in))]
+fn kept_claim(
+    reader: &mut Reader<'_>,
+    layout: Layout,
+) -> Result<Option<(Number, Action)>, ReadFault>
+    ensures { Reads result reader.new (kept_claim_in layout reader.old) }
+{
+    let number = number(reader, layout, FIRST_ENTRY as u16)?;
     let action = action(reader)?;
     Ok(Some((number, action)))
 }
@@ -70,16 +112,56 @@ fn most_flag(party: u8) -> u8
     }
 }
 
-#[tactic(auto, unfolding(crate::specs::SavedReading::saved_claim_at))]
-fn claim(reader: &mut Reader<'_>, party: u8) -> Result<Option<(Number, Action)>, ReadFault>
-    ensures { Reads result reader.new (saved_claim_at party reader.old) }
+#[tactic(auto, unfolding(crate::specs::SavedReading::saved_claim_in))]
+fn claim(
+    reader: &mut Reader<'_>,
+    layout: Layout,
+    party: u8,
+) -> Result<Option<(Number, Action)>, ReadFault>
+    ensures { Reads result reader.new (saved_claim_in layout party reader.old) }
 {
     let flag = reader.read_u8(NO_CLAIM, most_flag(party))?;
     if flag == NO_CLAIM {
         Ok(None)
     } else {
-        kept_claim(reader)
+        kept_claim(reader, layout)
     }
+}
+
+/// The rules, where they are told.
+#[tactic(auto, unfolding(crate::specs::SavedReading::rules_in))]
+fn rules(reader: &mut Reader<'_>, layout: Layout) -> Result<u8, ReadFault>
+    ensures { Reads result reader.new (rules_in layout reader.old) }
+{
+    match layout {
+        Layout::One => Ok(RULES_ONE),
+        Layout::Two => reader.read_u8(RULES_ONE, RULES_ONE),
+    }
+}
+
+/// What stands behind the magic.
+#[tactic(auto, unfolding(crate::specs::SavedReading::front_in))]
+fn read_front_in(reader: &mut Reader<'_>, layout: Layout) -> Result<Front, ReadFault>
+    ensures reads { Reads result reader.new (front_in layout reader.old) }
+    ensures shortest { IfOk result (λ front. shortest_match ≤ front.terms) }
+    ensures longest { IfOk result (λ front. front.terms ≤ longest_match) }
+{
+    let party = reader.read_u8(REFEREE, SEAT_OF_O)?;
+    let id = reader.read_u64()?;
+    let terms = reader.read_u8(SHORTEST_MATCH, LONGEST_MATCH)?;
+    rules(reader, layout)?;
+    let save = reader.read_u32(FIRST_SAVE, LAST_SAVE)?;
+    let claim = claim(reader, layout, party)?;
+    let count = number(reader, layout, 0)?;
+    Ok(Front {
+        layout,
+        party,
+        id,
+        terms,
+        save,
+        claim,
+        count,
+    })
 }
 
 #[tactic(auto, unfolding(crate::specs::SavedReading::front_at))]
@@ -88,21 +170,8 @@ fn read_front(reader: &mut Reader<'_>) -> Result<Front, ReadFault>
     ensures shortest { IfOk result (λ front. shortest_match ≤ front.terms) }
     ensures longest { IfOk result (λ front. front.terms ≤ longest_match) }
 {
-    reader.read_u32(MAGIC, MAGIC)?;
-    let party = reader.read_u8(REFEREE, SEAT_OF_O)?;
-    let id = reader.read_u64()?;
-    let terms = reader.read_u8(SHORTEST_MATCH, LONGEST_MATCH)?;
-    let save = reader.read_u32(FIRST_SAVE, LAST_SAVE)?;
-    let claim = claim(reader, party)?;
-    let count = reader.read_u16(0, MOST_ENTRIES)?;
-    Ok(Front {
-        party,
-        id,
-        terms,
-        save,
-        claim,
-        count,
-    })
+    let magic = reader.read_u32(FIRST_MAGIC, SECOND_MAGIC)?;
+    read_front_in(reader, Layout::of_magic(magic))
 }
 
 /// What stands before the entries, and a reader at the first of them.
@@ -149,15 +218,18 @@ pub(crate) fn front_text(
     log: &Record,
 ) -> Bytes
     requires { IsSavable (parts_with party save claim.now log.now) }
-    ensures text { result.items ≡ front_text party log.now.id log.now.terms save claim.now (length log.now.entries) }
-    ensures in_layout { IsInLayout (parts_with party save claim.now log.now) }
+    ensures text { result.items ≡ front_text Layout.Two party log.now.id log.now.terms save claim.now
+        (length log.now.entries) }
+    ensures in_layout { IsInLayout Layout.Two (parts_with party save claim.now log.now) }
     ensures legal { IsLegalRecord log.now.terms log.now.entries }
 {
     let mut out = ArrayVec::new();
-    out.try_extend_from_slice(&MAGIC.to_be_bytes()).unwrap();
+    out.try_extend_from_slice(&SECOND_MAGIC.to_be_bytes())
+        .unwrap();
     out.push(party);
     out.try_extend_from_slice(&log.id().to_be_bytes()).unwrap();
     out.push(log.length());
+    out.push(RULES_ONE);
     out.try_extend_from_slice(&save.to_be_bytes()).unwrap();
     put_claim(&mut out, claim);
     out.try_extend_from_slice(&log.len().to_be_bytes()).unwrap();
@@ -166,9 +238,9 @@ pub(crate) fn front_text(
 
 fn put_claim(out: &mut Bytes, claim: &Option<(Number, Action)>)
     requires kept { IsKeptClaim claim.now }
-    requires room { array_vec_len out.old + 13 ≤ MOST_DATAGRAM_BYTES }
-    ensures text { out.new.items ≡ out.old.items ++ claim_text claim.now }
-    ensures len { array_vec_len out.new ≤ array_vec_len out.old + 13 }
+    requires room { array_vec_len out.old + 15 ≤ MOST_DATAGRAM_BYTES }
+    ensures text { out.new.items ≡ out.old.items ++ claim_text Layout.Two claim.now }
+    ensures len { array_vec_len out.new ≤ array_vec_len out.old + 15 }
 {
     match claim {
         None => out.push(NO_CLAIM),

@@ -3,7 +3,7 @@ use Rattle.std.proofs.lemmas.Result.{err_from_is_err_and}
 use Rattle.bg_wire.specs.Reading.{many_at}
 use Rattle.bg_wire.specs.EntryReading.{entry_at}
 use Rattle.bg_wire.proofs.Many.{goes_on, ends, is_done}
-use Rattle.bg_wire.proofs.packet_version_one.list_of.Goals as goal
+use Rattle.bg_wire.proofs.packet_layout.list_of.Goals as goal
 
 pub returns-in_err-entry : goal.returns-in_err-entry
 returns-in_err-entry c =
