@@ -2,7 +2,7 @@
 use Rattle.std.proofs.Common.{◌≡◌, ◌≢◌, ◌↔◌, ℕ, ◌+◌, ◌*◌, Bool, true, false, cond, eqb, ltb, eq-eqb, Option, Some, None, List, [], ◌∷◌, refl, sym, ◌∙◌, ap, subst, arith}
 use Rattle.std.proofs.lemmas.Bool.{cond-true, cond-false, ne_eqb}
 use Rattle.std.proofs.lemmas.Bool.Decides.{nat_tests}
-use Rattle.bg_match.specs.Terms.{Terms}
+use Rattle.bg_match.specs.Terms.{Terms, match_length}
 use Rattle.bg_board.specs.Position.{Position, opponent}
 use Rattle.bg_board.specs.declared.players.Player.{Player}
 use Rattle.bg_board.specs.declared.players.Player.TheVariants.{X, O}
@@ -19,17 +19,17 @@ use Rattle.bg_match.specs.Match.{Leads, LeadsWithScores, scores_then, IsCrawford
 use Rattle.bg_match.proofs.MatchLength.{terms-StandsAt}
 
 -- the mark by the scores
-abbrev mark_of : Terms → List ℕ → Bool
-mark_of terms [] = false
-mark_of terms (latest ∷ []) = is_crawford terms None latest
-mark_of terms (latest ∷ before ∷ rest) = is_crawford terms (Some before) latest
+abbrev mark_of : ℕ → List ℕ → Bool
+mark_of length [] = false
+mark_of length (latest ∷ []) = is_crawford length None latest
+mark_of length (latest ∷ before ∷ rest) = is_crawford length (Some before) latest
 
 abbrev StartsWith : List ℕ → ℕ → Type 0
 StartsWith [] n = ⊥
 StartsWith (g ∷ gs) n = g ≡ n
 
 record Agrees (s : State) (scores : List ℕ) : Type 0 where
-  pub mark : s.crawford ≡ mark_of s.terms scores
+  pub mark : s.crawford ≡ mark_of (match_length s.terms) scores
   pub latest : IsRunning s.phase → StartsWith scores (greater_score s)
 
 -- the game goes on
@@ -37,21 +37,21 @@ goes_on : (s t : State) (scores : List ℕ) → Agrees s scores → IsRunning s.
 goes_on s t scores h running game mark terms greater =
     let same : scores_then s t scores ≡ scores = cond-true (eqb t.game s.game) _ _ (eq-eqb t.game s.game game) in
     rw same (record {
-      mark = mark ∙ (h.mark ∙ ap (λ g. mark_of g scores) (sym terms));
+      mark = mark ∙ (h.mark ∙ ap (λ (m : Terms). mark_of (match_length m) scores) (sym terms));
       latest = λ _. rw greater (h.latest running);
     })
 
 -- the next game
-mark_more : (terms n g : ℕ) (scores : List ℕ) → StartsWith scores n → is_crawford terms (Some n) g ≡ mark_of terms (g ∷ scores)
-mark_more terms n g [] h = absurd h
-mark_more terms n g (m ∷ scores) h = ap (λ k. is_crawford terms (Some k) g) (sym h)
+mark_more : (length n g : ℕ) (scores : List ℕ) → StartsWith scores n → is_crawford length (Some n) g ≡ mark_of length (g ∷ scores)
+mark_more length n g [] h = absurd h
+mark_more length n g (m ∷ scores) h = ap (λ k. is_crawford length (Some k) g) (sym h)
 
-opens : (s t : State) (scores : List ℕ) → Agrees s scores → IsRunning s.phase → t.game ≡ s.game + 1 → t.crawford ≡ is_crawford t.terms (Some (greater_score s)) (greater_score t) → Agrees t (scores_then s t scores)
+opens : (s t : State) (scores : List ℕ) → Agrees s scores → IsRunning s.phase → t.game ≡ s.game + 1 → t.crawford ≡ is_crawford (match_length t.terms) (Some (greater_score s)) (greater_score t) → Agrees t (scores_then s t scores)
 opens s t scores h running game mark =
     let other : t.game ≢ s.game = omega arith in
     let more : scores_then s t scores ≡ greater_score t ∷ scores = cond-false (eqb t.game s.game) _ _ (ne_eqb t.game s.game other) in
     rw more (record {
-      mark = mark ∙ mark_more t.terms (greater_score s) (greater_score t) scores (h.latest running);
+      mark = mark ∙ mark_more (match_length t.terms) (greater_score s) (greater_score t) scores (h.latest running);
       latest = λ _. refl;
     })
 
@@ -60,16 +60,16 @@ ends : (s t : State) (scores : List ℕ) → Agrees s scores → t.game ≡ s.ga
 ends s t scores h game mark terms over =
     let same : scores_then s t scores ≡ scores = cond-true (eqb t.game s.game) _ _ (eq-eqb t.game s.game game) in
     rw same (record {
-      mark = mark ∙ (h.mark ∙ ap (λ g. mark_of g scores) (sym terms));
+      mark = mark ∙ (h.mark ∙ ap (λ (m : Terms). mark_of (match_length m) scores) (sym terms));
       latest = λ running. absurd (over running);
     })
 
 wins : (s : State) (w : Player) (n : ℕ) (scores : List ℕ) → Agrees s scores → IsRunning s.phase → Agrees (after_win s w n) (scores_then s (after_win s w n) scores)
-wins s X n scores h running = go (ltb (s.x_score + n) s.terms) where
+wins s X n scores h running = go (ltb (s.x_score + n) (match_length s.terms)) where
   go : (t : Bool) → Agrees (cond t (next_game (scored s X n) (greater_score s)) (record (scored s X n) { phase = phase.Over X })) (scores_then s (cond t (next_game (scored s X n) (greater_score s)) (record (scored s X n) { phase = phase.Over X })) scores)
   go true = opens s (next_game (scored s X n) (greater_score s)) scores h running refl refl
   go false = ends s (record (scored s X n) { phase = phase.Over X }) scores h refl refl refl (λ r. r)
-wins s O n scores h running = go (ltb (s.o_score + n) s.terms) where
+wins s O n scores h running = go (ltb (s.o_score + n) (match_length s.terms)) where
   go : (t : Bool) → Agrees (cond t (next_game (scored s O n) (greater_score s)) (record (scored s O n) { phase = phase.Over O })) (scores_then s (cond t (next_game (scored s O n) (greater_score s)) (record (scored s O n) { phase = phase.Over O })) scores)
   go true = opens s (next_game (scored s O n) (greater_score s)) scores h running refl refl
   go false = ends s (record (scored s O n) { phase = phase.Over O }) scores h refl refl refl (λ r. r)
@@ -119,10 +119,10 @@ leads_agrees s scores [] t all h l = rw (l.0, l.1) h
 leads_agrees s scores (e ∷ entries) t all h l =
     leads_agrees l.0 (scores_then s l.0 scores) entries t all (follows_agrees s e l.0 scores h l.1) l.2
 
-mark_is : (terms : Terms) (scores : List ℕ) → (mark_of terms scores ≡ true) ↔ IsCrawfordGame terms scores
-mark_is terms [] = (λ h. cc, λ h. absurd h)
-mark_is terms (latest ∷ []) = (λ h. grind (arith, nat_tests), λ h. grind (arith, nat_tests))
-mark_is terms (latest ∷ before ∷ rest) = (λ h. (grind (arith, nat_tests), grind (arith, nat_tests)), λ h. grind (arith, nat_tests))
+mark_is : (length : ℕ) (scores : List ℕ) → (mark_of length scores ≡ true) ↔ IsCrawfordGame length scores
+mark_is length [] = (λ h. cc, λ h. absurd h)
+mark_is length (latest ∷ []) = (λ h. grind (arith, nat_tests), λ h. grind (arith, nat_tests))
+mark_is length (latest ∷ before ∷ rest) = (λ h. (grind (arith, nat_tests), grind (arith, nat_tests)), λ h. grind (arith, nat_tests))
 
 without_scores : (s : State) (scores : List ℕ) (entries : List Entry) (t : State) (all : List ℕ) → LeadsWithScores s scores entries t all → Leads s entries t
 without_scores s scores [] t all l = l.0
@@ -131,7 +131,7 @@ without_scores s scores (e ∷ rest) t all l = (l.0, l.1, without_scores l.0 (sc
 pub marks_crawford : MarksCrawford
 marks_crawford terms entries t scores l =
     let h = leads_agrees (start_of terms) (0 ∷ []) entries t scores (record { mark = refl; latest = λ _. refl }) l in
-    let by_scores : (t.crawford ≡ true) ↔ IsCrawfordGame t.terms scores =
-    (λ marked. (mark_is t.terms scores).0 (sym h.mark ∙ marked), λ game. h.mark ∙ (mark_is t.terms scores).1 game) in
+    let by_scores : (t.crawford ≡ true) ↔ IsCrawfordGame (match_length t.terms) scores =
+    (λ marked. (mark_is (match_length t.terms) scores).0 (sym h.mark ∙ marked), λ game. h.mark ∙ (mark_is (match_length t.terms) scores).1 game) in
     let same = terms-StandsAt terms entries t (without_scores (start_of terms) (0 ∷ []) entries t scores l) in
-    subst (λ n. (t.crawford ≡ true) ↔ IsCrawfordGame n scores) same by_scores
+    subst (λ (m : Terms). (t.crawford ≡ true) ↔ IsCrawfordGame (match_length m) scores) same by_scores

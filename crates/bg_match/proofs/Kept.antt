@@ -3,7 +3,7 @@ use Rattle.std.proofs.Common.{◌≡◌, ℕ, zero, suc, ◌-◌, ◌<◌, ◌�
 use Rattle.std.proofs.lemmas.List.{take-append-le}
 use Rattle.std.proofs.lemmas.Option.{slice_get-map}
 use Rattle.std.proofs.Math.Seq.{take-append_seam}
-use Rattle.bg_match.specs.Terms.{Terms}
+use Rattle.bg_match.specs.Terms.{Terms, match_length}
 use Rattle.bg_board.specs.declared.players.Player.{Player}
 use Rattle.bg_match.specs.Limits.{most_entries, shortest_match, longest_match}
 use Rattle.bg_match.specs.declared.entries.Entry.{Entry}
@@ -25,7 +25,7 @@ marked_by_scores terms entries t h =
     (r.0, r.1, marks_crawford terms entries t r.0 r.1)
 
 -- a match with no entry
-pub IsKept-empty : (terms : Terms) → shortest_match ≤ terms → terms ≤ longest_match → IsKept terms [] [] (start_of terms)
+pub IsKept-empty : (terms : Terms) → shortest_match ≤ match_length terms → match_length terms ≤ longest_match → IsKept terms [] [] (start_of terms)
 IsKept-empty terms shortest longest = record {
   shortest = shortest;
   longest = longest;

@@ -9,12 +9,13 @@ use Rattle.bg_match.specs.declared.phases.Phase.TheVariants as phase
 use Rattle.bg_match.specs.declared.entries.Entry.{Entry}
 use Rattle.bg_match.specs.declared.entries.Entry.TheVariants as entry
 use Rattle.bg_match.specs.Actor.{actor_of, seat_of}
-use Rattle.bg_match.specs.Entry.{IsEntry, IsOpening}
+use Rattle.bg_match.specs.Entry.{IsEntry, IsByReferee}
 use Rattle.bg_match.specs.State.{State, start_of}
 use Rattle.bg_match.specs.Follows.{Follows, CanFollow, phase_back}
 use Rattle.bg_match.specs.declared.phases.Actor.{Actor}
+use Rattle.bg_match.specs.declared.phases.Actor.TheVariants.{Referee}
 use Rattle.bg_match.specs.Match.{Leads, ActsAfter, IsNext}
-use Rattle.bg_match.specs.Laws.{HasLegalFronts, HasOneStanding, HasEntriesInRange, OpensByReferee, OpensWithoutSeat, RollsAnyDice}
+use Rattle.bg_match.specs.Laws.{HasLegalFronts, HasOneStanding, HasEntriesInRange, ActsItself, MadeWithoutSeat, RollsAnyDice}
 use Rattle.bg_match.proofs.PlayableTurns.{legal_in_range}
 use Rattle.bg_match.proofs.Runs.{Follows-same, Leads-push}
 
@@ -66,10 +67,21 @@ Leads_in_range s (e ∷ rest) t h = (Follows_in_range s e h.0 h.1, Leads_in_rang
 pub entries_in_range : HasEntriesInRange
 entries_in_range terms entries h = Leads_in_range (start_of terms) entries h.1.0 h.1.1
 
-pub opens_by_referee : OpensByReferee
-opens_by_referee terms entries x o h =
-    let at = Leads-front (start_of terms) entries (entry.Opening x o ∷ []) h.1.0 h.1.1 in
-    (at.0, at.1, sym (ap actor_of at.2.1.0))
+referee_acts : (s : State) (e : Entry) (t : State) → Follows s e t → IsByReferee e → actor_of s.phase ≡ Referee
+referee_acts s (entry.Opening x o) t h own = ap actor_of h.0
+referee_acts s (entry.Rolled dice) t h own = absurd own
+referee_acts s entry.Doubled t h own = absurd own
+referee_acts s entry.Taken t h own = absurd own
+referee_acts s entry.Dropped t h own = absurd own
+referee_acts s (entry.Moved turn) t h own = absurd own
+referee_acts s (entry.Resigned level) t h own = absurd own
+referee_acts s entry.Accepted t h own = absurd own
+referee_acts s entry.Rejected t h own = absurd own
+
+pub acts_itself : ActsItself
+acts_itself terms entries e h own =
+    let at = Leads-front (start_of terms) entries (e ∷ []) h.1.0 h.1.1 in
+    (at.0, at.1, sym (referee_acts at.0 e at.2.0 at.2.1 own))
 
 -- another entry in place of the last one
 last_instead : (terms : Terms) (entries : List Entry) (e f : Entry) → ((m : State) → CanFollow m e → CanFollow m f)
@@ -102,22 +114,22 @@ rolls_any_dice terms entries action.Accept dice other e f h k legal = same_legal
 rolls_any_dice terms entries action.Reject dice other e f h k legal = same_legal terms entries e f (h ∙ sym k) legal
 
 -- the seat that acts before an entry, if a seat does
-acts_before : (s : State) (e : Entry) (t : State) → Follows s e t → (seat_of (actor_of s.phase) ≡ None) ↔ IsOpening e
+acts_before : (s : State) (e : Entry) (t : State) → Follows s e t → (seat_of (actor_of s.phase) ≡ None) ↔ IsByReferee e
 acts_before s (entry.Opening x o) t h = rw h.0 (λ _. tt, λ _. refl)
-acts_before s (entry.Rolled dice) t h = rw h.1 (λ none. cc, λ opening. absurd opening)
-acts_before s entry.Doubled t h = rw h.1 (λ none. cc, λ opening. absurd opening)
-acts_before s entry.Taken t h = rw h.1 (λ none. cc, λ opening. absurd opening)
-acts_before s entry.Dropped t h = rw h.1 (λ none. cc, λ opening. absurd opening)
-acts_before s (entry.Moved turn) t h = rw h.2 (λ none. cc, λ opening. absurd opening)
+acts_before s (entry.Rolled dice) t h = rw h.1 (λ none. cc, λ own. absurd own)
+acts_before s entry.Doubled t h = rw h.1 (λ none. cc, λ own. absurd own)
+acts_before s entry.Taken t h = rw h.1 (λ none. cc, λ own. absurd own)
+acts_before s entry.Dropped t h = rw h.1 (λ none. cc, λ own. absurd own)
+acts_before s (entry.Moved turn) t h = rw h.2 (λ none. cc, λ own. absurd own)
 acts_before s (entry.Resigned level) t h = rw h.2 (resigner h.0 h.1) where
   resigner : (p : Player) (back : Option Dice) → (seat_of (actor_of (phase_back p back)) ≡ None) ↔ ⊥
-  resigner p None = (λ none. cc, λ opening. absurd opening)
-  resigner p (Some dice) = (λ none. cc, λ opening. absurd opening)
-acts_before s entry.Accepted t h = rw h.3 (λ none. cc, λ opening. absurd opening)
-acts_before s entry.Rejected t h = rw h.3 (λ none. cc, λ opening. absurd opening)
+  resigner p None = (λ none. cc, λ own. absurd own)
+  resigner p (Some dice) = (λ none. cc, λ own. absurd own)
+acts_before s entry.Accepted t h = rw h.3 (λ none. cc, λ own. absurd own)
+acts_before s entry.Rejected t h = rw h.3 (λ none. cc, λ own. absurd own)
 
-pub opens_without_seat : OpensWithoutSeat
-opens_without_seat terms front rest e seat legal after =
+pub made_without_seat : MadeWithoutSeat
+made_without_seat terms front rest e seat legal after =
     let at = Leads-front (start_of terms) front (e ∷ rest) legal.1.0 legal.1.1 in
     let same = one_standing terms front at.0 after.0 at.1 after.1 in
     let acts = acts_before at.0 e at.2.0 at.2.1 in

@@ -1,6 +1,6 @@
 -- The length of a match stays.
 use Rattle.std.proofs.Common.{◌≡◌, ℕ, ◌+◌, ◌*◌, ltb, Bool, true, false, cond, Option, Some, None, List, [], ◌∷◌, refl, ◌∙◌, ap}
-use Rattle.bg_match.specs.Terms.{Terms}
+use Rattle.bg_match.specs.Terms.{Terms, match_length}
 use Rattle.bg_board.specs.Position.{Position}
 use Rattle.bg_board.specs.declared.players.Player.{Player}
 use Rattle.bg_board.specs.declared.players.Player.TheVariants.{X, O}
@@ -20,8 +20,8 @@ after_scored s t winner before true h = h
 after_scored s t winner before false h = h
 
 terms-after_win : (s : State) (winner : Player) (n : ℕ) → (after_win s winner n).terms ≡ s.terms
-terms-after_win s X n = after_scored s (scored s X n) X (greater_score s) (ltb (s.x_score + n) s.terms) refl
-terms-after_win s O n = after_scored s (scored s O n) O (greater_score s) (ltb (s.o_score + n) s.terms) refl
+terms-after_win s X n = after_scored s (scored s X n) X (greater_score s) (ltb (s.x_score + n) (match_length s.terms)) refl
+terms-after_win s O n = after_scored s (scored s O n) O (greater_score s) (ltb (s.o_score + n) (match_length s.terms)) refl
 
 terms-after_level : (s : State) (board : Position) (p : Player) (level : Option Level) → (after_level (record s { board = board }) p level).terms ≡ s.terms
 terms-after_level s board p None = refl

@@ -12,6 +12,7 @@ use Rattle.bg_board.specs.Position.{Position}
 use Rattle.bg_board.specs.declared.players.Player.{Player}
 use Rattle.bg_match.specs.declared.phases.Phase.{Phase}
 use Rattle.bg_match.specs.declared.phases.Phase.TheVariants.{Opening, ToAct, Doubled, ToMove, Resigned, Over}
+use Rattle.bg_match.specs.Terms.{match_length}
 use Rattle.bg_match.specs.State.{State, IsState, AreScoresOf, IsCubeOf, IsRunning}
 
 -- while the match goes on both scores are below the match length
@@ -47,7 +48,7 @@ IsState-phase s ph from to cube h = record {
   cube_value = h.cube_value;
   cube_limit = cube;
   middle = h.middle;
-  scores = scores_running ph s.terms s.x_score s.o_score to (running_scores s.phase s.terms s.x_score s.o_score from h.scores);
+  scores = scores_running ph (match_length s.terms) s.x_score s.o_score to (running_scores s.phase (match_length s.terms) s.x_score s.o_score from h.scores);
   first_game = h.first_game;
   games = h.games;
 }
@@ -82,7 +83,7 @@ IsState-taken s q p is h =
     }
 
 -- the next game
-pub IsState-next : (s : State) (b : Position) (crawford : Bool) (x o : ℕ) → IsState s → x < s.terms → o < s.terms → s.x_score + s.o_score + 1 ≤ x + o → IsState (record { terms = s.terms; board = b; phase = Opening; cube = record { value = 1; owner = None }; x_score = x; o_score = o; crawford = crawford; game = s.game + 1 })
+pub IsState-next : (s : State) (b : Position) (crawford : Bool) (x o : ℕ) → IsState s → x < match_length s.terms → o < match_length s.terms → s.x_score + s.o_score + 1 ≤ x + o → IsState (record { terms = s.terms; board = b; phase = Opening; cube = record { value = 1; owner = None }; x_score = x; o_score = o; crawford = crawford; game = s.game + 1 })
 IsState-next s b crawford x o h low_x low_o more = record {
   shortest = h.shortest;
   longest = h.longest;

@@ -12,10 +12,15 @@ use Rattle.bg_match.specs.declared.entries.Entry.TheVariants as entry
 use Rattle.bg_match.specs.declared.entries.EntryFault.TheVariants as fault
 use Rattle.bg_match.specs.declared.entries.NoDouble.TheVariants as no_double
 use Rattle.bg_match.specs.Level.{level_of}
+use Rattle.bg_match.specs.Terms.{Terms}
 use Rattle.bg_match.specs.State.{State, start_of, middle_cube, after_win}
 use Rattle.bg_match.specs.Follows.{Follows, IsEntryFault, after_turn}
 use Rattle.bg_match.proofs.Legal.{Leads-append}
 use Rattle.bg_match.specs.Match.{StandsAt, StandsWithScores, IsCrawfordGame, ActsAfter, SeatAfter}
+
+-- a match to so many points
+abbrev to_points : ℕ → Terms
+to_points points = points
 
 -- The Crawford game, by the greater scores before the games, the latest first.
 
@@ -74,7 +79,7 @@ six_five = record { first = Six; second = Five }
 
 abbrev at_three_two : State
 at_three_two = record {
-  terms = 7;
+  terms = to_points 7;
   board = start_position;
   phase = phase.ToMove X six_five;
   cube = record { value = 2; owner = Some O };
@@ -103,7 +108,7 @@ crawford_game_of_o = refl
 -- Doubles in a match of five points.
 
 abbrev x_to_act : State
-x_to_act = record (start_of 5) { phase = phase.ToAct X; cube = record { value = 2; owner = Some X } }
+x_to_act = record (start_of (to_points 5)) { phase = phase.ToAct X; cube = record { value = 2; owner = Some X } }
 
 double_offered : Follows x_to_act entry.Doubled (record x_to_act { phase = phase.Doubled O })
 double_offered = (X, refl, record { with_cube = refl; owned = inr refl; below_cap = λ h. omega arith }, refl)
@@ -112,7 +117,7 @@ double_taken : Follows (record x_to_act { phase = phase.Doubled O }) entry.Taken
 double_taken = (O, refl, refl)
 
 -- X wins the value before the double
-double_dropped : Follows (record x_to_act { phase = phase.Doubled O }) entry.Dropped (record (start_of 5) { x_score = 2; game = 2 })
+double_dropped : Follows (record x_to_act { phase = phase.Doubled O }) entry.Dropped (record (start_of (to_points 5)) { x_score = 2; game = 2 })
 double_dropped = (O, refl, refl)
 
 not_owner : IsEntryFault (fault.NoDouble no_double.NotOwner) (record x_to_act { cube = record { value = 2; owner = Some O } }) entry.Doubled
@@ -121,7 +126,7 @@ not_owner = (X, refl, refl, (refl, refl))
 at_cap : IsEntryFault (fault.NoDouble no_double.AtCap) (record x_to_act { cube = record { value = 128; owner = Some X } }) entry.Doubled
 at_cap = (X, refl, refl, (refl, inr refl, refl))
 
-no_cube : IsEntryFault (fault.NoDouble no_double.Crawford) (record (start_of 1) { phase = phase.ToAct X }) entry.Doubled
+no_cube : IsEntryFault (fault.NoDouble no_double.Crawford) (record (start_of (to_points 1)) { phase = phase.ToAct X }) entry.Doubled
 no_cube = (X, refl, refl, refl)
 
 -- A match of three points: O resigns a gammon, X a normal game, and O, whose first offer is rejected, a backgammon.
@@ -142,27 +147,27 @@ crawford_passes = entry.Opening Three One ∷ entry.Resigned Normal ∷ entry.Ac
 abbrev last_game : List Entry
 last_game = entry.Opening One Three ∷ entry.Resigned Normal ∷ entry.Rejected ∷ entry.Resigned Backgammon ∷ entry.Accepted ∷ []
 
-at_two_nil : StandsAt 3 crawford_comes (record (start_of 3) { x_score = 2; crawford = true; game = 2 })
+at_two_nil : StandsAt (to_points 3) crawford_comes (record (start_of (to_points 3)) { x_score = 2; crawford = true; game = 2 })
 at_two_nil = (_, (refl, λ h. omega arith, refl), (_, (O, Some one_three, refl, refl), (_, (O, Gammon, Some one_three, refl, refl), refl)))
 
-scores_at_two_nil : StandsWithScores 3 crawford_comes (record (start_of 3) { x_score = 2; crawford = true; game = 2 }) (2 ∷ 0 ∷ [])
+scores_at_two_nil : StandsWithScores (to_points 3) crawford_comes (record (start_of (to_points 3)) { x_score = 2; crawford = true; game = 2 }) (2 ∷ 0 ∷ [])
 scores_at_two_nil = (_, (refl, λ h. omega arith, refl), (_, (O, Some one_three, refl, refl), (_, (O, Gammon, Some one_three, refl, refl), (refl, refl))))
 
 -- the offer of O was answered by the seat of X
-accepted_by_x : SeatAfter 3 (entry.Opening One Three ∷ entry.Resigned Gammon ∷ []) (Some X)
+accepted_by_x : SeatAfter (to_points 3) (entry.Opening One Three ∷ entry.Resigned Gammon ∷ []) (Some X)
 accepted_by_x = (_, (_, (refl, λ h. omega arith, refl), (_, (O, Some one_three, refl, refl), refl)), refl)
 
-referee_opens : ActsAfter 3 crawford_comes Referee
+referee_opens : ActsAfter (to_points 3) crawford_comes Referee
 referee_opens = (_, at_two_nil, refl)
 
 -- the normal game makes it 2-1, and the game after the Crawford game is played with the cube
-at_two_one : StandsAt 3 (crawford_comes ++ crawford_passes) (record (start_of 3) { x_score = 2; o_score = 1; game = 3 })
-at_two_one = Leads-append (start_of 3) crawford_comes crawford_passes _ _ at_two_nil
+at_two_one : StandsAt (to_points 3) (crawford_comes ++ crawford_passes) (record (start_of (to_points 3)) { x_score = 2; o_score = 1; game = 3 })
+at_two_one = Leads-append (start_of (to_points 3)) crawford_comes crawford_passes _ _ at_two_nil
     (_, (refl, λ h. omega arith, refl), (_, (X, Some three_one, refl, refl), (_, (X, Normal, Some three_one, refl, refl), refl)))
 
 -- a backgammon ends the match at 5-1: the board, the cube, the number of the game and its mark stay
-match_over : StandsAt 3 (crawford_comes ++ crawford_passes ++ last_game) (record (start_of 3) { phase = phase.Over X; x_score = 5; o_score = 1; game = 3 })
-match_over = Leads-append (start_of 3) (crawford_comes ++ crawford_passes) last_game _ _ at_two_one (
+match_over : StandsAt (to_points 3) (crawford_comes ++ crawford_passes ++ last_game) (record (start_of (to_points 3)) { phase = phase.Over X; x_score = 5; o_score = 1; game = 3 })
+match_over = Leads-append (start_of (to_points 3)) (crawford_comes ++ crawford_passes) last_game _ _ at_two_one (
   _,
   (refl, λ h. omega arith, refl),
   (
@@ -176,11 +181,11 @@ match_over = Leads-append (start_of 3) (crawford_comes ++ crawford_passes) last_
   ),
 )
 
-nobody_acts : ActsAfter 3 (crawford_comes ++ crawford_passes ++ last_game) Nobody
+nobody_acts : ActsAfter (to_points 3) (crawford_comes ++ crawford_passes ++ last_game) Nobody
 nobody_acts = (_, match_over, refl)
 
-equal_dice : IsEntryFault fault.EqualOpening (start_of 3) (entry.Opening Five Five)
+equal_dice : IsEntryFault fault.EqualOpening (start_of (to_points 3)) (entry.Opening Five Five)
 equal_dice = (Five, Five, refl, refl, refl)
 
-double_in_opening : IsEntryFault fault.WrongPhase (start_of 3) entry.Doubled
+double_in_opening : IsEntryFault fault.WrongPhase (start_of (to_points 3)) entry.Doubled
 double_in_opening = (λ p h. cc, refl)

@@ -15,7 +15,7 @@ abbrev pub IsAction : Action → Type 0
 IsAction (action.Move turn) = IsTurn turn
 IsAction _ = Unit {0}
 
--- the entry opens a game
-abbrev pub IsOpening : Entry → Type 0
-IsOpening (entry.Opening x o) = Unit {0}
-IsOpening _ = ⊥
+-- the entry is the referee's own: it opens a game
+abbrev pub IsByReferee : Entry → Type 0
+IsByReferee (entry.Opening x o) = Unit {0}
+IsByReferee _ = ⊥

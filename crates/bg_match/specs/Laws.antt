@@ -1,7 +1,6 @@
 -- What holds of every match.
 use Rattle.std.specs.Prelude.{◌≡◌, ◌↔◌, true, Option, None, List, [], ◌∷◌, ◌++◌}
 use Rattle.std.specs.List.{AllByRecursion}
-use Rattle.bg_board.specs.declared.dice.Die.{Die}
 use Rattle.bg_board.specs.declared.players.Player.{Player}
 use Rattle.bg_turns.specs.declared.throws.Dice.{Dice}
 use Rattle.bg_match.specs.Limits.{IsMatchLength}
@@ -9,11 +8,10 @@ use Rattle.bg_match.specs.Terms.{Terms, match_length}
 use Rattle.bg_match.specs.declared.phases.Actor.TheVariants.{Referee}
 use Rattle.bg_match.specs.declared.actions.Action.{Action}
 use Rattle.bg_match.specs.declared.entries.Entry.{Entry}
-use Rattle.bg_match.specs.declared.entries.Entry.TheVariants as entry
 use Rattle.bg_match.specs.contracts.actions.ActionPartialEq.TheImpl.{ghosts as of_actions}
 use Rattle.bg_match.specs.contracts.entries.EntryPartialEq.TheImpl.{ghosts as of_entries}
 use Rattle.bg_match.specs.State.{State}
-use Rattle.bg_match.specs.Entry.{IsEntry, IsAction, IsOpening}
+use Rattle.bg_match.specs.Entry.{IsEntry, IsAction, IsByReferee}
 use Rattle.bg_match.specs.Match.{StandsAt, IsLegalRecord, IsNext, ActsAfter, SeatAfter}
 use Rattle.bg_match.specs.Answers.{IsAnswer, Answers}
 
@@ -36,15 +34,15 @@ abbrev pub HasEntriesInRange : Type 0
 HasEntriesInRange = (terms : Terms) (entries : List Entry)
     → IsLegalRecord terms entries → AllByRecursion IsEntry entries
 
--- where a game may open, the referee acts
-abbrev pub OpensByReferee : Type 0
-OpensByReferee = (terms : Terms) (entries : List Entry) (x o : Die)
-    → IsLegalRecord terms (entries ++ entry.Opening x o ∷ []) → ActsAfter terms entries Referee
+-- where an entry of the referee's own may follow, the referee acts
+abbrev pub ActsItself : Type 0
+ActsItself = (terms : Terms) (entries : List Entry) (e : Entry)
+    → IsLegalRecord terms (entries ++ e ∷ []) → IsByReferee e → ActsAfter terms entries Referee
 
--- every entry of a legal record is made by a seat, but for the openings
-abbrev pub OpensWithoutSeat : Type 0
-OpensWithoutSeat = (terms : Terms) (front rest : List Entry) (e : Entry) (seat : Option Player)
-    → IsLegalRecord terms (front ++ e ∷ rest) → SeatAfter terms front seat → (seat ≡ None) ↔ IsOpening e
+-- every entry of a legal record is made by a seat, but for the referee's own
+abbrev pub MadeWithoutSeat : Type 0
+MadeWithoutSeat = (terms : Terms) (front rest : List Entry) (e : Entry) (seat : Option Player)
+    → IsLegalRecord terms (front ++ e ∷ rest) → SeatAfter terms front seat → (seat ≡ None) ↔ IsByReferee e
 
 -- the entry that answers an action with some dice answers the action
 abbrev pub AnswersWithDice : Type 0
@@ -54,9 +52,9 @@ AnswersWithDice = (a : Action) (dice : Option Dice) (e : Entry) → Answers a di
 abbrev pub AnswersOneAction : Type 0
 AnswersOneAction = (a b : Action) (e : Entry) → IsAnswer a e → IsAnswer b e → a ≡ b
 
--- an opening answers none
-abbrev pub OpeningAnswersNone : Type 0
-OpeningAnswersNone = (a : Action) (x o : Die) → IsAnswer a (entry.Opening x o) → ⊥
+-- an entry of the referee's own answers none
+abbrev pub OwnAnswersNone : Type 0
+OwnAnswersNone = (a : Action) (e : Entry) → IsByReferee e → IsAnswer a e → ⊥
 
 -- the entry of an action is in its ranges where the action is
 abbrev pub AnswersInRange : Type 0

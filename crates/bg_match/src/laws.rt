@@ -1,8 +1,8 @@
 //! Laws of the definitions, for the crates above: each is the contract of a function that does nothing.
 ghost use Rattle.bg_match.specs.Match.{MarksCrawford};
-ghost use Rattle.bg_match.specs.Laws.{MayBegin, HasLegalFronts, HasOneStanding, HasEntriesInRange, OpensByReferee};
-ghost use Rattle.bg_match.specs.Laws.{OpensWithoutSeat};
-ghost use Rattle.bg_match.specs.Laws.{AnswersWithDice, AnswersOneAction, OpeningAnswersNone, AnswersInRange};
+ghost use Rattle.bg_match.specs.Laws.{MayBegin, HasLegalFronts, HasOneStanding, HasEntriesInRange, ActsItself};
+ghost use Rattle.bg_match.specs.Laws.{MadeWithoutSeat};
+ghost use Rattle.bg_match.specs.Laws.{AnswersWithDice, AnswersOneAction, OwnAnswersNone, AnswersInRange};
 ghost use Rattle.bg_match.specs.Laws.{RollsAnyDice, ComparesEntries, ComparesActions};
 
 /// The Crawford mark of a standing is that of the scores before the games of its match.
@@ -16,15 +16,15 @@ pub fn laws_of_records()
     ensures fronts { HasLegalFronts }
     ensures standing { HasOneStanding }
     ensures in_range { HasEntriesInRange }
-    ensures referee { OpensByReferee }
-    ensures seats { OpensWithoutSeat }
+    ensures referee { ActsItself }
+    ensures seats { MadeWithoutSeat }
 {}
 
 /// What holds of the entries that answer actions.
 pub fn laws_of_answers()
     ensures answer { AnswersWithDice }
     ensures one_action { AnswersOneAction }
-    ensures opening { OpeningAnswersNone }
+    ensures own { OwnAnswersNone }
     ensures in_range { AnswersInRange }
     ensures any_dice { RollsAnyDice }
 {}

@@ -46,7 +46,7 @@ goes_on terms entries new i x s t within is at follows =
     (Leads-push (start_of terms) (entries ++ take i new) x s t at follows)
 
 -- an entry that does not follow is the first such one
-pub stops : (terms len : ℕ) (entries new : List Entry) (i : ℕ) (x : Entry) (s : State) → i < length new
+pub stops : (terms : Terms) (len : ℕ) (entries new : List Entry) (i : ℕ) (x : Entry) (s : State) → i < length new
     → x ≡ get_or new i x
     → len ≡ length entries → length entries + length new ≤ most_entries → length (take i new) ≡ i
     → StandsAt terms (entries ++ take i new) s → (CanFollow s x → ⊥)

@@ -4,6 +4,7 @@ pub mod Growing
 pub mod Accepting
 pub mod Answering
 pub mod Refusing
+pub mod DueEntries
 pub mod DueRefusals
 pub mod Rounds
 pub mod Hearing

@@ -15,6 +15,7 @@ use Rattle.bg_wire.specs.declared.packets.Packet.{Packet}
 use Rattle.bg_wire.specs.declared.packets.Packet.TheVariants as packet
 use Rattle.bg_referee.specs.Claims.{IsAccepted}
 use Rattle.bg_referee.specs.Dues.{IsDue}
+use Rattle.bg_referee.proofs.DueEntries.{due_opening}
 use Rattle.bg_referee.specs.declared.outcomes.TakeOutcome.{TakeOutcome}
 use Rattle.bg_referee.specs.declared.outcomes.TakeOutcome.TheVariants as takes
 use Rattle.bg_world.specs.Agreement.{IsPrefix}
@@ -56,7 +57,9 @@ module _ (IsWord : ℕ → Type 0) where
 
   opening_shows : (terms : Terms) (log : List Entry) (word : ℕ) (e : Entry) → IsWord word
       → IsDue terms log word e → ShowsWord IsWord e
-  opening_shows terms log word e is h = subst (ShowsWord IsWord) (sym h.2) (word, is, h.1)
+  opening_shows terms log word e is h =
+      let opening = due_opening terms log word e h in
+      subst (ShowsWord IsWord) (sym opening.2) (word, is, opening.1)
 
   answer_shows : (a : Action) (word : ℕ) (e : Entry) → IsWord word → Answers a (dice_of word) e → ShowsWord IsWord e
   answer_shows action.Roll word e is h = subst (ShowsWord IsWord) (sym h.2) (word, is, h.1)

@@ -14,7 +14,7 @@ use Rattle.bg_match.specs.declared.phases.Actor.{Actor}
 use Rattle.bg_match.specs.declared.phases.Actor.TheVariants.{Referee, Seat}
 use Rattle.bg_match.specs.Answers.{IsAnswer}
 use Rattle.bg_match.specs.Match.{IsLegalRecord, ActsAfter, at_number}
-use Rattle.bg_match.proofs.Legal.{legal_fronts, opens_by_referee, one_actor}
+use Rattle.bg_match.proofs.Legal.{legal_fronts, one_actor}
 use Rattle.bg_match.proofs.Answering.{is_answer}
 use Rattle.bg_wire.specs.Parties.{party_of}
 use Rattle.bg_wire.specs.SavedText.{SavedParts}
@@ -23,6 +23,7 @@ use Rattle.bg_wire.specs.declared.packets.Packet.{Packet}
 use Rattle.bg_wire.specs.declared.packets.Packet.TheVariants as packet
 use Rattle.bg_referee.specs.Claims.{IsAccepted}
 use Rattle.bg_referee.specs.Dues.{IsDue}
+use Rattle.bg_referee.proofs.DueEntries.{due_acts, due_next}
 use Rattle.bg_wire.specs.SlotLaws.{Slots}
 use Rattle.bg_world.specs.Agreement.{IsPrefix}
 use Rattle.bg_world.specs.Claims.{AreClaimsKept}
@@ -104,10 +105,10 @@ pushes w e inv legal by_seat = referee_steps w (record (w.referee) { log = w.ref
     }
 
 opens : (w : ProtocolState) (word : ℕ) (e : Entry) → Inv w → IsDue w.terms w.referee.log word e → Inv (with_entry w e)
-opens w word e inv h = pushes w e inv h.3 (λ q g. absurd (clash q (one_actor w.terms w.referee.log Referee (Seat q) referee g)))
+opens w word e inv h = pushes w e inv (due_next w.terms w.referee.log word e h) (λ q g. absurd (clash q (one_actor w.terms w.referee.log Referee (Seat q) referee g)))
   where
     referee : ActsAfter w.terms w.referee.log Referee
-    referee = opens_by_referee w.terms w.referee.log (h.0).first (h.0).second (subst (λ (x : Entry). IsLegalRecord w.terms (w.referee.log ++ x ∷ [])) h.2 h.3)
+    referee = due_acts w.terms w.referee.log word e h
 
     clash : (q : Player) → ◌≡◌ {A = Actor} Referee (Seat q) → ⊥
     clash q e = cc

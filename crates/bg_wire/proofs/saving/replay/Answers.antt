@@ -2,6 +2,7 @@ use Rattle.std.proofs.Common.{◌≡◌, ◌∙◌, ◌+◌, ◌-◌, ◌++◌, 
 use Rattle.std.proofs.lemmas.List.{length-append}
 use Rattle.std.proofs.lemmas.Result.{err_from_is_err_and}
 use Rattle.bg_match.specs.Match.{Log, IsLegalRecord, IsNext}
+use Rattle.bg_match.specs.Terms.{Terms}
 use Rattle.bg_wire.specs.declared.faults.LoadFault.{LoadFault}
 use Rattle.bg_wire.specs.Reading.{many_at}
 use Rattle.bg_wire.specs.EntryReading.{entry_at}
@@ -34,7 +35,7 @@ returns-in-Err-push c =
     let len : c.loop-done.done + 1 ≡ length c.loop-done.log.entries + 1 = ap (λ (n : ℕ). n + 1) (sym c.loop-done.invariant.len) in
     rw (c.append_fault.ensures, ap whole (sym so_far) ∙ rest.1)
     (refused_at c.in-Err-push.fault (c.loop-done.done + 1) c.args.log.now c.push.new.self c.loop-done.log.entries rest.0 (front ++ rest.0) c.in-Ok.entry len refl c.loop-done.invariant.legal
-    (λ ample next. not_next c.in-Err-push.fault (IsNext c.loop-done.log.terms c.loop-done.log.entries c.in-Ok.entry) c.in-Err-push.ensures.ok ample (subst (λ (n : ℕ). IsNext n c.loop-done.log.entries c.in-Ok.entry) (sym m) next)))
+    (λ ample next. not_next c.in-Err-push.fault (IsNext c.loop-done.log.terms c.loop-done.log.entries c.in-Ok.entry) c.in-Err-push.ensures.ok ample (subst (λ (m : Terms). IsNext m c.loop-done.log.entries c.in-Ok.entry) (sym m) next)))
 
 pub loop-done-preserved : goal.loop-done-preserved
 loop-done-preserved c =
@@ -46,7 +47,7 @@ loop-done-preserved c =
       read = rw entries (goes_on entry_at c.loop-done.log.entries c.args.count c.loop-done.done c.loop-done.reader all c.in-Ok.entry c.entry.new.reader c.loop-done-test.true c.in-Ok.ensures c.loop-done.invariant.read);
       len = ap length entries ∙ length-append c.loop-done.log.entries (c.in-Ok.entry ∷ []) ∙ ap (λ (n : ℕ). n + 1) c.loop-done.invariant.len;
       same = same;
-      legal = subst (λ (n : ℕ). IsLegalRecord n c.push.new.self.entries) (ap (λ (l : Log). l.terms) same) c.in_default.ensures.legal;
+      legal = subst (λ (m : Terms). IsLegalRecord m c.push.new.self.entries) (ap (λ (l : Log). l.terms) same) c.in_default.ensures.legal;
     }
 
 pub returns : goal.returns
