@@ -137,7 +137,7 @@ impl Follower {
             return Learned::Conflict(number);
         }
         let Some(new) = not_held(&self.log, start, list) else {
-            let first = usize::from(start - self.log.len() - 1);
+            let first = (start - self.log.len() - 1) as usize;
             self.window.keep(first, list);
             return Learned::Gap;
         };

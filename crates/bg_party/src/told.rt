@@ -32,8 +32,8 @@ pub(crate) fn not_held<'a>(log: &Record, start: Number, list: &'a [Entry]) -> Op
         (length log.now.entries + 1 < start)
         (λ new. (start ≤ length log.now.entries + 1) × (new.now ≡ new_entries log.now.entries start list.now)) }
 {
-    let next = usize::from(log.len()) + 1;
-    let held = next.checked_sub(usize::from(start))?;
+    let next = log.len() as usize + 1;
+    let held = next.checked_sub(start as usize)?;
     Some(&list[held.min(list.len())..])
 }
 

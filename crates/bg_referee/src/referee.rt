@@ -98,7 +98,7 @@ impl Referee {
     ///
     /// # Errors
     /// The first that holds: `NothingDue` where no game is to be opened, `WordRefused` where the word has no dice,
-    /// `EqualOpening` where they are equal, `RecordFull` where there are 65535 entries, `Memory` where there is no
+    /// `EqualOpening` where they are equal, `RecordFull` where there are 1000000 entries, `Memory` where there is no
     /// room and no memory for more.
     pub fn due(&mut self, word: u32) -> Result<Number, DueFault>
         ensures { RefereeDues self.old word result self.new }

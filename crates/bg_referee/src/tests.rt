@@ -45,7 +45,13 @@ const OFFER_A_GAMMON: [u8; 2] = [7, 2];
 const REJECT: [u8; 1] = [9];
 
 /// The referee's save 2 of match 1, of length 1: the opening 3 1, and 8-5 6-5.
-const SECOND_SAVE: [u8; 30] = [
+const SECOND_SAVE: [u8; 33] = [
+    0x42, 0x47, 0x53, 0x32, 0, 0, 0, 0, 0, 0, 0, 0, 0x01, 0x01, 0x01, 0, 0, 0, 0x02, 0, 0, 0, 0, 0x02,
+    0x01, 0x03, 0x01, 0x06, 0x02, 0x08, 0x05, 0x06, 0x05,
+];
+
+/// The same in the layout that is read, and no longer written.
+const SECOND_SAVE_OF_OLD: [u8; 30] = [
     0x42, 0x47, 0x53, 0x31, 0, 0, 0, 0, 0, 0, 0, 0, 0x01, 0x01, 0, 0, 0, 0x02, 0, 0, 0x02, 0x01,
     0x03, 0x01, 0x06, 0x02, 0x08, 0x05, 0x06, 0x05,
 ];
@@ -61,7 +67,7 @@ fn taken(
     word: u32,
 ) -> Option<TakeOutcome> {
     let mut bytes: ArrayVec<u8, 128> = ArrayVec::new();
-    for part in [&[0x42, 0x47, 1, kind, 0, 0, 0, 0, 0, 0, 0, id], head, tail] {
+    for part in [&[0x42, 0x47, 2, kind, 0, 0, 0, 0, 0, 0, 0, id, 1], head, tail] {
         bytes.try_extend_from_slice(part).ok()?;
     }
     let packet = decode(bytes.as_slice()).ok()?;
@@ -70,7 +76,7 @@ fn taken(
 
 /// What a party that holds so many entries is answered.
 fn wanted(referee: &mut Referee, party: u8, held: u8) -> Option<TakeOutcome> {
-    taken(referee, 1, 1, &[party, 0, held], &[], 0)
+    taken(referee, 1, 1, &[party, 0, 0, 0, held], &[], 0)
 }
 
 /// What a party that claims an action under a number is answered.
@@ -81,7 +87,7 @@ fn claimed(
     action: &[u8],
     word: u32,
 ) -> Option<TakeOutcome> {
-    taken(referee, 2, 1, &[party, 0, number], action, word)
+    taken(referee, 2, 1, &[party, 0, 0, 0, number], action, word)
 }
 
 /// Whether this comes of a want.
@@ -121,7 +127,7 @@ fn is_of_another_match(referee: &mut Referee, kind: u8, head: &[u8], tail: &[u8]
 
 /// Whether nothing comes of the opening, told by the referee.
 fn own_entries_give_nothing(referee: &mut Referee) -> bool {
-    taken(referee, 3, 1, &[0, 1, 1], &[3], NO_DICE) == Some(TakeOutcome::Nothing)
+    taken(referee, 3, 1, &[0, 0, 0, 1, 1], &[3], NO_DICE) == Some(TakeOutcome::Nothing)
 }
 
 /// Whether a party is told these entries of match 1, from a number on.
@@ -418,9 +424,9 @@ fn no_seat_acts_before_the_opening(rt: HostRuntime) -> Result<(), Fail> {
 #[test]
 fn other_matches(rt: HostRuntime) -> Result<(), Fail> {
     let mut referee = after_the_opening(rt.alloc())?;
-    assert!(rt; is_of_another_match(&mut referee, 1, &[WATCHER, 0, 0], &[]));
-    assert!(rt; is_of_another_match(&mut referee, 2, &[X, 0, 2], &MOVE));
-    assert!(rt; is_of_another_match(&mut referee, 3, &[0, 1, 1], &[3]));
+    assert!(rt; is_of_another_match(&mut referee, 1, &[WATCHER, 0, 0, 0, 0], &[]));
+    assert!(rt; is_of_another_match(&mut referee, 2, &[X, 0, 0, 0, 2], &MOVE));
+    assert!(rt; is_of_another_match(&mut referee, 3, &[0, 0, 0, 1, 1], &[3]));
     assert!(rt; referee.held().len() == 1);
     Ok(())
 }
@@ -516,11 +522,12 @@ fn resumed(alloc: Global, bytes: &[u8]) -> Option<Referee> {
     }
 }
 
-/// Whether a referee that goes on from the second save has saved all of it, and saves it again as the third.
-fn goes_on_from_the_second_save(alloc: Global) -> bool {
+/// Whether a referee that goes on from a text of the second save has saved all of it, and saves it again as the third,
+/// in the layout that is written.
+fn goes_on_from_the_second_save(alloc: Global, text: &[u8]) -> bool {
     let mut third = SECOND_SAVE;
-    third[17] = 3;
-    match resumed(alloc, &SECOND_SAVE) {
+    third[18] = 3;
+    match resumed(alloc, text) {
         Some(referee) => {
             referee.saved() == 2
                 && referee.held().len() == 2
@@ -533,7 +540,7 @@ fn goes_on_from_the_second_save(alloc: Global) -> bool {
 /// Whether a referee that goes on from the last save keeps all that it has, and saves no more.
 fn goes_on_from_the_last_save(alloc: Global) -> bool {
     let mut last = SECOND_SAVE;
-    last[14..18].copy_from_slice(&[0xFF; 4]);
+    last[15..19].copy_from_slice(&[0xFF; 4]);
     match resumed(alloc, &last) {
         Some(referee) => {
             size_of_save(&referee) == Err(SaveRefusal::SavesSpent) && referee.held().len() == 2
@@ -544,7 +551,8 @@ fn goes_on_from_the_last_save(alloc: Global) -> bool {
 
 #[test]
 fn resumes(rt: HostRuntime) -> Result<(), Fail> {
-    assert!(rt; goes_on_from_the_second_save(rt.alloc()));
+    assert!(rt; goes_on_from_the_second_save(rt.alloc(), &SECOND_SAVE));
+    assert!(rt; goes_on_from_the_second_save(rt.alloc(), &SECOND_SAVE_OF_OLD));
     assert!(rt; goes_on_from_the_last_save(rt.alloc()));
     Ok(())
 }

@@ -39,7 +39,7 @@ Prints the board after the good lines, and then `ok N` with the number of entrie
     O to roll
     ok 2
 
-Where line 1 is refused it prints that line alone, and for an input of more than 4194304 bytes
+Where line 1 is refused it prints that line alone, and for an input of more than 41943040 bytes
 `refused: input too long`. Ends with status 0 where the transcript is good, 2 where it is refused,
 and 1 where reading, writing or memory failed.";
 
@@ -107,7 +107,7 @@ fn script_command<'a>(alloc: Global) -> Result<Command<'a>, Error> {
              `save PARTY`, `tick PARTY` or `restart PARTY`. Party 0 is the referee, 1 and 2 are the seats of\n\
              X and O, and watchers follow from 3. Prints a line for what each event came to, then how many\n\
              entries each party holds, and the board. Nothing happens unless all lines are good: else it\n\
-             prints `refused at line L: REASON`, and for an input of more than 4194304 bytes\n\
+             prints `refused at line L: REASON`, and for an input of more than 41943040 bytes\n\
              `refused: input too long`. Ends with status 0 where the script is good, 2 where it is refused,\n\
              and 1 where reading, writing or memory failed.",
             )

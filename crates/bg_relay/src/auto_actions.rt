@@ -58,7 +58,7 @@ fn action_in_turn(alloc: Global, record: &Record) -> Result<Option<Action>, Allo
     ensures memory { IfErr result (λ _. (player : Player) × IsToMove «record».now player) }
 {
     let standing = record.standing();
-    let number = u32::from(record.len()) + 1;
+    let number = record.len() + 1;
     match standing.phase() {
         Phase::Opening | Phase::Over(_) => Ok(None),
         Phase::ToAct(_) => Ok(Some(double_or_roll(record, number))),

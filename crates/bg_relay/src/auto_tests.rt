@@ -107,7 +107,7 @@ fn turn_goes_by_the_number_of_the_entry(rt: HostRuntime) -> Result<(), Fail> {
             second: Die::One,
         };
         let turns = legal_turns(rt.alloc(), &record.standing().board(), Player::X, dice)?;
-        let number = usize::from(record.len()) + 1;
+        let number = record.len() as usize + 1;
         let index = number.checked_rem(turns.len()).ok_or("no turns")?;
         let turn = turns.get(index).ok_or("no turn")?;
         check_actions(&rt, &record, Some(Action::Move(turn.copy())), None)?;

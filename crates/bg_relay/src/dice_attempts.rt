@@ -7,7 +7,7 @@ ghost use Rattle.bg_world.specs.Roles.{role};
 ghost use Rattle.bg_world.specs.Starts.{held_of};
 ghost use Rattle.bg_world.specs.World.{view_of};
 
-use crate::words::dice_word;
+use crate::words::next_dice_word;
 use bg_match::{Number, Record};
 use bg_referee::{DueFault, TakeOutcome};
 use bg_wire::REFEREE;
@@ -36,7 +36,7 @@ impl DiceAttempts {
     {
         match self.held {
             None => 0,
-            Some(entries) => dice_word(seed, u32::from(entries) + 1, self.attempt),
+            Some(entries) => next_dice_word(seed, entries, self.attempt),
         }
     }
 

@@ -161,7 +161,8 @@ const CLAIM_OF_O: [Call; 5] = [
 ];
 
 /// Save 1 of the referee of match 7, of length 3: the opening 3 1, X moves 8-5 6-5, O resigns three times over, which X
-/// rejects, and doubles. X drops that as entry 10, since 5 divides 10.
+/// rejects, and doubles. X drops that as entry 10, since 5 divides 10. The text is in the layout that is read, and no
+/// longer written.
 const BEFORE_THE_DROP: [u8; 40] = [
     0x42, 0x47, 0x53, 0x31, 0, 0, 0, 0, 0, 0, 0, 0, 7, 3, 0, 0, 0, 1, 0, 0, 9, 1, 3, 1, 6, 2, 8, 5,
     6, 5, 7, 1, 9, 7, 1, 9, 7, 1, 9, 3,

@@ -48,17 +48,24 @@ fn other_words_are_refused(rt: HostRuntime) -> Result<(), Fail> {
 }
 
 /// Save 2 of the referee of match 1, length 1: an opening and its move.
-const REFEREE: [u8; 30] = [
+const REFEREE: [u8; 33] = [
+    0x42, 0x47, 0x53, 0x32, 0, 0, 0, 0, 0, 0, 0, 0, 1, 1, 1, 0, 0, 0, 2, 0, 0, 0, 0, 2, 1, 3, 1, 6, 2, 8, 5,
+    6, 5,
+];
+
+/// The same in the layout that is read, and no longer written.
+const REFEREE_OF_OLD: [u8; 30] = [
     0x42, 0x47, 0x53, 0x31, 0, 0, 0, 0, 0, 0, 0, 0, 1, 1, 0, 0, 0, 2, 0, 0, 2, 1, 3, 1, 6, 2, 8, 5,
     6, 5,
 ];
 
 /// Save 3 of the referee of the same match, which has the opening alone.
-const OPENING: [u8; 24] = [
-    0x42, 0x47, 0x53, 0x31, 0, 0, 0, 0, 0, 0, 0, 0, 1, 1, 0, 0, 0, 3, 0, 0, 1, 1, 3, 1,
+const OPENING: [u8; 27] = [
+    0x42, 0x47, 0x53, 0x32, 0, 0, 0, 0, 0, 0, 0, 0, 1, 1, 1, 0, 0, 0, 3, 0, 0, 0, 0, 1, 1, 3, 1,
 ];
 
-/// Save 1 of the seat of X, which has the opening and claims its move as entry 2.
+/// Save 1 of the seat of X, which has the opening and claims its move as entry 2, in the layout that is no longer
+/// written.
 const SEAT: [u8; 32] = [
     0x42, 0x47, 0x53, 0x31, 1, 0, 0, 0, 0, 0, 0, 0, 1, 1, 0, 0, 0, 1, 1, 0, 2, 6, 2, 8, 5, 6, 5, 0,
     1, 1, 3, 1,
@@ -135,7 +142,7 @@ fn shown_files_that_both_load(rt: HostRuntime) -> Result<(), Fail> {
     check_shown(
         &rt,
         &REFEREE,
-        &REFEREE,
+        &REFEREE_OF_OLD,
         "file 0: party 0 match 1 length 1 save 2 entries 2\n\
          file 1: party 0 match 1 length 1 save 2 entries 2\n",
         AFTER_THE_MOVE,

@@ -1,8 +1,9 @@
 //! The random words of an automatic match.
-ghost use Rattle.std.specs.Prelude.{◌≡◌, ◌<◌, ◌^◌};
+ghost use Rattle.std.specs.Prelude.{◌≡◌, ◌<◌, ◌≤◌, ◌+◌, ◌^◌};
 ghost use Rattle.rand_chacha.specs.ChaCha.{ChaCha, key_of};
 ghost use Rattle.bg_relay.specs.Words.{dice_word as word_of_dice, event_words as words_of_event, key_bytes, word_of};
 
+use bg_match::Number;
 use rand_chacha::ChaCha20Rng;
 use rand_core::SeedableRng;
 use rand_core::utils::NextWord;
@@ -18,6 +19,21 @@ const ATTEMPTS: u128 = 65536;
 
 /// The word whose dice are handed in for the entry of this number, at this attempt (docs/FORMATS.md, "Random words").
 pub fn dice_word(seed: u64, n: u32, attempt: u16) -> u32
+    ensures { result ≡ word_of_dice seed n attempt }
+{
+    dice_word_at(seed, n.into(), attempt)
+}
+
+/// The word for the entry behind so many, at this attempt.
+pub(crate) fn next_dice_word(seed: u64, entries: Number, attempt: u16) -> u32
+    ensures { result ≡ word_of_dice seed (entries + 1) attempt }
+{
+    dice_word_at(seed, u64::from(entries) + 1, attempt)
+}
+
+/// The word for the entry of a number that may be one above those of 32 bits.
+fn dice_word_at(seed: u64, n: u64, attempt: u16) -> u32
+    requires { n ≤ 2 ^ 32 }
     ensures { result ≡ word_of_dice seed n attempt }
 {
     let place = ATTEMPTS * u128::from(n) + u128::from(attempt);

@@ -1,6 +1,7 @@
 //! Packets and saved texts in which each byte was changed to every other value, given to the calls that take bytes.
 ghost use Rattle.bg_wire.specs.SavedText.{IsSavable, parts_of};
 
+use crate::fronts::is_front;
 use bg_board::Player;
 use bg_match::Record;
 use bg_party::{Seat, Watcher};
@@ -14,22 +15,34 @@ use std::test::Fail;
 const THREE_ONE: u32 = 12;
 
 /// In match 1: watcher 3 wants all entries; X claims 8-5 6-5; the opening 3 1 and that move.
-const WANT: [u8; 15] = [66, 71, 1, 1, 0, 0, 0, 0, 0, 0, 0, 1, 3, 0, 0];
-
-const CLAIM: [u8; 21] = [
-    66, 71, 1, 2, 0, 0, 0, 0, 0, 0, 0, 1, 1, 0, 2, 6, 2, 8, 5, 6, 5,
+const WANT: [u8; 18] = [
+    66, 71, 2, 1, 0, 0, 0, 0, 0, 0, 0, 1, 1, 3, 0, 0, 0, 0,
 ];
 
-const ENTRIES: [u8; 24] = [
-    66, 71, 1, 3, 0, 0, 0, 0, 0, 0, 0, 1, 0, 1, 2, 1, 3, 1, 6, 2, 8, 5, 6, 5,
+const CLAIM: [u8; 24] = [
+    66, 71, 2, 2, 0, 0, 0, 0, 0, 0, 0, 1, 1, 1, 0, 0, 0, 2, 6, 2, 8, 5, 6, 5,
+];
+
+const ENTRIES: [u8; 27] = [
+    66, 71, 2, 3, 0, 0, 0, 0, 0, 0, 0, 1, 1, 0, 0, 0, 1, 2, 1, 3, 1, 6, 2, 8, 5, 6, 5,
 ];
 
 /// The referee's save 2 with these entries, and X's save 1 with the opening and that claim.
-const REFEREE_SAVE: [u8; 30] = [
+const REFEREE_SAVE: [u8; 33] = [
+    66, 71, 83, 50, 0, 0, 0, 0, 0, 0, 0, 0, 1, 1, 1, 0, 0, 0, 2, 0, 0, 0, 0, 2, 1, 3, 1, 6, 2, 8, 5, 6, 5,
+];
+
+const SEAT_SAVE: [u8; 37] = [
+    66, 71, 83, 50, 1, 0, 0, 0, 0, 0, 0, 0, 1, 1, 1, 0, 0, 0, 1, 1, 0, 0, 0, 2, 6, 2, 8, 5, 6, 5, 0, 0, 0, 1,
+    1, 3, 1,
+];
+
+/// The same saves in the layout that is read, and no longer written.
+const REFEREE_SAVE_OF_OLD: [u8; 30] = [
     66, 71, 83, 49, 0, 0, 0, 0, 0, 0, 0, 0, 1, 1, 0, 0, 0, 2, 0, 0, 2, 1, 3, 1, 6, 2, 8, 5, 6, 5,
 ];
 
-const SEAT_SAVE: [u8; 32] = [
+const SEAT_SAVE_OF_OLD: [u8; 32] = [
     66, 71, 83, 49, 1, 0, 0, 0, 0, 0, 0, 0, 1, 1, 0, 0, 0, 1, 1, 0, 2, 6, 2, 8, 5, 6, 5, 0, 1, 1,
     3, 1,
 ];
@@ -88,6 +101,27 @@ fn check_slots(
     Ok(())
 }
 
+/// What was loaded is written as it stood, or, where it stood in the layout of old, as a text that loads as the same.
+fn check_written(
+    rt: &impl Abort,
+    alloc: Global,
+    saved: &Saved,
+    bytes: &[u8],
+) -> Result<(), Fail>
+    requires { IsSavable (parts_of saved.now) }
+{
+    let text = save_text(alloc, saved)?;
+    if bytes.get(3) == Some(&b'2') {
+        assert!(rt; text.as_slice() == bytes);
+        return Ok(());
+    }
+    let again = load(alloc, &text).map_err(|_| Fail::from("a written text loads"))?;
+    assert!(rt; (again.party, again.save) == (saved.party, saved.save));
+    assert!(rt; again.claim == saved.claim && is_front(&again.log, &saved.log));
+    assert!(rt; again.log.len() == saved.log.len());
+    Ok(())
+}
+
 /// The bytes are loaded, and restored in either slot, alone and beside a good text.
 fn check_saved(
     rt: &impl Abort,
@@ -97,7 +131,7 @@ fn check_saved(
     party: u8,
 ) -> Result<(), Fail> {
     if let Ok(saved) = load(alloc, bytes) {
-        assert!(rt; save_text(alloc, &saved)?.as_slice() == bytes);
+        check_written(rt, alloc, &saved, bytes)?;
         check_legal(rt, alloc, &saved.log)?;
     }
     check_slots(rt, alloc, bytes, good, party)?;
@@ -143,5 +177,7 @@ fn check_altered_saves(rt: &impl Abort, alloc: Global, text: &[u8], party: u8) -
 #[test]
 fn altered_saves(rt: HostRuntime) -> Result<(), Fail> {
     check_altered_saves(&rt, rt.alloc(), &REFEREE_SAVE, REFEREE)?;
-    check_altered_saves(&rt, rt.alloc(), &SEAT_SAVE, 1)
+    check_altered_saves(&rt, rt.alloc(), &SEAT_SAVE, 1)?;
+    check_altered_saves(&rt, rt.alloc(), &REFEREE_SAVE_OF_OLD, REFEREE)?;
+    check_altered_saves(&rt, rt.alloc(), &SEAT_SAVE_OF_OLD, 1)
 }

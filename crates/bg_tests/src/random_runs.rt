@@ -2,7 +2,7 @@
 use crate::actions::action_of;
 use crate::fronts::{MemoryWorld, check_fronts};
 use bg_board::Player;
-use bg_match::{Action, Entry, Phase, Record, entry_of};
+use bg_match::{Action, Entry, Number, Phase, Record, entry_of};
 use bg_party::Learned;
 use bg_referee::TakeOutcome;
 use bg_wire::party_of;
@@ -92,7 +92,7 @@ fn event_of(world: &MemoryWorld, a: u32, b: u32) -> Event {
 }
 
 /// What was claimed: by whom, under which number, and which action.
-type Claims = Vec<(Player, u16, Action)>;
+type Claims = Vec<(Player, Number, Action)>;
 
 /// How often each of these came.
 #[derive(Clone, Copy, Default)]
@@ -119,7 +119,7 @@ fn count(counts: &mut Counts, outcome: &Outcome) {
 }
 
 /// Whether the entry answers one of the claims that its seat made under its number.
-fn is_claimed(claims: &Claims, seat: Player, number: u16, entry: &Entry) -> bool {
+fn is_claimed(claims: &Claims, seat: Player, number: Number, entry: &Entry) -> bool {
     let dice = match entry {
         Entry::Rolled(dice) => Some(*dice),
         _ => None,

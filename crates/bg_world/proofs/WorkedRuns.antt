@@ -21,7 +21,8 @@ use Rattle.bg_match.specs.declared.phases.Actor.TheVariants.{Seat}
 use Rattle.bg_match.specs.declared.phases.Phase.TheVariants as phase
 use Rattle.bg_wire.specs.PacketText.{IsPacket, packet_text}
 use Rattle.bg_wire.specs.Runs.{IsRun}
-use Rattle.bg_wire.specs.SavedText.{SavedParts, IsWrittenText, saved_text}
+use Rattle.bg_wire.proofs.SavedLaws.{written_is_saved}
+use Rattle.bg_wire.specs.SavedText.{SavedParts, IsWrittenText, written_text}
 use Rattle.bg_wire.specs.declared.packets.Datagram.{Datagram}
 use Rattle.bg_wire.specs.declared.packets.Packet.{Packet}
 use Rattle.bg_wire.specs.declared.packets.Packet.TheVariants as packet
@@ -133,7 +134,7 @@ turn_in_range = record {
   each = (record { starts = omega arith; lower = omega arith }, (record { starts = omega arith; lower = omega arith }, tt));
 }
 
-opening_written : IsWrittenText save_of_opening (saved_text save_of_opening)
+opening_written : IsWrittenText save_of_opening (written_text save_of_opening)
 opening_written = record {
   layout = record {
     in_layout = record {
@@ -152,7 +153,7 @@ opening_written = record {
   legal = opening_next;
 }
 
-claim_written : IsWrittenText save_of_claim (saved_text save_of_claim)
+claim_written : IsWrittenText save_of_claim (written_text save_of_claim)
 claim_written = record {
   layout = record {
     in_layout = record {
@@ -171,7 +172,7 @@ claim_written = record {
   legal = opening_next;
 }
 
-turn_written : IsWrittenText save_of_turn (saved_text save_of_turn)
+turn_written : IsWrittenText save_of_turn (written_text save_of_turn)
 turn_written = record {
   layout = record {
     in_layout = record {
@@ -231,7 +232,7 @@ abbrev opening_saved : ProtocolState
 opening_saved = record opened {
   referee = record (opened.referee) {
     saved = 1;
-    slots = record { zero = []; one = saved_text save_of_opening };
+    slots = record { zero = []; one = written_text save_of_opening };
     restorable = Some save_of_opening;
   };
 }
@@ -251,7 +252,7 @@ x_chose = with_seat x_learned X (record (x_learned.x) { claim = Some (2, action.
 abbrev claim_saved : ProtocolState
 claim_saved = with_seat x_chose X (record (x_chose.x) {
   claim_saved = true;
-  slots = record { zero = []; one = saved_text save_of_claim };
+  slots = record { zero = []; one = written_text save_of_claim };
   restorable = Some save_of_claim;
 })
 
@@ -265,7 +266,7 @@ abbrev turn_saved : ProtocolState
 turn_saved = record accepted {
   referee = record (accepted.referee) {
     saved = 2;
-    slots = record { zero = saved_text save_of_turn; one = saved_text save_of_opening };
+    slots = record { zero = written_text save_of_turn; one = written_text save_of_opening };
     restorable = Some save_of_turn;
   };
 }
@@ -289,11 +290,11 @@ opening_is_saved = (
     _,
     _,
     record {
-      text = saved_text save_of_opening;
+      text = written_text save_of_opening;
       is_text = opening_written;
       after = record {
         slots = refl;
-        restore = record { first = None; second = Some save_of_opening; first_loads = empty_loads; second_loads = opening_written; is_newer = refl };
+        restore = record { first = None; second = Some save_of_opening; first_loads = empty_loads; second_loads = written_is_saved _ _ opening_written; is_newer = refl };
       };
     },
     refl,
@@ -358,11 +359,11 @@ claim_is_saved = (
       _,
       _,
       record {
-        text = saved_text save_of_claim;
+        text = written_text save_of_claim;
         is_text = claim_written;
         after = record {
           slots = refl;
-          restore = record { first = None; second = Some save_of_claim; first_loads = empty_loads; second_loads = claim_written; is_newer = refl };
+          restore = record { first = None; second = Some save_of_claim; first_loads = empty_loads; second_loads = written_is_saved _ _ claim_written; is_newer = refl };
         };
       },
       refl,
@@ -396,11 +397,11 @@ turn_is_saved = (
     _,
     _,
     record {
-      text = saved_text save_of_turn;
+      text = written_text save_of_turn;
       is_text = turn_written;
       after = record {
         slots = refl;
-        restore = record { first = Some save_of_turn; second = Some save_of_opening; first_loads = turn_written; second_loads = opening_written; is_newer = refl };
+        restore = record { first = Some save_of_turn; second = Some save_of_opening; first_loads = written_is_saved _ _ turn_written; second_loads = written_is_saved _ _ opening_written; is_newer = refl };
       };
     },
     refl,

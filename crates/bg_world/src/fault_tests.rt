@@ -4,6 +4,7 @@ use crate::test_rows::{
     events_of, held, world,
 };
 use crate::{FailRead, FailSend, RunReport, Tear, WorldFault};
+use bg_match::Number;
 use std::alloc::Global;
 use std::process::Abort;
 use std::test::Fail;
@@ -33,7 +34,7 @@ fn check_torn(
     rt: &impl Abort,
     alloc: Global,
     cut: Option<u32>,
-    entries: u16,
+    entries: Number,
     then: &[Row],
 ) -> Result<(), WorldFault> {
     let tear = Tear {
@@ -54,14 +55,14 @@ fn check_torn(
     Ok(())
 }
 
-/// The text of the save has 30 bytes.
+/// The text of the save has 33 bytes.
 #[test]
 fn torn_saves(rt: HostRuntime) -> Result<(), Fail> {
     check_torn(&rt, rt.alloc(), None, 1, &THE_SAVE_BEFORE)?;
-    for cut in 0..30 {
+    for cut in 0..33 {
         check_torn(&rt, rt.alloc(), Some(cut), 1, &THE_SAVE_BEFORE)?;
     }
-    check_torn(&rt, rt.alloc(), Some(30), 2, &THE_SAVE_ITSELF)?;
+    check_torn(&rt, rt.alloc(), Some(33), 2, &THE_SAVE_ITSELF)?;
     Ok(())
 }
 

@@ -18,7 +18,7 @@ fn check(rt: &impl Abort, outcome: Outcome, line: &str) {
 
 #[test]
 fn lines_of_due(rt: HostRuntime) {
-    check(&rt, Outcome::Due(Ok(65535)), "entry 65535");
+    check(&rt, Outcome::Due(Ok(1_000_000)), "entry 1000000");
     for (fault, line) in [
         (DueFault::NothingDue, "due refused: nothing due"),
         (DueFault::WordRefused, "due refused: word refused"),
@@ -86,7 +86,7 @@ fn lines_of_followers(rt: HostRuntime) {
         (Learned::Nothing, "nothing"),
         (Learned::Conflict(7), "conflict 7"),
         (Learned::Gap, "gap"),
-        (Learned::Illegal(65535), "illegal entry 65535"),
+        (Learned::Illegal(1_000_000), "illegal entry 1000000"),
         (Learned::Memory, "out of memory"),
         (Learned::Grew(8), "learned 8"),
     ] {

@@ -107,12 +107,12 @@ fn took_text(took: &TakeOutcome) -> Line
 }
 
 /// The numbers of the first and of the last entry that a packet tells.
-fn told(packet: &Packet) -> Option<(u16, u32)>
+fn told(packet: &Packet) -> Option<(Number, u64)>
     ensures { result ≡ entries_told packet.now }
 {
     match packet {
         Packet::Entries { start, list, .. } => {
-            let next = u32::from(*start) + list.entries.len() as u32;
+            let next = u64::from(*start) + list.entries.len() as u64;
             Some((*start, next.saturating_sub(1)))
         }
         Packet::Want { .. } | Packet::Claim { .. } => None,

@@ -5,6 +5,7 @@ use crate::test_rows::{
     plan, setup,
 };
 use crate::{RunReport, Tear, WorldFault, simulate};
+use bg_match::Number;
 use std::alloc::Global;
 use std::process::Abort;
 use std::test::Fail;
@@ -72,7 +73,7 @@ fn check_torn(
     rows: &[Row],
     nth: u32,
     cut: Option<u32>,
-    entries: u16,
+    entries: Number,
     next: u32,
 ) -> Result<(), WorldFault> {
     let tear = Tear { party: 0, nth, cut };
@@ -87,25 +88,25 @@ fn check_torn(
     Ok(())
 }
 
-/// The text of the fourth save has 30 bytes: only all of them are restored, else the third save is.
+/// The text of the fourth save has 33 bytes: only all of them are restored, else the third save is.
 #[test]
 fn later_saves_torn(rt: HostRuntime) -> Result<(), Fail> {
     check_torn(&rt, rt.alloc(), &FOUR_SAVES, 4, None, 1, 4)?;
-    for cut in 0..30 {
+    for cut in 0..33 {
         check_torn(&rt, rt.alloc(), &FOUR_SAVES, 4, Some(cut), 1, 4)?;
     }
-    check_torn(&rt, rt.alloc(), &FOUR_SAVES, 4, Some(30), 2, 5)?;
-    check_torn(&rt, rt.alloc(), &FOUR_SAVES, 4, Some(31), 2, 5)?;
+    check_torn(&rt, rt.alloc(), &FOUR_SAVES, 4, Some(33), 2, 5)?;
+    check_torn(&rt, rt.alloc(), &FOUR_SAVES, 4, Some(34), 2, 5)?;
     Ok(())
 }
 
-/// The text of the first save has 24 bytes: but for all of them the referee comes back fresh.
+/// The text of the first save has 27 bytes: but for all of them the referee comes back fresh.
 #[test]
 fn first_saves_torn(rt: HostRuntime) -> Result<(), Fail> {
     check_torn(&rt, rt.alloc(), &ONE_SAVE, 1, None, 0, 1)?;
-    for cut in 0..24 {
+    for cut in 0..27 {
         check_torn(&rt, rt.alloc(), &ONE_SAVE, 1, Some(cut), 0, 1)?;
     }
-    check_torn(&rt, rt.alloc(), &ONE_SAVE, 1, Some(24), 1, 2)?;
+    check_torn(&rt, rt.alloc(), &ONE_SAVE, 1, Some(27), 1, 2)?;
     Ok(())
 }

@@ -5,7 +5,7 @@ use crate::{
 };
 use arrayvec::ArrayVec;
 use bg_board::{Player, Step};
-use bg_match::Action;
+use bg_match::{Action, Number};
 use bg_party::{ChooseFault, Learned};
 use bg_referee::TakeOutcome;
 use bg_turns::Turn;
@@ -34,15 +34,15 @@ pub(crate) enum Happens {
 /// What an event comes to, in a form that constants have.
 #[derive(Clone, Copy)]
 pub(crate) enum ComesTo {
-    Opened(u16),
-    Accepted(u16),
+    Opened(Number),
+    Accepted(Number),
     Nothing,
     /// An answer to a party, of entries from a number on, so many.
-    Answer(u8, u16, usize),
+    Answer(u8, Number, usize),
     Learned(u8),
     LearnedNothing,
     Gap,
-    Claimed(u16),
+    Claimed(Number),
     AlreadyClaimed,
     Saved(u32),
     Sent(u8),
@@ -171,7 +171,7 @@ pub(crate) fn event(happens: Happens) -> Event {
 }
 
 /// Whether it is an answer to the party, of entries from this number on, so many.
-fn is_answer(outcome: &Outcome, party: u8, first: u16, count: usize) -> bool {
+fn is_answer(outcome: &Outcome, party: u8, first: Number, count: usize) -> bool {
     match outcome {
         Outcome::Took(TakeOutcome::Answer(to, Packet::Entries { start, list, .. })) => {
             *to == party && *start == first && list.entries.len() == count
@@ -213,7 +213,7 @@ pub(crate) fn check_rows(rt: &impl Abort, world: &mut MemoryWorld, rows: &[Row])
 }
 
 /// How many entries a party holds, if it is there and up.
-pub(crate) fn held(world: &MemoryWorld, party: u8) -> Option<u16> {
+pub(crate) fn held(world: &MemoryWorld, party: u8) -> Option<Number> {
     Some(world.held(party)?.len())
 }
 

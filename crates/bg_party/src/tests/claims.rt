@@ -1,6 +1,6 @@
 //! What a seat claims and sends, saves and resumes.
 use super::{
-    FIRST_SAVE, MOVED, after_the_opening, asks, claims_a_move, claims_a_roll, holds_the_opening,
+    FIRST_SAVE, FIRST_SAVE_OF_OLD, MOVED, after_the_opening, asks, claims_a_move, claims_a_roll, holds_the_opening,
     one_gives, opening_move, packet, size_of_save,
 };
 use crate::{ChooseFault, Learned, Seat};
@@ -25,7 +25,7 @@ fn is_silent(seat: &mut Seat) -> bool {
 
 /// Whether the seat of X sends the claim of the opening move as entry 2.
 fn sends_the_claim(seat: &mut Seat) -> bool {
-    let Some(claim) = packet(2, 1, &[1, 0, 2], &MOVED, &[]) else {
+    let Some(claim) = packet(2, 1, &[1, 0, 0, 0, 2], &MOVED, &[]) else {
         return false;
     };
     seat.tick() == Some(claim)
@@ -60,13 +60,22 @@ fn resumed(alloc: Global, bytes: &[u8]) -> Option<Seat> {
     }
 }
 
-/// Whether a seat that goes on from the first save has its record and its claim, which it sends and does not make
-/// again.
-fn goes_on_from_the_first_save(alloc: Global) -> bool {
-    let Some(mut seat) = resumed(alloc, &FIRST_SAVE) else {
+/// Whether the next save is the second, with the text of the first but for its number.
+fn is_second_save(seat: &Seat) -> Result<bool, SaveRefusal> {
+    let mut second = FIRST_SAVE;
+    second[18] = 2;
+    let (slot, save, text) = seat.to_save()?;
+    Ok((slot, save) == (Slot::Zero, 2) && text.as_slice() == second.as_slice())
+}
+
+/// Whether a seat that goes on from a text of the first save has its record and its claim, which it sends and does
+/// not make again, and saves both in the layout that is written.
+fn goes_on_from_the_first_save(alloc: Global, text: &[u8]) -> bool {
+    let Some(mut seat) = resumed(alloc, text) else {
         return false;
     };
     holds_the_opening(&seat)
+        && is_second_save(&seat) == Ok(true)
         && has_the_claim(&seat)
         && sends_the_claim(&mut seat)
         && claims_a_roll(&mut seat) == Err(ChooseFault::AlreadyClaimed)
@@ -75,7 +84,7 @@ fn goes_on_from_the_first_save(alloc: Global) -> bool {
 /// Whether a seat that goes on from the last save keeps all that it has, and saves no more.
 fn goes_on_from_the_last_save(alloc: Global) -> bool {
     let mut last = FIRST_SAVE;
-    last[14..18].copy_from_slice(&[0xFF; 4]);
+    last[15..19].copy_from_slice(&[0xFF; 4]);
     match resumed(alloc, &last) {
         Some(seat) => {
             size_of_save(&seat) == Err(SaveRefusal::SavesSpent)
@@ -88,7 +97,8 @@ fn goes_on_from_the_last_save(alloc: Global) -> bool {
 
 #[test]
 fn resumes(rt: HostRuntime) -> Result<(), Fail> {
-    assert!(rt; goes_on_from_the_first_save(rt.alloc()));
+    assert!(rt; goes_on_from_the_first_save(rt.alloc(), &FIRST_SAVE));
+    assert!(rt; goes_on_from_the_first_save(rt.alloc(), &FIRST_SAVE_OF_OLD));
     assert!(rt; goes_on_from_the_last_save(rt.alloc()));
     Ok(())
 }

@@ -47,9 +47,9 @@ fn entries_that_change_no_record(rt: HostRuntime) -> Result<(), Fail> {
 #[test]
 fn packets_that_change_no_record(rt: HostRuntime) -> Result<(), Fail> {
     let mut seat = after_the_opening(rt.alloc(), Player::X)?;
-    assert!(rt; packet_gives(&mut seat, 1, 1, &[3, 0, 0], &[], Learned::Nothing));
-    assert!(rt; packet_gives(&mut seat, 2, 1, &[1, 0, 2], &MOVED, Learned::Nothing));
-    assert!(rt; packet_gives(&mut seat, 1, 2, &[3, 0, 0], &[], Learned::OtherMatch));
+    assert!(rt; packet_gives(&mut seat, 1, 1, &[3, 0, 0, 0, 0], &[], Learned::Nothing));
+    assert!(rt; packet_gives(&mut seat, 2, 1, &[1, 0, 0, 0, 2], &MOVED, Learned::Nothing));
+    assert!(rt; packet_gives(&mut seat, 1, 2, &[3, 0, 0, 0, 0], &[], Learned::OtherMatch));
     assert!(rt; packet_gives(&mut seat, 3, 2, &[0, 2, 1], &MOVED, Learned::OtherMatch));
     assert!(rt; holds_the_opening(&seat));
     Ok(())

@@ -20,13 +20,13 @@ use std::test::Fail;
 const SEED: u64 = 7;
 
 /// Packets of match 7 that no party of it sends: an opening 5 6, another one 1 2, a claim of X and one of O to resign
-/// as entry 2, and party 1 asking for what follows entry 65535.
+/// as entry 2, and party 1 asking for what follows entry 1000000.
 const FORGED: [&[u8]; 5] = [
-    &[0x42, 0x47, 1, 3, 0, 0, 0, 0, 0, 0, 0, 7, 0, 1, 1, 1, 5, 6],
-    &[0x42, 0x47, 1, 3, 0, 0, 0, 0, 0, 0, 0, 7, 0, 1, 1, 1, 1, 2],
-    &[0x42, 0x47, 1, 2, 0, 0, 0, 0, 0, 0, 0, 7, 1, 0, 2, 7, 3],
-    &[0x42, 0x47, 1, 2, 0, 0, 0, 0, 0, 0, 0, 7, 2, 0, 2, 7, 3],
-    &[0x42, 0x47, 1, 1, 0, 0, 0, 0, 0, 0, 0, 7, 1, 0xFF, 0xFF],
+    &[0x42, 0x47, 2, 3, 0, 0, 0, 0, 0, 0, 0, 7, 1, 0, 0, 0, 1, 1, 1, 5, 6],
+    &[0x42, 0x47, 2, 3, 0, 0, 0, 0, 0, 0, 0, 7, 1, 0, 0, 0, 1, 1, 1, 1, 2],
+    &[0x42, 0x47, 2, 2, 0, 0, 0, 0, 0, 0, 0, 7, 1, 1, 0, 0, 0, 2, 7, 3],
+    &[0x42, 0x47, 2, 2, 0, 0, 0, 0, 0, 0, 0, 7, 1, 2, 0, 0, 0, 2, 7, 3],
+    &[0x42, 0x47, 2, 1, 0, 0, 0, 0, 0, 0, 0, 7, 1, 1, 0, 0x0F, 0x42, 0x40],
 ];
 
 /// Another process, which sends forged packets to each party after each event.
