@@ -1,5 +1,5 @@
 -- How long texts are at most.
-use Rattle.std.proofs.Common.{◌≡◌, ℕ, ◌*◌, ◌≤◌, List, [], ◌∷◌, length, Option, Some, None, refl, ap, arith, length-append}
+use Rattle.std.proofs.Common.{◌≡◌, ℕ, ◌+◌, ◌*◌, ◌≤◌, List, [], ◌∷◌, length, Option, Some, None, refl, ap, arith, length-append}
 use Rattle.std.specs.Int.{w32, to_be_bytes}
 use Rattle.std.specs.List.{flat_map, AllByRecursion}
 use Rattle.std.proofs.lemmas.List.Concat.{flat_map-cons}
@@ -23,6 +23,9 @@ use Rattle.bg_wire.specs.SavedText.{SavedParts, saved_text, IsClaimOf, IsInLayou
 pub length-steps : (steps : List FromTo) → length (flat_map step_bytes steps) ≡ 2 * length steps
 length-steps [] = refl
 length-steps (step ∷ steps) = omega (arith, ap length (flat_map-cons step_bytes step steps), length-steps steps)
+
+pub turn_bytes_len : (steps : List FromTo) → length (turn_bytes steps) ≡ 1 + 2 * length steps
+turn_bytes_len steps = omega (arith, length-steps steps)
 
 length-turn_text : (steps : List FromTo) → IsTurn steps → length (turn_bytes steps) ≤ 9
 length-turn_text steps turn = omega (arith, length-steps steps, turn.few)

@@ -42,6 +42,7 @@ mod slot_laws;
 mod slots;
 #[cfg(test)]
 mod test_bytes;
+mod text_lengths;
 
 pub use codec::{decode, encode, packet_texts_are_prefix_free};
 pub use faults::{LoadFault, RestoreRefusal, SaveRefusal, WireFault};

@@ -16,6 +16,7 @@ ghost use Rattle.bg_wire.specs.SavedReading.{layout_of, entries_of, append_fault
 use crate::entry_reading::entry;
 use crate::entry_writing::put_entry;
 use crate::reader::Reader;
+use crate::text_lengths::entries_len;
 use crate::{LoadFault, SaveRefusal, Saved, Slot, saved_layouts as layout};
 use arrayvec::ArrayVec;
 use bg_match::{Action, EntryFault, MOST_ENTRIES, Number, Record};
@@ -59,7 +60,7 @@ pub fn next_save(
     }
 }
 
-/// The saved text of these parts.
+/// The saved text of these parts. Room for it is made once.
 fn text_of(
     alloc: Global,
     party: u8,
@@ -72,8 +73,9 @@ fn text_of(
         IsWrittenText (parts_with party save claim.now log.now) text.items) }
     ensures longest { IfOk result (λ text. vec_len text ≤ longest_saved_text) }
 {
-    let mut text = Vec::new(alloc);
-    text.extend_from_slice(layout::front_text(party, save, claim, log).as_slice())?;
+    let front = layout::front_text(party, save, claim, log);
+    let mut text = Vec::with_capacity(alloc, front.len() + entries_len(log))?;
+    text.extend_from_slice(front.as_slice())?;
     push_entries(&mut text, log)?;
     Ok(text)
 }
@@ -86,7 +88,7 @@ pub fn saved_texts_are_prefix_free()
 /// Room for the texts of some hundred entries.
 type Chunk = ArrayVec<u8, 1024>;
 
-/// Appends the texts of all entries, some hundred at a time: a vector grows slowly by a few bytes.
+/// Appends the texts of all entries, some hundred at a time.
 fn push_entries(text: &mut Vec<u8>, log: &Record) -> Result<(), AllocError>
     ensures { OnOk result (text.new.items ≡ text.old.items ++ entries_bytes log.now.entries) }
 {

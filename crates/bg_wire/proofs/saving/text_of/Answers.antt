@@ -5,13 +5,19 @@ use Rattle.bg_wire.proofs.Lengths.{length-saved_text}
 use Rattle.bg_wire.proofs.saving.text_of.Goals as goal
 
 pub returns-clause-text : goal.returns-clause-text
-returns-clause-text c = record {
-  layout = record {
-    in_layout = c.front_text.ensures.in_layout;
-    spelled = c.in_ok-push_entries.ensures ∙ ap (λ (r : List ℕ). r ++ entries_bytes c.args.log.now.entries) (c.in_ok-extend_from_slice.ensures.items ∙ ap (λ (r : List ℕ). r ++ c.as_slice.result.now) c.new-text.ensures.items ∙ c.as_slice.ensures.value ∙ c.front_text.ensures.text);
-  };
-  legal = c.front_text.ensures.legal;
-}
+returns-clause-text c =
+    let front = c.front_text-front.ensures in
+    let made = c.in_ok-text.ensures.items in
+    let begun = c.in_ok-extend_from_slice.ensures.items ∙ ap (λ (r : List ℕ). r ++ c.as_slice.result.now) made
+    ∙ c.as_slice.ensures.value ∙ front.text in
+    record {
+      layout = record {
+        in_layout = front.in_layout;
+        spelled = c.in_ok-push_entries.ensures
+            ∙ ap (λ (r : List ℕ). r ++ entries_bytes c.args.log.now.entries) begun;
+      };
+      legal = front.legal;
+    }
 
 pub returns-clause-longest : goal.returns-clause-longest
 returns-clause-longest c =
