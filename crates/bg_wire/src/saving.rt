@@ -1,5 +1,5 @@
 //! Saved texts, written and read.
-ghost use Rattle.std.specs.Prelude.{◌≡◌, ◌≢◌, ◌↔◌, ◌<◌, ◌≤◌, ◌+◌, ◌++◌, [], List, ℕ, IsOk, IfOk, IfErr, OnOk, vec_len};
+ghost use Rattle.std.specs.Prelude.{◌≡◌, ◌≢◌, ◌↔◌, ◌<◌, ◌≤◌, ◌+◌, ◌++◌, [], List, ℕ, length, IsOk, IfOk, IfErr, vec_len, vec_capacity};
 ghost use Rattle.std.specs.List.{AllByRecursion};
 ghost use Rattle.arrayvec.specs.ArrayVec.{array_vec_len};
 ghost use Rattle.bg_match.specs.Limits.{most_entries};
@@ -75,8 +75,8 @@ fn text_of(
 {
     let front = layout::front_text(party, save, claim, log);
     let mut text = Vec::with_capacity(alloc, front.len() + entries_len(log))?;
-    text.extend_from_slice(front.as_slice())?;
-    push_entries(&mut text, log)?;
+    append(&mut text, front.as_slice());
+    push_entries(&mut text, log);
     Ok(text)
 }
 
@@ -88,16 +88,26 @@ pub fn saved_texts_are_prefix_free()
 /// Room for the texts of some hundred entries.
 type Chunk = ArrayVec<u8, 1024>;
 
-/// Appends the texts of all entries, some hundred at a time.
-fn push_entries(text: &mut Vec<u8>, log: &Record) -> Result<(), AllocError>
-    ensures { OnOk result (text.new.items ≡ text.old.items ++ entries_bytes log.now.entries) }
+/// Appends the texts of all entries, for which there is room, some hundred at a time.
+fn push_entries(text: &mut Vec<u8>, log: &Record)
+    requires room { length text.old.items + length (entries_bytes log.now.entries) ≤ vec_capacity text.old }
+    ensures { text.new.items ≡ text.old.items ++ entries_bytes log.now.entries }
 {
     let mut chunk = Chunk::new();
     for index in 0..log.len() {
         put_index(&mut chunk, log, index);
-        make_room(text, &mut chunk)?;
+        make_room(text, &mut chunk);
     }
-    text.extend_from_slice(chunk.as_slice())
+    append(text, chunk.as_slice());
+}
+
+/// Appends bytes for which there is room.
+fn append(text: &mut Vec<u8>, bytes: &[u8])
+    requires { length text.old.items + length bytes.now ≤ vec_capacity text.old }
+    ensures items { text.new.items ≡ text.old.items ++ bytes.now }
+    ensures capacity { vec_capacity text.old ≤ vec_capacity text.new }
+{
+    text.extend_from_slice(bytes).unwrap();
 }
 
 /// The text of the entry of this index, from 0; nothing past the end.
@@ -113,16 +123,17 @@ fn put_index(chunk: &mut Chunk, log: &Record, index: Number)
     }
 }
 
-/// Appends a chunk that has no room for a further entry, and empties it.
-fn make_room(text: &mut Vec<u8>, chunk: &mut Chunk) -> Result<(), AllocError>
-    ensures same { OnOk result (text.new.items ++ chunk.new.items ≡ text.old.items ++ chunk.old.items) }
-    ensures room { OnOk result (array_vec_len chunk.new + 10 ≤ 1024) }
+/// Appends a chunk that has no room for a further entry, and empties it. The text has room for it.
+fn make_room(text: &mut Vec<u8>, chunk: &mut Chunk)
+    requires { length (text.old.items ++ chunk.old.items) ≤ vec_capacity text.old }
+    ensures same { text.new.items ++ chunk.new.items ≡ text.old.items ++ chunk.old.items }
+    ensures room { array_vec_len chunk.new + 10 ≤ 1024 }
+    ensures capacity { vec_capacity text.old ≤ vec_capacity text.new }
 {
     if chunk.remaining_capacity() < 10 {
-        text.extend_from_slice(chunk.as_slice())?;
+        append(text, chunk.as_slice());
         chunk.clear();
     }
-    Ok(())
 }
 
 /// What the saved text says (docs/FORMATS.md, "Saved files"). The claim is not compared with the record.

@@ -8,12 +8,12 @@ pub returns-clause-text : goal.returns-clause-text
 returns-clause-text c =
     let front = c.front_text-front.ensures in
     let made = c.in_ok-text.ensures.items in
-    let begun = c.in_ok-extend_from_slice.ensures.items ∙ ap (λ (r : List ℕ). r ++ c.as_slice.result.now) made
+    let begun = c.append.ensures.items ∙ ap (λ (r : List ℕ). r ++ c.as_slice.result.now) made
     ∙ c.as_slice.ensures.value ∙ front.text in
     record {
       layout = record {
         in_layout = front.in_layout;
-        spelled = c.in_ok-push_entries.ensures
+        spelled = c.push_entries.ensures
             ∙ ap (λ (r : List ℕ). r ++ entries_bytes c.args.log.now.entries) begun;
       };
       legal = front.legal;
