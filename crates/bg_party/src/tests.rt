@@ -42,8 +42,8 @@ const REJECTED: [u8; 1] = [9];
 
 /// The first save of the seat of X: the opening 3 1, and the claim of 8-5 6-5 as entry 2.
 const FIRST_SAVE: [u8; 37] = [
-    0x42, 0x47, 0x53, 0x32, 0x01, 0, 0, 0, 0, 0, 0, 0, 0x01, 0x01, 0x01, 0, 0, 0, 0x01, 0x01, 0, 0, 0,
-    0x02, 0x06, 0x02, 0x08, 0x05, 0x06, 0x05, 0, 0, 0, 0x01, 0x01, 0x03, 0x01,
+    0x42, 0x47, 0x53, 0x32, 0x01, 0, 0, 0, 0, 0, 0, 0, 0x01, 0x01, 0x01, 0, 0, 0, 0x01, 0x01, 0, 0,
+    0, 0x02, 0x06, 0x02, 0x08, 0x05, 0x06, 0x05, 0, 0, 0, 0x01, 0x01, 0x03, 0x01,
 ];
 
 /// The same in the layout that is read, and no longer written.
@@ -61,7 +61,10 @@ fn packet(kind: u8, id: u8, head: &[u8], first: &[u8], second: &[u8]) -> Option<
     ensures { IfSome result IsPacket }
 {
     let mut bytes = ArrayVec::new();
-    add(&mut bytes, &[0x42, 0x47, 2, kind, 0, 0, 0, 0, 0, 0, 0, id, 1])?;
+    add(
+        &mut bytes,
+        &[0x42, 0x47, 2, kind, 0, 0, 0, 0, 0, 0, 0, id, 1],
+    )?;
     add(&mut bytes, head)?;
     add(&mut bytes, first)?;
     add(&mut bytes, second)?;

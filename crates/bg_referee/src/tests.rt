@@ -46,8 +46,8 @@ const REJECT: [u8; 1] = [9];
 
 /// The referee's save 2 of match 1, of length 1: the opening 3 1, and 8-5 6-5.
 const SECOND_SAVE: [u8; 33] = [
-    0x42, 0x47, 0x53, 0x32, 0, 0, 0, 0, 0, 0, 0, 0, 0x01, 0x01, 0x01, 0, 0, 0, 0x02, 0, 0, 0, 0, 0x02,
-    0x01, 0x03, 0x01, 0x06, 0x02, 0x08, 0x05, 0x06, 0x05,
+    0x42, 0x47, 0x53, 0x32, 0, 0, 0, 0, 0, 0, 0, 0, 0x01, 0x01, 0x01, 0, 0, 0, 0x02, 0, 0, 0, 0,
+    0x02, 0x01, 0x03, 0x01, 0x06, 0x02, 0x08, 0x05, 0x06, 0x05,
 ];
 
 /// The same in the layout that is read, and no longer written.
@@ -67,7 +67,11 @@ fn taken(
     word: u32,
 ) -> Option<TakeOutcome> {
     let mut bytes: ArrayVec<u8, 128> = ArrayVec::new();
-    for part in [&[0x42, 0x47, 2, kind, 0, 0, 0, 0, 0, 0, 0, id, 1], head, tail] {
+    for part in [
+        &[0x42, 0x47, 2, kind, 0, 0, 0, 0, 0, 0, 0, id, 1],
+        head,
+        tail,
+    ] {
         bytes.try_extend_from_slice(part).ok()?;
     }
     let packet = decode(bytes.as_slice()).ok()?;

@@ -49,8 +49,8 @@ fn other_words_are_refused(rt: HostRuntime) -> Result<(), Fail> {
 
 /// Save 2 of the referee of match 1, length 1: an opening and its move.
 const REFEREE: [u8; 33] = [
-    0x42, 0x47, 0x53, 0x32, 0, 0, 0, 0, 0, 0, 0, 0, 1, 1, 1, 0, 0, 0, 2, 0, 0, 0, 0, 2, 1, 3, 1, 6, 2, 8, 5,
-    6, 5,
+    0x42, 0x47, 0x53, 0x32, 0, 0, 0, 0, 0, 0, 0, 0, 1, 1, 1, 0, 0, 0, 2, 0, 0, 0, 0, 2, 1, 3, 1, 6,
+    2, 8, 5, 6, 5,
 ];
 
 /// The same in the layout that is read, and no longer written.

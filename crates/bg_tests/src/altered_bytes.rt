@@ -15,9 +15,7 @@ use std::test::Fail;
 const THREE_ONE: u32 = 12;
 
 /// In match 1: watcher 3 wants all entries; X claims 8-5 6-5; the opening 3 1 and that move.
-const WANT: [u8; 18] = [
-    66, 71, 2, 1, 0, 0, 0, 0, 0, 0, 0, 1, 1, 3, 0, 0, 0, 0,
-];
+const WANT: [u8; 18] = [66, 71, 2, 1, 0, 0, 0, 0, 0, 0, 0, 1, 1, 3, 0, 0, 0, 0];
 
 const CLAIM: [u8; 24] = [
     66, 71, 2, 2, 0, 0, 0, 0, 0, 0, 0, 1, 1, 1, 0, 0, 0, 2, 6, 2, 8, 5, 6, 5,
@@ -29,12 +27,13 @@ const ENTRIES: [u8; 27] = [
 
 /// The referee's save 2 with these entries, and X's save 1 with the opening and that claim.
 const REFEREE_SAVE: [u8; 33] = [
-    66, 71, 83, 50, 0, 0, 0, 0, 0, 0, 0, 0, 1, 1, 1, 0, 0, 0, 2, 0, 0, 0, 0, 2, 1, 3, 1, 6, 2, 8, 5, 6, 5,
+    66, 71, 83, 50, 0, 0, 0, 0, 0, 0, 0, 0, 1, 1, 1, 0, 0, 0, 2, 0, 0, 0, 0, 2, 1, 3, 1, 6, 2, 8,
+    5, 6, 5,
 ];
 
 const SEAT_SAVE: [u8; 37] = [
-    66, 71, 83, 50, 1, 0, 0, 0, 0, 0, 0, 0, 1, 1, 1, 0, 0, 0, 1, 1, 0, 0, 0, 2, 6, 2, 8, 5, 6, 5, 0, 0, 0, 1,
-    1, 3, 1,
+    66, 71, 83, 50, 1, 0, 0, 0, 0, 0, 0, 0, 1, 1, 1, 0, 0, 0, 1, 1, 0, 0, 0, 2, 6, 2, 8, 5, 6, 5,
+    0, 0, 0, 1, 1, 3, 1,
 ];
 
 /// The same saves in the layout that is read, and no longer written.
@@ -102,12 +101,7 @@ fn check_slots(
 }
 
 /// What was loaded is written as it stood, or, where it stood in the layout of old, as a text that loads as the same.
-fn check_written(
-    rt: &impl Abort,
-    alloc: Global,
-    saved: &Saved,
-    bytes: &[u8],
-) -> Result<(), Fail>
+fn check_written(rt: &impl Abort, alloc: Global, saved: &Saved, bytes: &[u8]) -> Result<(), Fail>
     requires { IsSavable (parts_of saved.now) }
 {
     let text = save_text(alloc, saved)?;

@@ -1,7 +1,7 @@
 //! What a seat claims and sends, saves and resumes.
 use super::{
-    FIRST_SAVE, FIRST_SAVE_OF_OLD, MOVED, after_the_opening, asks, claims_a_move, claims_a_roll, holds_the_opening,
-    one_gives, opening_move, packet, size_of_save,
+    FIRST_SAVE, FIRST_SAVE_OF_OLD, MOVED, after_the_opening, asks, claims_a_move, claims_a_roll,
+    holds_the_opening, one_gives, opening_move, packet, size_of_save,
 };
 use crate::{ChooseFault, Learned, Seat};
 use arrayvec::ArrayVec;
