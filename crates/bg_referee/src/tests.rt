@@ -576,8 +576,8 @@ fn refused_growths(rt: HostRuntime) -> Result<(), Fail> {
     let mut referee = fresh(rt.alloc())?;
     assert!(rt; opens(&mut referee));
     assert!(rt; offers(&mut referee, 20));
-    // What stands before the entries has 21 bytes, the opening three, each of ten offers two, each rejection one.
-    assert!(rt; size_of_save(&referee) == Ok((Slot::One, 1, 53)));
+    // What stands before the entries has 24 bytes, the opening three, each of ten offers two, each rejection one.
+    assert!(rt; size_of_save(&referee) == Ok((Slot::One, 1, 56)));
     assert!(rt; referee.saved() == 0);
     assert!(rt; claim_gives(&mut referee, X, 22, &OFFER_A_GAMMON, 0, TakeOutcome::Ahead));
     Ok(())

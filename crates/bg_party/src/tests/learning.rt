@@ -50,7 +50,16 @@ fn packets_that_change_no_record(rt: HostRuntime) -> Result<(), Fail> {
     assert!(rt; packet_gives(&mut seat, 1, 1, &[3, 0, 0, 0, 0], &[], Learned::Nothing));
     assert!(rt; packet_gives(&mut seat, 2, 1, &[1, 0, 0, 0, 2], &MOVED, Learned::Nothing));
     assert!(rt; packet_gives(&mut seat, 1, 2, &[3, 0, 0, 0, 0], &[], Learned::OtherMatch));
-    assert!(rt; packet_gives(&mut seat, 3, 2, &[0, 2, 1], &MOVED, Learned::OtherMatch));
+    assert!(rt;
+        packet_gives(
+            &mut seat,
+            3,
+            2,
+            &[0, 0, 0, 2, 1],
+            &MOVED,
+            Learned::OtherMatch
+        )
+    );
     assert!(rt; holds_the_opening(&seat));
     Ok(())
 }
@@ -117,8 +126,8 @@ fn refused_growths(rt: HostRuntime) -> Result<(), Fail> {
     let mut seat = after_the_opening(rt.alloc(), Player::X)?;
     assert!(rt; learns_eleven_offers(&mut seat));
     assert!(rt; claims_a_move(&mut seat, opening_move()) == Ok(24));
-    // What stands before the entries has 29 bytes, the opening three, each of eleven offers two, each rejection one.
-    assert!(rt; size_of_save(&seat) == Ok((Slot::One, 1, 65)));
+    // What stands before the entries has 34 bytes, the opening three, each of eleven offers two, each rejection one.
+    assert!(rt; size_of_save(&seat) == Ok((Slot::One, 1, 70)));
     assert!(rt; asks(&mut seat, 1, 23));
     Ok(())
 }
