@@ -3,9 +3,11 @@ pub mod Laws
 pub mod Fields
 pub mod Lengths
 pub mod EntryLaws
+pub mod PacketBodies
 pub mod PacketLaws
 pub mod SavedClaims
 pub mod SavedFronts
+pub mod SavedFrontTexts
 pub mod SavedLaws
 pub mod SavedEntries
 pub mod Loading

@@ -1,150 +1,26 @@
 -- The law of packets, and what follows from it.
-use Rattle.std.proofs.Common.{◌≡◌, ◌≢◌, ℕ, zero, suc, ◌+◌, ◌-◌, ◌^◌, ◌<◌, ◌≤◌, Bool, true, false, cond, List, [], ◌∷◌, ◌++◌, length, get_or, Err, refl, sym, ap, subst, ◌∙◌, arith, inl, inr}
+use Rattle.std.proofs.Common.{◌≡◌, ◌≢◌, ℕ, zero, suc, ◌^◌, ◌<◌, ◌≤◌, Bool, true, false, cond, List, [], ◌∷◌, ◌++◌, length, Err, refl, ap, subst, ◌∙◌, arith}
 use Rattle.std.specs.Prelude.{◌==◌}
 use Rattle.std.specs.Int.{w16, w32, w64, to_be_bytes}
-use Rattle.std.proofs.lemmas.Bool.{cases_lt, lt-ltb, le-ltb, eqb-true, eqb-false}
-use Rattle.bg_match.specs.Entry.{IsEntry, IsAction}
-use Rattle.bg_match.specs.declared.entries.Entry.{Entry}
+use Rattle.std.proofs.lemmas.Bool.{eqb-true, eqb-false}
 use Rattle.bg_match.specs.Limits.{most_entries}
-use Rattle.bg_wire.specs.Codes.{most_in_packet, packet_magic, packet_version, want_kind, claim_kind, entries_kind, magic_offset, version_offset, kind_offset, first_number, rules_one, seat_of_x, seat_of_o, last_watcher}
+use Rattle.bg_wire.specs.Codes.{packet_magic, packet_version, want_kind, claim_kind, entries_kind, magic_offset, version_offset, kind_offset, rules_one, seat_of_x}
 use Rattle.bg_wire.specs.declared.faults.WireFault.TheVariants as fault
 use Rattle.bg_wire.specs.declared.reader.ReadFault.{ReadFault}
 use Rattle.bg_wire.specs.declared.reader.ReadFault.TheVariants as read_fault
 use Rattle.bg_wire.specs.declared.packets.Packet.{Packet}
 use Rattle.bg_wire.specs.declared.packets.Packet.TheVariants as packet
-use Rattle.bg_wire.specs.EntryText.{action_bytes, entry_bytes}
+use Rattle.bg_wire.specs.EntryText.{action_bytes}
 use Rattle.bg_wire.specs.PacketText.{header_text, list_text, packet_text, IsText, body_fields, packet_fields, packet_width}
 use Rattle.bg_wire.specs.Texts.{IsWrongAt}
-use Rattle.bg_wire.specs.Fields.{Fields, Done, Field, first_byte}
+use Rattle.bg_wire.specs.Fields.{Fields, Field, first_byte}
 use Rattle.bg_wire.specs.Faults.{IsWireFault}
-use Rattle.bg_wire.specs.Reading.{◌>>=◌, Cursor, Read, u8_at, u16_at, u32_at, u64_at, with}
-use Rattle.bg_wire.specs.EntryReading.{action_at, entry_at}
-use Rattle.bg_wire.specs.PacketReading.{wire_fault, want_at, claim_at, most_from, list_at, entries_at, body_at, behind_kind_at, packet_at}
-use Rattle.bg_wire.proofs.Laws.{IsBytes, from_front, is_wrong_at, is_cut, Law, Then, Mapped, Choice, HasText, OneByte, has_then, has_mapped, has_choice, then_of, with_law, other_text}
-use Rattle.bg_wire.proofs.Widths.{Of, then_field, last_field, byte_fields, choice_of}
-use Rattle.bg_wire.proofs.Fields.{Byte, Number, Long, Word, has_byte, has_number, has_long, has_word, one_byte, u16_law, u32_law, u64_law}
-use Rattle.bg_wire.proofs.EntryLaws.{Spells, IsCounted, has_action, has_entry, counted_law, action_law, entry_law}
-
--- ---- how many entries a packet tells
-
-fits_room : (start n : ℕ) → n ≤ most_in_packet → start + n ≤ most_entries + 1 → n ≤ most_from start
-fits_room start n le fits = elim (cases_lt (most_entries + 1 - start) most_in_packet) [
-  | inl few ↦ let is : most_from start ≡ most_entries + 1 - start = rw (lt-ltb _ _ few) refl in omega arith
-  | inr many ↦ let is : most_from start ≡ most_in_packet = rw (le-ltb _ _ many) refl in omega arith
-]
-
-room_fits : (start n : ℕ) → start ≤ most_entries → n ≤ most_from start
-    → (n ≤ most_in_packet) × (start + n ≤ most_entries + 1)
-room_fits start n fits le = elim (cases_lt (most_entries + 1 - start) most_in_packet) [
-  | inl few ↦ let is : most_from start ≡ most_entries + 1 - start = rw (lt-ltb _ _ few) refl in
-      (omega arith, omega arith)
-  | inr many ↦ let is : most_from start ≡ most_in_packet = rw (le-ltb _ _ many) refl in (omega arith, omega arith)
-]
-
--- ---- what follows the header
-
-abbrev WantParts : ℕ → Packet → List ℕ → Type 0
-WantParts id = Then (Byte seat_of_x last_watcher) (λ s. Mapped (packet.Want id s) (Long 0 most_entries))
-
-has_held : (id s : ℕ) → HasText (Mapped (packet.Want id s) (Long 0 most_entries))
-has_held id s = has_mapped (packet.Want id s) (has_long 0 most_entries (omega arith) (omega arith))
-
-has_want : (id : ℕ) → HasText (WantParts id)
-has_want id = has_then (has_byte seat_of_x last_watcher (omega arith)) (λ s first h. has_held id s)
-
-byte_len : (low high x : ℕ) (front : List ℕ) → Byte low high x front → length front ≡ 1
-byte_len low high x front h = ap length h.2
-
-number_len : (low high n : ℕ) (front : List ℕ) → Number low high n front → length front ≡ 2
-number_len low high n front h = ap length h.3
-
-long_len : (low high n : ℕ) (front : List ℕ) → Long low high n front → length front ≡ 4
-long_len low high n front h = ap length h.3
-
-word_len : (n : ℕ) (front : List ℕ) → Word n front → length front ≡ 8
-word_len n front h = ap length h.1
-
-want_law : (id : ℕ) → Law (Of (Field 1 (λ sender. Field 4 (λ held. Done)))) (want_at id) (WantParts id)
-unfolding want_at
-want_law id =
-    then_field 1 _ (λ s. Field 4 (λ held. Done)) (u8_at seat_of_x last_watcher)
-    (λ s c. with (packet.Want id s) (u32_at 0 most_entries c)) (omega arith)
-    (one_byte seat_of_x last_watcher) (byte_len seat_of_x last_watcher) (λ s first h. refl)
-    (λ s. with_law (packet.Want id s) (u32_at 0 most_entries)
-    (last_field 4 (λ held. Done) (u32_at 0 most_entries) (u32_law 0 most_entries))) (λ s first h. has_held id s)
-
-abbrev ClaimParts : ℕ → Packet → List ℕ → Type 0
-ClaimParts id = Then (Byte seat_of_x seat_of_o)
-    (λ s. Then (Long first_number most_entries) (λ n. Mapped (packet.Claim id s n) (Spells IsAction action_bytes)))
-
-has_claimed : (id s n : ℕ) → HasText (Mapped (packet.Claim id s n) (Spells IsAction action_bytes))
-has_claimed id s n = has_mapped (packet.Claim id s n) has_action
-
-has_claim_of : (id s : ℕ)
-    → HasText (Then (Long first_number most_entries)
-    (λ n. Mapped (packet.Claim id s n) (Spells IsAction action_bytes)))
-has_claim_of id s = has_then (has_long first_number most_entries (omega arith) (omega arith))
-    (λ n first h. has_claimed id s n)
-
-has_claim : (id : ℕ) → HasText (ClaimParts id)
-has_claim id = has_then (has_byte seat_of_x seat_of_o (omega arith)) (λ s first h. has_claim_of id s)
-
-claim_law : (id : ℕ) → Law (Of (Field 1 (λ sender. Field 4 (λ number. Done)))) (claim_at id) (ClaimParts id)
-unfolding claim_at
-claim_law id =
-    then_field 1 _ (λ s. Field 4 (λ number. Done)) (u8_at seat_of_x seat_of_o)
-    (λ s c. u32_at first_number most_entries c >>= λ n. with (packet.Claim id s n.0) (action_at n.1)) (omega arith)
-    (one_byte seat_of_x seat_of_o) (byte_len seat_of_x seat_of_o) (λ s first h. refl)
-    (λ s. then_field 4 _ (λ n. Done) (u32_at first_number most_entries)
-    (λ n c. with (packet.Claim id s n) (action_at c)) (omega arith)
-    (u32_law first_number most_entries) (long_len first_number most_entries) (λ n first h. refl)
-    (λ n. with_law (packet.Claim id s n) action_at (byte_fields action_at action_law))
-    (λ n first h. has_claimed id s n))
-    (λ s first h. has_claim_of id s)
-
-abbrev ListText : ℕ → List Entry → List ℕ → Type 0
-ListText start = Spells (IsCounted 1 (most_from start) IsEntry) list_text
-
-has_list : (start : ℕ) → start ≤ most_entries → HasText (ListText start)
-has_list start le =
-    let one : List Entry = has_entry.0 ∷ [] in
-    (one, list_text one, ((omega arith, fits_room start 1 (omega arith) (omega arith), (has_entry.2.0, tt)), refl))
-
-list_law : (start : ℕ) → Law OneByte (list_at start) (ListText start)
-unfolding list_at
-list_law start = counted_law 1 (most_from start) IsEntry entry_bytes entry_at entry_law has_entry
-
-abbrev EntriesParts : ℕ → Packet → List ℕ → Type 0
-EntriesParts id = Then (Long first_number most_entries) (λ start. Mapped (packet.Entries id start) (ListText start))
-
-has_told : (id start : ℕ) → start ≤ most_entries → HasText (Mapped (packet.Entries id start) (ListText start))
-has_told id start le = has_mapped (packet.Entries id start) (has_list start le)
-
-has_entries : (id : ℕ) → HasText (EntriesParts id)
-has_entries id = has_then (has_long first_number most_entries (omega arith) (omega arith))
-    (λ start first h. has_told id start h.1)
-
-entries_law : (id : ℕ) → Law (Of (Field 4 (λ start. Done))) (entries_at id) (EntriesParts id)
-unfolding entries_at
-entries_law id =
-    then_field 4 _ (λ start. Done) (u32_at first_number most_entries)
-    (λ start c. with (packet.Entries id start) (list_at start c)) (omega arith)
-    (u32_law first_number most_entries) (long_len first_number most_entries) (λ start first h. refl)
-    (λ start. with_law (packet.Entries id start) (list_at start) (byte_fields (list_at start) (list_law start)))
-    (λ start first h. has_told id start h.1)
-
-abbrev Body : ℕ → ℕ → Packet → List ℕ → Type 0
-Body kind id = Choice (kind == want_kind) (WantParts id) (Choice (kind == claim_kind) (ClaimParts id) (EntriesParts id))
-
-body_law : (kind id : ℕ) → Law (Of (body_fields kind)) (body_at kind id) (Body kind id)
-unfolding body_at
-body_law kind id =
-    choice_of (kind == want_kind) _ _ (want_at id) _ (want_law id)
-    (choice_of (kind == claim_kind) _ _ (claim_at id) (entries_at id) (claim_law id) (entries_law id))
-
-has_body : (kind id : ℕ) → HasText (Body kind id)
-has_body kind id = has_choice (kind == want_kind) (has_want id)
-    (has_choice (kind == claim_kind) (has_claim id) (has_entries id))
+use Rattle.bg_wire.specs.Reading.{◌>>=◌, Cursor, Read, u8_at, u16_at, u64_at}
+use Rattle.bg_wire.specs.PacketReading.{wire_fault, body_at, behind_kind_at, packet_at}
+use Rattle.bg_wire.proofs.Laws.{IsBytes, from_front, is_wrong_at, is_cut, Law, Then, HasText, has_then, other_text}
+use Rattle.bg_wire.proofs.Widths.{Of, then_field}
+use Rattle.bg_wire.proofs.Fields.{Byte, Number, Word, has_byte, has_word, one_byte, u16_law, u64_law}
+use Rattle.bg_wire.proofs.PacketBodies.{fits_room, room_fits, WantParts, byte_len, number_len, word_len, ClaimParts, EntriesParts, Body, body_law, has_body}
 
 -- ---- the header
 

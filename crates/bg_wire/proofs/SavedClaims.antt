@@ -9,7 +9,7 @@ use Rattle.bg_match.specs.declared.actions.Action.TheVariants as action
 use Rattle.bg_wire.specs.Codes.{moved_code, resigned_code, first_number, seat_of_x, referee, no_claim_flag, claim_flag}
 use Rattle.bg_wire.specs.declared.saved_layouts.Layout.{Layout}
 use Rattle.bg_wire.specs.declared.saved_layouts.Layout.TheVariants.{One, Two}
-use Rattle.bg_wire.specs.Fields.{Fields, Done, Field, bytes_each, first_byte}
+use Rattle.bg_wire.specs.Fields.{Done, Field, bytes_each, first_byte}
 use Rattle.bg_wire.specs.EntryText.{step_bytes, action_bytes, behind_code, action_fields}
 use Rattle.bg_wire.specs.SavedLayouts.{last_number, number_width, number_text, claim_text, behind_flag, claim_fields}
 use Rattle.bg_wire.specs.SavedText.{IsClaimIn, IsClaimOf}

@@ -14,7 +14,8 @@ use Rattle.bg_wire.specs.Faults.{IsLoadFault}
 use Rattle.bg_wire.specs.FaultLaws.{HaveOneLoadFault, SavedTextsHaveNoFault}
 use Rattle.bg_wire.specs.Texts.{ArePrefixFree}
 use Rattle.bg_wire.proofs.Laws.{prefix_free, one_value}
-use Rattle.bg_wire.proofs.SavedLaws.{saved_law, front_all}
+use Rattle.bg_wire.proofs.SavedFrontTexts.{front_all}
+use Rattle.bg_wire.proofs.SavedLaws.{saved_law}
 use Rattle.bg_wire.proofs.Loading.{one_first, not_legal}
 use Rattle.bg_wire.proofs.Widths.{HasAll, has_all, fits_of, inside_of}
 use Rattle.bg_wire.proofs.OneFault.{Sorted, same_fault, no_fault}

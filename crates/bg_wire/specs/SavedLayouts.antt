@@ -12,7 +12,7 @@ use Rattle.bg_wire.specs.declared.saved_layouts.Layout.TheVariants.{One, Two}
 
 -- ---- what differs
 
--- what a text begins with: the bytes 42 47 53 31, or 42 47 53 32
+-- what a text begins with: the bytes 42 47 53 31, and 42 47 53 32
 abbrev pub magic_of : Layout → ℕ
 magic_of One = 0x42475331
 magic_of Two = 0x42475332
@@ -22,12 +22,12 @@ abbrev pub last_number : Layout → ℕ
 last_number One = 65535
 last_number Two = most_entries
 
--- the width of such a number
+-- how wide it is
 abbrev pub number_size : Layout → Width
 number_size One = w16
 number_size Two = w32
 
--- the rules of the match: the first layout doesn't tell them
+-- the rules of the match, which the first layout does not tell
 abbrev pub rules_text : Layout → List ℕ
 rules_text One = []
 rules_text Two = rules_one ∷ []

@@ -22,7 +22,7 @@ use arrayvec::ArrayVec;
 use bg_match::{Action, EntryFault, MOST_ENTRIES, Number, Record};
 use std::alloc::{AllocError, Global};
 
-/// The saved text, at most 10000038 bytes (docs/FORMATS.md, "Saved files").
+/// The saved text, in the second layout: at most 10000038 bytes (docs/FORMATS.md, "Saved files").
 ///
 /// # Errors
 /// AllocError where there is no memory for it.
@@ -80,7 +80,8 @@ fn text_of(
     Ok(text)
 }
 
-/// No saved text begins with another saved text, or with a shorter one of its own: one text is the text of one value.
+/// No saved text, of either layout, begins with another saved text, or with a shorter one of its own: one text is the
+/// text of one value.
 pub fn saved_texts_are_prefix_free()
     ensures { ArePrefixFree IsSavedText }
 {}
@@ -136,11 +137,12 @@ fn make_room(text: &mut Vec<u8>, chunk: &mut Chunk)
     }
 }
 
-/// What the saved text says (docs/FORMATS.md, "Saved files"). The claim is not compared with the record.
+/// What the saved text says, in either layout (docs/FORMATS.md, "Saved files"). The claim is not compared with the
+/// record.
 ///
 /// # Errors
-/// The first fault of the layout that is met from left to right. Where the layout holds, Illegal of the first entry
-/// that does not follow. Memory where there is none for the entries.
+/// The first fault that is met from left to right, of the layout that the first field says. Where the layout holds,
+/// Illegal of the first entry that does not follow. Memory where there is none for the entries.
 pub fn load(alloc: Global, bytes: &[u8]) -> Result<Saved, LoadFault>
     // What is loaded is spelled so.
     ensures found { IfOk result (λ saved. IsSavedText (parts_of saved) bytes.now) }

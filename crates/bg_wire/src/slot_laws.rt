@@ -27,7 +27,7 @@ pub fn laws_of_faults()
     ensures fine_saved { SavedTextsHaveNoFault }
 {}
 
-/// Bytes are the text of one packet, and of one saved match.
+/// Bytes are the text of one packet, and of one saved match, whichever layout a saved text has.
 pub fn laws_of_texts()
     ensures packets { IsOneText IsText }
     ensures saved { IsOneText IsSavedText }
