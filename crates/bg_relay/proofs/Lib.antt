@@ -3,3 +3,4 @@ pub mod AutoActions
 pub mod Schedules
 pub mod PlayingParts
 pub mod LoopResults
+pub mod HeldFiles
