@@ -5,7 +5,9 @@
 //! let mut seat = Seat::fresh(alloc, Player::X, 1, 5)?;
 //! // What it gives is sent to the referee, and what the referee answers is taken.
 //! assert!(rt; matches!(seat.tick(), Some(Packet::Want { held: 0, .. })));
-//! let bytes = [66, 71, 1, 3, 0, 0, 0, 0, 0, 0, 0, 1, 0, 1, 1, 1, 3, 1];
+//! let bytes = [
+//!     66, 71, 2, 3, 0, 0, 0, 0, 0, 0, 0, 1, 1, 0, 0, 0, 1, 1, 1, 3, 1,
+//! ];
 //! assert!(rt; seat.take(&decode(&bytes)?) == Learned::Grew(1));
 //! assert!(rt; seat.choose(Action::Resign(Level::Normal)) == Ok(2));
 //! // A claim is sent only once it is saved: write the text to the slot, and then say so.

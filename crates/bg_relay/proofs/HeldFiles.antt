@@ -14,7 +14,7 @@ not_ok why ok = absurd cc
 pub loads_as : (bytes : List ℕ) (held result : Result Saved LoadFault) → held ≡ result
     → IfOk result (λ saved. IsSavedText (parts_of saved) bytes)
     → ((p : SavedParts) → IsSavedText p bytes → result ≢ Err Memory
-      → IsOk result × IfOk result (λ saved. parts_of saved ≡ p))
+    → IsOk result × IfOk result (λ saved. parts_of saved ≡ p))
     → held ≢ Err Memory → LoadsAs bytes (loaded_of held)
 loads_as bytes (Ok saved) result same found only other =
     subst (λ (r : Result Saved LoadFault). IfOk r (λ saved. IsSavedText (parts_of saved) bytes)) (sym same) found

@@ -3,7 +3,7 @@ use crate::auto_actions::auto_action;
 use crate::dice_attempts::DiceAttempts;
 use crate::words::{dice_word, event_words};
 use bg_board::{Die, Player};
-use bg_match::{Action, Entry, Level, Record};
+use bg_match::{Action, Entry, Level, MOST_ENTRIES, Record};
 use bg_referee::{DueFault, TakeOutcome};
 use bg_text::parse_entry;
 use bg_turns::{Dice, legal_turns};
@@ -160,12 +160,13 @@ fn every_sixteenth_entry_doubles_where_it_may(rt: HostRuntime) -> Result<(), Fai
 #[test]
 fn full_record(rt: HostRuntime) -> Result<(), Fail> {
     let mut record = record_of(rt.alloc(), 1, &["open 3 1"])?;
-    for _ in 0..32766 {
+    for _ in 0..499_999 {
         record.push(Entry::Resigned(Level::Normal))?;
         record.push(Entry::Rejected)?;
     }
+    let last = auto_action(rt.alloc(), &record, Player::X)?;
+    assert!(rt; matches!(last, Some(Action::Move(_))));
     record.push(Entry::Resigned(Level::Normal))?;
-    check_actions(&rt, &record, None, Some(Action::Reject))?;
-    record.push(Entry::Rejected)?;
+    assert!(rt; record.len() == MOST_ENTRIES);
     check_actions(&rt, &record, None, None)
 }

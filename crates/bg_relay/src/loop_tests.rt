@@ -8,7 +8,7 @@ use crate::rounds::{PARTIES, run_rounds};
 use crate::sim_tests::check_no_growth_is_left;
 use crate::simulating::sim_text;
 use crate::udp_links::UdpLink;
-use bg_match::Entry;
+use bg_match::{Entry, Number};
 use bg_text::{Writing, transcript_text};
 use bg_wire::{REFEREE, SEAT_OF_O, SEAT_OF_X, Saved, restore};
 use bg_world::{Keepers, Outcome, RestoreCause, WorldFault};
@@ -108,7 +108,7 @@ fn forty_rounds_and_forty_more(rt: HostRuntime) -> Result<(), Fail> {
 
 /// Matches of length 3, so many rounds of each, and how many entries these have at least. The first game of match 417
 /// is over with entry 76; the first two words of match 8 have equal dice, 5 5 and 4 4, and open no game.
-const PLAYED: [(u64, u32, u16); 2] = [(417, 170, 80), (8, 12, 4)];
+const PLAYED: [(u64, u32, Number); 2] = [(417, 170, 80), (8, 12, 4)];
 
 /// The entries are those that seed and length decide: those of the automatic match in memory.
 #[test]

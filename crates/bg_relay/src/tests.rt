@@ -171,8 +171,8 @@ fn files_that_do_not_load(rt: HostRuntime) -> Result<(), Fail> {
 
 #[test]
 fn longer_file_does_not_load(rt: HostRuntime) -> Result<(), Fail> {
-    let mut extra = [0; 31];
-    extra[..30].copy_from_slice(&REFEREE);
+    let mut extra = [0; 34];
+    extra[..33].copy_from_slice(&REFEREE);
     check_shown(
         &rt,
         &extra,

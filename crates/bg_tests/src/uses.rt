@@ -77,7 +77,7 @@ fn bytes(rt: HostRuntime) -> Result<(), Fail> {
         held: 0,
     };
     let bytes = encode(&packet);
-    assert!(rt; bytes.len() == 15 && decode(bytes.as_slice()) == Ok(packet));
+    assert!(rt; bytes.len() == 18 && decode(bytes.as_slice()) == Ok(packet));
     // end
     Ok(())
 }
@@ -109,7 +109,9 @@ fn seats(rt: HostRuntime) -> Result<(), Fail> {
     let mut seat = Seat::fresh(alloc, Player::X, 1, 5)?;
     // What it gives is sent to the referee, and what the referee answers is taken.
     assert!(rt; matches!(seat.tick(), Some(Packet::Want { held: 0, .. })));
-    let bytes = [66, 71, 1, 3, 0, 0, 0, 0, 0, 0, 0, 1, 0, 1, 1, 1, 3, 1];
+    let bytes = [
+        66, 71, 2, 3, 0, 0, 0, 0, 0, 0, 0, 1, 1, 0, 0, 0, 1, 1, 1, 3, 1,
+    ];
     assert!(rt; seat.take(&decode(&bytes)?) == Learned::Grew(1));
     assert!(rt; seat.choose(Action::Resign(Level::Normal)) == Ok(2));
     // A claim is sent only once it is saved: write the text to the slot, and then say so.
