@@ -160,8 +160,8 @@ impl Record {
     /// that a record of any length is written in linear time.
     ///
     /// # Errors
-    /// `RecordFull` where there are 1000000 entries, else as [`Standing::next`]; at last `Memory` where there is no room,
-    /// and no memory for more.
+    /// `RecordFull` where there are 1000000 entries, else as [`Standing::next`]; at last `Memory` where there is no
+    /// room, and no memory for more.
     pub fn push(&mut self, entry: Entry) -> Result<(), EntryFault>
         ensures ok { result ≢ Err EntryFault.Memory → (IsOk result ↔ IsNext self.old.terms self.old.entries entry) }
         ensures appended { OnOk result (self.new ≡ record self.old {
