@@ -10,6 +10,10 @@ use Rattle.bg_wire.specs.declared.reader.ReadFault.TheVariants.{Short, Field}
 use Rattle.bg_wire.specs.Reading.{◌>>=◌, Cursor, Read, many_at, whole_of, with}
 use Rattle.bg_wire.specs.Texts.{HasMore, ArePrefixFree, IsCut, IsWrongAt, GoesOn}
 
+-- two texts in a row, each said in another way
+pub join : {front first second a b : List ℕ} → front ≡ first ++ second → first ≡ a → second ≡ b → front ≡ a ++ b
+join {front} {first} {second} {a} {b} e p q = e ∙ ap (λ (r : List ℕ). r ++ second) p ∙ ap (λ (r : List ℕ). a ++ r) q
+
 abbrev pub IsBytes : List ℕ → Type 0
 IsBytes bytes = (i : ℕ) → get_or bytes i 0 < 256
 

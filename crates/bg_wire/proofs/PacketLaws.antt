@@ -17,7 +17,7 @@ use Rattle.bg_wire.specs.Fields.{Fields, Field, first_byte}
 use Rattle.bg_wire.specs.Faults.{IsWireFault}
 use Rattle.bg_wire.specs.Reading.{◌>>=◌, Cursor, Read, u8_at, u16_at, u64_at}
 use Rattle.bg_wire.specs.PacketReading.{wire_fault, body_at, behind_kind_at, packet_at}
-use Rattle.bg_wire.proofs.Laws.{IsBytes, from_front, is_wrong_at, is_cut, Law, Then, HasText, has_then, other_text}
+use Rattle.bg_wire.proofs.Laws.{IsBytes, from_front, is_wrong_at, is_cut, Law, Then, HasText, has_then, other_text, join}
 use Rattle.bg_wire.proofs.Widths.{Of, then_field}
 use Rattle.bg_wire.proofs.Fields.{Byte, Number, Word, has_byte, has_word, one_byte, u16_law, u64_law}
 use Rattle.bg_wire.proofs.PacketBodies.{fits_room, room_fits, WantParts, byte_len, number_len, word_len, ClaimParts, EntriesParts, Body, body_law, has_body}
@@ -141,10 +141,6 @@ body_text (suc zero) id p rest front fits low high whole h = want_text id p rest
 body_text (suc (suc zero)) id p rest front fits low high whole h = claim_text id p rest front fits whole h
 body_text (suc (suc (suc zero))) id p rest front fits low high whole h = entries_bytes id p rest front fits whole h
 body_text (suc (suc (suc (suc kind)))) id p rest front fits low high whole h = absurd (omega arith)
-
--- two texts in a row, each said in another way
-join : {front first second a b : List ℕ} → front ≡ first ++ second → first ≡ a → second ≡ b → front ≡ a ++ b
-join {front} {first} {second} {a} {b} e p q = e ∙ ap (λ (r : List ℕ). r ++ second) p ∙ ap (λ (r : List ℕ). a ++ r) q
 
 one_number : (n number : ℕ) (front : List ℕ) → Number n n number front → front ≡ to_be_bytes w16 n
 one_number n number front h = h.3 ∙ ap (to_be_bytes w16) (omega (arith, h.0, h.1))

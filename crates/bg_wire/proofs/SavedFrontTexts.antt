@@ -10,7 +10,7 @@ use Rattle.bg_wire.specs.Fields.{Fields, Done, Field, followed_by}
 use Rattle.bg_wire.specs.SavedLayouts.{magic_of, last_number, number_width, number_text, rules_text, claim_text, claim_fields, rules_fields, save_fields, front_fields, layout_of_magic, saved_fields}
 use Rattle.bg_wire.specs.SavedText.{IsClaimIn}
 use Rattle.bg_wire.specs.SavedReading.{text_of_front, front_at}
-use Rattle.bg_wire.proofs.Laws.{Law, other_text}
+use Rattle.bg_wire.proofs.Laws.{Law, other_text, join}
 use Rattle.bg_wire.proofs.Widths.{Of, IsAll, all_of_both, all_of_field}
 use Rattle.bg_wire.proofs.Fields.{Long, last_fits}
 use Rattle.bg_wire.proofs.EntryLaws.{Spells}
@@ -26,10 +26,6 @@ pub record IsFront (f : Front) : Type 0 where
   pub last_save : f.save ≤ greatest_save
   pub claim : IsClaimIn f.layout f.party f.claim
   pub few : f.count ≤ last_number f.layout
-
--- two texts in a row, each said in another way
-pub join : {front first second a b : List ℕ} → front ≡ first ++ second → first ≡ a → second ≡ b → front ≡ a ++ b
-join {front} {first} {second} {a} {b} e p q = e ∙ ap (λ (r : List ℕ). r ++ second) p ∙ ap (λ (r : List ℕ). a ++ r) q
 
 front_to : (f : Front) (front : List ℕ) → FrontParts f front → Spells IsFront text_of_front f front
 front_to f front h =

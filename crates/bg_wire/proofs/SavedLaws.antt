@@ -22,11 +22,11 @@ use Rattle.bg_wire.specs.Texts.{ArePrefixFree, IsWrongAt}
 use Rattle.bg_wire.specs.Reading.{◌>>=◌, Cursor, Read, many_at, whole_of, with}
 use Rattle.bg_wire.specs.EntryReading.{entry_at}
 use Rattle.bg_wire.specs.SavedReading.{front_of, text_of_front, load_fault, front_at, parts_of_front, saved_at, layout_of, entries_of, fields_of}
-use Rattle.bg_wire.proofs.Laws.{IsBytes, is_wrong_at, Law, Then, Mapped, Each, HasText, has_mapped, has_each, with_law, other_text, many_law, from_front, prefix_free, then_of, is_cut}
+use Rattle.bg_wire.proofs.Laws.{IsBytes, is_wrong_at, Law, Then, Mapped, Each, HasText, has_mapped, has_each, with_law, other_text, many_law, from_front, prefix_free, then_of, is_cut, join}
 use Rattle.bg_wire.proofs.Widths.{Of, done_behind}
 use Rattle.bg_wire.proofs.EntryLaws.{Spells, each_to, each_from, entry_law, has_entry}
 use Rattle.bg_wire.proofs.SavedFronts.{front_with}
-use Rattle.bg_wire.proofs.SavedFrontTexts.{IsFront, join, front_law, front_all}
+use Rattle.bg_wire.proofs.SavedFrontTexts.{IsFront, front_law, front_all}
 
 -- ---- the whole
 
