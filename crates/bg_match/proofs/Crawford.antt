@@ -103,15 +103,18 @@ follows_agrees s entry.Dropped t scores h f =
     rw f.2 (wins s (opponent f.0) s.cube.value scores h running)
 follows_agrees s (entry.Moved turn) t scores h f =
     let running : IsRunning s.phase = rw f.2 tt in
-    rw f.4 (moves s (after_steps s.board f.0 turn) f.0 (level_of (after_steps s.board f.0 turn) f.0) scores h running)
+    rw f.5 (moves s (after_steps s.board f.0 turn) f.0 (level_of (after_steps s.board f.0 turn) f.0) scores h running)
 follows_agrees s (entry.Resigned level) t scores h f =
     let running : IsRunning s.phase = rw f.2 (back_runs f.0 f.1) in
-    rw f.3 (goes_on s _ scores h running refl refl refl refl)
+    rw f.4 (goes_on s _ scores h running refl refl refl refl)
 follows_agrees s entry.Accepted t scores h f =
     let running : IsRunning s.phase = rw f.3 tt in
     rw f.4 (wins s (opponent f.0) (points f.1 * s.cube.value) scores h running)
 follows_agrees s entry.Rejected t scores h f =
     let running : IsRunning s.phase = rw f.3 tt in
+    rw f.4 (goes_on s _ scores h running refl refl refl refl)
+follows_agrees s entry.Passed t scores h f =
+    let running : IsRunning s.phase = rw f.2 tt in
     rw f.4 (goes_on s _ scores h running refl refl refl refl)
 
 leads_agrees : (s : State) (scores : List ℕ) (entries : List Entry) (t : State) (all : List ℕ) → Agrees s scores → LeadsWithScores s scores entries t all → Agrees t all

@@ -98,6 +98,7 @@ entry_eq entry.Taken b h = elim b as (λ e. entries.eq entry.Taken e ≡ true �
 entry_eq entry.Dropped b h = elim b as (λ e. entries.eq entry.Dropped e ≡ true → entry.Dropped ≡ e) [ entry.Dropped ↦ λ h. refl | _ ↦ differ ] h
 entry_eq entry.Accepted b h = elim b as (λ e. entries.eq entry.Accepted e ≡ true → entry.Accepted ≡ e) [ entry.Accepted ↦ λ h. refl | _ ↦ differ ] h
 entry_eq entry.Rejected b h = elim b as (λ e. entries.eq entry.Rejected e ≡ true → entry.Rejected ≡ e) [ entry.Rejected ↦ λ h. refl | _ ↦ differ ] h
+entry_eq entry.Passed b h = elim b as (λ e. entries.eq entry.Passed e ≡ true → entry.Passed ≡ e) [ entry.Passed ↦ λ h. refl | _ ↦ differ ] h
 
 action_eq : (a b : Action) → actions.eq a b ≡ true → a ≡ b
 action_eq (action.Move t) b h = elim b as (λ e. actions.eq (action.Move t) e ≡ true → action.Move t ≡ e) [

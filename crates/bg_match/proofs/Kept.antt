@@ -66,14 +66,14 @@ slice_get-push (w ∷ xs) x (suc i) y h = elim (slice_get-push xs x i y h) [
 pub IsKept-push : (terms : Terms) (entries : List Entry) (seats : List (Option Player)) (s : State) (e : Entry) (t : State)
     → IsKept terms entries seats s → length seats ≡ length entries → length entries < most_entries
     → StandsAt terms (entries ++ e ∷ []) t
-    → IsKept terms (entries ++ e ∷ []) (seats ++ seat_of (actor_of s.phase) ∷ []) t
+    → IsKept terms (entries ++ e ∷ []) (seats ++ seat_of (actor_of s) ∷ []) t
 IsKept-push terms entries seats s e t kept same few stands = record {
   shortest = kept.shortest;
   longest = kept.longest;
   few = omega (arith, length-append entries (e ∷ []));
   stands = stands;
   marked = marked_by_scores terms (entries ++ e ∷ []) t stands;
-  made = λ i seat h. elim (slice_get-push seats (seat_of (actor_of s.phase)) i seat h) [
+  made = λ i seat h. elim (slice_get-push seats (seat_of (actor_of s)) i seat h) [
     | inl before ↦
         let within : i ≤ length entries = omega (arith, before.0) in
         rw (take-append-le i entries (e ∷ []) within) (kept.made i seat before.1)

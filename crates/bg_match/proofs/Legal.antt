@@ -1,6 +1,7 @@
 -- The laws of legal records and of the entries that answer actions.
-use Rattle.std.proofs.Common.{◌≡◌, ◌↔◌, ◌≤◌, Option, Some, None, List, [], ◌∷◌, ◌++◌, length, length-append, refl, sym, ◌∙◌, ap, subst, arith}
+use Rattle.std.proofs.Common.{inl, inr, ◌⊎◌, ◌≡◌, ◌↔◌, ◌≤◌, Option, Some, None, List, [], ◌∷◌, ◌++◌, length, length-append, refl, sym, ◌∙◌, ap, subst, arith}
 use Rattle.std.specs.List.{AllByRecursion}
+use Rattle.std.specs.Prelude.{IsSome}
 use Rattle.bg_match.specs.Terms.{Terms}
 use Rattle.bg_board.specs.declared.players.Player.{Player}
 use Rattle.bg_turns.specs.declared.throws.Dice.{Dice}
@@ -8,14 +9,15 @@ use Rattle.bg_match.specs.declared.actions.Action.TheVariants as action
 use Rattle.bg_match.specs.declared.phases.Phase.TheVariants as phase
 use Rattle.bg_match.specs.declared.entries.Entry.{Entry}
 use Rattle.bg_match.specs.declared.entries.Entry.TheVariants as entry
-use Rattle.bg_match.specs.Actor.{actor_of, seat_of}
+use Rattle.bg_match.specs.Actor.{actor_in, actor_of, seat_of}
 use Rattle.bg_match.specs.Entry.{IsEntry, IsByReferee}
 use Rattle.bg_match.specs.State.{State, start_of}
-use Rattle.bg_match.specs.Follows.{Follows, CanFollow, phase_back}
+use Rattle.bg_match.specs.Follows.{Follows, CanFollow}
 use Rattle.bg_match.specs.declared.phases.Actor.{Actor}
 use Rattle.bg_match.specs.declared.phases.Actor.TheVariants.{Referee}
 use Rattle.bg_match.specs.Match.{Leads, ActsAfter, IsNext}
 use Rattle.bg_match.specs.Laws.{HasLegalFronts, HasOneStanding, HasEntriesInRange, ActsItself, MadeWithoutSeat, RollsAnyDice}
+use Rattle.bg_match.proofs.Passing.{not_passed, by_phase, by_pass, seat_acts}
 use Rattle.bg_match.proofs.PlayableTurns.{legal_in_range}
 use Rattle.bg_match.proofs.Runs.{Follows-same, Leads-push}
 
@@ -47,7 +49,7 @@ one_standing terms entries s t h k = Leads-same (start_of terms) entries s t h k
 pub one_actor : (terms : Terms) (entries : List Entry) (a b : Actor)
     → ActsAfter terms entries a → ActsAfter terms entries b → a ≡ b
 one_actor terms entries a b h k =
-    h.2 ∙ ap (λ (s : State). actor_of s.phase) (one_standing terms entries h.0 k.0 h.1 k.1) ∙ sym k.2
+    h.2 ∙ ap actor_of (one_standing terms entries h.0 k.0 h.1 k.1) ∙ sym k.2
 
 pub Follows_in_range : (s : State) (e : Entry) (t : State) → Follows s e t → IsEntry e
 Follows_in_range s (entry.Opening x o) t h = tt
@@ -55,10 +57,11 @@ Follows_in_range s (entry.Rolled dice) t h = tt
 Follows_in_range s entry.Doubled t h = tt
 Follows_in_range s entry.Taken t h = tt
 Follows_in_range s entry.Dropped t h = tt
-Follows_in_range s (entry.Moved turn) t h = legal_in_range s.board h.0 h.1 turn h.3
+Follows_in_range s (entry.Moved turn) t h = legal_in_range s.board h.0 h.1 turn h.4
 Follows_in_range s (entry.Resigned level) t h = tt
 Follows_in_range s entry.Accepted t h = tt
 Follows_in_range s entry.Rejected t h = tt
+Follows_in_range s entry.Passed t h = tt
 
 Leads_in_range : (s : State) (entries : List Entry) (t : State) → Leads s entries t → AllByRecursion IsEntry entries
 Leads_in_range s [] t h = tt
@@ -67,8 +70,9 @@ Leads_in_range s (e ∷ rest) t h = (Follows_in_range s e h.0 h.1, Leads_in_rang
 pub entries_in_range : HasEntriesInRange
 entries_in_range terms entries h = Leads_in_range (start_of terms) entries h.1.0 h.1.1
 
-referee_acts : (s : State) (e : Entry) (t : State) → Follows s e t → IsByReferee e → actor_of s.phase ≡ Referee
-referee_acts s (entry.Opening x o) t h own = ap actor_of h.0
+referee_acts : (s : State) (e : Entry) (t : State) → Follows s e t → IsByReferee e → actor_of s ≡ Referee
+referee_acts s (entry.Opening x o) t h own = by_phase s (not_passed s phase.Opening h.0 (λ p dice is. cc)) ∙ ap actor_in h.0
+referee_acts s entry.Passed t h own = by_pass s h.3
 referee_acts s (entry.Rolled dice) t h own = absurd own
 referee_acts s entry.Doubled t h own = absurd own
 referee_acts s entry.Taken t h own = absurd own
@@ -113,20 +117,31 @@ rolls_any_dice terms entries (action.Resign level) dice other e f h k legal = sa
 rolls_any_dice terms entries action.Accept dice other e f h k legal = same_legal terms entries e f (h ∙ sym k) legal
 rolls_any_dice terms entries action.Reject dice other e f h k legal = same_legal terms entries e f (h ∙ sym k) legal
 
+by_referee_or_not : (e : Entry) → IsByReferee e ⊎ (IsByReferee e → ⊥)
+by_referee_or_not (entry.Opening x o) = inl tt
+by_referee_or_not entry.Passed = inl tt
+by_referee_or_not (entry.Rolled dice) = inr (λ own. own)
+by_referee_or_not entry.Doubled = inr (λ own. own)
+by_referee_or_not entry.Taken = inr (λ own. own)
+by_referee_or_not entry.Dropped = inr (λ own. own)
+by_referee_or_not (entry.Moved turn) = inr (λ own. own)
+by_referee_or_not (entry.Resigned level) = inr (λ own. own)
+by_referee_or_not entry.Accepted = inr (λ own. own)
+by_referee_or_not entry.Rejected = inr (λ own. own)
+
+some_not_none : (seat : Option Player) → IsSome seat → seat ≡ None → ⊥
+some_not_none None h e = absurd cc
+some_not_none (Some p) h e = absurd cc
+
 -- the seat that acts before an entry, if a seat does
-acts_before : (s : State) (e : Entry) (t : State) → Follows s e t → (seat_of (actor_of s.phase) ≡ None) ↔ IsByReferee e
-acts_before s (entry.Opening x o) t h = rw h.0 (λ _. tt, λ _. refl)
-acts_before s (entry.Rolled dice) t h = rw h.1 (λ none. cc, λ own. absurd own)
-acts_before s entry.Doubled t h = rw h.1 (λ none. cc, λ own. absurd own)
-acts_before s entry.Taken t h = rw h.1 (λ none. cc, λ own. absurd own)
-acts_before s entry.Dropped t h = rw h.1 (λ none. cc, λ own. absurd own)
-acts_before s (entry.Moved turn) t h = rw h.2 (λ none. cc, λ own. absurd own)
-acts_before s (entry.Resigned level) t h = rw h.2 (resigner h.0 h.1) where
-  resigner : (p : Player) (back : Option Dice) → (seat_of (actor_of (phase_back p back)) ≡ None) ↔ ⊥
-  resigner p None = (λ none. cc, λ own. absurd own)
-  resigner p (Some dice) = (λ none. cc, λ own. absurd own)
-acts_before s entry.Accepted t h = rw h.3 (λ none. cc, λ own. absurd own)
-acts_before s entry.Rejected t h = rw h.3 (λ none. cc, λ own. absurd own)
+acts_before : (s : State) (e : Entry) (t : State) → Follows s e t → (seat_of (actor_of s) ≡ None) ↔ IsByReferee e
+acts_before s e t h = elim (by_referee_or_not e) [
+  | inl own ↦ (λ _. own, λ _. ap seat_of (referee_acts s e t h own))
+  | inr other ↦
+      let seated = seat_acts s e t h other in
+      let same = ap seat_of (by_phase s seated.0) in
+      (λ none. absurd (some_not_none (seat_of (actor_in s.phase)) seated.1 (sym same ∙ none)), λ own. absurd (other own))
+]
 
 pub made_without_seat : MadeWithoutSeat
 made_without_seat terms front rest e seat legal after =

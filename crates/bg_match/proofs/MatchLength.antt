@@ -33,10 +33,11 @@ terms-Follows s (entry.Rolled dice) t h = ap (λ u. u.terms) h.2
 terms-Follows s entry.Doubled t h = ap (λ u. u.terms) h.3
 terms-Follows s entry.Taken t h = ap (λ u. u.terms) h.2
 terms-Follows s entry.Dropped t h = rw h.2 (terms-after_win s _ _)
-terms-Follows s (entry.Moved turn) t h = rw h.4 (terms-after_level s (after_steps s.board h.0 turn) h.0 (level_of (after_steps s.board h.0 turn) h.0))
-terms-Follows s (entry.Resigned level) t h = ap (λ u. u.terms) h.3
+terms-Follows s (entry.Moved turn) t h = rw h.5 (terms-after_level s (after_steps s.board h.0 turn) h.0 (level_of (after_steps s.board h.0 turn) h.0))
+terms-Follows s (entry.Resigned level) t h = ap (λ u. u.terms) h.4
 terms-Follows s entry.Accepted t h = rw h.4 (terms-after_win s _ _)
 terms-Follows s entry.Rejected t h = ap (λ u. u.terms) h.4
+terms-Follows s entry.Passed t h = ap (λ u. u.terms) h.4
 
 terms-Leads : (s : State) (entries : List Entry) (t : State) → Leads s entries t → t.terms ≡ s.terms
 terms-Leads s [] t h = ap (λ u. u.terms) h

@@ -14,10 +14,11 @@ use Rattle.bg_match.specs.declared.entries.Entry.{Entry}
 use Rattle.bg_match.specs.declared.entries.Entry.TheVariants as entry
 use Rattle.bg_match.specs.Level.{points}
 use Rattle.bg_match.specs.State.{State, after_win, start_of}
+use Rattle.bg_match.specs.Actor.{passes}
 use Rattle.bg_match.specs.Follows.{Follows, CanFollow, IsEntryFault, MayDouble, opener, phase_back, after_turn}
 use Rattle.bg_match.specs.declared.entries.EntryFault.{EntryFault}
 use Rattle.bg_match.specs.declared.entries.EntryFault.TheVariants as fault
-use Rattle.std.specs.Prelude.{Result, Ok, Err, IfOk, IfErr}
+use Rattle.std.specs.Prelude.{false, Result, Ok, Err, IsOk, IfOk, IfErr}
 use Rattle.bg_match.specs.Terms.{Terms}
 use Rattle.bg_match.specs.Match.{Leads, StandsAt, IsRecordFault, IsNext}
 
@@ -50,12 +51,12 @@ Follows-same s entry.Dropped t u h k =
     h.2 ∙ ap (λ (q : Player). after_win s (opponent q) s.cube.value) same ∙ sym k.2
 Follows-same s (entry.Moved turn) t u h k =
     let same : h.0 ≡ k.0 = (let e : phase.ToMove h.0 h.1 ≡ phase.ToMove k.0 k.1 = sym h.2 ∙ k.2 in cc) in
-    h.4 ∙ ap (λ (p : Player). after_turn s p (after_steps s.board p turn)) same ∙ sym k.4
+    h.5 ∙ ap (λ (p : Player). after_turn s p (after_steps s.board p turn)) same ∙ sym k.5
 Follows-same s (entry.Resigned level) t u h k =
     let e = sym h.2 ∙ k.2 in
     let same = phase_back-player h.0 k.0 h.1 k.1 e in
     let back = phase_back-dice h.0 k.0 h.1 k.1 e in
-    h.3 ∙ ap (λ (p : Player). record s { phase = phase.Resigned p level h.1 }) same ∙ ap (λ (b : Option Dice). record s { phase = phase.Resigned k.0 level b }) back ∙ sym k.3
+    h.4 ∙ ap (λ (p : Player). record s { phase = phase.Resigned p level h.1 }) same ∙ ap (λ (b : Option Dice). record s { phase = phase.Resigned k.0 level b }) back ∙ sym k.4
 Follows-same s entry.Accepted t u h k =
     let e : phase.Resigned h.0 h.1 h.2 ≡ phase.Resigned k.0 k.1 k.2 = sym h.3 ∙ k.3 in
     let same : h.0 ≡ k.0 = cc in
@@ -66,6 +67,9 @@ Follows-same s entry.Rejected t u h k =
     let same : h.0 ≡ k.0 = cc in
     let back : h.2 ≡ k.2 = cc in
     h.4 ∙ ap (λ (p : Player). record s { phase = phase_back p h.2 }) same ∙ ap (λ (b : Option Dice). record s { phase = phase_back k.0 b }) back ∙ sym k.4
+Follows-same s entry.Passed t u h k =
+    let same : h.0 ≡ k.0 = (let e : phase.ToMove h.0 h.1 ≡ phase.ToMove k.0 k.1 = sym h.2 ∙ k.2 in cc) in
+    h.4 ∙ ap (λ (p : Player). record s { phase = phase.ToAct (opponent p) }) same ∙ sym k.4
 
 -- one more entry
 pub Leads-push : (s : State) (entries : List Entry) (e : Entry) (m t : State) → Leads s entries m → Follows m e t → Leads s (entries ++ e ∷ []) t
@@ -104,15 +108,21 @@ module _ (terms : Terms) (entries : List Entry) (e : Entry) (m : State) (at : St
   after_fault (Err why) id spare h = record_fault why id spare h
 
 -- a turn that is to be moved may follow exactly where it is legal
-pub CanFollow-Moved : (s : State) (p : Player) (dice : Dice) (turn : List FromTo) → s.phase ≡ phase.ToMove p dice → CanFollow s (entry.Moved turn) ↔ IsLegalTurn s.board p dice turn
-CanFollow-Moved s p dice turn is = (
+pub CanFollow-Moved : (s : State) (p : Player) (dice : Dice) (turn : List FromTo) → s.phase ≡ phase.ToMove p dice → passes s ≡ false → CanFollow s (entry.Moved turn) ↔ IsLegalTurn s.board p dice turn
+CanFollow-Moved s p dice turn is play = (
   λ h. (
       let same : phase.ToMove h.1.0 h.1.1 ≡ phase.ToMove p dice = sym h.1.2 ∙ is in
       let player : h.1.0 ≡ p = cc in
       let thrown : h.1.1 ≡ dice = cc in
-      subst (λ (d : Dice). IsLegalTurn s.board p d turn) thrown (subst (λ (q : Player). IsLegalTurn s.board q h.1.1 turn) player h.1.3)),
-  λ legal. (after_turn s p (after_steps s.board p turn), (p, dice, is, legal, refl)),
+      subst (λ (d : Dice). IsLegalTurn s.board p d turn) thrown (subst (λ (q : Player). IsLegalTurn s.board q h.1.1 turn) player h.1.4)),
+  λ legal. (after_turn s p (after_steps s.board p turn), (p, dice, is, play, legal, refl)),
 )
+
+-- what comes of judging a turn that is to be moved
+pub moved_follows : (s : State) (p : Player) (dice : Dice) (turn : List FromTo) → s.phase ≡ phase.ToMove p dice → passes s ≡ false → (r : Result State EntryFault)
+    → IsOk r ↔ IsLegalTurn s.board p dice turn → IfOk r (λ t. t ≡ after_turn s p (after_steps s.board p turn)) → IfOk r (λ t. Follows s (entry.Moved turn) t)
+moved_follows s p dice turn is play (Ok t) ok after = (p, dice, is, play, ok.0 refl, after)
+moved_follows s p dice turn is play (Err why) ok after = tt
 
 -- an opening may follow where a game is to be opened exactly where its dice differ
 pub CanFollow-Opening : (s : State) (x o : Die) → s.phase ≡ phase.Opening → CanFollow s (entry.Opening x o) ↔ (pips x ≢ pips o)

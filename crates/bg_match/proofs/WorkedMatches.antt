@@ -1,26 +1,30 @@
 -- Worked matches, by the definitions alone.
-use Rattle.std.proofs.Common.{◌≡◌, ℕ, true, false, Some, None, List, [], ◌∷◌, ◌++◌, refl, inr, arith}
+use Rattle.std.proofs.Common.{◌≡◌, ℕ, true, false, Some, None, List, [], ◌∷◌, ◌++◌, refl, inr, arith, sym, ◌∙◌, inl, ap}
 use Rattle.bg_board.specs.Position.{Position, start_position}
 use Rattle.bg_board.specs.declared.players.Player.TheVariants.{X, O}
 use Rattle.bg_board.specs.declared.dice.Die.TheVariants.{One, Three, Five, Six}
 use Rattle.bg_turns.specs.declared.throws.Dice.{Dice}
 use Rattle.bg_match.specs.declared.levels.Level.TheVariants.{Normal, Gammon, Backgammon}
-use Rattle.bg_match.specs.declared.phases.Actor.TheVariants.{Referee, Nobody}
+use Rattle.bg_match.specs.declared.phases.Actor.TheVariants.{Referee, Nobody, Seat}
 use Rattle.bg_match.specs.declared.phases.Phase.TheVariants as phase
 use Rattle.bg_match.specs.declared.entries.Entry.{Entry}
 use Rattle.bg_match.specs.declared.entries.Entry.TheVariants as entry
 use Rattle.bg_match.specs.declared.entries.EntryFault.TheVariants as fault
 use Rattle.bg_match.specs.declared.entries.NoDouble.TheVariants as no_double
 use Rattle.bg_match.specs.Level.{level_of}
-use Rattle.bg_match.specs.Terms.{Terms}
+use Rattle.bg_match.specs.Terms.{Terms, terms_of, rules_of}
+use Rattle.bg_match.specs.Actor.{passes, passes_in, seat_of}
+use Rattle.bg_match.specs.declared.limits.Rules.{Rules}
+use Rattle.bg_match.specs.declared.limits.Rules.TheVariants as rules
+use Rattle.bg_match.proofs.Passing.{by_phase}
 use Rattle.bg_match.specs.State.{State, start_of, middle_cube, after_win}
 use Rattle.bg_match.specs.Follows.{Follows, IsEntryFault, after_turn}
 use Rattle.bg_match.proofs.Legal.{Leads-append}
 use Rattle.bg_match.specs.Match.{StandsAt, StandsWithScores, IsCrawfordGame, ActsAfter, SeatAfter}
 
--- a match to so many points
+-- a match to so many points, by the first rules
 abbrev to_points : ℕ → Terms
-to_points points = points
+to_points points = terms_of points rules.One
 
 -- The Crawford game, by the greater scores before the games, the latest first.
 
@@ -147,23 +151,28 @@ crawford_passes = entry.Opening Three One ∷ entry.Resigned Normal ∷ entry.Ac
 abbrev last_game : List Entry
 last_game = entry.Opening One Three ∷ entry.Resigned Normal ∷ entry.Rejected ∷ entry.Resigned Backgammon ∷ entry.Accepted ∷ []
 
+-- by the first rules no turn is passed
+plays : (s : State) → rules_of s.terms ≡ rules.One → passes s ≡ false
+unfolding passes passes_in
+plays s one = ap (λ (r : Rules). passes_in r s.board s.phase) one
+
 at_two_nil : StandsAt (to_points 3) crawford_comes (record (start_of (to_points 3)) { x_score = 2; crawford = true; game = 2 })
-at_two_nil = (_, (refl, λ h. omega arith, refl), (_, (O, Some one_three, refl, refl), (_, (O, Gammon, Some one_three, refl, refl), refl)))
+at_two_nil = (_, (refl, λ h. omega arith, refl), (_, (O, Some one_three, refl, plays _ refl, refl), (_, (O, Gammon, Some one_three, refl, refl), refl)))
 
 scores_at_two_nil : StandsWithScores (to_points 3) crawford_comes (record (start_of (to_points 3)) { x_score = 2; crawford = true; game = 2 }) (2 ∷ 0 ∷ [])
-scores_at_two_nil = (_, (refl, λ h. omega arith, refl), (_, (O, Some one_three, refl, refl), (_, (O, Gammon, Some one_three, refl, refl), (refl, refl))))
+scores_at_two_nil = (_, (refl, λ h. omega arith, refl), (_, (O, Some one_three, refl, plays _ refl, refl), (_, (O, Gammon, Some one_three, refl, refl), (refl, refl))))
 
 -- the offer of O was answered by the seat of X
 accepted_by_x : SeatAfter (to_points 3) (entry.Opening One Three ∷ entry.Resigned Gammon ∷ []) (Some X)
-accepted_by_x = (_, (_, (refl, λ h. omega arith, refl), (_, (O, Some one_three, refl, refl), refl)), refl)
+accepted_by_x = (_, (_, (refl, λ h. omega arith, refl), (_, (O, Some one_three, refl, plays _ refl, refl), refl)), sym (ap seat_of (by_phase _ (plays _ refl))))
 
 referee_opens : ActsAfter (to_points 3) crawford_comes Referee
-referee_opens = (_, at_two_nil, refl)
+referee_opens = (_, at_two_nil, sym (by_phase _ (plays _ refl)))
 
 -- the normal game makes it 2-1, and the game after the Crawford game is played with the cube
 at_two_one : StandsAt (to_points 3) (crawford_comes ++ crawford_passes) (record (start_of (to_points 3)) { x_score = 2; o_score = 1; game = 3 })
 at_two_one = Leads-append (start_of (to_points 3)) crawford_comes crawford_passes _ _ at_two_nil
-    (_, (refl, λ h. omega arith, refl), (_, (X, Some three_one, refl, refl), (_, (X, Normal, Some three_one, refl, refl), refl)))
+    (_, (refl, λ h. omega arith, refl), (_, (X, Some three_one, refl, plays _ refl, refl), (_, (X, Normal, Some three_one, refl, refl), refl)))
 
 -- a backgammon ends the match at 5-1: the board, the cube, the number of the game and its mark stay
 match_over : StandsAt (to_points 3) (crawford_comes ++ crawford_passes ++ last_game) (record (start_of (to_points 3)) { phase = phase.Over X; x_score = 5; o_score = 1; game = 3 })
@@ -172,20 +181,20 @@ match_over = Leads-append (start_of (to_points 3)) (crawford_comes ++ crawford_p
   (refl, λ h. omega arith, refl),
   (
     _,
-    (O, Some one_three, refl, refl),
+    (O, Some one_three, refl, plays _ refl, refl),
     (
       _,
       (O, Normal, Some one_three, refl, refl),
-      (_, (O, Some one_three, refl, refl), (_, (O, Backgammon, Some one_three, refl, refl), refl)),
+      (_, (O, Some one_three, refl, plays _ refl, refl), (_, (O, Backgammon, Some one_three, refl, refl), refl)),
     ),
   ),
 )
 
 nobody_acts : ActsAfter (to_points 3) (crawford_comes ++ crawford_passes ++ last_game) Nobody
-nobody_acts = (_, match_over, refl)
+nobody_acts = (_, match_over, sym (by_phase _ (plays _ refl)))
 
 equal_dice : IsEntryFault fault.EqualOpening (start_of (to_points 3)) (entry.Opening Five Five)
 equal_dice = (Five, Five, refl, refl, refl)
 
 double_in_opening : IsEntryFault fault.WrongPhase (start_of (to_points 3)) entry.Doubled
-double_in_opening = (λ p h. cc, refl)
+double_in_opening = (λ p h. cc, rw (plays (start_of (to_points 3)) refl) refl)

@@ -15,7 +15,8 @@ abbrev pub IsAction : Action → Type 0
 IsAction (action.Move turn) = IsTurn turn
 IsAction _ = Unit {0}
 
--- the entry is the referee's own: it opens a game
+-- the entry is the referee's own: it opens a game, or passes a turn
 abbrev pub IsByReferee : Entry → Type 0
 IsByReferee (entry.Opening x o) = Unit {0}
+IsByReferee entry.Passed = Unit {0}
 IsByReferee _ = ⊥

@@ -31,11 +31,11 @@ IsNext terms entries e = IsLegalRecord terms (entries ++ e ∷ [])
 
 -- who acts after the entries
 abbrev pub ActsAfter : Terms → List Entry → Actor → Type 0
-ActsAfter terms entries actor = (s : State) × StandsAt terms entries s × (actor ≡ actor_of s.phase)
+ActsAfter terms entries actor = (s : State) × StandsAt terms entries s × (actor ≡ actor_of s)
 
 -- the player whose seat acts after the entries, if a seat does
 abbrev pub SeatAfter : Terms → List Entry → Option Player → Type 0
-SeatAfter terms entries seat = (s : State) × StandsAt terms entries s × (seat ≡ seat_of (actor_of s.phase))
+SeatAfter terms entries seat = (s : State) × StandsAt terms entries s × (seat ≡ seat_of (actor_of s))
 
 -- the greater scores before the games so far, the latest first, where one entry leads from s to t
 abbrev pub scores_then : State → State → List ℕ → List ℕ

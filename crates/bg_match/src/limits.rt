@@ -3,8 +3,23 @@
 /// The number of an entry in its match, from 1, or a count of entries, from 0.
 pub type Number = u32;
 
-/// What the players agree on before a match: today its length alone, in points, from 1 to 99.
-pub type Terms = u8;
+/// The rules that a match is played by (docs/RULES.md, "A turn without steps").
+#[derive(Clone, Copy, Debug, PartialEq, Eq)]
+pub enum Rules {
+    /// Who can play no step plays a turn without steps.
+    One,
+    /// The referee passes the turn of a player who can play no step.
+    Two,
+}
+
+/// What the players agree on before a match.
+#[derive(Clone, Copy, Debug, PartialEq, Eq)]
+pub struct Terms {
+    /// The length of the match, in points, from 1 to 99.
+    pub length: u8,
+    /// The rules of the match.
+    pub rules: Rules,
+}
 
 /// The most entries of a match.
 pub const MOST_ENTRIES: Number = 1_000_000;

@@ -4,11 +4,12 @@ ghost use Rattle.std.specs.Prelude.{OnOk, OnErr, IfErr, IsTrue, option_copied};
 ghost use Rattle.std.specs.List.{AllByRecursion};
 ghost use Rattle.bg_match.specs.Limits.{IsMatchLength, longest_match, most_entries, shortest_match};
 ghost use Rattle.bg_match.specs.Match.{at_number};
-ghost use Rattle.bg_match.specs.Terms.{match_length};
+ghost use Rattle.bg_match.specs.Terms.{match_length, rules_of, terms_of};
 
 use crate::made::{Made, made_at, make_room};
 use crate::{
-    Actor, Entry, EntryFault, LONGEST_MATCH, MOST_ENTRIES, Number, SHORTEST_MATCH, Standing, Terms,
+    Actor, Entry, EntryFault, LONGEST_MATCH, MOST_ENTRIES, Number, Rules, SHORTEST_MATCH, Standing,
+    Terms,
 };
 use bg_board::Player;
 use std::alloc::{AllocError, Global};
@@ -58,9 +59,9 @@ impl Record {
     ///
     /// # Errors
     /// `LengthOutOfRange` where the length is not from 1 to 99.
-    pub fn new(alloc: Global, id: u64, length: u8) -> Result<Record, LengthFault>
+    pub fn new(alloc: Global, id: u64, length: u8, rules: Rules) -> Result<Record, LengthFault>
         ensures ok { IsOk result ↔ IsMatchLength length }
-        ensures value { IfOk result (λ log. log ≡ empty_log id length) }
+        ensures value { IfOk result (λ log. log ≡ empty_log id (terms_of length rules)) }
         ensures log { IfOk result (λ log. IsLog log) }
     {
         if !(SHORTEST_MATCH..=LONGEST_MATCH).contains(&length) {
@@ -68,9 +69,9 @@ impl Record {
         }
         Ok(Record {
             id,
-            terms: length,
+            terms: Terms { length, rules },
             made: Vec::new(alloc),
-            standing: Standing::start(length),
+            standing: Standing::start(length, rules),
         })
     }
 
@@ -124,7 +125,14 @@ impl Record {
         ensures longest { result ≤ longest_match }
         ensures log { IsLog self.now }
     {
-        self.terms
+        self.terms.length
+    }
+
+    /// The rules of the match.
+    pub fn rules(&self) -> Rules
+        ensures { result ≡ rules_of self.now.terms }
+    {
+        self.terms.rules
     }
 
     /// Where the match stands after its entries.

@@ -1,13 +1,14 @@
 //! Where a match stands.
-ghost use Rattle.std.specs.Prelude.{◌≡◌, ◌≤◌};
-ghost use Rattle.bg_match.specs.Terms.{match_length};
+ghost use Rattle.std.specs.Prelude.{◌≡◌, ◌≤◌, false, MatchOption};
+ghost use Rattle.bg_match.specs.Terms.{match_length, rules_of, terms_of};
 ghost use Rattle.bg_match.specs.Limits.{longest_match, shortest_match};
 
 mod parts;
 mod transitions;
 
-use crate::{Actor, Cube, Phase, Terms};
-use bg_board::Board;
+use crate::{Actor, Cube, Phase, Rules, Terms};
+use bg_board::{Board, Player};
+use bg_turns::can_step;
 use std::marker::Model;
 
 /// Where a match stands: its length, the board, the phase and the cube of the game that is played, the scores of X and
@@ -45,16 +46,16 @@ impl Model for Standing {
 
 impl Standing {
     ghost use Rattle.bg_match.specs.State.{IsState, start_of};
-    ghost use Rattle.bg_match.specs.Actor.{actor_of};
+    ghost use Rattle.bg_match.specs.Actor.{actor_of, passes, IsPassOf};
 
-    /// Where a match of this length starts, which is from 1 to 99 points.
-    pub fn start(length: u8) -> Standing
+    /// Where a match of this length, which is from 1 to 99 points, and of these rules starts.
+    pub fn start(length: u8, rules: Rules) -> Standing
         requires shortest { shortest_match ≤ length }
         requires longest { length ≤ longest_match }
-        ensures { result ≡ start_of length }
+        ensures { result ≡ start_of (terms_of length rules) }
     {
         Standing {
-            terms: length,
+            terms: Terms { length, rules },
             board: Board::start(),
             phase: Phase::Opening,
             cube: Cube::MIDDLE,
@@ -69,7 +70,27 @@ impl Standing {
         ensures value { result ≡ match_length self.now.terms }
         ensures standing { IsState self.now }
     {
-        self.terms
+        self.terms.length
+    }
+
+    /// The rules of the match.
+    pub fn rules(&self) -> Rules
+        ensures { result ≡ rules_of self.now.terms }
+    {
+        self.terms.rules
+    }
+
+    /// The player whose turn is to be passed: under rules two he is to move, and has no step.
+    #[tactic(auto, unfolding(crate::specs::Actor::passes, crate::specs::Actor::passes_in))]
+    fn passing(&self) -> Option<Player>
+        ensures { MatchOption result (passes self.now ≡ false) (λ player. IsPassOf self.now player) }
+    {
+        match (self.phase, self.terms.rules) {
+            (Phase::ToMove(player, dice), Rules::Two) if !can_step(&self.board, player, dice) => {
+                Some(player)
+            }
+            _ => None,
+        }
     }
 
     /// The board of the game that is played, or of the last game where the match is over.
@@ -116,8 +137,11 @@ impl Standing {
 
     /// Who acts next.
     pub fn actor(&self) -> Actor
-        ensures { result ≡ actor_of self.now.phase }
+        ensures { result ≡ actor_of self.now }
     {
-        self.phase.actor()
+        match self.passing() {
+            Some(_) => Actor::Referee,
+            None => self.phase.actor(),
+        }
     }
 }

@@ -1,12 +1,13 @@
 //! Worked matches. The numbers are those of the rules, worked out by hand.
 mod games;
 mod growths;
+mod passes;
 mod records;
 mod standings;
 mod texts;
 mod wins;
 
-use crate::{Cube, Entry, Number, Record};
+use crate::{Cube, Entry, Number, Record, Rules};
 use arrayvec::ArrayVec;
 use bg_board::{Board, Die, Player, Step};
 use bg_turns::{Dice, Turn};
@@ -69,7 +70,7 @@ fn cube(value: u8, owner: Player) -> Cube {
 }
 
 fn record(alloc: Global, length: u8, entries: &[Entry]) -> Result<Record, Fail> {
-    let mut record = Record::new(alloc, 7, length)?;
+    let mut record = Record::new(alloc, 7, length, Rules::One)?;
     for entry in entries {
         record.check(entry)?;
         record.push(entry.copy())?;

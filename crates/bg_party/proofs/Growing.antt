@@ -7,7 +7,7 @@ use Rattle.std.proofs.lemmas.Bool.Decides.{nat_tests}
 use Rattle.bg_match.specs.Limits.{most_entries}
 use Rattle.bg_match.specs.declared.entries.Entry.{Entry}
 use Rattle.bg_match.specs.Match.{Log, IsLegalRecord}
-use Rattle.bg_match.specs.Terms.{Terms}
+use Rattle.bg_match.specs.Terms.{Terms, rules_of}
 use Rattle.bg_wire.specs.declared.packets.Packet.TheVariants as packet
 use Rattle.bg_party.specs.declared.outcomes.Learned.{Learned}
 use Rattle.bg_party.specs.declared.outcomes.Learned.TheVariants as learned
@@ -88,7 +88,7 @@ pub appends_all : (f : FollowerView) (start : ℕ) (list new early : List Entry)
     → new ≡ new_entries f.log.entries start list → early ≡ early_behind f.early (length new)
     → Extends f.log.terms f.log.entries start list → FollowsFor f.log.terms (f.log.entries ++ new) early count
     → Appends f new early count l after
-    → Teaches f start list l × IsAfter f (packet.Entries f.log.id start list) l after
+    → Teaches f start list l × IsAfter f (packet.Entries f.log.id (rules_of f.log.terms) start list) l after
 appends_all f start list new early count l after same_new same_early extends follows h =
     let all : new ++ early ≡ coming f start list = rw (same_early, same_new) refl in
     let grows : GrowsBy f start list (length new + count) = (
@@ -100,7 +100,7 @@ appends_all f start list new early count l after same_new same_early extends fol
   where
     by_cases : (l : Learned) → new ++ early ≡ coming f start list → GrowsBy f start list (length new + count)
         → Appends f new early count l after
-        → Teaches f start list l × IsAfter f (packet.Entries f.log.id start list) l after
+        → Teaches f start list l × IsAfter f (packet.Entries f.log.id (rules_of f.log.terms) start list) l after
     by_cases learned.Memory all grows h = ((length new + count, grows, h.0), h.1)
     by_cases (learned.Grew k) all grows h = (
       subst (GrowsBy f start list) (sym h.0) grows,

@@ -4,6 +4,8 @@ use Rattle.std.proofs.Common.{take, drop, slice_get, refl, sym, ◌∙◌, ap, s
 use Rattle.std.proofs.Math.Seq.{take-append-add}
 use Rattle.std.proofs.lemmas.List.{take-append-drop, take-append-le, length-drop}
 use Rattle.std.proofs.lemmas.Option.{slice_get_within}
+use Rattle.bg_match.specs.Terms.{rules_of}
+use Rattle.bg_match.specs.declared.limits.Rules.{Rules}
 use Rattle.bg_match.specs.declared.entries.Entry.{Entry}
 use Rattle.bg_match.specs.Match.{Log, IsLegalRecord, at_number}
 use Rattle.bg_match.proofs.Legal.{legal_fronts}
@@ -19,16 +21,16 @@ use Rattle.bg_party.specs.Takes.{Continues, Keeps, IsAfter}
 use Rattle.bg_party.specs.Window.{early_behind}
 
 -- what entries of this match teach
-pub learns_entries : (f : FollowerView) (id start : ℕ) (list : List Entry) (l : Learned) → id ≡ f.log.id
+pub learns_entries : (f : FollowerView) (id : ℕ) (rules : Rules) (start : ℕ) (list : List Entry) (l : Learned) → (id ≡ f.log.id) × (rules ≡ rules_of f.log.terms)
     → Teaches f start list l
-    → Learns f (packet.Entries id start list) l
-learns_entries f id start list learned.OtherMatch same h = absurd h
-learns_entries f id start list learned.Nothing same h = (same, h)
-learns_entries f id start list (learned.Conflict n) same h = (same, h)
-learns_entries f id start list learned.Gap same h = (same, h)
-learns_entries f id start list (learned.Illegal n) same h = (same, h)
-learns_entries f id start list learned.Memory same h = (same, h)
-learns_entries f id start list (learned.Grew k) same h = (same, h)
+    → Learns f (packet.Entries id rules start list) l
+learns_entries f id rules start list learned.OtherMatch same h = absurd h
+learns_entries f id rules start list learned.Nothing same h = (same, h)
+learns_entries f id rules start list (learned.Conflict n) same h = (same, h)
+learns_entries f id rules start list learned.Gap same h = (same, h)
+learns_entries f id rules start list (learned.Illegal n) same h = (same, h)
+learns_entries f id rules start list learned.Memory same h = (same, h)
+learns_entries f id rules start list (learned.Grew k) same h = (same, h)
 
 nat_order : (a b : ℕ) → (a ≤ b) ⊎ (b < a)
 nat_order zero b = inl (omega arith)
@@ -121,26 +123,26 @@ grown_so_far f start list k h =
 run_left : (xs ys : List Entry) (start : ℕ) (list : List Entry) → IsRun xs start list → IsRun (xs ++ ys) start list
 run_left xs ys start list h i e at = number_left xs ys (start + i) e (h i e at)
 
-keeps_entries : (old : FollowerView) (id start : ℕ) (list : List Entry) (l : Learned) (new : FollowerView) → 1 ≤ start
-    → Learns old (packet.Entries id start list) l → IsAfter old (packet.Entries id start list) l new
-    → Keeps old.log (packet.Entries id start list) l new.log
-keeps_entries old id start list learned.OtherMatch new low h after = λ k. absurd (h k.0)
-keeps_entries old id start list learned.Nothing new low h after =
+keeps_entries : (old : FollowerView) (id : ℕ) (rules : Rules) (start : ℕ) (list : List Entry) (l : Learned) (new : FollowerView) → 1 ≤ start
+    → Learns old (packet.Entries id rules start list) l → IsAfter old (packet.Entries id rules start list) l new
+    → Keeps old.log (packet.Entries id rules start list) l new.log
+keeps_entries old id rules start list learned.OtherMatch new low h after = λ k. absurd (h k.0)
+keeps_entries old id rules start list learned.Nothing new low h after =
     λ k. subst (λ (f : FollowerView). IsRun f.log.entries start list) (sym after)
     (all_held old.log.entries start list k.1.0 k.1.1 h.1.1)
-keeps_entries old id start list (learned.Conflict n) new low h after =
+keeps_entries old id rules start list (learned.Conflict n) new low h after =
     λ k. let c = h.1 in
     absurd (c.5
     (subst (λ (m : ℕ). at_number old.log.entries m ≡ Some c.1) (sym c.2)
     (k.1.0 c.0 c.1 c.4 (omega (arith, c.2, c.3)))))
-keeps_entries old id start list learned.Gap new low h after = λ k. absurd (omega (arith, h.1.1, k.1.1))
-keeps_entries old id start list (learned.Illegal n) new low h after =
+keeps_entries old id rules start list learned.Gap new low h after = λ k. absurd (omega (arith, h.1.1, k.1.1))
+keeps_entries old id rules start list (learned.Illegal n) new low h after =
     λ k. let all = old.log.entries ++ new_entries old.log.entries start list in
     absurd (h.1.1.illegal
     (legal_fronts old.log.terms (take n all) (drop n all)
     (subst (IsLegalRecord old.log.terms) (sym (take-append-drop n all)) k.2)))
-keeps_entries old id start list learned.Memory new low h after = tt
-keeps_entries old id start list (learned.Grew n) new low h after =
+keeps_entries old id rules start list learned.Memory new low h after = tt
+keeps_entries old id rules start list (learned.Grew n) new low h after =
     λ k. let more = grown_so_far old start list n h.1 in
     subst (λ (f : FollowerView). IsRun f.log.entries start list) (sym after.0)
     (subst (λ (l : List Entry). IsRun l start list) (sym more.1)
@@ -149,8 +151,8 @@ keeps_entries old id start list (learned.Grew n) new low h after =
 
 pub keeps : (old : FollowerView) (p : Packet) (l : Learned) (new : FollowerView) → IsPacket p → Learns old p l
     → IsAfter old p l new → Keeps old.log p l new.log
-keeps old (packet.Want id sender held) l new is h after =
-    keeps_none old.log (packet.Want id sender held) l new.log (λ k. k)
-keeps old (packet.Claim id sender number action) l new is h after =
-    keeps_none old.log (packet.Claim id sender number action) l new.log (λ k. k)
-keeps old (packet.Entries id start list) l new is h after = keeps_entries old id start list l new is.first_entry h after
+keeps old (packet.Want id rules sender held) l new is h after =
+    keeps_none old.log (packet.Want id rules sender held) l new.log (λ k. k)
+keeps old (packet.Claim id rules sender number action) l new is h after =
+    keeps_none old.log (packet.Claim id rules sender number action) l new.log (λ k. k)
+keeps old (packet.Entries id rules start list) l new is h after = keeps_entries old id rules start list l new is.first_entry h after

@@ -2,6 +2,8 @@
 use Rattle.std.proofs.Common.{◌≡◌, ◌≢◌, ◌⊎◌, inl, inr, ℕ, zero, suc, ◌+◌, ◌-◌, ◌<◌, ◌≤◌, Some, List, [], ◌∷◌, ◌++◌}
 use Rattle.std.proofs.Common.{take, drop, refl, sym, ◌∙◌, ap, subst, arith, append_assoc}
 use Rattle.std.proofs.lemmas.List.{append-nil, take-append-drop}
+use Rattle.bg_match.specs.Terms.{Terms, rules_of}
+use Rattle.bg_match.specs.declared.limits.Rules.{Rules}
 use Rattle.bg_match.specs.declared.actions.Action.{Action}
 use Rattle.bg_match.specs.declared.entries.Entry.{Entry}
 use Rattle.bg_match.specs.Match.{IsLegalRecord, at_number}
@@ -32,24 +34,24 @@ take_take (suc n) (suc k) [] within = refl
 take_take (suc n) (suc k) (x ∷ xs) within = ap (λ (l : List Entry). x ∷ l) (take_take n k xs (omega arith))
 
 -- a front part of a legal record is legal
-front_legal : (m n k : ℕ) (xs : List Entry) → n ≤ k → IsLegalRecord m (take k xs) → IsLegalRecord m (take n xs)
+front_legal : (m : Terms) (n k : ℕ) (xs : List Entry) → n ≤ k → IsLegalRecord m (take k xs) → IsLegalRecord m (take n xs)
 front_legal m n k xs within legal =
     subst (IsLegalRecord m) (take_take n k xs within)
     (legal_fronts m (take n (take k xs)) (drop n (take k xs))
     (subst (IsLegalRecord m) (sym (take-append-drop n (take k xs))) legal))
 
 -- one entry is the first that does not follow
-no_earlier : (m n k : ℕ) (xs : List Entry) → IsFirstIllegal m xs n → IsFirstIllegal m xs k → n < k → ⊥
+no_earlier : (m : Terms) (n k : ℕ) (xs : List Entry) → IsFirstIllegal m xs n → IsFirstIllegal m xs k → n < k → ⊥
 no_earlier m n k xs h j less = h.illegal (front_legal m n (k - 1) xs (let first = j.first in omega arith) j.before)
 
-one_illegal : (m n k : ℕ) (xs : List Entry) → IsFirstIllegal m xs n → IsFirstIllegal m xs k → n ≡ k
+one_illegal : (m : Terms) (n k : ℕ) (xs : List Entry) → IsFirstIllegal m xs n → IsFirstIllegal m xs k → n ≡ k
 one_illegal m n k xs h j = elim (nat_order n k) [
   | inl less ↦ absurd (no_earlier m n k xs h j less)
   | inr rest ↦ elim rest [ inl same ↦ same | inr more ↦ absurd (no_earlier m k n xs j h more) ]
 ]
 
 -- where one entry does not follow, not all do
-not_all : (m n : ℕ) (xs : List Entry) → IsFirstIllegal m xs n → IsLegalRecord m xs → ⊥
+not_all : (m : Terms) (n : ℕ) (xs : List Entry) → IsFirstIllegal m xs n → IsLegalRecord m xs → ⊥
 not_all m n xs h legal =
     h.illegal (legal_fronts m (take n xs) (drop n xs) (subst (IsLegalRecord m) (sym (take-append-drop n xs)) legal))
 
@@ -77,13 +79,13 @@ one_conflict entries start n k list h j = elim (nat_order h.0 j.0) [
 ]
 
 -- the record with no new entries is the record
-none_follow : (m : ℕ) (entries new : List Entry) → IsLegalRecord m entries → new ≡ [] → IsLegalRecord m (entries ++ new)
+none_follow : (m : Terms) (entries new : List Entry) → IsLegalRecord m entries → new ≡ [] → IsLegalRecord m (entries ++ new)
 none_follow m entries new legal none =
     subst (λ (l : List Entry). IsLegalRecord m (entries ++ l)) (sym none)
     (subst (IsLegalRecord m) (sym (append-nil entries)) legal)
 
 -- so many follow, and one number is how many
-no_more_follow : (m : ℕ) (entries list : List Entry) (n k : ℕ) → FollowsFor m entries list n
+no_more_follow : (m : Terms) (entries list : List Entry) (n k : ℕ) → FollowsFor m entries list n
     → FollowsFor m entries list k → n < k → ⊥
 no_more_follow m entries list n k h j less =
     let front = entries ++ take (n + 1) list in
@@ -94,7 +96,7 @@ no_more_follow m entries list n k h j less =
     ∙ sym (append_assoc entries (take (n + 1) list) rest) in
     h.no_more (let within = j.within in omega arith) (legal_fronts m front rest (subst (IsLegalRecord m) parts j.legal))
 
-one_count : (m : ℕ) (entries list : List Entry) (n k : ℕ) → FollowsFor m entries list n → FollowsFor m entries list k
+one_count : (m : Terms) (entries list : List Entry) (n k : ℕ) → FollowsFor m entries list n → FollowsFor m entries list k
     → n ≡ k
 one_count m entries list n k h j = elim (nat_order n k) [
   | inl less ↦ absurd (no_more_follow m entries list n k h j less)
@@ -145,70 +147,70 @@ module _ (f : FollowerView) (start : ℕ) (list : List Entry) (is : IsLegalRecor
       ap learned.Grew (one_count f.log.terms f.log.entries (coming f start list) n m h.1 k.1)
 
 -- of another match, or of this one
-of_entries : (f : FollowerView) (id start : ℕ) (list : List Entry) (l : Learned)
-    → Learns f (packet.Entries id start list) l
-    → ((l ≡ learned.OtherMatch) × (id ≢ f.log.id)) ⊎ ((id ≡ f.log.id) × Teaches f start list l)
-of_entries f id start list learned.OtherMatch h = inl (refl, h)
-of_entries f id start list learned.Nothing h = inr h
-of_entries f id start list (learned.Conflict n) h = inr h
-of_entries f id start list learned.Gap h = inr h
-of_entries f id start list (learned.Illegal n) h = inr h
-of_entries f id start list learned.Memory h = inr h
-of_entries f id start list (learned.Grew k) h = inr h
+of_entries : (f : FollowerView) (id : ℕ) (rules : Rules) (start : ℕ) (list : List Entry) (l : Learned)
+    → Learns f (packet.Entries id rules start list) l
+    → ((l ≡ learned.OtherMatch) × ((id ≡ f.log.id) × (rules ≡ rules_of f.log.terms) → ⊥)) ⊎ (((id ≡ f.log.id) × (rules ≡ rules_of f.log.terms)) × Teaches f start list l)
+of_entries f id rules start list learned.OtherMatch h = inl (refl, h)
+of_entries f id rules start list learned.Nothing h = inr h
+of_entries f id rules start list (learned.Conflict n) h = inr h
+of_entries f id rules start list learned.Gap h = inr h
+of_entries f id rules start list (learned.Illegal n) h = inr h
+of_entries f id rules start list learned.Memory h = inr h
+of_entries f id rules start list (learned.Grew k) h = inr h
 
-of_want : (f : FollowerView) (id sender held : ℕ) (l : Learned) → Learns f (packet.Want id sender held) l
-    → ((l ≡ learned.OtherMatch) × (id ≢ f.log.id)) ⊎ ((id ≡ f.log.id) × (l ≡ learned.Nothing))
-of_want f id sender held learned.OtherMatch h = inl (refl, h)
-of_want f id sender held learned.Nothing h = inr h
-of_want f id sender held (learned.Conflict n) h = inr h
-of_want f id sender held learned.Gap h = inr h
-of_want f id sender held (learned.Illegal n) h = inr h
-of_want f id sender held learned.Memory h = inr h
-of_want f id sender held (learned.Grew k) h = inr h
+of_want : (f : FollowerView) (id : ℕ) (rules : Rules) (sender held : ℕ) (l : Learned) → Learns f (packet.Want id rules sender held) l
+    → ((l ≡ learned.OtherMatch) × ((id ≡ f.log.id) × (rules ≡ rules_of f.log.terms) → ⊥)) ⊎ (((id ≡ f.log.id) × (rules ≡ rules_of f.log.terms)) × (l ≡ learned.Nothing))
+of_want f id rules sender held learned.OtherMatch h = inl (refl, h)
+of_want f id rules sender held learned.Nothing h = inr h
+of_want f id rules sender held (learned.Conflict n) h = inr h
+of_want f id rules sender held learned.Gap h = inr h
+of_want f id rules sender held (learned.Illegal n) h = inr h
+of_want f id rules sender held learned.Memory h = inr h
+of_want f id rules sender held (learned.Grew k) h = inr h
 
-of_claim : (f : FollowerView) (id sender number : ℕ) (action : Action) (l : Learned)
-    → Learns f (packet.Claim id sender number action) l
-    → ((l ≡ learned.OtherMatch) × (id ≢ f.log.id)) ⊎ ((id ≡ f.log.id) × (l ≡ learned.Nothing))
-of_claim f id sender number action learned.OtherMatch h = inl (refl, h)
-of_claim f id sender number action learned.Nothing h = inr h
-of_claim f id sender number action (learned.Conflict n) h = inr h
-of_claim f id sender number action learned.Gap h = inr h
-of_claim f id sender number action (learned.Illegal n) h = inr h
-of_claim f id sender number action learned.Memory h = inr h
-of_claim f id sender number action (learned.Grew k) h = inr h
+of_claim : (f : FollowerView) (id : ℕ) (rules : Rules) (sender number : ℕ) (action : Action) (l : Learned)
+    → Learns f (packet.Claim id rules sender number action) l
+    → ((l ≡ learned.OtherMatch) × ((id ≡ f.log.id) × (rules ≡ rules_of f.log.terms) → ⊥)) ⊎ (((id ≡ f.log.id) × (rules ≡ rules_of f.log.terms)) × (l ≡ learned.Nothing))
+of_claim f id rules sender number action learned.OtherMatch h = inl (refl, h)
+of_claim f id rules sender number action learned.Nothing h = inr h
+of_claim f id rules sender number action (learned.Conflict n) h = inr h
+of_claim f id rules sender number action learned.Gap h = inr h
+of_claim f id rules sender number action (learned.Illegal n) h = inr h
+of_claim f id rules sender number action learned.Memory h = inr h
+of_claim f id rules sender number action (learned.Grew k) h = inr h
 
 pub teaches_one_thing : TeachesOneThing
-teaches_one_thing f (packet.Entries id start list) a b is h k x y = elim (of_entries f id start list a h) [
-  | inl other ↦ elim (of_entries f id start list b k) [
+teaches_one_thing f (packet.Entries id rules start list) a b is h k x y = elim (of_entries f id rules start list a h) [
+  | inl other ↦ elim (of_entries f id rules start list b k) [
     | inl also ↦ other.0
         ∙ sym also.0
     | inr this ↦ absurd (other.1 this.0)
   ]
-  | inr this ↦ elim (of_entries f id start list b k) [
+  | inr this ↦ elim (of_entries f id rules start list b k) [
     | inl other ↦ absurd (other.1 this.0)
     | inr also ↦ apart f start list is a b this.1 also.1 x y
   ]
 ]
-teaches_one_thing f (packet.Want id sender held) a b is h k x y = elim (of_want f id sender held a h) [
-  | inl other ↦ elim (of_want f id sender held b k) [
+teaches_one_thing f (packet.Want id rules sender held) a b is h k x y = elim (of_want f id rules sender held a h) [
+  | inl other ↦ elim (of_want f id rules sender held b k) [
     | inl also ↦ other.0
         ∙ sym also.0
     | inr this ↦ absurd (other.1 this.0)
   ]
-  | inr this ↦ elim (of_want f id sender held b k) [
+  | inr this ↦ elim (of_want f id rules sender held b k) [
     | inl other ↦ absurd (other.1 this.0)
     | inr also ↦ this.1
         ∙ sym also.1
   ]
 ]
-teaches_one_thing f (packet.Claim id sender number action) a b is h k x y =
-    elim (of_claim f id sender number action a h) [
-      | inl other ↦ elim (of_claim f id sender number action b k) [
+teaches_one_thing f (packet.Claim id rules sender number action) a b is h k x y =
+    elim (of_claim f id rules sender number action a h) [
+      | inl other ↦ elim (of_claim f id rules sender number action b k) [
         | inl also ↦ other.0
             ∙ sym also.0
         | inr this ↦ absurd (other.1 this.0)
       ]
-      | inr this ↦ elim (of_claim f id sender number action b k) [
+      | inr this ↦ elim (of_claim f id rules sender number action b k) [
         | inl other ↦ absurd (other.1 this.0)
         | inr also ↦ this.1
             ∙ sym also.1

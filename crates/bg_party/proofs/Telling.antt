@@ -3,6 +3,8 @@ use Rattle.std.proofs.Common.{◌≡◌, ◌≢◌, ◌⊎◌, inl, inr, ℕ, ze
 use Rattle.std.proofs.Common.{if◌then◌else◌, Option, Some, None, List, [], ◌∷◌, ◌++◌, length, take, drop, slice_get}
 use Rattle.std.proofs.Common.{refl, sym, ◌∙◌, ap, subst, arith, length-append}
 use Rattle.std.proofs.lemmas.List.{length-take-le}
+use Rattle.bg_match.specs.Terms.{rules_of}
+use Rattle.bg_match.specs.declared.limits.Rules.{Rules}
 use Rattle.bg_match.specs.declared.entries.Entry.{Entry}
 use Rattle.bg_match.specs.Match.{Log, at_number}
 use Rattle.bg_wire.specs.declared.packets.Packet.{Packet}
@@ -70,11 +72,11 @@ place_unbroken (Some x ∷ rest) zero e at = at
 place_unbroken (Some x ∷ rest) (suc j) e at = place_unbroken rest j e at
 
 -- each of the coming entries was told
-pub coming_told : (f : FollowerView) (id start : ℕ) (list : List Entry) (j : ℕ) (e : Entry) → id ≡ f.log.id
+pub coming_told : (f : FollowerView) (id : ℕ) (rules : Rules) (start : ℕ) (list : List Entry) (j : ℕ) (e : Entry) → (id ≡ f.log.id) × (rules ≡ rules_of f.log.terms)
     → start ≤ length f.log.entries + 1
     → slice_get (coming f start list) j ≡ Some e
-    → IsTold f (packet.Entries id start list) (length f.log.entries + 1 + j) e
-coming_told f id start list j e same joins at =
+    → IsTold f (packet.Entries id rules start list) (length f.log.entries + 1 + j) e
+coming_told f id rules start list j e same joins at =
     let new = new_entries f.log.entries start list in
     elim (split new (early_behind f.early (length new)) j e at) [
       | inl p ↦
@@ -97,11 +99,11 @@ same_told : (old : FollowerView) (p : Packet) (new : FollowerView) → new ≡ o
 same_told old p new same =
     subst (IsAllTold old p) (sym same) (record { held = λ n e at. inl at; early = λ n e is. inr is })
 
-grown_told : (old : FollowerView) (id start : ℕ) (list : List Entry) (k spare : ℕ) → id ≡ old.log.id
+grown_told : (old : FollowerView) (id : ℕ) (rules : Rules) (start : ℕ) (list : List Entry) (k spare : ℕ) → (id ≡ old.log.id) × (rules ≡ rules_of old.log.terms)
     → start ≤ length old.log.entries + 1
     → k ≤ length (coming old start list)
-    → IsAllTold old (packet.Entries id start list) (grown_with old (coming old start list) k spare)
-grown_told old id start list k spare same joins within =
+    → IsAllTold old (packet.Entries id rules start list) (grown_with old (coming old start list) k spare)
+grown_told old id rules start list k spare same joins within =
     let many : length (old.log.entries ++ take k (coming old start list)) ≡ length old.log.entries + k =
     length-append old.log.entries (take k (coming old start list))
     ∙ ap (λ (n : ℕ). length old.log.entries + n) (length-take-le k (coming old start list) within) in
@@ -109,8 +111,8 @@ grown_told old id start list k spare same joins within =
       held = λ n e at. elim (split_number old.log.entries (take k (coming old start list)) n e at) [
         | inl p ↦ inl p
         | inr p ↦ inr
-            (subst (λ (m : ℕ). IsTold old (packet.Entries id start list) m e) (sym p.1)
-            (coming_told old id start list p.0 e same joins (get_taken k (coming old start list) p.0 e p.2)))
+            (subst (λ (m : ℕ). IsTold old (packet.Entries id rules start list) m e) (sym p.1)
+            (coming_told old id rules start list p.0 e same joins (get_taken k (coming old start list) p.0 e p.2)))
       ];
       early = λ n e is. inr
           (left (nat_lt k (length (coming old start list))) n e
@@ -123,10 +125,10 @@ grown_told old id start list k spare same joins within =
     left true n e many size i is at = absurd (no_place i e at)
     left false n e many size i is at = stays old k n i e many size is at
 
-stored_told : (old : FollowerView) (id start : ℕ) (list : List Entry) (new : FollowerView) → id ≡ old.log.id
+stored_told : (old : FollowerView) (id : ℕ) (rules : Rules) (start : ℕ) (list : List Entry) (new : FollowerView) → (id ≡ old.log.id) × (rules ≡ rules_of old.log.terms)
     → length old.log.entries + 1 < start
-    → length new.early ≤ window_size → Stores old start list new → IsAllTold old (packet.Entries id start list) new
-stored_told old id start list new same gap few h =
+    → length new.early ≤ window_size → Stores old start list new → IsAllTold old (packet.Entries id rules start list) new
+stored_told old id rules start list new same gap few h =
     let log : new.log ≡ old.log = ap (λ (f : FollowerView). f.log) h.1 in
     let first = start - (length old.log.entries + 1) in
     record {
@@ -140,7 +142,7 @@ stored_told old id start list new same gap few h =
     told : (n : ℕ) (e : Entry) (i first j : ℕ) (x : Option Entry) → first ≡ start - (length old.log.entries + 1)
         → n ≡ length old.log.entries + 1 + i
         → i ≡ first + j → i < window_size → j < length list → slice_get list j ≡ x → at_place new.early i ≡ Some e
-        → Tells old.log.id (packet.Entries id start list) n e
+        → Tells old.log.id old.log.terms (packet.Entries id rules start list) n e
     told n e i first j None is number there within less at kept = absurd (slice_get_some list j less at)
     told n e i first j (Some x) is number there within less at kept =
         let same_place : at_place new.early (first + j) ≡ Some x =
@@ -150,7 +152,7 @@ stored_told old id start list new same gap few h =
 
     place : (n : ℕ) (e : Entry) (i first : ℕ) → first ≡ start - (length old.log.entries + 1)
         → n ≡ length old.log.entries + 1 + i
-        → at_place new.early i ≡ Some e → IsTold old (packet.Entries id start list) n e
+        → at_place new.early i ≡ Some e → IsTold old (packet.Entries id rules start list) n e
     place n e i first is number kept = elim (nat_order i first) [
       | inl less ↦ inr (i, number, sym (h.0.before i (rw (← is) less)) ∙ kept)
       | inr more ↦ elim (nat_order i (first + length list)) [
@@ -171,18 +173,18 @@ no_entries_told old p (learned.Illegal n) new is after = absurd cc
 no_entries_told old p learned.Memory new is after = absurd cc
 no_entries_told old p (learned.Grew k) new is after = absurd cc
 
-module _ (old : FollowerView) (id start : ℕ) (list : List Entry) (new : FollowerView) (is : IsFollower new) where
-  entries_told : (l : Learned) → Learns old (packet.Entries id start list) l
-      → IsAfter old (packet.Entries id start list) l new → IsAllTold old (packet.Entries id start list) new
-  entries_told learned.OtherMatch h after = same_told old (packet.Entries id start list) new after
-  entries_told learned.Nothing h after = same_told old (packet.Entries id start list) new after
-  entries_told (learned.Conflict n) h after = same_told old (packet.Entries id start list) new after
-  entries_told (learned.Illegal n) h after = same_told old (packet.Entries id start list) new after
-  entries_told learned.Memory h after = same_told old (packet.Entries id start list) new after
-  entries_told learned.Gap h after = stored_told old id start list new h.0 h.1.1 is.few after
+module _ (old : FollowerView) (id : ℕ) (rules : Rules) (start : ℕ) (list : List Entry) (new : FollowerView) (is : IsFollower new) where
+  entries_told : (l : Learned) → Learns old (packet.Entries id rules start list) l
+      → IsAfter old (packet.Entries id rules start list) l new → IsAllTold old (packet.Entries id rules start list) new
+  entries_told learned.OtherMatch h after = same_told old (packet.Entries id rules start list) new after
+  entries_told learned.Nothing h after = same_told old (packet.Entries id rules start list) new after
+  entries_told (learned.Conflict n) h after = same_told old (packet.Entries id rules start list) new after
+  entries_told (learned.Illegal n) h after = same_told old (packet.Entries id rules start list) new after
+  entries_told learned.Memory h after = same_told old (packet.Entries id rules start list) new after
+  entries_told learned.Gap h after = stored_told old id rules start list new h.0 h.1.1 is.few after
   entries_told (learned.Grew k) h after =
-      subst (IsAllTold old (packet.Entries id start list)) (sym after.0)
-      (grown_told old id start list k new.log.spare h.0 h.1.0.0.1 h.1.1.within)
+      subst (IsAllTold old (packet.Entries id rules start list)) (sym after.0)
+      (grown_told old id rules start list k new.log.spare h.0 h.1.0.0.1 h.1.1.within)
 
 not_entries : (old : FollowerView) (p : Packet) (l : Learned) (new : FollowerView)
     → (l ≢ learned.OtherMatch → l ≡ learned.Nothing)
@@ -209,10 +211,10 @@ of_no_entries old p (learned.Grew k) nothing h other = nothing (learned.Grew k) 
 
 pub all_told : (old : FollowerView) (p : Packet) (l : Learned) (new : FollowerView) → IsFollower new → Learns old p l
     → IsAfter old p l new → IsAllTold old p new
-all_told old (packet.Want id sender held) l new is h after =
-    not_entries old (packet.Want id sender held) l new
-    (of_no_entries old (packet.Want id sender held) l (λ l h. h) h) after
-all_told old (packet.Claim id sender number action) l new is h after =
-    not_entries old (packet.Claim id sender number action) l new
-    (of_no_entries old (packet.Claim id sender number action) l (λ l h. h) h) after
-all_told old (packet.Entries id start list) l new is h after = entries_told old id start list new is l h after
+all_told old (packet.Want id rules sender held) l new is h after =
+    not_entries old (packet.Want id rules sender held) l new
+    (of_no_entries old (packet.Want id rules sender held) l (λ l h. h) h) after
+all_told old (packet.Claim id rules sender number action) l new is h after =
+    not_entries old (packet.Claim id rules sender number action) l new
+    (of_no_entries old (packet.Claim id rules sender number action) l (λ l h. h) h) after
+all_told old (packet.Entries id rules start list) l new is h after = entries_told old id rules start list new is l h after

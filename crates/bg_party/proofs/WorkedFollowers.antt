@@ -4,6 +4,8 @@ use Rattle.bg_board.specs.declared.dice.Die.TheVariants.{One, Three}
 use Rattle.bg_match.specs.declared.entries.Entry.{Entry}
 use Rattle.bg_match.specs.declared.entries.Entry.TheVariants as entry
 use Rattle.bg_match.specs.declared.levels.Level.TheVariants.{Normal}
+use Rattle.bg_match.specs.declared.limits.Rules.TheVariants as rules
+use Rattle.bg_match.specs.Terms.{Terms, terms_of}
 use Rattle.bg_party.specs.Learns.{coming}
 use Rattle.bg_party.specs.Retry.{RetryView, after_tick, at_once, is_due}
 use Rattle.bg_party.specs.Takes.{grown_with}
@@ -43,9 +45,13 @@ rejection = entry.Rejected
 up_to_a_hole : unbroken (Some offer ∷ Some rejection ∷ None ∷ Some offer ∷ []) ≡ offer ∷ rejection ∷ []
 up_to_a_hole = refl
 
+-- a match to one point, by the first rules
+abbrev one_point : Terms
+one_point = terms_of 1 rules.One
+
 -- a follower that holds nothing, and keeps entries 2 and 3
 abbrev early : FollowerView
-early = record (fresh_follower 1 1) { early = None ∷ Some offer ∷ Some rejection ∷ [] }
+early = record (fresh_follower 1 one_point) { early = None ∷ Some offer ∷ Some rejection ∷ [] }
 
 third_is_kept : IsEarly early 3 rejection
 third_is_kept = (2, refl, refl)
@@ -57,7 +63,7 @@ three_come = refl
 -- all three are held then, and nothing is kept
 three_are_held : grown_with early (coming early 1 (opening ∷ [])) 3 0 ≡
     record {
-      log = record { id = 1; terms = 1; entries = opening ∷ offer ∷ rejection ∷ []; spare = 0 };
+      log = record { id = 1; terms = one_point; entries = opening ∷ offer ∷ rejection ∷ []; spare = 0 };
       early =
           [];
       retry = at_once;
@@ -66,16 +72,16 @@ three_are_held = refl
 
 -- where only the opening follows, the two are dropped
 two_are_dropped : grown_with early (coming early 1 (opening ∷ [])) 1 0 ≡
-    record { log = record { id = 1; terms = 1; entries = opening ∷ []; spare = 0 }; early = []; retry = at_once }
+    record { log = record { id = 1; terms = one_point; entries = opening ∷ []; spare = 0 }; early = []; retry = at_once }
 two_are_dropped = refl
 
 -- behind a hole an entry stays: entry 4 is kept, and entries 1 and 2 come
 abbrev far : FollowerView
-far = record (fresh_follower 1 1) { early = None ∷ None ∷ None ∷ Some offer ∷ [] }
+far = record (fresh_follower 1 one_point) { early = None ∷ None ∷ None ∷ Some offer ∷ [] }
 
 fourth_stays : grown_with far (coming far 1 (opening ∷ offer ∷ [])) 2 0 ≡
     record {
-      log = record { id = 1; terms = 1; entries = opening ∷ offer ∷ []; spare = 0 };
+      log = record { id = 1; terms = one_point; entries = opening ∷ offer ∷ []; spare = 0 };
       early =
           None ∷ Some offer ∷ [];
       retry = at_once;

@@ -1,7 +1,7 @@
 -- What a seat claims, and what followers send.
 use Rattle.std.specs.Prelude.{◌≡◌, ℕ, ◌+◌, ◌<◌, ◌≤◌, false, nat_lt, Option, Some, None, List, length, Result, Ok, Err}
 use Rattle.std.specs.Prelude.{IsOk, IfSome, ◌↔◌, if◌then◌else◌, ◌&&◌}
-use Rattle.bg_match.specs.Terms.{Terms}
+use Rattle.bg_match.specs.Terms.{Terms, rules_of}
 use Rattle.bg_board.specs.declared.dice.Die.TheVariants.{One}
 use Rattle.bg_board.specs.declared.players.Player.{Player}
 use Rattle.bg_turns.specs.declared.throws.Dice.{Dice}
@@ -66,7 +66,7 @@ pub record SeatChooses
 
 -- what a party that holds the record asks for
 abbrev pub want_of : ℕ → Log → Packet
-want_of party log = packet.Want log.id party (length log.entries)
+want_of party log = packet.Want log.id (rules_of log.terms) party (length log.entries)
 
 -- what a seat sends, where it does: its claim, once that is saved and until its record answers it; else what it wants
 abbrev pub packet_of_seat : SeatView → Packet
@@ -75,7 +75,7 @@ packet_of_seat s = claimed s.claim where
   claimed None = want_of (party_of s.player) s.follower.log
   claimed (Some claim) =
       if s.claim_saved && nat_lt (length s.follower.log.entries) claim.0
-      then packet.Claim s.follower.log.id (party_of s.player) claim.0 claim.1
+      then packet.Claim s.follower.log.id (rules_of s.follower.log.terms) (party_of s.player) claim.0 claim.1
       else want_of (party_of s.player) s.follower.log
 
 -- what a follower sends on a tick: this packet where it is due, else nothing

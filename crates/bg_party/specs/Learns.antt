@@ -1,6 +1,6 @@
 -- What a packet teaches a follower.
 use Rattle.std.specs.Prelude.{◌≡◌, ◌≢◌, ℕ, ◌+◌, ◌-◌, ◌<◌, ◌≤◌, Some, List, [], ◌++◌, length, take, drop, slice_get}
-use Rattle.bg_match.specs.Terms.{Terms}
+use Rattle.bg_match.specs.Terms.{Terms, rules_of}
 use Rattle.bg_match.specs.declared.entries.Entry.{Entry}
 use Rattle.bg_match.specs.Match.{IsLegalRecord, at_number}
 use Rattle.bg_wire.specs.PacketText.{IsOfMatch}
@@ -69,14 +69,14 @@ Teaches f start list (learned.Grew k) = GrowsBy f start list k
 
 -- what a packet of this match teaches; only entries do
 abbrev pub TeachesWithin : FollowerView → Packet → Learned → Type 0
-TeachesWithin f (packet.Want id sender held) l = l ≡ learned.Nothing
-TeachesWithin f (packet.Claim id sender number action) l = l ≡ learned.Nothing
-TeachesWithin f (packet.Entries id start list) l = Teaches f start list l
+TeachesWithin f (packet.Want id rules sender held) l = l ≡ learned.Nothing
+TeachesWithin f (packet.Claim id rules sender number action) l = l ≡ learned.Nothing
+TeachesWithin f (packet.Entries id rules start list) l = Teaches f start list l
 
 -- what a packet teaches
 abbrev pub Learns : FollowerView → Packet → Learned → Type 0
-Learns f p learned.OtherMatch = IsOfMatch f.log.id p → ⊥
-Learns f p l = IsOfMatch f.log.id p × TeachesWithin f p l
+Learns f p learned.OtherMatch = IsOfMatch f.log.id (rules_of f.log.terms) p → ⊥
+Learns f p l = IsOfMatch f.log.id (rules_of f.log.terms) p × TeachesWithin f p l
 
 -- a packet teaches a follower whose record is legal one thing, want of memory aside
 abbrev pub TeachesOneThing : Type 0

@@ -2,7 +2,7 @@
 use Rattle.std.specs.Prelude.{◌≡◌, ◌⊎◌, ℕ, ◌+◌, ◌-◌, ◌<◌, ◌≤◌, nat_lt, Some, List, [], ◌++◌, length, take, drop}
 use Rattle.std.specs.Prelude.{slice_get}
 use Rattle.std.specs.Prelude.{if◌then◌else◌}
-use Rattle.bg_match.specs.Terms.{Terms}
+use Rattle.bg_match.specs.Terms.{Terms, rules_of}
 use Rattle.bg_match.specs.declared.entries.Entry.{Entry}
 use Rattle.bg_match.specs.Match.{Log, IsLegalRecord, at_number}
 use Rattle.bg_wire.specs.Runs.{IsRun}
@@ -32,12 +32,12 @@ grown_with f list k spare = record {
 
 -- the follower whose record has so many of the entries that come with the packet
 abbrev pub grown : FollowerView → Packet → ℕ → ℕ → FollowerView
-grown f (packet.Entries id start list) k spare = grown_with f (coming f start list) k spare
+grown f (packet.Entries id rules start list) k spare = grown_with f (coming f start list) k spare
 grown f _ k spare = f
 
 -- what is kept of a packet after a gap
 abbrev pub Kept : FollowerView → Packet → FollowerView → Type 0
-Kept old (packet.Entries id start list) new = Stores old start list new
+Kept old (packet.Entries id rules start list) new = Stores old start list new
 Kept old _ new = ⊥
 
 -- of the spare room no more is taken than so many entries need, where it is enough
@@ -62,13 +62,13 @@ Appends old new early count _ after = ⊥
 
 -- entries of this match that join what is held, and follow where they are new
 abbrev pub Continues : ℕ → Terms → List Entry → Packet → Type 0
-Continues match_id terms entries (packet.Entries id start list) =
-    (id ≡ match_id) × Joins entries start list × IsLegalRecord terms (entries ++ new_entries entries start list)
+Continues match_id terms entries (packet.Entries id rules start list) =
+    ((id ≡ match_id) × (rules ≡ rules_of terms)) × Joins entries start list × IsLegalRecord terms (entries ++ new_entries entries start list)
 Continues match_id terms entries _ = ⊥
 
 -- all entries of the packet are held under their own numbers
 abbrev pub Holds : List Entry → Packet → Type 0
-Holds entries (packet.Entries id start list) = IsRun entries start list
+Holds entries (packet.Entries id rules start list) = IsRun entries start list
 Holds entries _ = ⊥
 
 -- entries that continue the record are held afterwards, want of memory aside
@@ -77,14 +77,14 @@ Keeps old p learned.Memory new = Unit {0}
 Keeps old p l new = Continues old.id old.terms old.entries p → Holds new.entries p
 
 -- the packet tells this entry under this number, in this match
-abbrev pub Tells : ℕ → Packet → ℕ → Entry → Type 0
-Tells match_id (packet.Entries id start list) n e =
-    (id ≡ match_id) × ((i : ℕ) × (n ≡ start + i) × (slice_get list i ≡ Some e))
-Tells match_id _ n e = ⊥
+abbrev pub Tells : ℕ → Terms → Packet → ℕ → Entry → Type 0
+Tells match_id terms (packet.Entries id rules start list) n e =
+    ((id ≡ match_id) × (rules ≡ rules_of terms)) × ((i : ℕ) × (n ≡ start + i) × (slice_get list i ≡ Some e))
+Tells match_id terms _ n e = ⊥
 
 -- the entry was told under this number: by the packet, or before, so that it was kept
 abbrev pub IsTold : FollowerView → Packet → ℕ → Entry → Type 0
-IsTold f p n e = Tells f.log.id p n e ⊎ IsEarly f n e
+IsTold f p n e = Tells f.log.id f.log.terms p n e ⊎ IsEarly f n e
 
 -- what is held or kept afterwards under a number was held under it before, or was told under it
 pub record IsAllTold (old : FollowerView) (p : Packet) (new : FollowerView) : Type 0 where

@@ -4,6 +4,7 @@ ghost use Rattle.bg_party.specs.Retry.{at_once, is_due};
 ghost use Rattle.bg_party.specs.Window.{early_behind, window_size};
 ghost use Rattle.bg_match.specs.Limits.{IsMatchLength, most_entries};
 ghost use Rattle.bg_match.specs.Match.{IsLegalRecord};
+ghost use Rattle.bg_match.specs.Terms.{rules_of, terms_of};
 ghost use Rattle.bg_wire.specs.Codes.{most_in_packet};
 ghost use Rattle.bg_wire.specs.PacketText.{IsPacket};
 
@@ -11,7 +12,7 @@ use crate::Learned;
 use crate::retry::Retry;
 use crate::told::{append, count_that_follow, first_conflict, follow, not_held};
 use crate::window::Window;
-use bg_match::{Entry, LengthFault, Number, Record};
+use bg_match::{Entry, LengthFault, Number, Record, Rules};
 use bg_wire::Packet;
 use std::alloc::Global;
 use std::marker::Model;
@@ -43,11 +44,16 @@ impl Follower {
     ghost use Rattle.bg_party.specs.Claims.{want_of, ticked};
 
     /// Of a match with no entry.
-    pub(crate) fn fresh(alloc: Global, id: u64, length: u8) -> Result<Follower, LengthFault>
+    pub(crate) fn fresh(
+        alloc: Global,
+        id: u64,
+        length: u8,
+        rules: Rules,
+    ) -> Result<Follower, LengthFault>
         ensures ok { IsOk result ↔ IsMatchLength length }
-        ensures value { IfOk result (λ f. f ≡ fresh_follower id length) }
+        ensures value { IfOk result (λ f. f ≡ fresh_follower id (terms_of length rules)) }
     {
-        Ok(Follower::starting(Record::new(alloc, id, length)?))
+        Ok(Follower::starting(Record::new(alloc, id, length, rules)?))
     }
 
     /// That begins with this record, keeps no early entry, and sends on the next tick.
@@ -78,6 +84,7 @@ impl Follower {
     {
         Packet::Want {
             id: self.log.id(),
+            rules: self.log.rules(),
             sender,
             held: self.log.len(),
         }
@@ -114,7 +121,7 @@ impl Follower {
         ensures after { IsAfter self.old packet.now result self.new }
         ensures follower { IsFollower self.new }
     {
-        if packet.id() != self.log.id() {
+        if !packet.is_of(self.log.id(), self.log.rules()) {
             return Learned::OtherMatch;
         }
         match packet {
@@ -130,7 +137,8 @@ impl Follower {
         requires few { length list.now ≤ most_in_packet }
         requires last { start + length list.now ≤ most_entries + 1 }
         ensures teaches { Teaches self.old start list.now result }
-        ensures after { IsAfter self.old (Packet.Entries self.old.log.id start list.now) result self.new }
+        ensures after { IsAfter self.old
+            (Packet.Entries self.old.log.id (rules_of self.old.log.terms) start list.now) result self.new }
         ensures follower { IsFollower self.new }
     {
         if let Some(number) = first_conflict(&self.log, start, list) {

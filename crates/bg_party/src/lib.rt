@@ -2,7 +2,7 @@
 //! (docs/USING.md).
 //!
 //! ```
-//! let mut seat = Seat::fresh(alloc, Player::X, 1, 5)?;
+//! let mut seat = Seat::fresh(alloc, Player::X, 1, 5, Rules::One)?;
 //! // What it gives is sent to the referee, and what the referee answers is taken.
 //! assert!(rt; matches!(seat.tick(), Some(Packet::Want { held: 0, .. })));
 //! let bytes = [

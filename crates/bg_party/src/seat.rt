@@ -2,6 +2,7 @@
 ghost use Rattle.std.specs.Prelude.{◌≡◌, ◌≤◌, ◌<◌, ◌+◌, ◌↔◌, true, false, [], Some, None, option_copied, length, IsOk};
 ghost use Rattle.std.specs.Prelude.{IfOk};
 ghost use Rattle.bg_match.specs.Match.{empty_log};
+ghost use Rattle.bg_match.specs.Terms.{match_length, terms_of};
 ghost use Rattle.bg_match.specs.Limits.{shortest_match, longest_match, IsMatchLength};
 ghost use Rattle.bg_wire.specs.PacketText.{IsPacket};
 ghost use Rattle.bg_wire.specs.Parties.{party_of};
@@ -13,7 +14,7 @@ ghost use Rattle.bg_party.specs.Views.{player_of};
 use crate::follower::Follower;
 use crate::{ChooseFault, Learned};
 use bg_board::{Die, Player};
-use bg_match::{Action, Actor, LengthFault, Number, Record, entry_of};
+use bg_match::{Action, Actor, LengthFault, Number, Record, Rules, entry_of};
 use bg_turns::Dice;
 use bg_wire::{Packet, SEAT_OF_X, SaveRefusal, Saved, Slot, next_save, party_of};
 use std::alloc::Global;
@@ -83,14 +84,20 @@ impl Seat {
     ///
     /// # Errors
     /// `LengthOutOfRange` where the length is not from 1 to 99.
-    pub fn fresh(alloc: Global, player: Player, id: u64, length: u8) -> Result<Seat, LengthFault>
+    pub fn fresh(
+        alloc: Global,
+        player: Player,
+        id: u64,
+        length: u8,
+        rules: Rules,
+    ) -> Result<Seat, LengthFault>
         ensures ok { IsOk result ↔ IsMatchLength length }
-        ensures value { IfOk result (λ s. s ≡ fresh_seat player id length) }
+        ensures value { IfOk result (λ s. s ≡ fresh_seat player id (terms_of length rules)) }
     {
         Ok(Seat {
             alloc,
             player,
-            follower: Follower::fresh(alloc, id, length)?,
+            follower: Follower::fresh(alloc, id, length, rules)?,
             claim: None,
             claim_saved: true,
             last_save: 0,
@@ -242,6 +249,7 @@ impl Seat {
         match &self.claim {
             Some((number, action)) if self.claim_saved && *number > log.len() => Packet::Claim {
                 id: log.id(),
+                rules: log.rules(),
                 sender: party,
                 number: *number,
                 action: action.copy(),

@@ -5,6 +5,7 @@
 //! it gives. So neither what the call ensures nor the values that it makes burden the proof of the test.
 mod claims;
 mod learning;
+mod passes;
 mod sending;
 mod windows;
 
@@ -14,7 +15,7 @@ ghost use Rattle.bg_wire.specs.PacketText.{IsPacket};
 use crate::{ChooseFault, Learned, Seat, Watcher};
 use arrayvec::ArrayVec;
 use bg_board::{Die, Player, Step};
-use bg_match::{Action, Entry, Number};
+use bg_match::{Action, Entry, Number, Rules};
 use bg_turns::Turn;
 use bg_wire::{Packet, SaveRefusal, Slot, decode};
 use std::alloc::Global;
@@ -107,6 +108,7 @@ fn watcher_learns(
 fn want(sender: u8, held: Number) -> Packet {
     Packet::Want {
         id: 1,
+        rules: Rules::One,
         sender,
         held,
     }
@@ -164,7 +166,7 @@ fn learns_the_opening(seat: &mut Seat) -> bool {
 
 /// A seat that holds the opening 3 1.
 fn after_the_opening(alloc: Global, player: Player) -> Result<Seat, Fail> {
-    let mut seat = Seat::fresh(alloc, player, 1, 1)?;
+    let mut seat = Seat::fresh(alloc, player, 1, 1, Rules::One)?;
     if !learns_the_opening(&mut seat) {
         return Err(Fail::from("no opening"));
     }

@@ -2,12 +2,13 @@
 ghost use Rattle.std.specs.Prelude.{◌≡◌, ◌≤◌, ◌<◌, ◌↔◌, [], Some, length, IsOk, IfOk};
 ghost use Rattle.bg_wire.specs.Codes.{first_watcher};
 ghost use Rattle.bg_match.specs.Match.{empty_log};
+ghost use Rattle.bg_match.specs.Terms.{terms_of};
 ghost use Rattle.bg_match.specs.Limits.{shortest_match, longest_match, IsMatchLength};
 ghost use Rattle.bg_wire.specs.PacketText.{IsPacket};
 
 use crate::Learned;
 use crate::follower::Follower;
-use bg_match::{LengthFault, Record};
+use bg_match::{LengthFault, Record, Rules};
 use bg_wire::{FIRST_WATCHER, Packet};
 use std::alloc::Global;
 use std::marker::Model;
@@ -42,14 +43,20 @@ impl Watcher {
     ///
     /// # Errors
     /// `LengthOutOfRange` where the length is not from 1 to 99.
-    pub fn fresh(alloc: Global, party: u8, id: u64, length: u8) -> Result<Watcher, LengthFault>
+    pub fn fresh(
+        alloc: Global,
+        party: u8,
+        id: u64,
+        length: u8,
+        rules: Rules,
+    ) -> Result<Watcher, LengthFault>
         requires { first_watcher ≤ party }
         ensures ok { IsOk result ↔ IsMatchLength length }
-        ensures value { IfOk result (λ w. w ≡ fresh_watcher party id length) }
+        ensures value { IfOk result (λ w. w ≡ fresh_watcher party id (terms_of length rules)) }
     {
         Ok(Watcher {
             party,
-            follower: Follower::fresh(alloc, id, length)?,
+            follower: Follower::fresh(alloc, id, length, rules)?,
         })
     }
 

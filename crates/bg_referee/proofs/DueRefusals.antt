@@ -1,4 +1,4 @@
--- A refusal to open a game, want of memory aside, comes only where no opening with the word's dice follows.
+-- A refusal, want of memory aside, comes only where neither an opening with the word's dice nor a pass follows.
 use Rattle.std.proofs.Common.{◌≡◌, ◌≢◌, ℕ, Result, Ok, Err, [], ◌∷◌, length-append, sym, ◌∙◌, ap, subst, arith, refl}
 use Rattle.std.specs.Prelude.{IfErr}
 use Rattle.std.proofs.lemmas.Option.{same_Some}
@@ -19,12 +19,12 @@ refuses : (why : DueFault) (log : Log) (word : ℕ) → IsDueFault why log word 
     → (e : Entry) → IsDue log.terms log.entries word e → ⊥
 refuses fault.NothingDue log word h aside e due = h (due_acts log.terms log.entries word e due)
 refuses fault.WordRefused log word h aside e due =
-    let opening = due_opening log.terms log.entries word e due in
+    let opening = due_opening log.terms log.entries word e due h.0 in
     let none = h.1 in
     let some = opening.1 in
     absurd cc
 refuses fault.EqualOpening log word h aside e due =
-    let opening = due_opening log.terms log.entries word e due in
+    let opening = due_opening log.terms log.entries word e due h.0 in
     let same : h.1.0 ≡ opening.0 = same_Some h.1.0 opening.0 (sym h.1.1 ∙ opening.1) in
     let next = subst (IsNext log.terms log.entries) opening.2 (due_next log.terms log.entries word e due) in
     let at = Leads-front (start_of log.terms) log.entries (Opening (opening.0).first (opening.0).second ∷ []) next.1.0 next.1.1 in

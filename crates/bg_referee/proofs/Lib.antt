@@ -1,6 +1,7 @@
 pub mod Acting
 pub mod Opening
 pub mod Growing
+pub mod Matching
 pub mod Accepting
 pub mod Answering
 pub mod Refusing

@@ -48,13 +48,13 @@ tell s party number = record s { told = slice_set s.told party (Some number) }
 
 -- the sender of a Want or a Claim has all that is saved
 abbrev pub hear_sender : SessionsView → ℕ → Packet → SessionsView
-hear_sender s saved (packet.Want id sender held) = tell s sender saved
-hear_sender s saved (packet.Claim id sender number action) = tell s sender saved
-hear_sender s saved (packet.Entries id start list) = s
+hear_sender s saved (packet.Want id rules sender held) = tell s sender saved
+hear_sender s saved (packet.Claim id rules sender number action) = tell s sender saved
+hear_sender s saved (packet.Entries id rules start list) = s
 
 -- a party that is sent entries has them
 abbrev pub hear_answer : SessionsView → ℕ → Packet → SessionsView
-hear_answer s party (packet.Entries id start list) = tell s party (start + length list - 1)
+hear_answer s party (packet.Entries id rules start list) = tell s party (start + length list - 1)
 hear_answer s party _ = s
 
 -- what the answer to a packet teaches, while so many entries are saved

@@ -1,6 +1,7 @@
 -- What the referee sends without having been asked for.
 use Rattle.std.specs.Prelude.{◌≡◌, ℕ, ◌+◌, List, All}
 use Rattle.std.specs.List.{AllZip}
+use Rattle.bg_match.specs.Terms.{rules_of}
 use Rattle.bg_match.specs.declared.entries.Entry.{Entry}
 use Rattle.bg_wire.specs.PacketText.{IsPacket}
 use Rattle.bg_wire.specs.declared.packets.Packet.{Packet}
@@ -13,7 +14,7 @@ use Rattle.bg_referee.specs.Takes.{TellsSaved}
 abbrev pub IsPush : RefereeView → ℕ × ℕ → ℕ × Packet → Type 0
 IsPush r one push =
     (push.0 ≡ one.0)
-    × ((list : List Entry) × IsShown r (one.1 + 1) list × (push.1 ≡ packet.Entries r.log.id (one.1 + 1) list))
+    × ((list : List Entry) × IsShown r (one.1 + 1) list × (push.1 ≡ packet.Entries r.log.id (rules_of r.log.terms) (one.1 + 1) list))
 
 -- a packet for each of them, in their order
 abbrev pub ArePushes : RefereeView → List (ℕ × ℕ) → List (ℕ × Packet) → Type 0

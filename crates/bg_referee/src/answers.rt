@@ -2,6 +2,7 @@
 ghost use Rattle.std.specs.Prelude.{◌≡◌, ◌≤◌, ◌+◌, ℕ, List};
 ghost use Rattle.std.specs.List.{AllByRecursion};
 ghost use Rattle.bg_match.specs.Entry.{IsEntry};
+ghost use Rattle.bg_match.specs.Terms.{rules_of};
 ghost use Rattle.bg_match.specs.declared.entries.Entry.{Entry};
 ghost use Rattle.bg_wire.specs.PacketText.{IsPacket};
 
@@ -35,7 +36,7 @@ impl Referee {
         ensures replies { Replies self.old word (reply_to self.old actor packet.now) result self.new }
         ensures fits { AnswerFits result }
     {
-        if packet.id() != self.log.id() {
+        if !packet.is_of(self.log.id(), self.log.rules()) {
             return TakeOutcome::OtherMatch;
         }
         match packet {
@@ -112,7 +113,8 @@ impl Referee {
         requires first { 1 ≤ start }
         requires last { start ≤ self.now.saved }
         ensures shows { (list : List Entry) × IsShown self.now start list
-            × (result ≡ TakeOutcome.Answer party (Packet.Entries self.now.log.id start list)) }
+            × (result ≡ TakeOutcome.Answer party
+            (Packet.Entries self.now.log.id (rules_of self.now.log.terms) start list)) }
         ensures fits { AnswerFits result }
     {
         TakeOutcome::Answer(party, self.packet_from(start))
@@ -123,12 +125,13 @@ impl Referee {
         requires first { 1 ≤ start }
         requires last { start ≤ self.now.saved }
         ensures shows { (list : List Entry) × IsShown self.now start list
-            × (result ≡ Packet.Entries self.now.log.id start list) }
+            × (result ≡ Packet.Entries self.now.log.id (rules_of self.now.log.terms) start list) }
         ensures tells { TellsSaved self.now result }
         ensures fits { IsPacket result }
     {
         Packet::Entries {
             id: self.log.id(),
+            rules: self.log.rules(),
             start,
             list: self.saved_from(start),
         }

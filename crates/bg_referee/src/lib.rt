@@ -2,13 +2,14 @@
 //! itself (docs/USING.md).
 //!
 //! ```
-//! let mut referee = Referee::fresh(alloc, 1, 5)?;
+//! let mut referee = Referee::fresh(alloc, 1, 5, Rules::One)?;
 //! assert!(rt; referee.due(12) == Ok(1));
 //! // Nothing is told before it is saved: write the text to the slot, and then say so.
 //! let (_slot, save, _text) = referee.to_save()?;
 //! referee.mark_saved(save);
 //! let want = Packet::Want {
 //!     id: 1,
+//!     rules: Rules::One,
 //!     sender: 3,
 //!     held: 0,
 //! };
@@ -20,6 +21,8 @@
 mod answers;
 mod fault_words;
 mod outcomes;
+#[cfg(test)]
+mod pass_tests;
 mod referee;
 mod saves;
 mod sessions;

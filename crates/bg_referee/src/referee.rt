@@ -1,12 +1,14 @@
 //! The referee's core.
-ghost use Rattle.std.specs.Prelude.{◌≡◌, ◌↔◌, IsOk, IfOk};
+ghost use Rattle.std.specs.Prelude.{◌≡◌, ◌≢◌, ◌↔◌, IsOk, IfOk, IfErr};
 ghost use Rattle.bg_match.specs.Limits.{IsMatchLength};
+ghost use Rattle.bg_match.specs.Match.{ActsAfter, IsNext};
+ghost use Rattle.bg_match.specs.Terms.{terms_of};
 ghost use Rattle.bg_wire.specs.Codes.{referee};
 ghost use Rattle.bg_wire.specs.SavedText.{IsSavable, parts_of};
 
 use crate::DueFault;
 use crate::sessions::Sessions;
-use bg_match::{Actor, Entry, LengthFault, Number, Record};
+use bg_match::{Actor, Entry, LengthFault, Number, Phase, Record, Rules};
 use bg_turns::dice_of;
 use bg_wire::Saved;
 use std::alloc::Global;
@@ -42,19 +44,20 @@ impl Model for Referee {
 
 impl Referee {
     ghost use Rattle.bg_referee.specs.Referee.{IsReferee, fresh_referee, resumed_referee};
-    ghost use Rattle.bg_referee.specs.Dues.{Dues, RefereeDues};
+    ghost use Rattle.bg_referee.specs.Dues.{Dues, RefereeDues, IsDueFault};
+    ghost use Rattle.bg_referee.specs.Owning.{IsOwn};
 
     /// The referee of a match with no entry, who has saved nothing.
     ///
     /// # Errors
     /// `LengthOutOfRange` where the length is not from 1 to 99.
-    pub fn fresh(alloc: Global, id: u64, length: u8) -> Result<Referee, LengthFault>
+    pub fn fresh(alloc: Global, id: u64, length: u8, rules: Rules) -> Result<Referee, LengthFault>
         ensures ok { IsOk result ↔ IsMatchLength length }
-        ensures value { IfOk result (λ r. r ≡ fresh_referee id length) }
+        ensures value { IfOk result (λ r. r ≡ fresh_referee id (terms_of length rules)) }
     {
         Ok(Referee {
             alloc,
-            log: Record::new(alloc, id, length)?,
+            log: Record::new(alloc, id, length, rules)?,
             saved: 0,
             last_save: 0,
             sessions: Sessions::none(),
@@ -93,25 +96,41 @@ impl Referee {
         self.saved
     }
 
-    /// Opens a game with the dice of a random word, X's die first, and gives the number of that entry
-    /// (docs/PROTOCOL.md, "Opening a game"). A refusal changes nothing.
+    /// Opens a game with the dice of a random word, X's die first, or passes a turn whatever the word, and gives the
+    /// number of that entry (docs/PROTOCOL.md, "What the referee adds itself"). A refusal changes nothing.
     ///
     /// # Errors
-    /// The first that holds: `NothingDue` where no game is to be opened, `WordRefused` where the word has no dice,
-    /// `EqualOpening` where they are equal, `RecordFull` where there are 1000000 entries, `Memory` where there is no
-    /// room and no memory for more.
+    /// The first that holds: `NothingDue` where no game is to be opened and no turn to be passed; where a game is to
+    /// be opened, `WordRefused` where the word has no dice and `EqualOpening` where they are equal; `RecordFull` where
+    /// there are 1000000 entries, `Memory` where there is no room and no memory for more.
     pub fn due(&mut self, word: u32) -> Result<Number, DueFault>
         ensures { RefereeDues self.old word result self.new }
     {
         self.open(word)
     }
 
-    /// Opens a game with the dice of a word.
+    /// Opens a game with the dice of a word, or passes a turn.
     fn open(&mut self, word: u32) -> Result<Number, DueFault>
         ensures { Dues self.old word result self.new }
     {
         let Actor::Referee = self.log.actor() else {
             return Err(DueFault::NothingDue);
+        };
+        let entry = self.own_entry(word)?;
+        if let Err(fault) = self.log.push(entry) {
+            return Err(DueFault::of(fault));
+        }
+        Ok(self.log.len())
+    }
+
+    /// The entry of the referee's own where he acts: an opening with the dice of the word, or a pass.
+    fn own_entry(&self, word: u32) -> Result<Entry, DueFault>
+        requires { ActsAfter self.now.log.terms self.now.log.entries Actor.Referee }
+        ensures own { IfOk result (λ entry. IsOwn self.now.log word entry) }
+        ensures why { IfErr result (λ why. IsDueFault why self.now.log word × (why ≢ DueFault.Memory)) }
+    {
+        let Phase::Opening = self.log.standing().phase() else {
+            return Ok(Entry::Passed);
         };
         let Some(dice) = dice_of(word) else {
             return Err(DueFault::WordRefused);
@@ -119,9 +138,6 @@ impl Referee {
         if dice.is_double() {
             return Err(DueFault::EqualOpening);
         }
-        if let Err(fault) = self.log.push(Entry::Opening(dice.first, dice.second)) {
-            return Err(DueFault::of(fault));
-        }
-        Ok(self.log.len())
+        Ok(Entry::Opening(dice.first, dice.second))
     }
 }

@@ -6,7 +6,7 @@
 use crate::{DueFault, Referee, TakeOutcome};
 use arrayvec::ArrayVec;
 use bg_board::{Die, Step};
-use bg_match::{Entry, EntryFault, LengthFault, Number};
+use bg_match::{Entry, EntryFault, LengthFault, Number, Rules};
 use bg_turns::{Dice, Turn, TurnFault};
 use bg_wire::{Packet, REFEREE, SaveRefusal, Slot, decode, restore};
 use std::alloc::Global;
@@ -56,8 +56,8 @@ const SECOND_SAVE_OF_OLD: [u8; 30] = [
     0x03, 0x01, 0x06, 0x02, 0x08, 0x05, 0x06, 0x05,
 ];
 
-/// What the referee makes of the packet of this kind in match `id`, with these bytes; `None` where they are no
-/// packet.
+/// What the referee makes of the packet of this kind in match `id`, by the first rules, with these bytes; `None` where
+/// they are no packet.
 fn taken(
     referee: &mut Referee,
     kind: u8,
@@ -66,9 +66,22 @@ fn taken(
     tail: &[u8],
     word: u32,
 ) -> Option<TakeOutcome> {
+    taken_by_rules(referee, 1, kind, id, head, tail, word)
+}
+
+/// The same, by these rules.
+pub(crate) fn taken_by_rules(
+    referee: &mut Referee,
+    rules: u8,
+    kind: u8,
+    id: u8,
+    head: &[u8],
+    tail: &[u8],
+    word: u32,
+) -> Option<TakeOutcome> {
     let mut bytes: ArrayVec<u8, 128> = ArrayVec::new();
     for part in [
-        &[0x42, 0x47, 2, kind, 0, 0, 0, 0, 0, 0, 0, id, 1],
+        &[0x42, 0x47, 2, kind, 0, 0, 0, 0, 0, 0, 0, id, rules],
         head,
         tail,
     ] {
@@ -141,6 +154,7 @@ fn tells(answer: Option<TakeOutcome>, party: u8, start: Number, entries: &[Entry
             to,
             Packet::Entries {
                 id: 1,
+                rules: Rules::One,
                 start: first,
                 list,
             },
@@ -196,7 +210,18 @@ fn refuses(referee: &mut Referee, word: u32, fault: DueFault) -> bool {
 
 /// Whether the party of this push is told this entry under this number, and no more.
 fn is_push(push: Option<&(u8, Packet)>, party: u8, number: Number, entry: &Entry) -> bool {
-    let Some((to, Packet::Entries { id: 1, start, list })) = push else {
+    let Some(
+        (
+            to,
+            Packet::Entries {
+                id: 1,
+                rules: Rules::One,
+                start,
+                list,
+            },
+        ),
+    ) = push
+    else {
         return false;
     };
     let one = list.entries.as_slice();
@@ -275,7 +300,7 @@ fn save(referee: &mut Referee) -> Result<(Slot, u32), SaveRefusal> {
 }
 
 fn fresh(alloc: Global) -> Result<Referee, LengthFault> {
-    Referee::fresh(alloc, 1, 1)
+    Referee::fresh(alloc, 1, 1, Rules::One)
 }
 
 /// A referee who has opened the game with 3 1, and saved nothing.
@@ -320,10 +345,15 @@ fn openings(rt: HostRuntime) -> Result<(), Fail> {
 #[test]
 fn lengths(rt: HostRuntime) -> Result<(), Fail> {
     for length in [0, 100] {
-        let refused = Referee::fresh(rt.alloc(), 1, length).err();
+        let refused = Referee::fresh(rt.alloc(), 1, length, Rules::One).err();
         assert!(rt; refused == Some(LengthFault::LengthOutOfRange));
     }
-    assert_eq!(rt; Referee::fresh(rt.alloc(), 7, 99)?.held().length(), 99);
+    assert_eq!(rt;
+        Referee::fresh(rt.alloc(), 7, 99, Rules::One)?
+            .held()
+            .length(),
+        99
+    );
     Ok(())
 }
 
@@ -479,7 +509,18 @@ fn offers(referee: &mut Referee, last: u8) -> bool {
 /// Whether a party that holds so many entries is told the next ones, this many.
 fn tells_next(referee: &mut Referee, held: u8, count: usize) -> bool {
     let answer = wanted(referee, 255, held);
-    let Some(TakeOutcome::Answer(255, Packet::Entries { id: 1, start, list })) = answer else {
+    let Some(
+        TakeOutcome::Answer(
+            255,
+            Packet::Entries {
+                id: 1,
+                rules: Rules::One,
+                start,
+                list,
+            },
+        ),
+    ) = answer
+    else {
         return false;
     };
     let mut number = start;
@@ -520,7 +561,7 @@ fn saves(rt: HostRuntime) -> Result<(), Fail> {
 
 /// The referee that goes on from these bytes in slot 0, where they are a saved text of match 1.
 fn resumed(alloc: Global, bytes: &[u8]) -> Option<Referee> {
-    match restore(alloc, bytes, &[], REFEREE, 1, 1) {
+    match restore(alloc, bytes, &[], REFEREE, 1, 1, Rules::One) {
         Ok(Some(saved)) => Some(Referee::resume(alloc, saved)),
         _ => None,
     }

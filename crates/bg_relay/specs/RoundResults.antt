@@ -1,10 +1,10 @@
 -- What a match that is played round by round comes to, and what the output gets.
 use Rattle.std.specs.Prelude.{◌≡◌, ◌⊎◌, ◌≤◌, ℕ, ◌+◌, List, Some, Result, Ok, Err}
-use Rattle.bg_match.specs.Terms.{Terms}
+use Rattle.bg_match.specs.declared.limits.Rules.{Rules}
 use Rattle.bg_text.specs.Transfers.{WritesText}
 use Rattle.bg_text.specs.declared.devices.Sink.{Ghosts as SinkGhosts}
 use Rattle.bg_world.specs.FinalText.{IsFinalText}
-use Rattle.bg_world.specs.Starts.{IsWorldFault, fresh_world}
+use Rattle.bg_world.specs.Starts.{IsWorldFault, fresh_world, terms_in}
 use Rattle.bg_world.specs.State.{IsSetup}
 use Rattle.bg_world.specs.Views.{KeeperView, LinkView}
 use Rattle.bg_world.specs.World.{view_of}
@@ -17,8 +17,8 @@ use Rattle.bg_relay.specs.declared.loop_faults.LoopFault.TheVariants.{Memory, So
 use Rattle.bg_relay.specs.declared.rounds.Rounds.{Rounds}
 
 -- one party watches, and the seed is the number of the match
-abbrev pub setup_of : ℕ → Terms → Setup
-setup_of seed length = record { id = seed; length = length; watchers = 1 }
+abbrev pub setup_of : ℕ → ℕ → Rules → Setup
+setup_of seed length rules = record { id = seed; length = length; rules = rules; watchers = 1 }
 
 -- a match over devices in these states, where nothing has happened yet
 abbrev pub start_moment : Setup → LinkView → KeeperView → KeeperView → KeeperView → Moment
@@ -34,7 +34,7 @@ moment_of l k played = record { seed = played.seed; world = view_of l k played.w
 
 -- there is such a match
 abbrev pub IsGood : Setup → Type 0
-IsGood setup = IsSetup setup.id setup.length setup.watchers
+IsGood setup = IsSetup setup.id (terms_in setup) setup.watchers
 
 -- the final text of the match at this moment is written to the output, which never failed
 pub record WritesEnd {W : Type 0} (sink : SinkGhosts W) (end : Moment) (before after : W) : Type 0 where

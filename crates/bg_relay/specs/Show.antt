@@ -6,6 +6,7 @@ use Rattle.bg_match.specs.Match.{StandsAt}
 use Rattle.bg_match.specs.State.{State}
 use Rattle.bg_match.specs.declared.actions.Action.{Action}
 use Rattle.bg_text.specs.BoardText.{line_text, board_text}
+use Rattle.bg_text.specs.TermsText.{terms_text}
 use Rattle.bg_wire.specs.Faults.{IsLoadFault}
 use Rattle.bg_wire.specs.FaultWords.{load_fault_words}
 use Rattle.bg_wire.specs.Restoring.{LoadsAs, SlotsRestore}
@@ -27,7 +28,7 @@ claim_part (Some claim) = codes " claim " ++ decimal claim.0
 abbrev pub match_part : SavedParts → List ℕ
 match_part saved =
     codes "party " ++ decimal saved.party ++ codes " match " ++ decimal saved.id
-    ++ codes " length " ++ decimal saved.terms
+    ++ codes " " ++ terms_text saved.terms
 
 abbrev pub save_part : SavedParts → List ℕ
 save_part saved =

@@ -1,13 +1,14 @@
 -- What an automatic match comes to.
 use Rattle.std.specs.Prelude.{◌≡◌, ℕ, zero, suc, ◌+◌, Bool, true, false, Option, Some, None, List, [], ◌++◌}
 use Rattle.bg_match.specs.Match.{Log}
+use Rattle.bg_match.specs.declared.limits.Rules.{Rules}
 use Rattle.bg_text.specs.Transcript.{IsTranscript}
 use Rattle.bg_text.specs.declared.verdicts.EngineFault.TheVariants as engine
 use Rattle.bg_wire.specs.Codes.{first_watcher}
 use Rattle.bg_world.specs.Calls.{Calls}
 use Rattle.bg_world.specs.FinalText.{IsFinalText}
 use Rattle.bg_world.specs.Simulations.{IsEmptyPlan, Simulates, memory_view}
-use Rattle.bg_world.specs.Starts.{IsWorldFault, held_of}
+use Rattle.bg_world.specs.Starts.{IsWorldFault, held_of, terms_in}
 use Rattle.bg_world.specs.Views.{WorldView}
 use Rattle.bg_world.specs.WorldRuns.{is_memory}
 use Rattle.bg_world.specs.declared.events.Event.{Event}
@@ -26,13 +27,13 @@ use Rattle.bg_relay.specs.Words.{event_words}
 use Rattle.bg_relay.specs.declared.simulation.Simulation.{Simulation}
 
 -- the match has the seed as its number
-abbrev pub setup_of : ℕ → ℕ → ℕ → Setup
-setup_of seed points watchers = record { id = seed; length = points; watchers = watchers }
+abbrev pub setup_of : ℕ → ℕ → Rules → ℕ → Setup
+setup_of seed points rules watchers = record { id = seed; length = points; rules = rules; watchers = watchers }
 
 -- there is no such world, or else memory ran out
 abbrev pub IsSimFault : ScriptFault → Setup → Type 0
 IsSimFault (World why) setup = IsWorldFault why setup
-IsSimFault (Engine why) setup = IsSetup setup.id setup.length setup.watchers × (why ≡ engine.Memory)
+IsSimFault (Engine why) setup = IsSetup setup.id (terms_in setup) setup.watchers × (why ≡ engine.Memory)
 
 -- memory was wanted: over devices in memory that never fail, a save fails for nothing else
 abbrev pub wants_memory : Outcome → Bool
@@ -78,9 +79,9 @@ pub record IsSimStart (setup : Setup) (start : Simulation) : Type 0 where
   pub watchers : start.watchers ≡ setup.watchers
 
 -- what is printed of an automatic match after so many events
-pub record IsSimText (seed points watchers steps : ℕ) (text : List ℕ) : Type 0 where
+pub record IsSimText (seed points : ℕ) (rules : Rules) (watchers steps : ℕ) (text : List ℕ) : Type 0 where
   pub start : Simulation
   pub end : Simulation
-  pub starts : IsSimStart (setup_of seed points watchers) start
+  pub starts : IsSimStart (setup_of seed points rules watchers) start
   pub runs : Runs steps start end
   pub printed : IsPrinted (memory_view end.world) text

@@ -1,8 +1,8 @@
 //! The command line.
 
-use bg_match::{LONGEST_MATCH, SHORTEST_MATCH};
+use bg_match::{LONGEST_MATCH, Rules, SHORTEST_MATCH};
 use bg_world::MOST_WATCHERS;
-use clap::{Arg, Command, Error, value_parser};
+use clap::{Arg, ArgMatches, Command, Error, value_parser};
 use std::alloc::Global;
 
 /// The version that `--version` prints.
@@ -112,6 +112,7 @@ fn script_command<'a>(alloc: Global) -> Result<Command<'a>, Error> {
              and 1 where reading, writing or memory failed.",
             )
             .arg(length_option(alloc))?
+            .arg(rules_option(alloc))?
             .arg(watchers_option(alloc))?
             .arg(misplaced_file(alloc))?,
     )
@@ -132,13 +133,14 @@ fn sim_command<'a>(alloc: Global) -> Result<Command<'a>, Error> {
              \n\
              Random events happen to a referee, two seats and watchers, over a network that loses, repeats\n\
              and reorders: packets are sent and taken, players choose, parties save and restart. Prints the\n\
-             transcript of the referee's record, then how many entries each party holds, and the board. The\n\
-             seed and the length alone decide what the entries are, and the rest how many there are. Says\n\
+             transcript of the referee's record, then how many entries each party holds, and the board.\n\
+             Seed, length and rules alone decide what the entries are, and the rest how many there are. Says\n\
              each second how far it is, where the standard error is a terminal. Ends with status 0, and 1\n\
              where writing or memory failed.",
             )
             .arg(seed_option(alloc))?
             .arg(length_option(alloc))?
+            .arg(rules_option(alloc))?
             .arg(watchers_option(alloc))?
             .arg(steps)?,
     )
@@ -164,14 +166,15 @@ fn loop_command<'a>(alloc: Global) -> Result<Command<'a>, Error> {
              \n\
              A referee, two seats and one watcher send each other packets over sockets on 127.0.0.1, and save\n\
              in the files `party-P.S` of DIR, P the party and S the slot. Over the same folder, with the same\n\
-             seed and length, a match goes on where it was left, also after a crash. Prints how many entries\n\
-             each party holds in the end, and the board. Says each second how far it is, where the standard\n\
-             error is a terminal. Ends with status 0; with 1 where another process plays over DIR, a socket\n\
+             seed, length and rules, a match goes on where it was left, also after a crash. Prints how many\n\
+             entries each party holds in the end, and the board. Says each second how far it is, where the\n\
+             standard error is a terminal. Ends with status 0; with 1 where another process plays over DIR, a socket\n\
              can't be had, the files can't be read or are of another match or damaged, or writing or memory\n\
              failed; with 2 where DIR is no folder.",
             )
             .arg(seed_option(alloc))?
             .arg(length_option(alloc))?
+            .arg(rules_option(alloc))?
             .arg(rounds)?
             .arg(folder)?,
     )
@@ -193,6 +196,24 @@ fn length_option<'a>(alloc: Global) -> Arg<'a> {
         .value_parser(value_parser!(u8).range(i64::from(SHORTEST_MATCH)..=i64::from(LONGEST_MATCH)))
         .required(true)
         .help("The length of the match, in points: 1 to 99")
+}
+
+fn rules_option<'a>(alloc: Global) -> Arg<'a> {
+    Arg::new(alloc, "rules")
+        .long("rules")
+        .value_name("N")
+        .value_parser(value_parser!(u8).range(1..=2))
+        .default_value("1")
+        .help("The rules: 1, or 2, by which the referee passes a turn that has no step")
+}
+
+/// The rules that the options name.
+pub(crate) fn rules_in(options: &ArgMatches<'_>) -> Option<Rules> {
+    match options.get_one::<u8>("rules")? {
+        1 => Some(Rules::One),
+        2 => Some(Rules::Two),
+        _ => None,
+    }
 }
 
 fn watchers_option<'a>(alloc: Global) -> Arg<'a> {

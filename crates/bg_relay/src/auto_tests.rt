@@ -3,7 +3,7 @@ use crate::auto_actions::auto_action;
 use crate::dice_attempts::DiceAttempts;
 use crate::words::{dice_word, event_words};
 use bg_board::{Die, Player};
-use bg_match::{Action, Entry, Level, MOST_ENTRIES, Record};
+use bg_match::{Action, Entry, Level, MOST_ENTRIES, Record, Rules};
 use bg_referee::{DueFault, TakeOutcome};
 use bg_text::parse_entry;
 use bg_turns::{Dice, legal_turns};
@@ -65,7 +65,7 @@ fn attempts_at_words(rt: HostRuntime) {
 
 /// The record of these lines.
 fn record_of(alloc: Global, length: u8, lines: &[&str]) -> Result<Record, Fail> {
-    let mut record = Record::new(alloc, 1, length)?;
+    let mut record = Record::new(alloc, 1, length, Rules::One)?;
     for line in lines {
         let (_, entry) = parse_entry(line.as_bytes())?;
         record.push(entry)?;

@@ -8,7 +8,7 @@ use crate::progress::Progress;
 use crate::showing::show_text;
 use crate::simulating::play_sim;
 use crate::{NO_MEMORY, failed};
-use bg_match::Number;
+use bg_match::{Number, Rules};
 use bg_text::{EngineFault, Reading, Writing, judge};
 use bg_world::{Event, Outcome, ScriptFault, Setup, script};
 use std::fs::File;
@@ -76,6 +76,7 @@ pub(crate) fn run_sim(
     rt: &(impl Clock + Print + Eprint + AllocGlobal),
     seed: u64,
     length: u8,
+    rules: Rules,
     watchers: u8,
     steps: u32,
     progress: Progress,
@@ -85,7 +86,15 @@ pub(crate) fn run_sim(
         progress,
         steps,
     };
-    let text = match play_sim(rt.alloc(), seed, length, watchers, steps, &mut operator) {
+    let text = match play_sim(
+        rt.alloc(),
+        seed,
+        length,
+        rules,
+        watchers,
+        steps,
+        &mut operator,
+    ) {
         Ok(text) => text,
         Err(fault) => return failed(rt, fault),
     };

@@ -3,6 +3,7 @@ use crate::file_keepers::FileKeeper;
 use crate::loops::run_loop;
 use crate::stand_ins::StandIn;
 use crate::test_folders::new_folder;
+use bg_match::Rules;
 use bg_text::Writing;
 use bg_wire::{Slot, load};
 use bg_world::{DeviceFault, Keeper};
@@ -97,7 +98,15 @@ fn files_that_fail(rt: HostRuntime) -> Result<(), Fail> {
 /// Plays one round of match 7, of length 1, over the folder.
 fn play_a_round(rt: &HostRuntime, folder: &str) -> Result<(), Fail> {
     let mut text = Vec::new(rt.alloc());
-    run_loop(rt, 7, 1, 1, folder, &mut Writing::new(&mut text))?;
+    run_loop(
+        rt,
+        7,
+        1,
+        Rules::One,
+        1,
+        folder,
+        &mut Writing::new(&mut text),
+    )?;
     Ok(())
 }
 

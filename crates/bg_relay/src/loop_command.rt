@@ -1,5 +1,6 @@
 //! The command that plays a match over sockets and files.
 
+use crate::arguments::rules_in;
 use crate::endings::Ending;
 use crate::folder_locks::FolderLock;
 use crate::loop_faults::LoopFault;
@@ -23,9 +24,10 @@ pub(crate) fn run_loop_command<R>(rt: &R, options: &ArgMatches<'_>, progress: Pr
 where
     R: Net + Files<File = File> + Clock + Print + Eprint + AllocGlobal,
 {
-    let (Some(seed), Some(length), Some(rounds), Some(folder)) = (
+    let (Some(seed), Some(length), Some(rules), Some(rounds), Some(folder)) = (
         options.get_one("seed"),
         options.get_one("length"),
+        rules_in(options),
         options.get_one("rounds"),
         options.get_str("dir"),
     ) else {
@@ -48,7 +50,16 @@ where
     };
     let mut output = Writing::new(io::writer(rt));
     let mut operator = Operator::new(rt, progress, rounds);
-    let result = play_loop(rt, seed, length, rounds, folder, &mut output, &mut operator);
+    let result = play_loop(
+        rt,
+        seed,
+        length,
+        rules,
+        rounds,
+        folder,
+        &mut output,
+        &mut operator,
+    );
     operator.end();
     match result {
         Ok(()) => Ending::Simulated,

@@ -8,7 +8,7 @@ use crate::rounds::{PARTIES, run_rounds};
 use crate::sim_tests::check_no_growth_is_left;
 use crate::simulating::sim_text;
 use crate::udp_links::UdpLink;
-use bg_match::{Entry, Number};
+use bg_match::{Entry, Number, Rules};
 use bg_text::{Writing, transcript_text};
 use bg_wire::{REFEREE, SEAT_OF_O, SEAT_OF_X, Saved, restore};
 use bg_world::{Keepers, Outcome, RestoreCause, WorldFault};
@@ -42,7 +42,15 @@ fn new_folder(rt: &HostRuntime, name: &str) -> io::Result<String> {
 /// What is printed of a match of length 1 over the folder, or why it ends early.
 fn played(rt: &HostRuntime, folder: &str, seed: u64, rounds: u32) -> Result<Vec<u8>, LoopFault> {
     let mut text = Vec::new(rt.alloc());
-    run_loop(rt, seed, 1, rounds, folder, &mut Writing::new(&mut text))?;
+    run_loop(
+        rt,
+        seed,
+        1,
+        Rules::One,
+        rounds,
+        folder,
+        &mut Writing::new(&mut text),
+    )?;
     Ok(text)
 }
 
@@ -55,7 +63,7 @@ fn saved(rt: &HostRuntime, folder: &str) -> Result<Saved, Fail> {
 fn saved_by_referee(rt: &HostRuntime, folder: &str, seed: u64, length: u8) -> Result<Saved, Fail> {
     let zero = read_saved(rt, format!(in rt.alloc(); "{folder}/party-0.0")?.as_str())?;
     let one = read_saved(rt, format!(in rt.alloc(); "{folder}/party-0.1")?.as_str())?;
-    match restore(rt.alloc(), &zero, &one, REFEREE, seed, length) {
+    match restore(rt.alloc(), &zero, &one, REFEREE, seed, length, Rules::One) {
         Ok(Some(saved)) => Ok(saved),
         _ => Err(Fail::from("nothing is restored")),
     }
@@ -117,13 +125,21 @@ fn entries_are_those_of_the_match_in_memory(rt: HostRuntime) -> Result<(), Fail>
         let folder = new_folder(&rt, "entries")?;
         let mut text = Vec::new(rt.alloc());
         let mut output = Writing::new(&mut text);
-        run_loop(&rt, seed, 3, rounds, folder.as_str(), &mut output)?;
+        run_loop(
+            &rt,
+            seed,
+            3,
+            Rules::One,
+            rounds,
+            folder.as_str(),
+            &mut output,
+        )?;
         let played = saved_by_referee(&rt, folder.as_str(), seed, 3)?;
         fs::remove_dir_all(&rt, folder.as_str())?;
         assert!(rt; played.log.len() >= least);
         assert!(rt; seed != 417 || matches!(played.log.entry(77), Some(Entry::Opening(..))));
         let transcript = transcript_text(rt.alloc(), &played.log)?;
-        let in_memory = sim_text(rt.alloc(), seed, 3, 0, 14_000)?;
+        let in_memory = sim_text(rt.alloc(), seed, 3, Rules::One, 0, 14_000)?;
         assert!(rt; in_memory.starts_with(&transcript));
     }
     Ok(())
@@ -154,7 +170,15 @@ fn no_such_matches(rt: HostRuntime) -> Result<(), Fail> {
     for length in [0, 100] {
         let mut text = Vec::new(rt.alloc());
         let mut output = Writing::new(&mut text);
-        let refused = run_loop(&rt, SEED, length, 1, folder.as_str(), &mut output);
+        let refused = run_loop(
+            &rt,
+            SEED,
+            length,
+            Rules::One,
+            1,
+            folder.as_str(),
+            &mut output,
+        );
         assert!(rt; matches!(refused, Err(LoopFault::World(_))));
     }
     fs::remove_dir_all(&rt, folder.as_str())?;
@@ -174,6 +198,7 @@ fn play_failing(rt: &HostRuntime, folder: &str, calls: &Calls) -> Result<Vec<u8>
         rt.alloc(),
         SEED,
         1,
+        Rules::One,
         10,
         link,
         keepers,

@@ -6,6 +6,7 @@ use crate::loop_faults::LoopFault;
 use crate::onlookers::{NoOnlooker, Onlooker};
 use crate::rounds::{PARTIES, play_rounds};
 use crate::udp_links::UdpLink;
+use bg_match::Rules;
 use bg_text::Sink;
 use bg_wire::{REFEREE, SEAT_OF_O, SEAT_OF_X};
 use bg_world::Keepers;
@@ -14,8 +15,8 @@ use std::net::Net;
 use std::rt::Files;
 
 /// Plays a match of automatic players as [`run_rounds`](crate::rounds::run_rounds) does, over sockets on 127.0.0.1 and
-/// the files of a folder (docs/OPERATING.md). Over the same folder, with the same seed and length, it goes on where it
-/// was left.
+/// the files of a folder (docs/OPERATING.md). Over the same folder, with the same seed, length and rules, it goes on
+/// where it was left.
 ///
 /// # Errors
 /// `Socket` where a socket can't be had, `Memory` where there is no memory for the sockets and the names of the files;
@@ -24,13 +25,23 @@ pub fn run_loop<R: Net + Files<File = File> + AllocGlobal + Eprint, W: Sink>(
     rt: &R,
     seed: u64,
     length: u8,
+    rules: Rules,
     rounds: u32,
     folder: &str,
     output: &mut W,
 ) -> Result<(), LoopFault>
-    ensures { IsLoopResult W.Sink (setup_of seed length) rounds result output.old output.new }
+    ensures { IsLoopResult W.Sink (setup_of seed length rules) rounds result output.old output.new }
 {
-    play_loop(rt, seed, length, rounds, folder, output, &mut NoOnlooker)
+    play_loop(
+        rt,
+        seed,
+        length,
+        rules,
+        rounds,
+        folder,
+        output,
+        &mut NoOnlooker,
+    )
 }
 
 /// The same, with one who looks on.
@@ -38,6 +49,7 @@ pub(crate) fn play_loop<R, W: Sink, O: Onlooker>(
     rt: &R,
     seed: u64,
     length: u8,
+    rules: Rules,
     rounds: u32,
     folder: &str,
     output: &mut W,
@@ -45,7 +57,7 @@ pub(crate) fn play_loop<R, W: Sink, O: Onlooker>(
 ) -> Result<(), LoopFault>
 where
     R: Net + Files<File = File> + AllocGlobal + Eprint,
-    ensures { IsLoopResult W.Sink (setup_of seed length) rounds result output.old output.new }
+    ensures { IsLoopResult W.Sink (setup_of seed length rules) rounds result output.old output.new }
 {
     let link = UdpLink::bind(rt, PARTIES)?;
     let keepers = Keepers {
@@ -57,6 +69,7 @@ where
         rt.alloc(),
         seed,
         length,
+        rules,
         rounds,
         link,
         keepers,

@@ -44,6 +44,8 @@ mod round_schedule;
 #[cfg(test)]
 mod round_tests;
 mod rounds;
+#[cfg(test)]
+mod rules_tests;
 mod schedule;
 mod showing;
 #[cfg(test)]
@@ -61,7 +63,7 @@ mod udp_links;
 mod udp_tests;
 mod words;
 
-use arguments::{MISPLACED_FILE, command};
+use arguments::{MISPLACED_FILE, command, rules_in};
 use bg_world::Setup;
 use clap::ArgMatches;
 use clap::error::ErrorKind;
@@ -172,8 +174,9 @@ fn run_command(
             run_show(rt, file0, file1)
         }
         Some(("script", options)) => {
-            let (Some(length), Some(watchers)) = (
+            let (Some(length), Some(rules), Some(watchers)) = (
                 options.get_one("length"),
+                rules_in(options),
                 options.get_one("watchers"),
             ) else {
                 return wrong(rt, "an option is missing");
@@ -181,21 +184,23 @@ fn run_command(
             let setup = Setup {
                 id: SCRIPTED_MATCH,
                 length,
+                rules,
                 watchers,
             };
             run_script(rt, setup)
         }
         Some(("sim", options)) => {
-            let (Some(seed), Some(length), Some(watchers), Some(steps)) = (
+            let (Some(seed), Some(length), Some(rules), Some(watchers), Some(steps)) = (
                 options.get_one("seed"),
                 options.get_one("length"),
+                rules_in(options),
                 options.get_one("watchers"),
                 options.get_one("steps"),
             ) else {
                 return wrong(rt, "an option is missing");
             };
             let progress = Progress::start(rt, is_watched);
-            run_sim(rt, seed, length, watchers, steps, progress)
+            run_sim(rt, seed, length, rules, watchers, steps, progress)
         }
         Some(("loop", options)) => {
             run_loop_command(rt, options, Progress::start(rt, is_watched))

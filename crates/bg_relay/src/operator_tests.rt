@@ -6,7 +6,7 @@ use crate::operators::Operator;
 use crate::overheard::Overheard;
 use crate::progress::Progress;
 use crate::test_folders::new_folder;
-use bg_match::{EntryFault, Number};
+use bg_match::{EntryFault, Number, Rules};
 use bg_party::Learned;
 use bg_referee::TakeOutcome;
 use bg_text::Writing;
@@ -139,7 +139,16 @@ fn said_while_played(rt: &HostRuntime, folder: &str, rounds: u32) -> Result<Stri
     let mut told = operator(&heard);
     let mut text = Vec::new(rt.alloc());
     let mut output = Writing::new(&mut text);
-    play_loop(&heard, 7, 1, rounds, folder, &mut output, &mut told)?;
+    play_loop(
+        &heard,
+        7,
+        1,
+        Rules::One,
+        rounds,
+        folder,
+        &mut output,
+        &mut told,
+    )?;
     told.end();
     Ok(heard.said())
 }

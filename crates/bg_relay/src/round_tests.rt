@@ -4,6 +4,7 @@ use crate::recording_devices::Call::{FailedWrite, Read, Send, Take, Write};
 use crate::recording_devices::Says::{Claim, Entries, Garbled, Nothing, Want};
 use crate::recording_devices::{Call, OrderedLink, Recorder, RecordingKeeper};
 use crate::rounds::run_rounds;
+use bg_match::Rules;
 use bg_text::Writing;
 use bg_wire::Slot::{One, Zero};
 use bg_world::{Keepers, Outcome, RestoreCause};
@@ -288,7 +289,16 @@ fn calls_of(
     };
     let mut text = Vec::new(alloc);
     let mut output = Writing::new(&mut text);
-    let result = run_rounds(alloc, seed, length, rounds, link, keepers, &mut output);
+    let result = run_rounds(
+        alloc,
+        seed,
+        length,
+        Rules::One,
+        rounds,
+        link,
+        keepers,
+        &mut output,
+    );
     Ok((recorder.into_calls(), result))
 }
 

@@ -14,6 +14,7 @@ use crate::loop_faults::LoopFault;
 use crate::onlookers::{NoOnlooker, Onlooker, party_at};
 use crate::round_schedule::{FIRST, Part, ROUND, follow_up};
 use bg_board::Player;
+use bg_match::Rules;
 use bg_text::Sink;
 use bg_wire::{REFEREE, party_of};
 use bg_world::{Event, Keeper, Keepers, Link, Outcome, Setup, World, WorldFault, final_text};
@@ -44,19 +45,21 @@ pub fn run_rounds<L: Link + Drop, K: Keeper + Drop, W: Sink>(
     alloc: Global,
     seed: u64,
     length: u8,
+    rules: Rules,
     rounds: u32,
     link: L,
     keepers: Keepers<K>,
     output: &mut W,
 ) -> Result<(), LoopFault>
-    ensures { IsRoundsResult W.Sink L.is_honest K.is_honest (setup_of seed length)
-        (start_moment (setup_of seed length) (link_view L.Link link) (keeper_view K.Keeper keepers.referee)
+    ensures { IsRoundsResult W.Sink L.is_honest K.is_honest (setup_of seed length rules)
+        (start_moment (setup_of seed length rules) (link_view L.Link link) (keeper_view K.Keeper keepers.referee)
         (keeper_view K.Keeper keepers.x) (keeper_view K.Keeper keepers.o)) rounds result output.old output.new }
 {
     play_rounds(
         alloc,
         seed,
         length,
+        rules,
         rounds,
         link,
         keepers,
@@ -70,17 +73,18 @@ pub(crate) fn play_rounds<L: Link + Drop, K: Keeper + Drop, W: Sink, O: Onlooker
     alloc: Global,
     seed: u64,
     length: u8,
+    rules: Rules,
     rounds: u32,
     link: L,
     keepers: Keepers<K>,
     output: &mut W,
     onlooker: &mut O,
 ) -> Result<(), LoopFault>
-    ensures { IsRoundsResult W.Sink L.is_honest K.is_honest (setup_of seed length)
-        (start_moment (setup_of seed length) (link_view L.Link link) (keeper_view K.Keeper keepers.referee)
+    ensures { IsRoundsResult W.Sink L.is_honest K.is_honest (setup_of seed length rules)
+        (start_moment (setup_of seed length rules) (link_view L.Link link) (keeper_view K.Keeper keepers.referee)
         (keeper_view K.Keeper keepers.x) (keeper_view K.Keeper keepers.o)) rounds result output.old output.new }
 {
-    let mut played = Rounds::new(alloc, seed, length, link, keepers)?;
+    let mut played = Rounds::new(alloc, seed, length, rules, link, keepers)?;
     played.run(rounds, onlooker)?;
     played.finish(output)
 }
@@ -100,18 +104,20 @@ impl<L: Link + Drop, K: Keeper + Drop> Rounds<L, K> {
         alloc: Global,
         seed: u64,
         length: u8,
+        rules: Rules,
         link: L,
         keepers: Keepers<K>,
     ) -> Result<Rounds<L, K>, WorldFault>
-        ensures start { IfOk result (λ played. moment_of L.Link K.Keeper played ≡ start_moment (setup_of seed length)
+        ensures start { IfOk result (λ played. moment_of L.Link K.Keeper played ≡ start_moment (setup_of seed length rules)
             (link_view L.Link link) (keeper_view K.Keeper keepers.referee) (keeper_view K.Keeper keepers.x)
             (keeper_view K.Keeper keepers.o)) }
-        ensures refusal { MatchResult result (λ _. IsGood (setup_of seed length))
-            (λ fault. IsWorldFault fault (setup_of seed length)) }
+        ensures refusal { MatchResult result (λ _. IsGood (setup_of seed length rules))
+            (λ fault. IsWorldFault fault (setup_of seed length rules)) }
     {
         let setup = Setup {
             id: seed,
             length,
+            rules,
             watchers: WATCHERS,
         };
         Ok(Rounds {

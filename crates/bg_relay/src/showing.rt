@@ -8,7 +8,7 @@ ghost use Rattle.bg_relay.specs.Show.{IsHeld, IsShowText, IsBoardOf, claim_part 
 ghost use Rattle.bg_relay.specs.Show.{held_part, loaded_of, match_part, save_part};
 
 use bg_match::{Action, Number};
-use bg_text::{board_text, put_number, put_text};
+use bg_text::{board_text, put_number, put_terms, put_text};
 use bg_wire::{LoadFault, Saved, load};
 use std::alloc::{AllocError, Global};
 
@@ -79,8 +79,8 @@ fn put_match(out: &mut Vec<u8>, saved: &Saved) -> Result<(), AllocError>
     put_number(out, saved.party.into())?;
     put_text(out, " match ")?;
     put_number(out, saved.log.id())?;
-    put_text(out, " length ")?;
-    put_number(out, saved.log.length().into())
+    put_text(out, " ")?;
+    put_terms(out, saved.log.length(), saved.log.rules())
 }
 
 /// Adds the number of the save, and what it has.

@@ -5,7 +5,7 @@ use crate::progress::Progress;
 use crate::simulating::sim_text;
 use crate::stand_ins::StandIn;
 use bg_board::{Die, Player};
-use bg_match::{Action, Entry, Record};
+use bg_match::{Action, Entry, Record, Rules};
 use bg_text::{EngineFault, Verdict, judge_text};
 use bg_world::{ScriptFault, WorldFault};
 use std::alloc::{AllocError, Global};
@@ -46,7 +46,7 @@ X to move 6 4
 
 #[test]
 fn nothing_happens_without_events(rt: HostRuntime) -> Result<(), Fail> {
-    let text = sim_text(rt.alloc(), 1, 1, 1, 0)?;
+    let text = sim_text(rt.alloc(), 1, 1, Rules::One, 1, 0)?;
     assert!(rt; text.as_slice() == NOTHING_HAPPENED.as_bytes());
     Ok(())
 }
@@ -55,18 +55,18 @@ fn nothing_happens_without_events(rt: HostRuntime) -> Result<(), Fail> {
 fn refused_matches(rt: HostRuntime) {
     let too_many = ScriptFault::World(WorldFault::TooManyWatchers);
     let no_length = ScriptFault::World(WorldFault::LengthOutOfRange);
-    assert!(rt; sim_text(rt.alloc(), 1, 1, 254, 0) == Err(too_many));
-    assert!(rt; sim_text(rt.alloc(), 1, 0, 255, 1) == Err(too_many));
-    assert!(rt; sim_text(rt.alloc(), 1, 0, 0, 1) == Err(no_length));
-    assert!(rt; sim_text(rt.alloc(), 1, 100, 253, 1) == Err(no_length));
-    assert!(rt; sim_text(rt.alloc(), u64::MAX, 99, 253, 1).is_ok());
+    assert!(rt; sim_text(rt.alloc(), 1, 1, Rules::One, 254, 0) == Err(too_many));
+    assert!(rt; sim_text(rt.alloc(), 1, 0, Rules::One, 255, 1) == Err(too_many));
+    assert!(rt; sim_text(rt.alloc(), 1, 0, Rules::One, 0, 1) == Err(no_length));
+    assert!(rt; sim_text(rt.alloc(), 1, 100, Rules::One, 253, 1) == Err(no_length));
+    assert!(rt; sim_text(rt.alloc(), u64::MAX, 99, Rules::One, 253, 1).is_ok());
 }
 
 /// What the command prints of a match of length 3, with two watchers.
 fn printed(rt: &HostRuntime, seed: u64, steps: u32) -> Option<Vec<u8>> {
     let system = StandIn::new(rt, 0);
     let progress = Progress::start(&system, false);
-    let ending = run_sim(&system, seed, 3, 2, steps, progress);
+    let ending = run_sim(&system, seed, 3, Rules::One, 2, steps, progress);
     if ending.status() != 0 || system.said.get() != 0 {
         return None;
     }
@@ -78,8 +78,8 @@ fn printed(rt: &HostRuntime, seed: u64, steps: u32) -> Option<Vec<u8>> {
 #[test]
 fn command_prints_the_text_after_thousands_of_events(rt: HostRuntime) -> Result<(), Fail> {
     for (seed, steps) in [(34, 999), (4, 1000), (127, 1999), (127, 2000), (3, 2500)] {
-        let text = sim_text(rt.alloc(), seed, 3, 2, steps)?;
-        let further = sim_text(rt.alloc(), seed, 3, 2, steps.saturating_add(1))?;
+        let text = sim_text(rt.alloc(), seed, 3, Rules::One, 2, steps)?;
+        let further = sim_text(rt.alloc(), seed, 3, Rules::One, 2, steps.saturating_add(1))?;
         assert!(rt; text != further, "{seed} {steps}");
         assert!(rt; printed(&rt, seed, steps) == Some(text), "{seed} {steps}");
         assert!(rt;
@@ -115,7 +115,7 @@ fn transcript_of(
     watchers: u8,
     steps: u32,
 ) -> Result<Vec<u8>, Fail> {
-    let text = sim_text(rt.alloc(), seed, 3, watchers, steps)?;
+    let text = sim_text(rt.alloc(), seed, 3, Rules::One, watchers, steps)?;
     let text = str::from_utf8(&text)?;
     assert!(rt; text.matches("party ").count() == 3 + usize::from(watchers));
     check_parties(rt, text)?;
@@ -161,11 +161,11 @@ fn sim_text_at_last(rt: &(impl AllocGlobal + Abort), steps: u32) -> Result<Vec<u
         ScriptFault::Engine(EngineFault::Memory),
         ScriptFault::World(WorldFault::Memory),
     );
-    match sim_text(rt.alloc(), 2047, 1, 1, steps) {
+    match sim_text(rt.alloc(), 2047, 1, Rules::One, 1, steps) {
         Ok(text) => Ok(text),
         Err(fault) => {
             assert!(rt; fault == no_memory || fault == no_world);
-            Ok(sim_text(rt.alloc(), 2047, 1, 1, steps)?)
+            Ok(sim_text(rt.alloc(), 2047, 1, Rules::One, 1, steps)?)
         }
     }
 }
@@ -182,7 +182,7 @@ fn refused_growths_of_a_match(rt: HostRuntime) -> Result<(), Fail> {
 /// An automatic player lacks memory for nothing but the list of legal turns.
 #[test]
 fn refused_growths_of_an_action(rt: HostRuntime) -> Result<(), Fail> {
-    let mut record = Record::new(rt.alloc(), 1, 1)?;
+    let mut record = Record::new(rt.alloc(), 1, 1, Rules::One)?;
     if record.push(Entry::Opening(Die::Three, Die::One)).is_err() {
         record.push(Entry::Opening(Die::Three, Die::One))?;
     }

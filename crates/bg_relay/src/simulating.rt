@@ -1,5 +1,6 @@
 //! Automatic matches in memory.
 ghost use Rattle.std.specs.Prelude.{◌≡◌, IfOk, MatchResult, OnOk};
+ghost use Rattle.bg_match.specs.Terms.{terms_of};
 ghost use Rattle.bg_relay.specs.Simulating.{HappensAs, IsPrinted, IsSimFault, IsSimStart, IsSimText, Runs};
 ghost use Rattle.bg_relay.specs.Simulating.{setup_of, wants_memory as is_wanting};
 ghost use Rattle.bg_world.specs.Simulations.{memory_view};
@@ -11,7 +12,7 @@ use crate::onlookers::{NoOnlooker, Onlooker};
 use crate::schedule::event_of;
 use crate::simulation::Simulation;
 use crate::words::event_words;
-use bg_match::Terms;
+use bg_match::Rules;
 use bg_text::{EngineFault, transcript_text};
 use bg_wire::REFEREE;
 use bg_world::{Outcome, Plan, ScriptFault, Setup, WorldFault, final_text, simulate};
@@ -25,16 +26,18 @@ impl Simulation {
     pub fn new(
         alloc: Global,
         seed: u64,
-        length: Terms,
+        length: u8,
+        rules: Rules,
         watchers: u8,
     ) -> Result<Simulation, WorldFault>
-        ensures start { IfOk result (λ start. IsSimStart (setup_of seed length watchers) start) }
-        ensures refusal { MatchResult result (λ _. IsSetup seed length watchers)
-            (λ fault. IsWorldFault fault (setup_of seed length watchers)) }
+        ensures start { IfOk result (λ start. IsSimStart (setup_of seed length rules watchers) start) }
+        ensures refusal { MatchResult result (λ _. IsSetup seed (terms_of length rules) watchers)
+            (λ fault. IsWorldFault fault (setup_of seed length rules watchers)) }
     {
         let setup = Setup {
             id: seed,
             length,
+            rules,
             watchers,
         };
         let no_failures = Plan {
@@ -132,14 +135,15 @@ pub fn sim_text(
     alloc: Global,
     seed: u64,
     length: u8,
+    rules: Rules,
     watchers: u8,
     steps: u32,
 ) -> Result<Vec<u8>, ScriptFault>
-    ensures text { IfOk result (λ text. IsSimText seed length watchers steps text.items) }
-    ensures refusal { MatchResult result (λ _. IsSetup seed length watchers)
-        (λ fault. IsSimFault fault (setup_of seed length watchers)) }
+    ensures text { IfOk result (λ text. IsSimText seed length rules watchers steps text.items) }
+    ensures refusal { MatchResult result (λ _. IsSetup seed (terms_of length rules) watchers)
+        (λ fault. IsSimFault fault (setup_of seed length rules watchers)) }
 {
-    play_sim(alloc, seed, length, watchers, steps, &mut NoOnlooker)
+    play_sim(alloc, seed, length, rules, watchers, steps, &mut NoOnlooker)
 }
 
 /// The same, with one who looks on: who is told how many events are played, and not what they came to.
@@ -147,15 +151,16 @@ pub(crate) fn play_sim<O: Onlooker>(
     alloc: Global,
     seed: u64,
     length: u8,
+    rules: Rules,
     watchers: u8,
     steps: u32,
     onlooker: &mut O,
 ) -> Result<Vec<u8>, ScriptFault>
-    ensures text { IfOk result (λ text. IsSimText seed length watchers steps text.items) }
-    ensures refusal { MatchResult result (λ _. IsSetup seed length watchers)
-        (λ fault. IsSimFault fault (setup_of seed length watchers)) }
+    ensures text { IfOk result (λ text. IsSimText seed length rules watchers steps text.items) }
+    ensures refusal { MatchResult result (λ _. IsSetup seed (terms_of length rules) watchers)
+        (λ fault. IsSimFault fault (setup_of seed length rules watchers)) }
 {
-    let mut simulation = match Simulation::new(alloc, seed, length, watchers) {
+    let mut simulation = match Simulation::new(alloc, seed, length, rules, watchers) {
         Ok(simulation) => simulation,
         Err(fault) => return Err(ScriptFault::World(fault)),
     };

@@ -6,6 +6,7 @@ use crate::stand_ins::StandIn;
 use crate::test_folders::new_folder;
 use crate::udp_links::UdpLink;
 use arrayvec::ArrayVec;
+use bg_match::Rules;
 use bg_text::Writing;
 use bg_wire::{Datagram, PacketBytes};
 use bg_world::{DeviceFault, Link};
@@ -150,6 +151,7 @@ fn sockets_come_before_the_match(rt: HostRuntime) -> Result<(), Fail> {
             &net,
             7,
             length,
+            Rules::One,
             1,
             folder.as_str(),
             &mut Writing::new(&mut text),

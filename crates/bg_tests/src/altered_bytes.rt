@@ -3,7 +3,7 @@ ghost use Rattle.bg_wire.specs.SavedText.{IsSavable, parts_of};
 
 use crate::fronts::is_front;
 use bg_board::Player;
-use bg_match::Record;
+use bg_match::{Record, Rules};
 use bg_party::{Seat, Watcher};
 use bg_referee::Referee;
 use bg_wire::{REFEREE, Saved, decode, encode, load, restore, save_text};
@@ -48,7 +48,7 @@ const SEAT_SAVE_OF_OLD: [u8; 32] = [
 
 /// The entries follow each other from the start.
 fn check_legal(rt: &impl Abort, alloc: Global, record: &Record) -> Result<(), Fail> {
-    let mut again = Record::new(alloc, record.id(), record.length())?;
+    let mut again = Record::new(alloc, record.id(), record.length(), record.rules())?;
     for number in 1..=record.len() {
         again.push(record.entry(number).expect(rt, "an entry").copy())?;
     }
@@ -61,16 +61,16 @@ fn check_packet(rt: &impl Abort, alloc: Global, bytes: &[u8]) -> Result<(), Fail
         return Ok(());
     };
     assert!(rt; encode(&packet).as_slice() == bytes);
-    let mut referee = Referee::fresh(alloc, 1, 1)?;
+    let mut referee = Referee::fresh(alloc, 1, 1, Rules::One)?;
     referee.due(THREE_ONE)?;
     let (_, save, _) = referee.to_save()?;
     referee.mark_saved(save);
     let _ = referee.take(&packet, THREE_ONE);
     check_legal(rt, alloc, referee.held())?;
-    let mut seat = Seat::fresh(alloc, Player::X, 1, 1)?;
+    let mut seat = Seat::fresh(alloc, Player::X, 1, 1, Rules::One)?;
     let _ = seat.take(&packet);
     check_legal(rt, alloc, seat.held())?;
-    let mut watcher = Watcher::fresh(alloc, 3, 1, 1)?;
+    let mut watcher = Watcher::fresh(alloc, 3, 1, 1, Rules::One)?;
     let _ = watcher.take(&packet);
     check_legal(rt, alloc, watcher.held())
 }
@@ -94,7 +94,7 @@ fn check_slots(
     slot1: &[u8],
     party: u8,
 ) -> Result<(), Fail> {
-    if let Ok(Some(saved)) = restore(alloc, slot0, slot1, party, 1, 1) {
+    if let Ok(Some(saved)) = restore(alloc, slot0, slot1, party, 1, 1, Rules::One) {
         check_restored(rt, alloc, saved)?;
     }
     Ok(())

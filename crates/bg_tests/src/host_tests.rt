@@ -5,7 +5,7 @@ ghost use Rattle.bg_wire.specs.PacketText.{IsPacket};
 use crate::own_devices::{BeginFault, world_over};
 use crate::referee_host::{HostFault, RefereeHost};
 use bg_board::Player;
-use bg_match::{Action, Actor, Level};
+use bg_match::{Action, Actor, Level, Rules};
 use bg_party::{Learned, Seat};
 use bg_wire::{Packet, RestoreRefusal, decode, encode};
 use bg_world::{Event, Outcome, Setup};
@@ -54,6 +54,7 @@ fn told(rt: &HostRuntime, host: &mut RefereeHost<'_, HostRuntime>) -> Result<Pac
     let watcher = client(rt)?;
     let want = Packet::Want {
         id: MATCH,
+        rules: Rules::One,
         sender: 3,
         held: 0,
     };
@@ -68,17 +69,18 @@ fn told(rt: &HostRuntime, host: &mut RefereeHost<'_, HostRuntime>) -> Result<Pac
 }
 
 /// A watcher that asked is told the opening once it is saved, in the file of slot 1, and a later host over the same
-/// folder tells it again. None begins while another one has the files, or for a match of another length.
+/// folder tells it again. None begins while another one has the files, or for a match of another length or by other rules.
 #[test]
 fn hosts_answer(rt: HostRuntime) -> Result<(), Fail> {
     let folder = new_folder(&rt, "hosts-answer")?;
-    let mut host = RefereeHost::open(&rt, folder.as_str(), 0, MATCH, 5)?;
+    let mut host = RefereeHost::open(&rt, folder.as_str(), 0, MATCH, 5, Rules::One)?;
     let first = told(&rt, &mut host)?;
     assert!(rt;
         matches!(
             &first,
             Packet::Entries {
                 id: MATCH,
+                rules: Rules::One,
                 start: 1,
                 ..
             }
@@ -86,12 +88,19 @@ fn hosts_answer(rt: HostRuntime) -> Result<(), Fail> {
     );
     assert!(rt; fs::metadata(&rt, format!(in rt.alloc(); "{folder}/party-0.1")?.as_str()).is_ok());
     assert!(rt; fs::metadata(&rt, format!(in rt.alloc(); "{folder}/party-0.0")?.as_str()).is_err());
-    let second = RefereeHost::open(&rt, folder.as_str(), 0, MATCH, 5);
+    let second = RefereeHost::open(&rt, folder.as_str(), 0, MATCH, 5, Rules::One);
     assert!(rt; matches!(second, Err(HostFault::System(_))));
     host.serve(1)?;
-    let other = RefereeHost::open(&rt, folder.as_str(), 0, MATCH, 3);
+    let other = RefereeHost::open(&rt, folder.as_str(), 0, MATCH, 3, Rules::One);
     assert!(rt; matches!(other, Err(HostFault::Restore(RestoreRefusal::WrongMatch))));
-    let mut later = RefereeHost::open(&rt, folder.as_str(), 0, MATCH, 5)?;
+    let by_other_rules = RefereeHost::open(&rt, folder.as_str(), 0, MATCH, 5, Rules::Two);
+    assert!(rt;
+        matches!(
+            by_other_rules,
+            Err(HostFault::Restore(RestoreRefusal::WrongMatch))
+        )
+    );
+    let mut later = RefereeHost::open(&rt, folder.as_str(), 0, MATCH, 5, Rules::One)?;
     assert!(rt; told(&rt, &mut later)? == first);
     fs::remove_dir_all(&rt, folder.as_str())?;
     Ok(())
@@ -122,10 +131,10 @@ fn play(
 #[test]
 fn hosts_referee(rt: HostRuntime) -> Result<(), Fail> {
     let folder = new_folder(&rt, "hosts-referee")?;
-    let mut host = RefereeHost::open(&rt, folder.as_str(), 0, MATCH, 1)?;
+    let mut host = RefereeHost::open(&rt, folder.as_str(), 0, MATCH, 1, Rules::One)?;
     let (x_socket, o_socket) = (client(&rt)?, client(&rt)?);
-    let mut x = Seat::fresh(rt.alloc(), Player::X, MATCH, 1)?;
-    let mut o = Seat::fresh(rt.alloc(), Player::O, MATCH, 1)?;
+    let mut x = Seat::fresh(rt.alloc(), Player::X, MATCH, 1, Rules::One)?;
+    let mut o = Seat::fresh(rt.alloc(), Player::O, MATCH, 1, Rules::One)?;
     for _ in 0..MOST_TURNS {
         play(&x_socket, &mut x, &mut host)?;
         play(&o_socket, &mut o, &mut host)?;
@@ -146,6 +155,7 @@ fn worlds_go_on(rt: HostRuntime) -> Result<(), Fail> {
     let setup = Setup {
         id: MATCH,
         length: 5,
+        rules: Rules::One,
         watchers: 1,
     };
     let mut world = world_over(&rt, folder.as_str(), setup)?;

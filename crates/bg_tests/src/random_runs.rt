@@ -2,7 +2,7 @@
 use crate::actions::action_of;
 use crate::fronts::{MemoryWorld, check_fronts};
 use bg_board::Player;
-use bg_match::{Action, Entry, Number, Phase, Record, entry_of};
+use bg_match::{Action, Entry, Number, Phase, Record, Rules, entry_of};
 use bg_party::Learned;
 use bg_referee::TakeOutcome;
 use bg_wire::party_of;
@@ -142,7 +142,7 @@ fn check_record(
     record: &Record,
     claims: &Claims,
 ) -> Result<(), Fail> {
-    let mut again = Record::new(alloc, record.id(), record.length())?;
+    let mut again = Record::new(alloc, record.id(), record.length(), record.rules())?;
     for number in 1..=record.len() {
         let entry = record.entry(number).expect(rt, "an entry");
         if let Some(seat) = record.by(number) {
@@ -159,11 +159,12 @@ fn check_counts(rt: &impl Abort, counts: Counts) {
     assert!(rt; counts.saves_torn > 0 && counts.sends_failed > 0 && counts.reads_failed > 0);
 }
 
-fn world(alloc: Global, words: &mut ChaCha20Rng) -> Result<MemoryWorld, WorldFault> {
+fn world(alloc: Global, rules: Rules, words: &mut ChaCha20Rng) -> Result<MemoryWorld, WorldFault> {
     let plan = plan_of(alloc, words)?;
     let setup = Setup {
         id: 9,
         length: 99,
+        rules,
         watchers: LAST_PARTY - 2,
     };
     let (world, _) = simulate(alloc, setup, &plan, &[])?;
@@ -172,9 +173,9 @@ fn world(alloc: Global, words: &mut ChaCha20Rng) -> Result<MemoryWorld, WorldFau
 
 /// After each event the record of each party is a front of the referee's, and in the end each entry of a seat is one
 /// that it claimed.
-fn check_run(rt: &impl Abort, alloc: Global, seed: u8) -> Result<(), Fail> {
+fn check_run(rt: &impl Abort, alloc: Global, seed: u8, rules: Rules) -> Result<(), Fail> {
     let mut words = ChaCha20Rng::from_seed([seed; 32]);
-    let mut world = world(alloc, &mut words)?;
+    let mut world = world(alloc, rules, &mut words)?;
     let mut claims = Vec::new(alloc);
     let mut counts = Counts::default();
     for _ in 0..EVENTS {
@@ -196,8 +197,13 @@ fn check_run(rt: &impl Abort, alloc: Global, seed: u8) -> Result<(), Fail> {
 
 #[test]
 fn random_events(rt: HostRuntime) -> Result<(), Fail> {
-    for seed in 1..4 {
-        check_run(&rt, rt.alloc(), seed)?;
+    for (seed, rules) in [
+        (1, Rules::One),
+        (2, Rules::Two),
+        (3, Rules::One),
+        (4, Rules::Two),
+    ] {
+        check_run(&rt, rt.alloc(), seed, rules)?;
     }
     Ok(())
 }

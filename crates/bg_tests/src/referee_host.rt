@@ -2,7 +2,7 @@
 ghost use Rattle.bg_wire.specs.PacketText.{IsPacket};
 
 use crate::slot_files::SlotFiles;
-use bg_match::LengthFault;
+use bg_match::{LengthFault, Rules};
 use bg_referee::{DueFault, Referee, TakeOutcome};
 use bg_wire::{Packet, REFEREE, RestoreRefusal, SaveRefusal, Slot, decode, encode, restore};
 use std::fs::File;
@@ -45,12 +45,13 @@ fn restored<R: Files<File = File> + AllocGlobal>(
     files: &SlotFiles<'_, R>,
     id: u64,
     length: u8,
+    rules: Rules,
 ) -> Result<Referee, HostFault> {
     let zero = files.read(Slot::Zero)?;
     let one = files.read(Slot::One)?;
-    match restore(rt.alloc(), &zero, &one, REFEREE, id, length)? {
+    match restore(rt.alloc(), &zero, &one, REFEREE, id, length, rules)? {
         Some(saved) => Ok(Referee::resume(rt.alloc(), saved)),
-        None => Ok(Referee::fresh(rt.alloc(), id, length)?),
+        None => Ok(Referee::fresh(rt.alloc(), id, length, rules)?),
     }
 }
 
@@ -62,9 +63,10 @@ impl<'a, R: Net + Files<File = File> + RandomSource + AllocGlobal> RefereeHost<'
         port: u16,
         id: u64,
         length: u8,
+        rules: Rules,
     ) -> Result<RefereeHost<'a, R>, HostFault> {
         let files = SlotFiles::open(rt, folder, REFEREE)?;
-        let core = restored(rt, &files, id, length)?;
+        let core = restored(rt, &files, id, length, rules)?;
         let socket = UdpSocket::bind(rt, (Ipv4Addr::LOCALHOST, port))?;
         // A turn waits no longer than this.
         socket.set_read_timeout(Some(Duration::from_millis(200)))?;

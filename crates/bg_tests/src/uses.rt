@@ -1,6 +1,6 @@
 //! The lines of use that stand in each library's documentation, run (`tools/check_uses` compares them).
 use bg_board::{Board, Die, Player, Step};
-use bg_match::{Action, Actor, Entry, Level, Record};
+use bg_match::{Action, Actor, Entry, Level, Record, Rules};
 use bg_party::{Learned, Seat};
 use bg_referee::{Referee, TakeOutcome};
 use bg_text::{Verdict, entry_text, judge_text, parse_entry};
@@ -43,7 +43,7 @@ fn turns(rt: HostRuntime) -> Result<(), Fail> {
 fn records(rt: HostRuntime) -> Result<(), Fail> {
     let alloc = rt.alloc();
     // bg_match
-    let mut record = Record::new(alloc, 1, 5)?;
+    let mut record = Record::new(alloc, 1, 5, Rules::One)?;
     record.push(Entry::Opening(Die::Three, Die::One))?;
     record.push(Entry::Resigned(Level::Gammon))?;
     // X offered, so O answers; a double does not follow.
@@ -73,6 +73,7 @@ fn bytes(rt: HostRuntime) -> Result<(), Fail> {
     // bg_wire
     let packet = Packet::Want {
         id: 1,
+        rules: Rules::One,
         sender: 3,
         held: 0,
     };
@@ -86,13 +87,14 @@ fn bytes(rt: HostRuntime) -> Result<(), Fail> {
 fn referees(rt: HostRuntime) -> Result<(), Fail> {
     let alloc = rt.alloc();
     // bg_referee
-    let mut referee = Referee::fresh(alloc, 1, 5)?;
+    let mut referee = Referee::fresh(alloc, 1, 5, Rules::One)?;
     assert!(rt; referee.due(12) == Ok(1));
     // Nothing is told before it is saved: write the text to the slot, and then say so.
     let (_slot, save, _text) = referee.to_save()?;
     referee.mark_saved(save);
     let want = Packet::Want {
         id: 1,
+        rules: Rules::One,
         sender: 3,
         held: 0,
     };
@@ -106,7 +108,7 @@ fn referees(rt: HostRuntime) -> Result<(), Fail> {
 fn seats(rt: HostRuntime) -> Result<(), Fail> {
     let alloc = rt.alloc();
     // bg_party
-    let mut seat = Seat::fresh(alloc, Player::X, 1, 5)?;
+    let mut seat = Seat::fresh(alloc, Player::X, 1, 5, Rules::One)?;
     // What it gives is sent to the referee, and what the referee answers is taken.
     assert!(rt; matches!(seat.tick(), Some(Packet::Want { held: 0, .. })));
     let bytes = [
@@ -129,6 +131,7 @@ fn worlds(rt: HostRuntime) -> Result<(), Fail> {
     let setup = Setup {
         id: 1,
         length: 5,
+        rules: Rules::One,
         watchers: 0,
     };
     let no_failures = Plan {

@@ -1,5 +1,5 @@
 -- The texts of actions.
-use Rattle.std.specs.Prelude.{◌≡◌, ◌≢◌, ℕ, ◌<◌, ◌≤◌, List, [], ◌∷◌, ◌++◌, map, sum, codes}
+use Rattle.std.specs.Prelude.{◌≡◌, ◌≢◌, ℕ, ◌+◌, ◌*◌, ◌<◌, ◌≤◌, List, [], ◌∷◌, ◌++◌, map, sum, codes}
 use Rattle.std.specs.List.{AllByRecursion}
 use Rattle.std.proofs.Common.{refl, sym, ◌∙◌, ap, arith}
 use Rattle.std.proofs.lemmas.List.Elements.{All-from_recursion, All-append, All-cons, All-nil}
@@ -56,10 +56,11 @@ words_of_action (action.Resign Backgammon) h = refl
 words_of_action action.Accept h = refl
 words_of_action action.Reject h = refl
 
--- the sum of the first word's letters, which tells the kinds of lines apart
+-- the sum of the first word's letters, the first of them three times, which tells the kinds of lines apart
 abbrev pub first_sum : List (List ℕ) → ℕ
 first_sum [] = 0
-first_sum (word ∷ words) = sum word
+first_sum ([] ∷ words) = 0
+first_sum ((byte ∷ word) ∷ words) = 3 * byte + sum word
 
 pub same_steps : (a b : List FromTo) → AllByRecursion IsDownward a → AllByRecursion IsDownward b → map step_text a ≡ map step_text b → a ≡ b
 same_steps [] [] h k e = refl

@@ -7,7 +7,7 @@ use Rattle.bg_board.specs.declared.dice.Die.{Die}
 use Rattle.bg_board.specs.declared.players.Player.{Player}
 use Rattle.bg_board.specs.declared.players.Player.TheVariants.{X, O}
 use Rattle.bg_turns.specs.Turn.{IsTurn}
-use Rattle.bg_match.specs.Entry.{IsEntry}
+use Rattle.bg_match.specs.Entry.{IsEntry, IsByReferee}
 use Rattle.bg_match.specs.declared.actions.Action.{Action}
 use Rattle.bg_match.specs.declared.actions.Action.TheVariants as action
 use Rattle.bg_match.specs.declared.entries.Entry.{Entry}
@@ -15,7 +15,7 @@ use Rattle.bg_match.specs.declared.entries.Entry.TheVariants as entry
 use Rattle.bg_match.specs.declared.levels.Level.TheVariants.{Normal, Gammon, Backgammon}
 use Rattle.bg_text.specs.Words.{words_of, spaced}
 use Rattle.bg_text.specs.EntryText.{letter, step_text, dice_words, seat_words, entry_words, entry_text, action_words, IsSeatOf}
-use Rattle.bg_text.specs.EntryShape.{IsDiceShape, IsSeatShape, IsEntryShape, IsActionShape, HasDownwardSteps, IsEntryTextFault, IsActionTextFault}
+use Rattle.bg_text.specs.EntryShape.{IsDiceShape, IsSeatShape, IsOwnShape, IsEntryShape, IsActionShape, HasDownwardSteps, IsEntryTextFault, IsActionTextFault}
 use Rattle.bg_text.specs.Pairs.{IsDiceFault, AreNumerals}
 use Rattle.bg_text.specs.Lines.{IsFixed, IsSeatEntry, IsSeatFault, IsEntryOf}
 use Rattle.bg_text.specs.declared.faults.TextFault.{TextFault}
@@ -49,7 +49,7 @@ no_fixed_roll words _ h fixed e = omega (arith, ap first_sum e)
 
 dice_of_roll : (words : List (List ℕ)) (e : Entry) → IsSeatEntry e → codes "roll" ∷ words ≡ entry_words e → (x o : Die) × (words ≡ dice_words x o)
 dice_of_roll words (entry.Rolled dice) h e = (dice.first, dice.second, cc e)
-dice_of_roll words (entry.Opening x o) h e = absurd h
+dice_of_roll words (entry.Opening x o) h e = absurd (h tt)
 dice_of_roll words entry.Doubled h e = absurd (omega (arith, ap first_sum e))
 dice_of_roll words entry.Taken h e = absurd (omega (arith, ap first_sum e))
 dice_of_roll words entry.Dropped h e = absurd (omega (arith, ap first_sum e))
@@ -57,6 +57,7 @@ dice_of_roll words (entry.Moved steps) h e = absurd (omega (arith, ap first_sum 
 dice_of_roll words (entry.Resigned level) h e = absurd (omega (arith, ap first_sum e))
 dice_of_roll words entry.Accepted h e = absurd (omega (arith, ap first_sum e))
 dice_of_roll words entry.Rejected h e = absurd (omega (arith, ap first_sum e))
+dice_of_roll words entry.Passed h e = absurd (h tt)
 
 pub roll_fault : (numbers : List ℕ) (fault : TextFault) → IsDiceFault fault (words_of numbers) → IsSeatFault fault (codes "roll " ++ numbers)
 roll_fault numbers NotALine h = no_shape
@@ -90,7 +91,8 @@ seat_fault line BadNumber no_roll h = (shape h.0, text)
     shape (inr other) = inr other
 
     text : (e : Entry) → IsSeatEntry e → HasDownwardSteps e → line ≡ spaced (entry_words e) → ⊥
-    text (entry.Opening x o) seat down e = seat
+    text (entry.Opening x o) seat down e = seat tt
+    text entry.Passed seat down e = seat tt
     text (entry.Rolled dice) seat down e = no_roll (spaced (dice_words dice.first dice.second)) e
     text entry.Doubled seat down e = h.1 action.Double tt e
     text entry.Taken seat down e = h.1 action.Take tt e
@@ -105,6 +107,10 @@ letter_not_open : (player : Player) (words rest : List (List ℕ)) → codes "op
 letter_not_open X words rest e = omega (arith, ap first_sum e)
 letter_not_open O words rest e = omega (arith, ap first_sum e)
 
+letter_not_pass : (player : Player) (words : List (List ℕ)) → letter player ∷ words ≡ codes "pass" ∷ [] → ⊥
+letter_not_pass X words e = omega (arith, ap first_sum e)
+letter_not_pass O words e = omega (arith, ap first_sum e)
+
 dice_of_opening : (words : List (List ℕ)) (seat : Option Player) (e : Entry) → IsSeatOf seat e → codes "open" ∷ words ≡ seat_words seat ++ entry_words e → (x o : Die) × (words ≡ dice_words x o)
 dice_of_opening words (Some player) e h same = absurd (letter_not_open player words (entry_words e) same)
 dice_of_opening words None (entry.Opening x o) h same = (x, o, cc same)
@@ -116,15 +122,17 @@ dice_of_opening words None (entry.Moved steps) h same = absurd (omega (arith, ap
 dice_of_opening words None (entry.Resigned level) h same = absurd (omega (arith, ap first_sum same))
 dice_of_opening words None entry.Accepted h same = absurd (omega (arith, ap first_sum same))
 dice_of_opening words None entry.Rejected h same = absurd (omega (arith, ap first_sum same))
+dice_of_opening words None entry.Passed h same = absurd (omega (arith, ap first_sum same))
 
 pub open_fault : (numbers : List ℕ) (fault : TextFault) → IsDiceFault fault (words_of numbers) → IsEntryTextFault fault (codes "open " ++ numbers)
 open_fault numbers NotALine h = no_shape
   where
     no_shape : IsEntryShape (codes "open" ∷ words_of numbers) → ⊥
-    no_shape (inl dice) = h (numerals_of_shape (codes "open") (words_of numbers) dice)
+    no_shape (inl (inl dice)) = h (numerals_of_shape (codes "open") (words_of numbers) dice)
+    no_shape (inl (inr pass)) = omega (arith, ap first_sum pass)
     no_shape (inr (player, rest, e, shape)) = letter_not_open player (words_of numbers) rest e
 open_fault numbers BadNumber h = (
-  inl (shape_of_numerals (codes "open") (words_of numbers) h.0),
+  inl (inl (shape_of_numerals (codes "open") (words_of numbers) h.0)),
   λ seat e of down text.
       let words : codes "open" ∷ words_of numbers ≡ seat_words seat ++ entry_words e = ap words_of text ∙ words_of_line seat e down in
       let dice = dice_of_opening (words_of numbers) seat e of words in
@@ -148,23 +156,17 @@ line_behind player (entry.Moved steps) = refl
 line_behind player (entry.Resigned level) = refl
 line_behind player entry.Accepted = refl
 line_behind player entry.Rejected = refl
+line_behind player entry.Passed = refl
 
 seat_entry : (player : Player) (e : Entry) → IsSeatOf (Some player) e → IsSeatEntry e
-seat_entry player (entry.Opening x o) h = absurd cc
-seat_entry player (entry.Rolled dice) h = tt
-seat_entry player entry.Doubled h = tt
-seat_entry player entry.Taken h = tt
-seat_entry player entry.Dropped h = tt
-seat_entry player (entry.Moved steps) h = tt
-seat_entry player (entry.Resigned level) h = tt
-seat_entry player entry.Accepted h = tt
-seat_entry player entry.Rejected h = tt
+seat_entry player e h = λ own. let none = h.1 own in absurd cc
 
 pub entry_fault : (player : Player) (rest : List ℕ) (fault : TextFault) → IsSeatFault fault rest → IsEntryTextFault fault (letter player ++ 32 ∷ rest)
 entry_fault player rest NotALine h = λ shape. no_shape (rw (words_behind player rest) at shape)
   where
     no_shape : IsEntryShape (letter player ∷ words_of rest) → ⊥
-    no_shape (inl dice) = letter_not_open player (dice.first ∷ dice.second ∷ []) (words_of rest) (sym dice.spelled)
+    no_shape (inl (inl dice)) = letter_not_open player (dice.first ∷ dice.second ∷ []) (words_of rest) (sym dice.spelled)
+    no_shape (inl (inr pass)) = letter_not_pass player (words_of rest) pass
     no_shape (inr (other, more, e, shape)) =
         let same : more ≡ words_of rest = sym (same_rest _ _ _ _ e) in
         h (rw same at shape)
@@ -180,9 +182,11 @@ entry_fault player rest BadNumber h = (
 entry_fault player rest TooManySteps (steps, text, down, many) =
     (player, steps, ap (λ more. letter player ++ 32 ∷ more) text ∙ line_behind player (entry.Moved steps), down, many)
 
-pub no_entry_shape : (line : List ℕ) → ((rest : List ℕ) → line ≡ codes "open " ++ rest → ⊥) → ((player : Player) (rest : List ℕ) → line ≡ letter player ++ 32 ∷ rest → ⊥) → IsEntryShape (words_of line) → ⊥
-no_entry_shape line no_open no_player (inl dice) = no_open (spaced (dice.first ∷ dice.second ∷ [])) (line_spaced line (codes "open" ∷ dice.first ∷ dice.second ∷ []) dice.spelled)
-no_entry_shape line no_open no_player (inr (player, rest, e, shape)) = of rest e shape
+pub no_entry_shape : (line : List ℕ) → ((rest : List ℕ) → line ≡ codes "open " ++ rest → ⊥) → (line ≡ codes "pass" → ⊥)
+    → ((player : Player) (rest : List ℕ) → line ≡ letter player ++ 32 ∷ rest → ⊥) → IsEntryShape (words_of line) → ⊥
+no_entry_shape line no_open no_pass no_player (inl (inl dice)) = no_open (spaced (dice.first ∷ dice.second ∷ [])) (line_spaced line (codes "open" ∷ dice.first ∷ dice.second ∷ []) dice.spelled)
+no_entry_shape line no_open no_pass no_player (inl (inr pass)) = no_pass (line_spaced line (codes "pass" ∷ []) pass)
+no_entry_shape line no_open no_pass no_player (inr (player, rest, e, shape)) = of rest e shape
   where
     no_words : IsSeatShape [] → ⊥
     no_words (inl dice) = absurd cc
@@ -207,7 +211,8 @@ die_shape word x o = record {
 }
 
 seat_shape : (e : Entry) → IsSeatEntry e → HasDownwardSteps e → IsSeatShape (entry_words e)
-seat_shape (entry.Opening x o) h down = absurd h
+seat_shape (entry.Opening x o) h down = absurd (h tt)
+seat_shape entry.Passed h down = absurd (h tt)
 seat_shape (entry.Rolled dice) h down = inl (die_shape (codes "roll") dice.first dice.second)
 seat_shape entry.Doubled h down = inr (inr (0, omega arith, refl))
 seat_shape entry.Taken h down = inr (inr (1, omega arith, refl))
@@ -219,17 +224,21 @@ seat_shape (entry.Resigned Backgammon) h down = inr (inr (5, omega arith, refl))
 seat_shape entry.Accepted h down = inr (inr (6, omega arith, refl))
 seat_shape entry.Rejected h down = inr (inr (7, omega arith, refl))
 
+own_shape : (e : Entry) → IsByReferee e → IsOwnShape (entry_words e)
+own_shape (entry.Opening x o) own = inl (die_shape (codes "open") x o)
+own_shape entry.Passed own = inr refl
+own_shape (entry.Rolled dice) own = absurd own
+own_shape entry.Doubled own = absurd own
+own_shape entry.Taken own = absurd own
+own_shape entry.Dropped own = absurd own
+own_shape (entry.Moved steps) own = absurd own
+own_shape (entry.Resigned level) own = absurd own
+own_shape entry.Accepted own = absurd own
+own_shape entry.Rejected own = absurd own
+
 line_shape : (seat : Option Player) (e : Entry) → IsSeatOf seat e → HasDownwardSteps e → IsEntryShape (seat_words seat ++ entry_words e)
 line_shape (Some player) e of down = inr (player, entry_words e, refl, seat_shape e (seat_entry player e of) down)
-line_shape None (entry.Opening x o) of down = inl (die_shape (codes "open") x o)
-line_shape None (entry.Rolled dice) of down = absurd cc
-line_shape None entry.Doubled of down = absurd cc
-line_shape None entry.Taken of down = absurd cc
-line_shape None entry.Dropped of down = absurd cc
-line_shape None (entry.Moved steps) of down = absurd cc
-line_shape None (entry.Resigned level) of down = absurd cc
-line_shape None entry.Accepted of down = absurd cc
-line_shape None entry.Rejected of down = absurd cc
+line_shape None e of down = inl (own_shape e (of.0 refl))
 
 -- what is wrong with a line is nothing that an entry's line has
 pub no_entry_fault : (line : List ℕ) (fault : TextFault) (seat : Option Player) (e : Entry) → IsEntryTextFault fault line → IsSeatOf seat e → IsEntry e → line ≡ entry_text seat e → ⊥

@@ -65,6 +65,7 @@ entry_each_word (entry.Moved steps) h = (word_by_test (codes "move") refl, step_
 entry_each_word (entry.Resigned level) h = (word_by_test (codes "resign") refl, (level_is_word level, tt))
 entry_each_word entry.Accepted h = (word_by_test (codes "accept") refl, tt)
 entry_each_word entry.Rejected h = (word_by_test (codes "reject") refl, tt)
+entry_each_word entry.Passed h = (word_by_test (codes "pass") refl, tt)
 
 pub letter_word : (player : Player) → IsWord (letter player)
 letter_word X = word_by_test (codes "X") refl
@@ -83,6 +84,7 @@ words_of_entry e h = whole e (entry_each_word e h)
     whole (entry.Resigned level) h = words_spaced _ _ h.0 h.1
     whole entry.Accepted h = refl
     whole entry.Rejected h = refl
+    whole entry.Passed h = refl
 
 -- the words of an entry's line are its words
 pub words_of_line : (seat : Option Player) (e : Entry) → HasDownwardSteps e → words_of (entry_text seat e) ≡ seat_words seat ++ entry_words e
@@ -142,6 +144,8 @@ same_entry_words entry.Accepted entry.Accepted h k e = refl
 same_entry_words entry.Accepted _ h k e = absurd (omega (arith, ap first_sum e))
 same_entry_words entry.Rejected entry.Rejected h k e = refl
 same_entry_words entry.Rejected _ h k e = absurd (omega (arith, ap first_sum e))
+same_entry_words entry.Passed entry.Passed h k e = refl
+same_entry_words entry.Passed _ h k e = absurd (omega (arith, ap first_sum e))
 
 pub downward_entry : (e : Entry) → IsEntry e → HasDownwardSteps e
 downward_entry (entry.Moved steps) h = h.each
@@ -153,9 +157,10 @@ downward_entry entry.Dropped h = tt
 downward_entry (entry.Resigned level) h = tt
 downward_entry entry.Accepted h = tt
 downward_entry entry.Rejected h = tt
+downward_entry entry.Passed h = tt
 
 -- an entry's first word is longer than a letter
-first_sum_entry : (e : Entry) → 100 ≤ first_sum (entry_words e)
+first_sum_entry : (e : Entry) → 300 ≤ first_sum (entry_words e)
 first_sum_entry (entry.Opening x o) = omega arith
 first_sum_entry (entry.Rolled dice) = omega arith
 first_sum_entry entry.Doubled = omega arith
@@ -165,6 +170,7 @@ first_sum_entry (entry.Moved steps) = omega arith
 first_sum_entry (entry.Resigned level) = omega arith
 first_sum_entry entry.Accepted = omega arith
 first_sum_entry entry.Rejected = omega arith
+first_sum_entry entry.Passed = omega arith
 
 -- no entry begins with a player's letter
 pub no_letter : (player : Player) (words : List (List ℕ)) (e : Entry) → letter player ∷ words ≡ entry_words e → ⊥

@@ -16,6 +16,9 @@ pub mod WholeInputs
 pub mod ReadLines
 pub mod PartRead
 pub mod WrittenLines
+pub mod ShortLines
+pub mod LengthLines
 pub mod FineTranscripts
 pub mod OneJudgement
 pub mod WorkedTexts
+pub mod WorkedPasses

@@ -1,7 +1,7 @@
 -- An input has one judgement.
 use Rattle.std.proofs.Common.{◌≡◌, ◌⊎◌, ℕ, ◌<◌, ◌≤◌, true, false, List, [], ◌∷◌, ◌++◌, take, map, slice_index_or, Option, Some, None, refl, sym, ◌∙◌, ap, subst, arith, inl, inr}
 use Rattle.std.specs.List.{AllByRecursion}
-use Rattle.bg_match.specs.Terms.{Terms}
+use Rattle.bg_match.specs.Terms.{Terms, match_length}
 use Rattle.bg_board.specs.FromTo.{FromTo}
 use Rattle.bg_board.specs.Position.{Position, opponent}
 use Rattle.bg_board.specs.declared.players.Player.{Player}
@@ -10,7 +10,8 @@ use Rattle.bg_turns.specs.Turn.{IsDownward, IsTurnFault}
 use Rattle.bg_turns.specs.declared.faults.TurnFault.{TurnFault}
 use Rattle.bg_turns.specs.declared.faults.TurnFault.TheVariants.{StepIllegal, MoreCanBePlayed, LargerMustBePlayed}
 use Rattle.bg_turns.specs.declared.throws.Dice.{Dice}
-use Rattle.bg_match.specs.Follows.{IsEntryFault, IsNoDouble, is_in_phase}
+use Rattle.bg_match.specs.Actor.{passes}
+use Rattle.bg_match.specs.Follows.{IsEntryFault, IsNoDouble, is_allowed, is_in_phase}
 use Rattle.bg_match.specs.State.{State, start_of}
 use Rattle.bg_match.specs.declared.entries.Entry.{Entry}
 use Rattle.bg_match.specs.declared.entries.Entry.TheVariants as entry
@@ -18,10 +19,10 @@ use Rattle.bg_match.specs.declared.entries.EntryFault.{EntryFault}
 use Rattle.bg_match.specs.declared.entries.EntryFault.TheVariants.{RecordFull, MatchOver, WrongPhase, EqualOpening, Turn, NoDouble, Memory}
 use Rattle.bg_match.specs.declared.entries.NoDouble.{NoDouble as NoDoubleFault}
 use Rattle.bg_match.specs.declared.entries.NoDouble.TheVariants.{Crawford, NotOwner, AtCap}
-use Rattle.bg_match.specs.Limits.{most_entries, shortest_match, longest_match}
+use Rattle.bg_match.specs.Limits.{most_entries, IsMatchLength}
 use Rattle.bg_match.specs.declared.phases.Phase.TheVariants as phase
 use Rattle.bg_text.specs.BoardText.{board_text, line_text}
-use Rattle.bg_text.specs.EntryText.{letter, step_text, entry_words}
+use Rattle.bg_text.specs.EntryText.{letter, step_text, entry_words, IsSeatOf}
 use Rattle.bg_text.specs.EntryShape.{IsPairShape, IsEntryShape, IsEntryTextFault}
 use Rattle.bg_text.specs.Transcript.{length_line}
 use Rattle.bg_text.specs.Judging.{lines_of, refused_line, IsWrongSeat, IsRefusal, IsLineFault, IsLengthFault, IsLongestPart, IsVerdict, IsJudged, IsRefusedAtOnce, IsAnswerTo, JudgementsAgree}
@@ -31,9 +32,10 @@ use Rattle.bg_text.specs.declared.faults.TextFault.{TextFault}
 use Rattle.bg_text.specs.declared.faults.TextFault.TheVariants.{NotALine, BadNumber, TooManySteps}
 use Rattle.bg_text.specs.declared.verdicts.Verdict.{Verdict}
 use Rattle.bg_text.specs.declared.verdicts.Verdict.TheVariants.{Fine, Refused, TooLong}
+use Rattle.bg_match.proofs.Passing.{not_passed}
 use Rattle.bg_text.proofs.EntryLines.{no_entry_fault}
 use Rattle.bg_text.proofs.EntryTexts.{same_line, downward_entry, words_of_line}
-use Rattle.bg_text.proofs.FineTranscripts.{no_length_fault, one_length}
+use Rattle.bg_text.proofs.LengthLines.{no_length_fault, one_length}
 use Rattle.bg_text.proofs.PairTexts.{step_shape}
 use Rattle.bg_text.proofs.ReadLines.{AreLinesOf-same}
 
@@ -76,18 +78,18 @@ one_double_fault s p AtCap NotOwner h k = absurd (not_owned s.cube.owner p k.1 h
 one_double_fault s p AtCap AtCap h k = refl
 
 -- an entry has one fault
-in_phase : (s : State) (e : Entry) → is_in_phase e s.phase ≡ true → is_in_phase e s.phase ≡ false → ⊥
-in_phase s e h k = let no : true ≡ false = sym h ∙ k in absurd cc
+allowed : (s : State) (e : Entry) → passes s ≡ false → is_in_phase e s.phase ≡ true → is_allowed s e ≡ false → ⊥
+allowed s e none h k = let no : is_in_phase e s.phase ≡ false = rw none at k in absurd cc
 
 module _ (s : State) (e : Entry) where
   same_turn : (why other : TurnFault) → IsEntryFault (Turn why) s e → IsEntryFault (Turn other) s e → Turn why ≡ Turn other
   same_turn why other h k =
       let thrown : phase.ToMove h.0 h.1 ≡ phase.ToMove k.0 k.1 = sym h.3 ∙ k.3 in
-      let moved : entry.Moved h.2 ≡ entry.Moved k.2 = sym h.4 ∙ k.4 in
+      let moved : entry.Moved h.2 ≡ entry.Moved k.2 = sym h.5 ∙ k.5 in
       let player : h.0 ≡ k.0 = cc in
       let dice : h.1 ≡ k.1 = cc in
       let turn : h.2 ≡ k.2 = cc in
-      ap Turn (one_turn_fault s.board k.0 k.1 k.2 why other (rw (player, dice, turn) at h.5) k.5)
+      ap Turn (one_turn_fault s.board k.0 k.1 k.2 why other (rw (player, dice, turn) at h.6) k.6)
 
   same_double : (why other : NoDoubleFault) → IsEntryFault (NoDouble why) s e → IsEntryFault (NoDouble other) s e → NoDouble why ≡ NoDouble other
   same_double why other h k =
@@ -109,27 +111,27 @@ module _ (s : State) (e : Entry) where
   one_entry_fault WrongPhase Memory h k = absurd k
   one_entry_fault WrongPhase MatchOver h k = absurd (h.0 k.0 k.1)
   one_entry_fault WrongPhase WrongPhase h k = refl
-  one_entry_fault WrongPhase EqualOpening h k = absurd (in_phase s e (rw (k.2, k.3) refl) h.1)
-  one_entry_fault WrongPhase (Turn other) h k = absurd (in_phase s e (rw (k.3, k.4) refl) h.1)
-  one_entry_fault WrongPhase (NoDouble other) h k = absurd (in_phase s e (rw (k.1, k.2) refl) h.1)
+  one_entry_fault WrongPhase EqualOpening h k = absurd (allowed s e (not_passed s phase.Opening k.2 (λ p dice is. cc)) (rw (k.2, k.3) refl) h.1)
+  one_entry_fault WrongPhase (Turn other) h k = absurd (allowed s e k.4 (rw (k.3, k.5) refl) h.1)
+  one_entry_fault WrongPhase (NoDouble other) h k = absurd (allowed s e (not_passed s (phase.ToAct k.0) k.1 (λ p dice is. cc)) (rw (k.1, k.2) refl) h.1)
   one_entry_fault EqualOpening RecordFull h k = absurd k
   one_entry_fault EqualOpening Memory h k = absurd k
   one_entry_fault EqualOpening MatchOver h k = let no = sym h.2 ∙ k.1 in absurd cc
-  one_entry_fault EqualOpening WrongPhase h k = absurd (in_phase s e (rw (h.2, h.3) refl) k.1)
+  one_entry_fault EqualOpening WrongPhase h k = absurd (allowed s e (not_passed s phase.Opening h.2 (λ p dice is. cc)) (rw (h.2, h.3) refl) k.1)
   one_entry_fault EqualOpening EqualOpening h k = refl
   one_entry_fault EqualOpening (Turn other) h k = let no = sym h.2 ∙ k.3 in absurd cc
   one_entry_fault EqualOpening (NoDouble other) h k = let no = sym h.2 ∙ k.1 in absurd cc
   one_entry_fault (Turn why) RecordFull h k = absurd k
   one_entry_fault (Turn why) Memory h k = absurd k
   one_entry_fault (Turn why) MatchOver h k = let no = sym h.3 ∙ k.1 in absurd cc
-  one_entry_fault (Turn why) WrongPhase h k = absurd (in_phase s e (rw (h.3, h.4) refl) k.1)
+  one_entry_fault (Turn why) WrongPhase h k = absurd (allowed s e h.4 (rw (h.3, h.5) refl) k.1)
   one_entry_fault (Turn why) EqualOpening h k = let no = sym h.3 ∙ k.2 in absurd cc
   one_entry_fault (Turn why) (Turn other) h k = same_turn why other h k
   one_entry_fault (Turn why) (NoDouble other) h k = let no = sym h.3 ∙ k.1 in absurd cc
   one_entry_fault (NoDouble why) RecordFull h k = absurd k
   one_entry_fault (NoDouble why) Memory h k = absurd k
   one_entry_fault (NoDouble why) MatchOver h k = let no = sym h.1 ∙ k.1 in absurd cc
-  one_entry_fault (NoDouble why) WrongPhase h k = absurd (in_phase s e (rw (h.1, h.2) refl) k.1)
+  one_entry_fault (NoDouble why) WrongPhase h k = absurd (allowed s e (not_passed s (phase.ToAct h.0) h.1 (λ p dice is. cc)) (rw (h.1, h.2) refl) k.1)
   one_entry_fault (NoDouble why) EqualOpening h k = let no = sym h.1 ∙ k.2 in absurd cc
   one_entry_fault (NoDouble why) (Turn other) h k = let no = sym h.1 ∙ k.3 in absurd cc
   one_entry_fault (NoDouble why) (NoDouble other) h k = same_double why other h k
@@ -166,15 +168,18 @@ long_move : (line : List ℕ) → IsEntryTextFault TooManySteps line → IsEntry
 long_move line (player, steps, written, down, many) shapeless =
     shapeless (rw (written, words_of_line (Some player) (entry.Moved steps) down) (moved_shape player steps down))
 
+seat_moves : (player : Player) (steps : List FromTo) → IsSeatOf (Some player) (entry.Moved steps)
+seat_moves player steps = (λ none. absurd cc, λ own. absurd own)
+
 one_text_fault : (line : List ℕ) (why other : TextFault) → IsEntryTextFault why line → IsEntryTextFault other line → why ≡ other
 one_text_fault line NotALine NotALine h k = refl
 one_text_fault line NotALine BadNumber h k = absurd (h k.0)
 one_text_fault line NotALine TooManySteps h k = absurd (long_move line k h)
 one_text_fault line BadNumber NotALine h k = absurd (k h.0)
 one_text_fault line BadNumber BadNumber h k = refl
-one_text_fault line BadNumber TooManySteps h k = absurd (h.1 (Some k.0) (entry.Moved k.1) refl k.3 k.2)
+one_text_fault line BadNumber TooManySteps h k = absurd (h.1 (Some k.0) (entry.Moved k.1) (seat_moves k.0 k.1) k.3 k.2)
 one_text_fault line TooManySteps NotALine h k = absurd (long_move line h k)
-one_text_fault line TooManySteps BadNumber h k = absurd (k.1 (Some h.0) (entry.Moved h.1) refl h.3 h.2)
+one_text_fault line TooManySteps BadNumber h k = absurd (k.1 (Some h.0) (entry.Moved h.1) (seat_moves h.0 h.1) h.3 h.2)
 one_text_fault line TooManySteps TooManySteps h k = refl
 
 -- a line has one fault
@@ -207,12 +212,12 @@ one_line_fault n s line (fault.Entry why) (fault.Entry other) h k =
 one_length_fault : (lines : List (List ℕ)) (why other : LineFault) → IsLengthFault why lines → IsLengthFault other lines → why ≡ other
 one_length_fault lines fault.NotALengthLine fault.NotALengthLine h k = refl
 one_length_fault [] fault.NotALengthLine fault.LengthOutOfRange h k = absurd k
-one_length_fault (line ∷ lines) fault.NotALengthLine fault.LengthOutOfRange h k = absurd (h k.0 k.1 k.2.0)
+one_length_fault (line ∷ lines) fault.NotALengthLine fault.LengthOutOfRange h k = absurd (h k.0 k.1 k.2 k.3.0)
 one_length_fault lines fault.NotALengthLine (fault.Text other) h k = absurd k
 one_length_fault lines fault.NotALengthLine fault.WrongPlayer h k = absurd k
 one_length_fault lines fault.NotALengthLine (fault.Entry other) h k = absurd k
 one_length_fault [] fault.LengthOutOfRange other h k = absurd h
-one_length_fault (line ∷ lines) fault.LengthOutOfRange fault.NotALengthLine h k = absurd (k h.0 h.1 h.2.0)
+one_length_fault (line ∷ lines) fault.LengthOutOfRange fault.NotALengthLine h k = absurd (k h.0 h.1 h.2 h.3.0)
 one_length_fault (line ∷ lines) fault.LengthOutOfRange fault.LengthOutOfRange h k = refl
 one_length_fault (line ∷ lines) fault.LengthOutOfRange (fault.Text other) h k = absurd k
 one_length_fault (line ∷ lines) fault.LengthOutOfRange fault.WrongPlayer h k = absurd k
@@ -259,17 +264,17 @@ refused_once lines text other verdict another h k =
     (h.printed ∙ (ap (λ w. line_text (refused_line 1 w)) why ∙ sym k.printed), h.first ∙ sym k.first)
 
 -- no input is refused at line 1 and judged as well
-not_both : (line : List ℕ) (lines : List (List ℕ)) (n : ℕ) (why : LineFault) → shortest_match ≤ n → n ≤ longest_match → line ≡ length_line n → IsLengthFault why (line ∷ lines) → ⊥
-not_both line lines n why low high is h = no_length_fault n lines why low high (subst (λ (l : List ℕ). IsLengthFault why (l ∷ lines)) is h)
+not_both : (line : List ℕ) (lines : List (List ℕ)) (terms : Terms) (why : LineFault) → IsMatchLength (match_length terms) → line ≡ length_line terms → IsLengthFault why (line ∷ lines) → ⊥
+not_both line lines terms why range is h = no_length_fault terms lines why range (subst (λ (l : List ℕ). IsLengthFault why (l ∷ lines)) is h)
 
 one_answer : (lines : List (List ℕ)) (text other : List ℕ) (verdict another : Verdict) → IsAnswerTo lines text verdict → IsAnswerTo lines other another → (text ≡ other) × (verdict ≡ another)
 one_answer [] text other verdict another h k = refused_once [] text other verdict another h k
 one_answer (line ∷ lines) text other verdict another (inl h) (inl k) = refused_once (line ∷ lines) text other verdict another h k
-one_answer (line ∷ lines) text other verdict another (inl h) (inr k) = absurd (not_both line lines k.0 h.why k.1 k.2 k.3 h.fault)
-one_answer (line ∷ lines) text other verdict another (inr h) (inl k) = absurd (not_both line lines h.0 k.why h.1 h.2 h.3 k.fault)
+one_answer (line ∷ lines) text other verdict another (inl h) (inr k) = absurd (not_both line lines k.0 h.why k.1 k.2 h.fault)
+one_answer (line ∷ lines) text other verdict another (inr h) (inl k) = absurd (not_both line lines h.0 k.why h.1 h.2 k.fault)
 one_answer (line ∷ lines) text other verdict another (inr h) (inr k) =
-    let same = one_length h.0 k.0 h.2 k.2 (sym h.3 ∙ k.3) in
-    one_judged k.0 lines text other verdict another (subst (λ (n : ℕ). IsJudged n lines text verdict) same h.4) k.4
+    let same = one_length h.0 k.0 h.1 k.1 (sym h.2 ∙ k.2) in
+    one_judged k.0 lines text other verdict another (subst (λ (terms : Terms). IsJudged terms lines text verdict) same h.3) k.3
 
 pub one_judgement : JudgementsAgree
 one_judgement input text other verdict another (inl h) (inl k) = (h.1.printed ∙ sym k.1.printed, h.1.too_long ∙ sym k.1.too_long)

@@ -29,13 +29,13 @@ module _ (terms : Terms) (lines : List (List ℕ)) where
     state = start_of terms;
     entries = rw none refl;
     few = rw none (omega arith);
-    same_length = same;
+    same_terms = same;
   }
 
   -- one more line is read
   pub part_more : (r new : Log) (rest after line : List ℕ) → IsPartRead terms lines r rest → lines_of rest ≡ line ∷ lines_of after → AddsLine r new line → IsPartRead terms lines new after
   part_more r new rest after line part first added =
-      let stands : StandsAt terms r.entries added.1 = subst (λ (m : Terms). StandsAt m r.entries added.1) part.same_length added.2 in
+      let stands : StandsAt terms r.entries added.1 = subst (λ (m : Terms). StandsAt m r.entries added.1) part.same_terms added.2 in
       let same : added.1 ≡ part.state = one_standing terms r.entries added.1 part.state stands (AreLinesOf-Leads (start_of terms) r.entries part.done part.state part.entries) in
       let at : IsLineAt part.state line added.0 = subst (λ (s : State). IsLineAt s line added.0) same added.3 in
       let more = length-append r.entries (added.0 ∷ []) in
@@ -45,7 +45,7 @@ module _ (terms : Terms) (lines : List (List ℕ)) where
         state = at.1.0;
         entries = rw added.5 (AreLinesOf-push (start_of terms) r.entries part.done part.state added.0 line at.1.0 part.entries at.0 at.1.1);
         few = rw added.5 (omega (arith, added.4, more));
-        same_length = added.6 ∙ part.same_length;
+        same_terms = added.6 ∙ part.same_terms;
       }
 
   -- the lines of the record are a legal part
@@ -61,7 +61,7 @@ module _ (terms : Terms) (lines : List (List ℕ)) where
   -- where the record stands
   part_state : (r : Log) (rest : List ℕ) (part : IsPartRead terms lines r rest) (t : State) → StandsAt r.terms r.entries t → t ≡ part.state
   part_state r rest part t stands =
-      one_standing terms r.entries t part.state (subst (λ (m : Terms). StandsAt m r.entries t) part.same_length stands)
+      one_standing terms r.entries t part.state (subst (λ (m : Terms). StandsAt m r.entries t) part.same_terms stands)
       (AreLinesOf-Leads (start_of terms) r.entries part.done part.state part.entries)
 
   -- all lines are read

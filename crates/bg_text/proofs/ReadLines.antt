@@ -3,10 +3,9 @@ use Rattle.std.proofs.Common.{◌≡◌, ◌≢◌, ℕ, ◌<◌, List, [], ◌�
 use Rattle.std.specs.Prelude.{IsSome, IsOk, ◌↔◌, is_ok, true}
 use Rattle.bg_board.specs.declared.players.Player.{Player}
 use Rattle.bg_board.specs.declared.players.Player.TheVariants.{X, O}
-use Rattle.bg_match.specs.Actor.{actor_of, seat_of}
-use Rattle.bg_match.specs.Entry.{IsEntry}
-use Rattle.bg_turns.specs.declared.throws.Dice.{Dice}
-use Rattle.bg_match.specs.Follows.{Follows, IsEntryFault, phase_back}
+use Rattle.bg_match.specs.Actor.{actor_in, actor_of, seat_of}
+use Rattle.bg_match.specs.Entry.{IsEntry, IsByReferee}
+use Rattle.bg_match.specs.Follows.{Follows, IsEntryFault}
 use Rattle.bg_match.specs.Match.{Leads, Log, StandsAt, IsLegalRecord, IsRecordFault, IsNext}
 use Rattle.bg_match.specs.Limits.{most_entries}
 use Rattle.bg_match.specs.declared.entries.EntryFault.{EntryFault}
@@ -14,7 +13,10 @@ use Rattle.bg_match.specs.declared.entries.EntryFault.TheVariants as entry_fault
 use Rattle.bg_match.specs.State.{State, start_of}
 use Rattle.bg_match.specs.declared.entries.Entry.{Entry}
 use Rattle.bg_match.specs.declared.entries.Entry.TheVariants as entry
+use Rattle.bg_match.specs.declared.phases.Actor.TheVariants.{Referee}
+use Rattle.bg_match.specs.declared.phases.Phase.TheVariants as phase
 use Rattle.bg_match.proofs.Legal.{Follows_in_range, one_standing}
+use Rattle.bg_match.proofs.Passing.{not_passed, by_phase, by_pass, seat_acts as acts_of_seat}
 use Rattle.bg_match.proofs.Runs.{Follows-same, Leads-push, Leads-last}
 use Rattle.bg_text.specs.EntryText.{entry_text, IsSeatOf}
 use Rattle.bg_text.specs.Transcript.{AreLinesOf}
@@ -26,28 +28,38 @@ use Rattle.bg_text.specs.declared.faults.LineFault.TheVariants.{Entry as Refused
 use Rattle.bg_text.specs.declared.faults.TextFault.{TextFault}
 use Rattle.bg_text.proofs.EntryTexts.{same_line, downward_entry}
 
-back_acts : (p : Player) (back : Option Dice) → IsSome (seat_of (actor_of (phase_back p back)))
-back_acts p None = refl
-back_acts p (Some dice) = refl
+no_seat : (seat : Option Player) → IsSome seat → seat ≡ None → ⊥
+no_seat None h e = absurd cc
+no_seat (Some p) h e = absurd cc
+
+by_referee : (s : State) (e : Entry) → actor_of s ≡ Referee → IsByReferee e → IsSeatOf (seat_of (actor_of s)) e
+by_referee s e is own = (λ none. own, λ made. ap seat_of is)
+
+by_seat : (s : State) (e : Entry) (t : State) → Follows s e t → (IsByReferee e → ⊥) → IsSeatOf (seat_of (actor_of s)) e
+by_seat s e t h other =
+    let acts = acts_of_seat s e t h other in
+    let same = ap seat_of (by_phase s acts.0) in
+    (λ none. absurd (no_seat (seat_of (actor_in s.phase)) acts.1 (sym same ∙ none)), λ own. absurd (other own))
 
 -- who acts makes the entry that follows
-pub seat_acts : (s : State) (e : Entry) (t : State) → Follows s e t → IsSeatOf (seat_of (actor_of s.phase)) e
-seat_acts s (entry.Opening x o) t h = rw h.0 refl
-seat_acts s (entry.Rolled dice) t h = rw h.1 refl
-seat_acts s entry.Doubled t h = rw h.1 refl
-seat_acts s entry.Taken t h = rw h.1 refl
-seat_acts s entry.Dropped t h = rw h.1 refl
-seat_acts s (entry.Moved turn) t h = rw h.2 refl
-seat_acts s (entry.Resigned level) t h = rw h.2 (back_acts h.0 h.1)
-seat_acts s entry.Accepted t h = rw h.3 refl
-seat_acts s entry.Rejected t h = rw h.3 refl
+pub seat_acts : (s : State) (e : Entry) (t : State) → Follows s e t → IsSeatOf (seat_of (actor_of s)) e
+seat_acts s (entry.Opening x o) t h = by_referee s (entry.Opening x o) (by_phase s (not_passed s phase.Opening h.0 (λ p dice is. cc)) ∙ ap actor_in h.0) tt
+seat_acts s entry.Passed t h = by_referee s entry.Passed (by_pass s h.3) tt
+seat_acts s (entry.Rolled dice) t h = by_seat s (entry.Rolled dice) t h (λ own. own)
+seat_acts s entry.Doubled t h = by_seat s entry.Doubled t h (λ own. own)
+seat_acts s entry.Taken t h = by_seat s entry.Taken t h (λ own. own)
+seat_acts s entry.Dropped t h = by_seat s entry.Dropped t h (λ own. own)
+seat_acts s (entry.Moved turn) t h = by_seat s (entry.Moved turn) t h (λ own. own)
+seat_acts s (entry.Resigned level) t h = by_seat s (entry.Resigned level) t h (λ own. own)
+seat_acts s entry.Accepted t h = by_seat s entry.Accepted t h (λ own. own)
+seat_acts s entry.Rejected t h = by_seat s entry.Rejected t h (λ own. own)
 
 -- one line is that of one entry that follows
 pub one_line : (s : State) (line : List ℕ) (e e' : Entry) → IsLineAt s line e → IsLineAt s line e' → e ≡ e'
 one_line s line e e' h h' =
     let range = downward_entry e (Follows_in_range s e h.1.0 h.1.1) in
     let range' = downward_entry e' (Follows_in_range s e' h'.1.0 h'.1.1) in
-    (same_line (seat_of (actor_of s.phase)) (seat_of (actor_of s.phase)) e e' range range' (sym h.0 ∙ h'.0)).1
+    (same_line (seat_of (actor_of s)) (seat_of (actor_of s)) e e' range range' (sym h.0 ∙ h'.0)).1
 
 pub AreLinesOf-Leads : (s : State) (entries : List Entry) (lines : List (List ℕ)) (t : State) → AreLinesOf s entries lines t → Leads s entries t
 AreLinesOf-Leads s [] [] t h = h
@@ -62,8 +74,8 @@ AreLinesOf-length s (e ∷ entries) [] t h = absurd h
 AreLinesOf-length s (e ∷ entries) (line ∷ lines) t h = let rest = AreLinesOf-length h.1 entries lines t h.3 in omega arith
 
 pub AreLinesOf-push : (s : State) (entries : List Entry) (lines : List (List ℕ)) (t : State) (e : Entry) (line : List ℕ) (u : State)
-    → AreLinesOf s entries lines t → line ≡ entry_text (seat_of (actor_of t.phase)) e → Follows t e u → AreLinesOf s (entries ++ e ∷ []) (lines ++ line ∷ []) u
-AreLinesOf-push s [] [] t e line u h is next = let same : t ≡ s = h in subst (λ (x : State). (line ≡ entry_text (seat_of (actor_of x.phase)) e) × (m : State) × Follows x e m × (u ≡ m)) same (is, u, next, refl)
+    → AreLinesOf s entries lines t → line ≡ entry_text (seat_of (actor_of t)) e → Follows t e u → AreLinesOf s (entries ++ e ∷ []) (lines ++ line ∷ []) u
+AreLinesOf-push s [] [] t e line u h is next = let same : t ≡ s = h in subst (λ (x : State). (line ≡ entry_text (seat_of (actor_of x)) e) × (m : State) × Follows x e m × (u ≡ m)) same (is, u, next, refl)
 AreLinesOf-push s [] (first ∷ lines) t e line u h is next = absurd h
 AreLinesOf-push s (f ∷ entries) [] t e line u h is next = absurd h
 AreLinesOf-push s (f ∷ entries) (first ∷ lines) t e line u h is next = (h.0, h.1, h.2, AreLinesOf-push h.1 entries lines t e line u h.3 is next)
@@ -96,8 +108,8 @@ AreLinesOf-next s (e ∷ entries) (first ∷ front) line lines t h =
 -- what is read of the line of an entry that follows
 pub read_of_line : (s : State) (line : List ℕ) (r : Result (Option Player × Entry) TextFault)
     → ((seat : Option Player) (e : Entry) → IsSeatOf seat e → IsEntry e → line ≡ entry_text seat e → r ≡ Ok (seat, e))
-    → (e : Entry) → IsLineAt s line e → r ≡ Ok (seat_of (actor_of s.phase), e)
-read_of_line s line r only e at = only (seat_of (actor_of s.phase)) e (seat_acts s e at.1.0 at.1.1) (Follows_in_range s e at.1.0 at.1.1) at.0
+    → (e : Entry) → IsLineAt s line e → r ≡ Ok (seat_of (actor_of s), e)
+read_of_line s line r only e at = only (seat_of (actor_of s)) e (seat_acts s e at.1.0 at.1.1) (Follows_in_range s e at.1.0 at.1.1) at.0
 
 pub same_found : (r : Result (Option Player × Entry) TextFault) (found : Option Player × Entry) (seat : Option Player) (e : Entry)
     → r ≡ Ok found → r ≡ Ok (seat, e) → found.1 ≡ e
@@ -110,26 +122,16 @@ same_players O O h = refl
 same_players X O h = absurd (h (λ same. cc))
 same_players O X h = absurd (h (λ same. cc))
 
-same_seats : (seat acting : Option Player) → IsSome seat → IsSome acting → ((p q : Player) → seat ≡ Some p → acting ≡ Some q → p ≢ q → ⊥) → seat ≡ acting
-same_seats None acting h k fits = absurd cc
-same_seats (Some p) None h k fits = absurd cc
-same_seats (Some p) (Some q) h k fits = ap Some (same_players p q (fits p q refl refl))
-
 same_makers : (seat acting : Option Player) (e : Entry) → IsSeatOf seat e → IsSeatOf acting e → ((p q : Player) → seat ≡ Some p → acting ≡ Some q → p ≢ q → ⊥) → seat ≡ acting
-same_makers seat acting (entry.Opening x o) h k fits = h ∙ sym k
-same_makers seat acting (entry.Rolled dice) h k fits = same_seats seat acting h k fits
-same_makers seat acting entry.Doubled h k fits = same_seats seat acting h k fits
-same_makers seat acting entry.Taken h k fits = same_seats seat acting h k fits
-same_makers seat acting entry.Dropped h k fits = same_seats seat acting h k fits
-same_makers seat acting (entry.Moved turn) h k fits = same_seats seat acting h k fits
-same_makers seat acting (entry.Resigned level) h k fits = same_seats seat acting h k fits
-same_makers seat acting entry.Accepted h k fits = same_seats seat acting h k fits
-same_makers seat acting entry.Rejected h k fits = same_seats seat acting h k fits
+same_makers None None e h k fits = refl
+same_makers None (Some q) e h k fits = let none = k.1 (h.0 refl) in absurd cc
+same_makers (Some p) None e h k fits = let none = h.1 (k.0 refl) in absurd cc
+same_makers (Some p) (Some q) e h k fits = ap Some (same_players p q (fits p q refl refl))
 
 -- what is read and follows is the line of the seat that acts
 line_at : (s : State) (line : List ℕ) (e : Entry) (t : State) → IsReadAs s line e → Follows s e t → IsLineAt s line e
 line_at s line e t read follows =
-    let acting = seat_of (actor_of s.phase) in
+    let acting = seat_of (actor_of s) in
     let same : read.0 ≡ acting = same_makers read.0 acting e read.1 (seat_acts s e t follows) (λ p q named acts differ. read.4 (p, q, named, acts, differ)) in
     (subst (λ (seat : Option Player). line ≡ entry_text seat e) same read.3, (t, follows))
 

@@ -1,29 +1,36 @@
 -- Worked texts, by the definitions alone.
-use Rattle.std.proofs.Common.{◌≡◌, ℕ, Some, None, List, [], ◌∷◌, ◌++◌, refl, inr, arith}
+use Rattle.std.proofs.Common.{◌≡◌, ℕ, true, false, Some, None, List, [], ◌∷◌, ◌++◌, refl, inr, arith}
 use Rattle.std.specs.Prelude.{codes}
 use Rattle.std.specs.Fmt.{digits}
 use Rattle.bg_board.specs.Position.{start_position}
 use Rattle.bg_board.specs.declared.players.Player.TheVariants.{X, O}
 use Rattle.bg_board.specs.declared.dice.Die.TheVariants.{One, Three}
+use Rattle.bg_match.specs.Actor.{passes, passes_in}
+use Rattle.bg_match.specs.Terms.{Terms, terms_of}
+use Rattle.bg_match.specs.declared.limits.Rules.TheVariants as rules
 use Rattle.bg_match.specs.State.{State, start_of}
 use Rattle.bg_match.specs.Follows.{Follows}
 use Rattle.bg_match.specs.declared.levels.Level.TheVariants.{Gammon}
 use Rattle.bg_match.specs.declared.phases.Phase.TheVariants as phase
 use Rattle.bg_match.specs.declared.actions.Action.TheVariants as action
 use Rattle.bg_match.specs.declared.entries.Entry.TheVariants as entry
-use Rattle.bg_text.specs.BoardText.{upper_points, lower_points, header_line, numbers_line, cells_line, aside_line, phase_line, board_text}
+use Rattle.bg_text.specs.BoardText.{upper_points, lower_points, header_line, numbers_line, cells_line, aside_line, phase_text, board_text}
 use Rattle.bg_text.specs.EntryText.{entry_text, action_text}
 use Rattle.bg_text.specs.Judging.{IsJudgement, lines_of}
 use Rattle.bg_text.specs.declared.faults.LineFault.TheVariants as fault
 use Rattle.bg_text.specs.declared.verdicts.Verdict.TheVariants.{Fine, Refused}
 use Rattle.bg_text.proofs.FineTranscripts.{transcripts_are_fine}
 
+-- a match to so many points, by the first rules
+abbrev to_points : ℕ → Terms
+to_points points = terms_of points rules.One
+
 -- the lines of the board at the start
-header_at_the_start : header_line (start_of 5) ≡ codes "length 5 game 1 score 0-0 cube 1 middle"
+header_at_the_start : header_line (start_of (to_points 5)) ≡ codes "length 5 game 1 score 0-0 cube 1 middle"
 unfolding digits
 header_at_the_start = refl
 
-header_of_one_point : header_line (start_of 1) ≡ codes "length 1 game 1 score 0-0 cube 1 middle crawford"
+header_of_one_point : header_line (start_of (to_points 1)) ≡ codes "length 1 game 1 score 0-0 cube 1 middle crawford"
 unfolding digits
 header_of_one_point = refl
 
@@ -47,7 +54,7 @@ aside_at_the_start : aside_line start_position ≡ codes "bar X 0 O 0 off X 0 O 
 unfolding digits
 aside_at_the_start = refl
 
-phase_of_an_offer : phase_line (phase.Resigned O Gammon None) ≡ codes "O resigns gammon"
+phase_of_an_offer : phase_text (phase.Resigned O Gammon None) false ≡ codes "O resigns gammon"
 phase_of_an_offer = refl
 
 -- the lines of entries
@@ -81,7 +88,7 @@ nothing_judged = inr (omega arith, record { why = fault.NotALengthLine; fault = 
 
 -- a match of one point after its opening
 abbrev opened : State
-opened = record (start_of 1) { phase = phase.ToMove X (record { first = Three; second = One }) }
+opened = record (start_of (to_points 1)) { phase = phase.ToMove X (record { first = Three; second = One }) }
 
 abbrev opened_text : List ℕ
 opened_text =
@@ -95,9 +102,9 @@ opened_text =
     ++ codes "ok 1\n"
 
 opening_judged : IsJudgement (codes "length 1\nopen 3 1\n") opened_text (Fine 1)
-unfolding digits board_text
+unfolding digits board_text passes passes_in
 opening_judged =
-    let first : Follows (start_of 1) (entry.Opening Three One) opened = (refl, omega arith, refl) in
-    (transcripts_are_fine 1 (entry.Opening Three One ∷ []) opened (codes "length 1\nopen 3 1\n") opened_text (Fine 1)
-    (omega arith) (omega arith) (omega arith) (opened, first, refl)
+    let first : Follows (start_of (to_points 1)) (entry.Opening Three One) opened = (refl, omega arith, refl) in
+    (transcripts_are_fine (to_points 1) (entry.Opening Three One ∷ []) opened (codes "length 1\nopen 3 1\n") opened_text (Fine 1)
+    (omega arith, omega arith) (omega arith) (opened, first, refl)
     (codes "open 3 1" ∷ [], opened, (refl, opened, first, refl), refl)).1 (refl, refl)

@@ -64,8 +64,8 @@ more_written r (suc i) old new legal first part added =
     let adds : StandsAt r.terms (take i r.entries) added.0 = subst (λ (n : ℕ). StandsAt r.terms (take n r.entries) added.0) back added.2 in
     let at_part = one_standing r.terms (take i r.entries) here.0 part.state here.2 (AreLinesOf-Leads (start_of r.terms) (take i r.entries) part.lines part.state each) in
     let at_added = one_standing r.terms (take i r.entries) part.state added.0 (AreLinesOf-Leads (start_of r.terms) (take i r.entries) part.lines part.state each) adds in
-    let line = entry_text (seat_of (actor_of added.0.phase)) added.1 in
-    let named : line ≡ entry_text (seat_of (actor_of part.state.phase)) added.1 = ap (λ (x : State). entry_text (seat_of (actor_of x.phase)) added.1) (sym at_added) in
+    let line = entry_text (seat_of (actor_of added.0)) added.1 in
+    let named : line ≡ entry_text (seat_of (actor_of part.state)) added.1 = ap (λ (x : State). entry_text (seat_of (actor_of x)) added.1) (sym at_added) in
     let follows : Follows part.state added.1 here.1 = subst (λ (x : State). Follows x added.1 here.1) at_part here.3 in
     record {
       lines = part.lines ++ line ∷ [];

@@ -7,11 +7,13 @@ use Rattle.bg_board.specs.Die.{pips}
 use Rattle.bg_board.specs.Position.{Position, count}
 use Rattle.bg_board.specs.declared.players.Player.{Player}
 use Rattle.bg_board.specs.declared.players.Player.TheVariants.{X, O}
+use Rattle.bg_match.specs.Actor.{passes}
 use Rattle.bg_match.specs.State.{State}
 use Rattle.bg_match.specs.declared.phases.Cube.{Cube}
 use Rattle.bg_match.specs.declared.phases.Phase.{Phase}
 use Rattle.bg_match.specs.declared.phases.Phase.TheVariants as phase
 use Rattle.bg_text.specs.EntryText.{letter, level_word}
+use Rattle.bg_text.specs.TermsText.{terms_text}
 
 -- a line ends with a line feed
 abbrev pub line_text : List ℕ → List ℕ
@@ -29,7 +31,7 @@ crawford_mark true = codes " crawford"
 crawford_mark false = []
 
 abbrev pub game_part : State → List ℕ
-game_part s = codes "length " ++ decimal s.terms ++ codes " game " ++ decimal s.game
+game_part s = terms_text s.terms ++ codes " game " ++ decimal s.game
 
 abbrev pub score_part : State → List ℕ
 score_part s = codes " score " ++ decimal s.x_score ++ codes "-" ++ decimal s.o_score
@@ -75,14 +77,23 @@ counts_part b point = codes " X " ++ decimal (count b X point) ++ codes " O " ++
 abbrev pub aside_line : Position → List ℕ
 aside_line b = codes "bar" ++ counts_part b 25 ++ codes " off" ++ counts_part b 0
 
-abbrev pub phase_line : Phase → List ℕ
-phase_line phase.Opening = codes "opening"
-phase_line (phase.ToAct p) = letter p ++ codes " to roll"
-phase_line (phase.Doubled p) = letter p ++ codes " to answer the double"
-phase_line (phase.ToMove p dice) =
-    letter p ++ codes " to move " ++ decimal (pips dice.first) ++ codes " " ++ decimal (pips dice.second)
-phase_line (phase.Resigned p level back) = letter p ++ codes " resigns " ++ level_word level
-phase_line (phase.Over p) = letter p ++ codes " wins the match"
+-- what is to become of the dice of a player, whose turn is to be passed or not
+abbrev pub turn_words : Bool → List ℕ
+turn_words true = codes " to pass "
+turn_words false = codes " to move "
+
+-- what is to happen next in a phase, where a turn is to be passed or not
+abbrev pub phase_text : Phase → Bool → List ℕ
+phase_text phase.Opening passing = codes "opening"
+phase_text (phase.ToAct p) passing = letter p ++ codes " to roll"
+phase_text (phase.Doubled p) passing = letter p ++ codes " to answer the double"
+phase_text (phase.ToMove p dice) passing =
+    letter p ++ turn_words passing ++ decimal (pips dice.first) ++ codes " " ++ decimal (pips dice.second)
+phase_text (phase.Resigned p level back) passing = letter p ++ codes " resigns " ++ level_word level
+phase_text (phase.Over p) passing = letter p ++ codes " wins the match"
+
+abbrev pub phase_line : State → List ℕ
+phase_line s = phase_text s.phase (passes s)
 
 abbrev pub board_lines : State → List (List ℕ)
 board_lines s =
@@ -92,7 +103,7 @@ board_lines s =
     ∷ cells_line s.board lower_points
     ∷ numbers_line lower_points
     ∷ aside_line s.board
-    ∷ phase_line s.phase
+    ∷ phase_line s
     ∷ []
 
 unfoldable pub board_text : State → List ℕ

@@ -59,9 +59,13 @@ plain_words =
 abbrev pub IsSeatShape : List (List ℕ) → Type 0
 IsSeatShape words = IsDiceShape (codes "roll") words ⊎ (IsMoveShape words ⊎ Contains plain_words words)
 
+-- what the referee's own lines are: an opening, or a pass
+abbrev pub IsOwnShape : List (List ℕ) → Type 0
+IsOwnShape words = IsDiceShape (codes "open") words ⊎ (words ≡ codes "pass" ∷ [])
+
 abbrev pub IsEntryShape : List (List ℕ) → Type 0
 IsEntryShape words =
-    IsDiceShape (codes "open") words
+    IsOwnShape words
     ⊎ ((player : Player) × (rest : List (List ℕ)) × (words ≡ letter player ∷ rest) × IsSeatShape rest)
 
 abbrev pub IsActionShape : List (List ℕ) → Type 0

@@ -1,12 +1,12 @@
 -- The text of an entry, and of an action.
-use Rattle.std.specs.Prelude.{◌≡◌, ◌==◌, ℕ, List, [], ◌∷◌, ◌++◌, map, Option, Some, None, IsSome, codes, if◌then◌else◌}
+use Rattle.std.specs.Prelude.{◌≡◌, ◌↔◌, ◌==◌, ℕ, List, [], ◌∷◌, ◌++◌, map, Option, Some, None, codes, if◌then◌else◌}
 use Rattle.std.specs.Fmt.{decimal}
 use Rattle.bg_board.specs.Die.{pips}
 use Rattle.bg_board.specs.FromTo.{FromTo}
 use Rattle.bg_board.specs.declared.dice.Die.{Die}
 use Rattle.bg_board.specs.declared.players.Player.{Player}
 use Rattle.bg_board.specs.PlayerName.{player_name}
-use Rattle.bg_match.specs.Entry.{IsEntry}
+use Rattle.bg_match.specs.Entry.{IsEntry, IsByReferee}
 use Rattle.bg_match.specs.declared.actions.Action.{Action}
 use Rattle.bg_match.specs.declared.actions.Action.TheVariants as action
 use Rattle.bg_match.specs.declared.entries.Entry.{Entry}
@@ -48,8 +48,9 @@ entry_words (entry.Moved steps) = codes "move" ∷ map step_text steps
 entry_words (entry.Resigned level) = codes "resign" ∷ level_word level ∷ []
 entry_words entry.Accepted = codes "accept" ∷ []
 entry_words entry.Rejected = codes "reject" ∷ []
+entry_words entry.Passed = codes "pass" ∷ []
 
--- the referee, who makes the openings, has no letter
+-- the referee has no letter
 abbrev pub seat_words : Option Player → List (List ℕ)
 seat_words None = []
 seat_words (Some player) = letter player ∷ []
@@ -58,10 +59,9 @@ seat_words (Some player) = letter player ∷ []
 abbrev pub entry_text : Option Player → Entry → List ℕ
 entry_text seat e = spaced (seat_words seat ++ entry_words e)
 
--- an opening is the referee's, and any other entry a seat's
+-- a seat makes each entry, but for the referee's own
 abbrev pub IsSeatOf : Option Player → Entry → Type 0
-IsSeatOf seat (entry.Opening x o) = seat ≡ None
-IsSeatOf seat _ = IsSome seat
+IsSeatOf seat e = (seat ≡ None) ↔ IsByReferee e
 
 -- one line is the line of one entry, and of one seat
 abbrev pub EntryTextsDiffer : Type 0

@@ -4,14 +4,15 @@ use Rattle.std.specs.Prelude.{slice_index_or, Option, Some, IsTrue, codes, if◌
 use Rattle.std.specs.List.{onto_first}
 use Rattle.std.specs.Fmt.{decimal}
 use Rattle.std.specs.Str.{all_ascii_digits}
-use Rattle.bg_match.specs.Terms.{Terms}
+use Rattle.bg_match.specs.Terms.{Terms, match_length}
 use Rattle.bg_board.specs.declared.players.Player.{Player}
 use Rattle.bg_match.specs.State.{State, start_of}
-use Rattle.bg_match.specs.Limits.{most_entries, shortest_match, longest_match}
+use Rattle.bg_match.specs.Limits.{most_entries, shortest_match, longest_match, IsMatchLength}
 use Rattle.bg_match.specs.Actor.{actor_of, seat_of}
 use Rattle.bg_match.specs.Follows.{IsEntryFault}
 use Rattle.bg_match.specs.Entry.{IsEntry}
 use Rattle.bg_match.specs.Match.{StandsAt}
+use Rattle.bg_match.specs.declared.limits.Rules.{Rules}
 use Rattle.bg_match.specs.declared.entries.Entry.{Entry}
 use Rattle.bg_match.specs.declared.entries.EntryFault.{EntryFault}
 use Rattle.bg_match.specs.declared.entries.EntryFault.TheVariants.{RecordFull}
@@ -19,6 +20,7 @@ use Rattle.bg_text.specs.BoardText.{line_text, board_text}
 use Rattle.bg_text.specs.EntryText.{entry_text, IsSeatOf}
 use Rattle.bg_text.specs.EntryShape.{IsEntryTextFault}
 use Rattle.bg_text.specs.Reason.{reason, text_reason}
+use Rattle.bg_text.specs.TermsText.{rules_mark}
 use Rattle.bg_text.specs.Transcript.{AreLinesOf, IsTranscript, length_line}
 use Rattle.bg_text.specs.Limits.{most_bytes}
 use Rattle.bg_text.specs.declared.faults.LineFault.{LineFault}
@@ -44,18 +46,21 @@ IsDigitsFault fault.LengthOutOfRange digits =
     AreLengthDigits digits × ((n : ℕ) → shortest_match ≤ n → n ≤ longest_match → digits ≡ decimal n → ⊥)
 IsDigitsFault _ digits = ⊥
 
--- what is wrong with line 1, or that there is none: the word length, a space and one to three digits are its shape
+-- what is wrong with line 1, or that there is none: the word length, a space, one to three digits and the mark of the
+-- rules are its shape
 abbrev pub IsLengthFault : LineFault → List (List ℕ) → Type 0
 IsLengthFault fault.NotALengthLine [] = Unit {0}
 IsLengthFault fault.NotALengthLine (line ∷ lines) =
-    (digits : List ℕ) → line ≡ codes "length " ++ digits → AreLengthDigits digits → ⊥
+    (digits : List ℕ) (rules : Rules) → line ≡ codes "length " ++ digits ++ rules_mark rules
+    → AreLengthDigits digits → ⊥
 IsLengthFault fault.LengthOutOfRange (line ∷ lines) =
-    (digits : List ℕ) × (line ≡ codes "length " ++ digits) × IsDigitsFault fault.LengthOutOfRange digits
+    (digits : List ℕ) × (rules : Rules) × (line ≡ codes "length " ++ digits ++ rules_mark rules)
+    × IsDigitsFault fault.LengthOutOfRange digits
 IsLengthFault _ lines = ⊥
 
 -- the line names a seat where another must act
 abbrev pub IsWrongSeat : Option Player → State → Type 0
-IsWrongSeat seat s = (p q : Player) × (seat ≡ Some p) × (seat_of (actor_of s.phase) ≡ Some q) × (p ≢ q)
+IsWrongSeat seat s = (p q : Player) × (seat ≡ Some p) × (seat_of (actor_of s) ≡ Some q) × (p ≢ q)
 
 -- why an entry can't follow n entries that lead to s
 abbrev pub IsRefusal : EntryFault → ℕ → State → Entry → Type 0
@@ -73,7 +78,7 @@ IsLineFault (fault.Entry why) n s line =
     × (IsWrongSeat seat s → ⊥) × IsRefusal why n s e
 IsLineFault _ n s line = ⊥
 
--- the first n lines are those of a legal record of a match of this length, which stands at t
+-- the first n lines are those of a legal record of a match of these terms, which stands at t
 abbrev pub StandsAfter : Terms → List (List ℕ) → ℕ → State → Type 0
 StandsAfter terms lines n t =
     (n ≤ length lines) × (n ≤ most_entries)
@@ -132,7 +137,8 @@ abbrev pub IsAnswerTo : List (List ℕ) → List ℕ → Verdict → Type 0
 IsAnswerTo [] text verdict = IsRefusedAtOnce [] text verdict
 IsAnswerTo (line ∷ lines) text verdict =
     IsRefusedAtOnce (line ∷ lines) text verdict
-    ⊎ ((n : ℕ) × (shortest_match ≤ n) × (n ≤ longest_match) × (line ≡ length_line n) × IsJudged n lines text verdict)
+    ⊎ ((terms : Terms) × IsMatchLength (match_length terms) × (line ≡ length_line terms)
+    × IsJudged terms lines text verdict)
 
 abbrev pub IsJudgement : List ℕ → List ℕ → Verdict → Type 0
 IsJudgement input text verdict =
@@ -143,7 +149,7 @@ IsJudgement input text verdict =
 abbrev pub TranscriptsAreFine : Type 0
 TranscriptsAreFine =
     (terms : Terms) (entries : List Entry) (t : State) (input text : List ℕ) (verdict : Verdict)
-    → shortest_match ≤ terms → terms ≤ longest_match → length entries ≤ most_entries
+    → IsMatchLength (match_length terms) → length entries ≤ most_entries
     → StandsAt terms entries t → IsTranscript terms entries input
     → IsJudgement input text verdict
     ↔ ((verdict ≡ Fine (length entries)) × (text ≡ board_text t ++ line_text (fine_line (length entries))))

@@ -3,6 +3,7 @@ pub mod Devices
 pub mod DeviceParts
 pub mod Words
 pub mod EntryText
+pub mod TermsText
 pub mod EntryShape
 pub mod Pairs
 pub mod Lines

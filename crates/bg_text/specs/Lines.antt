@@ -4,7 +4,7 @@ use Rattle.std.specs.List.{AllByRecursion}
 use Rattle.bg_board.specs.FromTo.{FromTo}
 use Rattle.bg_board.specs.declared.players.Player.{Player}
 use Rattle.bg_turns.specs.Turn.{IsDownward}
-use Rattle.bg_match.specs.Entry.{IsEntry, IsAction}
+use Rattle.bg_match.specs.Entry.{IsEntry, IsAction, IsByReferee}
 use Rattle.bg_match.specs.declared.actions.Action.{Action}
 use Rattle.bg_match.specs.declared.actions.Action.TheVariants as action
 use Rattle.bg_match.specs.declared.entries.Entry.{Entry}
@@ -35,8 +35,7 @@ IsActionOf line (Err fault) = IsActionTextFault fault line
 
 -- an entry that a seat makes
 abbrev pub IsSeatEntry : Entry → Type 0
-IsSeatEntry (entry.Opening x o) = ⊥
-IsSeatEntry _ = Unit {0}
+IsSeatEntry e = IsByReferee e → ⊥
 
 -- what is wrong with a line behind the player's letter
 abbrev pub IsSeatFault : TextFault → List ℕ → Type 0

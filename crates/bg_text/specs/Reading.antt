@@ -26,7 +26,7 @@ IsReadAs s line e =
 
 -- the line is that of an entry which follows s
 abbrev pub IsLineAt : State → List ℕ → Entry → Type 0
-IsLineAt s line e = (line ≡ entry_text (seat_of (actor_of s.phase)) e) × ((t : State) × Follows s e t)
+IsLineAt s line e = (line ≡ entry_text (seat_of (actor_of s)) e) × ((t : State) × Follows s e t)
 
 -- new is old with the entry of a line
 abbrev pub AddsLine : Log → Log → List ℕ → Type 0
@@ -53,13 +53,13 @@ pub record IsPartRead (terms : Terms) (lines : List (List ℕ)) (r : Log) (rest 
   pub state : State
   pub entries : AreLinesOf (start_of terms) r.entries done state
   pub few : length r.entries ≤ most_entries
-  pub same_length : r.terms ≡ terms
+  pub same_terms : r.terms ≡ terms
 
 -- new is old with the line of the entry of this number
 abbrev pub AddsLineOf : Log → ℕ → List ℕ → List ℕ → Type 0
 AddsLineOf r number old new =
     (s : State) × (e : Entry) × StandsAt r.terms (take (number - 1) r.entries) s × (at_number r.entries number ≡ Some e)
-    × (new ≡ old ++ line_text (entry_text (seat_of (actor_of s.phase)) e))
+    × (new ≡ old ++ line_text (entry_text (seat_of (actor_of s)) e))
 
 -- the lines so far of the transcript of a record, whose next entry has this number
 pub record IsPartWritten (r : Log) (number : ℕ) (text : List ℕ) : Type 0 where

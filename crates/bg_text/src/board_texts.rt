@@ -2,14 +2,17 @@
 ghost use Rattle.std.specs.Prelude.{◌≡◌, ◌≤◌, ◌++◌, ◌-◌, replicate, IfOk, OnOk, IsTrue};
 ghost use Rattle.std.specs.List.{list_all};
 ghost use Rattle.std.specs.Fmt.{decimal};
+ghost use Rattle.bg_match.specs.Actor.{passes};
+ghost use Rattle.bg_turns.specs.declared.throws.Dice.{Dice};
 ghost use Rattle.bg_text.specs.BoardText.{board_text as text_of_board, line_text, header_line, game_part, score_part};
 ghost use Rattle.bg_text.specs.BoardText.{cube_part, crawford_mark as mark, owner_word, in_four, cell, cells_line};
-ghost use Rattle.bg_text.specs.BoardText.{numbers_line, counts_part, aside_line, phase_line, is_point};
+ghost use Rattle.bg_text.specs.BoardText.{numbers_line, counts_part, aside_line, phase_line, turn_words, is_point};
 
 use crate::names::{letter, level_word};
 use crate::printing::{put_number, put_text};
+use crate::terms_texts::put_terms;
 use bg_board::{BAR, Board, OFF, Player};
-use bg_match::{Cube, Phase, Standing};
+use bg_match::{Actor, Cube, Phase, Standing};
 use std::alloc::{AllocError, Global};
 
 /// The points of the upper half of the board, in X's numbering.
@@ -33,11 +36,11 @@ pub fn board_text(alloc: Global, standing: &Standing) -> Result<Vec<u8>, AllocEr
     put_cells(&mut out, &board, &LOWER)?;
     put_numbers(&mut out, &LOWER)?;
     put_aside(&mut out, &board)?;
-    put_phase(&mut out, standing.phase())?;
+    put_phase(&mut out, standing)?;
     Ok(out)
 }
 
-/// Adds the first line: length, game, score and cube.
+/// Adds the first line: length, rules, game, score and cube.
 fn put_header(out: &mut Vec<u8>, standing: &Standing) -> Result<(), AllocError>
     ensures { OnOk result (out.new.items ≡ out.old.items ++ line_text (header_line standing.now)) }
 {
@@ -49,12 +52,11 @@ fn put_header(out: &mut Vec<u8>, standing: &Standing) -> Result<(), AllocError>
     Ok(())
 }
 
-/// Adds what the header says of the length and the number of the game.
+/// Adds what the header says of the length, the rules and the number of the game.
 fn put_game(out: &mut Vec<u8>, standing: &Standing) -> Result<(), AllocError>
     ensures { OnOk result (out.new.items ≡ out.old.items ++ game_part standing.now) }
 {
-    put_text(out, "length ")?;
-    put_number(out, standing.length().into())?;
+    put_terms(out, standing.length(), standing.rules())?;
     put_text(out, " game ")?;
     put_number(out, standing.game().into())
 }
@@ -181,18 +183,18 @@ fn put_counts(out: &mut Vec<u8>, board: &Board, point: u8) -> Result<(), AllocEr
 }
 
 /// Adds the last line: what is to happen next.
-fn put_phase(out: &mut Vec<u8>, phase: Phase) -> Result<(), AllocError>
-    ensures { OnOk result (out.new.items ≡ out.old.items ++ line_text (phase_line phase)) }
+fn put_phase(out: &mut Vec<u8>, standing: &Standing) -> Result<(), AllocError>
+    ensures { OnOk result (out.new.items ≡ out.old.items ++ line_text (phase_line standing.now)) }
 {
-    put_phase_words(out, phase)?;
+    put_phase_words(out, standing)?;
     put_text(out, "\n")
 }
 
 /// Adds what is to happen next.
-fn put_phase_words(out: &mut Vec<u8>, phase: Phase) -> Result<(), AllocError>
-    ensures { OnOk result (out.new.items ≡ out.old.items ++ phase_line phase) }
+fn put_phase_words(out: &mut Vec<u8>, standing: &Standing) -> Result<(), AllocError>
+    ensures { OnOk result (out.new.items ≡ out.old.items ++ phase_line standing.now) }
 {
-    match phase {
+    match standing.phase() {
         Phase::Opening => put_text(out, "opening"),
         Phase::ToAct(player) => {
             put_text(out, letter(player))?;
@@ -204,7 +206,7 @@ fn put_phase_words(out: &mut Vec<u8>, phase: Phase) -> Result<(), AllocError>
         }
         Phase::ToMove(player, dice) => {
             put_text(out, letter(player))?;
-            put_text(out, " to move ")?;
+            put_text(out, doing(standing))?;
             put_number(out, dice.first.pips().into())?;
             put_text(out, " ")?;
             put_number(out, dice.second.pips().into())
@@ -218,5 +220,16 @@ fn put_phase_words(out: &mut Vec<u8>, phase: Phase) -> Result<(), AllocError>
             put_text(out, letter(player))?;
             put_text(out, " wins the match")
         }
+    }
+}
+
+/// What is to become of a turn: the referee, where he acts, passes it.
+fn doing(standing: &Standing) -> &'static str
+    ensures { (player : Player) (dice : Dice) → standing.now.phase ≡ Phase.ToMove player dice
+        → result.now ≡ turn_words (passes standing.now) }
+{
+    match standing.actor() {
+        Actor::Referee => " to pass ",
+        Actor::Seat(_) | Actor::Nobody => " to move ",
     }
 }

@@ -1,17 +1,11 @@
-//! The input of the judge: its bytes and lines, and the length of the match.
-ghost use Rattle.std.specs.Prelude.{◌≡◌, ◌≤◌, ◌+◌, ◌<◌, ◌↔◌, ◌∷◌, [], length, IsNone, IfSome, IfOk, IfErr};
-ghost use Rattle.std.specs.Fmt.{decimal};
+//! The input of the judge: its bytes and lines.
+ghost use Rattle.std.specs.Prelude.{◌≡◌, ◌≤◌, ◌+◌, ◌<◌, ◌↔◌, ◌∷◌, [], length, IsNone, IfSome, IfOk};
 ghost use Rattle.bg_text.specs.Limits.{most_bytes};
-ghost use Rattle.bg_match.specs.Limits.{longest_match, shortest_match};
-ghost use Rattle.bg_text.specs.Judging.{lines_of, IsLengthFault, IsDigitsFault};
+ghost use Rattle.bg_text.specs.Judging.{lines_of};
 ghost use Rattle.bg_text.specs.EngineFault.{ReadsFailOnce};
-ghost use Rattle.bg_text.specs.Transcript.{length_line};
 ghost use Rattle.bg_text.specs.Transfers.{ReadsInput};
 
-use crate::faults::LineFault;
-use crate::pairs::read_number;
-use crate::{EngineFault, Source, TextFault};
-use bg_match::{LONGEST_MATCH, SHORTEST_MATCH};
+use crate::{EngineFault, Source};
 use memchr::memchr;
 use std::alloc::Global;
 
@@ -57,31 +51,5 @@ pub fn split_line(input: &[u8]) -> Option<(&[u8], &[u8])>
     match memchr(b'\n', input) {
         Some(end) => Some((&input[..end], &input[end + 1..])),
         None => Some((input, &[])),
-    }
-}
-
-/// The length that line 1 says.
-pub(crate) fn read_length(line: &[u8]) -> Result<u8, LineFault>
-    ensures found { IfOk result (λ length. (shortest_match ≤ length) × (length ≤ longest_match)
-        × (line.now ≡ length_line length)) }
-    ensures fault { IfErr result (λ fault. IsLengthFault fault (line.now ∷ [])) }
-{
-    match line.strip_prefix(b"length ") {
-        Some(digits) => read_digits(digits),
-        None => Err(LineFault::NotALengthLine),
-    }
-}
-
-/// The length that one to three digits say.
-fn read_digits(digits: &[u8]) -> Result<u8, LineFault>
-    ensures found { IfOk result (λ length. (shortest_match ≤ length) × (length ≤ longest_match)
-        × (digits.now ≡ decimal length)) }
-    ensures fault { IfErr result (λ fault. IsDigitsFault fault digits.now) }
-{
-    match (read_number(digits), digits) {
-        (Ok(length @ SHORTEST_MATCH..=LONGEST_MATCH), _) => Ok(length),
-        (Ok(_) | Err(TextFault::BadNumber), _) => Err(LineFault::LengthOutOfRange),
-        (Err(_), [b'0'..=b'9', b'0'..=b'9', b'0'..=b'9']) => Err(LineFault::LengthOutOfRange),
-        (Err(_), _) => Err(LineFault::NotALengthLine),
     }
 }

@@ -6,7 +6,7 @@ use crate::{
 };
 use arrayvec::ArrayVec;
 use bg_board::{Board, Die, Player, Step};
-use bg_match::{Cube, Entry, Level, MOST_ENTRIES, Phase, Record, Standing};
+use bg_match::{Cube, Entry, Level, MOST_ENTRIES, Phase, Record, Rules, Standing};
 use bg_turns::Turn;
 use std::alloc::{AllocError, Global};
 use std::io::{self, ErrorKind, Read, Write};
@@ -37,13 +37,13 @@ const UPPER_NUMBERS: &str = "  13  14  15  16  17  18  19  20  21  22  23  24";
 
 const LOWER_NUMBERS: &str = "  12  11  10   9   8   7   6   5   4   3   2   1";
 
-const UPPER: &str = "  X5   .   .   .  O3   .  O5   .   .   .   .  X2";
+pub(crate) const UPPER: &str = "  X5   .   .   .  O3   .  O5   .   .   .   .  X2";
 
-const LOWER: &str = "  O5   .   .   .  X3   .  X5   .   .   .   .  O2";
+pub(crate) const LOWER: &str = "  O5   .   .   .  X3   .  X5   .   .   .   .  O2";
 
 const OPENED: &str = "  O5   .   .   .  X2   .  X4  X2   .   .   .  O2";
 
-const ASIDE: &str = "bar X 0 O 0 off X 0 O 0";
+pub(crate) const ASIDE: &str = "bar X 0 O 0 off X 0 O 0";
 
 /// Lines, each with its line feed.
 fn lines(alloc: Global, lines: &[&str]) -> Result<Vec<u8>, Fail> {
@@ -56,7 +56,7 @@ fn lines(alloc: Global, lines: &[&str]) -> Result<Vec<u8>, Fail> {
 }
 
 /// The picture of a board: the header, the upper and the lower points, the bar and what is off, and the phase.
-fn picture(alloc: Global, board: [&str; 5]) -> Result<Vec<u8>, Fail> {
+pub(crate) fn picture(alloc: Global, board: [&str; 5]) -> Result<Vec<u8>, Fail> {
     let [header, upper, lower, aside, phase] = board;
     let parts = [
         header,
@@ -71,7 +71,7 @@ fn picture(alloc: Global, board: [&str; 5]) -> Result<Vec<u8>, Fail> {
 }
 
 /// The judge says this of an input.
-fn check_judged(
+pub(crate) fn check_judged(
     rt: &(impl AllocGlobal + Abort),
     input: &[u8],
     text: Vec<u8>,
@@ -119,7 +119,7 @@ fn check_parts(
 }
 
 /// How many checkers stand on each point, of the points that have some.
-fn counts(points: &[(usize, u8)]) -> [u8; 26] {
+pub(crate) fn counts(points: &[(usize, u8)]) -> [u8; 26] {
     let mut counts = [0; 26];
     for &(point, count) in points {
         if point < 26 {
@@ -148,7 +148,7 @@ fn first_turn(rt: &impl Abort) -> Turn {
 
 /// The record of MATCH, also where memory for an entry is refused once.
 fn record(rt: &(impl AllocGlobal + Abort)) -> Result<Record, Fail> {
-    let mut record = Record::new(rt.alloc(), 1, 1)?;
+    let mut record = Record::new(rt.alloc(), 1, 1, Rules::One)?;
     let moved = Entry::Moved(first_turn(rt));
     for entry in [Entry::Opening(Die::Three, Die::One), moved] {
         if record.push(entry.copy()).is_err() {
@@ -274,7 +274,7 @@ fn boards_after_resignations(rt: HostRuntime) -> Result<(), Fail> {
 }
 
 /// The board of a standing is drawn so.
-fn check_picture(
+pub(crate) fn check_picture(
     rt: &(impl AllocGlobal + Abort),
     standing: &Standing,
     board: [&str; 5],
@@ -299,10 +299,9 @@ fn transcript_of_a_record(rt: HostRuntime) -> Result<(), Fail> {
     check_judged(&rt, &transcript, text, Verdict::Fine(2))
 }
 
-/// The standing of the first game of a match of length 3 where X is to act, with these checkers.
 /// A record that is full: an opening, offers and their replies, and an offer.
-fn full_record(alloc: Global) -> Result<Record, Fail> {
-    let mut record = Record::new(alloc, 1, 99)?;
+pub(crate) fn full_record(alloc: Global, rules: Rules) -> Result<Record, Fail> {
+    let mut record = Record::new(alloc, 1, 99, rules)?;
     record.push(Entry::Opening(Die::Three, Die::One))?;
     for _ in 0..499_999 {
         record.push(Entry::Resigned(Level::Backgammon))?;
@@ -314,7 +313,7 @@ fn full_record(alloc: Global) -> Result<Record, Fail> {
 
 #[test]
 fn transcript_of_a_full_record(rt: HostRuntime) -> Result<(), Fail> {
-    let record = full_record(rt.alloc())?;
+    let record = full_record(rt.alloc(), Rules::One)?;
     assert_eq!(rt; record.len(), MOST_ENTRIES);
     let text = transcript_text(rt.alloc(), &record)?;
     assert!(rt; text.len() == 10 + 9 + 499_999 * (20 + 9) + 20);
@@ -324,6 +323,7 @@ fn transcript_of_a_full_record(rt: HostRuntime) -> Result<(), Fail> {
     Ok(())
 }
 
+/// The standing of the first game of a match of length 3 where X is to act, with these checkers.
 fn standing_of(x: [u8; 26], o: [u8; 26]) -> Result<Standing, Fail> {
     let cube = Cube {
         value: 1,
@@ -331,7 +331,7 @@ fn standing_of(x: [u8; 26], o: [u8; 26]) -> Result<Standing, Fail> {
     };
     let board = Board::from_counts(x, o)?;
     let phase = Phase::ToAct(Player::X);
-    let standing = Standing::from_parts(3, board, phase, cube, (0, 0), false, 1);
+    let standing = Standing::from_parts(3, Rules::One, board, phase, cube, (0, 0), false, 1);
     Ok(standing.ok_or("standing")?)
 }
 
@@ -359,7 +359,11 @@ fn checkers_on_the_bar_and_off(rt: HostRuntime) -> Result<(), Fail> {
 }
 
 /// The first line is refused, for this reason.
-fn check_line_1(rt: &(impl AllocGlobal + Abort), input: &[u8], why: &str) -> Result<(), Fail> {
+pub(crate) fn check_line_1(
+    rt: &(impl AllocGlobal + Abort),
+    input: &[u8],
+    why: &str,
+) -> Result<(), Fail> {
     let mut text = Vec::from_slice(rt.alloc(), b"refused at line 1: ")?;
     text.extend_from_slice(why.as_bytes())?;
     text.push(b'\n')?;

@@ -1,6 +1,8 @@
 //! The judge of a transcript.
 ghost use Rattle.std.specs.Prelude.{◌≡◌, ◌≢◌, ◌≤◌, ◌↔◌, ◌+◌, ℕ, length, List, Ok, IsTrue, OnOk, OnErr, IfOk, IfErr};
 ghost use Rattle.std.specs.Prelude.{IfSome};
+ghost use Rattle.bg_match.specs.Limits.{IsMatchLength};
+ghost use Rattle.bg_match.specs.Terms.{match_length};
 ghost use Rattle.bg_match.specs.declared.entries.Entry.{Entry};
 ghost use Rattle.bg_text.specs.EngineFault.{SourceFails, SinkFails};
 ghost use Rattle.bg_text.specs.Judging.{lines_of, IsWrongSeat, IsLineFault, IsJudged, IsJudgement};
@@ -10,19 +12,20 @@ ghost use Rattle.bg_text.specs.Reading.{IsReadAs, IsLineAt, AddsLine, RefusesLin
 ghost use Rattle.bg_text.specs.Transfers.{ReadsInput, WritesText};
 
 use crate::faults::LineFault;
-use crate::inputs::{MOST_BYTES, read_input, read_length, split_line};
+use crate::inputs::{MOST_BYTES, read_input, split_line};
 use crate::judgements::{fine, refused, refused_at_once, too_long};
+use crate::length_lines::read_terms;
 use crate::lines::parse_entry;
 use crate::{EngineFault, Judgement, Sink, Source, Verdict};
 use bg_board::Player;
-use bg_match::{Entry, EntryFault, Record, Standing};
+use bg_match::{Entry, EntryFault, Record, Standing, Terms};
 use std::alloc::{AllocError, Global};
 
 /// Whether a line names a seat where the other seat must act.
 fn is_wrong_seat(seat: Option<Player>, standing: &Standing) -> bool
     ensures { IsTrue result ↔ IsWrongSeat seat standing.now }
 {
-    match (seat, standing.phase().actor().seat()) {
+    match (seat, standing.actor().seat()) {
         (Some(named), Some(acting)) => named != acting,
         _ => false,
     }
@@ -84,13 +87,12 @@ fn add_line(log: &mut Record, line: &[u8]) -> Result<(), AddFault>
     Ok(())
 }
 
-/// Judges the lines after line 1 of a match of this length.
-fn judge_lines(alloc: Global, length: u8, lines: &[u8]) -> Result<Judgement, AllocError>
-    requires shortest { 1 ≤ length }
-    requires longest { length ≤ 99 }
-    ensures { IfOk result (λ judgement. IsJudged length (lines_of lines.now) judgement.text.items judgement.verdict) }
+/// Judges the lines after line 1 of a match of these terms.
+fn judge_lines(alloc: Global, terms: Terms, lines: &[u8]) -> Result<Judgement, AllocError>
+    requires { IsMatchLength (match_length terms) }
+    ensures { IfOk result (λ judgement. IsJudged terms (lines_of lines.now) judgement.text.items judgement.verdict) }
 {
-    let mut log = Record::new(alloc, 0, length).unwrap();
+    let mut log = Record::new(alloc, 0, terms.length, terms.rules).unwrap();
     let mut rest = lines;
     while let Some((line, after)) = split_line(rest) {
         match add_line(&mut log, line) {
@@ -116,8 +118,8 @@ pub fn judge_text(alloc: Global, input: &[u8]) -> Result<Judgement, AllocError>
     let Some((line, lines)) = split_line(input) else {
         return refused_at_once(alloc, LineFault::NotALengthLine);
     };
-    match read_length(line) {
-        Ok(length) => judge_lines(alloc, length, lines),
+    match read_terms(line) {
+        Ok(terms) => judge_lines(alloc, terms, lines),
         Err(why) => refused_at_once(alloc, why),
     }
 }

@@ -20,11 +20,17 @@ mod inputs;
 mod judge_tests;
 mod judgements;
 mod judging;
+mod length_lines;
 mod lines;
 mod names;
 mod pairs;
+#[cfg(test)]
+mod pass_tests;
 mod printing;
 mod reasons;
+#[cfg(test)]
+mod rules_tests;
+mod terms_texts;
 #[cfg(test)]
 mod tests;
 mod transcripts;
@@ -42,6 +48,7 @@ pub use judging::{judge, judge_text, judgements_agree, transcripts_are_fine};
 pub use lines::{parse_action, parse_entry, split_player};
 pub use printing::{put_number, put_text};
 pub use reasons::reason_text;
+pub use terms_texts::put_terms;
 pub use transcripts::transcript_text;
 pub use verdicts::{EngineFault, Verdict};
 pub use words::thirds;

@@ -1,5 +1,5 @@
 //! The lines of entries and actions.
-ghost use Rattle.std.specs.Prelude.{◌≡◌, ℕ, List, ◌∷◌, ◌++◌, Option, Ok, IfOk, IfErr, MatchOption};
+ghost use Rattle.std.specs.Prelude.{◌≡◌, ◌↔◌, ℕ, List, ◌∷◌, ◌++◌, Option, Ok, IfOk, IfErr, IsTrue, MatchOption, codes};
 ghost use Rattle.bg_board.specs.declared.players.Player.{Player};
 ghost use Rattle.bg_match.specs.Entry.{IsEntry, IsAction};
 ghost use Rattle.bg_match.specs.declared.actions.Action.{Action};
@@ -108,6 +108,13 @@ pub fn split_player(line: &[u8]) -> Option<(Player, &[u8])>
     }
 }
 
+/// Whether a line passes a turn.
+fn is_pass(line: &[u8]) -> bool
+    ensures { IsTrue result ↔ (line.now ≡ codes "pass") }
+{
+    matches!(line, b"pass")
+}
+
 /// The entry of a line and the seat that made it, or what is wrong with the line.
 fn read_entry(line: &[u8]) -> Result<(Option<Player>, Entry), TextFault>
     ensures { IsEntryOf line.now result }
@@ -115,6 +122,9 @@ fn read_entry(line: &[u8]) -> Result<(Option<Player>, Entry), TextFault>
     if let Some(numbers) = rest_after(line, b"open ") {
         let (x, o) = read_dice(numbers)?;
         return Ok((None, Entry::Opening(x, o)));
+    }
+    if is_pass(line) {
+        return Ok((None, Entry::Passed));
     }
     let Some((player, rest)) = split_player(line) else {
         return Err(TextFault::NotALine);
@@ -124,7 +134,7 @@ fn read_entry(line: &[u8]) -> Result<(Option<Player>, Entry), TextFault>
 }
 
 /// Reads the text of an action: an entry's line without the player's letter and its space, where `roll` stands
-/// without dice and `open` is no action (docs/FORMATS.md, "Actions").
+/// without dice, and `open` and `pass` are no actions (docs/FORMATS.md, "Actions").
 ///
 /// It is `Ok` exactly on the texts of actions. The points of a move are in the player's own numbering, 25 standing
 /// for the bar and 0 for off; each step leads down. The faults are those of [`parse_entry`], in the same order.
@@ -138,7 +148,7 @@ pub fn parse_action(line: &[u8]) -> Result<Action, TextFault>
 }
 
 /// Reads the line of an entry, without its line feed (docs/FORMATS.md, "Entry lines"). It gives the entry, and the
-/// seat that made it or none for an opening, which is the referee's.
+/// seat that made it or none for an opening or a pass, which are the referee's.
 ///
 /// It is `Ok` exactly on the texts of [`entry_text`](crate::entry_text), and gives what was written. The points of a
 /// move are in the numbering of the player whose letter begins the line, 25 standing for the bar and 0 for off; each

@@ -69,10 +69,11 @@ fn lines_of_resignations(rt: HostRuntime) {
     }
     check_entry(&rt, "O accept", Some(Player::O), Entry::Accepted);
     check_entry(&rt, "X reject", Some(Player::X), Entry::Rejected);
+    check_entry(&rt, "pass", None, Entry::Passed);
 }
 
 /// Lines that are no entry, and why.
-const NO_ENTRIES: [(&str, TextFault); 34] = [
+const NO_ENTRIES: [(&str, TextFault); 44] = [
     ("X move 0-off", TextFault::BadNumber),
     ("X move 25-20", TextFault::BadNumber),
     ("X move 3-0", TextFault::BadNumber),
@@ -110,6 +111,16 @@ const NO_ENTRIES: [(&str, TextFault); 34] = [
     ("X take\r", TextFault::NotALine),
     ("X take\0", TextFault::NotALine),
     ("X take\u{80}", TextFault::NotALine),
+    ("X pass", TextFault::NotALine),
+    ("O pass", TextFault::NotALine),
+    ("pass 1", TextFault::NotALine),
+    ("pass 8-5", TextFault::NotALine),
+    ("pass ", TextFault::NotALine),
+    (" pass", TextFault::NotALine),
+    ("passed", TextFault::NotALine),
+    ("pas", TextFault::NotALine),
+    ("Pass", TextFault::NotALine),
+    ("pass\0", TextFault::NotALine),
 ];
 
 #[test]
@@ -150,8 +161,9 @@ fn lines_of_actions(rt: HostRuntime) {
 }
 
 /// Lines that are no action, and why.
-const NO_ACTIONS: [(&str, TextFault); 5] = [
+const NO_ACTIONS: [(&str, TextFault); 6] = [
     ("open 3 1", TextFault::NotALine),
+    ("pass", TextFault::NotALine),
     ("roll 3 1", TextFault::NotALine),
     ("X roll", TextFault::NotALine),
     ("move 03-1", TextFault::BadNumber),

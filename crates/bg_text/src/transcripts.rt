@@ -5,7 +5,8 @@ ghost use Rattle.bg_text.specs.BoardText.{line_text};
 ghost use Rattle.bg_text.specs.Reading.{AddsLineOf};
 ghost use Rattle.bg_text.specs.Transcript.{IsTranscript, length_line};
 
-use crate::printing::{put_number, put_text};
+use crate::printing::put_text;
+use crate::terms_texts::put_terms;
 use crate::writing::entry_text;
 use bg_match::{Number, Record};
 use std::alloc::{AllocError, Global};
@@ -18,7 +19,7 @@ pub fn transcript_text(alloc: Global, log: &Record) -> Result<Vec<u8>, AllocErro
     ensures { IfOk result (λ text. IsTranscript log.now.terms log.now.entries text.items) }
 {
     let mut text = Vec::new(alloc);
-    put_length(&mut text, log.length())?;
+    put_length(&mut text, log)?;
     for written in 0..log.len() {
         put_line(&mut text, log, written + 1)?;
     }
@@ -26,11 +27,10 @@ pub fn transcript_text(alloc: Global, log: &Record) -> Result<Vec<u8>, AllocErro
 }
 
 /// Adds the length line.
-fn put_length(out: &mut Vec<u8>, length: u8) -> Result<(), AllocError>
-    ensures { OnOk result (out.new.items ≡ out.old.items ++ line_text (length_line length)) }
+fn put_length(out: &mut Vec<u8>, log: &Record) -> Result<(), AllocError>
+    ensures { OnOk result (out.new.items ≡ out.old.items ++ line_text (length_line log.now.terms)) }
 {
-    put_text(out, "length ")?;
-    put_number(out, length.into())?;
+    put_terms(out, log.length(), log.rules())?;
     put_text(out, "\n")
 }
 

@@ -14,8 +14,8 @@ use bg_turns::Turn;
 use itoa::Buffer;
 
 /// The line of an entry, without a line feed, with the seat that made it (docs/FORMATS.md, "Entry lines"). An opening
-/// is the referee's and has no seat, and every other entry has one. The points of a move are in the numbering of that
-/// seat. The longest line has 34 bytes, a move of four steps from the bar to points above 9.
+/// and a pass are the referee's and have no seat, and every other entry has one. The points of a move are in the
+/// numbering of that seat. The longest line has 34 bytes, a move of four steps from the bar to points above 9.
 pub fn entry_text(seat: Option<Player>, entry: &Entry) -> ArrayString<40>
     requires { IsSeatOf seat entry.now }
     ensures { result.bytes ≡ entry_text seat entry.now }
@@ -52,6 +52,7 @@ fn put_words(line: &mut ArrayString<40>, entry: &Entry)
         }
         Entry::Accepted => line.push_str("accept"),
         Entry::Rejected => line.push_str("reject"),
+        Entry::Passed => line.push_str("pass"),
     }
 }
 

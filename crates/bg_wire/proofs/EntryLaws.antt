@@ -9,7 +9,7 @@ use Rattle.bg_board.specs.declared.dice.Die.{Die}
 use Rattle.bg_board.specs.declared.dice.Die.TheVariants.{One, Two, Three, Four, Five, Six}
 use Rattle.bg_turns.specs.declared.throws.Dice.{Dice}
 use Rattle.bg_turns.specs.Turn.{IsDownward, IsTurn}
-use Rattle.bg_match.specs.Entry.{IsEntry, IsAction}
+use Rattle.bg_match.specs.Entry.{IsAction}
 use Rattle.bg_match.specs.declared.actions.Action.{Action}
 use Rattle.bg_match.specs.declared.actions.Action.TheVariants as action
 use Rattle.bg_match.specs.declared.entries.Entry.{Entry}
@@ -17,6 +17,9 @@ use Rattle.bg_match.specs.declared.entries.Entry.TheVariants as entry
 use Rattle.bg_match.specs.declared.levels.Level.{Level}
 use Rattle.bg_match.specs.declared.levels.Level.TheVariants.{Normal, Gammon, Backgammon}
 use Rattle.bg_wire.specs.Codes.{opening_code, rolled_code, doubled_code, taken_code, dropped_code, moved_code, resigned_code, accepted_code, rejected_code, normal_code, backgammon_code, least_pips, most_pips, lowest_start, bar, most_steps}
+use Rattle.bg_wire.specs.SavedLayouts.{last_code, IsEntryIn}
+use Rattle.bg_wire.specs.declared.saved_layouts.Layout.{Layout}
+use Rattle.bg_wire.specs.declared.saved_layouts.Layout.TheVariants as layouts
 use Rattle.bg_wire.specs.Reading.{◌>>=◌, Cursor, Read, u8_at, many_at, with}
 use Rattle.bg_wire.specs.EntryText.{step_bytes, turn_bytes, level_code, dice_bytes, action_bytes, entry_bytes}
 use Rattle.bg_wire.specs.EntryReading.{step_at, turn_at, level_of_code, level_at, die_at, dice_at, action_of, action_at, entry_of, entry_at}
@@ -298,7 +301,8 @@ EntryRest code =
     (Choice (code == moved_code) (Mapped entry.Moved (Spells IsTurn turn_bytes))
     (Choice (code == resigned_code) (Mapped entry.Resigned (Spells Always level_text))
     (Choice (code == accepted_code) (Nothing entry.Accepted)
-    (Nothing entry.Rejected))))))))
+    (Choice (code == rejected_code) (Nothing entry.Rejected)
+    (Nothing entry.Passed)))))))))
 
 entry_rest_law : (code : ℕ) → Law OneByte (entry_of code) (EntryRest code)
 unfolding entry_of
@@ -310,7 +314,9 @@ entry_rest_law code =
     (choice_law (code == dropped_code) (λ c. Ok (entry.Dropped, c)) _ (done_law entry.Dropped)
     (choice_law (code == moved_code) (λ c. with entry.Moved (turn_at c)) _ (with_law entry.Moved turn_at turn_law)
     (choice_law (code == resigned_code) (λ c. with entry.Resigned (level_at c)) _ (with_law entry.Resigned level_at level_law)
-    (choice_law (code == accepted_code) (λ c. Ok (entry.Accepted, c)) (λ c. Ok (entry.Rejected, c)) (done_law entry.Accepted) (done_law entry.Rejected))))))))
+    (choice_law (code == accepted_code) (λ c. Ok (entry.Accepted, c)) _ (done_law entry.Accepted)
+    (choice_law (code == rejected_code) (λ c. Ok (entry.Rejected, c)) (λ c. Ok (entry.Passed, c))
+    (done_law entry.Rejected) (done_law entry.Passed)))))))))
 
 has_entry_rest : (code : ℕ) → HasText (EntryRest code)
 has_entry_rest code =
@@ -322,43 +328,88 @@ has_entry_rest code =
     (has_choice (code == moved_code) (has_mapped entry.Moved has_turn)
     (has_choice (code == resigned_code) (has_mapped entry.Resigned has_level)
     (has_choice (code == accepted_code) (entry.Accepted, [], (refl, refl))
-    (entry.Rejected, [], (refl, refl)))))))))
+    (has_choice (code == rejected_code) (entry.Rejected, [], (refl, refl))
+    (entry.Passed, [], (refl, refl))))))))))
 
-entry_rest : (code : ℕ) (e : Entry) (rest : List ℕ) → opening_code ≤ code → code ≤ rejected_code → EntryRest code e rest → Spells IsEntry entry_bytes e (code ∷ rest)
-entry_rest zero e rest low high h = absurd (omega arith)
-entry_rest (suc zero) e rest low high h = follows IsEntry entry_bytes 1 opening_of Always throw_text e rest (λ x v. tt) (λ x. refl) h
-entry_rest (suc (suc zero)) e rest low high h = follows IsEntry entry_bytes 2 entry.Rolled Always throw_text e rest (λ x v. tt) (λ x. refl) h
-entry_rest (suc (suc (suc zero))) e rest low high h = nothing_follows IsEntry entry_bytes 3 entry.Doubled e rest tt refl h
-entry_rest (suc (suc (suc (suc zero)))) e rest low high h = nothing_follows IsEntry entry_bytes 4 entry.Taken e rest tt refl h
-entry_rest (suc (suc (suc (suc (suc zero))))) e rest low high h = nothing_follows IsEntry entry_bytes 5 entry.Dropped e rest tt refl h
-entry_rest (suc (suc (suc (suc (suc (suc zero)))))) e rest low high h = follows IsEntry entry_bytes 6 entry.Moved IsTurn turn_bytes e rest (λ x v. v) (λ x. refl) h
-entry_rest (suc (suc (suc (suc (suc (suc (suc zero))))))) e rest low high h = follows IsEntry entry_bytes 7 entry.Resigned Always level_text e rest (λ x v. tt) (λ x. refl) h
-entry_rest (suc (suc (suc (suc (suc (suc (suc (suc zero)))))))) e rest low high h = nothing_follows IsEntry entry_bytes 8 entry.Accepted e rest tt refl h
-entry_rest (suc (suc (suc (suc (suc (suc (suc (suc (suc zero))))))))) e rest low high h = nothing_follows IsEntry entry_bytes 9 entry.Rejected e rest tt refl h
-entry_rest (suc (suc (suc (suc (suc (suc (suc (suc (suc (suc n)))))))))) e rest low high h = absurd (omega arith)
+entry_rest : (layout : Layout) (code : ℕ) (e : Entry) (rest : List ℕ) → opening_code ≤ code → code ≤ last_code layout
+    → EntryRest code e rest → Spells (IsEntryIn layout) entry_bytes e (code ∷ rest)
+entry_rest layout zero e rest low high h = absurd (omega arith)
+entry_rest layout (suc zero) e rest low high h =
+    follows (IsEntryIn layout) entry_bytes 1 opening_of Always throw_text e rest (λ x v. tt) (λ x. refl) h
+entry_rest layout (suc (suc zero)) e rest low high h =
+    follows (IsEntryIn layout) entry_bytes 2 entry.Rolled Always throw_text e rest (λ x v. tt) (λ x. refl) h
+entry_rest layout (suc (suc (suc zero))) e rest low high h =
+    nothing_follows (IsEntryIn layout) entry_bytes 3 entry.Doubled e rest tt refl h
+entry_rest layout (suc (suc (suc (suc zero)))) e rest low high h =
+    nothing_follows (IsEntryIn layout) entry_bytes 4 entry.Taken e rest tt refl h
+entry_rest layout (suc (suc (suc (suc (suc zero))))) e rest low high h =
+    nothing_follows (IsEntryIn layout) entry_bytes 5 entry.Dropped e rest tt refl h
+entry_rest layout (suc (suc (suc (suc (suc (suc zero)))))) e rest low high h =
+    follows (IsEntryIn layout) entry_bytes 6 entry.Moved IsTurn turn_bytes e rest (λ x v. v) (λ x. refl) h
+entry_rest layout (suc (suc (suc (suc (suc (suc (suc zero))))))) e rest low high h =
+    follows (IsEntryIn layout) entry_bytes 7 entry.Resigned Always level_text e rest (λ x v. tt) (λ x. refl) h
+entry_rest layout (suc (suc (suc (suc (suc (suc (suc (suc zero)))))))) e rest low high h =
+    nothing_follows (IsEntryIn layout) entry_bytes 8 entry.Accepted e rest tt refl h
+entry_rest layout (suc (suc (suc (suc (suc (suc (suc (suc (suc zero))))))))) e rest low high h =
+    nothing_follows (IsEntryIn layout) entry_bytes 9 entry.Rejected e rest tt refl h
+entry_rest layouts.One (suc (suc (suc (suc (suc (suc (suc (suc (suc (suc zero)))))))))) e rest low high h =
+    absurd (omega arith)
+entry_rest layouts.Two (suc (suc (suc (suc (suc (suc (suc (suc (suc (suc zero)))))))))) e rest low high h =
+    nothing_follows (IsEntryIn layouts.Two) entry_bytes 10 entry.Passed e rest tt refl h
+entry_rest layouts.One (suc (suc (suc (suc (suc (suc (suc (suc (suc (suc (suc n))))))))))) e rest low high h =
+    absurd (omega arith)
+entry_rest layouts.Two (suc (suc (suc (suc (suc (suc (suc (suc (suc (suc (suc n))))))))))) e rest low high h =
+    absurd (omega arith)
 
-abbrev EntryParts : Entry → List ℕ → Type 0
-EntryParts = Then (Byte opening_code rejected_code) EntryRest
+abbrev EntryParts : Layout → Entry → List ℕ → Type 0
+EntryParts layout = Then (Byte opening_code (last_code layout)) EntryRest
 
-entry_to : (e : Entry) (front : List ℕ) → EntryParts e front → Spells IsEntry entry_bytes e front
-entry_to e front h =
+entry_to : (layout : Layout) (e : Entry) (front : List ℕ) → EntryParts layout e front
+    → Spells (IsEntryIn layout) entry_bytes e front
+entry_to layout e front h =
     let text : front ≡ h.0 ∷ h.2 = h.5 ∙ ap (λ (r : List ℕ). r ++ h.2) h.3.2 in
-    subst (λ (f : List ℕ). Spells IsEntry entry_bytes e f) (sym text) (entry_rest h.0 e h.2 h.3.0 h.3.1 h.4)
+    subst (λ (f : List ℕ). Spells (IsEntryIn layout) entry_bytes e f) (sym text)
+    (entry_rest layout h.0 e h.2 h.3.0 h.3.1 h.4)
 
-entry_from : (e : Entry) (front : List ℕ) → Spells IsEntry entry_bytes e front → EntryParts e front
-entry_from (entry.Opening x o) front h = (1, 1 ∷ [], dice_bytes x o, (omega arith, omega arith, refl), (dice_of x o, (tt, refl), refl), h.1)
-entry_from (entry.Rolled d) front h = (2, 2 ∷ [], throw_text d, (omega arith, omega arith, refl), (d, (tt, refl), refl), h.1)
-entry_from entry.Doubled front h = (3, 3 ∷ [], [], (omega arith, omega arith, refl), (refl, refl), h.1)
-entry_from entry.Taken front h = (4, 4 ∷ [], [], (omega arith, omega arith, refl), (refl, refl), h.1)
-entry_from entry.Dropped front h = (5, 5 ∷ [], [], (omega arith, omega arith, refl), (refl, refl), h.1)
-entry_from (entry.Moved t) front h = (6, 6 ∷ [], turn_bytes t, (omega arith, omega arith, refl), (t, (h.0, refl), refl), h.1)
-entry_from (entry.Resigned l) front h = (7, 7 ∷ [], level_text l, (omega arith, omega arith, refl), (l, (tt, refl), refl), h.1)
-entry_from entry.Accepted front h = (8, 8 ∷ [], [], (omega arith, omega arith, refl), (refl, refl), h.1)
-entry_from entry.Rejected front h = (9, 9 ∷ [], [], (omega arith, omega arith, refl), (refl, refl), h.1)
+rejected_fits : (layout : Layout) → rejected_code ≤ last_code layout
+rejected_fits layouts.One = omega arith
+rejected_fits layouts.Two = omega arith
 
-pub entry_law : Law OneByte entry_at (Spells IsEntry entry_bytes)
+entry_from : (layout : Layout) (e : Entry) (front : List ℕ) → Spells (IsEntryIn layout) entry_bytes e front
+    → EntryParts layout e front
+entry_from layout (entry.Opening x o) front h = (
+  1,
+  1 ∷ [],
+  dice_bytes x o,
+  (omega arith, omega (arith, rejected_fits layout), refl),
+  (dice_of x o, (tt, refl), refl),
+  h.1,
+)
+entry_from layout (entry.Rolled d) front h =
+    (2, 2 ∷ [], throw_text d, (omega arith, omega (arith, rejected_fits layout), refl), (d, (tt, refl), refl), h.1)
+entry_from layout entry.Doubled front h =
+    (3, 3 ∷ [], [], (omega arith, omega (arith, rejected_fits layout), refl), (refl, refl), h.1)
+entry_from layout entry.Taken front h =
+    (4, 4 ∷ [], [], (omega arith, omega (arith, rejected_fits layout), refl), (refl, refl), h.1)
+entry_from layout entry.Dropped front h =
+    (5, 5 ∷ [], [], (omega arith, omega (arith, rejected_fits layout), refl), (refl, refl), h.1)
+entry_from layout (entry.Moved t) front h =
+    (6, 6 ∷ [], turn_bytes t, (omega arith, omega (arith, rejected_fits layout), refl), (t, (h.0, refl), refl), h.1)
+entry_from layout (entry.Resigned l) front h =
+    (7, 7 ∷ [], level_text l, (omega arith, omega (arith, rejected_fits layout), refl), (l, (tt, refl), refl), h.1)
+entry_from layout entry.Accepted front h =
+    (8, 8 ∷ [], [], (omega arith, omega (arith, rejected_fits layout), refl), (refl, refl), h.1)
+entry_from layout entry.Rejected front h =
+    (9, 9 ∷ [], [], (omega arith, omega (arith, rejected_fits layout), refl), (refl, refl), h.1)
+entry_from layouts.One entry.Passed front h = absurd h.0
+entry_from layouts.Two entry.Passed front h = (10, 10 ∷ [], [], (omega arith, omega arith, refl), (refl, refl), h.1)
+
+pub entry_law : (layout : Layout) → Law OneByte (entry_at layout) (Spells (IsEntryIn layout) entry_bytes)
 unfolding entry_at
-entry_law = other_text _ entry_to entry_from (then_law (u8_at opening_code rejected_code) entry_of (byte_law opening_code rejected_code) entry_rest_law (λ code first h. has_entry_rest code))
+entry_law layout =
+    other_text _ (entry_to layout) (entry_from layout)
+    (then_law (u8_at opening_code (last_code layout)) entry_of (byte_law opening_code (last_code layout)) entry_rest_law
+    (λ code first h. has_entry_rest code))
 
-pub has_entry : HasText (Spells IsEntry entry_bytes)
-has_entry = (entry.Doubled, entry_bytes entry.Doubled, (tt, refl))
+pub has_entry : (layout : Layout) → HasText (Spells (IsEntryIn layout) entry_bytes)
+has_entry layout = (entry.Doubled, entry_bytes entry.Doubled, (tt, refl))

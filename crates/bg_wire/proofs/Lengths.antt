@@ -19,6 +19,7 @@ use Rattle.bg_wire.specs.SavedReading.{front_of, text_of_front}
 use Rattle.bg_wire.specs.SavedLayouts.{claim_text}
 use Rattle.bg_wire.specs.declared.saved_layouts.Layout.TheVariants.{Two}
 use Rattle.bg_wire.specs.SavedText.{SavedParts, saved_text, IsClaimOf, IsInLayout}
+use Rattle.bg_wire.proofs.ToldEntries.{all_told_of}
 
 pub length-steps : (steps : List FromTo) → length (flat_map step_bytes steps) ≡ 2 * length steps
 length-steps [] = refl
@@ -50,6 +51,7 @@ length-entry_text entry.Dropped h = omega arith
 length-entry_text (entry.Resigned level) h = omega arith
 length-entry_text entry.Accepted h = omega arith
 length-entry_text entry.Rejected h = omega arith
+length-entry_text entry.Passed h = omega arith
 
 length-entries_text : (entries : List Entry) → AllByRecursion IsEntry entries
     → length (entries_bytes entries) ≤ 10 * length entries
@@ -60,9 +62,10 @@ length-entries_text (e ∷ entries) h =
     omega (arith, first, both, length-entry_text e h.0, length-entries_text entries h.1)
 
 pub length-packet_text : (p : Packet) → IsPacket p → length (packet_text p) ≤ longest_packet
-length-packet_text (packet.Want id sender held) h = omega arith
-length-packet_text (packet.Claim id sender number action) h = omega (arith, length-action_text action h.action_in_range)
-length-packet_text (packet.Entries id start list) h = omega (arith, length-entries_text list h.in_range, h.few)
+length-packet_text (packet.Want id rules sender held) h = omega arith
+length-packet_text (packet.Claim id rules sender number action) h =
+    omega (arith, length-action_text action h.action_in_range)
+length-packet_text (packet.Entries id rules start list) h = omega (arith, length-entries_text list h.in_range, h.few)
 
 length-claim_text : (party : ℕ) (claim : Option (ℕ × Action)) → IsClaimOf party claim
     → length (claim_text Two claim) ≤ 15
@@ -78,4 +81,5 @@ length-front_text p h =
 pub length-saved_text : (p : SavedParts) → IsInLayout Two p → length (saved_text Two p) ≤ longest_saved_text
 length-saved_text p h =
     let all = length-append (text_of_front (front_of Two p)) (entries_bytes p.entries) in
-    omega (arith, all, length-front_text p h, length-entries_text p.entries h.in_range, h.few)
+    let told = all_told_of Two p.entries h.in_range in
+    omega (arith, all, length-front_text p h, length-entries_text p.entries told, h.few)

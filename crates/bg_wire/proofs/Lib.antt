@@ -3,6 +3,8 @@ pub mod Laws
 pub mod Fields
 pub mod Lengths
 pub mod EntryLaws
+pub mod ToldEntries
+pub mod RulesLaws
 pub mod PacketBodies
 pub mod PacketLaws
 pub mod SavedClaims

@@ -3,6 +3,7 @@ use Rattle.std.proofs.Common.{◌≡◌, ◌≢◌, ℕ, ◌+◌, ◌-◌, ◌<�
 use Rattle.std.specs.Prelude.{◌==◌, is_err, IsOk, IfOk, IfErr, OnOk, OnErr, ◌↔◌}
 use Rattle.std.proofs.lemmas.Bool.{cases_lt}
 use Rattle.std.proofs.lemmas.List.{length-append, take_at, take-take, take-append-drop}
+use Rattle.bg_match.specs.Terms.{Terms}
 use Rattle.bg_match.specs.Match.{Log, IsLegalRecord, IsRecordFault, IsNext}
 use Rattle.bg_match.specs.declared.entries.Entry.{Entry}
 use Rattle.bg_match.specs.declared.entries.EntryFault.{EntryFault}
@@ -26,18 +27,20 @@ use Rattle.bg_wire.proofs.SavedLaws.{saved_law, says_field, not_extra}
 -- ---- the first entry that does not follow
 
 -- a front of a legal record is legal, by its length
-legal_take : (m n : ℕ) (entries : List Entry) → IsLegalRecord m entries → IsLegalRecord m (take n entries)
+legal_take : (m : Terms) (n : ℕ) (entries : List Entry) → IsLegalRecord m entries → IsLegalRecord m (take n entries)
 legal_take m n entries h = legal_fronts m (take n entries) (drop n entries) (subst (IsLegalRecord m) (sym (take-append-drop n entries)) h)
 
-pub not_legal : (m n : ℕ) (entries : List Entry) → IsFirstIllegal m entries n → IsLegalRecord m entries → ⊥
+pub not_legal : (m : Terms) (n : ℕ) (entries : List Entry) → IsFirstIllegal m entries n → IsLegalRecord m entries → ⊥
 not_legal m n entries first legal = first.illegal (legal_take m n entries legal)
 
-not_before : (m n k : ℕ) (entries : List Entry) → IsFirstIllegal m entries n → IsFirstIllegal m entries k → n < k → ⊥
+not_before : (m : Terms) (n k : ℕ) (entries : List Entry) → IsFirstIllegal m entries n → IsFirstIllegal m entries k
+    → n < k → ⊥
 not_before m n k entries p q lt =
     let le : n ≤ k - 1 = omega arith in
     p.illegal (subst (IsLegalRecord m) (take-take n (k - 1) entries le) (legal_take m n (take (k - 1) entries) q.before))
 
-pub one_first : (m n k : ℕ) (entries : List Entry) → IsFirstIllegal m entries n → IsFirstIllegal m entries k → n ≡ k
+pub one_first : (m : Terms) (n k : ℕ) (entries : List Entry) → IsFirstIllegal m entries n → IsFirstIllegal m entries k
+    → n ≡ k
 one_first m n k entries p q = elim (cases_lt n k) [
   | inl lt ↦ absurd (not_before m n k entries p q lt)
   | inr le ↦ elim (cases_lt k n) [
@@ -46,7 +49,8 @@ one_first m n k entries p q = elim (cases_lt n k) [
   ]
 ]
 
-pub is_first_illegal : (m n : ℕ) (front rest all : List Entry) (x : Entry) → n ≡ length front + 1 → all ≡ (front ++ x ∷ []) ++ rest → IsLegalRecord m front → (IsNext m front x → ⊥) → IsFirstIllegal m all n
+pub is_first_illegal : (m : Terms) (n : ℕ) (front rest all : List Entry) (x : Entry) → n ≡ length front + 1
+    → all ≡ (front ++ x ∷ []) ++ rest → IsLegalRecord m front → (IsNext m front x → ⊥) → IsFirstIllegal m all n
 is_first_illegal m n front rest all x len is legal illegal =
     let more : length (front ++ x ∷ []) ≡ n = length-append front (x ∷ []) ∙ sym len in
     let taken : take n all ≡ front ++ x ∷ [] = ap (take n) is ∙ take_at (front ++ x ∷ []) rest n more in
@@ -229,7 +233,7 @@ stopped {A} r f old new front read e same h = go f read (subst (λ (s : Result A
   where
     go : (f : LoadFault) (read : Result (List Entry) LoadFault) → Replays (let s : Result A LoadFault = Err f in s) old new read → Loads (Err f) (fields_of front read)
     go f (Err why) h = let is : f ≡ why = cc in ap (λ (g : LoadFault). Err g) is
-    go (fault.Illegal n) (Ok entries) h = subst (λ (m : ℕ). IsFirstIllegal m entries n) same h
+    go (fault.Illegal n) (Ok entries) h = subst (λ (m : Terms). IsFirstIllegal m entries n) same h
     go fault.Memory (Ok entries) h = h
     go fault.Short (Ok entries) h = absurd h
     go fault.Magic (Ok entries) h = absurd h
@@ -250,7 +254,7 @@ same_more first log new entries before added =
     let n : new.terms ≡ first.terms = ap (λ (l : Log). l.terms) added ∙ ap (λ (l : Log). l.terms) before in
     let left : new ≡ record new { id = first.id } = ap (λ (i : ℕ). record new { id = i }) id in
     let right : (let l : Log = record new { id = first.id } in l) ≡ record first { entries = new.entries; spare = new.spare } =
-    ap (λ (i : ℕ). record first { terms = i; entries = new.entries; spare = new.spare }) n in
+    ap (λ (i : Terms). record first { terms = i; entries = new.entries; spare = new.spare }) n in
     left ∙ right
 
 pub on_ok : {A E : Type 0} (r : Result A E) (P : Type 0) → is_err r ≡ false → OnOk r P → P

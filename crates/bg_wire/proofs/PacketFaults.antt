@@ -3,6 +3,7 @@ use Rattle.std.proofs.Common.{false, ◌≡◌, ◌≢◌, ℕ, ◌<◌, ◌≤�
 use Rattle.std.specs.Prelude.{◌==◌}
 use Rattle.std.proofs.lemmas.Bool.Decides.{nat_tests}
 use Rattle.std.specs.Int.{w32, to_be_bytes}
+use Rattle.bg_match.specs.declared.limits.Rules.{Rules}
 use Rattle.bg_wire.specs.Codes.{magic_offset, version_offset, kind_offset, want_kind, claim_kind, entries_kind}
 use Rattle.bg_wire.specs.EntryText.{action_bytes}
 use Rattle.bg_wire.specs.declared.packets.Packet.{Packet}
@@ -22,9 +23,9 @@ use Rattle.bg_wire.proofs.OneFault.{Sorted, same_fault, no_fault}
 inside : (before mid : List ℕ) → 0 < length mid → length mid < packet_width before → packet_width (before ++ mid) ≡ 0
 inside before mid some lt = inside_of packet_fields before mid some lt
 
-has_header : (kind id : ℕ) (rest : List ℕ) → HasAll (body_fields kind) rest
-    → HasAll packet_fields (header_text kind id ++ rest)
-has_header kind id rest h = (
+has_header : (kind id : ℕ) (rules : Rules) (rest : List ℕ) → HasAll (body_fields kind) rest
+    → HasAll packet_fields (header_text kind id rules ++ rest)
+has_header kind id rules rest h = (
   omega arith,
   omega arith,
   (omega arith, omega arith, (omega arith, omega arith, (omega arith, omega arith, (omega arith, omega arith, h)))),
@@ -32,13 +33,14 @@ has_header kind id rest h = (
 
 -- a packet's text has all of the first fields
 has_fields : (p : Packet) → HasAll packet_fields (packet_text p)
-has_fields (packet.Want id sender held) =
-    has_header want_kind id (sender ∷ to_be_bytes w32 held) (omega arith, omega arith, (omega arith, omega arith, tt))
-has_fields (packet.Claim id sender number a) =
-    has_header claim_kind id (sender ∷ (to_be_bytes w32 number ++ action_bytes a))
+has_fields (packet.Want id rules sender held) =
+    has_header want_kind id rules (sender ∷ to_be_bytes w32 held)
     (omega arith, omega arith, (omega arith, omega arith, tt))
-has_fields (packet.Entries id start list) =
-    has_header entries_kind id (to_be_bytes w32 start ++ list_text list) (omega arith, omega arith, tt)
+has_fields (packet.Claim id rules sender number a) =
+    has_header claim_kind id rules (sender ∷ (to_be_bytes w32 number ++ action_bytes a))
+    (omega arith, omega arith, (omega arith, omega arith, tt))
+has_fields (packet.Entries id rules start list) =
+    has_header entries_kind id rules (to_be_bytes w32 start ++ list_text list) (omega arith, omega arith, tt)
 
 whole : (p : Packet) (before rest : List ℕ) → IsText p (before ++ rest) → 0 < length rest
     → packet_width before ≤ length rest

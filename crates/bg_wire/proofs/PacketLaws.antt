@@ -3,8 +3,10 @@ use Rattle.std.proofs.Common.{◌≡◌, ◌≢◌, ℕ, zero, suc, ◌^◌, ◌
 use Rattle.std.specs.Prelude.{◌==◌}
 use Rattle.std.specs.Int.{w16, w32, w64, to_be_bytes}
 use Rattle.std.proofs.lemmas.Bool.{eqb-true, eqb-false}
+use Rattle.bg_match.specs.declared.limits.Rules.{Rules}
+use Rattle.bg_match.specs.declared.limits.Rules.TheVariants as rules
 use Rattle.bg_match.specs.Limits.{most_entries}
-use Rattle.bg_wire.specs.Codes.{packet_magic, packet_version, want_kind, claim_kind, entries_kind, magic_offset, version_offset, kind_offset, rules_one, seat_of_x}
+use Rattle.bg_wire.specs.Codes.{packet_magic, packet_version, want_kind, claim_kind, entries_kind, magic_offset, version_offset, kind_offset, rules_code, seat_of_x}
 use Rattle.bg_wire.specs.declared.faults.WireFault.TheVariants as fault
 use Rattle.bg_wire.specs.declared.reader.ReadFault.{ReadFault}
 use Rattle.bg_wire.specs.declared.reader.ReadFault.TheVariants as read_fault
@@ -16,16 +18,18 @@ use Rattle.bg_wire.specs.Texts.{IsWrongAt}
 use Rattle.bg_wire.specs.Fields.{Fields, Field, first_byte}
 use Rattle.bg_wire.specs.Faults.{IsWireFault}
 use Rattle.bg_wire.specs.Reading.{◌>>=◌, Cursor, Read, u8_at, u16_at, u64_at}
+use Rattle.bg_wire.specs.RulesReading.{rules_at}
 use Rattle.bg_wire.specs.PacketReading.{wire_fault, body_at, behind_kind_at, packet_at}
 use Rattle.bg_wire.proofs.Laws.{IsBytes, from_front, is_wrong_at, is_cut, Law, Then, HasText, has_then, other_text, join}
 use Rattle.bg_wire.proofs.Widths.{Of, then_field}
 use Rattle.bg_wire.proofs.Fields.{Byte, Number, Word, has_byte, has_word, one_byte, u16_law, u64_law}
+use Rattle.bg_wire.proofs.RulesLaws.{RulesByte, rules_byte_law, rules_byte_len, has_rules_byte}
 use Rattle.bg_wire.proofs.PacketBodies.{fits_room, room_fits, WantParts, byte_len, number_len, word_len, ClaimParts, EntriesParts, Body, body_law, has_body}
 
 -- ---- the header
 
 abbrev RulesParts : ℕ → ℕ → Packet → List ℕ → Type 0
-RulesParts kind id = Then (Byte rules_one rules_one) (λ rules. Body kind id)
+RulesParts kind id = Then RulesByte (Body kind id)
 
 abbrev IdParts : ℕ → Packet → List ℕ → Type 0
 IdParts kind = Then Word (RulesParts kind)
@@ -37,7 +41,7 @@ abbrev PacketParts : Packet → List ℕ → Type 0
 PacketParts = Then (Number packet_magic packet_magic) (λ m. VersionParts)
 
 has_rules : (kind id : ℕ) → HasText (RulesParts kind id)
-has_rules kind id = has_then (has_byte rules_one rules_one (omega arith)) (λ rules first h. has_body kind id)
+has_rules kind id = has_then has_rules_byte (λ which first h. has_body kind id which)
 
 has_id : (kind : ℕ) → HasText (IdParts kind)
 has_id kind = has_then has_word (λ id first h. has_rules kind id)
@@ -50,7 +54,7 @@ has_version = has_then (has_byte packet_version packet_version (omega arith)) (�
 
 -- the fields from the rules on
 abbrev rules_fields : ℕ → Fields
-rules_fields kind = Field 1 (λ rules. body_fields kind)
+rules_fields kind = Field 1 (λ which. body_fields kind)
 
 -- and from the match id on
 abbrev id_fields : ℕ → Fields
@@ -63,13 +67,12 @@ abbrev from_version : Cursor → Read Packet
 from_version c = u8_at packet_version packet_version c >>= λ version. from_kind version.1
 
 abbrev from_rules : ℕ → ℕ → Cursor → Read Packet
-from_rules kind id c = u8_at rules_one rules_one c >>= λ rules. body_at kind id rules.1
+from_rules kind id c = rules_at c >>= λ which. body_at kind id which.0 which.1
 
 rules_law : (kind id : ℕ) → Law (Of (rules_fields kind)) (from_rules kind id) (RulesParts kind id)
 rules_law kind id =
-    then_field 1 _ (λ rules. body_fields kind) (u8_at rules_one rules_one) (λ rules. body_at kind id) (omega arith)
-    (one_byte rules_one rules_one) (byte_len rules_one rules_one) (λ rules first h. refl)
-    (λ rules. body_law kind id) (λ rules first h. has_body kind id)
+    then_field 1 _ (λ which. body_fields kind) rules_at (body_at kind id) (omega arith)
+    rules_byte_law rules_byte_len (λ which first h. refl) (body_law kind id) (λ which first h. has_body kind id which)
 
 id_law : (kind : ℕ) → Law (Of (id_fields kind)) (behind_kind_at kind) (IdParts kind)
 unfolding behind_kind_at
@@ -83,17 +86,17 @@ kind_is kind first h = ap (λ (f : List ℕ). id_fields (first_byte f)) h.2
 
 -- ---- the parts are the text
 
-module _ (id : ℕ) (p : Packet) (rest front : List ℕ) (id_fits : id < 2 ^ 64) where
-  want_text : front ≡ header_text want_kind id ++ rest → WantParts id p rest → IsText p front
+module _ (id : ℕ) (which : Rules) (p : Packet) (rest front : List ℕ) (id_fits : id < 2 ^ 64) where
+  want_text : front ≡ header_text want_kind id which ++ rest → WantParts id which p rest → IsText p front
   want_text whole h =
       let text : rest ≡ h.0 ∷ to_be_bytes w32 h.4.0 = h.5 ∙ ap (λ (r : List ℕ). r ++ h.2) h.3.2
       ∙ ap (λ (r : List ℕ). h.0 ∷ r) h.4.1.3 in
       subst (λ (q : Packet). IsText q front) h.4.2 (record {
         in_range = record { id_fits = id_fits; first_party = h.3.0; last_party = h.3.1; held_at_most = h.4.1.1 };
-        spelled = whole ∙ ap (λ (r : List ℕ). header_text want_kind id ++ r) text;
+        spelled = whole ∙ ap (λ (r : List ℕ). header_text want_kind id which ++ r) text;
       })
 
-  claim_text : front ≡ header_text claim_kind id ++ rest → ClaimParts id p rest → IsText p front
+  claim_text : front ≡ header_text claim_kind id which ++ rest → ClaimParts id which p rest → IsText p front
   claim_text whole h =
       let n = h.4 in
       let last : n.2 ≡ action_bytes n.4.0 = n.4.1.1 in
@@ -111,10 +114,10 @@ module _ (id : ℕ) (p : Packet) (rest front : List ℕ) (id_fits : id < 2 ^ 64)
           last_entry = n.3.1;
           action_in_range = n.4.1.0;
         };
-        spelled = whole ∙ ap (λ (r : List ℕ). header_text claim_kind id ++ r) text;
+        spelled = whole ∙ ap (λ (r : List ℕ). header_text claim_kind id which ++ r) text;
       })
 
-  entries_bytes : front ≡ header_text entries_kind id ++ rest → EntriesParts id p rest → IsText p front
+  entries_bytes : front ≡ header_text entries_kind id which ++ rest → EntriesParts id which p rest → IsText p front
   entries_bytes whole h =
       let list = h.4.0 in
       let counted = h.4.1.0 in
@@ -131,16 +134,17 @@ module _ (id : ℕ) (p : Packet) (rest front : List ℕ) (id_fits : id < 2 ^ 64)
               fits.1;
           in_range = counted.2;
         };
-        spelled = whole ∙ ap (λ (r : List ℕ). header_text entries_kind id ++ r) text;
+        spelled = whole ∙ ap (λ (r : List ℕ). header_text entries_kind id which ++ r) text;
       })
 
-body_text : (kind id : ℕ) (p : Packet) (rest front : List ℕ) → id < 2 ^ 64 → want_kind ≤ kind → kind ≤ entries_kind
-    → front ≡ header_text kind id ++ rest → Body kind id p rest → IsText p front
-body_text zero id p rest front fits low high whole h = absurd (omega arith)
-body_text (suc zero) id p rest front fits low high whole h = want_text id p rest front fits whole h
-body_text (suc (suc zero)) id p rest front fits low high whole h = claim_text id p rest front fits whole h
-body_text (suc (suc (suc zero))) id p rest front fits low high whole h = entries_bytes id p rest front fits whole h
-body_text (suc (suc (suc (suc kind)))) id p rest front fits low high whole h = absurd (omega arith)
+body_text : (kind id : ℕ) (which : Rules) (p : Packet) (rest front : List ℕ) → id < 2 ^ 64 → want_kind ≤ kind
+    → kind ≤ entries_kind → front ≡ header_text kind id which ++ rest → Body kind id which p rest → IsText p front
+body_text zero id which p rest front fits low high whole h = absurd (omega arith)
+body_text (suc zero) id which p rest front fits low high whole h = want_text id which p rest front fits whole h
+body_text (suc (suc zero)) id which p rest front fits low high whole h = claim_text id which p rest front fits whole h
+body_text (suc (suc (suc zero))) id which p rest front fits low high whole h =
+    entries_bytes id which p rest front fits whole h
+body_text (suc (suc (suc (suc kind)))) id which p rest front fits low high whole h = absurd (omega arith)
 
 one_number : (n number : ℕ) (front : List ℕ) → Number n n number front → front ≡ to_be_bytes w16 n
 one_number n number front h = h.3 ∙ ap (to_be_bytes w16) (omega (arith, h.0, h.1))
@@ -153,19 +157,19 @@ parts_text p front h =
     let v = h.4 in let k = v.4 in let w = k.4 in let r = w.4 in
     let magic = one_number packet_magic h.0 h.1 h.3 in
     let version = one_of packet_version v.0 v.1 v.3 in
-    let rules = one_of rules_one r.0 r.1 r.3 in
-    let whole : front ≡ header_text k.0 w.0 ++ r.2 =
-    join h.5 magic (join v.5 version (join k.5 k.3.2 (join w.5 w.3.1 (join r.5 rules refl)))) in
-    body_text k.0 w.0 p r.2 front w.3.0 k.3.0 k.3.1 whole r.4
+    let whole : front ≡ header_text k.0 w.0 r.0 ++ r.2 =
+    join h.5 magic (join v.5 version (join k.5 k.3.2 (join w.5 w.3.1 (join r.5 r.3 refl)))) in
+    body_text k.0 w.0 r.0 p r.2 front w.3.0 k.3.0 k.3.1 whole r.4
 
 -- the parts of a header, before a body
-header_parts : (kind id : ℕ) (p : Packet) (rest front : List ℕ) → want_kind ≤ kind → kind ≤ entries_kind → id < 2 ^ 64
-    → front ≡ header_text kind id ++ rest → Body kind id p rest → PacketParts p front
-header_parts kind id p rest front low high fits whole body =
-    let from_rules_text = rules_one ∷ rest in
+header_parts : (kind id : ℕ) (which : Rules) (p : Packet) (rest front : List ℕ) → want_kind ≤ kind
+    → kind ≤ entries_kind → id < 2 ^ 64 → front ≡ header_text kind id which ++ rest → Body kind id which p rest
+    → PacketParts p front
+header_parts kind id which p rest front low high fits whole body =
+    let from_rules_text = rules_code which ∷ rest in
     let from_id_text = to_be_bytes w64 id ++ from_rules_text in
     let ruled : RulesParts kind id p from_rules_text =
-    (rules_one, rules_one ∷ [], rest, (omega arith, omega arith, refl), body, refl) in (
+    (which, rules_code which ∷ [], rest, refl, body, refl) in (
       packet_magic,
       to_be_bytes w16 packet_magic,
       packet_version ∷ kind ∷ from_id_text,
@@ -189,9 +193,10 @@ header_parts kind id p rest front low high fits whole body =
     )
 
 text_parts : (p : Packet) (front : List ℕ) → IsText p front → PacketParts p front
-text_parts (packet.Want id sender held) front h =
+text_parts (packet.Want id which sender held) front h =
     let r = h.in_range in
-    header_parts want_kind id _ (sender ∷ to_be_bytes w32 held) front (omega arith) (omega arith) r.id_fits h.spelled (
+    header_parts want_kind id which _ (sender ∷ to_be_bytes w32 held) front (omega arith) (omega arith) r.id_fits
+    h.spelled (
       sender,
       sender ∷ [],
       to_be_bytes w32 held,
@@ -199,9 +204,9 @@ text_parts (packet.Want id sender held) front h =
       (held, (omega arith, r.held_at_most, omega (arith, r.held_at_most), refl), refl),
       refl,
     )
-text_parts (packet.Claim id sender number action) front h =
+text_parts (packet.Claim id which sender number action) front h =
     let r = h.in_range in
-    header_parts claim_kind id _ (sender ∷ (to_be_bytes w32 number ++ action_bytes action)) front (omega arith)
+    header_parts claim_kind id which _ (sender ∷ (to_be_bytes w32 number ++ action_bytes action)) front (omega arith)
     (omega arith) r.id_fits h.spelled (
       sender,
       sender ∷ [],
@@ -217,10 +222,10 @@ text_parts (packet.Claim id sender number action) front h =
       ),
       refl,
     )
-text_parts (packet.Entries id start list) front h =
+text_parts (packet.Entries id which start list) front h =
     let r = h.in_range in
     let last : start ≤ most_entries = omega (arith, r.last_entry, r.some) in
-    header_parts entries_kind id _ (to_be_bytes w32 start ++ list_text list) front (omega arith) (omega arith)
+    header_parts entries_kind id which _ (to_be_bytes w32 start ++ list_text list) front (omega arith) (omega arith)
     r.id_fits h.spelled (
       start,
       to_be_bytes w32 start,
@@ -264,7 +269,7 @@ not_extra (read_fault.Field at) e = named (at == magic_offset) (at == version_of
 
 has_packet : HasText IsText
 has_packet =
-    let p = packet.Want 0 seat_of_x 0 in (
+    let p = packet.Want 0 rules.One seat_of_x 0 in (
       p,
       packet_text p,
       record {

@@ -50,15 +50,19 @@ passes_to read c r e is = let found = passed_list read c e in rw (found.1, is) (
     go false entries = refl
 
 -- memory is wanted for entries
-pub wants_memory : (front : Front) (c : Cursor) → IsOk (entries_of front.count c) → front.count ≢ 0 → Loads (Err fault.Memory) (fields_of front (entries_of front.count c))
-wants_memory front c ok some = go (many_at entry_at front.count c) refl ok
+pub wants_memory : (front : Front) (c : Cursor) → IsOk (entries_of front.layout front.count c) → front.count ≢ 0
+    → Loads (Err fault.Memory) (fields_of front (entries_of front.layout front.count c))
+wants_memory front c ok some = go (many_at (entry_at front.layout) front.count c) refl ok
   where
-    ended : (entries : List Entry) (d : Cursor) → many_at entry_at front.count c ≡ Ok (entries, d) → (b : Bool) → IsOk (cond b (Ok entries) (Err fault.Extra))
+    ended : (entries : List Entry) (d : Cursor) → many_at (entry_at front.layout) front.count c ≡ Ok (entries, d)
+        → (b : Bool) → IsOk (cond b (Ok entries) (Err fault.Extra))
         → Loads (Err fault.Memory) (fields_of front (cond b (Ok entries) (Err fault.Extra)))
-    ended entries d was true ok = λ none. some (sym (many_len entry_at front.count c entries d was) ∙ ap length none)
+    ended entries d was true ok =
+        λ none. some (sym (many_len (entry_at front.layout) front.count c entries d was) ∙ ap length none)
     ended entries d was false ok = absurd cc
 
-    go : (r : Read (List Entry)) → many_at entry_at front.count c ≡ r → IsOk (whole r) → Loads (Err fault.Memory) (fields_of front (whole r))
+    go : (r : Read (List Entry)) → many_at (entry_at front.layout) front.count c ≡ r → IsOk (whole r)
+        → Loads (Err fault.Memory) (fields_of front (whole r))
     go (Err f) was ok = absurd cc
     go (Ok x) was ok = ended x.0 x.1 was (length (x.1).rest == 0) ok
 

@@ -2,12 +2,13 @@
 use Rattle.std.proofs.Common.{◌≡◌, ℕ, ◌^◌, ◌<◌, ◌≤◌, List, [], ◌∷◌, ◌++◌, refl, sym, ap, subst, ◌∙◌, arith}
 use Rattle.std.specs.Int.{w32, w64, to_be_bytes, from_be_bytes}
 use Rattle.bg_match.specs.Limits.{shortest_match, longest_match}
-use Rattle.bg_wire.specs.Codes.{rules_one, seat_of_o, least_save, greatest_save}
+use Rattle.bg_match.specs.Terms.{match_length, rules_of}
+use Rattle.bg_wire.specs.Codes.{seat_of_o, least_save, greatest_save}
 use Rattle.bg_wire.specs.declared.saved_layouts.Front.{Front}
 use Rattle.bg_wire.specs.declared.saved_layouts.Layout.{Layout}
 use Rattle.bg_wire.specs.declared.saved_layouts.Layout.TheVariants.{One, Two}
 use Rattle.bg_wire.specs.Fields.{Fields, Done, Field, followed_by}
-use Rattle.bg_wire.specs.SavedLayouts.{magic_of, last_number, number_width, number_text, rules_text, claim_text, claim_fields, rules_fields, save_fields, front_fields, layout_of_magic, saved_fields}
+use Rattle.bg_wire.specs.SavedLayouts.{magic_of, last_number, number_width, number_text, rules_text, AreRulesIn, claim_text, claim_fields, rules_fields, save_fields, front_fields, layout_of_magic, saved_fields}
 use Rattle.bg_wire.specs.SavedText.{IsClaimIn}
 use Rattle.bg_wire.specs.SavedReading.{text_of_front, front_at}
 use Rattle.bg_wire.proofs.Laws.{Law, other_text, join}
@@ -20,8 +21,9 @@ use Rattle.bg_wire.proofs.SavedFronts.{front_with, PartyOn, FrontParts, front_pa
 pub record IsFront (f : Front) : Type 0 where
   pub party : f.party ≤ seat_of_o
   pub id_fits : f.id < 2 ^ 64
-  pub shortest : shortest_match ≤ f.terms
-  pub longest : f.terms ≤ longest_match
+  pub shortest : shortest_match ≤ match_length f.terms
+  pub longest : match_length f.terms ≤ longest_match
+  pub rules : AreRulesIn f.layout (rules_of f.terms)
   pub first_save : least_save ≤ f.save
   pub last_save : f.save ≤ greatest_save
   pub claim : IsClaimIn f.layout f.party f.claim
@@ -32,7 +34,7 @@ front_to f front h =
     let party = h.4 in let id = party.4 in let n = id.4 in
     let rules = n.4 in let save = rules.4 in let claim = save.4 in
     let m : h.0 ≡ magic_of (layout_of_magic h.0) = magic_is h.0 h.3.0 h.3.1 in
-    let made : Front = front_with (layout_of_magic h.0) party.0 id.0 n.0 save.0 claim.0 claim.4.0 in
+    let made : Front = front_with (layout_of_magic h.0) party.0 id.0 n.0 rules.0 save.0 claim.0 claim.4.0 in
     let text : front ≡ text_of_front made =
     join h.5 (h.3.3 ∙ ap (to_be_bytes w32) m)
     (join party.5 party.3.2
@@ -44,6 +46,7 @@ front_to f front h =
         id_fits = id.3.0;
         shortest = n.3.0;
         longest = n.3.1;
+        rules = rules.3.0;
         first_save = save.3.0;
         last_save = save.3.1;
         claim = claim.3.0;
@@ -59,8 +62,8 @@ front_from f front h =
     let count_text = number_text f.layout f.count in
     let from_claim_text = claim_text f.layout f.claim ++ count_text in
     let from_save_text = to_be_bytes w32 f.save ++ from_claim_text in
-    let from_rules_text = rules_text f.layout ++ from_save_text in
-    let from_length_text = f.terms ∷ from_rules_text in
+    let from_rules_text = rules_text f.layout (rules_of f.terms) ++ from_save_text in
+    let from_length_text = match_length f.terms ∷ from_rules_text in
     let from_id_text = to_be_bytes w64 f.id ++ from_length_text in
     let from_party_text = f.party ∷ from_id_text in
     let parts : PartyOn f.layout f from_party_text = (
@@ -74,15 +77,15 @@ front_from f front h =
         from_length_text,
         (r.id_fits, refl),
         (
-          f.terms,
-          f.terms ∷ [],
+          match_length f.terms,
+          match_length f.terms ∷ [],
           from_rules_text,
           (r.shortest, r.longest, refl),
           (
-            rules_one,
-            rules_text f.layout,
+            rules_of f.terms,
+            rules_text f.layout (rules_of f.terms),
             from_save_text,
-            (refl, refl),
+            (r.rules, refl),
             (
               f.save,
               to_be_bytes w32 f.save,
@@ -126,12 +129,14 @@ front_law = other_text _ front_to front_from front_parts_law
 pub front_all : (f : Front) → IsAll saved_fields (text_of_front f)
 front_all f =
     let layout = f.layout in
+    let points = match_length f.terms in
+    let which = rules_of f.terms in
     let magic_text = to_be_bytes w32 (magic_of layout) in
     let count_text = number_text layout f.count in
     let from_claim_text = claim_text layout f.claim ++ count_text in
     let from_save_text = to_be_bytes w32 f.save ++ from_claim_text in
-    let from_rules_text = rules_text layout ++ from_save_text in
-    let from_id_text = to_be_bytes w64 f.id ++ (f.terms ∷ from_rules_text) in
+    let from_rules_text = rules_text layout which ++ from_save_text in
+    let from_id_text = to_be_bytes w64 f.id ++ (points ∷ from_rules_text) in
     let count : Fields = Field (number_width layout) (λ count. Done) in
     let from_claim : Fields = followed_by (claim_fields layout) count in
     let from_terms : Fields = Field 1 (λ terms. followed_by (rules_fields layout) (save_fields layout)) in
@@ -140,16 +145,16 @@ front_all f =
     (count_all layout f.count) in
     let saved : IsAll (save_fields layout) from_save_text =
     all_of_field 4 (λ save. from_claim) (to_be_bytes w32 f.save) from_claim_text (omega arith) refl claimed in
-    let ruled : IsAll from_terms (f.terms ∷ from_rules_text) = (
+    let ruled : IsAll from_terms (points ∷ from_rules_text) = (
       omega arith,
       omega arith,
-      all_of_both (rules_fields layout) (save_fields layout) (rules_text layout) from_save_text
-          (rules_text_all layout) saved,
+      all_of_both (rules_fields layout) (save_fields layout) (rules_text layout which) from_save_text
+          (rules_text_all layout which) saved,
     ) in
     let told : IsAll (front_fields layout) (f.party ∷ from_id_text) = (
       omega arith,
       omega arith,
-      all_of_field 8 (λ id. from_terms) (to_be_bytes w64 f.id) (f.terms ∷ from_rules_text) (omega arith) refl ruled,
+      all_of_field 8 (λ id. from_terms) (to_be_bytes w64 f.id) (points ∷ from_rules_text) (omega arith) refl ruled,
     ) in
     let same = magic_fields (magic_of layout) magic_text (magic_fits layout) refl
     ∙ ap (λ (l : Layout). front_fields l) (layout_is layout) in

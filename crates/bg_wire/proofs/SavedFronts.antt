@@ -1,45 +1,57 @@
 -- The law of what stands before the entries of a saved text, field by field, in either layout.
-use Rattle.std.proofs.Common.{◌≡◌, ◌⊎◌, ℕ, ◌^◌, ◌<◌, ◌≤◌, List, [], ◌∷◌, refl, sym, ap, subst, ◌∙◌, arith, inl, inr}
+use Rattle.std.proofs.Common.{◌≡◌, ◌⊎◌, ℕ, ◌^◌, ◌<◌, ◌≤◌, List, refl, sym, ap, subst, ◌∙◌, arith, inl, inr}
 use Rattle.std.specs.Int.{w32, to_be_bytes, from_be_bytes}
 use Rattle.std.proofs.lemmas.Bool.{cases_eq}
 use Rattle.std.proofs.lemmas.Nat.{from_be_bytes-to_be_bytes_4}
-use Rattle.bg_match.specs.Terms.{Terms}
+use Rattle.bg_match.specs.Terms.{terms_of}
+use Rattle.bg_match.specs.declared.limits.Rules.{Rules}
+use Rattle.bg_match.specs.declared.limits.Rules.TheVariants as rules
 use Rattle.bg_match.specs.Limits.{shortest_match, longest_match}
-use Rattle.bg_wire.specs.Codes.{rules_one, referee, seat_of_o, least_save, greatest_save}
+use Rattle.bg_wire.specs.Codes.{referee, seat_of_o, least_save, greatest_save}
 use Rattle.bg_wire.specs.declared.saved_layouts.Front.{Front}
 use Rattle.bg_wire.specs.declared.saved_layouts.Layout.{Layout}
 use Rattle.bg_wire.specs.declared.saved_layouts.Layout.TheVariants.{One, Two}
 use Rattle.bg_wire.specs.Fields.{Fields, Done, Field, followed_by}
-use Rattle.bg_wire.specs.SavedLayouts.{magic_of, number_width, number_text, rules_text, claim_text, claim_fields, rules_fields, save_fields, front_fields, layout_of_magic, saved_fields}
+use Rattle.bg_wire.specs.SavedLayouts.{magic_of, number_width, number_text, rules_text, AreRulesIn, claim_text, claim_fields, rules_fields, save_fields, front_fields, layout_of_magic, saved_fields}
 use Rattle.bg_wire.specs.SavedText.{IsClaimIn}
 use Rattle.bg_wire.specs.Reading.{◌>>=◌, Cursor, Read, u8_at, u32_at, u64_at, with}
+use Rattle.bg_wire.specs.RulesReading.{rules_at}
 use Rattle.bg_wire.specs.SavedReading.{number_in, saved_claim_in, rules_in, front_in, front_at}
 use Rattle.bg_wire.proofs.Laws.{Law, Then, Mapped, HasText, has_then, has_mapped, with_law, other_text, done_of}
 use Rattle.bg_wire.proofs.Widths.{Of, IsAll, then_field, then_fields, last_field}
 use Rattle.bg_wire.proofs.Fields.{Byte, Long, Word, NumberIn, has_byte, has_long, has_word, has_number_in, one_byte, u32_law, u64_law, number_in_law}
 use Rattle.bg_wire.proofs.EntryLaws.{Spells}
+use Rattle.bg_wire.proofs.RulesLaws.{rules_byte_law}
 use Rattle.bg_wire.proofs.SavedClaims.{Claim, byte_len, long_len, word_len, claim_law, claim_all, has_claim}
 
 -- ---- the rules
 
-abbrev pub RulesText : Layout → ℕ → List ℕ → Type 0
-RulesText layout rules front = (rules ≡ rules_one) × (front ≡ rules_text layout)
+abbrev pub RulesText : Layout → Rules → List ℕ → Type 0
+RulesText layout which front = AreRulesIn layout which × (front ≡ rules_text layout which)
+
+one_alone : (which : Rules) → AreRulesIn One which → rules.One ≡ which
+one_alone rules.One h = refl
+one_alone rules.Two h = absurd h
+
+pub all_in_two : (which : Rules) → AreRulesIn Two which
+all_in_two rules.One = tt
+all_in_two rules.Two = tt
 
 rules_law : (layout : Layout) → Law (Of (rules_fields layout)) (rules_in layout) (RulesText layout)
 unfolding rules_in
-rules_law One = other_text _ (λ r front h. (sym h.0, h.1)) (λ r front h. (sym h.0, h.1)) (done_of (Of Done) rules_one)
+rules_law One =
+    other_text _ (λ r front h. (subst (AreRulesIn One) h.0 tt, h.1)) (λ r front h. (one_alone r h.0, h.1))
+    (done_of (Of Done) rules.One)
 rules_law Two =
-    other_text _
-    (λ r front h. (let same : r ≡ rules_one = omega (arith, h.0, h.1) in (same, h.2 ∙ ap (λ (n : ℕ). n ∷ []) same)))
-    (λ r front h. (omega (arith, h.0), omega (arith, h.0), h.1 ∙ ap (λ (n : ℕ). n ∷ []) (sym h.0)))
-    (last_field 1 (λ rules. Done) (u8_at rules_one rules_one) (one_byte rules_one rules_one))
+    other_text _ (λ r front h. (all_in_two r, h)) (λ r front h. h.1)
+    (last_field 1 (λ byte. Done) rules_at rules_byte_law)
 
-pub rules_text_all : (layout : Layout) → IsAll (rules_fields layout) (rules_text layout)
-rules_text_all One = refl
-rules_text_all Two = (omega arith, omega arith, refl)
+pub rules_text_all : (layout : Layout) (which : Rules) → IsAll (rules_fields layout) (rules_text layout which)
+rules_text_all One which = refl
+rules_text_all Two which = (omega arith, omega arith, refl)
 
 has_rules : (layout : Layout) → HasText (RulesText layout)
-has_rules layout = (rules_one, rules_text layout, (refl, refl))
+has_rules layout = (rules.One, rules_text layout rules.One, (tt, refl))
 
 pub count_all : (layout : Layout) (n : ℕ) → IsAll (Field (number_width layout) (λ count. Done)) (number_text layout n)
 count_all One n = (omega arith, omega arith, refl)
@@ -51,20 +63,27 @@ count_all Two n = (omega arith, omega arith, refl)
 abbrev from_rules_fields : Layout → Fields
 from_rules_fields layout = followed_by (rules_fields layout) (save_fields layout)
 
-abbrev pub front_with : Layout → ℕ → ℕ → Terms → ℕ → Claim → ℕ → Front
-front_with layout party id terms save claim count =
-    record { layout = layout; party = party; id = id; terms = terms; save = save; claim = claim; count = count }
+abbrev pub front_with : Layout → ℕ → ℕ → ℕ → Rules → ℕ → Claim → ℕ → Front
+front_with layout party id points which save claim count = record {
+  layout = layout;
+  party = party;
+  id = id;
+  terms = terms_of points which;
+  save = save;
+  claim = claim;
+  count = count;
+}
 
 module _ (layout : Layout) (party : ℕ) where
-  abbrev from_claim : ℕ → ℕ → ℕ → Cursor → Read Front
-  from_claim id n save c =
-      saved_claim_in layout party c >>= λ k. with (front_with layout party id n save k.0) (number_in layout 0 k.1)
+  abbrev from_claim : ℕ → ℕ → Rules → ℕ → Cursor → Read Front
+  from_claim id n which save c =
+      saved_claim_in layout party c >>= λ k. with (front_with layout party id n which save k.0) (number_in layout 0 k.1)
 
-  abbrev from_save : ℕ → ℕ → Cursor → Read Front
-  from_save id n c = u32_at least_save greatest_save c >>= λ save. from_claim id n save.0 save.1
+  abbrev from_save : ℕ → ℕ → Rules → Cursor → Read Front
+  from_save id n which c = u32_at least_save greatest_save c >>= λ save. from_claim id n which save.0 save.1
 
   abbrev from_rules : ℕ → ℕ → Cursor → Read Front
-  from_rules id n c = rules_in layout c >>= λ rules. from_save id n rules.1
+  from_rules id n c = rules_in layout c >>= λ which. from_save id n which.0 which.1
 
   abbrev from_length : ℕ → Cursor → Read Front
   from_length id c = u8_at shortest_match longest_match c >>= λ n. from_rules id n.0 n.1
@@ -72,15 +91,15 @@ module _ (layout : Layout) (party : ℕ) where
   abbrev from_id : Cursor → Read Front
   from_id c = u64_at c >>= λ id. from_length id.0 id.1
 
-  abbrev ClaimOn : ℕ → ℕ → ℕ → Front → List ℕ → Type 0
-  ClaimOn id n save = Then (Spells (IsClaimIn layout party) (claim_text layout))
-      (λ k. Mapped (front_with layout party id n save k) (NumberIn layout 0))
+  abbrev ClaimOn : ℕ → ℕ → Rules → ℕ → Front → List ℕ → Type 0
+  ClaimOn id n which save = Then (Spells (IsClaimIn layout party) (claim_text layout))
+      (λ k. Mapped (front_with layout party id n which save k) (NumberIn layout 0))
 
-  abbrev SaveOn : ℕ → ℕ → Front → List ℕ → Type 0
-  SaveOn id n = Then (Long least_save greatest_save) (ClaimOn id n)
+  abbrev SaveOn : ℕ → ℕ → Rules → Front → List ℕ → Type 0
+  SaveOn id n which = Then (Long least_save greatest_save) (ClaimOn id n which)
 
   abbrev RulesOn : ℕ → ℕ → Front → List ℕ → Type 0
-  RulesOn id n = Then (RulesText layout) (λ rules. SaveOn id n)
+  RulesOn id n = Then (RulesText layout) (SaveOn id n)
 
   abbrev LengthOn : ℕ → Front → List ℕ → Type 0
   LengthOn id = Then (Byte shortest_match longest_match) (RulesOn id)
@@ -88,18 +107,20 @@ module _ (layout : Layout) (party : ℕ) where
   abbrev IdOn : Front → List ℕ → Type 0
   IdOn = Then Word LengthOn
 
-  has_count : (id n save : ℕ) (k : Claim) → HasText (Mapped (front_with layout party id n save k) (NumberIn layout 0))
-  has_count id n save k = has_mapped (front_with layout party id n save k) (has_number_in layout 0 (omega arith))
+  has_count : (id n : ℕ) (which : Rules) (save : ℕ) (k : Claim)
+      → HasText (Mapped (front_with layout party id n which save k) (NumberIn layout 0))
+  has_count id n which save k =
+      has_mapped (front_with layout party id n which save k) (has_number_in layout 0 (omega arith))
 
-  has_claim_on : (id n save : ℕ) → HasText (ClaimOn id n save)
-  has_claim_on id n save = has_then (has_claim layout party) (λ k first h. has_count id n save k)
+  has_claim_on : (id n : ℕ) (which : Rules) (save : ℕ) → HasText (ClaimOn id n which save)
+  has_claim_on id n which save = has_then (has_claim layout party) (λ k first h. has_count id n which save k)
 
-  has_save_on : (id n : ℕ) → HasText (SaveOn id n)
-  has_save_on id n = has_then (has_long least_save greatest_save (omega arith) (omega arith))
-      (λ save first h. has_claim_on id n save)
+  has_save_on : (id n : ℕ) (which : Rules) → HasText (SaveOn id n which)
+  has_save_on id n which = has_then (has_long least_save greatest_save (omega arith) (omega arith))
+      (λ save first h. has_claim_on id n which save)
 
   has_rules_on : (id n : ℕ) → HasText (RulesOn id n)
-  has_rules_on id n = has_then (has_rules layout) (λ rules first h. has_save_on id n)
+  has_rules_on id n = has_then (has_rules layout) (λ which first h. has_save_on id n which)
 
   has_length_on : (id : ℕ) → HasText (LengthOn id)
   has_length_on id = has_then (has_byte shortest_match longest_match (omega arith)) (λ n first h. has_rules_on id n)
@@ -110,29 +131,31 @@ module _ (layout : Layout) (party : ℕ) where
   abbrev count_field : Fields
   count_field = Field (number_width layout) (λ count. Done)
 
-  claim_on : (id n save : ℕ)
-      → Law (Of (followed_by (claim_fields layout) count_field)) (from_claim id n save) (ClaimOn id n save)
-  claim_on id n save =
+  claim_on : (id n : ℕ) (which : Rules) (save : ℕ)
+      → Law (Of (followed_by (claim_fields layout) count_field)) (from_claim id n which save)
+      (ClaimOn id n which save)
+  claim_on id n which save =
       then_fields (claim_fields layout) count_field (saved_claim_in layout party)
-      (λ k c. with (front_with layout party id n save k) (number_in layout 0 c))
+      (λ k c. with (front_with layout party id n which save k) (number_in layout 0 c))
       (claim_law layout party) (claim_all layout party)
-      (λ k. with_law (front_with layout party id n save k) (number_in layout 0)
+      (λ k. with_law (front_with layout party id n which save k) (number_in layout 0)
       (last_field (number_width layout) (λ count. Done) (number_in layout 0) (number_in_law layout 0)))
-      (λ k first h. has_count id n save k)
+      (λ k first h. has_count id n which save k)
 
-  save_on : (id n : ℕ) → Law (Of (save_fields layout)) (from_save id n) (SaveOn id n)
-  save_on id n =
+  save_on : (id n : ℕ) (which : Rules) → Law (Of (save_fields layout)) (from_save id n which) (SaveOn id n which)
+  save_on id n which =
       then_field 4 _ (λ save. followed_by (claim_fields layout) count_field) (u32_at least_save greatest_save)
-      (from_claim id n) (omega arith)
-      (u32_law least_save greatest_save) (long_len least_save greatest_save) (λ save first h. refl) (claim_on id n)
-      (λ save first h. has_claim_on id n save)
+      (from_claim id n which) (omega arith)
+      (u32_law least_save greatest_save) (long_len least_save greatest_save) (λ save first h. refl)
+      (claim_on id n which)
+      (λ save first h. has_claim_on id n which save)
 
   rules_on : (id n : ℕ) → Law (Of (from_rules_fields layout)) (from_rules id n) (RulesOn id n)
   rules_on id n =
-      then_fields (rules_fields layout) (save_fields layout) (rules_in layout) (λ rules. from_save id n)
+      then_fields (rules_fields layout) (save_fields layout) (rules_in layout) (from_save id n)
       (rules_law layout)
-      (λ r front h. subst (IsAll (rules_fields layout)) (sym h.1) (rules_text_all layout)) (λ rules. save_on id n)
-      (λ rules first h. has_save_on id n)
+      (λ r front h. subst (IsAll (rules_fields layout)) (sym h.1) (rules_text_all layout r)) (save_on id n)
+      (λ which first h. has_save_on id n which)
 
   length_on : (id : ℕ) → Law (Of (Field 1 (λ length. from_rules_fields layout))) (from_length id) (LengthOn id)
   length_on id =

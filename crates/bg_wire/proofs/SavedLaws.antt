@@ -2,7 +2,8 @@
 use Rattle.std.proofs.Common.{◌≡◌, ◌≢◌, ℕ, Bool, true, false, cond, List, [], ◌++◌, length, None, Ok, Err, refl, sym, ap, subst, ◌∙◌, arith}
 use Rattle.std.specs.Prelude.{◌==◌}
 use Rattle.std.proofs.lemmas.Bool.{eqb-true, eqb-false}
-use Rattle.bg_match.specs.Entry.{IsEntry}
+use Rattle.bg_match.specs.Terms.{terms_of, match_length, rules_of}
+use Rattle.bg_match.specs.declared.limits.Rules.TheVariants as rules
 use Rattle.bg_match.specs.declared.entries.Entry.{Entry}
 use Rattle.bg_match.specs.Limits.{shortest_match}
 use Rattle.bg_match.proofs.Legal.{entries_in_range}
@@ -14,7 +15,7 @@ use Rattle.bg_wire.specs.declared.saved_layouts.Front.{Front}
 use Rattle.bg_wire.specs.declared.saved_layouts.Layout.TheVariants.{Two}
 use Rattle.bg_wire.specs.Fields.{width_of}
 use Rattle.bg_wire.specs.EntryText.{entry_bytes, entries_bytes}
-use Rattle.bg_wire.specs.SavedLayouts.{saved_fields}
+use Rattle.bg_wire.specs.SavedLayouts.{IsEntryIn, saved_fields}
 use Rattle.bg_wire.specs.WrittenLaws.{HaveWrittenText, HaveOneWrittenText, WrittenAreSaved}
 use Rattle.bg_wire.specs.SavedText.{SavedParts, parts_with, saved_text, written_text, saved_width, IsInLayout, IsLayoutOf, IsSavedText}
 use Rattle.bg_wire.specs.Faults.{IsLoadFault}
@@ -25,23 +26,24 @@ use Rattle.bg_wire.specs.SavedReading.{front_of, text_of_front, load_fault, fron
 use Rattle.bg_wire.proofs.Laws.{IsBytes, is_wrong_at, Law, Then, Mapped, Each, HasText, has_mapped, has_each, with_law, other_text, many_law, from_front, prefix_free, then_of, is_cut, join}
 use Rattle.bg_wire.proofs.Widths.{Of, done_behind}
 use Rattle.bg_wire.proofs.EntryLaws.{Spells, each_to, each_from, entry_law, has_entry}
-use Rattle.bg_wire.proofs.SavedFronts.{front_with}
+use Rattle.bg_wire.proofs.ToldEntries.{all_told}
+use Rattle.bg_wire.proofs.SavedFronts.{front_with, all_in_two}
 use Rattle.bg_wire.proofs.SavedFrontTexts.{IsFront, front_law, front_all}
 
 -- ---- the whole
 
 abbrev SavedParted : SavedParts → List ℕ → Type 0
 SavedParted = Then (Spells IsFront text_of_front)
-    (λ f. Mapped (parts_of_front f) (Each (Spells IsEntry entry_bytes) f.count))
+    (λ f. Mapped (parts_of_front f) (Each (Spells (IsEntryIn f.layout) entry_bytes) f.count))
 
 parted_to : (p : SavedParts) (front : List ℕ) → SavedParted p front → IsLayoutOf p front
 parted_to p front h =
     let f = h.0 in
     let es = h.4.0 in
     let r = h.3.0 in
-    let each = each_to IsEntry entry_bytes f.count es h.2 h.4.1 in
+    let each = each_to (IsEntryIn f.layout) entry_bytes f.count es h.2 h.4.1 in
     let counted : f ≡ front_of f.layout (parts_of_front f es) =
-    ap (front_with f.layout f.party f.id f.terms f.save f.claim) (sym each.0) in
+    ap (front_with f.layout f.party f.id (match_length f.terms) (rules_of f.terms) f.save f.claim) (sym each.0) in
     let text : front ≡ saved_text f.layout (parts_of_front f es) = join h.5 (h.3.1 ∙ ap text_of_front counted) each.2 in
     subst (λ (x : SavedParts). IsLayoutOf x front) h.4.2 (
       f.layout,
@@ -51,6 +53,7 @@ parted_to p front h =
           id_fits = r.id_fits;
           shortest = r.shortest;
           longest = r.longest;
+          rules = r.rules;
           first_save = r.first_save;
           last_save = r.last_save;
           claim = r.claim;
@@ -70,6 +73,7 @@ parted_from p front h =
       id_fits = r.id_fits;
       shortest = r.shortest;
       longest = r.longest;
+      rules = r.rules;
       first_save = r.first_save;
       last_save = r.last_save;
       claim = r.claim;
@@ -81,7 +85,7 @@ parted_from p front h =
       (is, refl),
       (
         p.entries,
-        each_from IsEntry entry_bytes (length p.entries) p.entries (entries_bytes p.entries) refl r.in_range
+        each_from (IsEntryIn h.0) entry_bytes (length p.entries) p.entries (entries_bytes p.entries) refl r.in_range
             refl,
         refl,
       ),
@@ -92,9 +96,11 @@ pub saved_law : Law (Of saved_fields) saved_at IsLayoutOf
 unfolding saved_at
 saved_law =
     other_text _ parted_to parted_from
-    (then_of (Of saved_fields) front_at (λ f c. with (parts_of_front f) (many_at entry_at f.count c)) front_law
-    (λ f. with_law (parts_of_front f) (many_at entry_at f.count) (many_law entry_at entry_law f.count))
-    (λ f first h. has_mapped (parts_of_front f) (has_each has_entry f.count))
+    (then_of (Of saved_fields) front_at (λ f c. with (parts_of_front f) (many_at (entry_at f.layout) f.count c))
+    front_law
+    (λ f. with_law (parts_of_front f) (many_at (entry_at f.layout) f.count)
+    (many_law (entry_at f.layout) (entry_law f.layout) f.count))
+    (λ f first h. has_mapped (parts_of_front f) (has_each (has_entry f.layout) f.count))
     (λ before w h. h) (λ f first t before w h. h
     ∙ subst (λ (r : List ℕ). 1 ≡ width_of saved_fields (r ++ before)) (sym t.1)
     (sym (done_behind saved_fields (text_of_front f) before (front_all f)))))
@@ -124,11 +130,12 @@ has_written party save claim log id_fits is_log savable =
       id_fits = id_fits;
       shortest = is_log.points.0;
       longest = is_log.points.1;
+      rules = all_in_two (rules_of log.terms);
       first_save = savable.first_save;
       last_save = savable.last_save;
       claim = savable.claim;
       few = legal.0;
-      in_range = entries_in_range log.terms log.entries legal;
+      in_range = all_told log.entries (entries_in_range log.terms log.entries legal);
     } in
     (written_text p, record { layout = record { in_layout = r; spelled = refl }; legal = legal })
 
@@ -145,9 +152,9 @@ module _ (bytes : List ℕ) where
   front_fails f e = rw e refl
 
   module _ (front : Front) (c : Cursor) (read : front_at (from_front bytes) ≡ Ok (front, c)) where
-    pub by_entries : layout_of bytes ≡ fields_of front (entries_of front.count c)
+    pub by_entries : layout_of bytes ≡ fields_of front (entries_of front.layout front.count c)
     unfolding layout_of saved_at
-    by_entries = rw read (go (many_at entry_at front.count c))
+    by_entries = rw read (go (many_at (entry_at front.layout) front.count c))
       where
         ended : (entries : List Entry) (b : Bool)
             → cond b (Ok (parts_of_front front entries)) (Err fault.Extra) ≡ fields_of front
@@ -168,10 +175,9 @@ has_saved =
     let p : SavedParts = record {
       party = referee;
       id = 0;
-      terms = shortest_match;
+      terms = terms_of shortest_match rules.One;
       save = least_save;
-      claim =
-          None;
+      claim = None;
       entries = [];
     } in
     let r : IsInLayout Two p = record {
@@ -179,6 +185,7 @@ has_saved =
       id_fits = omega arith;
       shortest = omega arith;
       longest = omega arith;
+      rules = tt;
       first_save = omega arith;
       last_save = omega arith;
       claim = tt;

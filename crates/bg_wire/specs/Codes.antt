@@ -1,5 +1,7 @@
 -- The numbers of the layouts: codes, marks and ranges.
 use Rattle.std.specs.Prelude.{ℕ}
+use Rattle.bg_match.specs.declared.limits.Rules.{Rules}
+use Rattle.bg_match.specs.declared.limits.Rules.TheVariants as rules
 
 -- ---- the code of an entry, and of the action that it answers
 
@@ -29,6 +31,10 @@ accepted_code = 8
 
 abbrev pub rejected_code : ℕ
 rejected_code = 9
+
+-- the code of a pass, which answers no action
+abbrev pub passed_code : ℕ
+passed_code = 10
 
 -- ---- the code of a level
 
@@ -122,10 +128,22 @@ version_offset = 2
 abbrev pub kind_offset : ℕ
 kind_offset = 3
 
+-- and of the byte that tells the rules
+
+abbrev pub rules_offset : ℕ
+rules_offset = 12
+
 -- ---- the rules that a match is played by
 
 abbrev pub rules_one : ℕ
 rules_one = 1
+
+abbrev pub rules_two : ℕ
+rules_two = 2
+
+abbrev pub rules_code : Rules → ℕ
+rules_code rules.One = rules_one
+rules_code rules.Two = rules_two
 
 -- ---- saved texts
 

@@ -11,6 +11,8 @@ use Rattle.bg_match.specs.declared.entries.Entry.TheVariants as entry
 use Rattle.bg_match.specs.declared.levels.Level.{Level}
 use Rattle.bg_match.specs.declared.levels.Level.TheVariants.{Normal, Gammon, Backgammon}
 use Rattle.bg_wire.specs.Codes.{opening_code, rolled_code, doubled_code, taken_code, dropped_code, moved_code, resigned_code, accepted_code, rejected_code, normal_code, gammon_code, backgammon_code, least_pips, most_pips, lowest_start, bar, most_steps}
+use Rattle.bg_wire.specs.SavedLayouts.{last_code}
+use Rattle.bg_wire.specs.declared.saved_layouts.Layout.{Layout}
 use Rattle.bg_wire.specs.Reading.{◌>>=◌, Cursor, Read, u8_at, many_at, with}
 
 unfoldable pub step_at : Cursor → Read FromTo
@@ -71,9 +73,11 @@ entry_of code c =
     else if code == moved_code then with entry.Moved (turn_at c)
     else if code == resigned_code then with entry.Resigned (level_at c)
     else if code == accepted_code then Ok (entry.Accepted, c)
-    else Ok (entry.Rejected, c)
+    else if code == rejected_code then Ok (entry.Rejected, c)
+    else Ok (entry.Passed, c)
 
-unfoldable pub entry_at : Cursor → Read Entry
-entry_at c = do
-  code ← u8_at opening_code rejected_code c
+-- a pass has a code in one layout alone
+unfoldable pub entry_at : Layout → Cursor → Read Entry
+entry_at layout c = do
+  code ← u8_at opening_code (last_code layout) c
   entry_of code.0 code.1

@@ -10,7 +10,7 @@ use Rattle.bg_match.specs.declared.entries.Entry.{Entry}
 use Rattle.bg_match.specs.declared.entries.Entry.TheVariants as entry
 use Rattle.bg_match.specs.declared.levels.Level.{Level}
 use Rattle.bg_match.specs.declared.levels.Level.TheVariants.{Normal, Gammon, Backgammon}
-use Rattle.bg_wire.specs.Codes.{opening_code, rolled_code, doubled_code, taken_code, dropped_code, moved_code, resigned_code, accepted_code, rejected_code, normal_code, gammon_code, backgammon_code}
+use Rattle.bg_wire.specs.Codes.{opening_code, rolled_code, doubled_code, taken_code, dropped_code, moved_code, resigned_code, accepted_code, rejected_code, normal_code, gammon_code, backgammon_code, passed_code}
 use Rattle.bg_wire.specs.Fields.{Fields, Done, Field, bytes_each, first_byte}
 
 abbrev pub step_bytes : FromTo → List ℕ
@@ -58,6 +58,7 @@ entry_bytes (entry.Moved turn) = moved_code ∷ turn_bytes turn
 entry_bytes (entry.Resigned level) = resigned_code ∷ level_code level ∷ []
 entry_bytes entry.Accepted = accepted_code ∷ []
 entry_bytes entry.Rejected = rejected_code ∷ []
+entry_bytes entry.Passed = passed_code ∷ []
 
 -- one after the other
 abbrev pub entries_bytes : List Entry → List ℕ

@@ -4,6 +4,7 @@ pub mod Texts
 pub mod Fields
 pub mod EntryText
 pub mod EntryReading
+pub mod RulesReading
 pub mod PacketText
 pub mod PacketReading
 pub mod SavedLayouts

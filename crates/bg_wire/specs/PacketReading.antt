@@ -1,10 +1,13 @@
 -- Reading packets, as the code does it: words of private contracts, of which no public clause speaks.
 use Rattle.std.specs.Prelude.{◌==◌, ℕ, ◌+◌, ◌-◌, List, Result, Ok, nat_lt, if◌then◌else◌}
 use Rattle.bg_match.specs.declared.entries.Entry.{Entry}
+use Rattle.bg_match.specs.declared.limits.Rules.{Rules}
 use Rattle.bg_match.specs.Limits.{most_entries}
-use Rattle.bg_wire.specs.Codes.{most_in_packet, packet_magic, packet_version, want_kind, claim_kind, entries_kind, magic_offset, version_offset, kind_offset, first_number, rules_one, seat_of_x, seat_of_o, last_watcher}
+use Rattle.bg_wire.specs.Codes.{most_in_packet, packet_magic, packet_version, want_kind, claim_kind, entries_kind, magic_offset, version_offset, kind_offset, first_number, seat_of_x, seat_of_o, last_watcher}
 use Rattle.bg_wire.specs.Reading.{◌>>=◌, Cursor, Read, u8_at, u16_at, u32_at, u64_at, many_at, whole_of}
 use Rattle.bg_wire.specs.EntryReading.{action_at, entry_at}
+use Rattle.bg_wire.specs.RulesReading.{rules_at}
+use Rattle.bg_wire.specs.declared.saved_layouts.Layout.TheVariants.{Two}
 use Rattle.bg_wire.specs.declared.faults.WireFault.{WireFault}
 use Rattle.bg_wire.specs.declared.faults.WireFault.TheVariants as fault
 use Rattle.bg_wire.specs.declared.reader.ReadFault.{ReadFault}
@@ -21,18 +24,18 @@ wire_fault (read_fault.Field at) =
     else if at == kind_offset then fault.Kind
     else fault.Field at
 
-unfoldable pub want_at : ℕ → Cursor → Read Packet
-want_at id c = do
+unfoldable pub want_at : ℕ → Rules → Cursor → Read Packet
+want_at id rules c = do
   sender ← u8_at seat_of_x last_watcher c
   held ← u32_at 0 most_entries sender.1
-  Ok (packet.Want id sender.0 held.0, held.1)
+  Ok (packet.Want id rules sender.0 held.0, held.1)
 
-unfoldable pub claim_at : ℕ → Cursor → Read Packet
-claim_at id c = do
+unfoldable pub claim_at : ℕ → Rules → Cursor → Read Packet
+claim_at id rules c = do
   sender ← u8_at seat_of_x seat_of_o c
   number ← u32_at first_number most_entries sender.1
   action ← action_at number.1
-  Ok (packet.Claim id sender.0 number.0 action.0, action.1)
+  Ok (packet.Claim id rules sender.0 number.0 action.0, action.1)
 
 -- how many entries one packet tells at most, from this number on
 abbrev pub most_from : ℕ → ℕ
@@ -42,27 +45,27 @@ most_from start =
 unfoldable pub list_at : ℕ → Cursor → Read (List Entry)
 list_at start c = do
   count ← u8_at 1 (most_from start) c
-  many_at entry_at count.0 count.1
+  many_at (entry_at Two) count.0 count.1
 
-unfoldable pub entries_at : ℕ → Cursor → Read Packet
-entries_at id c = do
+unfoldable pub entries_at : ℕ → Rules → Cursor → Read Packet
+entries_at id rules c = do
   start ← u32_at first_number most_entries c
   list ← list_at start.0 start.1
-  Ok (packet.Entries id start.0 list.0, list.1)
+  Ok (packet.Entries id rules start.0 list.0, list.1)
 
 -- what follows the header
-unfoldable pub body_at : ℕ → ℕ → Cursor → Read Packet
-body_at kind id c =
-    if kind == want_kind then want_at id c
-    else if kind == claim_kind then claim_at id c
-    else entries_at id c
+unfoldable pub body_at : ℕ → ℕ → Rules → Cursor → Read Packet
+body_at kind id rules c =
+    if kind == want_kind then want_at id rules c
+    else if kind == claim_kind then claim_at id rules c
+    else entries_at id rules c
 
 -- what follows the kind
 unfoldable pub behind_kind_at : ℕ → Cursor → Read Packet
 behind_kind_at kind c = do
   id ← u64_at c
-  rules ← u8_at rules_one rules_one id.1
-  body_at kind id.0 rules.1
+  rules ← rules_at id.1
+  body_at kind id.0 rules.0 rules.1
 
 unfoldable pub packet_at : Cursor → Read Packet
 packet_at c = do

@@ -1,30 +1,33 @@
 -- The one text of each packet.
-use Rattle.std.specs.Prelude.{◌≡◌, ℕ, ◌+◌, ◌<◌, ◌≤◌, ◌^◌, List, [], ◌∷◌, ◌++◌, length, ◌==◌, if◌then◌else◌}
+use Rattle.std.specs.Prelude.{◌≡◌, ◌&&◌, ℕ, Bool, ◌+◌, ◌<◌, ◌≤◌, ◌^◌, List, [], ◌∷◌, ◌++◌, length, Some, slice_get, ◌==◌, if◌then◌else◌}
 use Rattle.std.specs.List.{AllByRecursion}
 use Rattle.std.specs.Int.{w16, w32, w64, to_be_bytes}
 use Rattle.bg_match.specs.Entry.{IsEntry, IsAction}
 use Rattle.bg_match.specs.declared.actions.Action.{Action}
 use Rattle.bg_match.specs.declared.entries.Entry.{Entry}
+use Rattle.bg_match.specs.declared.limits.Rules.{Rules}
 use Rattle.bg_match.specs.Limits.{most_entries}
-use Rattle.bg_wire.specs.Codes.{most_in_packet, packet_magic, packet_version, want_kind, claim_kind, entries_kind, first_number, rules_one, seat_of_x, seat_of_o, last_watcher}
+use Rattle.bg_wire.specs.Codes.{most_in_packet, packet_magic, packet_version, want_kind, claim_kind, entries_kind, first_number, rules_offset, rules_code, seat_of_x, seat_of_o, last_watcher}
 use Rattle.bg_wire.specs.Fields.{Fields, Done, Field, first_byte, width_of}
 use Rattle.bg_wire.specs.EntryText.{action_bytes, entries_bytes}
 use Rattle.bg_wire.specs.declared.packets.Packet.{Packet}
 use Rattle.bg_wire.specs.declared.packets.Packet.TheVariants as packet
 
-abbrev pub header_text : ℕ → ℕ → List ℕ
-header_text kind id =
-    to_be_bytes w16 packet_magic ++ (packet_version ∷ kind ∷ (to_be_bytes w64 id ++ rules_one ∷ []))
+abbrev pub header_text : ℕ → ℕ → Rules → List ℕ
+header_text kind id rules =
+    to_be_bytes w16 packet_magic ++ (packet_version ∷ kind ∷ (to_be_bytes w64 id ++ rules_code rules ∷ []))
 
 -- the count of the entries, then each
 abbrev pub list_text : List Entry → List ℕ
 list_text list = length list ∷ entries_bytes list
 
 abbrev pub packet_text : Packet → List ℕ
-packet_text (packet.Want id sender held) = header_text want_kind id ++ (sender ∷ to_be_bytes w32 held)
-packet_text (packet.Claim id sender number action) =
-    header_text claim_kind id ++ (sender ∷ (to_be_bytes w32 number ++ action_bytes action))
-packet_text (packet.Entries id start list) = header_text entries_kind id ++ (to_be_bytes w32 start ++ list_text list)
+packet_text (packet.Want id rules sender held) =
+    header_text want_kind id rules ++ (sender ∷ to_be_bytes w32 held)
+packet_text (packet.Claim id rules sender number action) =
+    header_text claim_kind id rules ++ (sender ∷ (to_be_bytes w32 number ++ action_bytes action))
+packet_text (packet.Entries id rules start list) =
+    header_text entries_kind id rules ++ (to_be_bytes w32 start ++ list_text list)
 
 pub record IsWant (id sender held : ℕ) : Type 0 where
   pub id_fits : id < 2 ^ 64
@@ -49,11 +52,11 @@ pub record IsEntries (id start : ℕ) (list : List Entry) : Type 0 where
   pub last_entry : start + length list ≤ most_entries + 1
   pub in_range : AllByRecursion IsEntry list
 
--- the fields of the packet are in their ranges
+-- the fields of the packet are in their ranges; all rules are
 abbrev pub IsPacket : Packet → Type 0
-IsPacket (packet.Want id sender held) = IsWant id sender held
-IsPacket (packet.Claim id sender number action) = IsClaim id sender number action
-IsPacket (packet.Entries id start list) = IsEntries id start list
+IsPacket (packet.Want id rules sender held) = IsWant id sender held
+IsPacket (packet.Claim id rules sender number action) = IsClaim id sender number action
+IsPacket (packet.Entries id rules start list) = IsEntries id start list
 
 -- the bytes are the packet's text
 pub record IsText (p : Packet) (bytes : List ℕ) : Type 0 where
@@ -78,10 +81,25 @@ packet_width before = width_of packet_fields before
 
 -- the match that the packet is of
 abbrev pub id_of : Packet → ℕ
-id_of (packet.Want id sender held) = id
-id_of (packet.Claim id sender number action) = id
-id_of (packet.Entries id start list) = id
+id_of (packet.Want id rules sender held) = id
+id_of (packet.Claim id rules sender number action) = id
+id_of (packet.Entries id rules start list) = id
 
--- the packet is of the match with this id
-abbrev pub IsOfMatch : ℕ → Packet → Type 0
-IsOfMatch id p = id_of p ≡ id
+-- the rules of that match
+abbrev pub packet_rules : Packet → Rules
+packet_rules (packet.Want id rules sender held) = rules
+packet_rules (packet.Claim id rules sender number action) = rules
+packet_rules (packet.Entries id rules start list) = rules
+
+-- its text tells them
+abbrev pub TextsTellRules : Type 0
+TextsTellRules = (p : Packet) (bytes : List ℕ) → IsText p bytes
+    → slice_get bytes rules_offset ≡ Some (rules_code (packet_rules p))
+
+-- the packet is of the match with this id and these rules
+abbrev pub IsOfMatch : ℕ → Rules → Packet → Type 0
+IsOfMatch id rules p = (id_of p ≡ id) × (packet_rules p ≡ rules)
+
+-- the same as a truth value
+abbrev pub is_of_match : ℕ → Rules → Packet → Bool
+is_of_match id rules p = (id_of p == id) && (rules_code (packet_rules p) == rules_code rules)

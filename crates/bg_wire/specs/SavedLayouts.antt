@@ -2,9 +2,14 @@
 use Rattle.std.specs.Prelude.{◌==◌, ℕ, List, [], ◌∷◌, ◌++◌, length, Option, Some, None, if◌then◌else◌}
 use Rattle.std.specs.Int.{Width, w16, w32, w64, byte_len, to_be_bytes, from_be_bytes}
 use Rattle.bg_match.specs.Limits.{most_entries}
-use Rattle.bg_match.specs.Terms.{Terms}
+use Rattle.bg_turns.specs.Turn.{IsTurn}
+use Rattle.bg_match.specs.Terms.{Terms, match_length, rules_of}
 use Rattle.bg_match.specs.declared.actions.Action.{Action}
-use Rattle.bg_wire.specs.Codes.{no_claim_flag, claim_flag, rules_one}
+use Rattle.bg_match.specs.declared.entries.Entry.{Entry}
+use Rattle.bg_match.specs.declared.entries.Entry.TheVariants as entry
+use Rattle.bg_match.specs.declared.limits.Rules.{Rules}
+use Rattle.bg_match.specs.declared.limits.Rules.TheVariants as rules
+use Rattle.bg_wire.specs.Codes.{rejected_code, passed_code, no_claim_flag, claim_flag, rules_code}
 use Rattle.bg_wire.specs.EntryText.{action_bytes, action_fields}
 use Rattle.bg_wire.specs.Fields.{Fields, Done, Field, followed_by, bytes_each, first_byte}
 use Rattle.bg_wire.specs.declared.saved_layouts.Layout.{Layout}
@@ -27,10 +32,31 @@ abbrev pub number_size : Layout → Width
 number_size One = w16
 number_size Two = w32
 
+-- the greatest code of an entry
+abbrev pub last_code : Layout → ℕ
+last_code One = rejected_code
+last_code Two = passed_code
+
+-- the second rules, and passes, are of the second layout alone
+abbrev pub TellsPasses : Layout → Type 0
+TellsPasses One = ⊥
+TellsPasses Two = Unit {0}
+
+-- the entry has a text, and its numbers are in their ranges
+abbrev pub IsEntryIn : Layout → Entry → Type 0
+IsEntryIn layout (entry.Moved turn) = IsTurn turn
+IsEntryIn layout entry.Passed = TellsPasses layout
+IsEntryIn layout _ = Unit {0}
+
+-- the rules have a text
+abbrev pub AreRulesIn : Layout → Rules → Type 0
+AreRulesIn layout rules.One = Unit {0}
+AreRulesIn layout rules.Two = TellsPasses layout
+
 -- the rules of the match, which the first layout does not tell
-abbrev pub rules_text : Layout → List ℕ
-rules_text One = []
-rules_text Two = rules_one ∷ []
+abbrev pub rules_text : Layout → Rules → List ℕ
+rules_text One which = []
+rules_text Two which = rules_code which ∷ []
 
 -- ---- the bytes, field by field
 
@@ -44,8 +70,9 @@ claim_text layout (Some claim) = claim_flag ∷ (number_text layout claim.0 ++ a
 -- what stands before the entries, their count last
 abbrev pub front_text : Layout → ℕ → ℕ → Terms → ℕ → Option (ℕ × Action) → ℕ → List ℕ
 front_text layout party id terms save claim count =
-    to_be_bytes w32 (magic_of layout) ++ (party ∷ (to_be_bytes w64 id ++ (terms ∷ (rules_text layout
-    ++ (to_be_bytes w32 save ++ (claim_text layout claim ++ number_text layout count))))))
+    to_be_bytes w32 (magic_of layout) ++ (party ∷ (to_be_bytes w64 id ++ (match_length terms
+    ∷ (rules_text layout (rules_of terms) ++ (to_be_bytes w32 save
+    ++ (claim_text layout claim ++ number_text layout count))))))
 
 -- ---- where fields begin
 
@@ -61,7 +88,7 @@ abbrev pub claim_fields : Layout → Fields
 claim_fields layout = Field 1 (λ flag. behind_flag layout (first_byte flag))
 
 abbrev pub rules_fields : Layout → Fields
-rules_fields layout = bytes_each (length (rules_text layout))
+rules_fields layout = bytes_each (length (rules_text layout rules.One))
 
 -- the save number, the claim, and the count of the entries
 abbrev pub save_fields : Layout → Fields

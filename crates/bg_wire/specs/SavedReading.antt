@@ -5,9 +5,13 @@ use Rattle.bg_match.specs.declared.entries.Entry.{Entry}
 use Rattle.bg_match.specs.declared.entries.EntryFault.{EntryFault}
 use Rattle.bg_match.specs.declared.entries.EntryFault.TheVariants as entry_fault
 use Rattle.bg_match.specs.Limits.{shortest_match, longest_match}
-use Rattle.bg_wire.specs.Codes.{first_number, rules_one, referee, seat_of_o, magic_offset, no_claim_flag, claim_flag, least_save, greatest_save}
+use Rattle.bg_match.specs.Terms.{terms_of}
+use Rattle.bg_match.specs.declared.limits.Rules.{Rules}
+use Rattle.bg_match.specs.declared.limits.Rules.TheVariants as rules
+use Rattle.bg_wire.specs.Codes.{first_number, referee, seat_of_o, magic_offset, no_claim_flag, claim_flag, least_save, greatest_save}
 use Rattle.bg_wire.specs.Reading.{◌>>=◌, Cursor, Read, u8_at, u16_at, u32_at, u64_at, many_at, whole_of}
 use Rattle.bg_wire.specs.EntryReading.{action_at, entry_at}
+use Rattle.bg_wire.specs.RulesReading.{rules_at}
 use Rattle.bg_match.specs.Match.{Log, IsLegalRecord}
 use Rattle.bg_wire.specs.SavedText.{SavedParts, parts_of, IsFirstIllegal}
 use Rattle.bg_wire.specs.declared.saves.Saved.{Saved}
@@ -50,9 +54,9 @@ saved_claim_in layout party c = do
   flagged_in layout flag.0 flag.1
 
 -- the rules, where they are told
-unfoldable pub rules_in : Layout → Cursor → Read ℕ
-rules_in One c = Ok (rules_one, c)
-rules_in Two c = u8_at rules_one rules_one c
+unfoldable pub rules_in : Layout → Cursor → Read Rules
+rules_in One c = Ok (rules.One, c)
+rules_in Two c = rules_at c
 
 -- what stands before the entries, as its reader holds it
 abbrev pub front_of : Layout → SavedParts → Front
@@ -75,9 +79,9 @@ unfoldable pub front_in : Layout → Cursor → Read Front
 front_in layout c = do
   party ← u8_at referee seat_of_o c
   id ← u64_at party.1
-  terms ← u8_at shortest_match longest_match id.1
-  rules ← rules_in layout terms.1
-  save ← u32_at least_save greatest_save rules.1
+  points ← u8_at shortest_match longest_match id.1
+  which ← rules_in layout points.1
+  save ← u32_at least_save greatest_save which.1
   claim ← saved_claim_in layout party.0 save.1
   count ← number_in layout 0 claim.1
   Ok (
@@ -85,7 +89,7 @@ front_in layout c = do
       layout = layout;
       party = party.0;
       id = id.0;
-      terms = terms.0;
+      terms = terms_of points.0 which.0;
       save = save.0;
       claim = claim.0;
       count = count.0;
@@ -111,7 +115,7 @@ parts_of_front f entries = record {
 unfoldable pub saved_at : Cursor → Read SavedParts
 saved_at c = do
   front ← front_at c
-  entries ← many_at entry_at (front.0).count front.1
+  entries ← many_at (entry_at (front.0).layout) (front.0).count front.1
   Ok (parts_of_front front.0 entries.0, entries.1)
 
 -- the fields where the layout holds, whatever the entries are
@@ -119,8 +123,8 @@ unfoldable pub layout_of : List ℕ → Result SavedParts LoadFault
 layout_of bytes = whole_of load_fault fault.Extra (saved_at (record { at = 0; rest = bytes }))
 
 -- the entries behind the front, where so many stand there and the text ends behind them
-abbrev pub entries_of : ℕ → Cursor → Result (List Entry) LoadFault
-entries_of count c = whole_of load_fault fault.Extra (many_at entry_at count c)
+abbrev pub entries_of : Layout → ℕ → Cursor → Result (List Entry) LoadFault
+entries_of layout count c = whole_of load_fault fault.Extra (many_at (entry_at layout) count c)
 
 -- the fields, by the front and what the entries behind it are
 abbrev pub fields_of : Front → Result (List Entry) LoadFault → Result SavedParts LoadFault
@@ -129,7 +133,7 @@ fields_of f (Err why) = Err why
 
 -- the front, and where the entries begin
 abbrev pub ReadsFront : Result (Front × Cursor) LoadFault → List ℕ → Type 0
-ReadsFront (Ok parts) bytes = layout_of bytes ≡ fields_of parts.0 (entries_of (parts.0).count parts.1)
+ReadsFront (Ok parts) bytes = layout_of bytes ≡ fields_of parts.0 (entries_of (parts.0).layout (parts.0).count parts.1)
 ReadsFront (Err why) bytes = layout_of bytes ≡ Err why
 
 -- entries that are passed over: whether they are there

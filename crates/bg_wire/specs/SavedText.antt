@@ -1,15 +1,15 @@
 -- What a party saves, and its texts: one in each layout, of which one is written.
 use Rattle.std.specs.Prelude.{◌≡◌, ◌≢◌, ℕ, ◌-◌, ◌<◌, ◌≤◌, ◌^◌, List, [], ◌++◌, length, take, Option, Some, None}
 use Rattle.std.specs.List.{AllByRecursion}
-use Rattle.bg_match.specs.Terms.{Terms, match_length}
-use Rattle.bg_match.specs.Entry.{IsEntry, IsAction}
+use Rattle.bg_match.specs.Terms.{Terms, match_length, rules_of}
+use Rattle.bg_match.specs.Entry.{IsAction}
 use Rattle.bg_match.specs.Match.{Log, IsLegalRecord}
 use Rattle.bg_match.specs.declared.actions.Action.{Action}
 use Rattle.bg_match.specs.declared.entries.Entry.{Entry}
 use Rattle.bg_match.specs.Limits.{shortest_match, longest_match}
 use Rattle.bg_wire.specs.Codes.{first_number, seat_of_x, seat_of_o, least_save, greatest_save}
 use Rattle.bg_wire.specs.Fields.{width_of}
-use Rattle.bg_wire.specs.SavedLayouts.{last_number, front_text, saved_fields}
+use Rattle.bg_wire.specs.SavedLayouts.{last_number, front_text, AreRulesIn, IsEntryIn, saved_fields}
 use Rattle.bg_wire.specs.declared.saved_layouts.Layout.{Layout}
 use Rattle.bg_wire.specs.declared.saved_layouts.Layout.TheVariants.{Two}
 use Rattle.bg_wire.specs.EntryText.{entries_bytes}
@@ -84,7 +84,8 @@ pub record IsInLayout (layout : Layout) (p : SavedParts) : Type 0 where
   pub last_save : p.save ≤ greatest_save
   pub claim : IsClaimIn layout p.party p.claim
   pub few : length p.entries ≤ last_number layout
-  pub in_range : AllByRecursion IsEntry p.entries
+  pub rules : AreRulesIn layout (rules_of p.terms)
+  pub in_range : AllByRecursion (IsEntryIn layout) p.entries
 
 -- a layout holds, and these are its fields
 pub record IsInLayoutOf (layout : Layout) (p : SavedParts) (bytes : List ℕ) : Type 0 where

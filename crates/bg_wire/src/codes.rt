@@ -20,6 +20,8 @@ pub(crate) const RESIGNED: u8 = 7;
 pub(crate) const ACCEPTED: u8 = 8;
 /// An offer to resign is rejected.
 pub(crate) const REJECTED: u8 = 9;
+/// A turn is passed, which answers no action.
+pub(crate) const PASSED: u8 = 10;
 
 /// The level of a normal win.
 pub(crate) const NORMAL: u8 = 1;
@@ -42,5 +44,7 @@ pub(crate) const MOST_STEPS: u8 = 4;
 /// The number of the first entry of a match.
 pub(crate) const FIRST_ENTRY: Number = 1;
 
-/// The rules that a match is played by.
+/// The first rules of a match.
 pub(crate) const RULES_ONE: u8 = 1;
+/// The second rules of a match.
+pub(crate) const RULES_TWO: u8 = 2;

@@ -8,6 +8,7 @@ use crate::codes::{
     MOST_STEPS, MOVED, NORMAL, OPENING, REJECTED, RESIGNED, ROLLED, TAKEN,
 };
 use crate::reader::{ReadFault, Reader};
+use crate::saved_layouts::Layout;
 use arrayvec::ArrayVec;
 use bg_board::{Die, Step};
 use bg_match::{Action, Entry, Level};
@@ -113,14 +114,15 @@ fn entry_of(reader: &mut Reader<'_>, code: u8) -> Result<Entry, ReadFault>
         MOVED => Entry::Moved(turn(reader)?),
         RESIGNED => Entry::Resigned(level(reader)?),
         ACCEPTED => Entry::Accepted,
-        _ => Entry::Rejected,
+        REJECTED => Entry::Rejected,
+        _ => Entry::Passed,
     })
 }
 
 #[tactic(auto, unfolding(crate::specs::EntryReading::entry_at))]
-pub(crate) fn entry(reader: &mut Reader<'_>) -> Result<Entry, ReadFault>
-    ensures { Reads result reader.new (entry_at reader.old) }
+pub(crate) fn entry(reader: &mut Reader<'_>, layout: Layout) -> Result<Entry, ReadFault>
+    ensures { Reads result reader.new (entry_at layout reader.old) }
 {
-    let code = reader.read_u8(OPENING, REJECTED)?;
+    let code = reader.read_u8(OPENING, layout.last_code())?;
     entry_of(reader, code)
 }

@@ -6,8 +6,8 @@ ghost use Rattle.bg_wire.specs.EntryText.{turn_bytes, level_code, dice_bytes, ac
 
 use crate::MOST_DATAGRAM_BYTES;
 use crate::codes::{
-    ACCEPTED, BACKGAMMON, DOUBLED, DROPPED, GAMMON, MOST_STEPS, MOVED, NORMAL, OPENING, REJECTED,
-    RESIGNED, ROLLED, TAKEN,
+    ACCEPTED, BACKGAMMON, DOUBLED, DROPPED, GAMMON, MOST_STEPS, MOVED, NORMAL, OPENING, PASSED,
+    REJECTED, RESIGNED, ROLLED, TAKEN,
 };
 use arrayvec::ArrayVec;
 use bg_board::Die;
@@ -100,5 +100,6 @@ pub(crate) fn put_entry<const N: usize>(out: &mut ArrayVec<u8, N>, entry: &Entry
         }
         Entry::Accepted => out.push(ACCEPTED),
         Entry::Rejected => out.push(REJECTED),
+        Entry::Passed => out.push(PASSED),
     }
 }

@@ -53,7 +53,7 @@ pub enum SaveRefusal {
 pub enum RestoreRefusal {
     /// Neither slot has a saved text, and slot 0 is not empty.
     Damaged,
-    /// The saved text is of another party, or of another match.
+    /// The saved text is of another party, or of a match with another id, length or rules.
     WrongMatch,
     /// There is no memory for the entries.
     Memory,

@@ -4,6 +4,7 @@
 //! ```
 //! let packet = Packet::Want {
 //!     id: 1,
+//!     rules: Rules::One,
 //!     sender: 3,
 //!     held: 0,
 //! };
@@ -33,6 +34,9 @@ mod refused_save_tests;
 mod restoring;
 #[cfg(test)]
 mod restoring_tests;
+mod rules_bytes;
+#[cfg(test)]
+mod rules_tests;
 mod saved_layouts;
 #[cfg(test)]
 mod saved_tests;

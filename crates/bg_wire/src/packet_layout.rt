@@ -10,16 +10,18 @@ ghost use Rattle.bg_wire.specs.EntryReading.{entry_at};
 ghost use Rattle.bg_wire.specs.PacketText.{IsPacket, header_text, list_text, packet_text};
 ghost use Rattle.bg_wire.specs.PacketReading.{want_at, claim_at, most_from, list_at, entries_at, behind_kind_at, body_at, packet_at, wire_fault};
 
-use crate::codes::{FIRST_ENTRY, RULES_ONE};
+use crate::codes::FIRST_ENTRY;
 use crate::entry_reading::{action, entry};
 use crate::entry_writing::{Bytes, put_action, put_entry};
 use crate::reader::{ReadFault, Reader};
+use crate::rules_bytes::{rules, rules_code};
+use crate::saved_layouts::Layout;
 use crate::{
     EntryList, LAST_WATCHER, MOST_DATAGRAM_BYTES, MOST_ENTRIES_IN_PACKET, Packet, SEAT_OF_O,
     SEAT_OF_X, WireFault,
 };
 use arrayvec::ArrayVec;
-use bg_match::{MOST_ENTRIES, Number};
+use bg_match::{MOST_ENTRIES, Number, Rules};
 
 /// What every packet begins with, as a number of two bytes.
 pub(crate) const MAGIC: u16 = 0x4247;
@@ -61,23 +63,29 @@ impl WireFault {
 }
 
 #[tactic(auto, unfolding(crate::specs::PacketReading::want_at))]
-fn want(reader: &mut Reader<'_>, id: u64) -> Result<Packet, ReadFault>
-    ensures { Reads result reader.new (want_at id reader.old) }
+fn want(reader: &mut Reader<'_>, id: u64, rules: Rules) -> Result<Packet, ReadFault>
+    ensures { Reads result reader.new (want_at id rules reader.old) }
 {
     let sender = reader.read_u8(SEAT_OF_X, LAST_WATCHER)?;
     let held = reader.read_u32(0, MOST_ENTRIES)?;
-    Ok(Packet::Want { id, sender, held })
+    Ok(Packet::Want {
+        id,
+        rules,
+        sender,
+        held,
+    })
 }
 
 #[tactic(auto, unfolding(crate::specs::PacketReading::claim_at))]
-fn claim(reader: &mut Reader<'_>, id: u64) -> Result<Packet, ReadFault>
-    ensures { Reads result reader.new (claim_at id reader.old) }
+fn claim(reader: &mut Reader<'_>, id: u64, rules: Rules) -> Result<Packet, ReadFault>
+    ensures { Reads result reader.new (claim_at id rules reader.old) }
 {
     let sender = reader.read_u8(SEAT_OF_X, SEAT_OF_O)?;
     let number = reader.read_u32(FIRST_ENTRY, MOST_ENTRIES)?;
     let action = action(reader)?;
     Ok(Packet::Claim {
         id,
+        rules,
         sender,
         number,
         action,
@@ -101,11 +109,11 @@ fn most_from(start: Number) -> u8
 
 fn list_of(reader: &mut Reader<'_>, count: u8) -> Result<EntryList, ReadFault>
     requires { count ≤ MOST_ENTRIES_IN_PACKET }
-    ensures { Reads result reader.new (many_at entry_at count reader.old) }
+    ensures { Reads result reader.new (many_at (entry_at Layout.Two) count reader.old) }
 {
     let mut entries = ArrayVec::new();
     for _ in 0..count {
-        entries.push(entry(reader)?);
+        entries.push(entry(reader, Layout::Two)?);
     }
     Ok(EntryList { entries })
 }
@@ -121,23 +129,28 @@ fn list(reader: &mut Reader<'_>, start: Number) -> Result<EntryList, ReadFault>
 }
 
 #[tactic(auto, unfolding(crate::specs::PacketReading::entries_at))]
-fn entries(reader: &mut Reader<'_>, id: u64) -> Result<Packet, ReadFault>
-    ensures { Reads result reader.new (entries_at id reader.old) }
+fn entries(reader: &mut Reader<'_>, id: u64, rules: Rules) -> Result<Packet, ReadFault>
+    ensures { Reads result reader.new (entries_at id rules reader.old) }
 {
     let start = reader.read_u32(FIRST_ENTRY, MOST_ENTRIES)?;
     let list = list(reader, start)?;
-    Ok(Packet::Entries { id, start, list })
+    Ok(Packet::Entries {
+        id,
+        rules,
+        start,
+        list,
+    })
 }
 
 /// What follows the header.
 #[tactic(auto, unfolding(crate::specs::PacketReading::body_at))]
-fn body(reader: &mut Reader<'_>, kind: u8, id: u64) -> Result<Packet, ReadFault>
-    ensures { Reads result reader.new (body_at kind id reader.old) }
+fn body(reader: &mut Reader<'_>, kind: u8, id: u64, rules: Rules) -> Result<Packet, ReadFault>
+    ensures { Reads result reader.new (body_at kind id rules reader.old) }
 {
     match kind {
-        WANT => want(reader, id),
-        CLAIM => claim(reader, id),
-        _ => entries(reader, id),
+        WANT => want(reader, id, rules),
+        CLAIM => claim(reader, id, rules),
+        _ => entries(reader, id, rules),
     }
 }
 
@@ -147,8 +160,8 @@ fn behind_kind(reader: &mut Reader<'_>, kind: u8) -> Result<Packet, ReadFault>
     ensures { Reads result reader.new (behind_kind_at kind reader.old) }
 {
     let id = reader.read_u64()?;
-    reader.read_u8(RULES_ONE, RULES_ONE)?;
-    body(reader, kind, id)
+    let rules = rules(reader)?;
+    body(reader, kind, id, rules)
 }
 
 /// A packet at the front of the bytes.
@@ -182,15 +195,15 @@ fn put_list(out: &mut Bytes, list: &EntryList)
     }
 }
 
-fn header(kind: u8, id: u64) -> Bytes
-    ensures { result.items ≡ header_text kind id }
+fn header(kind: u8, id: u64, rules: Rules) -> Bytes
+    ensures { result.items ≡ header_text kind id rules }
 {
     let mut out = ArrayVec::new();
     out.try_extend_from_slice(&MAGIC.to_be_bytes()).unwrap();
     out.push(VERSION);
     out.push(kind);
     out.try_extend_from_slice(&id.to_be_bytes()).unwrap();
-    out.push(RULES_ONE);
+    out.push(rules_code(rules));
     out
 }
 
@@ -200,26 +213,37 @@ pub(crate) fn text(packet: &Packet) -> Bytes
     ensures { result.items ≡ packet_text packet.now }
 {
     match packet {
-        Packet::Want { id, sender, held } => {
-            let mut out = header(WANT, *id);
+        Packet::Want {
+            id,
+            rules,
+            sender,
+            held,
+        } => {
+            let mut out = header(WANT, *id, *rules);
             out.push(*sender);
             put_number(&mut out, *held);
             out
         }
         Packet::Claim {
             id,
+            rules,
             sender,
             number,
             action,
         } => {
-            let mut out = header(CLAIM, *id);
+            let mut out = header(CLAIM, *id, *rules);
             out.push(*sender);
             put_number(&mut out, *number);
             put_action(&mut out, action);
             out
         }
-        Packet::Entries { id, start, list } => {
-            let mut out = header(ENTRIES, *id);
+        Packet::Entries {
+            id,
+            rules,
+            start,
+            list,
+        } => {
+            let mut out = header(ENTRIES, *id, *rules);
             put_number(&mut out, *start);
             put_list(&mut out, list);
             out

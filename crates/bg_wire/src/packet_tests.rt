@@ -1,9 +1,9 @@
 //! Worked packets, byte by byte: the least and the greatest, and each kind of action and of entry.
-use crate::test_bytes::{Bytes, extend, joined, list, turn};
+use crate::test_bytes::{Bytes, extend, joined, list, turn, with_byte};
 use crate::{Datagram, LONGEST_PACKET, Packet, PacketBytes, WireFault, decode, encode};
 use arrayvec::ArrayVec;
 use bg_board::Die;
-use bg_match::{Action, Entry, Level};
+use bg_match::{Action, Entry, Level, Rules};
 use bg_turns::Dice;
 use std::process::Abort;
 
@@ -24,7 +24,7 @@ pub(crate) const ENTRIES: [u8; 27] = [
     0x06, 0x02, 0x08, 0x05, 0x06, 0x05,
 ];
 
-/// The text of a packet of match 1, under the first rules: the kind, and what follows the rules.
+/// The text of a packet of match 1, by the first rules: the kind, and what follows the rules.
 pub(crate) fn packet_bytes(rt: &impl Abort, kind: u8, rest: &[u8]) -> Bytes {
     let header = [0x42, 0x47, 0x02, kind, 0, 0, 0, 0, 0, 0, 0, 0x01, 0x01];
     joined(rt, &header, rest)
@@ -59,6 +59,7 @@ pub(crate) fn check_spelling(rt: &impl Abort, bytes: &[u8]) {
 fn worked_want(rt: HostRuntime) {
     let want = Packet::Want {
         id: 1,
+        rules: Rules::One,
         sender: 3,
         held: 0,
     };
@@ -70,6 +71,7 @@ fn worked_want(rt: HostRuntime) {
 fn worked_claim(rt: HostRuntime) {
     let claim = Packet::Claim {
         id: 1,
+        rules: Rules::One,
         sender: 1,
         number: 2,
         action: Action::Move(turn(&rt, &[(8, 5), (6, 5)])),
@@ -84,6 +86,7 @@ fn worked_entries(rt: HostRuntime) {
     let moved = Entry::Moved(turn(&rt, &[(8, 5), (6, 5)]));
     let entries = Packet::Entries {
         id: 1,
+        rules: Rules::One,
         start: 1,
         list: list(&rt, &[opening, moved]),
     };
@@ -105,6 +108,7 @@ fn check_action(rt: &impl Abort, text: &[u8], action: Action) {
     extend(rt, &mut bytes, text);
     let claim = Packet::Claim {
         id: 1,
+        rules: Rules::One,
         sender: 2,
         number: 1000000,
         action,
@@ -112,16 +116,23 @@ fn check_action(rt: &impl Abort, text: &[u8], action: Action) {
     check_packet(rt, bytes.as_slice(), &claim);
 }
 
-/// The text of an entry, told as entry 1000000.
+/// The text of an entry, told as entry 1000000, by either rules.
 fn check_entry(rt: &impl Abort, text: &[u8], entry: Entry) {
     let mut bytes = packet_bytes(rt, 0x03, &[0, 0x0f, 0x42, 0x40, 1]);
     extend(rt, &mut bytes, text);
-    let told = Packet::Entries {
-        id: 1,
-        start: 1000000,
-        list: list(rt, &[entry]),
-    };
-    check_packet(rt, bytes.as_slice(), &told);
+    for (byte, rules) in [(1, Rules::One), (2, Rules::Two)] {
+        let told = Packet::Entries {
+            id: 1,
+            rules,
+            start: 1000000,
+            list: list(rt, &[entry.copy()]),
+        };
+        check_packet(
+            rt,
+            with_byte(rt, bytes.as_slice(), 12, byte).as_slice(),
+            &told,
+        );
+    }
 }
 
 /// A turn of four steps, and its text.
@@ -161,6 +172,27 @@ fn each_kind_of_entry(rt: HostRuntime) {
     check_entry(&rt, &[0x07, 2], Entry::Resigned(Level::Gammon));
     check_entry(&rt, &[0x08], Entry::Accepted);
     check_entry(&rt, &[0x09], Entry::Rejected);
+    check_entry(&rt, &[0x0a], Entry::Passed);
+}
+
+/// Each kind of packet by the second rules.
+#[test]
+fn packets_by_second_rules(rt: HostRuntime) {
+    for bytes in [WANT.as_slice(), &CLAIM, &ENTRIES] {
+        let changed = with_byte(&rt, bytes, 12, 2);
+        let packet = decode(changed.as_slice()).expect(&rt, "a packet");
+        assert!(rt; packet.rules() == Rules::Two && packet.id() == 1);
+        assert!(rt; packet.is_of(1, Rules::Two));
+        assert!(rt; !packet.is_of(1, Rules::One) && !packet.is_of(2, Rules::Two));
+        check_packet(&rt, changed.as_slice(), &packet);
+    }
+    let want = Packet::Want {
+        id: 1,
+        rules: Rules::Two,
+        sender: 3,
+        held: 0,
+    };
+    check_packet(&rt, with_byte(&rt, &WANT, 12, 2).as_slice(), &want);
 }
 
 #[test]

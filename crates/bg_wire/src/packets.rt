@@ -1,8 +1,8 @@
 //! Packets and datagrams.
-ghost use Rattle.std.specs.Prelude.{◌≡◌};
+ghost use Rattle.std.specs.Prelude.{◌≡◌, ◌↔◌, IsTrue};
 
 use arrayvec::ArrayVec;
-use bg_match::{Action, Entry, Number};
+use bg_match::{Action, Entry, Number, Rules};
 use std::marker::Model;
 
 /// The most entries of one packet.
@@ -43,6 +43,8 @@ pub enum Packet {
     Want {
         /// The number of the match.
         id: u64,
+        /// The rules of the match.
+        rules: Rules,
         /// The party that asks, from 1 to 255.
         sender: u8,
         /// How many entries it holds, from 0 to 1000000.
@@ -52,6 +54,8 @@ pub enum Packet {
     Claim {
         /// The number of the match.
         id: u64,
+        /// The rules of the match.
+        rules: Rules,
         /// The seat's party, 1 or 2.
         sender: u8,
         /// The number of the entry that shall answer the action, from 1 to 1000000.
@@ -63,6 +67,8 @@ pub enum Packet {
     Entries {
         /// The number of the match.
         id: u64,
+        /// The rules of the match.
+        rules: Rules,
         /// The number of the first of these entries, from 1 to 1000000. The number of the last is at most 1000000.
         start: Number,
         /// The entries, from 1 to 8.
@@ -71,7 +77,7 @@ pub enum Packet {
 }
 
 impl Packet {
-    ghost use Rattle.bg_wire.specs.PacketText.{id_of};
+    ghost use Rattle.bg_wire.specs.PacketText.{id_of, packet_rules, IsOfMatch, is_of_match};
 
     /// The number of the match that it is of.
     pub fn id(&self) -> u64
@@ -81,18 +87,39 @@ impl Packet {
             Packet::Want { id, .. } | Packet::Claim { id, .. } | Packet::Entries { id, .. } => *id,
         }
     }
+
+    /// The rules of that match.
+    pub fn rules(&self) -> Rules
+        ensures { result ≡ packet_rules self.now }
+    {
+        match self {
+            Packet::Want { rules, .. }
+            | Packet::Claim { rules, .. }
+            | Packet::Entries { rules, .. } => *rules,
+        }
+    }
+
+    /// Whether it is of the match with this number and these rules.
+    pub fn is_of(&self, id: u64, rules: Rules) -> bool
+        ensures value { result ≡ is_of_match id rules self.now }
+        ensures of { IsTrue result ↔ IsOfMatch id rules self.now }
+    {
+        self.id() == id && self.rules() == rules
+    }
 }
 
-/// A place in a list that is not full holds a Want of party 1 in match 0, which holds nothing.
+/// A place in a list that is not full holds a Want of party 1 in match 0, by the first rules, which holds nothing.
 impl Default for Packet {
     ghost use Rattle.std.specs.Prelude.{◌≡◌};
+    ghost use Rattle.bg_match.specs.declared.limits.Rules.TheVariants.{One};
     ghost use Rattle.bg_wire.specs.declared.packets.Packet.TheVariants.{Want};
 
-    ghost is_default = { λ packet. packet ≡ Want 0 1 0 };
+    ghost is_default = { λ packet. packet ≡ Want 0 One 1 0 };
 
     fn default() -> Self {
         Packet::Want {
             id: 0,
+            rules: Rules::One,
             sender: 1,
             held: 0,
         }

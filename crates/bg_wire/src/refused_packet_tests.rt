@@ -30,7 +30,7 @@ fn refused_wants(rt: HostRuntime) {
         (3, 0, WireFault::Kind),
         (3, 4, WireFault::Kind),
         (12, 0, WireFault::Field(12)),
-        (12, 2, WireFault::Field(12)),
+        (12, 3, WireFault::Field(12)),
         (13, 0, WireFault::Field(13)),
         (14, 1, WireFault::Field(14)),
     ];
@@ -38,6 +38,16 @@ fn refused_wants(rt: HostRuntime) {
     check_refused(&rt, &WANT[..17], WireFault::Short);
     let many = with_bytes(&rt, &WANT, 14, &TOO_GREAT);
     check_refused(&rt, many.as_slice(), WireFault::Field(14));
+}
+
+/// The rules are tested behind the match id, and before the fields of the kind.
+#[test]
+fn rules_before_other_fields(rt: HostRuntime) {
+    let want = with_bytes(&rt, &WANT, 12, &[3, 0]);
+    check_refused(&rt, want.as_slice(), WireFault::Field(12));
+    let kind = with_byte(&rt, want.as_slice(), 3, 4);
+    check_refused(&rt, kind.as_slice(), WireFault::Kind);
+    check_refused(&rt, &WANT[..12], WireFault::Short);
 }
 
 /// A Want as version 1 had it.
@@ -53,7 +63,7 @@ fn old_version_refused(rt: HostRuntime) {
 fn refused_claims(rt: HostRuntime) {
     let changes = [
         (12, 0, WireFault::Field(12)),
-        (12, 2, WireFault::Field(12)),
+        (12, 3, WireFault::Field(12)),
         (13, 0, WireFault::Field(13)),
         (13, 3, WireFault::Field(13)),
         (17, 0, WireFault::Field(14)),
@@ -73,11 +83,12 @@ fn refused_claims(rt: HostRuntime) {
 fn refused_entries(rt: HostRuntime) {
     let changes = [
         (12, 0, WireFault::Field(12)),
-        (12, 2, WireFault::Field(12)),
+        (12, 3, WireFault::Field(12)),
         (16, 0, WireFault::Field(13)),
         (17, 0, WireFault::Field(17)),
         (17, 9, WireFault::Field(17)),
         (18, 0, WireFault::Field(18)),
+        (18, 11, WireFault::Field(18)),
         (19, 0, WireFault::Field(19)),
         (20, 7, WireFault::Field(20)),
         (26, 6, WireFault::Field(26)),

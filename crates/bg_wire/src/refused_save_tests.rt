@@ -14,7 +14,8 @@ use std::test::Fail;
 /// A number of an entry that no record has: 1000001.
 const TOO_GREAT: [u8; 4] = [0, 0x0f, 0x42, 0x41];
 
-fn check_load_fault(rt: &(impl AllocGlobal + Abort), bytes: &[u8], fault: LoadFault) {
+/// The bytes are not loaded, and this is why.
+pub(crate) fn check_load_fault(rt: &(impl AllocGlobal + Abort), bytes: &[u8], fault: LoadFault) {
     assert_eq!(rt; load(rt.alloc(), bytes).err(), Some(fault), "{bytes:?}");
 }
 
@@ -41,7 +42,7 @@ fn changed_saves_refused(rt: HostRuntime) {
         (13, 0, LoadFault::Field(13)),
         (13, 100, LoadFault::Field(13)),
         (14, 0, LoadFault::Field(14)),
-        (14, 2, LoadFault::Field(14)),
+        (14, 3, LoadFault::Field(14)),
         (18, 0, LoadFault::Field(15)),
         (19, 2, LoadFault::Field(19)),
         (23, 0, LoadFault::Field(20)),
@@ -50,7 +51,9 @@ fn changed_saves_refused(rt: HostRuntime) {
         (30, 1, LoadFault::Field(30)),
         (32, 1, LoadFault::Short),
         (33, 0, LoadFault::Extra),
-        (34, 10, LoadFault::Field(34)),
+        // A pass, behind which bytes are left.
+        (34, 10, LoadFault::Extra),
+        (34, 11, LoadFault::Field(34)),
     ];
     check_changes(&rt, &SEAT_SAVE, &changes);
 }
@@ -126,6 +129,7 @@ fn check_again(rt: &(impl AllocGlobal + Abort), saved: &Saved) -> Result<(), Fai
     assert_eq!(rt; (again.party, again.save), (saved.party, saved.save));
     assert!(rt; again.claim == saved.claim);
     assert!(rt; again.log.id() == saved.log.id() && again.log.length() == saved.log.length());
+    assert_eq!(rt; again.log.rules(), saved.log.rules());
     assert_eq!(rt; again.log.len(), saved.log.len());
     for number in 1..=saved.log.len() {
         assert!(rt; again.log.entry(number) == saved.log.entry(number));

@@ -2,7 +2,7 @@
 use crate::saved_tests::OLD_REFEREE_SAVE;
 use crate::test_bytes::with_byte;
 use crate::{RestoreRefusal, restore};
-use bg_match::Number;
+use bg_match::{Number, Rules};
 use std::alloc::Global;
 use std::process::Abort;
 
@@ -33,7 +33,7 @@ fn restored(
     slot0: &[u8],
     slot1: &[u8],
 ) -> Result<Option<(u32, Number)>, RestoreRefusal> {
-    let found = restore(alloc, slot0, slot1, 0, 1, 1)?;
+    let found = restore(alloc, slot0, slot1, 0, 1, 1, Rules::One)?;
     Ok(found.map(|saved| (saved.save, saved.log.len())))
 }
 
@@ -111,18 +111,19 @@ fn cut_old_texts(rt: HostRuntime) {
 }
 
 /// The refusal of a party of a match, of slots that have save 4 and save 3.
-fn refusal(alloc: Global, party: u8, id: u64, terms: u8) -> Option<RestoreRefusal> {
-    restore(alloc, &FOURTH, &THIRD, party, id, terms).err()
+fn refusal(alloc: Global, party: u8, id: u64, length: u8, rules: Rules) -> Option<RestoreRefusal> {
+    restore(alloc, &FOURTH, &THIRD, party, id, length, rules).err()
 }
 
 /// The text that counts is then compared with the party and its match; the older one does not help.
 #[test]
 fn other_matches(rt: HostRuntime) {
     let wrong = Some(RestoreRefusal::WrongMatch);
-    assert_eq!(rt; refusal(rt.alloc(), 0, 1, 1), None);
-    assert_eq!(rt; refusal(rt.alloc(), 1, 1, 1), wrong);
-    assert_eq!(rt; refusal(rt.alloc(), 0, 2, 1), wrong);
-    assert_eq!(rt; refusal(rt.alloc(), 0, 1, 3), wrong);
+    assert_eq!(rt; refusal(rt.alloc(), 0, 1, 1, Rules::One), None);
+    assert_eq!(rt; refusal(rt.alloc(), 1, 1, 1, Rules::One), wrong);
+    assert_eq!(rt; refusal(rt.alloc(), 0, 2, 1, Rules::One), wrong);
+    assert_eq!(rt; refusal(rt.alloc(), 0, 1, 3, Rules::One), wrong);
+    assert_eq!(rt; refusal(rt.alloc(), 0, 1, 1, Rules::Two), wrong);
     // Save 4 of match 2, and save 3 of this match.
     let mut other = FOURTH;
     other[12] = 2;

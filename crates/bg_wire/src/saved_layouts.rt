@@ -2,20 +2,22 @@
 ghost use Rattle.std.specs.Prelude.{◌≡◌, ◌≤◌, ◌+◌, ◌++◌, ◌==◌, Ok, Err, if◌then◌else◌, length, IfOk};
 ghost use Rattle.arrayvec.specs.ArrayVec.{array_vec_len};
 ghost use Rattle.bg_match.specs.Limits.{longest_match, shortest_match};
+ghost use Rattle.bg_match.specs.Terms.{match_length};
 ghost use Rattle.bg_match.specs.Match.{IsLegalRecord};
 ghost use Rattle.bg_wire.specs.Reading.{Reads};
 ghost use Rattle.bg_wire.specs.declared.faults.LoadFault.{LoadFault as Fault};
-ghost use Rattle.bg_wire.specs.SavedLayouts.{layout_of_magic, claim_text, front_text};
+ghost use Rattle.bg_wire.specs.SavedLayouts.{layout_of_magic, last_code, claim_text, front_text};
 ghost use Rattle.bg_wire.specs.SavedText.{IsSavable, IsKeptClaim, IsInLayout, parts_with};
 ghost use Rattle.bg_wire.specs.SavedReading.{most_flag, number_in, kept_claim_in, saved_claim_in, rules_in, front_in, front_at, load_fault, entries_of, ReadsFront, Passes};
 
-use crate::codes::{FIRST_ENTRY, RULES_ONE};
+use crate::codes::{FIRST_ENTRY, PASSED, REJECTED};
 use crate::entry_reading::{action, entry};
 use crate::entry_writing::{Bytes, put_action};
 use crate::reader::{ReadFault, Reader};
+use crate::rules_bytes::{rules as told_rules, rules_code};
 use crate::{FIRST_SAVE, LAST_SAVE, LoadFault, MOST_DATAGRAM_BYTES, REFEREE, SEAT_OF_O};
 use arrayvec::ArrayVec;
-use bg_match::{Action, LONGEST_MATCH, MOST_ENTRIES, Number, Record, SHORTEST_MATCH, Terms};
+use bg_match::{Action, LONGEST_MATCH, MOST_ENTRIES, Number, Record, Rules, SHORTEST_MATCH, Terms};
 
 /// What every text of the first layout begins with, as a number of four bytes.
 pub(crate) const FIRST_MAGIC: u32 = 0x4247_5331;
@@ -34,9 +36,9 @@ pub(crate) const KEPT_CLAIM: u8 = 1;
 /// How a saved text is laid out.
 #[derive(Clone, Copy, Debug, PartialEq, Eq)]
 pub(crate) enum Layout {
-    /// Without the rules, and with two bytes for the number of an entry. It is only read.
+    /// Without rules or passes, and with two bytes for the number of an entry. It is only read.
     One,
-    /// With the rules, and with four bytes for the number of an entry.
+    /// With rules and passes, and with four bytes for the number of an entry.
     Two,
 }
 
@@ -74,6 +76,16 @@ impl Layout {
             Layout::One
         } else {
             Layout::Two
+        }
+    }
+
+    /// The greatest code of an entry.
+    pub(crate) fn last_code(self) -> u8
+        ensures { result ≡ last_code self }
+    {
+        match self {
+            Layout::One => REJECTED,
+            Layout::Two => PASSED,
         }
     }
 }
@@ -130,12 +142,12 @@ fn claim(
 
 /// The rules, where they are told.
 #[tactic(auto, unfolding(crate::specs::SavedReading::rules_in))]
-fn rules(reader: &mut Reader<'_>, layout: Layout) -> Result<u8, ReadFault>
+fn rules(reader: &mut Reader<'_>, layout: Layout) -> Result<Rules, ReadFault>
     ensures { Reads result reader.new (rules_in layout reader.old) }
 {
     match layout {
-        Layout::One => Ok(RULES_ONE),
-        Layout::Two => reader.read_u8(RULES_ONE, RULES_ONE),
+        Layout::One => Ok(Rules::One),
+        Layout::Two => told_rules(reader),
     }
 }
 
@@ -143,13 +155,13 @@ fn rules(reader: &mut Reader<'_>, layout: Layout) -> Result<u8, ReadFault>
 #[tactic(auto, unfolding(crate::specs::SavedReading::front_in))]
 fn read_front_in(reader: &mut Reader<'_>, layout: Layout) -> Result<Front, ReadFault>
     ensures reads { Reads result reader.new (front_in layout reader.old) }
-    ensures shortest { IfOk result (λ front. shortest_match ≤ front.terms) }
-    ensures longest { IfOk result (λ front. front.terms ≤ longest_match) }
+    ensures shortest { IfOk result (λ front. shortest_match ≤ match_length front.terms) }
+    ensures longest { IfOk result (λ front. match_length front.terms ≤ longest_match) }
 {
     let party = reader.read_u8(REFEREE, SEAT_OF_O)?;
     let id = reader.read_u64()?;
-    let terms = reader.read_u8(SHORTEST_MATCH, LONGEST_MATCH)?;
-    rules(reader, layout)?;
+    let length = reader.read_u8(SHORTEST_MATCH, LONGEST_MATCH)?;
+    let rules = rules(reader, layout)?;
     let save = reader.read_u32(FIRST_SAVE, LAST_SAVE)?;
     let claim = claim(reader, layout, party)?;
     let count = number(reader, layout, 0)?;
@@ -157,7 +169,7 @@ fn read_front_in(reader: &mut Reader<'_>, layout: Layout) -> Result<Front, ReadF
         layout,
         party,
         id,
-        terms,
+        terms: Terms { length, rules },
         save,
         claim,
         count,
@@ -167,8 +179,8 @@ fn read_front_in(reader: &mut Reader<'_>, layout: Layout) -> Result<Front, ReadF
 #[tactic(auto, unfolding(crate::specs::SavedReading::front_at))]
 fn read_front(reader: &mut Reader<'_>) -> Result<Front, ReadFault>
     ensures reads { Reads result reader.new (front_at reader.old) }
-    ensures shortest { IfOk result (λ front. shortest_match ≤ front.terms) }
-    ensures longest { IfOk result (λ front. front.terms ≤ longest_match) }
+    ensures shortest { IfOk result (λ front. shortest_match ≤ match_length front.terms) }
+    ensures longest { IfOk result (λ front. match_length front.terms ≤ longest_match) }
 {
     let magic = reader.read_u32(FIRST_MAGIC, SECOND_MAGIC)?;
     read_front_in(reader, Layout::of_magic(magic))
@@ -177,8 +189,8 @@ fn read_front(reader: &mut Reader<'_>) -> Result<Front, ReadFault>
 /// What stands before the entries, and a reader at the first of them.
 pub(crate) fn split_front(bytes: &[u8]) -> Result<(Front, Reader<'_>), LoadFault>
     ensures reads { ReadsFront result bytes.now }
-    ensures shortest { IfOk result (λ parts. shortest_match ≤ (parts.0).terms) }
-    ensures longest { IfOk result (λ parts. (parts.0).terms ≤ longest_match) }
+    ensures shortest { IfOk result (λ parts. shortest_match ≤ match_length ((parts.0).terms)) }
+    ensures longest { IfOk result (λ parts. match_length ((parts.0).terms) ≤ longest_match) }
 {
     let mut reader = Reader::new(bytes);
     match read_front(&mut reader) {
@@ -188,11 +200,15 @@ pub(crate) fn split_front(bytes: &[u8]) -> Result<(Front, Reader<'_>), LoadFault
 }
 
 /// Passes over so many entries, with which the text ends.
-pub(crate) fn pass_entries(reader: &mut Reader<'_>, count: Number) -> Result<(), LoadFault>
-    ensures { Passes result (entries_of count reader.old) }
+pub(crate) fn pass_entries(
+    reader: &mut Reader<'_>,
+    layout: Layout,
+    count: Number,
+) -> Result<(), LoadFault>
+    ensures { Passes result (entries_of layout count reader.old) }
 {
     for _ in 0..count {
-        if let Err(fault) = entry(reader) {
+        if let Err(fault) = entry(reader, layout) {
             return Err(LoadFault::of(fault));
         }
     }
@@ -229,7 +245,7 @@ pub(crate) fn front_text(
     out.push(party);
     out.try_extend_from_slice(&log.id().to_be_bytes()).unwrap();
     out.push(log.length());
-    out.push(RULES_ONE);
+    out.push(rules_code(log.rules()));
     out.try_extend_from_slice(&save.to_be_bytes()).unwrap();
     put_claim(&mut out, claim);
     out.try_extend_from_slice(&log.len().to_be_bytes()).unwrap();

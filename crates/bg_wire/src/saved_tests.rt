@@ -8,7 +8,7 @@ use crate::{
     save_text,
 };
 use bg_board::Die;
-use bg_match::{Action, Entry, Level, MOST_ENTRIES, Number, Record};
+use bg_match::{Action, Entry, Level, MOST_ENTRIES, Number, Record, Rules};
 use std::alloc::{AllocError, Global};
 use std::process::Abort;
 use std::test::Fail;
@@ -57,9 +57,10 @@ pub(crate) fn check_text(
     Ok(())
 }
 
-/// A record of match 1, of length 1, with so many entries. The first is the opening 3 1.
+/// A record of match 1, of length 1, by the first rules, with so many entries. The first is the opening 3 1.
 fn check_log(rt: &impl Abort, log: &Record, count: Number) {
     assert_eq!(rt; (log.id(), log.length(), log.len()), (1, 1, count));
+    assert_eq!(rt; log.rules(), Rules::One);
     assert!(rt; log.entry(1) == Some(&Entry::Opening(Die::Three, Die::One)));
 }
 
@@ -108,7 +109,7 @@ fn last_claims(rt: HostRuntime) {
 
 /// A record with so many pairs of entries behind an opening.
 fn long_record(alloc: Global, pairs: Number) -> Result<Record, Fail> {
-    let mut log = Record::new(alloc, 1, 1)?;
+    let mut log = Record::new(alloc, 1, 1, Rules::One)?;
     log.push(Entry::Opening(Die::Three, Die::One))?;
     for _ in 0..pairs {
         log.push(Entry::Resigned(Level::Normal))?;
@@ -175,7 +176,7 @@ fn longest_texts(rt: HostRuntime) {
 
 /// The slot and the number of the save that follows one of the referee's, who holds nothing.
 fn slot_after(alloc: Global, last: u32) -> Result<(Slot, u32), SaveRefusal> {
-    let Ok(log) = Record::new(alloc, 1, 1) else {
+    let Ok(log) = Record::new(alloc, 1, 1, Rules::One) else {
         return Err(SaveRefusal::Memory);
     };
     let (slot, save, _text) = next_save(alloc, last, 0, &None, &log)?;

@@ -16,8 +16,9 @@ ghost use Rattle.bg_wire.specs.SavedReading.{layout_of, entries_of, append_fault
 use crate::entry_reading::entry;
 use crate::entry_writing::put_entry;
 use crate::reader::Reader;
+use crate::saved_layouts::{Layout, end, front_text, pass_entries, split_front};
 use crate::text_lengths::entries_len;
-use crate::{LoadFault, SaveRefusal, Saved, Slot, saved_layouts as layout};
+use crate::{LoadFault, SaveRefusal, Saved, Slot};
 use arrayvec::ArrayVec;
 use bg_match::{Action, EntryFault, MOST_ENTRIES, Number, Record};
 use std::alloc::{AllocError, Global};
@@ -73,7 +74,7 @@ fn text_of(
         IsWrittenText (parts_with party save claim.now log.now) text.items) }
     ensures longest { IfOk result (λ text. vec_len text ≤ longest_saved_text) }
 {
-    let front = layout::front_text(party, save, claim, log);
+    let front = front_text(party, save, claim, log);
     let mut text = Vec::with_capacity(alloc, front.len() + entries_len(log))?;
     append(&mut text, front.as_slice());
     push_entries(&mut text, log);
@@ -171,13 +172,13 @@ pub fn load(alloc: Global, bytes: &[u8]) -> Result<Saved, LoadFault>
 fn load_record(alloc: Global, bytes: &[u8]) -> Result<Saved, LoadFault>
     ensures { Loads result (layout_of bytes.now) }
 {
-    let (front, mut reader) = layout::split_front(bytes)?;
-    let mut log = Record::new(alloc, front.id, front.terms).unwrap();
+    let (front, mut reader) = split_front(bytes)?;
+    let mut log = Record::new(alloc, front.id, front.terms.length, front.terms.rules).unwrap();
     if log.reserve(reader.at_most(front.count)).is_err() {
-        layout::pass_entries(&mut reader, front.count)?;
+        pass_entries(&mut reader, front.layout, front.count)?;
         return Err(LoadFault::Memory);
     }
-    replay(&mut log, &mut reader, front.count)?;
+    replay(&mut log, &mut reader, front.layout, front.count)?;
     Ok(Saved {
         party: front.party,
         save: front.save,
@@ -188,22 +189,27 @@ fn load_record(alloc: Global, bytes: &[u8]) -> Result<Saved, LoadFault>
 
 /// Appends so many entries, with which the text ends, to a record that has none. What is wrong with the layout comes
 /// first, also behind an entry that does not follow.
-fn replay(log: &mut Record, reader: &mut Reader<'_>, count: Number) -> Result<(), LoadFault>
+fn replay(
+    log: &mut Record,
+    reader: &mut Reader<'_>,
+    layout: Layout,
+    count: Number,
+) -> Result<(), LoadFault>
     requires none { log.old.entries ≡ [] }
     requires legal { IsLegalRecord log.old.terms [] }
-    ensures { Replays result log.old log.new (entries_of count reader.old) }
+    ensures { Replays result log.old log.new (entries_of layout count reader.old) }
 {
     for done in 0..count {
-        let entry = match entry(reader) {
+        let entry = match entry(reader, layout) {
             Ok(entry) => entry,
             Err(fault) => return Err(LoadFault::of(fault)),
         };
         if let Err(fault) = log.push(entry) {
-            layout::pass_entries(reader, count - (done + 1))?;
+            pass_entries(reader, layout, count - (done + 1))?;
             return Err(append_fault(done + 1, &fault));
         }
     }
-    layout::end(reader)
+    end(reader)
 }
 
 /// Why loading ends where the entry of this number was not appended.

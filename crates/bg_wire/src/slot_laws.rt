@@ -1,7 +1,7 @@
 //! Laws of texts and of slots, for the crates above: each is the contract of a function that does nothing.
 ghost use Rattle.std.specs.Prelude.{◌≡◌};
 ghost use Rattle.bg_wire.specs.Codes.{longest_packet, longest_datagram, longest_saved_text, first_watcher};
-ghost use Rattle.bg_wire.specs.PacketText.{IsText};
+ghost use Rattle.bg_wire.specs.PacketText.{IsText, TextsTellRules};
 ghost use Rattle.bg_wire.specs.SavedText.{IsSavedText};
 ghost use Rattle.bg_wire.specs.Texts.{IsOneText};
 ghost use Rattle.bg_wire.specs.FaultLaws.{HaveOneWireFault, PacketsHaveNoFault, HaveOneLoadFault, SavedTextsHaveNoFault};
@@ -27,9 +27,11 @@ pub fn laws_of_faults()
     ensures fine_saved { SavedTextsHaveNoFault }
 {}
 
-/// Bytes are the text of one packet, and of one saved match, whichever layout a saved text has.
+/// Bytes are the text of one packet, and of one saved match, whichever layout a saved text has. A packet's text tells
+/// its rules.
 pub fn laws_of_texts()
     ensures packets { IsOneText IsText }
+    ensures rules { TextsTellRules }
     ensures saved { IsOneText IsSavedText }
 {}
 

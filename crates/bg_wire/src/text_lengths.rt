@@ -18,7 +18,12 @@ fn entry_len(entry: &Entry) -> usize
         Entry::Opening(_, _) | Entry::Rolled(_) => 3,
         Entry::Moved(turn) => 2 + 2 * turn.steps.as_slice().len(),
         Entry::Resigned(_) => 2,
-        Entry::Doubled | Entry::Taken | Entry::Dropped | Entry::Accepted | Entry::Rejected => 1,
+        Entry::Doubled
+        | Entry::Taken
+        | Entry::Dropped
+        | Entry::Accepted
+        | Entry::Rejected
+        | Entry::Passed => 1,
     }
 }
 

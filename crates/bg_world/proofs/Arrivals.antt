@@ -8,9 +8,9 @@ use Rattle.bg_world.specs.Devices.{IsNoText, MayArrive}
 use Rattle.bg_world.specs.Handed.{sent_to, bytes_handed, handed}
 
 pub zero_is_no_text : IsNoText (0 ∷ [])
-zero_is_no_text (packets.Want id sender held) h = absurd (cc (h.spelled))
-zero_is_no_text (packets.Claim id sender number action) h = absurd (cc (h.spelled))
-zero_is_no_text (packets.Entries id start list) h = absurd (cc (h.spelled))
+zero_is_no_text (packets.Want id rules sender held) h = absurd (cc (h.spelled))
+zero_is_no_text (packets.Claim id rules sender number action) h = absurd (cc (h.spelled))
+zero_is_no_text (packets.Entries id rules start list) h = absurd (cc (h.spelled))
 
 some_is : {A : Type 0} (x y : A) → (let o : Option A = Some x in o) ≡ Some y → x ≡ y
 some_is x y e = cc

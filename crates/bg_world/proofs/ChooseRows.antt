@@ -58,7 +58,7 @@ module _ (id : ℕ) (terms : Terms) (q : Player) (a : Action) (slots : Slots) (f
       )
 
 -- the row of a seat's choice, between its states
-abbrev ChooseRow : ℕ → Player → Action → Outcome → SeatState → SeatState → Type 0
+abbrev ChooseRow : Terms → Player → Action → Outcome → SeatState → SeatState → Type 0
 ChooseRow terms q a o old new = SeatIfUp old.up o old new (ChooseStep terms q a o old new)
 
 pub choose_goes : (w : WorldView) (c : Restorable) (q : Player) (a : Action) (o : Outcome) (new : WorldView)

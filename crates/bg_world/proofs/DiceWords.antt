@@ -15,7 +15,6 @@ use Rattle.bg_wire.specs.declared.packets.Packet.{Packet}
 use Rattle.bg_wire.specs.declared.packets.Packet.TheVariants as packet
 use Rattle.bg_referee.specs.Claims.{IsAccepted}
 use Rattle.bg_referee.specs.Dues.{IsDue}
-use Rattle.bg_referee.proofs.DueEntries.{due_opening}
 use Rattle.bg_referee.specs.declared.outcomes.TakeOutcome.{TakeOutcome}
 use Rattle.bg_referee.specs.declared.outcomes.TakeOutcome.TheVariants as takes
 use Rattle.bg_world.specs.Agreement.{IsPrefix}
@@ -58,8 +57,10 @@ module _ (IsWord : ℕ → Type 0) where
   opening_shows : (terms : Terms) (log : List Entry) (word : ℕ) (e : Entry) → IsWord word
       → IsDue terms log word e → ShowsWord IsWord e
   opening_shows terms log word e is h =
-      let opening = due_opening terms log word e h in
-      subst (ShowsWord IsWord) (sym opening.2) (word, is, opening.1)
+      elim h.0 [
+        | inl opening ↦ subst (ShowsWord IsWord) (sym opening.2) (word, is, opening.1)
+        | inr pass ↦ subst (ShowsWord IsWord) (sym pass) tt
+      ]
 
   answer_shows : (a : Action) (word : ℕ) (e : Entry) → IsWord word → Answers a (dice_of word) e → ShowsWord IsWord e
   answer_shows action.Roll word e is h = subst (ShowsWord IsWord) (sym h.2) (word, is, h.1)
@@ -73,9 +74,9 @@ module _ (IsWord : ℕ → Type 0) where
 
   accepted_shows : (id : ℕ) (terms : Terms) (log : List Entry) (word : ℕ) (p : Packet) (e : Entry) → IsWord word
       → IsAccepted id terms log word p e → ShowsWord IsWord e
-  accepted_shows id terms log word (packet.Claim i sender n a) e is h = answer_shows a word e is h.3
-  accepted_shows id terms log word (packet.Want i sender held) e is h = absurd h
-  accepted_shows id terms log word (packet.Entries i start list) e is h = absurd h
+  accepted_shows id terms log word (packet.Claim i rules sender n a) e is h = answer_shows a word e is h.3
+  accepted_shows id terms log word (packet.Want i rules sender held) e is h = absurd h
+  accepted_shows id terms log word (packet.Entries i rules start list) e is h = absurd h
 
   -- ---- the rows
 

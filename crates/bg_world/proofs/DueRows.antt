@@ -2,7 +2,7 @@
 use Rattle.std.specs.Prelude.{◌≡◌, ℕ, List, Option, Some, None, Result, Ok, Err}
 use Rattle.std.proofs.Common.{refl, sym, ◌∙◌, ap, ap₂, subst}
 use Rattle.bg_match.specs.declared.entries.Entry.{Entry}
-use Rattle.bg_match.specs.Terms.{Terms}
+use Rattle.bg_match.specs.Terms.{Terms, rules_of}
 use Rattle.bg_wire.specs.declared.packets.Datagram.{Datagram}
 use Rattle.bg_wire.specs.SavedText.{SavedParts}
 use Rattle.bg_wire.specs.declared.packets.Packet.{Packet}
@@ -54,9 +54,9 @@ grown_state w c sent new r r' e same a = ap₂ (at_referee w c) same a.grown
 -- what the core tells is what the state has saved
 pub of_saved : (w : WorldView) (c : Restorable) (r : RefereeView) → RefereeMatches w.id w.terms c.referee r
     → (answer : Packet) → TellsSaved r answer → IsOfSaved (at_referee w c w.link.sent r) answer
-of_saved w c r fits (packet.Entries id start list) h = (h.0 ∙ fits.log.0, h.1.run)
-of_saved w c r fits (packet.Want id sender held) h = absurd h
-of_saved w c r fits (packet.Claim id sender n a) h = absurd h
+of_saved w c r fits (packet.Entries id rules start list) h = ((h.0.0 ∙ fits.log.0, h.0.1 ∙ ap rules_of fits.log.1), h.1.run)
+of_saved w c r fits (packet.Want id rules sender held) h = absurd h
+of_saved w c r fits (packet.Claim id rules sender n a) h = absurd h
 
 module _ (w : WorldView) (c : Restorable) (word : ℕ) where
   due_told : (r r' : RefereeView) (told : Result ℕ DueFault) → RefereeMatches w.id w.terms c.referee r

@@ -3,6 +3,7 @@ use Rattle.std.specs.Prelude.{◌≡◌, ◌⊎◌, ℕ, zero, suc, ◌+◌, Lis
 use Rattle.std.specs.Prelude.{MatchOption, slice_get, slice_set}
 use Rattle.std.specs.Global.{Vec}
 use Rattle.std.proofs.Common.{refl, sym, ◌∙◌, ap, subst, inl, inr, arith}
+use Rattle.bg_match.specs.Terms.{Terms}
 use Rattle.bg_board.specs.declared.players.Player.{Player}
 use Rattle.bg_board.specs.declared.players.Player.TheVariants.{X, O}
 use Rattle.bg_match.specs.declared.actions.Action.{Action}
@@ -43,25 +44,25 @@ if_some None P Q f h = tt
 if_some (Some c) P Q f h = f c h
 
 -- a seat, where it is up, keeps what was shown
-abbrev SeatKeeps : ℕ → List Datagram → Player → Option SeatView → Type 0
-SeatKeeps id sent q s = IfSome s (λ s. KeepsWhatWasShown id sent (party_of q) s.follower)
+abbrev SeatKeeps : ℕ → Terms → List Datagram → Player → Option SeatView → Type 0
+SeatKeeps id terms sent q s = IfSome s (λ s. KeepsWhatWasShown id terms sent (party_of q) s.follower)
 
 -- ---- changes of a world
 
 after_sends : (w : WorldView) (out : List Datagram) (n : LinkView) → n.sent ≡ w.link.sent ++ out
     → AllKeepWhatWasShown w → AllKeepWhatWasShown (record w { link = n })
 after_sends w out n more kept = record {
-  x = if_some w.x (λ s. KeepsWhatWasShown w.id w.link.sent 1 s.follower)
-      (λ s. KeepsWhatWasShown w.id n.sent 1 s.follower)
-      (λ s. shown_more w.id w.link.sent n.sent out 1 s.follower more) kept.x;
-  o = if_some w.o (λ s. KeepsWhatWasShown w.id w.link.sent 2 s.follower)
-      (λ s. KeepsWhatWasShown w.id n.sent 2 s.follower)
-      (λ s. shown_more w.id w.link.sent n.sent out 2 s.follower more) kept.o;
+  x = if_some w.x (λ s. KeepsWhatWasShown w.id w.terms w.link.sent 1 s.follower)
+      (λ s. KeepsWhatWasShown w.id w.terms n.sent 1 s.follower)
+      (λ s. shown_more w.id w.terms w.link.sent n.sent out 1 s.follower more) kept.x;
+  o = if_some w.o (λ s. KeepsWhatWasShown w.id w.terms w.link.sent 2 s.follower)
+      (λ s. KeepsWhatWasShown w.id w.terms n.sent 2 s.follower)
+      (λ s. shown_more w.id w.terms w.link.sent n.sent out 2 s.follower more) kept.o;
   watchers =
-      λ i f is. shown_more w.id w.link.sent n.sent out (first_watcher + i) f.follower more (kept.watchers i f is);
+      λ i f is. shown_more w.id w.terms w.link.sent n.sent out (first_watcher + i) f.follower more (kept.watchers i f is);
 }
 
-with_seat : (w : WorldView) (q : Player) (s : Option SeatView) → SeatKeeps w.id w.link.sent q s
+with_seat : (w : WorldView) (q : Player) (s : Option SeatView) → SeatKeeps w.id w.terms w.link.sent q s
     → AllKeepWhatWasShown w → AllKeepWhatWasShown (with_seat_core w q s)
 with_seat w X s one kept = record { x = one; o = kept.o; watchers = kept.watchers }
 with_seat w O s one kept = record { x = kept.x; o = one; watchers = kept.watchers }
@@ -72,7 +73,7 @@ with_keeper w X k kept = record { x = kept.x; o = kept.o; watchers = kept.watche
 with_keeper w O k kept = record { x = kept.x; o = kept.o; watchers = kept.watchers }
 
 with_watcher : (w : WorldView) (i : ℕ) (f : WatcherView)
-    → KeepsWhatWasShown w.id w.link.sent (first_watcher + i) f.follower
+    → KeepsWhatWasShown w.id w.terms w.link.sent (first_watcher + i) f.follower
     → AllKeepWhatWasShown w → AllKeepWhatWasShown (record w { watchers = slice_set w.watchers i f })
 with_watcher w i f one kept = record {
   x = kept.x;
@@ -81,52 +82,52 @@ with_watcher w i f one kept = record {
 }
   where
     at : (j : ℕ) (g : WatcherView) → ((j ≡ i) × (g ≡ f)) ⊎ (slice_get w.watchers j ≡ Some g)
-        → KeepsWhatWasShown w.id w.link.sent (first_watcher + j) g.follower
+        → KeepsWhatWasShown w.id w.terms w.link.sent (first_watcher + j) g.follower
     at j g (inl p) =
-        subst (λ (x : WatcherView). KeepsWhatWasShown w.id w.link.sent (first_watcher + j) x.follower) (sym p.1)
-        (subst (λ (n : ℕ). KeepsWhatWasShown w.id w.link.sent (first_watcher + n) f.follower) (sym p.0) one)
+        subst (λ (x : WatcherView). KeepsWhatWasShown w.id w.terms w.link.sent (first_watcher + j) x.follower) (sym p.1)
+        (subst (λ (n : ℕ). KeepsWhatWasShown w.id w.terms w.link.sent (first_watcher + n) f.follower) (sym p.0) one)
     at j g (inr p) = kept.watchers j g p
 
 -- ---- what a core keeps after it chose, saved or came back
 
-chosen : (id : ℕ) (sent : List Datagram) (party : ℕ) (s : SeatView) (a : Action) (told : Result ℕ ChooseFault)
-    (s' : SeatView) → SeatChooses s a told s' → KeepsWhatWasShown id sent party s.follower
-    → KeepsWhatWasShown id sent party s'.follower
-chosen id sent party s a (Ok n) s' h kept =
-    subst (λ (x : SeatView). KeepsWhatWasShown id sent party x.follower) (sym h.chooses.1) kept
-chosen id sent party s a (Err why) s' h kept =
-    subst (λ (x : SeatView). KeepsWhatWasShown id sent party x.follower) (sym h.chooses.1) kept
+chosen : (id : ℕ) (terms : Terms) (sent : List Datagram) (party : ℕ) (s : SeatView) (a : Action) (told : Result ℕ ChooseFault)
+    (s' : SeatView) → SeatChooses s a told s' → KeepsWhatWasShown id terms sent party s.follower
+    → KeepsWhatWasShown id terms sent party s'.follower
+chosen id terms sent party s a (Ok n) s' h kept =
+    subst (λ (x : SeatView). KeepsWhatWasShown id terms sent party x.follower) (sym h.chooses.1) kept
+chosen id terms sent party s a (Err why) s' h kept =
+    subst (λ (x : SeatView). KeepsWhatWasShown id terms sent party x.follower) (sym h.chooses.1) kept
 
-module _ (id : ℕ) (sent : List Datagram) (q : Player) where
-  is_core : (s : Option SeatView) (r : SeatView) → s ≡ Some r → KeepsWhatWasShown id sent (party_of q) r.follower
-      → SeatKeeps id sent q s
-  is_core s r is kept = subst (SeatKeeps id sent q) (sym is) kept
+module _ (id : ℕ) (terms : Terms) (sent : List Datagram) (q : Player) where
+  is_core : (s : Option SeatView) (r : SeatView) → s ≡ Some r → KeepsWhatWasShown id terms sent (party_of q) r.follower
+      → SeatKeeps id terms sent q s
+  is_core s r is kept = subst (SeatKeeps id terms sent q) (sym is) kept
 
-  is_down : (s : Option SeatView) → s ≡ None → SeatKeeps id sent q s
-  is_down s is = subst (SeatKeeps id sent q) (sym is) tt
+  is_down : (s : Option SeatView) → s ≡ None → SeatKeeps id terms sent q s
+  is_down s is = subst (SeatKeeps id terms sent q) (sym is) tt
 
   saved : (honest : Type 0) (old : KeeperView) (core : Option SeatView) (o : Outcome) (k : KeeperView)
-      (s : Option SeatView) → SeatKeeps id sent q core
-      → SaveCallsAt seat_parts seat_after_save honest old core o k s → SeatKeeps id sent q s
+      (s : Option SeatView) → SeatKeeps id terms sent q core
+      → SaveCallsAt seat_parts seat_after_save honest old core o k s → SeatKeeps id terms sent q s
   saved honest old None o k s kept h = is_down s h.2
   saved honest old (Some r) o k s kept h = goes_on h.0 h.2
     where
       told : (save : ℕ) (answer : Result (Unit {0}) DeviceFault) → SaveTold save (seat_after_save r save) answer o s
-          → SeatKeeps id sent q s
+          → SeatKeeps id terms sent q s
       told save (Ok done) g = is_core s (seat_after_save r save) g.1 kept
       told save (Err fault) g = is_down s g.1
 
       goes_on : (next : Result (Slot × ℕ × Vec ℕ) SaveRefusal) → SaveGoesOn seat_after_save honest old r next o k s
-          → SeatKeeps id sent q s
+          → SeatKeeps id terms sent q s
       goes_on (Ok next) g = told next.1 g.0 g.2
       goes_on (Err save_refusals.SavesSpent) g = is_core s r g.2 kept
       goes_on (Err save_refusals.Memory) g = is_core s r g.2 kept
 
   comes_back : (fresh : SeatView) → fresh.follower.early ≡ [] → (restored : Result (Option Saved) Outcome) (o : Outcome)
-      (s : Option SeatView) → ComesUp resumed_seat fresh restored o s → SeatKeeps id sent q s
+      (s : Option SeatView) → ComesUp resumed_seat fresh restored o s → SeatKeeps id terms sent q s
   comes_back fresh none (Ok (Some r)) o s h =
-      is_core s (resumed_seat r) h.1 (none_kept id sent (party_of q) (resumed_seat r).follower refl)
-  comes_back fresh none (Ok None) o s h = is_core s fresh h.1 (none_kept id sent (party_of q) fresh.follower none)
+      is_core s (resumed_seat r) h.1 (none_kept id terms sent (party_of q) (resumed_seat r).follower refl)
+  comes_back fresh none (Ok None) o s h = is_core s fresh h.1 (none_kept id terms sent (party_of q) fresh.follower none)
   comes_back fresh none (Err why) o s h = is_down s h.1
 
 -- ---- after an event
@@ -146,30 +147,30 @@ module _ (w : WorldView) (c : Restorable) (link_honest keepers_honest : Type 0) 
       subst AllKeepWhatWasShown (sym e) (record { x = all.x; o = all.o; watchers = all.watchers })
 
   at_seat : (q : Player) (n : LinkView) (s : Option SeatView) → new ≡ with_seat_core (record w { link = n }) q s
-      → SeatKeeps w.id w.link.sent q s → AllKeepWhatWasShown new
+      → SeatKeeps w.id w.terms w.link.sent q s → AllKeepWhatWasShown new
   at_seat q n s e one =
       let more : n.sent ≡ w.link.sent ++ out = sym (ap (λ (x : WorldView). x.link.sent) e ∙ same_link q) ∙ grown in
       subst AllKeepWhatWasShown (sym e) (with_seat (record w { link = n }) q s
-      (if_some s (λ s. KeepsWhatWasShown w.id w.link.sent (party_of q) s.follower)
-      (λ s. KeepsWhatWasShown w.id n.sent (party_of q) s.follower)
-      (λ s. shown_more w.id w.link.sent n.sent out (party_of q) s.follower more) one) (after_sends w out n more kept))
+      (if_some s (λ s. KeepsWhatWasShown w.id w.terms w.link.sent (party_of q) s.follower)
+      (λ s. KeepsWhatWasShown w.id w.terms n.sent (party_of q) s.follower)
+      (λ s. shown_more w.id w.terms w.link.sent n.sent out (party_of q) s.follower more) one) (after_sends w out n more kept))
     where
       same_link : (p : Player) → (with_seat_core (record w { link = n }) p s).link.sent ≡ n.sent
       same_link X = refl
       same_link O = refl
 
   at_keeper : (q : Player) (k : KeeperView) (s : Option SeatView) → new ≡ with_seat_keeper (with_seat_core w q s) q k
-      → SeatKeeps w.id w.link.sent q s → AllKeepWhatWasShown new
+      → SeatKeeps w.id w.terms w.link.sent q s → AllKeepWhatWasShown new
   at_keeper q k s e one =
       subst AllKeepWhatWasShown (sym e) (with_keeper (with_seat_core w q s) q k (with_seat w q s one kept))
 
   at_watcher : (i : ℕ) (n : LinkView) (f : WatcherView)
       → new ≡ record w { link = n; watchers = slice_set w.watchers i f }
-      → KeepsWhatWasShown w.id w.link.sent (first_watcher + i) f.follower → AllKeepWhatWasShown new
+      → KeepsWhatWasShown w.id w.terms w.link.sent (first_watcher + i) f.follower → AllKeepWhatWasShown new
   at_watcher i n f e one =
       let more : n.sent ≡ w.link.sent ++ out = sym (ap (λ (x : WorldView). x.link.sent) e) ∙ grown in
       subst AllKeepWhatWasShown (sym e) (with_watcher (record w { link = n }) i f
-      (shown_more w.id w.link.sent n.sent out (first_watcher + i) f.follower more one) (after_sends w out n more kept))
+      (shown_more w.id w.terms w.link.sent n.sent out (first_watcher + i) f.follower more one) (after_sends w out n more kept))
 
   due : (word : ℕ) (o : Outcome) → DueCalls w word o new → AllKeepWhatWasShown new
   due word o h = at w.referee h
@@ -192,7 +193,7 @@ module _ (w : WorldView) (c : Restorable) (link_honest keepers_honest : Type 0) 
       at None is k = stays k.1
       at (Some s) is k =
           at_seat q w.link (Some k.1) k.4
-          (chosen w.id w.link.sent (party_of q) s a k.0 k.1 k.2 (seat_keeps w q s kept is))
+          (chosen w.id w.terms w.link.sent (party_of q) s a k.0 k.1 k.2 (seat_keeps w q s kept is))
 
   -- ---- takes
 
@@ -240,7 +241,7 @@ module _ (w : WorldView) (c : Restorable) (link_honest keepers_honest : Type 0) 
           let t = watcher_takes w.id w.terms link_honest link party pick w.link k.0 f o k.1
           (fits.watchers i f is).log (watcher_keeps w i party f kept is_party is) k.2 in
           at_watcher i k.0 k.1 k.3
-          (subst (λ (p : ℕ). KeepsWhatWasShown w.id w.link.sent p (k.1).follower) is_party t.0.2)
+          (subst (λ (p : ℕ). KeepsWhatWasShown w.id w.terms w.link.sent p (k.1).follower) is_party t.0.2)
 
   -- ---- saves
 
@@ -250,9 +251,9 @@ module _ (w : WorldView) (c : Restorable) (link_honest keepers_honest : Type 0) 
   save_at_seat : (q : Player) (o : Outcome) → SaveCalls keepers_honest w (roles.Seat q) o new → AllKeepWhatWasShown new
   save_at_seat q o h =
       at_keeper q h.0 h.1 h.3
-      (saved w.id w.link.sent q keepers_honest (seat_keeper w q) (seat_core w q) o h.0 h.1 (kept_seat q) h.2)
+      (saved w.id w.terms w.link.sent q keepers_honest (seat_keeper w q) (seat_core w q) o h.0 h.1 (kept_seat q) h.2)
     where
-      kept_seat : (p : Player) → SeatKeeps w.id w.link.sent p (seat_core w p)
+      kept_seat : (p : Player) → SeatKeeps w.id w.terms w.link.sent p (seat_core w p)
       kept_seat X = kept.x
       kept_seat O = kept.o
 
@@ -280,7 +281,7 @@ module _ (w : WorldView) (c : Restorable) (link_honest keepers_honest : Type 0) 
       at None is k = stays k.1
       at (Some s) is k =
           at_seat q k.0 (Some k.1) k.3
-          (subst (λ (x : SeatView). KeepsWhatWasShown w.id w.link.sent (party_of q) x.follower) (sym k.2.1.after)
+          (subst (λ (x : SeatView). KeepsWhatWasShown w.id w.terms w.link.sent (party_of q) x.follower) (sym k.2.1.after)
           (seat_keeps w q s kept is))
 
   tick_at_watcher : (i : ℕ) (o : Outcome) → TickCalls link_honest w (roles.Watcher i) o new → AllKeepWhatWasShown new
@@ -295,7 +296,7 @@ module _ (w : WorldView) (c : Restorable) (link_honest keepers_honest : Type 0) 
       at None is k = stays k.1
       at (Some f) is k =
           at_watcher i k.0 k.1 k.3
-          (subst (λ (x : WatcherView). KeepsWhatWasShown w.id w.link.sent (first_watcher + i) x.follower)
+          (subst (λ (x : WatcherView). KeepsWhatWasShown w.id w.terms w.link.sent (first_watcher + i) x.follower)
           (sym k.2.1.after) (kept.watchers i f is))
 
   -- ---- restarts
@@ -308,7 +309,7 @@ module _ (w : WorldView) (c : Restorable) (link_honest keepers_honest : Type 0) 
       → AllKeepWhatWasShown new
   restart_at_seat q party o h =
       at_keeper q h.0 h.1 h.3
-      (comes_back w.id w.link.sent q (fresh_seat q w.id w.terms) refl h.2.0 o h.1 h.2.2)
+      (comes_back w.id w.terms w.link.sent q (fresh_seat q w.id w.terms) refl h.2.0 o h.1 h.2.2)
 
   restart_at_watcher : (i party : ℕ) (o : Outcome) → RestartCalls keepers_honest w (roles.Watcher i) party o new
       → AllKeepWhatWasShown new
@@ -324,7 +325,7 @@ module _ (w : WorldView) (c : Restorable) (link_honest keepers_honest : Type 0) 
       at None k = stays k.1
       at (Some f) k =
           at_watcher i w.link (fresh_watcher party w.id w.terms) k.1
-          (none_kept w.id w.link.sent (first_watcher + i) (fresh_watcher party w.id w.terms).follower refl)
+          (none_kept w.id w.terms w.link.sent (first_watcher + i) (fresh_watcher party w.id w.terms).follower refl)
 
   -- ---- each event
 

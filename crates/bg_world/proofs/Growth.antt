@@ -2,6 +2,7 @@
 use Rattle.std.specs.Prelude.{◌≡◌, ℕ, Bool, true, false, Option, Some, None, List, [], ◌∷◌, ◌++◌, Ok, Err, MatchOption, slice_get}
 use Rattle.std.proofs.Common.{refl, sym, ◌∙◌, ap}
 use Rattle.std.proofs.lemmas.List.{append-nil}
+use Rattle.bg_match.specs.Terms.{Terms, rules_of}
 use Rattle.bg_board.specs.declared.players.Player.{Player}
 use Rattle.bg_board.specs.declared.players.Player.TheVariants.{X, O}
 use Rattle.bg_match.specs.declared.entries.Entry.{Entry}
@@ -126,11 +127,11 @@ step_grows w (events.Tick party) o v h = tick_at w (role party) o v h
 step_grows w (events.Restart party) o v h = restart_at w (role party) o v h
 
 -- so an early entry that a party keeps still came to it
-pub stood_more : (id : ℕ) (sent out : List Datagram) (party n : ℕ) (e : Entry) → WasShown id sent party n e → WasShown id (sent ++ out) party n e
-stood_more id sent out party n e h = record {
+pub stood_more : (id : ℕ) (terms : Terms) (sent out : List Datagram) (party n : ℕ) (e : Entry) → WasShown id terms sent party n e → WasShown id terms (sent ++ out) party n e
+stood_more id terms sent out party n e h = record {
   start = h.start;
   list = h.list;
-  came = WasSent-more sent out party (packet.Entries id h.start h.list) h.came;
+  came = WasSent-more sent out party (packet.Entries id (rules_of terms) h.start h.list) h.came;
   place = h.place;
   number = h.number;
   stands = h.stands;

@@ -32,7 +32,7 @@ same_action : (n : ℕ) (a b : Action) → ◌≡◌ {A = Option (ℕ × Action)
 same_action n a b h = (some_pair_parts n n a b h).1
 
 -- a claim, where there is one, was legal on a front of what the referee has saved
-abbrev pub LegalClaim : ℕ → List Entry → Player → Option (ℕ × Action) → Type 0
+abbrev pub LegalClaim : Terms → List Entry → Player → Option (ℕ × Action) → Type 0
 LegalClaim terms S q None = Unit {0}
 LegalClaim terms S q (Some c) = IsLegalClaim terms S q c.0 c.1
 
@@ -49,7 +49,7 @@ pub record SeatOk (id : ℕ) (terms : Terms) (sent : List Datagram) (S : List En
   pub claims : AreClaimsKept sent q (claim_in f.restorable)
 
 -- each entry of a seat answers an action that the seat has claimed under its number
-abbrev pub Answered : ℕ → List Datagram → List Entry → Type 0
+abbrev pub Answered : Terms → List Datagram → List Entry → Type 0
 Answered terms sent log =
     (i : ℕ) (e : Entry) (q : Player) → slice_get log i ≡ Some e → ActsAfter terms (take i log) (Seat q)
     → (a : Action) × Claimed sent q (suc i) a × IsAnswer a e
@@ -118,28 +118,28 @@ referee_steps w r inv ok p = record {
 }
   where
     sound : (p : Packet) → IsSound w p → IsSound (record w { referee = r }) p
-    sound (packet.Want id sender held) h =
+    sound (packet.Want id rules sender held) h =
         let l = prefix_length (saved_log w) (take r.saved r.log) p in
         let k = h.2 in
         let m = inv.referee.within in
         (h.0, h.1, omega (arith, length-take w.referee.saved w.referee.log, length-take r.saved r.log))
-    sound (packet.Claim id sender n a) h = (h.0, (h.1.0, h.1.1, IsLegalClaim-more w.terms (saved_log w) (take r.saved r.log) h.1.0 n a p h.1.2))
-    sound (packet.Entries id start list) h = (h.0, prefix_run (saved_log w) (take r.saved r.log) start list p h.1)
+    sound (packet.Claim id rules sender n a) h = (h.0, (h.1.0, h.1.1, IsLegalClaim-more w.terms (saved_log w) (take r.saved r.log) h.1.0 n a p h.1.2))
+    sound (packet.Entries id rules start list) h = (h.0, prefix_run (saved_log w) (take r.saved r.log) start list p h.1)
 
 -- a step of a seat that sends nothing
 pub seat_steps : (w : ProtocolState) (q : Player) (f : SeatState) → Inv w → SeatOk w.id w.terms w.sent (saved_log w) q f → Inv (with_seat w q f)
 seat_steps w X f inv ok = record { setup = inv.setup; referee = inv.referee; x = ok; o = inv.o; watchers = inv.watchers; datagrams = λ to packet h. sound packet (inv.datagrams to packet h) }
   where
     sound : (p : Packet) → IsSound w p → IsSound (record w { x = f }) p
-    sound (packet.Want id sender held) h = h
-    sound (packet.Claim id sender n a) h = h
-    sound (packet.Entries id start list) h = h
+    sound (packet.Want id rules sender held) h = h
+    sound (packet.Claim id rules sender n a) h = h
+    sound (packet.Entries id rules start list) h = h
 seat_steps w O f inv ok = record { setup = inv.setup; referee = inv.referee; x = inv.x; o = ok; watchers = inv.watchers; datagrams = λ to packet h. sound packet (inv.datagrams to packet h) }
   where
     sound : (p : Packet) → IsSound w p → IsSound (record w { o = f }) p
-    sound (packet.Want id sender held) h = h
-    sound (packet.Claim id sender n a) h = h
-    sound (packet.Entries id start list) h = h
+    sound (packet.Want id rules sender held) h = h
+    sound (packet.Claim id rules sender n a) h = h
+    sound (packet.Entries id rules start list) h = h
 
 -- a step of a watcher that sends nothing
 pub watcher_steps : (w : ProtocolState) (i : ℕ) (log : List Entry) → Inv w → IsPrefix log (saved_log w) → Inv (record w { watchers = slice_set w.watchers i log })
@@ -153,9 +153,9 @@ watcher_steps w i log inv p = record {
 }
   where
     sound : (p : Packet) → IsSound w p → IsSound (record w { watchers = slice_set w.watchers i log }) p
-    sound (packet.Want id sender held) h = let k = h.1 in (h.0, omega (arith, length-set w.watchers i log), h.2)
-    sound (packet.Claim id sender n a) h = h
-    sound (packet.Entries id start list) h = h
+    sound (packet.Want id rules sender held) h = let k = h.1 in (h.0, omega (arith, length-set w.watchers i log), h.2)
+    sound (packet.Claim id rules sender n a) h = h
+    sound (packet.Entries id rules start list) h = h
 
     at_write : (j : ℕ) (l : List Entry) → (l ≡ log) ⊎ (slice_get w.watchers j ≡ Some l) → IsPrefix l (saved_log w)
     at_write j l (inl e) = subst (λ (x : List Entry). IsPrefix x (saved_log w)) (sym e) p
@@ -163,7 +163,7 @@ watcher_steps w i log inv p = record {
 
 -- what may be sent: what is sound, and of claims what the seat's slots restore
 abbrev pub IsKeptClaim : ProtocolState → Packet → Type 0
-IsKeptClaim w (packet.Claim id sender n a) = (q : Player) → sender ≡ party_of q → claim_in (seat w q).restorable ≡ Some (n, a)
+IsKeptClaim w (packet.Claim id rules sender n a) = (q : Player) → sender ≡ party_of q → claim_in (seat w q).restorable ≡ Some (n, a)
 IsKeptClaim w _ = Unit {0}
 
 abbrev pub MaySend : ProtocolState → Datagram → Type 0
@@ -186,7 +186,7 @@ pub WasSent-more : (sent out : List Datagram) (to : ℕ) (p : Packet) → WasSen
 WasSent-more sent out to p h = (h.0, Contains-append_left sent out h.0 h.1, h.2)
 
 Claimed-more : (sent out : List Datagram) (q : Player) (n : ℕ) (a : Action) → Claimed sent q n a → Claimed (sent ++ out) q n a
-Claimed-more sent out q n a h = (h.0, h.1, WasSent-more sent out h.0 (packet.Claim h.1 (party_of q) n a) h.2)
+Claimed-more sent out q n a h = (h.0, h.1, h.2, WasSent-more sent out h.0 (packet.Claim h.1 h.2 (party_of q) n a) h.3)
 
 AreClaimsKept-more : (sent out : List Datagram) (q : Player) (restorable : Option (ℕ × Action)) → ((n : ℕ) (a : Action) → Claimed out q n a → restorable ≡ Some (n, a)) → AreClaimsKept sent q restorable → AreClaimsKept (sent ++ out) q restorable
 AreClaimsKept-more sent out q restorable new h = record {
@@ -196,11 +196,11 @@ AreClaimsKept-more sent out q restorable new h = record {
 }
   where
     split : (n : ℕ) (a : Action) → Claimed (sent ++ out) q n a → Claimed sent q n a ⊎ (restorable ≡ Some (n, a))
-    split n a c = at_place (WasSent-cases sent out c.0 (packet.Claim c.1 (party_of q) n a) c.2)
+    split n a c = at_place (WasSent-cases sent out c.0 (packet.Claim c.1 c.2 (party_of q) n a) c.3)
       where
-        at_place : WasSent sent c.0 (packet.Claim c.1 (party_of q) n a) ⊎ WasSent out c.0 (packet.Claim c.1 (party_of q) n a) → Claimed sent q n a ⊎ (restorable ≡ Some (n, a))
-        at_place (inl p) = inl (c.0, c.1, p)
-        at_place (inr p) = inr (new n a (c.0, c.1, p))
+        at_place : WasSent sent c.0 (packet.Claim c.1 c.2 (party_of q) n a) ⊎ WasSent out c.0 (packet.Claim c.1 c.2 (party_of q) n a) → Claimed sent q n a ⊎ (restorable ≡ Some (n, a))
+        at_place (inl p) = inl (c.0, c.1, c.2, p)
+        at_place (inr p) = inr (new n a (c.0, c.1, c.2, p))
 
     up_to : (n : ℕ) (a : Action) → Claimed sent q n a ⊎ (restorable ≡ Some (n, a)) → n ≤ claim_number restorable
     up_to n a (inl c) = h.up_to n a c
@@ -249,13 +249,13 @@ sends w out inv may = record {
     new to p h = may_send w h.0 to p (All-contains (MaySend w) out h.0 may h.1) h.2
 
     restorable : (q : Player) (n : ℕ) (a : Action) → Claimed out q n a → claim_in (seat w q).restorable ≡ Some (n, a)
-    restorable q n a c = (new c.0 (packet.Claim c.1 (party_of q) n a) c.2).1 q refl
+    restorable q n a c = (new c.0 (packet.Claim c.1 c.2 (party_of q) n a) c.3).1 q refl
 
     at_place : (to : ℕ) (p : Packet) → WasSent w.sent to p ⊎ WasSent out to p → IsSound w p
     at_place to p (inl h) = inv.datagrams to p h
     at_place to p (inr h) = (new to p h).0
 
     sound : (p : Packet) → IsSound w p → IsSound (record w { sent = w.sent ++ out }) p
-    sound (packet.Want id sender held) h = h
-    sound (packet.Claim id sender n a) h = h
-    sound (packet.Entries id start list) h = h
+    sound (packet.Want id rules sender held) h = h
+    sound (packet.Claim id rules sender n a) h = h
+    sound (packet.Entries id rules start list) h = h

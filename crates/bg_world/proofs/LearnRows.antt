@@ -2,9 +2,10 @@
 use Rattle.std.specs.Prelude.{◌≡◌, ◌≢◌, ℕ, suc, ◌+◌, ◌<◌, List, [], ◌∷◌, ◌++◌, Result, Ok, Err, length, take}
 use Rattle.std.proofs.Common.{refl, sym, ap, subst, arith, length-append}
 use Rattle.std.proofs.lemmas.List.{length-take-le}
+use Rattle.bg_match.specs.declared.limits.Rules.{Rules}
 use Rattle.bg_match.specs.declared.entries.Entry.{Entry}
 use Rattle.bg_match.specs.Match.{IsLegalRecord}
-use Rattle.bg_match.specs.Terms.{Terms}
+use Rattle.bg_match.specs.Terms.{Terms, rules_of}
 use Rattle.bg_wire.specs.declared.packets.Datagram.{Datagram}
 use Rattle.bg_wire.specs.declared.packets.Packet.{Packet}
 use Rattle.bg_wire.specs.declared.packets.Packet.TheVariants as packet
@@ -49,7 +50,7 @@ grows_by_some f start list k h =
     )
 
 module _ (id : ℕ) (terms : Terms) (sent : List Datagram) (party : ℕ) (old : FollowerView)
-    (is : IsLogOf id terms old.log) (kept : KeepsWhatWasShown id sent party old) where
+    (is : IsLogOf id terms old.log) (kept : KeepsWhatWasShown id terms sent party old) where
   -- what the core keeps is what the protocol asks for
   holds : (p : Packet) (entries : List Entry)
       → (Continues old.log.id old.log.terms old.log.entries p → Holds entries p)
@@ -59,12 +60,13 @@ module _ (id : ℕ) (terms : Terms) (sent : List Datagram) (party : ℕ) (old : 
       (subst (λ (m : Terms). Continues id m old.log.entries p) (sym is.1) c))
 
   -- what is appended came in the packet, or before
-  grew : (i start : ℕ) (list : List Entry) (k : ℕ) (new : FollowerView) → i ≡ old.log.id
-      → WasSent sent party (packet.Entries i start list) → GrowsBy old start list k
-      → new ≡ grown old (packet.Entries i start list) k new.log.spare
-      → HoldsWhatContinues id terms old.log.entries (packet.Entries i start list) new.log.entries
-      → LearnStep id terms sent party (packet.Entries i start list) (learned.Grew k) old.log.entries new.log.entries
-  grew i start list k new of came grows after keeps =
+  grew : (i : ℕ) (rules : Rules) (start : ℕ) (list : List Entry) (k : ℕ) (new : FollowerView)
+      → (i ≡ old.log.id) × (rules ≡ rules_of old.log.terms)
+      → WasSent sent party (packet.Entries i rules start list) → GrowsBy old start list k
+      → new ≡ grown old (packet.Entries i rules start list) k new.log.spare
+      → HoldsWhatContinues id terms old.log.entries (packet.Entries i rules start list) new.log.entries
+      → LearnStep id terms sent party (packet.Entries i rules start list) (learned.Grew k) old.log.entries new.log.entries
+  grew i rules start list k new of came grows after keeps =
       let had = old.log.entries in
       let comes = coming old start list in
       let more = take k comes in
@@ -79,9 +81,9 @@ module _ (id : ℕ) (terms : Terms) (sent : List Datagram) (party : ℕ) (old : 
               (subst (λ (m : Terms). IsLegalRecord m (had ++ more)) is.1 grows.1.legal);
           shown = λ j e g.
               let number : length had + 1 + j ≡ suc (length had + j) = omega arith in
-              subst (λ (n : ℕ). WasShown id sent party n e) number
-              (told_shown id sent party old (packet.Entries i start list) (length had + 1 + j) e is.0 came kept
-              (coming_told old i start list j e of grows.0.0.1 (get_taken k comes j e g)));
+              subst (λ (n : ℕ). WasShown id terms sent party n e) number
+              (told_shown id terms sent party old (packet.Entries i rules start list) (length had + 1 + j) e is.0 is.1 came kept
+              (coming_told old i rules start list j e of grows.0.0.1 (get_taken k comes j e g)));
         }),
         keeps,
       )
@@ -91,19 +93,19 @@ module _ (id : ℕ) (terms : Terms) (sent : List Datagram) (party : ℕ) (old : 
   same new e = ap (λ (f : FollowerView). f.log.entries) e
 
   same_kept : (p : Packet) (new : FollowerView) → Kept old p new → new.log.entries ≡ old.log.entries
-  same_kept (packet.Entries i start list) new h = ap (λ (f : FollowerView). f.log.entries) h.1
-  same_kept (packet.Want i sender held) new h = absurd h
-  same_kept (packet.Claim i sender n a) new h = absurd h
+  same_kept (packet.Entries i rules start list) new h = ap (λ (f : FollowerView). f.log.entries) h.1
+  same_kept (packet.Want i rules sender held) new h = absurd h
+  same_kept (packet.Claim i rules sender n a) new h = absurd h
 
   learns_row : (p : Packet) (l : Learned) (new : FollowerView) → WasSent sent party p → FollowerTakes old p l new
       → LearnStep id terms sent party p l old.log.entries new.log.entries
-  learns_row (packet.Entries i start list) (learned.Grew k) new came t =
+  learns_row (packet.Entries i rules start list) (learned.Grew k) new came t =
       let taught = t.learns in
       let after = t.after in
-      grew i start list k new taught.0 came taught.1 after.0
-      (holds (packet.Entries i start list) new.log.entries t.keeps)
-  learns_row (packet.Want i sender held) (learned.Grew k) new came t = let no = t.learns.1 in absurd cc
-  learns_row (packet.Claim i sender n a) (learned.Grew k) new came t = let no = t.learns.1 in absurd cc
+      grew i rules start list k new taught.0 came taught.1 after.0
+      (holds (packet.Entries i rules start list) new.log.entries t.keeps)
+  learns_row (packet.Want i rules sender held) (learned.Grew k) new came t = let no = t.learns.1 in absurd cc
+  learns_row (packet.Claim i rules sender n a) (learned.Grew k) new came t = let no = t.learns.1 in absurd cc
   learns_row p learned.Memory new came t = same new t.after
   learns_row p learned.OtherMatch new came t = (holds p new.log.entries t.keeps, same new t.after)
   learns_row p learned.Nothing new came t = (holds p new.log.entries t.keeps, same new t.after)
@@ -116,14 +118,14 @@ module _ (id : ℕ) (terms : Terms) (sent : List Datagram) (party : ℕ) (old : 
   is_same new e = subst (λ (f : FollowerView). IsLogOf id terms f.log) (sym e) is
 
   is_grown : (p : Packet) (k spare : ℕ) → IsLogOf id terms (grown old p k spare).log
-  is_grown (packet.Entries i start list) k spare = is
-  is_grown (packet.Want i sender held) k spare = is
-  is_grown (packet.Claim i sender n a) k spare = is
+  is_grown (packet.Entries i rules start list) k spare = is
+  is_grown (packet.Want i rules sender held) k spare = is
+  is_grown (packet.Claim i rules sender n a) k spare = is
 
   is_kept : (p : Packet) (new : FollowerView) → Kept old p new → IsLogOf id terms new.log
-  is_kept (packet.Entries i start list) new h = subst (λ (f : FollowerView). IsLogOf id terms f.log) (sym h.1) is
-  is_kept (packet.Want i sender held) new h = absurd h
-  is_kept (packet.Claim i sender n a) new h = absurd h
+  is_kept (packet.Entries i rules start list) new h = subst (λ (f : FollowerView). IsLogOf id terms f.log) (sym h.1) is
+  is_kept (packet.Want i rules sender held) new h = absurd h
+  is_kept (packet.Claim i rules sender n a) new h = absurd h
 
   log_of_match : (p : Packet) (l : Learned) (new : FollowerView) → IsAfter old p l new → IsLogOf id terms new.log
   log_of_match p (learned.Grew k) new after =
@@ -137,8 +139,8 @@ module _ (id : ℕ) (terms : Terms) (sent : List Datagram) (party : ℕ) (old : 
 
   -- what it keeps then was shown to it
   still_shown : (p : Packet) (new : FollowerView) → WasSent sent party p → IsAllTold old p new
-      → KeepsWhatWasShown id sent party new
-  still_shown p new came t n e early = told_shown id sent party old p n e is.0 came kept (t.early n e early)
+      → KeepsWhatWasShown id terms sent party new
+  still_shown p new came t n e early = told_shown id terms sent party old p n e is.0 is.1 came kept (t.early n e early)
 
   -- nothing was in hand
   nothing_taken : (o : Outcome) → IsEmptyHand o
@@ -159,7 +161,7 @@ module _ (id : ℕ) (terms : Terms) (sent : List Datagram) (party : ℕ) (old : 
 abbrev pub FollowerStep : ℕ → Terms → List Datagram → ℕ → Outcome → FollowerView → FollowerView → Type 0
 FollowerStep id terms sent party o old new =
     FollowerTakeStep id terms sent party o old.log.entries new.log.entries × IsLogOf id terms new.log
-    × KeepsWhatWasShown id sent party new
+    × KeepsWhatWasShown id terms sent party new
 
 module _ {C : Type 0} (CoreTakes : C → Packet → Learned → C → Type 0) (follower : C → FollowerView)
     (with_follower : C → FollowerView → C)
@@ -169,7 +171,7 @@ module _ {C : Type 0} (CoreTakes : C → Packet → Learned → C → Type 0) (f
     (put_back : (s : C) → with_follower s (follower s) ≡ s) where
   core_takes : (id : ℕ) (terms : Terms) (honest : Type 0) → honest
       → (party pick : ℕ) (link n : LinkView) (s : C) (o : Outcome) (s' : C)
-      → IsLogOf id terms (follower s).log → KeepsWhatWasShown id link.sent party (follower s)
+      → IsLogOf id terms (follower s).log → KeepsWhatWasShown id terms link.sent party (follower s)
       → FollowerTakeCalls CoreTakes honest party link s pick o n s'
       → FollowerStep id terms link.sent party o (follower s) (follower s') × (s' ≡ with_follower s (follower s'))
       × (n.sent ≡ link.sent)
@@ -203,7 +205,7 @@ module _ {C : Type 0} (CoreTakes : C → Packet → Learned → C → Type 0) (f
 
 pub seat_takes : (id : ℕ) (terms : Terms) (honest : Type 0) → honest
     → (party pick : ℕ) (link n : LinkView) (s : SeatView) (o : Outcome) (s' : SeatView)
-    → IsLogOf id terms s.follower.log → KeepsWhatWasShown id link.sent party s.follower
+    → IsLogOf id terms s.follower.log → KeepsWhatWasShown id terms link.sent party s.follower
     → FollowerTakeCalls SeatTakes honest party link s pick o n s'
     → FollowerStep id terms link.sent party o s.follower s'.follower × (s' ≡ record s { follower = s'.follower })
     × (n.sent ≡ link.sent)
@@ -213,7 +215,7 @@ seat_takes =
 
 pub watcher_takes : (id : ℕ) (terms : Terms) (honest : Type 0) → honest
     → (party pick : ℕ) (link n : LinkView) (s : WatcherView) (o : Outcome) (s' : WatcherView)
-    → IsLogOf id terms s.follower.log → KeepsWhatWasShown id link.sent party s.follower
+    → IsLogOf id terms s.follower.log → KeepsWhatWasShown id terms link.sent party s.follower
     → FollowerTakeCalls WatcherTakes honest party link s pick o n s'
     → FollowerStep id terms link.sent party o s.follower s'.follower × (s' ≡ record s { follower = s'.follower })
     × (n.sent ≡ link.sent)

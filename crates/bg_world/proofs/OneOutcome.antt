@@ -8,23 +8,27 @@ use Rattle.bg_board.specs.declared.players.Player.{Player}
 use Rattle.bg_board.specs.declared.players.Player.TheVariants.{X, O}
 use Rattle.bg_turns.specs.Dice.{dice_of, first_pips, second_pips}
 use Rattle.bg_turns.specs.declared.throws.Dice.{Dice}
+use Rattle.bg_match.specs.Actor.{actor_in}
 use Rattle.bg_match.specs.Follows.{IsEntryFault}
 use Rattle.bg_match.specs.Limits.{most_entries}
-use Rattle.bg_match.specs.Match.{IsNext, IsRecordFault, Log, StandsAt}
+use Rattle.bg_match.specs.Match.{ActsAfter, IsNext, IsRecordFault, Log, StandsAt}
 use Rattle.bg_match.specs.State.{State}
 use Rattle.bg_match.specs.declared.actions.Action.{Action}
 use Rattle.bg_match.specs.declared.entries.Entry.{Entry}
 use Rattle.bg_match.specs.declared.entries.EntryFault.{EntryFault}
 use Rattle.bg_match.specs.declared.entries.EntryFault.TheVariants as entry_fault
 use Rattle.bg_match.proofs.Answering.{one_answer}
+use Rattle.bg_match.specs.declared.phases.Actor.TheVariants.{Referee}
+use Rattle.bg_match.specs.declared.phases.Phase.TheVariants as phase
 use Rattle.bg_match.proofs.Legal.{one_standing}
+use Rattle.bg_match.proofs.Passing.{by_phase, not_passed}
 use Rattle.bg_text.proofs.OneJudgement.{one_entry_fault}
 use Rattle.bg_wire.specs.SavedText.{SavedParts}
 use Rattle.bg_wire.specs.Saves.{IsNextSave}
 use Rattle.bg_wire.specs.declared.faults.SaveRefusal.{SaveRefusal}
 use Rattle.bg_wire.specs.declared.faults.SaveRefusal.TheVariants as save_refusals
 use Rattle.bg_wire.specs.declared.slots.Slot.{Slot}
-use Rattle.bg_referee.specs.Dues.{IsDue, IsDueFault, RefereeDues}
+use Rattle.bg_referee.specs.Dues.{HasOpening, IsDue, IsDueFault, OpensAfter, RefereeDues}
 use Rattle.bg_referee.specs.Referee.{Appends, RefereeView, referee_after_save}
 use Rattle.bg_referee.specs.declared.outcomes.DueFault.{DueFault}
 use Rattle.bg_referee.specs.declared.outcomes.DueFault.TheVariants as due_faults
@@ -92,6 +96,18 @@ module _ (log : Log) (word : ℕ) where
   no_dice : (dice : Dice) → dice_of word ≡ None → dice_of word ≡ Some dice → ⊥
   no_dice dice none some = let no = sym none ∙ some in absurd cc
 
+  -- the dice of a word differ, or are equal
+  not_equal : HasOpening word → ((dice : Dice) × (dice_of word ≡ Some dice) × (first_pips dice ≡ second_pips dice)) → ⊥
+  not_equal has equal =
+      let same : equal.0 ≡ has.0 = same_Some equal.0 has.0 (sym equal.1 ∙ has.1) in
+      has.2 (subst (λ (d : Dice). first_pips d ≡ second_pips d) same equal.2)
+
+  -- where a game is to be opened, the referee acts
+  opens_acts : OpensAfter log.terms log.entries → ActsAfter log.terms log.entries Referee
+  opens_acts opens =
+      let none = not_passed opens.0 phase.Opening opens.2 (λ p dice is. cc) in
+      (opens.0, opens.1, sym (by_phase opens.0 none ∙ ap actor_in opens.2))
+
   one_due_fault : (a b : DueFault) → IsOnlyDueFault a → IsOnlyDueFault b → a ≡ b
   one_due_fault due_faults.Memory due_faults.Memory h k = refl
   one_due_fault due_faults.NothingDue due_faults.NothingDue h k = refl
@@ -106,22 +122,20 @@ module _ (log : Log) (word : ℕ) where
   one_due_fault due_faults.WordRefused due_faults.Memory h k = absurd (h.1 (λ e. absurd cc) k.0.1.0 k.0.1.1)
   one_due_fault due_faults.EqualOpening due_faults.Memory h k = absurd (h.1 (λ e. absurd cc) k.0.1.0 k.0.1.1)
   one_due_fault due_faults.RecordFull due_faults.Memory h k = absurd (h.1 (λ e. absurd cc) k.0.1.0 k.0.1.1)
-  one_due_fault due_faults.NothingDue due_faults.WordRefused h k = absurd (h.0 k.0.0)
-  one_due_fault due_faults.NothingDue due_faults.EqualOpening h k = absurd (h.0 k.0.0)
+  one_due_fault due_faults.NothingDue due_faults.WordRefused h k = absurd (h.0 (opens_acts k.0.0))
+  one_due_fault due_faults.NothingDue due_faults.EqualOpening h k = absurd (h.0 (opens_acts k.0.0))
   one_due_fault due_faults.NothingDue due_faults.RecordFull h k = absurd (h.0 k.0.0)
-  one_due_fault due_faults.WordRefused due_faults.NothingDue h k = absurd (k.0 h.0.0)
-  one_due_fault due_faults.EqualOpening due_faults.NothingDue h k = absurd (k.0 h.0.0)
+  one_due_fault due_faults.WordRefused due_faults.NothingDue h k = absurd (k.0 (opens_acts h.0.0))
+  one_due_fault due_faults.EqualOpening due_faults.NothingDue h k = absurd (k.0 (opens_acts h.0.0))
   one_due_fault due_faults.RecordFull due_faults.NothingDue h k = absurd (k.0 h.0.0)
   one_due_fault due_faults.WordRefused due_faults.EqualOpening h k = absurd (no_dice k.0.1.0 h.0.1 k.0.1.1)
-  one_due_fault due_faults.WordRefused due_faults.RecordFull h k = absurd (no_dice k.0.1.0 h.0.1 k.0.1.1)
+  one_due_fault due_faults.WordRefused due_faults.RecordFull h k =
+      let has = k.0.1 h.0.0 in absurd (no_dice has.0 h.0.1 has.1)
   one_due_fault due_faults.EqualOpening due_faults.WordRefused h k = absurd (no_dice h.0.1.0 k.0.1 h.0.1.1)
-  one_due_fault due_faults.RecordFull due_faults.WordRefused h k = absurd (no_dice h.0.1.0 k.0.1 h.0.1.1)
-  one_due_fault due_faults.EqualOpening due_faults.RecordFull h k =
-      let same : h.0.1.0 ≡ k.0.1.0 = same_Some h.0.1.0 k.0.1.0 (sym h.0.1.1 ∙ k.0.1.1) in
-      absurd (k.0.1.2 (subst (λ (d : Dice). first_pips d ≡ second_pips d) same h.0.1.2))
-  one_due_fault due_faults.RecordFull due_faults.EqualOpening h k =
-      let same : k.0.1.0 ≡ h.0.1.0 = same_Some k.0.1.0 h.0.1.0 (sym k.0.1.1 ∙ h.0.1.1) in
-      absurd (h.0.1.2 (subst (λ (d : Dice). first_pips d ≡ second_pips d) same k.0.1.2))
+  one_due_fault due_faults.RecordFull due_faults.WordRefused h k =
+      let has = h.0.1 k.0.0 in absurd (no_dice has.0 k.0.1 has.1)
+  one_due_fault due_faults.EqualOpening due_faults.RecordFull h k = absurd (not_equal (k.0.1 h.0.0) h.0.1)
+  one_due_fault due_faults.RecordFull due_faults.EqualOpening h k = absurd (not_equal (h.0.1 k.0.0) k.0.1)
 
 one_due : (old new : RefereeView) (word : ℕ) (a b : Result ℕ DueFault) → RefereeDues old word a new
     → RefereeDues old word b new → a ≡ b

@@ -5,6 +5,7 @@ use Rattle.std.specs.Bool.{MatchBool}
 use Rattle.std.proofs.Common.{refl, sym, ◌∙◌, ap, ap₂, subst, arith}
 use Rattle.std.proofs.lemmas.Option.{same_Some}
 use Rattle.arrayvec.specs.ArrayVec.{ArrayVec}
+use Rattle.bg_match.specs.Terms.{rules_of}
 use Rattle.bg_turns.specs.Dice.{dice_of}
 use Rattle.bg_turns.specs.declared.throws.Dice.{Dice}
 use Rattle.bg_match.specs.Answers.{Answers, CanAnswer}
@@ -78,7 +79,7 @@ pushes_alike r (one ∷ some) [] ys h k = absurd h
 pushes_alike r (one ∷ some) (x ∷ xs) [] h k = absurd k
 pushes_alike r (one ∷ some) (x ∷ xs) (y ∷ ys) h k =
     let list = shown_alike r (one.1 + 1) h.0.1.0 k.0.1.0 h.0.1.1 k.0.1.1 in
-    let told = h.0.1.2 ∙ ap (packet.Entries r.log.id (one.1 + 1)) list ∙ sym k.0.1.2 in
+    let told = h.0.1.2 ∙ ap (packet.Entries r.log.id (rules_of r.log.terms) (one.1 + 1)) list ∙ sym k.0.1.2 in
     ap₂ (λ (p : ℕ × Packet) (l : List (ℕ × Packet)). p ∷ l)
     (ap₂ (λ (to : ℕ) (p : Packet). (to, p)) (h.0.0 ∙ sym k.0.0) told) (pushes_alike r some xs ys h.1 k.1)
 
@@ -131,7 +132,7 @@ replies_alike : (old new : RefereeView) (word : ℕ) (reply : Reply) (x y : Take
 replies_alike old new word (Says what) x y h k = h.0 ∙ sym k.0
 replies_alike old new word (Shows party start) x y h k =
     let list = shown_alike old start h.0.0 k.0.0 h.0.1 k.0.1 in
-    h.0.2 ∙ ap (λ (l : List Entry). takes.Answer party (packet.Entries old.log.id start l)) list ∙ sym k.0.2
+    h.0.2 ∙ ap (λ (l : List Entry). takes.Answer party (packet.Entries old.log.id (rules_of old.log.terms) start l)) list ∙ sym k.0.2
 replies_alike old new word (Tries a) x y h k = comes_alike old new a (dice_of word) x y h k
 
 pub one_reply : (old new : RefereeView) (p : Packet) (word : ℕ) (x y : TakeOutcome) → RefereeTakes old p word x new

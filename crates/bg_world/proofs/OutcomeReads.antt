@@ -4,6 +4,7 @@ use Rattle.std.specs.Prelude.{◌==◌, if◌then◌else◌, codes}
 use Rattle.std.specs.Fmt.{decimal}
 use Rattle.std.specs.Str.Parse.{digits_value}
 use Rattle.std.proofs.lemmas.Fmt.{digits_value-decimal}
+use Rattle.bg_match.specs.declared.limits.Rules.TheVariants as rules
 use Rattle.bg_turns.specs.declared.faults.TurnFault.TheVariants as turn_fault
 use Rattle.bg_match.specs.declared.entries.EntryFault.{EntryFault}
 use Rattle.bg_match.specs.declared.entries.EntryFault.TheVariants as entry_fault
@@ -172,7 +173,7 @@ abbrev pub plain : Outcome → Outcome
 plain (outcome.Due (Err due_fault.Memory)) = outcome.Memory
 plain (outcome.Took take.OtherMatch) = outcome.Learned learn.OtherMatch
 plain (outcome.Took take.Nothing) = outcome.Learned learn.Nothing
-plain (outcome.Took (take.Answer to p)) = outcome.Took (take.Answer 0 (packet.Want 0 0 0))
+plain (outcome.Took (take.Answer to p)) = outcome.Took (take.Answer 0 (packet.Want 0 rules.One 0 0))
 plain (outcome.Took take.Memory) = outcome.Memory
 plain (outcome.Learned learn.Memory) = outcome.Memory
 plain o = o
@@ -188,7 +189,7 @@ abbrev pub read : List ℕ → Outcome
 read text =
     if begins (codes "entry") text then outcome.Due (Ok (number_behind 6 text))
     else if begins (codes "due r") text then outcome.Due (Err (read_due_fault (drop 13 text)))
-    else if begins (codes "answe") text then outcome.Took (take.Answer 0 (packet.Want 0 0 0))
+    else if begins (codes "answe") text then outcome.Took (take.Answer 0 (packet.Want 0 rules.One 0 0))
     else if begins (codes "accep") text then outcome.Took (take.Accepted (number_behind 9 text))
     else if begins (codes "nothi") text then outcome.Learned learn.Nothing
     else if begins (codes "ahead") text then outcome.Took take.Ahead

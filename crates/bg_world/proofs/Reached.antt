@@ -2,6 +2,7 @@
 use Rattle.std.specs.Prelude.{◌≡◌, ◌⊎◌, ℕ, zero, suc, ◌<◌, ◌≤◌, ◌+◌, ◌-◌, Option, Some, None, List, [], ◌∷◌, ◌++◌, length, take, replicate, slice_get, Contains}
 use Rattle.std.proofs.Common.{refl, sym, ◌∙◌, ap, subst, arith}
 use Rattle.std.proofs.lemmas.List.{length-replicate, length-take, take_all}
+use Rattle.bg_match.specs.declared.limits.Rules.{Rules}
 use Rattle.bg_board.specs.declared.players.Player.{Player}
 use Rattle.bg_board.specs.declared.players.Player.TheVariants.{X, O}
 use Rattle.bg_match.specs.declared.actions.Action.{Action}
@@ -41,9 +42,9 @@ none_sent d h = omega (arith, h.1)
 
 none_claimed : (q : Player) → AreClaimsKept [] q None
 none_claimed q = record {
-  up_to = λ n a c. absurd (none_sent c.2.0 c.2.1);
-  same = λ n a c e. absurd (none_sent c.2.0 c.2.1);
-  one = λ n a b c d. absurd (none_sent c.2.0 c.2.1);
+  up_to = λ n a c. absurd (none_sent c.3.0 c.3.1);
+  same = λ n a c e. absurd (none_sent c.3.0 c.3.1);
+  one = λ n a b c d. absurd (none_sent c.3.0 c.3.1);
 }
 
 fresh_seat : (id : ℕ) (terms : Terms) (q : Player) → SeatOk id terms [] [] q start_seat
@@ -97,11 +98,11 @@ prefix w inv zero log h = let e : w.referee.log ≡ log = cc in subst (λ (r : L
 prefix w inv (suc n) log h = prefix_trans log (saved_log w) w.referee.log (followers w inv (suc n) log (omega arith) h) (prefix_take w.referee.saved w.referee.log)
 
 pub agreement : (w : ProtocolState) → Inv w → Agreement w
-agreement w inv = record { saved = prefix_take w.referee.saved w.referee.log; followers = followers w inv; datagrams = λ to id first list h. (inv.datagrams to (packet.Entries id first list) h).1 }
+agreement w inv = record { saved = prefix_take w.referee.saved w.referee.log; followers = followers w inv; datagrams = λ to id rules first list h. (inv.datagrams to (packet.Entries id rules first list) h).1 }
 
 -- the seat that acts is the actor
 seat_acts : (terms : Terms) (entries : List Entry) (q : Player) → SeatAfter terms entries (Some q) → ActsAfter terms entries (Seat q)
-seat_acts terms entries q h = (h.0, h.1, seated (actor_of (h.0).phase) h.2)
+seat_acts terms entries q h = (h.0, h.1, seated (actor_of h.0) h.2)
   where
     seated : (a : Actor) → ◌≡◌ {A = Option Player} (Some q) (seat_of a) → Seat q ≡ a
     seated Referee e = cc
@@ -120,7 +121,7 @@ pub headline : (w : ProtocolState) → Inv w → Headline w
 headline w inv = record { prefix = prefix w inv; legal = inv.referee.legal; answered = answered w inv }
 
 pub no_more : (w : ProtocolState) → Inv w → ShowsSavedAlone w
-no_more w inv to id first list i e h g = within (first + i) ((inv.datagrams to (packet.Entries id first list) h).1 i e g)
+no_more w inv to id rules first list i e h g = within (first + i) ((inv.datagrams to (packet.Entries id rules first list) h).1 i e g)
   where
     within : (n : ℕ) → at_number (saved_log w) n ≡ Some e → n ≤ w.referee.saved
     within zero k = omega arith
@@ -128,10 +129,10 @@ no_more w inv to id first list i e h g = within (first + i) ((inv.datagrams to (
 
 -- ---- what is refused of no packet and no slot
 
-next_claim : (w : ProtocolState) → Inv w → (id sender n : ℕ) (a : Action) → WasSent w.sent 0 (packet.Claim id sender n a) → n ≡ length w.referee.log + 1
+next_claim : (w : ProtocolState) → Inv w → (id : ℕ) (rules : Rules) (sender n : ℕ) (a : Action) → WasSent w.sent 0 (packet.Claim id rules sender n a) → n ≡ length w.referee.log + 1
     → (q : Player) × (sender ≡ party_of q) × IsLegalClaim w.terms (saved_log w) q n a × (saved_log w ≡ w.referee.log)
-next_claim w inv id sender n a h e =
-    let s = (inv.datagrams 0 (packet.Claim id sender n a) h).1 in
+next_claim w inv id rules sender n a h e =
+    let s = (inv.datagrams 0 (packet.Claim id rules sender n a) h).1 in
     let k = s.2.number in
     let l = s.2.within in
     let m = inv.referee.within in
@@ -151,33 +152,33 @@ legal_follower w inv log p =
 
 no_claim_refused : (w : ProtocolState) → Inv w → IsNoClaimRefused w
 no_claim_refused w inv = record {
-  not_ahead = λ id sender n a h.
-      let s = (inv.datagrams 0 (packet.Claim id sender n a) h).1 in
+  not_ahead = λ id rules sender n a h.
+      let s = (inv.datagrams 0 (packet.Claim id rules sender n a) h).1 in
       let k = s.2.number in
       let l = s.2.within in
       let m = inv.referee.within in
       omega (k, l, m, arith, length-take w.referee.saved w.referee.log);
-  turn = λ id sender n a h e.
-      let s = next_claim w inv id sender n a h e in
+  turn = λ id rules sender n a h e.
+      let s = next_claim w inv id rules sender n a h e in
       (s.0, s.1, subst (λ (x : List Entry). ActsAfter w.terms x (Seat s.0)) (before_all w s.0 n a s.2 e s.3) s.2.acts);
-  legal = λ id sender n a h e dice f g.
-      let s = next_claim w inv id sender n a h e in
+  legal = λ id rules sender n a h e dice f g.
+      let s = next_claim w inv id rules sender n a h e in
       let l : IsNext w.terms w.referee.log s.2.entry = subst (λ (x : List Entry). IsNext w.terms x s.2.entry) (before_all w s.0 n a s.2 e s.3) s.2.legal in
       rolls_any_dice w.terms w.referee.log a (Some trial_dice) dice s.2.entry f s.2.of_action g l;
 }
 
 no_entries_refused : (w : ProtocolState) → Inv w → AreNoEntriesRefused w
 no_entries_refused w inv = record {
-  agree = λ party log to id first list l g h i e k m.
-      prefix_back log (saved_log w) (first + i) e (followers w inv party log l g) m ((inv.datagrams to (packet.Entries id first list) h).1 i e k);
-  follow = λ party log to id first list l g h m. legal_follower w inv _ (prefix_more log (new_entries log first list) (saved_log w) (followers w inv party log l g) (stood log to id first list h m));
+  agree = λ party log to id rules first list l g h i e k m.
+      prefix_back log (saved_log w) (first + i) e (followers w inv party log l g) m ((inv.datagrams to (packet.Entries id rules first list) h).1 i e k);
+  follow = λ party log to id rules first list l g h m. legal_follower w inv _ (prefix_more log (new_entries log first list) (saved_log w) (followers w inv party log l g) (stood log to id rules first list h m));
 }
   where
-    stood : (log : List Entry) (to id first : ℕ) (list : List Entry) → WasSent w.sent to (packet.Entries id first list) → first ≤ length log + 1
+    stood : (log : List Entry) (to id : ℕ) (rules : Rules) (first : ℕ) (list : List Entry) → WasSent w.sent to (packet.Entries id rules first list) → first ≤ length log + 1
         → (i n : ℕ) (e : Entry) → n ≡ length log + i → slice_get (new_entries log first list) i ≡ Some e → slice_get (saved_log w) n ≡ Some e
-    stood log to id first list h m i n e k g =
+    stood log to id rules first list h m i n e k g =
         let d = get_drop (length log + 1 - first) list i (length log + 1 - first + i) e refl g in
-        let r : at_number (saved_log w) (first + (length log + 1 - first + i)) ≡ Some e = (inv.datagrams to (packet.Entries id first list) h).1 (length log + 1 - first + i) e d in
+        let r : at_number (saved_log w) (first + (length log + 1 - first + i)) ≡ Some e = (inv.datagrams to (packet.Entries id rules first list) h).1 (length log + 1 - first + i) e d in
         let j : first + (length log + 1 - first + i) ≡ suc n = omega (k, m, arith) in
         subst (λ (x : ℕ). at_number (saved_log w) x ≡ Some e) j r
 

@@ -84,10 +84,10 @@ module _ (w : WorldView) (c : Restorable) (word : ℕ) (r : RefereeView)
         seats O sender e f = omega (e, f, arith)
 
         at : (x : Packet) → IsSound (at_referee w c w.link.sent r) x → IsSentBy to x → to < parties w
-        at (packet.Want id sender held) s t = let there = s.1 in omega
+        at (packet.Want id rules sender held) s t = let there = s.1 in omega
             (there, t, length-map w.watchers watcher_entries, arith)
-        at (packet.Claim id sender n a) s t = seats s.1.0 sender s.1.1 t
-        at (packet.Entries id start list) s t = absurd t
+        at (packet.Claim id rules sender n a) s t = seats s.1.0 sender s.1.1 t
+        at (packet.Entries id rules start list) s t = absurd t
 
     module _ (honest : Type 0) (is_honest : honest) (mid n : LinkView) (same : mid.sent ≡ w.link.sent) where
       shows : (to : ℕ) (answer : Packet) → IsPacket answer → TellsSaved r answer

@@ -5,6 +5,7 @@ use Rattle.std.proofs.lemmas.List.{take-append-le, take_all, length-take}
 use Rattle.std.proofs.lemmas.Option.{slice_get_within}
 use Rattle.std.proofs.lemmas.List.Elements.{All-weaker, All-cons, All-nil}
 use Rattle.std.proofs.lemmas.Bool.{cases_Bool}
+use Rattle.bg_match.specs.Terms.{rules_of}
 use Rattle.bg_board.specs.declared.players.Player.{Player}
 use Rattle.bg_board.specs.declared.players.Player.TheVariants.{X, O}
 use Rattle.bg_turns.specs.Dice.{dice_of}
@@ -117,17 +118,17 @@ same_seat : (p q : Player) → ◌≡◌ {A = Actor} (Seat p) (Seat q) → p ≡
 same_seat p q h = cc
 
 accepts : (w : ProtocolState) (word : ℕ) (p : Packet) (e : Entry) → Inv w → WasSent w.sent 0 p → IsAccepted w.id w.terms w.referee.log word p e → Inv (with_entry w e)
-accepts w word (packet.Want id sender held) e inv came h = absurd h
-accepts w word (packet.Entries id start list) e inv came h = absurd h
-accepts w word (packet.Claim id sender n a) e inv came h = pushes w e inv h.4 by_seat
+accepts w word (packet.Want id rules sender held) e inv came h = absurd h
+accepts w word (packet.Entries id rules start list) e inv came h = absurd h
+accepts w word (packet.Claim id rules sender n a) e inv came h = pushes w e inv h.4 by_seat
   where
     by_seat : (q : Player) → ActsAfter w.terms w.referee.log (Seat q) → (b : Action) × Claimed w.sent q (suc (length w.referee.log)) b × IsAnswer b e
     by_seat q g =
         let same : h.2.0 ≡ q = same_seat h.2.0 q (one_actor w.terms w.referee.log (Seat h.2.0) (Seat q) h.2.1 g) in
-        let c : WasSent w.sent 0 (packet.Claim id (party_of q) n a) = subst (λ (s : ℕ). WasSent w.sent 0 (packet.Claim id s n a)) (h.2.2 ∙ ap party_of same) came in
+        let c : WasSent w.sent 0 (packet.Claim id rules (party_of q) n a) = subst (λ (s : ℕ). WasSent w.sent 0 (packet.Claim id rules s n a)) (h.2.2 ∙ ap party_of same) came in
         let number : n ≡ suc (length w.referee.log) = numbered n (length w.referee.log) h.1 in
-        let d : WasSent w.sent 0 (packet.Claim id (party_of q) (suc (length w.referee.log)) a) = subst (λ (m : ℕ). WasSent w.sent 0 (packet.Claim id (party_of q) m a)) number c in
-        (a, (0, id, d), is_answer a (dice_of word) e h.3)
+        let d : WasSent w.sent 0 (packet.Claim id rules (party_of q) (suc (length w.referee.log)) a) = subst (λ (m : ℕ). WasSent w.sent 0 (packet.Claim id rules (party_of q) m a)) number c in
+        (a, (0, id, rules, d), is_answer a (dice_of word) e h.3)
       where
         numbered : (m l : ℕ) → m ≡ l + 1 → m ≡ suc l
         numbered m l e = omega (e, arith)
@@ -138,9 +139,9 @@ of_saved_may : (w : ProtocolState) (d : Datagram) → ShowsSaved w d → MaySend
 of_saved_may w d h = let s = sound h.0 h.2 in (h.0, h.1.1, s.0, s.1)
   where
     sound : (p : Packet) → IsOfSaved w p → IsSound w p × IsKeptClaim w p
-    sound (packet.Entries id start list) k = (k, tt)
-    sound (packet.Want id sender held) k = absurd k
-    sound (packet.Claim id sender n a) k = absurd k
+    sound (packet.Entries id rules start list) k = (k, tt)
+    sound (packet.Want id rules sender held) k = absurd k
+    sound (packet.Claim id rules sender n a) k = absurd k
 
 sends_some : (w v : ProtocolState) (may : Datagram → Type 0) (most : ℕ) → Inv w → ((d : Datagram) → may d → MaySend w d) → SendsAtMost may most w v → Inv v
 sends_some w v may most inv f h = subst Inv (sym h.after) (sends w h.out inv (All-weaker may (MaySend w) f h.out h.each))
@@ -164,23 +165,23 @@ seat_exists : (w : ProtocolState) (q : Player) → Exists w (party_of q)
 seat_exists w X = omega arith
 seat_exists w O = omega arith
 
-want_may : (w : ProtocolState) (d : Datagram) (party : ℕ) (log : List Entry) → Exists w party → IsPrefix log (saved_log w) → Carries d 0 (want_packet w.id party log) → MaySend w d
-want_may w d party log there p c = (want_packet w.id party log, c.1, (refl, there, within_saved w log p), tt)
+want_may : (w : ProtocolState) (d : Datagram) (party : ℕ) (log : List Entry) → Exists w party → IsPrefix log (saved_log w) → Carries d 0 (want_packet w.id w.terms party log) → MaySend w d
+want_may w d party log there p c = (want_packet w.id w.terms party log, c.1, ((refl, refl), there, within_saved w log p), tt)
 
 seat_may : (w : ProtocolState) (q : Player) (d : Datagram) (claim : Option (ℕ × Action)) (is_saved : Bool) → Inv w → LegalClaim w.terms (saved_log w) q claim → (is_saved ≡ true → claim ≡ claim_in (seat w q).restorable)
-    → Carries d 0 (seat_packet w.id (party_of q) (seat w q).log claim is_saved) → MaySend w d
+    → Carries d 0 (seat_packet w.id w.terms (party_of q) (seat w q).log claim is_saved) → MaySend w d
 seat_may w q d claim is_saved inv legal h c = at_claim claim is_saved legal h c
   where
-    want : Carries d 0 (want_packet w.id (party_of q) (seat w q).log) → MaySend w d
+    want : Carries d 0 (want_packet w.id w.terms (party_of q) (seat w q).log) → MaySend w d
     want k = want_may w d (party_of q) (seat w q).log (seat_exists w q) (of_seat w q inv).log k
 
     at_test : (m : ℕ × Action) (b : Bool) → LegalClaim w.terms (saved_log w) q (Some m) → Some m ≡ claim_in (seat w q).restorable
-        → Carries d 0 (if b then packet.Claim w.id (party_of q) m.0 m.1 else want_packet w.id (party_of q) (seat w q).log) → MaySend w d
-    at_test m true k e g = (packet.Claim w.id (party_of q) m.0 m.1, g.1, (refl, (q, refl, k)), λ p f. subst (λ (r : Player). claim_in (seat w r).restorable ≡ Some (m.0, m.1)) (same_number q p f) (sym e))
+        → Carries d 0 (if b then packet.Claim w.id (rules_of w.terms) (party_of q) m.0 m.1 else want_packet w.id w.terms (party_of q) (seat w q).log) → MaySend w d
+    at_test m true k e g = (packet.Claim w.id (rules_of w.terms) (party_of q) m.0 m.1, g.1, ((refl, refl), (q, refl, k)), λ p f. subst (λ (r : Player). claim_in (seat w r).restorable ≡ Some (m.0, m.1)) (same_number q p f) (sym e))
     at_test m false k e g = want g
 
     at_claim : (m : Option (ℕ × Action)) (b : Bool) → LegalClaim w.terms (saved_log w) q m → (b ≡ true → m ≡ claim_in (seat w q).restorable)
-        → Carries d 0 (seat_packet w.id (party_of q) (seat w q).log m b) → MaySend w d
+        → Carries d 0 (seat_packet w.id w.terms (party_of q) (seat w q).log m b) → MaySend w d
     at_claim None b k e g = want g
     at_claim (Some m) false k e g = want g
     at_claim (Some m) true k e g = at_test m (nat_lt (length (seat w q).log) m.0) k (e refl) g
@@ -211,7 +212,7 @@ grows w party old new inv p h = subst (λ (l : List Entry). IsPrefix l (saved_lo
     stood : (i n : ℕ) (e : Entry) → n ≡ length old + i → slice_get h.more i ≡ Some e → slice_get (saved_log w) n ≡ Some e
     stood i n e m g =
         let s = h.shown i e g in
-        let k : at_number (saved_log w) (s.start + s.place) ≡ Some e = (inv.datagrams party (packet.Entries w.id s.start s.list) s.came).1 s.place e s.stands in
+        let k : at_number (saved_log w) (s.start + s.place) ≡ Some e = (inv.datagrams party (packet.Entries w.id (rules_of w.terms) s.start s.list) s.came).1 s.place e s.stands in
         let j : s.start + s.place ≡ suc n = omega (s.number, m, arith) in
         subst (λ (x : ℕ). at_number (saved_log w) x ≡ Some e) j k
 

@@ -3,6 +3,7 @@ use Rattle.std.specs.Prelude.{◌≡◌, ℕ, List, Some}
 use Rattle.std.proofs.Common.{refl, ap, ap₂, subst}
 use Rattle.std.proofs.lemmas.List.Elements.{All-nil}
 use Rattle.bg_wire.specs.Codes.{referee, seat_of_x, seat_of_o}
+use Rattle.bg_world.specs.Starts.{terms_in}
 use Rattle.bg_world.specs.DiceWords.{HandsIn, ShowsWord}
 use Rattle.bg_world.specs.Simulations.{IsEmptyPlan, IsOfWords, NoneFailed, Simulates, start_in_memory, unused_keeper, unused_link}
 use Rattle.bg_world.specs.State.{IsSetup, ProtocolState, start}
@@ -27,13 +28,13 @@ abbrev RunsInMemory : Setup → Plan → List Event → RunReport → WorldView 
 RunsInMemory setup plan events report new =
     RunsAll (Unit {0}) (Unit {0}) (start_in_memory setup plan) events report new
 
-module _ (setup : Setup) (plan : Plan) (is_setup : IsSetup setup.id setup.length setup.watchers) where
+module _ (setup : Setup) (plan : Plan) (is_setup : IsSetup setup.id (terms_in setup) setup.watchers) where
   begin : IsReachedWorld (start_in_memory setup plan)
   begin =
       start_reached setup (unused_link plan) (unused_keeper referee plan) (unused_keeper seat_of_x plan)
       (unused_keeper seat_of_o plan) refl refl refl refl is_setup
 
-  from_start : protocol_state (start_in_memory setup plan) begin.restorable ≡ start setup.id setup.length setup.watchers
+  from_start : protocol_state (start_in_memory setup plan) begin.restorable ≡ start setup.id (terms_in setup) setup.watchers
   unfolding begin
   from_start =
       start_state setup (unused_link plan) (unused_keeper referee plan) (unused_keeper seat_of_x plan)

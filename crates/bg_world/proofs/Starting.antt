@@ -16,7 +16,7 @@ use Rattle.bg_wire.proofs.OneText.{empty_loads, restores_once}
 use Rattle.bg_party.specs.Views.{WatcherView, fresh_follower, fresh_watcher}
 use Rattle.bg_world.specs.declared.setups.Setup.{Setup}
 use Rattle.bg_world.specs.Slots.{empty_slots}
-use Rattle.bg_world.specs.Starts.{AreUnused, fresh_watchers, fresh_world}
+use Rattle.bg_world.specs.Starts.{terms_in, AreUnused, fresh_watchers, fresh_world}
 use Rattle.bg_world.specs.State.{IsSetup, start}
 use Rattle.bg_world.specs.Views.{KeeperView, LinkView, WorldView}
 use Rattle.bg_world.specs.WorldState.{CoresMatch, IsReachedWorld, Restorable, WatcherMatches, WatchersMatch, protocol_state}
@@ -103,16 +103,16 @@ nothing = record { referee = None; x = None; o = None }
 module _ (setup : Setup) (link : LinkView) (referee x o : KeeperView) (no_sent : link.sent ≡ [])
     (no_referee : referee.slots ≡ empty_slots)
     (no_x : x.slots ≡ empty_slots) (no_o : o.slots ≡ empty_slots) where
-  start_is : protocol_state (fresh_world setup link referee x o) nothing ≡ start setup.id setup.length setup.watchers
+  start_is : protocol_state (fresh_world setup link referee x o) nothing ≡ start setup.id (terms_in setup) setup.watchers
   start_is =
-      let w = start setup.id setup.length setup.watchers in
+      let w = start setup.id (terms_in setup) setup.watchers in
       ap₂ (λ (s : List Datagram) (l : List (List Entry)). record w {
         referee = record (w.referee) { slots = referee.slots };
         x = record (w.x) { slots = x.slots };
         o = record (w.o) { slots = o.slots };
         watchers = l;
         sent = s;
-      }) no_sent (empty_logs setup.id setup.length setup.watchers)
+      }) no_sent (empty_logs setup.id (terms_in setup) setup.watchers)
       ∙ ap (λ (a : Slots). record w {
         referee = record (w.referee) { slots = a };
         x = record (w.x) { slots = x.slots };
@@ -125,16 +125,16 @@ module _ (setup : Setup) (link : LinkView) (referee x o : KeeperView) (no_sent :
     referee = (nothing_restored referee.slots no_referee, record { log = (refl, refl); next = refl });
     x = (nothing_restored x.slots no_x, record { sits_for = refl; log = (refl, refl); next = refl });
     o = (nothing_restored o.slots no_o, record { sits_for = refl; log = (refl, refl); next = refl });
-    watchers = fresh_match setup.id setup.length setup.watchers;
+    watchers = fresh_match setup.id (terms_in setup) setup.watchers;
   }
 
-  pub start_reached : IsSetup setup.id setup.length setup.watchers → IsReachedWorld
+  pub start_reached : IsSetup setup.id (terms_in setup) setup.watchers → IsReachedWorld
       (fresh_world setup link referee x o)
   start_reached is = record {
     restorable = nothing;
     reached = record {
       id = setup.id;
-      terms = setup.length;
+      terms = terms_in setup;
       watchers = setup.watchers;
       setup = is;
       history = [];
@@ -142,16 +142,16 @@ module _ (setup : Setup) (link : LinkView) (referee x o : KeeperView) (no_sent :
     };
     cores = start_matches;
     early = record {
-      x = none_kept setup.id link.sent 1 (fresh_follower setup.id setup.length) refl;
-      o = none_kept setup.id link.sent 2 (fresh_follower setup.id setup.length) refl;
-      watchers = λ i f is. none_kept setup.id link.sent (first_watcher + i) f.follower
-          (fresh_keep setup.id setup.length setup.watchers i f is);
+      x = none_kept setup.id (terms_in setup) link.sent 1 (fresh_follower setup.id (terms_in setup)) refl;
+      o = none_kept setup.id (terms_in setup) link.sent 2 (fresh_follower setup.id (terms_in setup)) refl;
+      watchers = λ i f is. none_kept setup.id (terms_in setup) link.sent (first_watcher + i) f.follower
+          (fresh_keep setup.id (terms_in setup) setup.watchers i f is);
     };
   }
 
-  pub start_state : (is : IsSetup setup.id setup.length setup.watchers)
+  pub start_state : (is : IsSetup setup.id (terms_in setup) setup.watchers)
       → protocol_state (fresh_world setup link referee x o) (start_reached is).restorable
-      ≡ start setup.id setup.length setup.watchers
+      ≡ start setup.id (terms_in setup) setup.watchers
   unfolding start_reached
   start_state is = start_is
 
@@ -180,7 +180,7 @@ at_the_start setup link referee x o is unused =
 pub made_reached : {W E : Type 0} (setup : Setup) (link : LinkView) (referee x o : KeeperView) (view : W → WorldView)
     (Refuses : E → Type 0) (result : Result W E)
     → IfOk result (λ world. view world ≡ fresh_world setup link referee x o)
-    → MatchResult result (λ _. IsSetup setup.id setup.length setup.watchers) Refuses
+    → MatchResult result (λ _. IsSetup setup.id (terms_in setup) setup.watchers) Refuses
     → IfOk result (λ world. AreUnused link referee x o → IsReachedWorld (view world))
 made_reached setup link referee x o view Refuses (Ok world) start is = λ unused.
     subst IsReachedWorld (sym start)

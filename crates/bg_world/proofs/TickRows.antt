@@ -114,7 +114,7 @@ one_at_most false p = omega arith
 
 -- what a seat's core sends is what the protocol says
 seat_sends : (s : SeatView) (claim : Option (ℕ × Action)) (saved : Bool)
-    → packet_of_seat (record s { claim = claim; claim_saved = saved }) ≡ seat_packet s.follower.log.id
+    → packet_of_seat (record s { claim = claim; claim_saved = saved }) ≡ seat_packet s.follower.log.id s.follower.log.terms
     (party_of s.player) s.follower.log.entries claim saved
 seat_sends s None saved = refl
 seat_sends s (Some c) true = refl
@@ -122,17 +122,19 @@ seat_sends s (Some c) false = refl
 
 same_packet : (id : ℕ) (terms : Terms) (q : Player) (found : Option SavedParts) (s : SeatView)
     → SeatMatches id terms q found s
-    → packet_of_seat s ≡ seat_packet id (party_of q) s.follower.log.entries s.claim s.claim_saved
+    → packet_of_seat s ≡ seat_packet id terms (party_of q) s.follower.log.entries s.claim s.claim_saved
 same_packet id terms q found s fits =
     seat_sends s s.claim s.claim_saved
-    ∙ ap₂ (λ (i : ℕ) (p : Player). seat_packet i
+    ∙ ap (λ (m : Terms). seat_packet s.follower.log.id m (party_of s.player) s.follower.log.entries s.claim s.claim_saved)
+    fits.log.1
+    ∙ ap₂ (λ (i : ℕ) (p : Player). seat_packet i terms
     (party_of p) s.follower.log.entries s.claim s.claim_saved) fits.log.0 fits.sits_for
 
 -- the row of a seat's tick, by the seat's state
 abbrev SeatTickRow : ProtocolState → Player → SeatState → Outcome → ProtocolState → Type 0
 SeatTickRow v q old o u =
     IfUp old.up v o u (SendsOnTick (λ d. Carries d referee
-    (seat_packet v.id (party_of q) old.log old.claim old.claim_saved)) 1 v o u)
+    (seat_packet v.id v.terms (party_of q) old.log old.claim old.claim_saved)) 1 v o u)
 
 -- a tick later the seat is the same, but for when it sends
 ticked_seat : SeatView → SeatView
@@ -190,7 +192,7 @@ tick_seat_goes w c honest is_honest q o new fits h = at (seat_core w q) (seat_si
       subst (λ (x : WorldView). CoresMatch x c) (sym k.1) fits,
     )
     at (Some s) side is k =
-        let p = seat_packet w.id (party_of q) s.follower.log.entries s.claim s.claim_saved in
+        let p = seat_packet w.id w.terms (party_of q) s.follower.log.entries s.claim s.claim_saved in
         let due = is_due s.follower.retry in
         let may : Datagram → Type 0 = λ d. Carries d referee p in
         let may_go : referee < parties w → IsPacket (packet_of_seat s) → Carries
@@ -241,12 +243,12 @@ tick_watcher_goes w c honest is_honest i o new fits h = at (slice_get w.watchers
   where
     lift : (f : Option WatcherView) → slice_get w.watchers i ≡ f
         → MatchOption (option_map watcher_entries f) (NoParty (protocol_state w c) o (protocol_state new c))
-        (λ log. SendsOnTick (λ d. Carries d referee (want_packet w.id (first_watcher + i) log)) 1 (protocol_state w c) o
+        (λ log. SendsOnTick (λ d. Carries d referee (want_packet w.id w.terms (first_watcher + i) log)) 1 (protocol_state w c) o
         (protocol_state new c))
         → TickStep (protocol_state w c) (roles.Watcher i) o (protocol_state new c)
     lift f is k =
         subst (λ (x : Option (List Entry)). MatchOption x (NoParty (protocol_state w c) o (protocol_state new c))
-        (λ log. SendsOnTick (λ d. Carries d referee (want_packet w.id (first_watcher + i) log)) 1 (protocol_state w c) o
+        (λ log. SendsOnTick (λ d. Carries d referee (want_packet w.id w.terms (first_watcher + i) log)) 1 (protocol_state w c) o
         (protocol_state new c)))
         (sym (get_log w.watchers i ∙ ap (option_map watcher_entries) is)) k
 
@@ -263,10 +265,11 @@ tick_watcher_goes w c honest is_honest i o new fits h = at (slice_get w.watchers
     at (Some f) is k =
         let fit = fits.watchers i f is in
         let log = f.follower.log in
-        let p = want_packet w.id (first_watcher + i) log.entries in
+        let p = want_packet w.id w.terms (first_watcher + i) log.entries in
         let may : Datagram → Type 0 = λ d. Carries d referee p in
         let same_packet : want_of f.party log ≡ p =
-        ap₂ (λ (a b : ℕ). want_packet a b log.entries) fit.log.0 fit.party in
+        ap (λ (m : Terms). want_packet log.id m f.party log.entries) fit.log.1
+        ∙ ap₂ (λ (a b : ℕ). want_packet a w.terms b log.entries) fit.log.0 fit.party in
         let may_go : referee < parties w → IsPacket (want_of f.party log) → Carries
         (datagram_of referee (want_of f.party log)) referee p =
         λ low range. subst (λ (x : Packet). Carries

@@ -1,7 +1,12 @@
 -- Worked runs, by the definitions alone.
 use Rattle.std.specs.Prelude.{◌≡◌, ℕ, zero, suc, ◌+◌, ◌<◌, ◌≤◌, true, Some, None, List, [], ◌∷◌, ◌++◌, Ok, All, slice_get, length, take}
-use Rattle.std.proofs.Common.{refl, inr, arith, subst, false, lit<, lit≤}
+use Rattle.std.proofs.Common.{refl, sym, ap, inl, inr, arith, subst, false, lit<, lit≤}
 use Rattle.std.proofs.lemmas.List.Elements.{All-cons, All-nil}
+use Rattle.bg_match.specs.Actor.{passes, passes_in}
+use Rattle.bg_match.specs.Terms.{Terms, rules_of, terms_of}
+use Rattle.bg_match.specs.declared.limits.Rules.{Rules}
+use Rattle.bg_match.specs.declared.limits.Rules.TheVariants as rules
+use Rattle.bg_match.proofs.Passing.{by_phase}
 use Rattle.bg_board.specs.FromTo.{FromTo}
 use Rattle.bg_board.specs.Position.{start_position}
 use Rattle.bg_board.specs.Step.{after_step}
@@ -65,22 +70,30 @@ legal_turn = record {
   complete = inr (playable_few start_position X (3 ∷ 1 ∷ []), λ s is. absurd cc);
 }
 
-abbrev to_move : Standing
-to_move = record (start_of 1) { phase = phase.ToMove X three_one }
+abbrev one_point : Terms
+one_point = terms_of 1 rules.One
 
-opening_next : IsNext 1 [] opening
+abbrev to_move : Standing
+to_move = record (start_of one_point) { phase = phase.ToMove X three_one }
+
+-- by the first rules no turn is passed
+plays : (s : Standing) → rules_of s.terms ≡ rules.One → passes s ≡ false
+unfolding passes passes_in
+plays s one = ap (λ (r : Rules). passes_in r s.board s.phase) one
+
+opening_next : IsNext one_point [] opening
 opening_next = (omega arith, (to_move, (to_move, (refl, λ h. omega arith, refl), refl)))
 
-x_acts : ActsAfter 1 (opening ∷ []) (Seat X)
-x_acts = (to_move, (to_move, (refl, λ h. omega arith, refl), refl), refl)
+x_acts : ActsAfter one_point (opening ∷ []) (Seat X)
+x_acts = (to_move, (to_move, (refl, λ h. omega arith, refl), refl), sym (by_phase to_move (plays to_move refl)))
 
-move_next : IsNext 1 (opening ∷ []) move
-move_next = (omega arith, (_, (to_move, (refl, λ h. omega arith, refl), (_, (X, three_one, refl, legal_turn, refl), refl))))
+move_next : IsNext one_point (opening ∷ []) move
+move_next = (omega arith, (_, (to_move, (refl, λ h. omega arith, refl), (_, (X, three_one, refl, plays to_move refl, legal_turn, refl), refl))))
 
 -- word 12 has the dice 3 1
-opening_due : IsDue 1 [] 12 opening
+opening_due : IsDue one_point [] 12 opening
 unfolding dice_of
-opening_due = (three_one, refl, refl, opening_next)
+opening_due = (inl (three_one, refl, refl), opening_next)
 
 -- ---- the first turn of a match with a watcher, as a run
 
@@ -104,29 +117,29 @@ run_of list i e h = at list (1 + i) i (omega arith) h
     at list (suc j) i same h = subst (λ (k : ℕ). slice_get list k ≡ Some e) (omega arith) h
 
 abbrev want : ℕ → ℕ → Packet
-want party held = packet.Want 1 party held
+want party held = packet.Want 1 rules.One party held
 
 want_fits : (party : ℕ) → 1 ≤ party → party ≤ 255 → IsPacket (want party 0)
 want_fits party low high = record { id_fits = lit< tt; first_party = low; last_party = high; held_at_most = omega arith }
 
 abbrev claim : Packet
-claim = packet.Claim 1 1 2 (action.Move turn)
+claim = packet.Claim 1 rules.One 1 2 (action.Move turn)
 
 abbrev opening_told : Packet
-opening_told = packet.Entries 1 1 (opening ∷ [])
+opening_told = packet.Entries 1 rules.One 1 (opening ∷ [])
 
 abbrev turn_told : Packet
-turn_told = packet.Entries 1 1 (opening ∷ move ∷ [])
+turn_told = packet.Entries 1 rules.One 1 (opening ∷ move ∷ [])
 
 -- what is saved: the opening, then X's claim, then the whole turn
 abbrev save_of_opening : SavedParts
-save_of_opening = record { party = 0; id = 1; terms = 1; save = 1; claim = None; entries = opening ∷ [] }
+save_of_opening = record { party = 0; id = 1; terms = one_point; save = 1; claim = None; entries = opening ∷ [] }
 
 abbrev save_of_claim : SavedParts
-save_of_claim = record { party = 1; id = 1; terms = 1; save = 1; claim = Some (2, action.Move turn); entries = opening ∷ [] }
+save_of_claim = record { party = 1; id = 1; terms = one_point; save = 1; claim = Some (2, action.Move turn); entries = opening ∷ [] }
 
 abbrev save_of_turn : SavedParts
-save_of_turn = record { party = 0; id = 1; terms = 1; save = 2; claim = None; entries = opening ∷ move ∷ [] }
+save_of_turn = record { party = 0; id = 1; terms = one_point; save = 2; claim = None; entries = opening ∷ move ∷ [] }
 
 turn_in_range : IsTurn turn
 turn_in_range = record {
@@ -142,6 +155,7 @@ opening_written = record {
       id_fits = lit< tt;
       shortest = omega arith;
       longest = omega arith;
+      rules = tt;
       first_save = omega arith;
       last_save = lit≤ tt;
       claim = tt;
@@ -161,6 +175,7 @@ claim_written = record {
       id_fits = lit< tt;
       shortest = omega arith;
       longest = omega arith;
+      rules = tt;
       first_save = omega arith;
       last_save = lit≤ tt;
       claim = (omega arith, (omega arith, omega arith, turn_in_range));
@@ -180,6 +195,7 @@ turn_written = record {
       id_fits = lit< tt;
       shortest = omega arith;
       longest = omega arith;
+      rules = tt;
       first_save = omega arith;
       last_save = lit≤ tt;
       claim = tt;
@@ -223,7 +239,7 @@ turn_fits = record {
 
 -- match 1, which is played to one point, with one watcher
 abbrev started : ProtocolState
-started = start 1 1 1
+started = start 1 one_point 1
 
 abbrev opened : ProtocolState
 opened = with_entry started opening
@@ -316,7 +332,7 @@ x_is_answered : Step x_asked (events.Take 0 0 0) (outcomes.Took (takes.Answer 1 
 x_is_answered = (
   want 1 0,
   (datagram 0 (want 1 0), (0, omega arith, refl), carries 0 (want 1 0) (want_fits 1 (omega arith) (omega arith))),
-  ((λ e h. h), (refl, run_of (opening ∷ [])), (datagram 1 opening_told, carries 1 opening_told opening_fits, refl)),
+  ((λ e h. h), ((refl, refl), run_of (opening ∷ [])), (datagram 1 opening_told, carries 1 opening_told opening_fits, refl)),
 )
 
 opening_was_sent : WasSent x_answered.sent 1 opening_told
@@ -387,7 +403,7 @@ claim_is_accepted : Step x_claimed (events.Take 0 1 0) (outcomes.Took (takes.Acc
 claim_is_accepted = (
   claim,
   (datagram 0 claim, (2, omega arith, refl), carries 0 claim claim_fits),
-  (move, (refl, refl, (X, x_acts, refl), refl, move_next), refl, refl),
+  (move, ((refl, refl), refl, (X, x_acts, refl), refl, move_next), refl, refl),
 )
 
 turn_is_saved : Step accepted (events.Save 0) (outcomes.Saved 2) turn_saved
@@ -423,7 +439,7 @@ watcher_is_answered : Step watcher_asked (events.Take 0 2 0) (outcomes.Took (tak
 watcher_is_answered = (
   want 3 0,
   (datagram 0 (want 3 0), (3, omega arith, refl), carries 0 (want 3 0) (want_fits 3 (omega arith) (omega arith))),
-  ((λ e h. h), (refl, run_of (opening ∷ move ∷ [])), (datagram 3 turn_told, carries 3 turn_told turn_fits, refl)),
+  ((λ e h. h), ((refl, refl), run_of (opening ∷ move ∷ [])), (datagram 3 turn_told, carries 3 turn_told turn_fits, refl)),
 )
 
 turn_was_sent : WasSent watcher_answered.sent 3 turn_told

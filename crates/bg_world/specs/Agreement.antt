@@ -1,6 +1,7 @@
 -- That all parties agree.
 use Rattle.std.specs.Prelude.{◌≡◌, ℕ, ◌<◌, Some, List, ◌++◌}
 use Rattle.bg_match.specs.declared.entries.Entry.{Entry}
+use Rattle.bg_match.specs.declared.limits.Rules.{Rules}
 use Rattle.bg_wire.specs.Runs.{IsRun}
 use Rattle.bg_wire.specs.declared.packets.Packet.TheVariants as packet
 use Rattle.bg_world.specs.Datagrams.{WasSent}
@@ -15,5 +16,5 @@ IsPrefix xs ys = (rest : List Entry) × (xs ++ rest ≡ ys)
 pub record Agreement (w : ProtocolState) : Type 0 where
   pub saved : IsPrefix (saved_log w) w.referee.log
   pub followers : (party : ℕ) (log : List Entry) → 0 < party → log_of w party ≡ Some log → IsPrefix log (saved_log w)
-  pub datagrams : (to id start : ℕ) (list : List Entry) → WasSent w.sent to (packet.Entries id start list)
-      → IsRun (saved_log w) start list
+  pub datagrams : (to id : ℕ) (rules : Rules) (start : ℕ) (list : List Entry)
+      → WasSent w.sent to (packet.Entries id rules start list) → IsRun (saved_log w) start list

@@ -18,7 +18,7 @@ pub record GrowsAsShown
   pub more : List Entry
   pub is : new ≡ old ++ more
   pub legal : IsLegalRecord terms new
-  pub shown : (i : ℕ) (e : Entry) → slice_get more i ≡ Some e → WasShown id sent party (suc (length old + i)) e
+  pub shown : (i : ℕ) (e : Entry) → slice_get more i ≡ Some e → WasShown id terms sent party (suc (length old + i)) e
 
 -- entries that continue the record are held afterwards
 abbrev pub HoldsWhatContinues : ℕ → Terms → List Entry → Packet → List Entry → Type 0

@@ -36,7 +36,7 @@ due_text (Err due_fault.Memory) = codes "out of memory"
 
 -- the numbers of the first and of the last entry that a packet tells; the referee answers with such packets alone
 abbrev pub entries_told : Packet → Option (ℕ × ℕ)
-entries_told (packet.Entries id start list) = Some (start, start + length list - 1)
+entries_told (packet.Entries id rules start list) = Some (start, start + length list - 1)
 entries_told _ = None
 
 abbrev pub told_part : Option (ℕ × ℕ) → List ℕ

@@ -1,5 +1,6 @@
 -- The referee takes a packet.
 use Rattle.std.specs.Prelude.{◌≡◌, ℕ, ◌+◌, [], ◌∷◌, ◌++◌, length}
+use Rattle.bg_match.specs.Terms.{rules_of}
 use Rattle.bg_match.specs.declared.entries.Entry.{Entry}
 use Rattle.bg_wire.specs.Codes.{referee}
 use Rattle.bg_wire.specs.Runs.{IsRun}
@@ -18,7 +19,8 @@ use Rattle.bg_world.specs.State.{ProtocolState, saved_log}
 
 -- the packet tells entries of this match that the referee has saved, under their own numbers
 abbrev pub IsOfSaved : ProtocolState → Packet → Type 0
-IsOfSaved w (packet.Entries id start list) = (id ≡ w.id) × IsRun (saved_log w) start list
+IsOfSaved w (packet.Entries id rules start list) =
+    ((id ≡ w.id) × (rules ≡ rules_of w.terms)) × IsRun (saved_log w) start list
 IsOfSaved w _ = ⊥
 
 -- a datagram of such a packet

@@ -4,9 +4,10 @@ use Rattle.bg_board.specs.declared.players.Player.{Player}
 use Rattle.bg_turns.specs.declared.throws.Dice.{Dice}
 use Rattle.bg_match.specs.Answers.{Answers}
 use Rattle.bg_match.specs.Match.{IsLegalRecord, IsNext, ActsAfter}
-use Rattle.bg_match.specs.Terms.{Terms}
+use Rattle.bg_match.specs.Terms.{Terms, rules_of}
 use Rattle.bg_match.specs.declared.actions.Action.{Action}
 use Rattle.bg_match.specs.declared.entries.Entry.{Entry}
+use Rattle.bg_match.specs.declared.limits.Rules.{Rules}
 use Rattle.bg_match.specs.declared.phases.Actor.TheVariants.{Seat}
 use Rattle.bg_wire.specs.Codes.{referee}
 use Rattle.bg_wire.specs.Parties.{party_of}
@@ -34,29 +35,35 @@ pub record IsLegalClaim (terms : Terms) (saved : List Entry) (player : Player) (
 -- the packet is of this match, and says what its sender may say: a party that exists asks for no more than is
 -- saved, a seat claims what it could claim, and entries are saved ones under their own numbers
 abbrev pub IsSound : ProtocolState → Packet → Type 0
-IsSound w (packet.Want id sender held) = (id ≡ w.id) × Exists w sender × (held ≤ w.referee.saved)
-IsSound w (packet.Claim id sender n action) =
-    (id ≡ w.id) × ((player : Player) × (sender ≡ party_of player) × IsLegalClaim w.terms (saved_log w) player n action)
-IsSound w (packet.Entries id start list) = (id ≡ w.id) × IsRun (saved_log w) start list
+IsSound w (packet.Want id rules sender held) =
+    ((id ≡ w.id) × (rules ≡ rules_of w.terms)) × Exists w sender × (held ≤ w.referee.saved)
+IsSound w (packet.Claim id rules sender n action) =
+    ((id ≡ w.id) × (rules ≡ rules_of w.terms))
+    × ((player : Player) × (sender ≡ party_of player) × IsLegalClaim w.terms (saved_log w) player n action)
+IsSound w (packet.Entries id rules start list) =
+    ((id ≡ w.id) × (rules ≡ rules_of w.terms)) × IsRun (saved_log w) start list
 
 -- what the referee may be handed: a claim is no later than the next entry, and there it is of the seat that acts,
 -- and its entry may follow, with any dice
 pub record IsNoClaimRefused (w : ProtocolState) : Type 0 where
-  pub not_ahead : (id sender n : ℕ) (a : Action) → WasSent w.sent referee (packet.Claim id sender n a)
+  pub not_ahead : (id : ℕ) (rules : Rules) (sender n : ℕ) (a : Action)
+      → WasSent w.sent referee (packet.Claim id rules sender n a)
       → n ≤ length w.referee.log + 1
-  pub turn : (id sender n : ℕ) (a : Action) → WasSent w.sent referee (packet.Claim id sender n a)
+  pub turn : (id : ℕ) (rules : Rules) (sender n : ℕ) (a : Action)
+      → WasSent w.sent referee (packet.Claim id rules sender n a)
       → n ≡ length w.referee.log + 1
       → (player : Player) × (sender ≡ party_of player) × ActsAfter w.terms w.referee.log (Seat player)
-  pub legal : (id sender n : ℕ) (a : Action) → WasSent w.sent referee (packet.Claim id sender n a)
+  pub legal : (id : ℕ) (rules : Rules) (sender n : ℕ) (a : Action)
+      → WasSent w.sent referee (packet.Claim id rules sender n a)
       → n ≡ length w.referee.log + 1
       → (dice : Option Dice) (e : Entry) → Answers a dice e → IsNext w.terms w.referee.log e
 
 -- what a follower may be handed: entries agree with its record, and where they join it they continue it legally
 pub record AreNoEntriesRefused (w : ProtocolState) : Type 0 where
-  pub agree : (party : ℕ) (log : List Entry) (to id start : ℕ) (list : List Entry)
-      → 0 < party → log_of w party ≡ Some log → WasSent w.sent to (packet.Entries id start list) → Agrees log start list
-  pub follow : (party : ℕ) (log : List Entry) (to id start : ℕ) (list : List Entry)
-      → 0 < party → log_of w party ≡ Some log → WasSent w.sent to (packet.Entries id start list)
+  pub agree : (party : ℕ) (log : List Entry) (to id : ℕ) (rules : Rules) (start : ℕ) (list : List Entry)
+      → 0 < party → log_of w party ≡ Some log → WasSent w.sent to (packet.Entries id rules start list) → Agrees log start list
+  pub follow : (party : ℕ) (log : List Entry) (to id : ℕ) (rules : Rules) (start : ℕ) (list : List Entry)
+      → 0 < party → log_of w party ≡ Some log → WasSent w.sent to (packet.Entries id rules start list)
       → start ≤ length log + 1
       → IsLegalRecord w.terms (log ++ new_entries log start list)
 

@@ -15,7 +15,7 @@ use Rattle.bg_world.specs.EventText.{IsEvent, IsEventTextFault, event_text}
 use Rattle.bg_world.specs.FinalText.{IsFinalText}
 use Rattle.bg_world.specs.OutcomeText.{outcome_text}
 use Rattle.bg_world.specs.Simulations.{IsEmptyPlan, start_in_memory}
-use Rattle.bg_world.specs.Starts.{IsWorldFault}
+use Rattle.bg_world.specs.Starts.{terms_in, IsWorldFault}
 use Rattle.bg_world.specs.State.{IsSetup}
 use Rattle.bg_world.specs.Views.{WorldView}
 use Rattle.bg_world.specs.WorldRuns.{CallsAll}
@@ -85,7 +85,7 @@ IsScriptText setup input text verdict =
 -- there is no such world; or there is one, and a device failed, or memory ran out
 abbrev pub IsScriptFault : ScriptFault → Setup → Type 0
 IsScriptFault (World why) setup = IsWorldFault why setup
-IsScriptFault (Engine why) setup = IsSetup setup.id setup.length setup.watchers
+IsScriptFault (Engine why) setup = IsSetup setup.id (terms_in setup) setup.watchers
 
 -- how often the source and the sink failed: once each where the answer is their fault, and else not at all
 abbrev pub SourceFailsOnce : {T : Type 0} → Result T ScriptFault → ℕ → ℕ → Type 0

@@ -5,7 +5,7 @@ use Rattle.bg_world.specs.DiceWords.{ShowsWordsOf}
 use Rattle.bg_world.specs.MemoryDevices.{memory_link_view, memory_keeper_view}
 use Rattle.bg_world.specs.Runs.{Run}
 use Rattle.bg_world.specs.Slots.{empty_slots}
-use Rattle.bg_world.specs.Starts.{IsWorldFault, fresh_world}
+use Rattle.bg_world.specs.Starts.{terms_in, IsWorldFault, fresh_world}
 use Rattle.bg_world.specs.State.{IsSetup, start}
 use Rattle.bg_world.specs.Views.{KeeperView, LinkView, WorldView}
 use Rattle.bg_world.specs.WorldRuns.{CallsAll, Reports, history_of}
@@ -69,7 +69,7 @@ pub record IsEmptyPlan (plan : Plan) : Type 0 where
 -- Why there is no simulation is why there is no world; but memory is wanted also for what the plan says.
 abbrev pub IsSimulationFault : WorldFault → Setup → Plan → Type 0
 IsSimulationFault faults.Memory setup plan =
-    IsSetup setup.id setup.length setup.watchers × (IsEmptyPlan plan → 1 ≤ setup.watchers)
+    IsSetup setup.id (terms_in setup) setup.watchers × (IsEmptyPlan plan → 1 ≤ setup.watchers)
 IsSimulationFault fault setup plan = IsWorldFault fault setup
 
 -- ---- the run
@@ -83,7 +83,7 @@ pub record Simulates
   pub calls : CallsAll (Unit {0}) (Unit {0}) (start_in_memory setup plan) events outcomes new
   pub reports : Reports report events outcomes
   pub reached : IsReachedWorld new
-  pub run : Run (start setup.id setup.length setup.watchers) (history_of events outcomes)
+  pub run : Run (start setup.id (terms_in setup) setup.watchers) (history_of events outcomes)
       (protocol_state new reached.restorable)
 
 -- the dice of the referee's record are those of words that the events handed in

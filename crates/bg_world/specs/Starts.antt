@@ -3,7 +3,7 @@ use Rattle.std.specs.Prelude.{◌≡◌, ℕ, zero, suc, ◌+◌, ◌<◌, ◌�
 use Rattle.bg_board.specs.declared.players.Player.TheVariants.{X, O}
 use Rattle.bg_match.specs.Limits.{IsMatchLength}
 use Rattle.bg_match.specs.Match.{Log}
-use Rattle.bg_match.specs.Terms.{Terms, match_length}
+use Rattle.bg_match.specs.Terms.{Terms, terms_of}
 use Rattle.bg_referee.specs.Referee.{RefereeView, fresh_referee}
 use Rattle.bg_party.specs.Views.{SeatView, WatcherView, fresh_seat, fresh_watcher}
 use Rattle.bg_wire.specs.Codes.{first_watcher}
@@ -16,12 +16,16 @@ use Rattle.bg_world.specs.declared.setups.Setup.{Setup}
 use Rattle.bg_world.specs.declared.setups.WorldFault.{WorldFault}
 use Rattle.bg_world.specs.declared.setups.WorldFault.TheVariants as faults
 
+-- what the players of a match agree on
+abbrev pub terms_in : Setup → Terms
+terms_in setup = terms_of setup.length setup.rules
+
 -- the fault names the first test that fails; want of memory comes last, and only where there are watchers
 abbrev pub IsWorldFault : WorldFault → Setup → Type 0
 IsWorldFault faults.TooManyWatchers setup = most_watchers < setup.watchers
 IsWorldFault faults.LengthOutOfRange setup =
-    (setup.watchers ≤ most_watchers) × (IsMatchLength (match_length setup.length) → ⊥)
-IsWorldFault faults.Memory setup = IsSetup setup.id setup.length setup.watchers × (1 ≤ setup.watchers)
+    (setup.watchers ≤ most_watchers) × (IsMatchLength setup.length → ⊥)
+IsWorldFault faults.Memory setup = IsSetup setup.id (terms_in setup) setup.watchers × (1 ≤ setup.watchers)
 
 -- so many watchers, who hold nothing; the party of the first is the first watcher's
 abbrev pub fresh_watchers : ℕ → Terms → ℕ → List WatcherView
@@ -33,15 +37,15 @@ fresh_watchers id terms (suc count) =
 abbrev pub fresh_world : Setup → LinkView → KeeperView → KeeperView → KeeperView → WorldView
 fresh_world setup link referee_keeper x_keeper o_keeper = record {
   id = setup.id;
-  terms = setup.length;
+  terms = terms_in setup;
   link = link;
   referee_keeper = referee_keeper;
   x_keeper = x_keeper;
   o_keeper = o_keeper;
-  referee = Some (fresh_referee setup.id setup.length);
-  x = Some (fresh_seat X setup.id setup.length);
-  o = Some (fresh_seat O setup.id setup.length);
-  watchers = fresh_watchers setup.id setup.length setup.watchers;
+  referee = Some (fresh_referee setup.id (terms_in setup));
+  x = Some (fresh_seat X setup.id (terms_in setup));
+  o = Some (fresh_seat O setup.id (terms_in setup));
+  watchers = fresh_watchers setup.id (terms_in setup) setup.watchers;
 }
 
 -- nothing was sent over the link, and the slots are empty

@@ -3,7 +3,7 @@ use Rattle.std.specs.Prelude.{◌≡◌, false, IsSome, List, [], ◌∷◌}
 use Rattle.std.specs.List.{AllByRecursion}
 use Rattle.bg_board.specs.declared.players.Player.{Player}
 use Rattle.bg_world.specs.Calls.{Calls}
-use Rattle.bg_world.specs.Starts.{AreUnused, fresh_world}
+use Rattle.bg_world.specs.Starts.{terms_in, AreUnused, fresh_world}
 use Rattle.bg_world.specs.State.{IsSetup, start}
 use Rattle.bg_world.specs.Views.{KeeperView, LinkView, WorldView, seat_keeper}
 use Rattle.bg_world.specs.WorldRuns.{is_memory}
@@ -17,11 +17,11 @@ use Rattle.bg_world.specs.declared.setups.Setup.{Setup}
 abbrev pub NewWorldsAreAtTheStart : Type 0
 NewWorldsAreAtTheStart =
     (setup : Setup) (link : LinkView) (referee_keeper x_keeper o_keeper : KeeperView)
-    → IsSetup setup.id setup.length setup.watchers → AreUnused link referee_keeper x_keeper o_keeper
+    → IsSetup setup.id (terms_in setup) setup.watchers → AreUnused link referee_keeper x_keeper o_keeper
     → let w = fresh_world setup link referee_keeper x_keeper o_keeper in
     IsReachedWorld w
     × ((reached : IsReachedWorld w)
-    → protocol_state w reached.restorable ≡ start setup.id setup.length setup.watchers)
+    → protocol_state w reached.restorable ≡ start setup.id (terms_in setup) setup.watchers)
 
 -- the event asks nothing of a device, or nothing but one write, of which a world shows the answer
 abbrev pub NoDeviceIsHeard : Event → Type 0

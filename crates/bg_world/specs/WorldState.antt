@@ -108,15 +108,15 @@ pub record CoresMatch (w : WorldView) (r : Restorable) : Type 0 where
 -- ---- what followers keep beside their records
 
 -- each early entry that the follower keeps stood under its number in entries that were sent to its party
-abbrev pub KeepsWhatWasShown : ℕ → List Datagram → ℕ → FollowerView → Type 0
-KeepsWhatWasShown id sent party f = (n : ℕ) (e : Entry) → IsEarly f n e → WasShown id sent party n e
+abbrev pub KeepsWhatWasShown : ℕ → Terms → List Datagram → ℕ → FollowerView → Type 0
+KeepsWhatWasShown id terms sent party f = (n : ℕ) (e : Entry) → IsEarly f n e → WasShown id terms sent party n e
 
 -- so it is of the seats that are up, and of the watchers
 pub record AllKeepWhatWasShown (w : WorldView) : Type 0 where
-  pub x : IfSome w.x (λ s. KeepsWhatWasShown w.id w.link.sent seat_of_x s.follower)
-  pub o : IfSome w.o (λ s. KeepsWhatWasShown w.id w.link.sent seat_of_o s.follower)
+  pub x : IfSome w.x (λ s. KeepsWhatWasShown w.id w.terms w.link.sent seat_of_x s.follower)
+  pub o : IfSome w.o (λ s. KeepsWhatWasShown w.id w.terms w.link.sent seat_of_o s.follower)
   pub watchers : (index : ℕ) (core : WatcherView) → slice_get w.watchers index ≡ Some core
-      → KeepsWhatWasShown w.id w.link.sent (first_watcher + index) core.follower
+      → KeepsWhatWasShown w.id w.terms w.link.sent (first_watcher + index) core.follower
 
 -- a run leads to the state of the world, its cores match that, and what they keep was shown to them
 pub record IsReachedWorld (w : WorldView) : Type 0 where

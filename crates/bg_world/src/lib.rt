@@ -5,6 +5,7 @@
 //! let setup = Setup {
 //!     id: 1,
 //!     length: 5,
+//!     rules: Rules::One,
 //!     watchers: 0,
 //! };
 //! let no_failures = Plan {

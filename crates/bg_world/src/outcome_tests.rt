@@ -2,7 +2,7 @@
 use crate::test_rows::{MemoryWorld, NO_FAILURE, world};
 use crate::{Outcome, RestoreCause, outcome_text, parse_event};
 use arrayvec::ArrayVec;
-use bg_match::{EntryFault, NoDouble};
+use bg_match::{EntryFault, NoDouble, Rules};
 use bg_party::{ChooseFault, Learned};
 use bg_referee::{DueFault, TakeOutcome};
 use bg_turns::TurnFault;
@@ -63,6 +63,7 @@ fn lines_of_the_referee(rt: HostRuntime) {
 fn lines_of_answers(rt: HostRuntime) {
     let want = Packet::Want {
         id: 1,
+        rules: Rules::One,
         sender: 3,
         held: 0,
     };
@@ -70,6 +71,7 @@ fn lines_of_answers(rt: HostRuntime) {
     check(&rt, Outcome::Took(none), "answer to 3: no entries");
     let empty = Packet::Entries {
         id: 1,
+        rules: Rules::One,
         start: 2,
         list: EntryList {
             entries: ArrayVec::new(),

@@ -4,6 +4,7 @@ ghost use Rattle.bg_match.specs.Limits.{IsMatchLength};
 ghost use Rattle.bg_match.specs.Terms.{match_length};
 ghost use Rattle.bg_wire.specs.Codes.{first_watcher, referee as referee_party};
 ghost use Rattle.bg_wire.specs.Parties.{party_of};
+ghost use Rattle.bg_wire.specs.Restoring.{Restores};
 ghost use Rattle.bg_wire.specs.SavedText.{IsSavable, parts_of};
 ghost use Rattle.bg_referee.specs.Referee.{fresh_referee, resumed_referee};
 ghost use Rattle.bg_party.specs.Views.{fresh_seat, resumed_seat};
@@ -30,6 +31,22 @@ fn refusal_outcome(refusal: RestoreRefusal) -> Outcome
     }
 }
 
+/// What the bytes of a party's slots restore.
+fn restored(
+    alloc: Global,
+    zero: &[u8],
+    one: &[u8],
+    party: u8,
+    id: u64,
+    terms: Terms,
+) -> Result<Option<Saved>, RestoreRefusal>
+    ensures restores { Restores zero.now one.now party id terms result }
+    ensures party { IfOk result (λ found. IfSome found (λ saved. saved.party ≡ party)) }
+    ensures savable { IfOk result (λ found. IfSome found (λ saved. IsSavable (parts_of saved))) }
+{
+    restore(alloc, zero, one, party, id, terms.length, terms.rules)
+}
+
 /// What the slots of a party restore, or what it comes to that nothing is restored.
 fn read_both<K: Keeper>(
     alloc: Global,
@@ -51,7 +68,7 @@ fn read_both<K: Keeper>(
         Ok(one) => one,
         Err(fault) => return Err(read_outcome(fault)),
     };
-    match restore(alloc, &zero, &one, party, id, terms) {
+    match restored(alloc, &zero, &one, party, id, terms) {
         Ok(found) => Ok(found),
         Err(refusal) => Err(refusal_outcome(refusal)),
     }
@@ -76,7 +93,7 @@ fn restart_referee<K: Keeper>(
             Outcome::Restarted
         }
         Ok(None) => {
-            *referee = Some(Referee::fresh(alloc, id, terms).unwrap());
+            *referee = Some(Referee::fresh(alloc, id, terms.length, terms.rules).unwrap());
             Outcome::Restarted
         }
         Err(why) => why,
@@ -103,7 +120,7 @@ fn restart_seat<K: Keeper>(
             Outcome::Restarted
         }
         Ok(None) => {
-            *seat = Some(Seat::fresh(alloc, player, id, terms).unwrap());
+            *seat = Some(Seat::fresh(alloc, player, id, terms.length, terms.rules).unwrap());
             Outcome::Restarted
         }
         Err(why) => why,
@@ -153,7 +170,8 @@ impl<L: Link, K: Keeper> World<L, K> {
         match self.watchers.get_mut(index) {
             None => Outcome::NoSuchParty,
             Some(core) => {
-                *core = Watcher::fresh(self.alloc, party, self.id, self.terms).unwrap();
+                let Terms { length, rules } = self.terms;
+                *core = Watcher::fresh(self.alloc, party, self.id, length, rules).unwrap();
                 Outcome::Restarted
             }
         }

@@ -1,6 +1,7 @@
 //! Scripts: good ones, refused ones, and worlds that are refused.
 use crate::test_rows::check_no_growth_is_left;
 use crate::{ScriptFault, Setup, WorldFault, script};
+use bg_match::Rules;
 use bg_text::{EngineFault, MOST_BYTES, Reading, Verdict, Writing};
 use std::alloc::Global;
 use std::process::Abort;
@@ -82,6 +83,7 @@ fn play(
     let setup = Setup {
         id: 1,
         length,
+        rules: Rules::One,
         watchers,
     };
     let mut reader = input;

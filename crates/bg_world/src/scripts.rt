@@ -10,7 +10,7 @@ ghost use Rattle.bg_world.specs.ScriptText.{IsPlayed, IsScriptFault, IsScriptTex
 ghost use Rattle.bg_world.specs.ScriptText.{SourceFailsOnce, event_reason, refused_event_line};
 ghost use Rattle.bg_world.specs.Scripts.{AreGood, IsChecked, IsStart, PlaysLines};
 ghost use Rattle.bg_world.specs.Simulations.{memory_view};
-ghost use Rattle.bg_world.specs.Starts.{IsWorldFault};
+ghost use Rattle.bg_world.specs.Starts.{terms_in, IsWorldFault};
 ghost use Rattle.bg_world.specs.State.{IsSetup};
 ghost use Rattle.bg_world.specs.World.{view_of};
 ghost use Rattle.bg_world.specs.declared.setups.WorldFault.{WorldFault};
@@ -186,7 +186,7 @@ pub enum ScriptFault {
 /// A world where nothing has happened yet, over devices in memory that never fail.
 fn start(alloc: Global, setup: Setup) -> Result<World<MemoryNet, MemoryKeeper>, WorldFault>
     ensures start { IfOk result (λ world. IsStart setup (memory_view world)) }
-    ensures refusal { MatchResult result (λ _. IsSetup setup.id setup.length setup.watchers)
+    ensures refusal { MatchResult result (λ _. IsSetup setup.id (terms_in setup) setup.watchers)
         (λ fault. IsWorldFault fault setup) }
 {
     let plan = Plan {
@@ -218,7 +218,7 @@ pub fn script<S: Source, T: Sink>(
         × ReadsInput S.Source source.old source.new input × IsScriptText setup input text verdict
         × WritesText T.Sink sink.old sink.new text
         × IfSome (S.remaining source.old) (λ bytes. IsScriptText setup bytes text verdict)) }
-    ensures refusal { MatchResult result (λ _. IsSetup setup.id setup.length setup.watchers)
+    ensures refusal { MatchResult result (λ _. IsSetup setup.id (terms_in setup) setup.watchers)
         (λ fault. IsScriptFault fault setup) }
     // There is no such world: nothing was read, and nothing was written.
     ensures world { (fault : WorldFault) → result ≡ Err (ScriptFault.World fault)

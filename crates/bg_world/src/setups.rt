@@ -1,9 +1,9 @@
 //! What a world is made of.
-ghost use Rattle.std.specs.Prelude.{◌≢◌, MatchResult};
-ghost use Rattle.bg_world.specs.Starts.{IsWorldFault};
+ghost use Rattle.std.specs.Prelude.{◌≡◌, ◌≢◌, MatchResult};
+ghost use Rattle.bg_world.specs.Starts.{IsWorldFault, terms_in};
 ghost use Rattle.bg_world.specs.State.{IsSetup};
 
-use bg_match::{LONGEST_MATCH, SHORTEST_MATCH, Terms};
+use bg_match::{LONGEST_MATCH, Rules, SHORTEST_MATCH, Terms};
 use bg_wire::{FIRST_WATCHER, LAST_WATCHER};
 use std::alloc::{AllocError, AllocFailed};
 use thiserror::Error;
@@ -17,15 +17,27 @@ pub struct Setup {
     /// The number of the match.
     pub id: u64,
     /// Its length in points, from 1 to 99.
-    pub length: Terms,
+    pub length: u8,
+    /// The rules that it is played by.
+    pub rules: Rules,
     /// How many watch it, at most 253.
     pub watchers: u8,
 }
 
 impl Setup {
+    /// What the players agree on.
+    pub(crate) fn terms(self) -> Terms
+        ensures { result ≡ terms_in self }
+    {
+        Terms {
+            length: self.length,
+            rules: self.rules,
+        }
+    }
+
     /// Whether a world can be made of it.
     pub(crate) fn check(self) -> Result<(), WorldFault>
-        ensures { MatchResult result (λ _. IsSetup self.id self.length self.watchers)
+        ensures { MatchResult result (λ _. IsSetup self.id (terms_in self) self.watchers)
             (λ fault. (fault ≢ WorldFault.Memory) × IsWorldFault fault self) }
     {
         if self.watchers > MOST_WATCHERS {

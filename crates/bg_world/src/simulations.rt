@@ -1,5 +1,6 @@
 //! Runs over devices in memory, from a world where nothing has happened yet.
 ghost use Rattle.std.specs.Prelude.{◌≡◌, IfOk, MatchResult, OnErr};
+ghost use Rattle.bg_world.specs.Starts.{terms_in};
 ghost use Rattle.bg_world.specs.MemoryDevices.{memory_keeper_view};
 ghost use Rattle.bg_world.specs.Simulations.{IsEmptyPlan, IsOfWords, IsSimulationFault, NoneFailed, Simulates, memory_view, start_in_memory, unused_keeper};
 ghost use Rattle.bg_world.specs.State.{IsSetup};
@@ -27,7 +28,7 @@ fn world_in_memory(
     plan: &Plan,
 ) -> Result<World<MemoryNet, MemoryKeeper>, WorldFault>
     ensures start { IfOk result (λ world. memory_view world ≡ start_in_memory setup plan.now) }
-    ensures refusal { MatchResult result (λ _. IsSetup setup.id setup.length setup.watchers)
+    ensures refusal { MatchResult result (λ _. IsSetup setup.id (terms_in setup) setup.watchers)
         (λ fault. IsSimulationFault fault setup plan.now) }
 {
     setup.check()?;
@@ -58,7 +59,7 @@ pub fn simulate(
     plan: &Plan,
     events: &[Event],
 ) -> Result<(World<MemoryNet, MemoryKeeper>, RunReport), WorldFault>
-    ensures refusal { MatchResult result (λ _. IsSetup setup.id setup.length setup.watchers)
+    ensures refusal { MatchResult result (λ _. IsSetup setup.id (terms_in setup) setup.watchers)
         (λ fault. IsSimulationFault fault setup plan.now) }
     // The calls of each event; they are a run of the protocol.
     ensures simulates { IfOk result (λ ran. Simulates setup plan.now events.now ran.1 (memory_view ran.0)) }

@@ -5,7 +5,7 @@ use crate::{
 };
 use arrayvec::ArrayVec;
 use bg_board::{Player, Step};
-use bg_match::{Action, Number};
+use bg_match::{Action, Number, Rules};
 use bg_party::{ChooseFault, Learned};
 use bg_referee::TakeOutcome;
 use bg_turns::Turn;
@@ -114,6 +114,7 @@ pub(crate) fn setup(length: u8, watchers: u8) -> Setup {
     Setup {
         id: 1,
         length,
+        rules: Rules::One,
         watchers,
     }
 }

@@ -2,7 +2,7 @@
 ghost use Rattle.std.specs.Prelude.{◌≡◌, ◌≤◌, vec_len, IfOk, IfErr, MatchResult, option_copied};
 ghost use Rattle.bg_match.specs.Limits.{IsMatchLength};
 ghost use Rattle.bg_match.specs.Terms.{match_length};
-ghost use Rattle.bg_world.specs.Starts.{IsWorldFault, fresh_watchers};
+ghost use Rattle.bg_world.specs.Starts.{terms_in, IsWorldFault, fresh_watchers};
 ghost use Rattle.bg_world.specs.State.{IsSetup, most_watchers};
 
 use crate::{Keeper, Keepers, Link, Role, Setup, WorldFault};
@@ -28,7 +28,8 @@ fn fresh_watchers(
 {
     let mut watchers = Vec::new(alloc);
     for index in 0..count {
-        watchers.push(Watcher::fresh(alloc, FIRST_WATCHER + index, id, terms).unwrap())?;
+        let party = FIRST_WATCHER + index;
+        watchers.push(Watcher::fresh(alloc, party, id, terms.length, terms.rules).unwrap())?;
     }
     Ok(watchers)
 }
@@ -77,7 +78,7 @@ impl<L: Link + Drop, K: Keeper + Drop> World<L, K> {
         ensures reached { IfOk result (λ world. AreUnused (link_view L.Link link) (keeper_view K.Keeper keepers.referee)
             (keeper_view K.Keeper keepers.x) (keeper_view K.Keeper keepers.o)
             → IsReachedWorld (view_of L.Link K.Keeper world)) }
-        ensures refusal { MatchResult result (λ _. IsSetup setup.id setup.length setup.watchers)
+        ensures refusal { MatchResult result (λ _. IsSetup setup.id (terms_in setup) setup.watchers)
             (λ fault. IsWorldFault fault setup) }
     {
         World::begin(alloc, setup, link, keepers)
@@ -93,11 +94,11 @@ impl<L: Link + Drop, K: Keeper + Drop> World<L, K> {
         ensures start { IfOk result (λ world. view_of L.Link K.Keeper world ≡ fresh_world setup
             (link_view L.Link link) (keeper_view K.Keeper keepers.referee) (keeper_view K.Keeper keepers.x)
             (keeper_view K.Keeper keepers.o)) }
-        ensures refusal { MatchResult result (λ _. IsSetup setup.id setup.length setup.watchers)
+        ensures refusal { MatchResult result (λ _. IsSetup setup.id (terms_in setup) setup.watchers)
             (λ fault. IsWorldFault fault setup) }
     {
         setup.check()?;
-        let (id, terms) = (setup.id, setup.length);
+        let (id, terms) = (setup.id, setup.terms());
         let watchers = fresh_watchers(alloc, id, terms, setup.watchers)?;
         Ok(World {
             alloc,
@@ -105,9 +106,9 @@ impl<L: Link + Drop, K: Keeper + Drop> World<L, K> {
             terms,
             link,
             keepers,
-            referee: Some(Referee::fresh(alloc, id, terms).unwrap()),
-            x: Some(Seat::fresh(alloc, Player::X, id, terms).unwrap()),
-            o: Some(Seat::fresh(alloc, Player::O, id, terms).unwrap()),
+            referee: Some(Referee::fresh(alloc, id, terms.length, terms.rules).unwrap()),
+            x: Some(Seat::fresh(alloc, Player::X, id, terms.length, terms.rules).unwrap()),
+            o: Some(Seat::fresh(alloc, Player::O, id, terms.length, terms.rules).unwrap()),
             watchers,
         })
     }

@@ -2,8 +2,12 @@
 ghost use Rattle.std.specs.Prelude.{◌≡◌, ◌↔◌, IsSome, IfSome, IsTrue};
 ghost use Rattle.std.specs.Int.{IsPowerOfTwo};
 ghost use Rattle.bg_match.specs.State.{IsCubeOf, AreScoresOf};
+ghost use Rattle.bg_match.specs.Terms.{terms_of};
 
-use crate::{Cube, GREATEST_CUBE, GREATEST_SCORE, LONGEST_MATCH, Phase, SHORTEST_MATCH, Standing};
+use crate::{
+    Cube, GREATEST_CUBE, GREATEST_SCORE, LONGEST_MATCH, Phase, Rules, SHORTEST_MATCH, Standing,
+    Terms,
+};
 use bg_board::{Board, Player};
 
 impl Standing {
@@ -15,6 +19,7 @@ impl Standing {
     /// game is from 1 to one more than the points scored.
     pub fn from_parts(
         length: u8,
+        rules: Rules,
         board: Board,
         phase: Phase,
         cube: Cube,
@@ -22,8 +27,8 @@ impl Standing {
         crawford: bool,
         game: u8,
     ) -> Option<Standing>
-        ensures some { IsSome result ↔ IsState (state_of length board phase cube score crawford game) }
-        ensures value { IfSome result (λ s. s ≡ state_of length board phase cube score crawford game) }
+        ensures some { IsSome result ↔ IsState (state_of (terms_of length rules) board phase cube score crawford game) }
+        ensures value { IfSome result (λ s. s ≡ state_of (terms_of length rules) board phase cube score crawford game) }
     {
         let games = u32::from(score.0) + u32::from(score.1) + 1;
         if !(SHORTEST_MATCH..=LONGEST_MATCH).contains(&length)
@@ -36,7 +41,7 @@ impl Standing {
             return None;
         }
         Some(Standing {
-            terms: length,
+            terms: Terms { length, rules },
             board,
             phase,
             cube,

@@ -1,5 +1,5 @@
 //! Where an entry leads.
-ghost use Rattle.std.specs.Prelude.{◌≡◌, ◌≢◌, ◌≤◌, ◌*◌, ◌↔◌, IfOk, IfErr, MatchOption, IsOk};
+ghost use Rattle.std.specs.Prelude.{false, ◌≡◌, ◌≢◌, ◌≤◌, ◌*◌, ◌↔◌, IfOk, IfErr, MatchOption, IsOk};
 ghost use Rattle.bg_board.specs.Die.{pips};
 ghost use Rattle.bg_board.specs.Position.{opponent};
 ghost use Rattle.bg_match.specs.Limits.{greatest_win};
@@ -12,6 +12,7 @@ use bg_turns::{Dice, Turn, judge_turn};
 impl Standing {
     ghost use Rattle.bg_match.specs.State.{IsState, after_win, IsRunning};
     ghost use Rattle.bg_match.specs.Level.{points};
+    ghost use Rattle.bg_match.specs.Actor.{passes, IsPassOf};
     ghost use Rattle.bg_match.specs.Follows.{Follows, CanFollow, IsEntryFault, IsNoDouble, IsDoubleFault, MayDouble};
     ghost use Rattle.bg_match.specs.Follows.{MovedFault, after_turn};
     ghost use Rattle.bg_turns.specs.Turn.{IsLegalTurn, after_steps};
@@ -23,6 +24,19 @@ impl Standing {
     /// where the dice of an opening are equal; `Turn` where a turn is not legal; `NoDouble` where the player may not
     /// double.
     pub fn next(&self, entry: &Entry) -> Result<Standing, EntryFault>
+        ensures ok { IsOk result ↔ CanFollow self.now entry.now }
+        ensures after { IfOk result (λ after. Follows self.now entry.now after) }
+        ensures fault { IfErr result (λ fault. IsEntryFault fault self.now entry.now) }
+    {
+        match self.passing() {
+            Some(player) => self.passed(player, entry),
+            None => self.played(entry),
+        }
+    }
+
+    /// Where no turn is to be passed: after an entry, or why it may not follow.
+    fn played(&self, entry: &Entry) -> Result<Standing, EntryFault>
+        requires { passes self.now ≡ false }
         ensures ok { IsOk result ↔ CanFollow self.now entry.now }
         ensures after { IfOk result (λ after. Follows self.now entry.now after) }
         ensures fault { IfErr result (λ fault. IsEntryFault fault self.now entry.now) }
@@ -51,6 +65,19 @@ impl Standing {
                 Ok(self.with_phase(phase_back(player, back)))
             }
             (Phase::Over(_), _) => Err(EntryFault::MatchOver),
+            _ => Err(EntryFault::WrongPhase),
+        }
+    }
+
+    /// Where a turn is to be passed: after the pass, or that this is another entry.
+    fn passed(&self, player: Player, entry: &Entry) -> Result<Standing, EntryFault>
+        requires { IsPassOf self.now player }
+        ensures ok { IsOk result ↔ CanFollow self.now entry.now }
+        ensures after { IfOk result (λ after. Follows self.now entry.now after) }
+        ensures fault { IfErr result (λ fault. IsEntryFault fault self.now entry.now) }
+    {
+        match entry {
+            Entry::Passed => Ok(self.with_phase(Phase::ToAct(player.opponent()))),
             _ => Err(EntryFault::WrongPhase),
         }
     }
@@ -162,7 +189,7 @@ impl Standing {
             Player::X => score.0,
             Player::O => score.1,
         };
-        let length = u16::from(self.terms);
+        let length = u16::from(self.terms.length);
         if reached >= length {
             return Standing {
                 phase: Phase::Over(winner),

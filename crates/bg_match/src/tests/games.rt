@@ -1,6 +1,6 @@
 //! Games with the cube.
 use super::{both_opened, cube, dice, moved, opened, record};
-use crate::{Cube, Entry, EntryFault, Level, NoDouble, Phase, Record, Standing};
+use crate::{Cube, Entry, EntryFault, Level, NoDouble, Phase, Record, Rules, Standing};
 use bg_board::{Board, Die, Player};
 use std::process::Abort;
 use std::test::Fail;
@@ -17,7 +17,16 @@ fn crawford_game(rt: HostRuntime) -> Result<(), Fail> {
     ];
     let mut record = record(rt.alloc(), 3, &entries)?;
     let to_act = Phase::ToAct(Player::O);
-    let standing = Standing::from_parts(3, opened()?, to_act, Cube::MIDDLE, (2, 0), true, 2);
+    let standing = Standing::from_parts(
+        3,
+        Rules::One,
+        opened()?,
+        to_act,
+        Cube::MIDDLE,
+        (2, 0),
+        true,
+        2,
+    );
     assert!(rt; Some(record.standing()) == standing);
     assert_eq!(rt;
         record.push(Entry::Doubled),
@@ -43,7 +52,16 @@ fn after_the_crawford_game(rt: HostRuntime) -> Result<(), Fail> {
     ];
     let record = record(rt.alloc(), 3, &entries)?;
     let doubled = Phase::Doubled(Player::X);
-    let standing = Standing::from_parts(3, opened()?, doubled, Cube::MIDDLE, (2, 1), false, 3);
+    let standing = Standing::from_parts(
+        3,
+        Rules::One,
+        opened()?,
+        doubled,
+        Cube::MIDDLE,
+        (2, 1),
+        false,
+        3,
+    );
     assert!(rt; Some(record.standing()) == standing);
     assert_eq!(rt; record.len(), 9);
     Ok(())
@@ -57,7 +75,7 @@ fn push_rows(
 ) -> Result<(), Fail> {
     for (entry, board, phase, cube) in rows {
         record.push(entry.copy())?;
-        let standing = Standing::from_parts(5, *board, *phase, *cube, (0, 0), false, 1);
+        let standing = Standing::from_parts(5, Rules::One, *board, *phase, *cube, (0, 0), false, 1);
         assert!(rt; Some(record.standing()) == standing, "at {}", record.len());
     }
     Ok(())
@@ -105,7 +123,16 @@ fn doubles_dropped(rt: HostRuntime) -> Result<(), Fail> {
     let mut dropped = record.copy()?;
     dropped.push(Entry::Dropped)?;
     let start = Board::start();
-    let won = Standing::from_parts(5, start, Phase::Opening, Cube::MIDDLE, (2, 0), false, 2);
+    let won = Standing::from_parts(
+        5,
+        Rules::One,
+        start,
+        Phase::Opening,
+        Cube::MIDDLE,
+        (2, 0),
+        false,
+        2,
+    );
     assert!(rt; Some(dropped.standing()) == won);
     assert_eq!(rt; dropped.by(8), Some(Player::O));
     Ok(())
@@ -117,7 +144,16 @@ fn doubles_taken(rt: HostRuntime) -> Result<(), Fail> {
     let mut record = doubled_twice(&rt)?;
     record.push(Entry::Taken)?;
     let by_o = cube(4, Player::O);
-    let taken = Standing::from_parts(5, both, Phase::ToAct(Player::X), by_o, (0, 0), false, 1);
+    let taken = Standing::from_parts(
+        5,
+        Rules::One,
+        both,
+        Phase::ToAct(Player::X),
+        by_o,
+        (0, 0),
+        false,
+        1,
+    );
     assert!(rt; Some(record.standing()) == taken);
     Ok(())
 }

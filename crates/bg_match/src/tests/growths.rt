@@ -1,6 +1,6 @@
 //! Long records, and refused growths.
 use super::{is_copied, record};
-use crate::{Entry, EntryFault, Level, MOST_ENTRIES, Number, Record};
+use crate::{Entry, EntryFault, Level, MOST_ENTRIES, Number, Record, Rules};
 use bg_board::Die;
 use std::alloc::Global;
 use std::process::Abort;
@@ -55,7 +55,7 @@ fn push_again(
 
 /// A record of twenty entries.
 fn grown(rt: &(impl AllocGlobal + Abort)) -> Result<Record, Fail> {
-    let mut record = Record::new(rt.alloc(), 1, 1)?;
+    let mut record = Record::new(rt.alloc(), 1, 1, Rules::One)?;
     for pushed in 0..20 {
         let entry = match pushed {
             0 => Entry::Opening(Die::Three, Die::One),

@@ -1,6 +1,8 @@
 //! Records, entry by entry.
 use super::{dice, is_copied, moved, record, turn};
-use crate::{Action, Actor, Entry, EntryFault, LengthFault, Level, NoDouble, Record, entry_of};
+use crate::{
+    Action, Actor, Entry, EntryFault, LengthFault, Level, NoDouble, Record, Rules, entry_of,
+};
 use bg_board::{Die, Player};
 use bg_turns::TurnFault;
 use std::alloc::Global;
@@ -69,7 +71,7 @@ fn copy_of_a_short_record(rt: HostRuntime) -> Result<(), Fail> {
 #[test]
 fn lengths(rt: HostRuntime) {
     for (length, ok) in [(0, false), (1, true), (99, true), (100, false)] {
-        match Record::new(rt.alloc(), 7, length) {
+        match Record::new(rt.alloc(), 7, length, Rules::One) {
             Ok(record) => {
                 assert!(rt; ok && record.is_empty() && record.actor() == Actor::Referee);
             }

@@ -1,6 +1,6 @@
 //! Standings from their parts.
 use super::{cube, dice};
-use crate::{Cube, Entry, EntryFault, Level, NoDouble, Phase, Standing};
+use crate::{Cube, Entry, EntryFault, Level, NoDouble, Phase, Rules, Standing};
 use bg_board::{Board, Die, Player};
 use std::test::Fail;
 
@@ -15,19 +15,40 @@ fn refused_doubles(rt: HostRuntime) -> Result<(), Fail> {
         (cube(128, Player::O), true, NoDouble::Crawford),
     ];
     for (cube, crawford, why) in rows {
-        let standing = Standing::from_parts(99, start, to_act, cube, (0, 0), crawford, 1);
+        let standing = Standing::from_parts(
+            99,
+            Rules::One,
+            start,
+            to_act,
+            cube,
+            (0, 0),
+            crawford,
+            1,
+        );
         let fault = standing.ok_or("standing")?.next(&Entry::Doubled);
         assert!(rt; fault == Err(EntryFault::NoDouble(why)), "at {why:?}");
     }
     let doubled = Phase::Doubled(Player::O);
     let cube = cube(128, Player::X);
-    assert!(rt; Standing::from_parts(99, start, doubled, cube, (0, 0), false, 1).is_none());
+    assert!(rt;
+        Standing::from_parts(99, Rules::One, start, doubled, cube, (0, 0), false, 1).is_none()
+    );
     Ok(())
 }
 
 /// Whether parts with the start board, of the first game and without a Crawford mark, are those of a standing.
 fn is_standing(length: u8, phase: Phase, cube: Cube, score: (u16, u16)) -> bool {
-    Standing::from_parts(length, Board::start(), phase, cube, score, false, 1).is_some()
+    Standing::from_parts(
+        length,
+        Rules::One,
+        Board::start(),
+        phase,
+        cube,
+        score,
+        false,
+        1,
+    )
+    .is_some()
 }
 
 #[test]
@@ -92,6 +113,7 @@ fn games_of_standings(rt: HostRuntime) {
     ] {
         let standing = Standing::from_parts(
             9,
+            Rules::One,
             start,
             Phase::Opening,
             Cube::MIDDLE,
@@ -106,7 +128,16 @@ fn games_of_standings(rt: HostRuntime) {
 /// Where a standing of a match of five points in this phase leads once an offer to resign has been rejected.
 fn after_a_rejected_offer(phase: Phase) -> Result<(Standing, Standing), Fail> {
     let start = Board::start();
-    let standing = Standing::from_parts(5, start, phase, Cube::MIDDLE, (0, 0), false, 1);
+    let standing = Standing::from_parts(
+        5,
+        Rules::One,
+        start,
+        phase,
+        Cube::MIDDLE,
+        (0, 0),
+        false,
+        1,
+    );
     let standing = standing.ok_or("standing")?;
     let offered = standing.next(&Entry::Resigned(Level::Gammon))?;
     Ok((standing, offered.next(&Entry::Rejected)?))

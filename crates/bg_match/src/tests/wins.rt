@@ -1,6 +1,6 @@
 //! What wins count.
 use super::{board, counts, cube, dice, moved};
-use crate::{Actor, Cube, Entry, EntryFault, Level, Phase, Standing, level_of};
+use crate::{Actor, Cube, Entry, EntryFault, Level, Phase, Rules, Standing, level_of};
 use bg_board::{Board, Die, Player};
 use std::test::Fail;
 
@@ -8,7 +8,16 @@ use std::test::Fail;
 fn won_by_a_backgammon() -> Result<Standing, Fail> {
     let before = board(&[(1, 1), (0, 14)], &[(25, 1), (1, 14)])?;
     let phase = Phase::ToMove(Player::X, dice(Die::Six, Die::Five));
-    let standing = Standing::from_parts(7, before, phase, cube(2, Player::O), (3, 2), false, 4);
+    let standing = Standing::from_parts(
+        7,
+        Rules::One,
+        before,
+        phase,
+        cube(2, Player::O),
+        (3, 2),
+        false,
+        4,
+    );
     let moved = moved(&[(1, 0)])?;
     Ok(standing.ok_or("standing")?.next(&moved)?)
 }
@@ -64,10 +73,11 @@ fn games_after_wins(rt: HostRuntime) -> Result<(), Fail> {
         (Player::X, Level::Gammon, cube(2, Player::O), (3, 6), true),
     ] {
         let offered = Phase::Resigned(player, level, None);
-        let before = Standing::from_parts(7, start, offered, cube, (3, 2), false, 4);
+        let before = Standing::from_parts(7, Rules::One, start, offered, cube, (3, 2), false, 4);
         let after = before.ok_or("standing")?.next(&Entry::Accepted)?;
         let opening = Standing::from_parts(
             7,
+            Rules::One,
             start,
             Phase::Opening,
             Cube::MIDDLE,

@@ -6,7 +6,7 @@ use super::{
 use crate::{ChooseFault, Learned, Seat};
 use arrayvec::ArrayVec;
 use bg_board::{Player, Step};
-use bg_match::{Action, EntryFault};
+use bg_match::{Action, EntryFault, Rules};
 use bg_turns::{Turn, TurnFault};
 use bg_wire::{SEAT_OF_X, SaveRefusal, Slot, restore};
 use std::alloc::Global;
@@ -54,7 +54,7 @@ fn save(seat: &mut Seat) -> Result<(Slot, u32), SaveRefusal> {
 
 /// The seat of X that goes on from these bytes in slot 1, where they are a saved text of match 1.
 fn resumed(alloc: Global, bytes: &[u8]) -> Option<Seat> {
-    match restore(alloc, &[], bytes, SEAT_OF_X, 1, 1) {
+    match restore(alloc, &[], bytes, SEAT_OF_X, 1, 1, Rules::One) {
         Ok(Some(saved)) => Some(Seat::resume(alloc, saved)),
         _ => None,
     }
@@ -121,7 +121,7 @@ fn what_a_seat_claims(rt: HostRuntime) -> Result<(), Fail> {
 
 #[test]
 fn nobody_claims_before_the_opening(rt: HostRuntime) -> Result<(), Fail> {
-    let mut fresh = Seat::fresh(rt.alloc(), Player::X, 1, 1)?;
+    let mut fresh = Seat::fresh(rt.alloc(), Player::X, 1, 1, Rules::One)?;
     assert!(rt; claims_a_roll(&mut fresh) == Err(ChooseFault::NotYourTurn));
     Ok(())
 }

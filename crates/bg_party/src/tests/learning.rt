@@ -6,7 +6,7 @@ use super::{
 };
 use crate::{Learned, Seat, Watcher};
 use bg_board::Player;
-use bg_match::{LengthFault, Number};
+use bg_match::{LengthFault, Number, Rules};
 use bg_wire::{FIRST_WATCHER, Slot};
 use std::test::Fail;
 
@@ -66,7 +66,7 @@ fn packets_that_change_no_record(rt: HostRuntime) -> Result<(), Fail> {
 
 #[test]
 fn packets_that_overlap(rt: HostRuntime) -> Result<(), Fail> {
-    let mut watcher = Watcher::fresh(rt.alloc(), 255, 1, 1)?;
+    let mut watcher = Watcher::fresh(rt.alloc(), 255, 1, 1, Rules::One)?;
     let conflict = Learned::Conflict(3);
     assert!(rt; watcher_learns(&mut watcher, 1, &OPENING, &[], Learned::Grew(1)));
     assert!(rt; watcher_learns(&mut watcher, 1, &OPENING, &MOVED, Learned::Grew(1)));
@@ -81,12 +81,17 @@ fn packets_that_overlap(rt: HostRuntime) -> Result<(), Fail> {
 #[test]
 fn lengths(rt: HostRuntime) -> Result<(), Fail> {
     for length in [0, 100] {
-        let watcher = Watcher::fresh(rt.alloc(), FIRST_WATCHER, 1, length);
+        let watcher = Watcher::fresh(rt.alloc(), FIRST_WATCHER, 1, length, Rules::One);
         assert!(rt; watcher.err() == Some(LengthFault::LengthOutOfRange));
-        let seat = Seat::fresh(rt.alloc(), Player::O, 1, length);
+        let seat = Seat::fresh(rt.alloc(), Player::O, 1, length, Rules::One);
         assert!(rt; seat.err() == Some(LengthFault::LengthOutOfRange));
     }
-    assert_eq!(rt; Seat::fresh(rt.alloc(), Player::O, 7, 99)?.held().id(), 7);
+    assert_eq!(rt;
+        Seat::fresh(rt.alloc(), Player::O, 7, 99, Rules::One)?
+            .held()
+            .id(),
+        7
+    );
     Ok(())
 }
 

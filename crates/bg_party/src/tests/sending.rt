@@ -1,5 +1,6 @@
 //! When followers send.
 use crate::Watcher;
+use bg_match::Rules;
 use bg_wire::FIRST_WATCHER;
 use std::test::Fail;
 
@@ -16,7 +17,7 @@ fn keeps_the_gaps(watcher: &mut Watcher) -> bool {
 
 #[test]
 fn gaps_between_ticks(rt: HostRuntime) -> Result<(), Fail> {
-    let mut watcher = Watcher::fresh(rt.alloc(), FIRST_WATCHER, 1, 1)?;
+    let mut watcher = Watcher::fresh(rt.alloc(), FIRST_WATCHER, 1, 1, Rules::One)?;
     assert!(rt; keeps_the_gaps(&mut watcher));
     Ok(())
 }

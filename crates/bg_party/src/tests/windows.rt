@@ -4,7 +4,7 @@ use super::{
     watcher_learns,
 };
 use crate::{Learned, Watcher};
-use bg_match::Entry;
+use bg_match::{Entry, Rules};
 use bg_wire::FIRST_WATCHER;
 use std::test::Fail;
 
@@ -15,7 +15,7 @@ fn watcher_holds_the_move(watcher: &Watcher) -> bool {
 
 #[test]
 fn entries_after_a_gap(rt: HostRuntime) -> Result<(), Fail> {
-    let mut watcher = Watcher::fresh(rt.alloc(), FIRST_WATCHER, 1, 1)?;
+    let mut watcher = Watcher::fresh(rt.alloc(), FIRST_WATCHER, 1, 1, Rules::One)?;
     assert!(rt; watcher_asks(&mut watcher, 0));
     assert!(rt; watcher_learns(&mut watcher, 2, &MOVED, &[], Learned::Gap));
     assert!(rt; watcher.held().is_empty());
@@ -29,7 +29,7 @@ fn entries_after_a_gap(rt: HostRuntime) -> Result<(), Fail> {
 
 #[test]
 fn an_early_entry_that_does_not_follow(rt: HostRuntime) -> Result<(), Fail> {
-    let mut watcher = Watcher::fresh(rt.alloc(), FIRST_WATCHER, 1, 1)?;
+    let mut watcher = Watcher::fresh(rt.alloc(), FIRST_WATCHER, 1, 1, Rules::One)?;
     assert!(rt; watcher_learns(&mut watcher, 2, &MOVED_OTHERWISE, &OFFERED, Learned::Gap));
     assert!(rt; watcher_learns(&mut watcher, 5, &OFFERED, &[], Learned::Gap));
     assert!(rt; watcher_learns(&mut watcher, 1, &OPENING, &[], Learned::Grew(1)));
@@ -44,7 +44,7 @@ fn an_early_entry_that_does_not_follow(rt: HostRuntime) -> Result<(), Fail> {
 /// follows is then taken in its place.
 #[test]
 fn one_early_entry_that_does_not_follow(rt: HostRuntime) -> Result<(), Fail> {
-    let mut watcher = Watcher::fresh(rt.alloc(), FIRST_WATCHER, 1, 1)?;
+    let mut watcher = Watcher::fresh(rt.alloc(), FIRST_WATCHER, 1, 1, Rules::One)?;
     assert!(rt; watcher_learns(&mut watcher, 2, &MOVED_OTHERWISE, &[], Learned::Gap));
     assert!(rt; watcher.held().is_empty());
     assert!(rt; watcher_learns(&mut watcher, 1, &OPENING, &[], Learned::Grew(1)));
@@ -56,7 +56,7 @@ fn one_early_entry_that_does_not_follow(rt: HostRuntime) -> Result<(), Fail> {
 
 #[test]
 fn early_entries_that_come_twice(rt: HostRuntime) -> Result<(), Fail> {
-    let mut watcher = Watcher::fresh(rt.alloc(), FIRST_WATCHER, 1, 1)?;
+    let mut watcher = Watcher::fresh(rt.alloc(), FIRST_WATCHER, 1, 1, Rules::One)?;
     assert!(rt; watcher_learns(&mut watcher, 2, &MOVED_OTHERWISE, &OFFERED, Learned::Gap));
     assert!(rt; watcher_learns(&mut watcher, 5, &OFFERED, &[], Learned::Gap));
     assert!(rt; watcher_learns(&mut watcher, 2, &MOVED, &[], Learned::Gap));
@@ -87,7 +87,7 @@ fn watcher_learns_up_to_29(watcher: &mut Watcher) -> bool {
 
 #[test]
 fn how_far_the_window_goes(rt: HostRuntime) -> Result<(), Fail> {
-    let mut watcher = Watcher::fresh(rt.alloc(), FIRST_WATCHER, 1, 1)?;
+    let mut watcher = Watcher::fresh(rt.alloc(), FIRST_WATCHER, 1, 1, Rules::One)?;
     // Of the two, 32 is kept, and 33 is not.
     assert!(rt; watcher_learns_an_offer(&mut watcher, 32, Learned::Gap));
     assert!(rt; watcher_learns(&mut watcher, 33, &REJECTED, &[], Learned::Gap));
@@ -109,7 +109,7 @@ fn watcher_keeps_up_to_33(watcher: &mut Watcher) -> bool {
 
 #[test]
 fn a_full_window(rt: HostRuntime) -> Result<(), Fail> {
-    let mut watcher = Watcher::fresh(rt.alloc(), FIRST_WATCHER, 1, 1)?;
+    let mut watcher = Watcher::fresh(rt.alloc(), FIRST_WATCHER, 1, 1, Rules::One)?;
     assert!(rt; watcher_keeps_up_to_33(&mut watcher));
     assert!(rt; watcher_learns(&mut watcher, 1, &OPENING, &[], Learned::Grew(32)));
     assert!(rt; watcher_learns(&mut watcher, 33, &REJECTED, &[], Learned::Grew(1)));

@@ -7,7 +7,7 @@ use crate::overheard::Overheard;
 use crate::rounds::{PARTIES, play_rounds};
 use crate::test_folders::new_folder;
 use arrayvec::ArrayVec;
-use bg_match::Number;
+use bg_match::{Number, Rules};
 use bg_text::Writing;
 use bg_wire::{Datagram, PacketBytes, REFEREE, SEAT_OF_O, SEAT_OF_X, decode};
 use bg_world::{DeviceFault, Event, Keepers, Link, Outcome};
@@ -69,6 +69,7 @@ fn forged_packets_change_nothing(rt: HostRuntime) -> Result<(), Fail> {
         &rt,
         SEED,
         1,
+        Rules::One,
         60,
         quiet.as_str(),
         &mut Writing::new(&mut expected),
@@ -94,6 +95,7 @@ fn forged_packets_change_nothing(rt: HostRuntime) -> Result<(), Fail> {
         rt.alloc(),
         SEED,
         1,
+        Rules::One,
         60,
         link,
         keepers,

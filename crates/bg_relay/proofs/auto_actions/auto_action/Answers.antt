@@ -17,8 +17,9 @@ pub returns-clause-follows : goal.returns-clause-follows
 returns-clause-follows c =
     let few : length c.args.record.now.entries < most_entries =
     omega (arith, c.len.ensures.value, c.len.ensures.legal.0, c.if-len-eq-MOST_ENTRIES.false) in
+    let acts = c.if-not-acts.ensures.yes in
     IfOk-weaker c.action_in_turn.result _ _
-    (λ chosen plays. played_follows c.args.record.now chosen few plays)
+    (λ chosen plays. played_follows c.args.record.now c.args.player chosen acts few plays)
     c.action_in_turn.ensures.plays
 
 pub returns-clause-memory : goal.returns-clause-memory

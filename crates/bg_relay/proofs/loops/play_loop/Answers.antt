@@ -4,5 +4,5 @@ use Rattle.bg_relay.proofs.loops.play_loop.Goals as goal
 
 pub returns : goal.returns
 returns g c =
-    over_devices g.W.Sink (setup_of c.args.seed c.args.length) c.args.rounds _ _ _ _ c.play_rounds.result
+    over_devices g.W.Sink (setup_of c.args.seed c.args.length c.args.rules) c.args.rounds _ _ _ _ c.play_rounds.result
     c.args.output.now c.play_rounds.new.output c.play_rounds.ensures

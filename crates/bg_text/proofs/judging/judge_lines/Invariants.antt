@@ -4,7 +4,7 @@ use Rattle.bg_text.specs.Reading.{IsPartRead}
 use Rattle.bg_text.proofs.judging.judge_lines.Given as goal
 
 abbrev pub invariant-loop-line : goal.invariant-loop-line
-invariant-loop-line l = IsPartRead l.length (lines_of l.lines) l.log l.rest
+invariant-loop-line l = IsPartRead l.fn.terms (lines_of l.lines) l.log l.rest
 
 abbrev pub decreases-loop-line : goal.decreases-loop-line
 decreases-loop-line l = length l.rest

@@ -8,10 +8,10 @@ returns-in_err-x c =
     rw same (rw c.in-Some.ensures (open_fault _ _ c.in_err-x.ensures))
 
 pub returns-in-Some : goal.returns-in-Some
-returns-in-Some c = (refl, tt, c.in-Some.ensures ∙ dice_line (codes "open ") c.in-Some.numbers.now c.in_ok-x.x c.in_ok-x.o c.in_ok-x.ensures)
+returns-in-Some c = ((λ none. tt, λ own. refl), tt, c.in-Some.ensures ∙ dice_line (codes "open ") c.in-Some.numbers.now c.in_ok-x.x c.in_ok-x.o c.in_ok-x.ensures)
 
 pub returns-in_default-split_player : goal.returns-in_default-split_player
-returns-in_default-split_player c = no_entry_shape _ c.in_default.ensures c.in_default-split_player.ensures
+returns-in_default-split_player c = no_entry_shape _ c.in_default.ensures (λ pass. let wrong = c.is_pass.ensures.1 pass in let right = c.if-is_pass.false in cc) c.in_default-split_player.ensures
 
 pub returns-in_err-entry : goal.returns-in_err-entry
 returns-in_err-entry c =

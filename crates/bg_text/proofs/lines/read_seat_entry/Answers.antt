@@ -8,7 +8,7 @@ returns-in_err-first c =
     rw same (rw c.in-Some.ensures (roll_fault _ _ c.in_err-first.ensures))
 
 pub returns-in-Some : goal.returns-in-Some
-returns-in-Some c = (tt, tt, c.in-Some.ensures ∙ dice_line (codes "roll ") c.in-Some.numbers.now c.in_ok-first.first c.in_ok-first.second c.in_ok-first.ensures)
+returns-in-Some c = (λ own. own, tt, c.in-Some.ensures ∙ dice_line (codes "roll ") c.in-Some.numbers.now c.in_ok-first.first c.in_ok-first.second c.in_ok-first.ensures)
 
 pub returns-in_err-read_action : goal.returns-in_err-read_action
 returns-in_err-read_action c =

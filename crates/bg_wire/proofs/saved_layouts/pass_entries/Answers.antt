@@ -6,14 +6,14 @@ use Rattle.bg_wire.proofs.saved_layouts.pass_entries.Goals as goal
 
 pub returns-in-Err : goal.returns-in-Err
 returns-in-Err c =
-    let all = many_at entry_at c.args.count c.args.reader.now in
-    rw c.of.ensures (passes_not all c.in-Err.fault (stops entry_at c.args.count c.loop.counter c.loop.reader (passed_of all) c.in-Err.fault c.loop-test.true c.in-Err.ensures c.loop.invariant))
+    let all = many_at (entry_at c.args.layout) c.args.count c.args.reader.now in
+    rw c.of.ensures (passes_not all c.in-Err.fault (stops (entry_at c.args.layout) c.args.count c.loop.counter c.loop.reader (passed_of all) c.in-Err.fault c.loop-test.true c.in-Err.ensures c.loop.invariant))
 
 pub loop-preserved : goal.loop-preserved
 loop-preserved c =
-    passes entry_at c.args.count c.loop.counter c.loop.reader (passed_of (many_at entry_at c.args.count c.args.reader.now)) c.in_default.field-0 c.entry.new.reader c.loop-test.true c.in_default.ensures c.loop.invariant
+    passes (entry_at c.args.layout) c.args.count c.loop.counter c.loop.reader (passed_of (many_at (entry_at c.args.layout) c.args.count c.args.reader.now)) c.in_default.field-0 c.entry.new.reader c.loop-test.true c.in_default.ensures c.loop.invariant
 
 pub returns : goal.returns
 returns c =
-    let all = many_at entry_at c.args.count c.args.reader.now in
-    passes_to all c.loop.reader c.end.result (passed_all entry_at c.args.count c.loop.counter c.loop.reader (passed_of all) c.loop-test.false c.loop.invariant) c.end.ensures
+    let all = many_at (entry_at c.args.layout) c.args.count c.args.reader.now in
+    passes_to all c.loop.reader c.end.result (passed_all (entry_at c.args.layout) c.args.count c.loop.counter c.loop.reader (passed_of all) c.loop-test.false c.loop.invariant) c.end.ensures

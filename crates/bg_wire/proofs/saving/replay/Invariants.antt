@@ -7,7 +7,8 @@ use Rattle.bg_wire.proofs.saving.replay.Given as goal
 
 abbrev pub invariant-loop-done : goal.invariant-loop-done
 invariant-loop-done l = record {
-  read : with_front l.log.entries (many_at entry_at (l.count - l.done) l.reader) ≡ many_at entry_at l.count l.fn.reader;
+  read : with_front l.log.entries (many_at (entry_at l.layout) (l.count - l.done) l.reader)
+      ≡ many_at (entry_at l.layout) l.count l.fn.reader;
   len : length l.log.entries ≡ l.done;
   same : l.log ≡ record l.fn.log { entries = l.log.entries; spare = l.log.spare };
   legal : IsLegalRecord l.fn.log.terms l.log.entries;

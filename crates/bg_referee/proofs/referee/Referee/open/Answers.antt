@@ -1,7 +1,7 @@
-use Rattle.std.proofs.Common.{refl, sym, rules}
+use Rattle.std.proofs.Common.{refl}
 use Rattle.bg_match.proofs.Legal.{one_actor}
-use Rattle.bg_referee.proofs.Opening.{not_opened}
-use Rattle.bg_referee.proofs.Growing.{opened}
+use Rattle.bg_referee.proofs.Opening.{not_appended}
+use Rattle.bg_referee.proofs.Growing.{owned}
 use Rattle.bg_referee.proofs.referee.Referee.open.Goals as goal
 
 pub returns-in_default : goal.returns-in_default
@@ -10,18 +10,17 @@ returns-in_default c =
 
 pub returns-in-Err : goal.returns-in-Err
 returns-in-Err c =
+    let own = rw (← c.self.view_is) at c.in_ok-entry.ensures.own in
     rw (← c.self.view_is) (
-      rw c.of.ensures (
-          not_opened c.self.inside.log c.args.word c.in-Some.dice _ c.in-Err.fault c.in-Err.ensures.fault (search rules)
-          c.in-Referee.ensures (sym c.in-Some.ensures.value) (λ same. let no = c.if-is_double.ensures.1 same in cc)
-          ),
+      rw c.of.ensures (not_appended c.self.inside.log c.args.word _ _ c.in-Err.ensures.fault own c.in-Referee.ensures),
       rw c.in-Err.ensures.err refl,
     )
 
 pub returns : goal.returns
 returns c =
+    let own = rw (← c.self.view_is) at c.in_ok-entry.ensures.own in
     let pushed = c.in_default-push.ensures in
     rw (← c.self.view_is) (
-    opened c.self.inside.log c.push.new.self _ _ _ c.args.word _ c.in-Some.dice _ pushed.appended pushed.spare pushed.legal
-    c.len.ensures.value (sym c.in-Some.ensures.value) (search rules)
+    owned c.self.inside.log c.push.new.self _ _ _ c.args.word _ c.in_ok-entry.entry pushed.appended pushed.spare pushed.legal
+    c.len.ensures.value own
     )
