@@ -1,43 +1,21 @@
 -- A transcript is judged fine.
-use Rattle.std.proofs.Common.{◌≡◌, ◌≢◌, ◌==◌, ◌⊎◌, ℕ, suc, ◌+◌, ◌*◌, ◌<◌, ◌≤◌, Bool, true, false, if◌then◌else◌, List, [], ◌∷◌, ◌++◌, length, take, drop, map, Option, Some, None, refl, sym, ◌∙◌, ap, subst, arith, length-append, inl, inr}
-use Rattle.std.specs.Prelude.{codes}
-use Rattle.std.specs.List.{All, AllByRecursion}
-use Rattle.std.specs.Fmt.{decimal}
-use Rattle.std.proofs.lemmas.Bool.{eqb-false, ne_eqb}
-use Rattle.std.proofs.lemmas.Fmt.{decimal_injective}
-use Rattle.std.proofs.lemmas.List.Elements.{All-head, All-tail, All-cons, All-nil, All-append}
+use Rattle.std.proofs.Common.{◌≡◌, ℕ, ◌≤◌, List, ◌∷◌, ◌++◌, length, take, refl, sym, ◌∙◌, ap, subst, arith, inl, inr}
+use Rattle.std.specs.List.{AllByRecursion}
 use Rattle.std.proofs.Math.Seq.{take-length}
-use Rattle.bg_board.specs.Die.{pips}
-use Rattle.bg_board.specs.FromTo.{FromTo}
-use Rattle.bg_board.specs.declared.dice.Die.{Die}
-use Rattle.bg_board.specs.declared.players.Player.{Player}
-use Rattle.bg_board.specs.declared.players.Player.TheVariants.{X, O}
-use Rattle.bg_turns.specs.Turn.{IsDownward}
-use Rattle.bg_match.specs.Actor.{actor_of, seat_of}
-use Rattle.bg_match.specs.Entry.{IsEntry}
 use Rattle.bg_match.specs.State.{State, start_of}
 use Rattle.bg_match.specs.declared.entries.Entry.{Entry}
-use Rattle.bg_match.specs.declared.entries.Entry.TheVariants as entry
-use Rattle.bg_match.specs.declared.levels.Level.{Level}
-use Rattle.bg_match.specs.declared.levels.Level.TheVariants.{Normal, Gammon, Backgammon}
 use Rattle.bg_match.specs.Limits.{most_entries, IsMatchLength}
 use Rattle.bg_match.specs.Match.{StandsAt}
 use Rattle.bg_match.specs.Terms.{Terms, match_length}
-use Rattle.bg_match.proofs.Legal.{Follows_in_range, one_standing}
-use Rattle.bg_text.specs.BoardText.{board_text, line_text, lines_text}
-use Rattle.bg_text.specs.EntryText.{letter, level_word, step_text, source_text, target_text, entry_words, entry_text}
-use Rattle.bg_text.specs.EntryShape.{IsNumeral}
-use Rattle.bg_text.specs.Words.{spaced}
+use Rattle.bg_match.proofs.Legal.{one_standing}
+use Rattle.bg_text.specs.BoardText.{board_text, line_text}
 use Rattle.bg_text.specs.Transcript.{AreLinesOf, IsTranscript, length_line}
-use Rattle.bg_text.specs.Judging.{lines_of, fine_line, IsLengthFault, StandsAfter, IsVerdict, IsJudged, IsAnswerTo, IsJudgement, TranscriptsAreFine}
-use Rattle.bg_text.specs.declared.faults.LineFault.{LineFault}
-use Rattle.bg_text.specs.declared.faults.LineFault.TheVariants as fault
+use Rattle.bg_text.specs.Judging.{lines_of, fine_line, StandsAfter, IsVerdict, IsJudged, IsAnswerTo, IsJudgement, TranscriptsAreFine}
 use Rattle.bg_text.specs.Limits.{most_bytes}
 use Rattle.bg_text.specs.declared.verdicts.Verdict.{Verdict}
 use Rattle.bg_text.specs.declared.verdicts.Verdict.TheVariants.{Fine, Refused, TooLong}
 use Rattle.bg_text.proofs.LengthLines.{no_length_fault, one_length}
 use Rattle.bg_text.proofs.ShortLines.{IsShortLine, lines_short, lines_of-text, text_length, length_line_short}
-use Rattle.bg_text.proofs.PairTexts.{numeral_decimal, numeral_lacks, source_lacks, target_lacks, source_shape, target_shape}
 use Rattle.bg_text.proofs.ReadLines.{AreLinesOf-Leads, AreLinesOf-length, AreLinesOf-same}
 
 module _ (terms : Terms) (entries : List Entry) (lines : List (List ℕ)) (t : State) (few : length entries ≤ most_entries) (each : AreLinesOf (start_of terms) entries lines t) where

@@ -1,5 +1,5 @@
 -- Line 1 says one length and the rules of one match.
-use Rattle.std.proofs.Common.{◌≡◌, ℕ, ◌<◌, ◌≤◌, List, [], ◌∷◌, ◌++◌, length, drop, refl, sym, ◌∙◌, ap, subst, arith, length-append, append-nil}
+use Rattle.std.proofs.Common.{◌≡◌, ℕ, ◌≤◌, List, [], ◌∷◌, ◌++◌, length, drop, refl, sym, ◌∙◌, ap, arith, length-append, append-nil}
 use Rattle.std.specs.Prelude.{codes}
 use Rattle.std.specs.Fmt.{decimal}
 use Rattle.std.proofs.lemmas.Fmt.{decimal_injective}
@@ -10,7 +10,7 @@ use Rattle.bg_match.specs.declared.limits.Rules.{Rules}
 use Rattle.bg_match.specs.declared.limits.Rules.TheVariants.{One, Two}
 use Rattle.bg_text.specs.TermsText.{rules_mark}
 use Rattle.bg_text.specs.Transcript.{length_line}
-use Rattle.bg_text.specs.Judging.{AreLengthDigits, IsDigitsFault, IsLengthFault}
+use Rattle.bg_text.specs.Judging.{AreLengthDigits, IsLengthFault}
 use Rattle.bg_text.specs.declared.faults.LineFault.{LineFault}
 use Rattle.bg_text.specs.declared.faults.LineFault.TheVariants as fault
 use Rattle.bg_text.proofs.PairTexts.{numeral_decimal}

@@ -1,12 +1,10 @@
 -- The lines of transcripts are short, and have no line feed.
-use Rattle.std.proofs.Common.{◌≡◌, ◌≢◌, ◌==◌, ◌⊎◌, ℕ, suc, ◌+◌, ◌*◌, ◌<◌, ◌≤◌, Bool, true, false, if◌then◌else◌, List, [], ◌∷◌, ◌++◌, length, take, drop, map, Option, Some, None, refl, sym, ◌∙◌, ap, subst, arith, length-append, inl, inr}
+use Rattle.std.proofs.Common.{◌≡◌, ◌≢◌, ◌==◌, ◌⊎◌, ℕ, ◌+◌, ◌*◌, ◌<◌, ◌≤◌, Bool, true, false, if◌then◌else◌, List, [], ◌∷◌, ◌++◌, length, map, Option, Some, None, refl, ◌∙◌, ap, arith, length-append, inl, inr}
 use Rattle.std.specs.Prelude.{codes}
 use Rattle.std.specs.List.{All, AllByRecursion}
 use Rattle.std.specs.Fmt.{decimal}
 use Rattle.std.proofs.lemmas.Bool.{eqb-false, ne_eqb}
-use Rattle.std.proofs.lemmas.Fmt.{decimal_injective}
 use Rattle.std.proofs.lemmas.List.Elements.{All-head, All-tail, All-cons, All-nil, All-append}
-use Rattle.std.proofs.Math.Seq.{take-length}
 use Rattle.bg_board.specs.Die.{pips}
 use Rattle.bg_board.specs.FromTo.{FromTo}
 use Rattle.bg_board.specs.declared.dice.Die.{Die}
@@ -15,7 +13,7 @@ use Rattle.bg_board.specs.declared.players.Player.TheVariants.{X, O}
 use Rattle.bg_turns.specs.Turn.{IsDownward}
 use Rattle.bg_match.specs.Actor.{actor_of, seat_of}
 use Rattle.bg_match.specs.Entry.{IsEntry}
-use Rattle.bg_match.specs.State.{State, start_of}
+use Rattle.bg_match.specs.State.{State}
 use Rattle.bg_match.specs.declared.entries.Entry.{Entry}
 use Rattle.bg_match.specs.declared.entries.Entry.TheVariants as entry
 use Rattle.bg_match.specs.declared.levels.Level.{Level}
@@ -25,21 +23,15 @@ use Rattle.bg_match.specs.Terms.{Terms, match_length, rules_of}
 use Rattle.bg_match.specs.declared.limits.Rules.{Rules}
 use Rattle.bg_match.specs.declared.limits.Rules.TheVariants.{One, Two}
 use Rattle.bg_text.specs.TermsText.{rules_mark}
-use Rattle.bg_match.proofs.Legal.{Follows_in_range, one_standing}
-use Rattle.bg_text.specs.BoardText.{board_text, line_text, lines_text}
+use Rattle.bg_match.proofs.Legal.{Follows_in_range}
+use Rattle.bg_text.specs.BoardText.{line_text, lines_text}
 use Rattle.bg_text.specs.EntryText.{letter, level_word, step_text, source_text, target_text, entry_words, entry_text}
 use Rattle.bg_text.specs.EntryShape.{IsNumeral}
 use Rattle.bg_text.specs.Words.{spaced}
-use Rattle.bg_text.specs.Transcript.{AreLinesOf, IsTranscript, length_line}
-use Rattle.bg_text.specs.Judging.{lines_of, fine_line, IsLengthFault, StandsAfter, IsVerdict, IsJudged, IsAnswerTo, IsJudgement, TranscriptsAreFine}
-use Rattle.bg_text.specs.declared.faults.LineFault.{LineFault}
-use Rattle.bg_text.specs.declared.faults.LineFault.TheVariants as fault
-use Rattle.bg_text.specs.Limits.{most_bytes}
-use Rattle.bg_text.specs.declared.verdicts.Verdict.{Verdict}
-use Rattle.bg_text.specs.declared.verdicts.Verdict.TheVariants.{Fine, Refused, TooLong}
+use Rattle.bg_text.specs.Transcript.{AreLinesOf, length_line}
+use Rattle.bg_text.specs.Judging.{lines_of}
 use Rattle.bg_text.proofs.EntryTexts.{pips_small}
 use Rattle.bg_text.proofs.PairTexts.{numeral_decimal, numeral_lacks, source_lacks, target_lacks, source_shape, target_shape}
-use Rattle.bg_text.proofs.ReadLines.{AreLinesOf-Leads, AreLinesOf-length, AreLinesOf-same}
 
 -- no line feed stands in it
 abbrev pub IsFeedless : List ℕ → Type 0
