@@ -108,14 +108,15 @@ fn check_parties(rt: &impl Abort, text: &str) -> Result<(), Fail> {
     Ok(())
 }
 
-/// The transcript of an automatic match, which is good.
+/// The transcript of an automatic match by these rules, which is good.
 fn transcript_of(
     rt: &(impl AllocGlobal + Abort),
     seed: u64,
+    rules: Rules,
     watchers: u8,
     steps: u32,
 ) -> Result<Vec<u8>, Fail> {
-    let text = sim_text(rt.alloc(), seed, 3, Rules::One, watchers, steps)?;
+    let text = sim_text(rt.alloc(), seed, 3, rules, watchers, steps)?;
     let text = str::from_utf8(&text)?;
     assert!(rt; text.matches("party ").count() == 3 + usize::from(watchers));
     check_parties(rt, text)?;
@@ -130,20 +131,31 @@ fn check_one_match(rt: &impl Abort, left: &[u8], right: &[u8]) {
     assert!(rt; left.starts_with(right) || right.starts_with(left));
 }
 
-/// The seed and the length alone decide what the entries are, and the rest how many there are.
-#[test]
-fn entries_go_by_seed_and_length(rt: HostRuntime) -> Result<(), Fail> {
+/// Whether of five matches by these rules somebody moves: the seed and the length alone decide what their entries are,
+/// and the rest how many there are.
+fn moves_by_seed_and_length(rt: &(impl AllocGlobal + Abort), rules: Rules) -> Result<bool, Fail> {
     let mut moved = false;
     for seed in 1..=5 {
-        let short = transcript_of(&rt, seed, 1, 200)?;
-        let long = transcript_of(&rt, seed, 1, 2000)?;
-        let watched = transcript_of(&rt, seed, 5, 2000)?;
-        check_one_match(&rt, &short, &long);
-        check_one_match(&rt, &short, &watched);
-        check_one_match(&rt, &long, &watched);
+        let short = transcript_of(rt, seed, rules, 1, 200)?;
+        let long = transcript_of(rt, seed, rules, 1, 2000)?;
+        let watched = transcript_of(rt, seed, rules, 5, 2000)?;
+        check_one_match(rt, &short, &long);
+        check_one_match(rt, &short, &watched);
+        check_one_match(rt, &long, &watched);
         moved = moved || str::from_utf8(&long)?.contains(" move ");
     }
-    assert!(rt; moved);
+    Ok(moved)
+}
+
+#[test]
+fn entries_by_the_first_rules(rt: HostRuntime) -> Result<(), Fail> {
+    assert!(rt; moves_by_seed_and_length(&rt, Rules::One)?);
+    Ok(())
+}
+
+#[test]
+fn entries_by_the_second_rules(rt: HostRuntime) -> Result<(), Fail> {
+    assert!(rt; moves_by_seed_and_length(&rt, Rules::Two)?);
     Ok(())
 }
 

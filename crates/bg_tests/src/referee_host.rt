@@ -92,8 +92,8 @@ impl<'a, R: Net + Files<File = File> + RandomSource + AllocGlobal> RefereeHost<'
         Ok(())
     }
 
-    /// Answers a datagram, opens a game where one is due, saves what is new, and pushes what is saved. After an error
-    /// the host is dropped: what its files then have is what holds.
+    /// Answers a datagram, opens a game or passes a turn where that is due, saves what is new, and pushes what is
+    /// saved. After an error the host is dropped: what its files then have is what holds.
     pub(crate) fn turn(&mut self) -> Result<(), HostFault> {
         let mut buffer = [0; 256];
         match self.socket.recv_from(&mut buffer) {
@@ -101,7 +101,7 @@ impl<'a, R: Net + Files<File = File> + RandomSource + AllocGlobal> RefereeHost<'
             Err(error) if has_waited(&error) => {}
             Err(error) => return Err(error.into()),
         }
-        // Where this word opens no game, the next turn tries another one.
+        // Where this word opens no game that is to be opened, the next turn tries another one.
         let word = self.word()?;
         if self.core.due(word) == Err(DueFault::Memory) {
             return Err(HostFault::Memory);

@@ -30,7 +30,7 @@ use Rattle.bg_world.specs.declared.roles.Role.TheVariants as roles
 abbrev pub NoCalls : Outcome → WorldView → Outcome → WorldView → Type 0
 NoCalls due old result new = (result ≡ due) × (new ≡ old)
 
--- the referee opens a game
+-- the referee opens a game, or passes a turn
 abbrev pub DueCalls : WorldView → ℕ → Outcome → WorldView → Type 0
 DueCalls old word result new =
     MatchOption old.referee (NoCalls outcomes.Down old result new)

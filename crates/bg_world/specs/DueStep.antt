@@ -1,4 +1,4 @@
--- A game is opened.
+-- The referee adds an entry of its own: it opens a game, or passes a turn.
 use Rattle.std.specs.Prelude.{◌≡◌, ◌≢◌, ℕ, ◌+◌, [], ◌∷◌, ◌++◌, Ok, Err, length}
 use Rattle.bg_match.specs.declared.entries.Entry.{Entry}
 use Rattle.bg_referee.specs.Dues.{IsDue}

@@ -59,9 +59,10 @@ pub fn new_worlds_are_at_the_start()
     ensures { NewWorldsAreAtTheStart }
 {}
 
-/// Between the same two worlds an event comes to one outcome: what opens a game, claims an action or saves on any
-/// devices, and any event over honest devices whose plans are known, from a world that a run leads to, want of memory
-/// aside. So of two lists of outcomes that fit the same calls there is one, where the worlds between them are the same.
+/// Between the same two worlds an event comes to one outcome: what the referee adds itself, what claims an action or
+/// saves on any devices, and any event over honest devices whose plans are known, from a world that a run leads to,
+/// want of memory aside. So of two lists of outcomes that fit the same calls there is one, where the worlds between
+/// them are the same.
 pub fn outcomes_are_fixed<L: Link, K: Keeper>()
     ensures unheard { OutcomesAreFixed L.is_honest K.is_honest }
     ensures all { ComeToOneOutcome L.is_honest K.is_honest }

@@ -43,7 +43,7 @@ impl<L: Link, K: Keeper> World<L, K> {
         }
     }
 
-    /// The referee opens a game.
+    /// The referee opens a game, or passes a turn.
     fn due(&mut self, word: u32) -> Outcome
         ensures { DueCalls (view_of L.Link K.Keeper self.old) word result (view_of L.Link K.Keeper self.new) }
     {
