@@ -109,12 +109,17 @@ impl<'a, R: Net + Files<File = File> + RandomSource + AllocGlobal> RefereeHost<'
         if self.core.saved() < self.core.held().len() {
             self.save()?;
         }
+        self.push();
+        Ok(())
+    }
+
+    /// Sends the parties what they are known to lack.
+    fn push(&mut self) {
         for (party, packet) in &self.core.tick() {
             if let Some(address) = self.parties[usize::from(*party)] {
                 self.send(packet, address);
             }
         }
-        Ok(())
     }
 
     /// Answers what came from an address. Bytes that are no packet are dropped, and so is what the referee alone sends.
