@@ -3,18 +3,18 @@ use Rattle.std.proofs.Common.{◌≡◌, ◌≢◌, ◌⊎◌, inl, inr, ℕ, ze
 use Rattle.std.proofs.Common.{take, drop, refl, sym, ◌∙◌, ap, subst, arith, append_assoc}
 use Rattle.std.proofs.lemmas.List.{append-nil, take-append-drop}
 use Rattle.bg_match.specs.Terms.{Terms, rules_of}
-use Rattle.bg_match.specs.declared.limits.Rules.{Rules}
-use Rattle.bg_match.specs.declared.actions.Action.{Action}
 use Rattle.bg_match.specs.declared.entries.Entry.{Entry}
 use Rattle.bg_match.specs.Match.{IsLegalRecord, at_number}
 use Rattle.bg_match.proofs.Legal.{legal_fronts}
 use Rattle.bg_wire.specs.SavedText.{IsFirstIllegal}
+use Rattle.bg_wire.specs.PacketText.{IsOfMatch}
+use Rattle.bg_wire.specs.declared.packets.Packet.{Packet}
 use Rattle.bg_wire.specs.declared.packets.Packet.TheVariants as packet
 use Rattle.bg_wire.proofs.Numbers.{get_take}
 use Rattle.bg_party.specs.declared.outcomes.Learned.{Learned}
 use Rattle.bg_party.specs.declared.outcomes.Learned.TheVariants as learned
 use Rattle.bg_party.specs.Views.{FollowerView}
-use Rattle.bg_party.specs.Learns.{Agrees, IsConflict, FollowsFor, Teaches, Learns, TeachesOneThing, coming, new_entries}
+use Rattle.bg_party.specs.Learns.{Agrees, IsConflict, FollowsFor, Teaches, TeachesWithin, Learns, TeachesOneThing, coming, new_entries}
 
 nat_order : (a b : ℕ) → (a < b) ⊎ (a ≡ b) ⊎ (b < a)
 nat_order zero zero = inr (inl refl)
@@ -146,73 +146,33 @@ module _ (f : FollowerView) (start : ℕ) (list : List Entry) (is : IsLegalRecor
   apart (learned.Grew n) (learned.Grew m) h k x y =
       ap learned.Grew (one_count f.log.terms f.log.entries (coming f start list) n m h.1 k.1)
 
--- of another match, or of this one
-of_entries : (f : FollowerView) (id : ℕ) (rules : Rules) (start : ℕ) (list : List Entry) (l : Learned)
-    → Learns f (packet.Entries id rules start list) l
-    → ((l ≡ learned.OtherMatch) × ((id ≡ f.log.id) × (rules ≡ rules_of f.log.terms) → ⊥)) ⊎ (((id ≡ f.log.id) × (rules ≡ rules_of f.log.terms)) × Teaches f start list l)
-of_entries f id rules start list learned.OtherMatch h = inl (refl, h)
-of_entries f id rules start list learned.Nothing h = inr h
-of_entries f id rules start list (learned.Conflict n) h = inr h
-of_entries f id rules start list learned.Gap h = inr h
-of_entries f id rules start list (learned.Illegal n) h = inr h
-of_entries f id rules start list learned.Memory h = inr h
-of_entries f id rules start list (learned.Grew k) h = inr h
+-- a packet is of another match, or of this one, and teaches what it says
+of_match : (f : FollowerView) (p : Packet) (l : Learned) → Learns f p l
+    → ((l ≡ learned.OtherMatch) × (IsOfMatch f.log.id (rules_of f.log.terms) p → ⊥))
+    ⊎ (IsOfMatch f.log.id (rules_of f.log.terms) p × TeachesWithin f p l)
+of_match f p learned.OtherMatch h = inl (refl, h)
+of_match f p learned.Nothing h = inr h
+of_match f p (learned.Conflict n) h = inr h
+of_match f p learned.Gap h = inr h
+of_match f p (learned.Illegal n) h = inr h
+of_match f p learned.Memory h = inr h
+of_match f p (learned.Grew k) h = inr h
 
-of_want : (f : FollowerView) (id : ℕ) (rules : Rules) (sender held : ℕ) (l : Learned) → Learns f (packet.Want id rules sender held) l
-    → ((l ≡ learned.OtherMatch) × ((id ≡ f.log.id) × (rules ≡ rules_of f.log.terms) → ⊥)) ⊎ (((id ≡ f.log.id) × (rules ≡ rules_of f.log.terms)) × (l ≡ learned.Nothing))
-of_want f id rules sender held learned.OtherMatch h = inl (refl, h)
-of_want f id rules sender held learned.Nothing h = inr h
-of_want f id rules sender held (learned.Conflict n) h = inr h
-of_want f id rules sender held learned.Gap h = inr h
-of_want f id rules sender held (learned.Illegal n) h = inr h
-of_want f id rules sender held learned.Memory h = inr h
-of_want f id rules sender held (learned.Grew k) h = inr h
-
-of_claim : (f : FollowerView) (id : ℕ) (rules : Rules) (sender number : ℕ) (action : Action) (l : Learned)
-    → Learns f (packet.Claim id rules sender number action) l
-    → ((l ≡ learned.OtherMatch) × ((id ≡ f.log.id) × (rules ≡ rules_of f.log.terms) → ⊥)) ⊎ (((id ≡ f.log.id) × (rules ≡ rules_of f.log.terms)) × (l ≡ learned.Nothing))
-of_claim f id rules sender number action learned.OtherMatch h = inl (refl, h)
-of_claim f id rules sender number action learned.Nothing h = inr h
-of_claim f id rules sender number action (learned.Conflict n) h = inr h
-of_claim f id rules sender number action learned.Gap h = inr h
-of_claim f id rules sender number action (learned.Illegal n) h = inr h
-of_claim f id rules sender number action learned.Memory h = inr h
-of_claim f id rules sender number action (learned.Grew k) h = inr h
+-- within this match a packet teaches one thing
+one_thing : (f : FollowerView) (p : Packet) (a b : Learned) → IsLegalRecord f.log.terms f.log.entries
+    → TeachesWithin f p a → TeachesWithin f p b → a ≢ learned.Memory → b ≢ learned.Memory → a ≡ b
+one_thing f (packet.Want id rules sender held) a b is h k x y = h ∙ sym k
+one_thing f (packet.Claim id rules sender number action) a b is h k x y = h ∙ sym k
+one_thing f (packet.Entries id rules start list) a b is h k x y = apart f start list is a b h k x y
 
 pub teaches_one_thing : TeachesOneThing
-teaches_one_thing f (packet.Entries id rules start list) a b is h k x y = elim (of_entries f id rules start list a h) [
-  | inl other ↦ elim (of_entries f id rules start list b k) [
-    | inl also ↦ other.0
-        ∙ sym also.0
+teaches_one_thing f p a b is h k x y = elim (of_match f p a h) [
+  | inl other ↦ elim (of_match f p b k) [
+    | inl also ↦ other.0 ∙ sym also.0
     | inr this ↦ absurd (other.1 this.0)
   ]
-  | inr this ↦ elim (of_entries f id rules start list b k) [
+  | inr this ↦ elim (of_match f p b k) [
     | inl other ↦ absurd (other.1 this.0)
-    | inr also ↦ apart f start list is a b this.1 also.1 x y
+    | inr also ↦ one_thing f p a b is this.1 also.1 x y
   ]
 ]
-teaches_one_thing f (packet.Want id rules sender held) a b is h k x y = elim (of_want f id rules sender held a h) [
-  | inl other ↦ elim (of_want f id rules sender held b k) [
-    | inl also ↦ other.0
-        ∙ sym also.0
-    | inr this ↦ absurd (other.1 this.0)
-  ]
-  | inr this ↦ elim (of_want f id rules sender held b k) [
-    | inl other ↦ absurd (other.1 this.0)
-    | inr also ↦ this.1
-        ∙ sym also.1
-  ]
-]
-teaches_one_thing f (packet.Claim id rules sender number action) a b is h k x y =
-    elim (of_claim f id rules sender number action a h) [
-      | inl other ↦ elim (of_claim f id rules sender number action b k) [
-        | inl also ↦ other.0
-            ∙ sym also.0
-        | inr this ↦ absurd (other.1 this.0)
-      ]
-      | inr this ↦ elim (of_claim f id rules sender number action b k) [
-        | inl other ↦ absurd (other.1 this.0)
-        | inr also ↦ this.1
-            ∙ sym also.1
-      ]
-    ]

@@ -63,7 +63,8 @@ Appends old new early count _ after = ⊥
 -- entries of this match that join what is held, and follow where they are new
 abbrev pub Continues : ℕ → Terms → List Entry → Packet → Type 0
 Continues match_id terms entries (packet.Entries id rules start list) =
-    ((id ≡ match_id) × (rules ≡ rules_of terms)) × Joins entries start list × IsLegalRecord terms (entries ++ new_entries entries start list)
+    ((id ≡ match_id) × (rules ≡ rules_of terms)) × Joins entries start list
+    × IsLegalRecord terms (entries ++ new_entries entries start list)
 Continues match_id terms entries _ = ⊥
 
 -- all entries of the packet are held under their own numbers

@@ -11,5 +11,6 @@ use Rattle.bg_referee.specs.Dues.{OpensAfter}
 abbrev pub IsOwn : Log → ℕ → Entry → Type 0
 IsOwn log word e =
     (OpensAfter log.terms log.entries
-    × ((dice : Dice) × (dice_of word ≡ Some dice) × (first_pips dice ≢ second_pips dice) × (e ≡ Opening dice.first dice.second)))
+    × ((dice : Dice) × (dice_of word ≡ Some dice) × (first_pips dice ≢ second_pips dice)
+    × (e ≡ Opening dice.first dice.second)))
     ⊎ ((OpensAfter log.terms log.entries → ⊥) × (e ≡ Passed))

@@ -14,7 +14,8 @@ use Rattle.bg_referee.specs.Takes.{TellsSaved}
 abbrev pub IsPush : RefereeView → ℕ × ℕ → ℕ × Packet → Type 0
 IsPush r one push =
     (push.0 ≡ one.0)
-    × ((list : List Entry) × IsShown r (one.1 + 1) list × (push.1 ≡ packet.Entries r.log.id (rules_of r.log.terms) (one.1 + 1) list))
+    × ((list : List Entry) × IsShown r (one.1 + 1) list
+    × (push.1 ≡ packet.Entries r.log.id (rules_of r.log.terms) (one.1 + 1) list))
 
 -- a packet for each of them, in their order
 abbrev pub ArePushes : RefereeView → List (ℕ × ℕ) → List (ℕ × Packet) → Type 0

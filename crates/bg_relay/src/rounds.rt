@@ -108,8 +108,9 @@ impl<L: Link + Drop, K: Keeper + Drop> Rounds<L, K> {
         link: L,
         keepers: Keepers<K>,
     ) -> Result<Rounds<L, K>, WorldFault>
-        ensures start { IfOk result (λ played. moment_of L.Link K.Keeper played ≡ start_moment (setup_of seed length rules)
-            (link_view L.Link link) (keeper_view K.Keeper keepers.referee) (keeper_view K.Keeper keepers.x)
+        ensures start { IfOk result (λ played. moment_of L.Link K.Keeper played
+            ≡ start_moment (setup_of seed length rules) (link_view L.Link link)
+            (keeper_view K.Keeper keepers.referee) (keeper_view K.Keeper keepers.x)
             (keeper_view K.Keeper keepers.o)) }
         ensures refusal { MatchResult result (λ _. IsGood (setup_of seed length rules))
             (λ fault. IsWorldFault fault (setup_of seed length rules)) }

@@ -69,7 +69,8 @@ fn told(rt: &HostRuntime, host: &mut RefereeHost<'_, HostRuntime>) -> Result<Pac
 }
 
 /// A watcher that asked is told the opening once it is saved, in the file of slot 1, and a later host over the same
-/// folder tells it again. None begins while another one has the files, or for a match of another length or by other rules.
+/// folder tells it again. None begins while another one has the files, or for a match of another length or by other
+/// rules.
 #[test]
 fn hosts_answer(rt: HostRuntime) -> Result<(), Fail> {
     let folder = new_folder(&rt, "hosts-answer")?;

@@ -61,7 +61,8 @@ pub record IsNoClaimRefused (w : ProtocolState) : Type 0 where
 -- what a follower may be handed: entries agree with its record, and where they join it they continue it legally
 pub record AreNoEntriesRefused (w : ProtocolState) : Type 0 where
   pub agree : (party : ℕ) (log : List Entry) (to id : ℕ) (rules : Rules) (start : ℕ) (list : List Entry)
-      → 0 < party → log_of w party ≡ Some log → WasSent w.sent to (packet.Entries id rules start list) → Agrees log start list
+      → 0 < party → log_of w party ≡ Some log → WasSent w.sent to (packet.Entries id rules start list)
+      → Agrees log start list
   pub follow : (party : ℕ) (log : List Entry) (to id : ℕ) (rules : Rules) (start : ℕ) (list : List Entry)
       → 0 < party → log_of w party ≡ Some log → WasSent w.sent to (packet.Entries id rules start list)
       → start ≤ length log + 1

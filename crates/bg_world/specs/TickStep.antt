@@ -43,7 +43,8 @@ TickStep w AsReferee o v = IfUp w.referee.up w o v (SendsOnTick (λ d. Exists w 
 TickStep w (AsSeat player) o v =
     let f = seat w player in
     IfUp f.up w o v
-    (SendsOnTick (λ d. Carries d referee (seat_packet w.id w.terms (party_of player) f.log f.claim f.claim_saved)) 1 w o v)
+    (SendsOnTick
+    (λ d. Carries d referee (seat_packet w.id w.terms (party_of player) f.log f.claim f.claim_saved)) 1 w o v)
 TickStep w (AsWatcher index) o v =
     AtWatcher w index o v
     (λ log. SendsOnTick (λ d. Carries d referee (want_packet w.id w.terms (first_watcher + index) log)) 1 w o v)

@@ -1,4 +1,5 @@
-//! Seats and watchers of a match by the second rules, in which X is hit, and rolls double sixes with which he can't enter.
+//! Seats and watchers of a match by the second rules, in which X is hit, and rolls double sixes with which he can't
+//! enter.
 ghost use Rattle.std.specs.Prelude.{IfSome};
 ghost use Rattle.bg_wire.specs.PacketText.{IsPacket};
 
