@@ -31,6 +31,7 @@ pub mod FineOutcomes
 pub mod NoRefusals
 pub mod Upheld
 pub mod Starting
+pub mod Numbered
 pub mod Unplanned
 pub mod Digits
 pub mod EventTexts
@@ -41,6 +42,8 @@ pub mod OutcomeTexts
 pub mod DiceWords
 pub mod NoFailures
 pub mod Simulating
+pub mod NodeSteps
+pub mod Interleaved
 pub mod ScriptLines
 pub mod OneOutcome
 pub mod OneSend

@@ -58,7 +58,7 @@ get_last (y ∷ ys) x (suc i) f h = at (get_last ys x i f h)
     at (inl p) = inl p
     at (inr p) = inr (ap suc p.0, p.1)
 
-fresh_match : (id : ℕ) (terms : Terms) (n : ℕ) → WatchersMatch id terms (fresh_watchers id terms n)
+pub fresh_match : (id : ℕ) (terms : Terms) (n : ℕ) → WatchersMatch id terms (fresh_watchers id terms n)
 fresh_match id terms zero i f h = absurd cc
 fresh_match id terms (suc n) i f h =
     at (fresh_match id terms n) (get_last (fresh_watchers id terms n)

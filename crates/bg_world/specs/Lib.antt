@@ -33,6 +33,8 @@ pub mod Calls
 pub mod WorldState
 pub mod WorldRuns
 pub mod World
+pub mod Nodes
+pub mod Interleavings
 pub mod Starts
 pub mod NotRefused
 pub mod Upholds

@@ -51,13 +51,13 @@ memory_view w = record {
   id = w.id;
   terms = w.terms;
   link = memory_link_view w.link;
-  referee_keeper = memory_keeper_view w.keepers.referee;
-  x_keeper = memory_keeper_view w.keepers.x;
-  o_keeper = memory_keeper_view w.keepers.o;
-  referee = w.referee;
-  x = w.x;
-  o = w.o;
-  watchers = w.watchers.items;
+  referee_keeper = memory_keeper_view w.referee.keeper;
+  x_keeper = memory_keeper_view w.x.keeper;
+  o_keeper = memory_keeper_view w.o.keeper;
+  referee = w.referee.core;
+  x = w.x.core;
+  o = w.o.core;
+  watchers = w.watchers;
 }
 
 -- by the plan no call fails

@@ -1,5 +1,5 @@
 -- What contracts see of a world: plain data.
-use Rattle.std.specs.Prelude.{ℕ, ◌+◌, List, Option, Result, length}
+use Rattle.std.specs.Prelude.{◌≡◌, ℕ, ◌+◌, List, Option, Some, Result, length, slice_get}
 use Rattle.arrayvec.specs.ArrayVec.{ArrayVec}
 use Rattle.bg_board.specs.declared.players.Player.{Player}
 use Rattle.bg_board.specs.declared.players.Player.TheVariants.{X, O}
@@ -68,6 +68,11 @@ pub record WorldView : Type 0 where
   pub x : Option SeatView
   pub o : Option SeatView
   pub watchers : List WatcherView
+
+-- the party of each watcher is the first watcher's and as many more as its index
+abbrev pub AreNumbered : List WatcherView → Type 0
+AreNumbered watchers =
+    (index : ℕ) (core : WatcherView) → slice_get watchers index ≡ Some core → core.party ≡ first_watcher + index
 
 -- so many parties have numbers, from 0
 abbrev pub parties : WorldView → ℕ

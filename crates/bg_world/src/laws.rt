@@ -1,16 +1,30 @@
 //! Laws of the protocol, for whole runs, and of worlds: each is the contract of a function that does nothing.
+ghost use Rattle.std.specs.Prelude.{List, ℕ, ⊤};
 ghost use Rattle.bg_board.specs.declared.players.Player.{Player};
 ghost use Rattle.bg_world.specs.Agreement.{Agreement};
+ghost use Rattle.bg_world.specs.Calls.{Calls};
 ghost use Rattle.bg_world.specs.Claims.{AreClaimsKept};
 ghost use Rattle.bg_world.specs.GivenBack.{AreSlotsGivenBack};
 ghost use Rattle.bg_world.specs.Headline.{Headline};
+ghost use Rattle.bg_world.specs.Interleavings.{Interleaves, NodeCalls};
+ghost use Rattle.bg_world.specs.Nodes.{RefereeNodeRestarts, RefereeNodeView, SeatNodeRestarts, SeatNodeView};
+ghost use Rattle.bg_world.specs.Nodes.{fresh_referee_node, fresh_seat_node};
 ghost use Rattle.bg_world.specs.Refusals.{IsNoPacketRefused, IsNoSlotRefused};
 ghost use Rattle.bg_world.specs.Runs.{IsReached};
 ghost use Rattle.bg_world.specs.Shown.{ShowsSavedAlone};
+ghost use Rattle.bg_world.specs.Simulations.{IsOfWords};
 ghost use Rattle.bg_world.specs.Slots.{claim_in};
-ghost use Rattle.bg_world.specs.State.{ProtocolState, seat};
+ghost use Rattle.bg_world.specs.Starts.{AreUnused, fresh_world, terms_in};
+ghost use Rattle.bg_world.specs.State.{IsSetup, ProtocolState, seat};
 ghost use Rattle.bg_world.specs.Survival.{SavesSurvive};
+ghost use Rattle.bg_world.specs.Upholds.{Upholds};
+ghost use Rattle.bg_world.specs.Views.{KeeperView, LinkView, WorldView};
 ghost use Rattle.bg_world.specs.WorldLaws.{ComeToOneList, ComeToOneOutcome, NewWorldsAreAtTheStart, OutcomesAreFixed};
+ghost use Rattle.bg_world.specs.WorldRuns.{RunsProtocol};
+ghost use Rattle.bg_world.specs.WorldState.{IsReachedWorld};
+ghost use Rattle.bg_world.specs.declared.events.Event.{Event};
+ghost use Rattle.bg_world.specs.declared.events.Outcome.{Outcome};
+ghost use Rattle.bg_world.specs.declared.setups.Setup.{Setup};
 
 use crate::{Keeper, Link};
 
@@ -67,4 +81,31 @@ pub fn outcomes_are_fixed<L: Link, K: Keeper>()
     ensures unheard { OutcomesAreFixed L.is_honest K.is_honest }
     ensures all { ComeToOneOutcome L.is_honest K.is_honest }
     ensures lists { ComeToOneList L.is_honest K.is_honest }
+{}
+
+/// Parties that run each in a process of its own (docs/PROTOCOL.md, "Parties in processes of their own"): whatever
+/// calls their nodes make, in any order, over an honest network and honest keepers, they are a run of one world, and
+/// all holds of it that holds of those.
+pub fn processes_agree()
+    // One call of a node is that event of the world; all else stays.
+    ensures step { (old : WorldView) (event : Event) (outcome : Outcome) (new : WorldView)
+        → NodeCalls ⊤ ⊤ old event outcome new → Calls ⊤ ⊤ old event outcome new }
+    // A process that begins is its party's restart, whatever the party held before.
+    ensures referee_begins { (old new : RefereeNodeView) (outcome : Outcome)
+        → RefereeNodeRestarts ⊤ (fresh_referee_node old.id old.terms old.keeper) outcome new
+        → RefereeNodeRestarts ⊤ old outcome new }
+    ensures seat_begins { (old new : SeatNodeView) (outcome : Outcome)
+        → SeatNodeRestarts ⊤ (fresh_seat_node old.player old.id old.terms old.keeper) outcome new
+        → SeatNodeRestarts ⊤ old outcome new }
+    // Any calls, each process with devices of its own where what was sent is common and what was saved stays.
+    ensures runs { (old : WorldView) (events : List Event) (outcomes : List Outcome) (new : WorldView)
+        → Interleaves old events outcomes new → RunsProtocol old events outcomes new }
+    ensures upholds { (old : WorldView) (events : List Event) (outcomes : List Outcome) (new : WorldView)
+        → IsReachedWorld old → Interleaves old events outcomes new → Upholds new }
+    // From the start of a match, where nothing was sent and all slots are empty; the dice of each roll and opening are
+    // then those of a word that was handed in.
+    ensures matches { (setup : Setup) (link : LinkView) (referee x o : KeeperView) (events : List Event)
+        (outcomes : List Outcome) (new : WorldView) → IsSetup setup.id (terms_in setup) setup.watchers
+        → AreUnused link referee x o → Interleaves (fresh_world setup link referee x o) events outcomes new
+        → Upholds new × IsOfWords events new }
 {}

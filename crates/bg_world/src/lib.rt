@@ -42,6 +42,9 @@ mod line_tests;
 mod link_calls;
 mod memory_keeper;
 mod memory_net;
+#[cfg(test)]
+mod node_tests;
+mod nodes;
 mod notes;
 mod numbers;
 #[cfg(test)]
@@ -66,6 +69,8 @@ mod slot_texts;
 mod steps;
 mod takes;
 #[cfg(test)]
+mod test_parties;
+#[cfg(test)]
 mod test_rows;
 #[cfg(test)]
 mod tests;
@@ -78,10 +83,13 @@ pub use events::{Event, Outcome, RestoreCause};
 pub use final_texts::final_text;
 pub use laws::{
     claims_are_kept, new_worlds_are_at_the_start, nothing_is_refused, outcomes_are_fixed,
-    parties_agree, saved_entries_alone_are_shown, saves_survive, slots_are_given_back,
+    parties_agree, processes_agree, saved_entries_alone_are_shown, saves_survive,
+    slots_are_given_back,
 };
 pub use memory_keeper::MemoryKeeper;
 pub use memory_net::MemoryNet;
+pub(crate) use nodes::Watchers;
+pub use nodes::{RefereeNode, SeatNode, WatcherNode};
 pub use notes::count_failed;
 pub use outcome_texts::{outcome_text, outcome_texts_differ};
 pub use plans::{FailRead, FailSend, Plan, Tear};

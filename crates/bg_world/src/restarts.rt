@@ -1,8 +1,8 @@
 //! A party begins again from what it saved.
-ghost use Rattle.std.specs.Prelude.{◌≡◌, ◌≤◌, ℕ, IfOk, IfSome};
+ghost use Rattle.std.specs.Prelude.{◌≡◌, IfOk, IfSome};
 ghost use Rattle.bg_match.specs.Limits.{IsMatchLength};
 ghost use Rattle.bg_match.specs.Terms.{match_length};
-ghost use Rattle.bg_wire.specs.Codes.{first_watcher, referee as referee_party};
+ghost use Rattle.bg_wire.specs.Codes.{referee as referee_party};
 ghost use Rattle.bg_wire.specs.Parties.{party_of};
 ghost use Rattle.bg_wire.specs.Restoring.{Restores};
 ghost use Rattle.bg_wire.specs.SavedText.{IsSavable, parts_of};
@@ -12,10 +12,10 @@ ghost use Rattle.bg_world.specs.KeeperCalls.{ReadsBoth, RestartCallsAt, refusal_
 ghost use Rattle.bg_world.specs.Views.{keeper_view};
 
 use crate::keeper_calls::{read_outcome, read_slot};
-use crate::{Keeper, Link, Outcome, RestoreCause, Role, World};
+use crate::{Keeper, Outcome, RestoreCause};
 use bg_board::Player;
 use bg_match::Terms;
-use bg_party::{Seat, Watcher};
+use bg_party::Seat;
 use bg_referee::Referee;
 use bg_wire::{REFEREE, RestoreRefusal, Saved, Slot, party_of, restore};
 use std::alloc::Global;
@@ -75,7 +75,7 @@ fn read_both<K: Keeper>(
 }
 
 /// The referee begins again.
-fn restart_referee<K: Keeper>(
+pub(crate) fn restart_referee<K: Keeper>(
     alloc: Global,
     keeper: &mut K,
     referee: &mut Option<Referee>,
@@ -101,7 +101,7 @@ fn restart_referee<K: Keeper>(
 }
 
 /// A seat begins again.
-fn restart_seat<K: Keeper>(
+pub(crate) fn restart_seat<K: Keeper>(
     alloc: Global,
     keeper: &mut K,
     seat: &mut Option<Seat>,
@@ -124,56 +124,5 @@ fn restart_seat<K: Keeper>(
             Outcome::Restarted
         }
         Err(why) => why,
-    }
-}
-
-impl<L: Link, K: Keeper> World<L, K> {
-    ghost use Rattle.bg_world.specs.Calls.{RestartCalls};
-    ghost use Rattle.bg_world.specs.World.{view_of};
-    ghost use Rattle.bg_world.specs.declared.roles.Role.TheVariants as roles;
-
-    /// The party of this part begins again.
-    pub(crate) fn restart(&mut self, part: Role, party: u8) -> Outcome
-        requires { (index : ℕ) → part ≡ roles.Watcher index → first_watcher ≤ party }
-        ensures { RestartCalls K.is_honest (view_of L.Link K.Keeper self.old) part party
-            result (view_of L.Link K.Keeper self.new) }
-    {
-        match part {
-            Role::Referee => restart_referee(
-                self.alloc,
-                &mut self.keepers.referee,
-                &mut self.referee,
-                self.id,
-                self.terms,
-            ),
-            Role::Seat(player) => self.restart_seat_of(player),
-            Role::Watcher(index) => self.restart_watcher(index, party),
-        }
-    }
-
-    fn restart_seat_of(&mut self, player: Player) -> Outcome
-        ensures { (party : ℕ) → RestartCalls K.is_honest (view_of L.Link K.Keeper self.old) (roles.Seat player) party
-            result (view_of L.Link K.Keeper self.new) }
-    {
-        let (alloc, id, terms) = (self.alloc, self.id, self.terms);
-        match player {
-            Player::X => restart_seat(alloc, &mut self.keepers.x, &mut self.x, player, id, terms),
-            Player::O => restart_seat(alloc, &mut self.keepers.o, &mut self.o, player, id, terms),
-        }
-    }
-
-    fn restart_watcher(&mut self, index: usize, party: u8) -> Outcome
-        requires { first_watcher ≤ party }
-        ensures { RestartCalls K.is_honest (view_of L.Link K.Keeper self.old) (roles.Watcher index) party
-            result (view_of L.Link K.Keeper self.new) }
-    {
-        match self.watchers.get_mut(index) {
-            None => Outcome::NoSuchParty,
-            Some(core) => {
-                let Terms { length, rules } = self.terms;
-                *core = Watcher::fresh(self.alloc, party, self.id, length, rules).unwrap();
-                Outcome::Restarted
-            }
-        }
     }
 }

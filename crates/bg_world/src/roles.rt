@@ -1,6 +1,8 @@
 //! Which party has which part.
-ghost use Rattle.std.specs.Prelude.{◌≡◌, ◌≤◌, ℕ};
+ghost use Rattle.std.specs.Prelude.{◌≡◌, ◌+◌, ℕ};
+ghost use Rattle.bg_board.specs.declared.players.Player.{Player};
 ghost use Rattle.bg_wire.specs.Codes.{first_watcher};
+ghost use Rattle.bg_wire.specs.Parties.{party_of};
 ghost use Rattle.bg_world.specs.declared.roles.Role.TheVariants as roles;
 
 use bg_board::Player;
@@ -24,7 +26,8 @@ impl Role {
     /// watch.
     pub fn of(party: u8) -> Role
         ensures value { result ≡ role party }
-        ensures watcher { (index : ℕ) → result ≡ roles.Watcher index → first_watcher ≤ party }
+        ensures seat { (player : Player) → result ≡ roles.Seat player → party ≡ party_of player }
+        ensures watcher { (index : ℕ) → result ≡ roles.Watcher index → party ≡ first_watcher + index }
     {
         match party {
             REFEREE => Role::Referee,

@@ -6,14 +6,13 @@ ghost use Rattle.bg_world.specs.KeeperCalls.{SaveCallsAt};
 ghost use Rattle.bg_world.specs.Views.{keeper_view};
 
 use crate::keeper_calls::write_slot;
-use crate::{Keeper, Link, Outcome, Role, World};
-use bg_board::Player;
+use crate::{Keeper, Outcome};
 use bg_party::Seat;
 use bg_referee::Referee;
 use bg_wire::SaveRefusal;
 
 /// The referee saves. It is down where the write fails.
-fn save_referee<K: Keeper>(keeper: &mut K, referee: &mut Option<Referee>) -> Outcome
+pub(crate) fn save_referee<K: Keeper>(keeper: &mut K, referee: &mut Option<Referee>) -> Outcome
     ensures { SaveCallsAt referee_parts referee_after_save K.is_honest (keeper_view K.Keeper keeper.old) referee.old
         result (keeper_view K.Keeper keeper.new) referee.new }
 {
@@ -38,7 +37,7 @@ fn save_referee<K: Keeper>(keeper: &mut K, referee: &mut Option<Referee>) -> Out
 }
 
 /// A seat saves. It is down where the write fails.
-fn save_seat<K: Keeper>(keeper: &mut K, seat: &mut Option<Seat>) -> Outcome
+pub(crate) fn save_seat<K: Keeper>(keeper: &mut K, seat: &mut Option<Seat>) -> Outcome
     ensures { SaveCallsAt seat_parts seat_after_save K.is_honest (keeper_view K.Keeper keeper.old) seat.old
         result (keeper_view K.Keeper keeper.new) seat.new }
 {
@@ -58,34 +57,6 @@ fn save_seat<K: Keeper>(keeper: &mut K, seat: &mut Option<Seat>) -> Outcome
         Err(_) => {
             *seat = None;
             Outcome::SaveFault
-        }
-    }
-}
-
-impl<L: Link, K: Keeper> World<L, K> {
-    ghost use Rattle.bg_world.specs.Calls.{SaveCalls};
-    ghost use Rattle.bg_world.specs.World.{view_of};
-    ghost use Rattle.bg_world.specs.declared.roles.Role.TheVariants as roles;
-
-    /// The party of this part saves.
-    pub(crate) fn save(&mut self, part: Role) -> Outcome
-        ensures { SaveCalls K.is_honest (view_of L.Link K.Keeper self.old) part
-            result (view_of L.Link K.Keeper self.new) }
-    {
-        match part {
-            Role::Referee => save_referee(&mut self.keepers.referee, &mut self.referee),
-            Role::Seat(player) => self.save_seat_of(player),
-            Role::Watcher(_) => Outcome::NoSuchParty,
-        }
-    }
-
-    fn save_seat_of(&mut self, player: Player) -> Outcome
-        ensures { SaveCalls K.is_honest (view_of L.Link K.Keeper self.old) (roles.Seat player)
-            result (view_of L.Link K.Keeper self.new) }
-    {
-        match player {
-            Player::X => save_seat(&mut self.keepers.x, &mut self.x),
-            Player::O => save_seat(&mut self.keepers.o, &mut self.o),
         }
     }
 }

@@ -1,11 +1,16 @@
-//! One event.
+//! One event, at the node of the party that it names.
+ghost use Rattle.std.specs.Prelude.{◌≡◌, ◌+◌, ℕ};
+ghost use Rattle.bg_board.specs.declared.players.Player.{Player};
+ghost use Rattle.bg_wire.specs.Codes.{first_watcher};
+ghost use Rattle.bg_wire.specs.Parties.{party_of};
+ghost use Rattle.bg_world.specs.declared.roles.Role.TheVariants as roles;
 
 use crate::{Event, Keeper, Link, Outcome, Role, World};
 use bg_board::Player;
 use bg_match::Action;
 
 impl<L: Link, K: Keeper> World<L, K> {
-    ghost use Rattle.bg_world.specs.Calls.{Calls, ChooseCalls, DueCalls};
+    ghost use Rattle.bg_world.specs.Calls.{Calls, ChooseCalls, DueCalls, RestartCalls, SaveCalls, TakeCalls, TickCalls};
     ghost use Rattle.bg_world.specs.NotRefused.{IsNotRefused};
     ghost use Rattle.bg_world.specs.World.{view_of};
     ghost use Rattle.bg_world.specs.WorldRuns.{StepsProtocol};
@@ -47,10 +52,7 @@ impl<L: Link, K: Keeper> World<L, K> {
     fn due(&mut self, word: u32) -> Outcome
         ensures { DueCalls (view_of L.Link K.Keeper self.old) word result (view_of L.Link K.Keeper self.new) }
     {
-        match &mut self.referee {
-            None => Outcome::Down,
-            Some(core) => Outcome::Due(core.due(word)),
-        }
+        self.referee.due(word)
     }
 
     /// A seat claims what its player chooses.
@@ -59,14 +61,91 @@ impl<L: Link, K: Keeper> World<L, K> {
             result (view_of L.Link K.Keeper self.new) }
     {
         match player {
-            Player::X => match &mut self.x {
-                None => Outcome::Down,
-                Some(core) => Outcome::Chose(core.choose(action)),
-            },
-            Player::O => match &mut self.o {
-                None => Outcome::Down,
-                Some(core) => Outcome::Chose(core.choose(action)),
-            },
+            Player::X => self.x.choose(action),
+            Player::O => self.o.choose(action),
         }
+    }
+
+    /// The party of this part takes what the link gives for this pick.
+    fn take(&mut self, part: Role, party: u8, pick: u32, word: u32) -> Outcome
+        requires seat { (player : Player) → part ≡ roles.Seat player → party ≡ party_of player }
+        requires watcher { (index : ℕ) → part ≡ roles.Watcher index → party ≡ first_watcher + index }
+        ensures { TakeCalls L.is_honest (view_of L.Link K.Keeper self.old) part party pick word
+            result (view_of L.Link K.Keeper self.new) }
+    {
+        let parties = self.parties();
+        match part {
+            Role::Referee => self.referee.take(&mut self.link, parties, pick, word),
+            Role::Seat(Player::X) => self.x.take(&mut self.link, pick),
+            Role::Seat(Player::O) => self.o.take(&mut self.link, pick),
+            Role::Watcher(index) => self.watchers.take(&mut self.link, index, pick),
+        }
+    }
+
+    /// The party of this part sends what its core gives.
+    fn tick(&mut self, part: Role) -> Outcome
+        ensures { TickCalls L.is_honest (view_of L.Link K.Keeper self.old) part
+            result (view_of L.Link K.Keeper self.new) }
+    {
+        let parties = self.parties();
+        match part {
+            Role::Referee => self.referee.tick(&mut self.link, parties),
+            Role::Seat(Player::X) => self.x.tick(&mut self.link, parties),
+            Role::Seat(Player::O) => self.o.tick(&mut self.link, parties),
+            Role::Watcher(index) => self.watchers.tick(&mut self.link, parties, index),
+        }
+    }
+
+    /// The party of this part saves.
+    fn save(&mut self, part: Role) -> Outcome
+        ensures { SaveCalls K.is_honest (view_of L.Link K.Keeper self.old) part
+            result (view_of L.Link K.Keeper self.new) }
+    {
+        match part {
+            Role::Referee => self.referee.save(),
+            Role::Seat(player) => self.save_seat_of(player),
+            Role::Watcher(_) => Outcome::NoSuchParty,
+        }
+    }
+
+    fn save_seat_of(&mut self, player: Player) -> Outcome
+        ensures { SaveCalls K.is_honest (view_of L.Link K.Keeper self.old) (roles.Seat player)
+            result (view_of L.Link K.Keeper self.new) }
+    {
+        match player {
+            Player::X => self.x.save(),
+            Player::O => self.o.save(),
+        }
+    }
+
+    /// The party of this part begins again.
+    fn restart(&mut self, part: Role, party: u8) -> Outcome
+        requires { (index : ℕ) → part ≡ roles.Watcher index → party ≡ first_watcher + index }
+        ensures { RestartCalls K.is_honest (view_of L.Link K.Keeper self.old) part party
+            result (view_of L.Link K.Keeper self.new) }
+    {
+        match part {
+            Role::Referee => self.referee.restart(),
+            Role::Seat(player) => self.restart_seat_of(player),
+            Role::Watcher(index) => self.restart_watcher(index),
+        }
+    }
+
+    fn restart_seat_of(&mut self, player: Player) -> Outcome
+        ensures { (party : ℕ) → RestartCalls K.is_honest (view_of L.Link K.Keeper self.old) (roles.Seat player) party
+            result (view_of L.Link K.Keeper self.new) }
+    {
+        match player {
+            Player::X => self.x.restart(),
+            Player::O => self.o.restart(),
+        }
+    }
+
+    fn restart_watcher(&mut self, index: usize) -> Outcome
+        ensures { RestartCalls K.is_honest (view_of L.Link K.Keeper self.old) (roles.Watcher index)
+            (first_watcher + index) result (view_of L.Link K.Keeper self.new) }
+    {
+        self.watchers
+            .restart(self.alloc, self.id, self.terms, index)
     }
 }

@@ -6,8 +6,7 @@ ghost use Rattle.bg_world.specs.LinkCalls.{AnswerCalls, FollowerTakeCalls, Refer
 ghost use Rattle.bg_world.specs.Views.{link_view};
 
 use crate::link_calls::{link_outcome, post, receive};
-use crate::{Keeper, Link, Outcome, Role, World};
-use bg_board::Player;
+use crate::{Link, Outcome};
 use bg_party::{Learned, Seat, Watcher};
 use bg_referee::{Referee, TakeOutcome};
 use bg_wire::{Packet, REFEREE};
@@ -50,7 +49,7 @@ fn hand_to_watcher(core: &mut Watcher, packet: &Packet) -> Learned
 }
 
 /// The referee takes a datagram, and sends its answer. So many parties exist, from 0.
-fn take_at_referee<L: Link>(
+pub(crate) fn take_at_referee<L: Link>(
     link: &mut L,
     parties: usize,
     core: &mut Referee,
@@ -70,7 +69,7 @@ fn take_at_referee<L: Link>(
 }
 
 /// A seat takes a datagram.
-fn take_at_seat<L: Link>(link: &mut L, party: u8, core: &mut Seat, pick: u32) -> Outcome
+pub(crate) fn take_at_seat<L: Link>(link: &mut L, party: u8, core: &mut Seat, pick: u32) -> Outcome
     ensures { FollowerTakeCalls SeatTakes L.is_honest party (link_view L.Link link.old) core.old pick
         result (link_view L.Link link.new) core.new }
 {
@@ -81,43 +80,17 @@ fn take_at_seat<L: Link>(link: &mut L, party: u8, core: &mut Seat, pick: u32) ->
 }
 
 /// A watcher takes a datagram.
-fn take_at_watcher<L: Link>(link: &mut L, party: u8, core: &mut Watcher, pick: u32) -> Outcome
+pub(crate) fn take_at_watcher<L: Link>(
+    link: &mut L,
+    party: u8,
+    core: &mut Watcher,
+    pick: u32,
+) -> Outcome
     ensures { FollowerTakeCalls WatcherTakes L.is_honest party (link_view L.Link link.old) core.old pick
         result (link_view L.Link link.new) core.new }
 {
     match receive(link, party, pick) {
         Err(why) => why,
         Ok(packet) => Outcome::Learned(hand_to_watcher(core, &packet)),
-    }
-}
-
-impl<L: Link, K: Keeper> World<L, K> {
-    ghost use Rattle.bg_world.specs.Calls.{TakeCalls};
-    ghost use Rattle.bg_world.specs.World.{view_of};
-
-    /// The party of this part takes what the link gives for this pick.
-    pub(crate) fn take(&mut self, part: Role, party: u8, pick: u32, word: u32) -> Outcome
-        ensures { TakeCalls L.is_honest (view_of L.Link K.Keeper self.old) part party pick word
-            result (view_of L.Link K.Keeper self.new) }
-    {
-        let parties = self.parties();
-        match part {
-            Role::Referee => match &mut self.referee {
-                None => Outcome::Down,
-                Some(core) => take_at_referee(&mut self.link, parties, core, pick, word),
-            },
-            Role::Seat(Player::X) => match &mut self.x {
-                None => Outcome::Down,
-                Some(core) => take_at_seat(&mut self.link, party, core, pick),
-            },
-            Role::Seat(Player::O) => match &mut self.o {
-                None => Outcome::Down,
-                Some(core) => take_at_seat(&mut self.link, party, core, pick),
-            },
-            Role::Watcher(index) => match self.watchers.get_mut(index) {
-                None => Outcome::NoSuchParty,
-                Some(core) => take_at_watcher(&mut self.link, party, core, pick),
-            },
-        }
     }
 }

@@ -7,8 +7,7 @@ ghost use Rattle.bg_world.specs.LinkCalls.{FollowerTickCalls, RefereeTickCalls, 
 ghost use Rattle.bg_world.specs.Views.{link_view};
 
 use crate::link_calls::{link_outcome, post};
-use crate::{Keeper, Link, Outcome, Role, World};
-use bg_board::Player;
+use crate::{Link, Outcome};
 use bg_party::{Seat, Watcher};
 use bg_referee::Referee;
 use bg_wire::{Packet, REFEREE};
@@ -51,7 +50,7 @@ fn send_to_referee<L: Link>(link: &mut L, parties: usize, packet: Option<Packet>
 }
 
 /// The referee's tick. So many parties exist, from 0.
-fn tick_referee<L: Link>(link: &mut L, parties: usize, core: &mut Referee) -> Outcome
+pub(crate) fn tick_referee<L: Link>(link: &mut L, parties: usize, core: &mut Referee) -> Outcome
     ensures { RefereeTickCalls L.is_honest parties (link_view L.Link link.old) core.old
         result (link_view L.Link link.new) core.new }
 {
@@ -60,7 +59,7 @@ fn tick_referee<L: Link>(link: &mut L, parties: usize, core: &mut Referee) -> Ou
 }
 
 /// A seat's tick.
-fn tick_seat<L: Link>(link: &mut L, parties: usize, core: &mut Seat) -> Outcome
+pub(crate) fn tick_seat<L: Link>(link: &mut L, parties: usize, core: &mut Seat) -> Outcome
     requires { 1 ≤ parties }
     ensures { FollowerTickCalls SeatTicks L.is_honest parties (link_view L.Link link.old) core.old
         result (link_view L.Link link.new) core.new }
@@ -70,42 +69,11 @@ fn tick_seat<L: Link>(link: &mut L, parties: usize, core: &mut Seat) -> Outcome
 }
 
 /// A watcher's tick.
-fn tick_watcher<L: Link>(link: &mut L, parties: usize, core: &mut Watcher) -> Outcome
+pub(crate) fn tick_watcher<L: Link>(link: &mut L, parties: usize, core: &mut Watcher) -> Outcome
     requires { 1 ≤ parties }
     ensures { FollowerTickCalls WatcherTicks L.is_honest parties (link_view L.Link link.old) core.old
         result (link_view L.Link link.new) core.new }
 {
     let packet = core.tick();
     send_to_referee(link, parties, packet)
-}
-
-impl<L: Link, K: Keeper> World<L, K> {
-    ghost use Rattle.bg_world.specs.Calls.{TickCalls};
-    ghost use Rattle.bg_world.specs.World.{view_of};
-
-    /// The party of this part sends what its core gives.
-    pub(crate) fn tick(&mut self, part: Role) -> Outcome
-        ensures { TickCalls L.is_honest (view_of L.Link K.Keeper self.old) part
-            result (view_of L.Link K.Keeper self.new) }
-    {
-        let parties = self.parties();
-        match part {
-            Role::Referee => match &mut self.referee {
-                None => Outcome::Down,
-                Some(core) => tick_referee(&mut self.link, parties, core),
-            },
-            Role::Seat(Player::X) => match &mut self.x {
-                None => Outcome::Down,
-                Some(core) => tick_seat(&mut self.link, parties, core),
-            },
-            Role::Seat(Player::O) => match &mut self.o {
-                None => Outcome::Down,
-                Some(core) => tick_seat(&mut self.link, parties, core),
-            },
-            Role::Watcher(index) => match self.watchers.get_mut(index) {
-                None => Outcome::NoSuchParty,
-                Some(core) => tick_watcher(&mut self.link, parties, core),
-            },
-        }
-    }
 }

@@ -1,38 +1,16 @@
 //! The parties of a match, between a link and their keepers.
-ghost use Rattle.std.specs.Prelude.{◌≡◌, ◌≤◌, vec_len, IfOk, IfErr, MatchResult, option_copied};
+ghost use Rattle.std.specs.Prelude.{◌≡◌, ◌≤◌, IfOk, MatchResult, option_copied};
+ghost use Rattle.bg_board.specs.declared.players.Player.TheVariants.{X, O};
 ghost use Rattle.bg_match.specs.Limits.{IsMatchLength};
 ghost use Rattle.bg_match.specs.Terms.{match_length};
-ghost use Rattle.bg_world.specs.Starts.{terms_in, IsWorldFault, fresh_watchers};
-ghost use Rattle.bg_world.specs.State.{IsSetup, most_watchers};
+ghost use Rattle.bg_world.specs.Starts.{terms_in, IsWorldFault};
+ghost use Rattle.bg_world.specs.State.{IsSetup};
 
-use crate::{Keeper, Keepers, Link, Role, Setup, WorldFault};
+use crate::{Keeper, Keepers, Link, RefereeNode, Role, SeatNode, Setup, Watchers, WorldFault};
 use bg_board::Player;
 use bg_match::{Record, Terms};
-use bg_party::{Seat, Watcher};
-use bg_referee::Referee;
 use bg_wire::FIRST_WATCHER;
 use std::alloc::Global;
-
-/// So many watchers, who hold nothing.
-fn fresh_watchers(
-    alloc: Global,
-    id: u64,
-    terms: Terms,
-    count: u8,
-) -> Result<Vec<Watcher>, WorldFault>
-    requires few { count ≤ most_watchers }
-    requires length_in_range { IsMatchLength (match_length terms) }
-    ensures value { IfOk result (λ watchers. watchers.items ≡ fresh_watchers id terms count) }
-    ensures many { IfOk result (λ watchers. vec_len watchers ≡ count) }
-    ensures memory { IfErr result (λ fault. (fault ≡ WorldFault.Memory) × (1 ≤ count)) }
-{
-    let mut watchers = Vec::new(alloc);
-    for index in 0..count {
-        let party = FIRST_WATCHER + index;
-        watchers.push(Watcher::fresh(alloc, party, id, terms.length, terms.rules).unwrap())?;
-    }
-    Ok(watchers)
-}
 
 /// A referee, two seats and those who watch, with a link between them and a keeper for each party that saves
 /// (docs/PROTOCOL.md, "The state and its steps").
@@ -44,13 +22,14 @@ pub struct World<L, K> {
     pub(crate) id: u64,
     pub(crate) terms: Terms,
     pub(crate) link: L,
-    pub(crate) keepers: Keepers<K>,
-    pub(crate) referee: Option<Referee>,
-    pub(crate) x: Option<Seat>,
-    pub(crate) o: Option<Seat>,
-    pub(crate) watchers: Vec<Watcher>,
-    ghost few: { vec_len watchers ≤ most_watchers },
+    pub(crate) referee: RefereeNode<K>,
+    pub(crate) x: SeatNode<K>,
+    pub(crate) o: SeatNode<K>,
+    pub(crate) watchers: Watchers,
     ghost length_in_range: { IsMatchLength (match_length terms) },
+    ghost same_id: { (referee.id ≡ id) × (x.id ≡ id) × (o.id ≡ id) },
+    ghost same_terms: { (referee.terms ≡ terms) × (x.terms ≡ terms) × (o.terms ≡ terms) },
+    ghost players: { (x.player ≡ X) × (o.player ≡ O) },
 }
 
 impl<L: Link + Drop, K: Keeper + Drop> World<L, K> {
@@ -99,16 +78,15 @@ impl<L: Link + Drop, K: Keeper + Drop> World<L, K> {
     {
         setup.check()?;
         let (id, terms) = (setup.id, setup.terms());
-        let watchers = fresh_watchers(alloc, id, terms, setup.watchers)?;
+        let watchers = Watchers::fresh(alloc, id, terms, setup.watchers)?;
         Ok(World {
             alloc,
             id,
             terms,
             link,
-            keepers,
-            referee: Some(Referee::fresh(alloc, id, terms.length, terms.rules).unwrap()),
-            x: Some(Seat::fresh(alloc, Player::X, id, terms.length, terms.rules).unwrap()),
-            o: Some(Seat::fresh(alloc, Player::O, id, terms.length, terms.rules).unwrap()),
+            referee: RefereeNode::fresh(alloc, id, terms, keepers.referee).unwrap(),
+            x: SeatNode::fresh(alloc, Player::X, id, terms, keepers.x).unwrap(),
+            o: SeatNode::fresh(alloc, Player::O, id, terms, keepers.o).unwrap(),
             watchers,
         })
     }
@@ -141,22 +119,10 @@ impl<L: Link, K: Keeper> World<L, K> {
         ensures { option_copied result ≡ held_of (view_of L.Link K.Keeper self.now) (role party) }
     {
         match Role::of(party) {
-            Role::Referee => match &self.referee {
-                None => None,
-                Some(core) => Some(core.held()),
-            },
-            Role::Seat(Player::X) => match &self.x {
-                None => None,
-                Some(core) => Some(core.held()),
-            },
-            Role::Seat(Player::O) => match &self.o {
-                None => None,
-                Some(core) => Some(core.held()),
-            },
-            Role::Watcher(index) => match self.watchers.get(index) {
-                None => None,
-                Some(core) => Some(core.held()),
-            },
+            Role::Referee => self.referee.held(),
+            Role::Seat(Player::X) => self.x.held(),
+            Role::Seat(Player::O) => self.o.held(),
+            Role::Watcher(index) => self.watchers.held(index),
         }
     }
 }

@@ -1,0 +1,14 @@
+use Rattle.std.proofs.Common.{arith, subst, sym}
+use Rattle.bg_world.specs.Views.{AreNumbered}
+use Rattle.bg_world.proofs.Numbered.{fresh_numbered}
+use Rattle.bg_world.proofs.nodes.watchers.Watchers.fresh.Goals as goal
+
+pub invariant_of-result : goal.invariant_of-result
+invariant_of-result c = (
+  omega arith,
+  (
+    subst AreNumbered (sym c.loop-index.invariant.value)
+        (fresh_numbered c.args.id c.args.terms c.loop-index.index),
+    tt,
+  ),
+)

@@ -1,0 +1,161 @@
+//! The seat of a player, by itself.
+ghost use Rattle.std.specs.Prelude.{◌≡◌, ◌≤◌, ◌↔◌, IsOk, IfOk, option_copied};
+ghost use Rattle.bg_match.specs.Limits.{IsMatchLength};
+ghost use Rattle.bg_match.specs.Terms.{match_length};
+ghost use Rattle.bg_world.specs.Starts.{seat_log};
+ghost use Rattle.bg_world.specs.Views.{keeper_view, link_view};
+
+use crate::restarts::restart_seat;
+use crate::saves::save_seat;
+use crate::takes::take_at_seat;
+use crate::ticks::tick_seat;
+use crate::{Keeper, Link, Outcome};
+use bg_board::Player;
+use bg_match::{Action, LengthFault, Number, Record, Terms};
+use bg_party::Seat;
+use bg_wire::party_of;
+use std::alloc::Global;
+
+/// The seat of a player as a node of its own: its core, while it is up, and the keeper of its saved texts. A process
+/// that runs the seat alone makes these calls, and a [`World`](crate::World) makes the same ones (docs/PROTOCOL.md,
+/// "Parties in processes of their own").
+///
+/// Contracts see its player, the match, the keeper, and the core while it is up.
+#[derive(Drop)]
+pub struct SeatNode<K> {
+    alloc: Global,
+    player: Player,
+    id: u64,
+    terms: Terms,
+    keeper: K,
+    core: Option<Seat>,
+    ghost length_in_range: { IsMatchLength (match_length terms) },
+}
+
+impl<K: Keeper + Drop> SeatNode<K> {
+    ghost use Rattle.bg_world.specs.Nodes.{SeatNodeRestarts, fresh_seat_node, seat_node_of};
+
+    /// The seat of a player that goes on from what the slots of its keeper restore, and what that came to: it is down
+    /// where the outcome is not `Restarted`. So a process begins, the first of a match and each later one.
+    ///
+    /// # Errors
+    /// `LengthOutOfRange` where the length is not from 1 to 99.
+    pub fn begin(
+        alloc: Global,
+        player: Player,
+        id: u64,
+        terms: Terms,
+        keeper: K,
+    ) -> Result<(SeatNode<K>, Outcome), LengthFault>
+        ensures ok { IsOk result ↔ IsMatchLength (match_length terms) }
+        ensures value { IfOk result (λ begun. SeatNodeRestarts K.is_honest
+            (fresh_seat_node player id terms (keeper_view K.Keeper keeper)) begun.1 (seat_node_of K.Keeper begun.0)) }
+    {
+        let mut node = SeatNode::fresh(alloc, player, id, terms, keeper)?;
+        let outcome = node.restart();
+        Ok((node, outcome))
+    }
+
+    /// The seat of a player in a match with no entry, which is up.
+    ///
+    /// # Errors
+    /// `LengthOutOfRange` where the length is not from 1 to 99.
+    pub(crate) fn fresh(
+        alloc: Global,
+        player: Player,
+        id: u64,
+        terms: Terms,
+        keeper: K,
+    ) -> Result<SeatNode<K>, LengthFault>
+        ensures ok { IsOk result ↔ IsMatchLength (match_length terms) }
+        ensures value { IfOk result (λ node. seat_node_of K.Keeper node
+            ≡ fresh_seat_node player id terms (keeper_view K.Keeper keeper)) }
+    {
+        let core = Seat::fresh(alloc, player, id, terms.length, terms.rules)?;
+        Ok(SeatNode {
+            alloc,
+            player,
+            id,
+            terms,
+            keeper,
+            core: Some(core),
+        })
+    }
+}
+
+impl<K: Keeper> SeatNode<K> {
+    ghost use Rattle.bg_world.specs.Nodes.{SeatNodeChooses, SeatNodeRestarts, SeatNodeSaves, SeatNodeTakes};
+    ghost use Rattle.bg_world.specs.Nodes.{SeatNodeTicks, seat_claim, seat_node_of};
+
+    /// The record; `None` exactly where it is down.
+    pub fn held(&self) -> Option<&Record>
+        ensures { option_copied result ≡ seat_log self.now.core }
+    {
+        match &self.core {
+            None => None,
+            Some(core) => Some(core.held()),
+        }
+    }
+
+    /// Its last claim: the number, from 1, of the entry that shall answer the action, and the action; `None` also where
+    /// it is down.
+    pub fn claim(&self) -> Option<(Number, Action)>
+        ensures { result ≡ seat_claim self.now.core }
+    {
+        match &self.core {
+            None => None,
+            Some(core) => core.claim(),
+        }
+    }
+
+    /// Claims what its player chooses.
+    pub fn choose(&mut self, action: Action) -> Outcome
+        ensures { SeatNodeChooses (seat_node_of K.Keeper self.old) action result (seat_node_of K.Keeper self.new) }
+    {
+        match &mut self.core {
+            None => Outcome::Down,
+            Some(core) => Outcome::Chose(core.choose(action)),
+        }
+    }
+
+    /// Takes what the link gives for this pick.
+    pub fn take<L: Link>(&mut self, link: &mut L, pick: u32) -> Outcome
+        ensures { SeatNodeTakes L.is_honest (link_view L.Link link.old) (seat_node_of K.Keeper self.old) pick
+            result (link_view L.Link link.new) (seat_node_of K.Keeper self.new) }
+    {
+        let party = party_of(self.player);
+        match &mut self.core {
+            None => Outcome::Down,
+            Some(core) => take_at_seat(link, party, core, pick),
+        }
+    }
+
+    /// Sends what its core gives. So many parties exist, from 0, the referee among them.
+    pub fn tick<L: Link>(&mut self, link: &mut L, parties: usize) -> Outcome
+        requires { 1 ≤ parties }
+        ensures { SeatNodeTicks L.is_honest parties (link_view L.Link link.old) (seat_node_of K.Keeper self.old)
+            result (link_view L.Link link.new) (seat_node_of K.Keeper self.new) }
+    {
+        match &mut self.core {
+            None => Outcome::Down,
+            Some(core) => tick_seat(link, parties, core),
+        }
+    }
+
+    /// Saves. It is down where the write fails.
+    pub fn save(&mut self) -> Outcome
+        ensures { SeatNodeSaves K.is_honest (seat_node_of K.Keeper self.old) result
+            (seat_node_of K.Keeper self.new) }
+    {
+        save_seat(&mut self.keeper, &mut self.core)
+    }
+
+    /// Gives up what it holds, and begins again from what its slots restore.
+    pub fn restart(&mut self) -> Outcome
+        ensures { SeatNodeRestarts K.is_honest (seat_node_of K.Keeper self.old) result
+            (seat_node_of K.Keeper self.new) }
+    {
+        let (alloc, player, id, terms) = (self.alloc, self.player, self.id, self.terms);
+        restart_seat(alloc, &mut self.keeper, &mut self.core, player, id, terms)
+    }
+}

@@ -1,0 +1,84 @@
+//! One who watches a match, by himself.
+ghost use Rattle.std.specs.Prelude.{◌≡◌, ◌≤◌, ◌↔◌, IsOk, IfOk};
+ghost use Rattle.bg_match.specs.Limits.{IsMatchLength};
+ghost use Rattle.bg_match.specs.Terms.{match_length};
+ghost use Rattle.bg_party.specs.Claims.{WatcherTicks};
+ghost use Rattle.bg_party.specs.Views.{fresh_watcher};
+ghost use Rattle.bg_wire.specs.Codes.{first_watcher};
+ghost use Rattle.bg_world.specs.Calls.{WatcherTakes};
+ghost use Rattle.bg_world.specs.LinkCalls.{FollowerTakeCalls, FollowerTickCalls};
+ghost use Rattle.bg_world.specs.Views.{link_view};
+
+use crate::takes::take_at_watcher;
+use crate::ticks::tick_watcher;
+use crate::{Link, Outcome};
+use bg_match::{LengthFault, Record, Terms};
+use bg_party::Watcher;
+use std::alloc::Global;
+use std::marker::Model;
+
+/// One who watches a match as a node of its own. It saves nothing and is never down: to restart it is to make a new
+/// one. A process that runs a watcher alone makes these calls, and a [`World`](crate::World) makes the same ones
+/// (docs/PROTOCOL.md, "Parties in processes of their own").
+///
+/// Contracts see its core.
+#[derive(Drop)]
+pub struct WatcherNode {
+    party: u8,
+    core: Watcher,
+    ghost numbered: { core.party ≡ party },
+}
+
+impl Model for WatcherNode {
+    ghost use Rattle.bg_party.specs.Views.{WatcherView};
+
+    ghost Value = { WatcherView };
+
+    ghost view = { λ n. n.core };
+}
+
+impl WatcherNode {
+    /// A watcher who holds no entry. `party` is its number, from 3.
+    ///
+    /// # Errors
+    /// `LengthOutOfRange` where the length is not from 1 to 99.
+    pub fn fresh(
+        alloc: Global,
+        party: u8,
+        id: u64,
+        terms: Terms,
+    ) -> Result<WatcherNode, LengthFault>
+        requires { first_watcher ≤ party }
+        ensures ok { IsOk result ↔ IsMatchLength (match_length terms) }
+        ensures value { IfOk result (λ node. node ≡ fresh_watcher party id terms) }
+    {
+        Ok(WatcherNode {
+            party,
+            core: Watcher::fresh(alloc, party, id, terms.length, terms.rules)?,
+        })
+    }
+
+    /// Its record.
+    pub fn held(&self) -> &Record
+        ensures { result.now ≡ self.now.follower.log }
+    {
+        self.core.held()
+    }
+
+    /// Takes what the link gives for this pick.
+    pub fn take<L: Link>(&mut self, link: &mut L, pick: u32) -> Outcome
+        ensures { FollowerTakeCalls WatcherTakes L.is_honest self.old.party (link_view L.Link link.old) self.old pick
+            result (link_view L.Link link.new) self.new }
+    {
+        take_at_watcher(link, self.party, &mut self.core, pick)
+    }
+
+    /// Sends what its core gives. So many parties exist, from 0, the referee among them.
+    pub fn tick<L: Link>(&mut self, link: &mut L, parties: usize) -> Outcome
+        requires { 1 ≤ parties }
+        ensures { FollowerTickCalls WatcherTicks L.is_honest parties (link_view L.Link link.old) self.old
+            result (link_view L.Link link.new) self.new }
+    {
+        tick_watcher(link, parties, &mut self.core)
+    }
+}
