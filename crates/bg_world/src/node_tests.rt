@@ -1,5 +1,7 @@
 //! Parties that are nodes of their own: rows of the worked matches, the same events through a world and through nodes,
 //! and how processes begin.
+ghost use Rattle.std.specs.Prelude.{◌<◌, ◌≤◌};
+
 use crate::row_tests::{THE_CLAIM_KEPT, THE_ROLL_LOST, TO_THE_ROLL, WITH_A_WATCHER};
 use crate::test_parties::{ID, Parties, TERMS, failing, keeper, same_world};
 use crate::test_rows::{
@@ -36,7 +38,10 @@ fn next(seed: &mut u32) -> u32 {
 }
 
 /// One of the first so many numbers.
-fn below(seed: &mut u32, count: u32) -> u32 {
+fn below(seed: &mut u32, count: u32) -> u32
+    requires { 1 ≤ count }
+    ensures { result < count }
+{
     next(seed) % count
 }
 
@@ -163,7 +168,7 @@ fn processes_begin(rt: HostRuntime) -> Result<(), Fail> {
     let text = text_of(&rt, alloc, ID, Rules::One);
     let another = text_of(&rt, alloc, ID + 1, Rules::One);
     let other_rules = text_of(&rt, alloc, ID, Rules::Two);
-    let torn = &text[..20];
+    let torn = text.get(..20).expect(&rt, "a text of 33 bytes");
     assert!(rt; referee_over(&rt, alloc, &[], &[])? == (Outcome::Restarted, Some(0)));
     assert!(rt; referee_over(&rt, alloc, &[], &text)? == (Outcome::Restarted, Some(1)));
     assert!(rt; referee_over(&rt, alloc, torn, &text)? == (Outcome::Restarted, Some(1)));

@@ -6,6 +6,7 @@ use crate::{
 };
 use bg_board::Player;
 use bg_match::{Action, Number, Record, Rules, Terms};
+use bg_wire::FIRST_WATCHER;
 use std::alloc::{AllocError, Global};
 use std::process::Abort;
 
@@ -47,6 +48,7 @@ pub(crate) fn keeper(
 
 /// A watcher of the match.
 fn watcher(rt: &impl Abort, alloc: Global, party: u8) -> WatcherNode {
+    assert!(rt; party >= FIRST_WATCHER);
     WatcherNode::fresh(alloc, party, ID, TERMS).expect(rt, "a length from 1 to 99")
 }
 
