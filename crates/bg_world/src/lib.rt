@@ -82,7 +82,7 @@ pub use laws::{
 };
 pub use memory_keeper::MemoryKeeper;
 pub use memory_net::MemoryNet;
-pub use notes::count_failed;
+pub use notes::{count_failed, note_taken};
 pub use outcome_texts::{outcome_text, outcome_texts_differ};
 pub use plans::{FailRead, FailSend, Plan, Tear};
 pub use roles::Role;
