@@ -1,6 +1,6 @@
 -- What a link in memory hands over.
-use Rattle.std.specs.Prelude.{ℕ, List, [], ◌∷◌, Option, Some, None, Result, Ok, Err, filter, length, min, slice_get, ◌==◌}
-use Rattle.std.specs.Prelude.{if◌then◌else◌}
+use Rattle.std.specs.Prelude.{ℕ, List, [], ◌∷◌, Option, Some, None, Result, Ok, Err, filter, length, min, slice_get}
+use Rattle.std.specs.Prelude.{◌==◌, if◌then◌else◌}
 use Rattle.arrayvec.specs.ArrayVec.{ArrayVec}
 use Rattle.bg_text.specs.declared.histories.History.{History}
 use Rattle.bg_wire.specs.declared.packets.Datagram.{Datagram}

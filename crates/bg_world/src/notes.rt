@@ -17,8 +17,8 @@ pub(crate) fn note_bytes(taken: &Option<ArrayVec<u8, 256>>) -> Option<History>
     }
 }
 
-/// What a take answered, as a link notes it for its `ghost taken`: the bytes that it gave, if any, or the fault. It takes
-/// no memory.
+/// What a take answered, as a link notes it for its `ghost taken`: the bytes that it gave, if any, or the fault. It
+/// takes no memory.
 pub fn note_taken(taken: &Taken) -> Result<Option<History>, DeviceFault>
     ensures { noted_answer result ≡ taken.now }
 {
