@@ -3,9 +3,10 @@ use Rattle.std.proofs.Common.{ℕ, Result, Ok, Err}
 use Rattle.bg_text.specs.declared.devices.Sink.{Ghosts as SinkGhosts}
 use Rattle.bg_world.specs.Views.{KeeperView, LinkView}
 use Rattle.bg_world.specs.declared.setups.Setup.{Setup}
-use Rattle.bg_relay.specs.RoundResults.{IsLoopResult, IsRoundsResult, start_moment}
-use Rattle.bg_relay.specs.declared.loop_faults.LoopFault.{LoopFault}
-use Rattle.bg_relay.specs.declared.loop_faults.LoopFault.TheVariants.{Memory, Socket, Stopped, World, Write}
+use Rattle.bg_auto.specs.RoundResults.{IsRoundsResult, start_moment}
+use Rattle.bg_auto.specs.declared.loop_faults.LoopFault.{LoopFault}
+use Rattle.bg_auto.specs.declared.loop_faults.LoopFault.TheVariants.{Memory, Socket, Stopped, World, Write}
+use Rattle.bg_relay.specs.LoopResults.{IsLoopResult}
 
 pub over_devices : {W : Type 0} (sink : SinkGhosts W) (setup : Setup) (rounds : ℕ) (link : LinkView) (r x o : KeeperView)
     (result : Result (Unit {0}) LoopFault) (before after : W)

@@ -1,11 +1,3 @@
 pub mod Show
 pub mod Ending
-pub mod Sockets
-pub mod Words
-pub mod AutoAction
-pub mod Attempts
-pub mod Schedule
-pub mod Rounds
-pub mod RoundResults
-pub mod Simulating
-pub mod FaultWords
+pub mod LoopResults

@@ -2,12 +2,11 @@
 
 use crate::endings::Ending;
 use crate::files::{read_saved, write_text};
-use crate::onlookers::Onlooker;
 use crate::printable::Printable;
 use crate::progress::Progress;
 use crate::showing::show_text;
-use crate::simulating::play_sim;
 use crate::{NO_MEMORY, failed};
+use bg_auto::{Onlooker, play_sim};
 use bg_match::{Number, Rules};
 use bg_text::{EngineFault, Reading, Writing, judge};
 use bg_world::{Event, Outcome, ScriptFault, Setup, script};
@@ -71,7 +70,7 @@ pub(crate) fn run_script(rt: &(impl Input + Print + Eprint + AllocGlobal), setup
     }
 }
 
-/// Plays an automatic match, and prints what [`sim_text`](simulating::sim_text) gives of it.
+/// Plays an automatic match, and prints what [`sim_text`](bg_auto::sim_text) gives of it.
 pub(crate) fn run_sim(
     rt: &(impl Clock + Print + Eprint + AllocGlobal),
     seed: u64,

@@ -1,13 +1,12 @@
 //! Devices of which one call fails.
 ghost use Rattle.std.specs.Prelude.{[], None, length};
 ghost use Rattle.bg_world.specs.Devices.{CountsFailed, HasCause};
+ghost use Rattle.bg_world.specs.Handed.{noted_answer};
 ghost use Rattle.bg_world.specs.Slots.{empty_slots};
-ghost use Rattle.bg_relay.specs.Sockets.{noted_answer};
 
-use crate::udp_links::note_taken;
 use bg_text::History;
 use bg_wire::{Datagram, Slot};
-use bg_world::{DeviceFault, Keeper, Link, Taken, count_failed};
+use bg_world::{DeviceFault, Keeper, Link, Taken, count_failed, note_taken};
 use std::cell::Cell;
 
 /// The calls of all devices of a match, of which one fails.

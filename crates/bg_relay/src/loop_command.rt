@@ -3,12 +3,12 @@
 use crate::arguments::rules_in;
 use crate::endings::Ending;
 use crate::folder_locks::FolderLock;
-use crate::loop_faults::LoopFault;
 use crate::loops::play_loop;
 use crate::operators::Operator;
 use crate::printable::Printable;
 use crate::progress::Progress;
 use crate::{failed, wrong};
+use bg_auto::LoopFault;
 use bg_text::Writing;
 use bg_world::WorldFault;
 use clap::ArgMatches;

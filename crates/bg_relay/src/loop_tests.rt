@@ -2,12 +2,10 @@
 use crate::failing_devices::{Calls, Failing};
 use crate::file_keepers::FileKeeper;
 use crate::files::read_saved;
-use crate::loop_faults::LoopFault;
 use crate::loops::run_loop;
-use crate::rounds::{PARTIES, run_rounds};
-use crate::sim_tests::check_no_growth_is_left;
-use crate::simulating::sim_text;
+use crate::tests::check_no_growth_is_left;
 use crate::udp_links::UdpLink;
+use bg_auto::{LoopFault, PARTIES, run_rounds, sim_text};
 use bg_match::{Entry, Number, Rules};
 use bg_text::{Writing, transcript_text};
 use bg_wire::{REFEREE, SEAT_OF_O, SEAT_OF_X, Saved, restore};

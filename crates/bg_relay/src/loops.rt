@@ -1,11 +1,10 @@
 //! A match between automatic players over UDP sockets and files.
-ghost use Rattle.bg_relay.specs.RoundResults.{IsLoopResult, setup_of};
+ghost use Rattle.bg_auto.specs.RoundResults.{setup_of};
+ghost use Rattle.bg_relay.specs.LoopResults.{IsLoopResult};
 
 use crate::file_keepers::FileKeeper;
-use crate::loop_faults::LoopFault;
-use crate::onlookers::{NoOnlooker, Onlooker};
-use crate::rounds::{PARTIES, play_rounds};
 use crate::udp_links::UdpLink;
+use bg_auto::{LoopFault, NoOnlooker, Onlooker, PARTIES, play_rounds};
 use bg_match::Rules;
 use bg_text::Sink;
 use bg_wire::{REFEREE, SEAT_OF_O, SEAT_OF_X};
@@ -14,7 +13,7 @@ use std::fs::File;
 use std::net::Net;
 use std::rt::Files;
 
-/// Plays a match of automatic players as [`run_rounds`](crate::rounds::run_rounds) does, over sockets on 127.0.0.1 and
+/// Plays a match of automatic players as [`run_rounds`](bg_auto::run_rounds) does, over sockets on 127.0.0.1 and
 /// the files of a folder (docs/OPERATING.md). Over the same folder, with the same seed, length and rules, it goes on
 /// where it was left.
 ///

@@ -3,12 +3,8 @@
 #![tactic(auto)]
 
 mod arguments;
-mod auto_actions;
-#[cfg(test)]
-mod auto_tests;
 mod commands;
 mod device_faults;
-mod dice_attempts;
 mod endings;
 #[cfg(test)]
 mod failing_devices;
@@ -22,11 +18,9 @@ mod folder_locks;
 #[cfg(test)]
 mod lock_tests;
 mod loop_command;
-mod loop_faults;
 #[cfg(test)]
 mod loop_tests;
 mod loops;
-mod onlookers;
 #[cfg(test)]
 mod operator_tests;
 mod operators;
@@ -37,21 +31,12 @@ mod printable;
 #[cfg(test)]
 mod printable_tests;
 mod progress;
-#[cfg(test)]
-mod recording_devices;
 mod reports;
-mod round_schedule;
-#[cfg(test)]
-mod round_tests;
-mod rounds;
 #[cfg(test)]
 mod rules_tests;
-mod schedule;
 mod showing;
 #[cfg(test)]
 mod sim_tests;
-mod simulating;
-mod simulation;
 #[cfg(test)]
 mod stand_ins;
 #[cfg(test)]
@@ -61,9 +46,12 @@ mod tests;
 mod udp_links;
 #[cfg(test)]
 mod udp_tests;
-mod words;
 
 use arguments::{MISPLACED_FILE, command, rules_in};
+pub use bg_auto::{
+    DiceAttempts, LoopFault, MemoryWorld, Simulation, auto_action, dice_word, event_of,
+    event_words, run_rounds, sim_text,
+};
 use bg_world::Setup;
 use clap::ArgMatches;
 use clap::error::ErrorKind;

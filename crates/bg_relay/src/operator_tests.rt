@@ -1,11 +1,11 @@
 //! What the operator of a match over sockets and files is told.
 use crate::files::read_saved;
 use crate::loops::play_loop;
-use crate::onlookers::Onlooker;
 use crate::operators::Operator;
 use crate::overheard::Overheard;
 use crate::progress::Progress;
 use crate::test_folders::new_folder;
+use bg_auto::Onlooker;
 use bg_match::{EntryFault, Number, Rules};
 use bg_party::Learned;
 use bg_referee::TakeOutcome;

@@ -1,8 +1,8 @@
 //! What the operator of a match over sockets and files is told while it is played.
 
-use crate::onlookers::{Onlooker, party_at};
 use crate::progress::Progress;
 use crate::say;
+use bg_auto::{Onlooker, party_at};
 use bg_match::Number;
 use bg_party::Learned;
 use bg_referee::TakeOutcome;

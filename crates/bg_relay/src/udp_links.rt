@@ -1,19 +1,19 @@
 //! UDP sockets that carry a match over the loopback address.
 ghost use Rattle.std.specs.Prelude.{◌≡◌, ◌⊎◌, [], None, length, IfErr};
-ghost use Rattle.bg_relay.specs.Sockets.{noted_answer};
 ghost use Rattle.bg_world.specs.Devices.{CountsFailed, HasCause};
+ghost use Rattle.bg_world.specs.Handed.{noted_answer};
 
 #[cfg(test)]
 mod tests;
 
 use crate::device_faults::fault_of;
-use crate::loop_faults::LoopFault;
 use crate::own_sockets::OwnSocket;
 use crate::reports::Reports;
 use crate::say;
+use bg_auto::LoopFault;
 use bg_text::History;
 use bg_wire::Datagram;
-use bg_world::{DeviceFault, Link, Taken, count_failed};
+use bg_world::{DeviceFault, Link, Taken, count_failed, note_taken};
 use std::io;
 use std::io::ErrorKind;
 use std::net::Net;
@@ -151,20 +151,9 @@ impl<'a, R: Eprint> UdpLink<'a, R> {
     }
 }
 
-/// What a take answered, for contracts alone.
-pub(crate) fn note_taken(taken: &Taken) -> Result<Option<History>, DeviceFault>
-    ensures { noted_answer result ≡ taken.now }
-{
-    match taken {
-        Ok(Some(bytes)) => Ok(Some(History::new().then(bytes.as_slice()))),
-        Ok(None) => Ok(None),
-        Err(fault) => Err(*fault),
-    }
-}
-
 impl<'a, R: Eprint> Link for UdpLink<'a, R> {
     ghost use Rattle.std.specs.Prelude.{None, []};
-    ghost use Rattle.bg_relay.specs.Sockets.{noted_answer};
+    ghost use Rattle.bg_world.specs.Handed.{noted_answer};
 
     // Nothing is said of honesty: so nothing of what was sent either.
     ghost is_honest = { ⊥ };

@@ -1,11 +1,11 @@
 //! Single calls of the sockets of a match.
 use crate::device_faults::fault_of;
-use crate::loop_faults::LoopFault;
 use crate::loops::run_loop;
 use crate::stand_ins::StandIn;
 use crate::test_folders::new_folder;
 use crate::udp_links::UdpLink;
 use arrayvec::ArrayVec;
+use bg_auto::LoopFault;
 use bg_match::Rules;
 use bg_text::Writing;
 use bg_wire::{Datagram, PacketBytes};

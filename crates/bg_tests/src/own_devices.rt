@@ -1,7 +1,7 @@
 //! Devices of one's own for a world: mail boxes in memory that carry the datagrams, and files that keep what is saved.
-ghost use Rattle.std.specs.Prelude.{◌≡◌, [], None, Ok, length};
+ghost use Rattle.std.specs.Prelude.{[], None, length};
 ghost use Rattle.bg_world.specs.Devices.{CountsFailed, HasCause};
-ghost use Rattle.bg_world.specs.Handed.{noted};
+ghost use Rattle.bg_world.specs.Handed.{noted_answer};
 ghost use Rattle.bg_world.specs.Slots.{empty_slots};
 
 use crate::slot_files::SlotFiles;
@@ -10,7 +10,7 @@ use bg_text::History;
 use bg_wire::{Datagram, FIRST_WATCHER, REFEREE, SEAT_OF_O, SEAT_OF_X, Slot};
 use bg_world::{
     DeviceFault, Event, Keeper, Keepers, Link, Outcome, Setup, Taken, World, WorldFault,
-    count_failed,
+    count_failed, note_taken,
 };
 use std::alloc::{AllocError, Global};
 use std::collections::VecDeque;
@@ -60,7 +60,7 @@ pub(crate) struct MailLink {
     takes: History,
     sends: History,
     faults: History,
-    taken: Option<History>,
+    taken: Result<Option<History>, DeviceFault>,
 }
 
 impl MailLink {
@@ -70,18 +70,8 @@ impl MailLink {
             takes: History::new(),
             sends: History::new(),
             faults: History::new(),
-            taken: None,
+            taken: Ok(None),
         })
-    }
-}
-
-/// What a take gave, for clauses alone.
-fn note_taken(taken: &Option<ArrayVec<u8, 256>>) -> Option<History>
-    ensures { noted result ≡ taken.now }
-{
-    match taken {
-        None => None,
-        Some(bytes) => Some(History::new().then(bytes.as_slice())),
     }
 }
 
@@ -99,7 +89,7 @@ impl Link for MailLink {
 
     ghost sends = { λ link. length link.sends.bytes };
 
-    ghost taken = { λ link. Ok (noted link.taken) };
+    ghost taken = { λ link. noted_answer link.taken };
 
     fn send(&mut self, datagram: &Datagram) -> Result<(), DeviceFault> {
         self.sends = self.sends.marked();
@@ -110,9 +100,9 @@ impl Link for MailLink {
 
     fn take(&mut self, party: u8, _pick: u32) -> Taken {
         self.takes = self.takes.marked();
-        let taken = self.mail.get(party);
+        let taken = Ok(self.mail.get(party));
         self.taken = note_taken(&taken);
-        Ok(taken)
+        taken
     }
 }
 

@@ -1,4 +1,5 @@
 //! The lines of use that stand in each library's documentation, run (`tools/check_uses` compares them).
+use bg_auto::{auto_action, dice_word, sim_text};
 use bg_board::{Board, Die, Player, Step};
 use bg_match::{Action, Actor, Entry, Level, Record, Rules};
 use bg_party::{Learned, Seat};
@@ -144,6 +145,24 @@ fn worlds(rt: HostRuntime) -> Result<(), Fail> {
     assert!(rt; report.done == 2 && report.faults == 0);
     let outcome = world.step(parse_event(b"tick 1")?);
     assert!(rt; outcome == Outcome::Sent(1) && outcome_text(&outcome).as_str() == "sent 1");
+    // end
+    Ok(())
+}
+
+#[test]
+fn automatic_players(rt: HostRuntime) -> Result<(), Fail> {
+    let alloc = rt.alloc();
+    // bg_auto
+    // Match 7, of length 3 and with one watcher, after 2,000 events in memory.
+    let text = sim_text(alloc, 7, 3, Rules::One, 1, 2000)?;
+    assert!(rt; text.starts_with(b"length 3\nopen 6 3\nX move "));
+    // In a match of one's own: the dice of its first entry, and what the players do after it.
+    let mut record = Record::new(alloc, 7, 3, Rules::One)?;
+    let dice = dice_of(dice_word(7, 1, 0)).expect(&rt, "all words but the last four have dice");
+    record.push(Entry::Opening(dice.first, dice.second))?;
+    let action = auto_action(alloc, &record, Player::X)?;
+    assert!(rt; matches!(action, Some(Action::Move(_))));
+    assert!(rt; auto_action(alloc, &record, Player::O)?.is_none());
     // end
     Ok(())
 }

@@ -1,8 +1,10 @@
 -- What a link in memory hands over.
-use Rattle.std.specs.Prelude.{ℕ, List, [], ◌∷◌, Option, Some, None, filter, length, min, slice_get, ◌==◌, if◌then◌else◌}
+use Rattle.std.specs.Prelude.{ℕ, List, [], ◌∷◌, Option, Some, None, Result, Ok, Err, filter, length, min, slice_get}
+use Rattle.std.specs.Prelude.{◌==◌, if◌then◌else◌}
 use Rattle.arrayvec.specs.ArrayVec.{ArrayVec}
 use Rattle.bg_text.specs.declared.histories.History.{History}
 use Rattle.bg_wire.specs.declared.packets.Datagram.{Datagram}
+use Rattle.bg_world.specs.declared.devices.DeviceFault.{DeviceFault}
 
 -- the datagrams that were sent to the party, the oldest first
 abbrev pub sent_to : ℕ → List Datagram → List Datagram
@@ -36,3 +38,8 @@ handed sent party pick =
 abbrev pub noted : Option History → Option (ArrayVec ℕ)
 noted None = None
 noted (Some history) = Some (record { items = history.bytes })
+
+-- the answer of a take that was noted
+abbrev pub noted_answer : Result (Option History) DeviceFault → Result (Option (ArrayVec ℕ)) DeviceFault
+noted_answer (Ok found) = Ok (noted found)
+noted_answer (Err fault) = Err fault

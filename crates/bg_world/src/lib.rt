@@ -90,7 +90,7 @@ pub use memory_keeper::MemoryKeeper;
 pub use memory_net::MemoryNet;
 pub(crate) use nodes::Watchers;
 pub use nodes::{RefereeNode, SeatNode, WatcherNode};
-pub use notes::count_failed;
+pub use notes::{count_failed, note_taken};
 pub use outcome_texts::{outcome_text, outcome_texts_differ};
 pub use plans::{FailRead, FailSend, Plan, Tear};
 pub use roles::Role;

@@ -3,7 +3,7 @@ ghost use Rattle.std.specs.Prelude.{◌≡◌, [], length, min, Ok, None};
 ghost use Rattle.bg_world.specs.Handed.{count_to, handed};
 ghost use Rattle.bg_world.specs.Plan.{SendsBy};
 
-use crate::notes::{count_failed, note_taken};
+use crate::notes::{count_failed, note_bytes};
 use crate::plans::find_failure;
 use crate::sent_datagrams::SentDatagrams;
 use crate::{DeviceFault, FailSend, Link, Taken};
@@ -125,7 +125,7 @@ impl Link for MemoryNet {
     fn take(&mut self, party: u8, pick: u32) -> Taken {
         self.takes = self.takes.marked();
         let taken = hand_over(&self.sent, party, pick);
-        self.taken = note_taken(&taken);
+        self.taken = note_bytes(&taken);
         Ok(taken)
     }
 }

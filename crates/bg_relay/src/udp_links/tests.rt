@@ -2,11 +2,10 @@
 use super::UdpLink;
 use crate::file_keepers::FileKeeper;
 use crate::loops::run_loop;
-use crate::onlookers::Onlooker;
 use crate::overheard::Overheard;
-use crate::rounds::{PARTIES, play_rounds};
 use crate::test_folders::new_folder;
 use arrayvec::ArrayVec;
+use bg_auto::{Onlooker, PARTIES, play_rounds};
 use bg_match::{Number, Rules};
 use bg_text::Writing;
 use bg_wire::{Datagram, PacketBytes, REFEREE, SEAT_OF_O, SEAT_OF_X, decode};

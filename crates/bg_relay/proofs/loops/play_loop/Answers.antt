@@ -1,4 +1,4 @@
-use Rattle.bg_relay.specs.RoundResults.{setup_of}
+use Rattle.bg_auto.specs.RoundResults.{setup_of}
 use Rattle.bg_relay.proofs.LoopResults.{over_devices}
 use Rattle.bg_relay.proofs.loops.play_loop.Goals as goal
 

@@ -1,0 +1,4 @@
+pub mod SomeTurn
+pub mod AutoActions
+pub mod Schedules
+pub mod PlayingParts

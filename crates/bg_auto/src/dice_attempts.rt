@@ -1,0 +1,100 @@
+//! At which attempt the referee is handed a word for its next entry.
+ghost use Rattle.std.specs.Prelude.{◌≡◌, option_copied};
+ghost use Rattle.bg_auto.specs.Attempts.{Notes, held_entries, restarts_referee as is_restart};
+ghost use Rattle.bg_auto.specs.Attempts.{was_in_vain as is_in_vain, word_for};
+ghost use Rattle.bg_world.specs.Calls.{Calls};
+ghost use Rattle.bg_world.specs.Roles.{role};
+ghost use Rattle.bg_world.specs.Starts.{held_of};
+ghost use Rattle.bg_world.specs.World.{view_of};
+
+use crate::words::next_dice_word;
+use bg_match::{Number, Record};
+use bg_referee::{DueFault, TakeOutcome};
+use bg_wire::REFEREE;
+use bg_world::{Event, Keeper, Link, Outcome, World};
+
+/// How many words in a row gave the referee nothing for its next entry (docs/FORMATS.md, "Random words").
+#[derive(Clone, Copy, Debug, PartialEq, Eq)]
+pub struct DiceAttempts {
+    /// How many entries the referee holds; `None` where it is down.
+    pub held: Option<Number>,
+    /// The attempt at the next entry, from 0.
+    pub attempt: u16,
+}
+
+impl DiceAttempts {
+    /// The first attempt where the referee holds so many entries.
+    pub fn first(held: Option<Number>) -> DiceAttempts
+        ensures { result ≡ record { held = held; attempt = 0 } }
+    {
+        DiceAttempts { held, attempt: 0 }
+    }
+
+    /// The word that the referee is handed: that of its next entry at this attempt, or 0 where it is down.
+    pub fn word(self, seed: u64) -> u32
+        ensures { result ≡ word_for seed self.held self.attempt }
+    {
+        match self.held {
+            None => 0,
+            Some(entries) => next_dice_word(seed, entries, self.attempt),
+        }
+    }
+
+    /// The attempt after an event: the first where it restarted the referee, or the referee holds another number of
+    /// entries, else the next (the first after the last) where the word was in vain, else the same.
+    pub fn after(self, restarted: bool, outcome: &Outcome, held: Option<Number>) -> DiceAttempts
+        ensures { Notes self restarted outcome.now held result }
+    {
+        if restarted || held != self.held {
+            return DiceAttempts::first(held);
+        }
+        if !was_in_vain(outcome) {
+            return self;
+        }
+        DiceAttempts {
+            held,
+            attempt: self.attempt.wrapping_add(1),
+        }
+    }
+
+    /// Lets an event happen to a world, and notes the attempt after it.
+    pub fn step<L: Link, K: Keeper>(&mut self, world: &mut World<L, K>, event: Event) -> Outcome
+        ensures calls { Calls L.is_honest K.is_honest (view_of L.Link K.Keeper world.old) event result
+            (view_of L.Link K.Keeper world.new) }
+        ensures notes { Notes self.old (is_restart event) result
+            (held_entries (held_of (view_of L.Link K.Keeper world.new) (role 0))) self.new }
+    {
+        let restarted = restarts_referee(&event);
+        let outcome = world.step(event);
+        *self = self.after(restarted, &outcome, entries_of(world.held(REFEREE)));
+        outcome
+    }
+}
+
+/// Whether the event restarts the referee.
+fn restarts_referee(event: &Event) -> bool
+    ensures { result ≡ is_restart event.now }
+{
+    matches!(event, Event::Restart { party: REFEREE })
+}
+
+/// How many entries a party holds that is up.
+pub(crate) fn entries_of(held: Option<&Record>) -> Option<Number>
+    ensures { result ≡ held_entries (option_copied held.entry) }
+{
+    match held {
+        None => None,
+        Some(record) => Some(record.len()),
+    }
+}
+
+/// Whether the word that was handed in gave no entry: it has no dice, or they are equal and open no game.
+fn was_in_vain(outcome: &Outcome) -> bool
+    ensures { result ≡ is_in_vain outcome.now }
+{
+    matches!(
+        outcome,
+        Outcome::Due(Err(DueFault::WordRefused | DueFault::EqualOpening))
+            | Outcome::Took(TakeOutcome::WordRefused)
+    )
+}

@@ -1,0 +1,176 @@
+//! Automatic matches.
+use crate::auto_actions::auto_action;
+use crate::simulating::sim_text;
+use bg_board::{Die, Player};
+use bg_match::{Action, Entry, Record, Rules};
+use bg_text::{EngineFault, Verdict, judge_text};
+use bg_world::{ScriptFault, WorldFault};
+use std::alloc::{AllocError, Global};
+use std::process::Abort;
+use std::str;
+use std::test::Fail;
+
+/// No event, length 1, one watcher.
+const NOTHING_HAPPENED: &str = "length 1
+party 0: 0 entries
+party 1: 0 entries
+party 2: 0 entries
+party 3: 0 entries
+length 1 game 1 score 0-0 cube 1 middle crawford
+  13  14  15  16  17  18  19  20  21  22  23  24
+  X5   .   .   .  O3   .  O5   .   .   .   .  X2
+  O5   .   .   .  X3   .  X5   .   .   .   .  O2
+  12  11  10   9   8   7   6   5   4   3   2   1
+bar X 0 O 0 off X 0 O 0
+opening
+";
+
+/// Seed 2047, length 1, one watcher, 24 events.
+const AFTER_24_EVENTS: &str = "length 1
+open 6 4
+party 0: 1 entries
+party 1: 0 entries
+party 2: 1 entries
+party 3: 0 entries
+length 1 game 1 score 0-0 cube 1 middle crawford
+  13  14  15  16  17  18  19  20  21  22  23  24
+  X5   .   .   .  O3   .  O5   .   .   .   .  X2
+  O5   .   .   .  X3   .  X5   .   .   .   .  O2
+  12  11  10   9   8   7   6   5   4   3   2   1
+bar X 0 O 0 off X 0 O 0
+X to move 6 4
+";
+
+#[test]
+fn nothing_happens_without_events(rt: HostRuntime) -> Result<(), Fail> {
+    let text = sim_text(rt.alloc(), 1, 1, Rules::One, 1, 0)?;
+    assert!(rt; text.as_slice() == NOTHING_HAPPENED.as_bytes());
+    Ok(())
+}
+
+#[test]
+fn refused_matches(rt: HostRuntime) {
+    let too_many = ScriptFault::World(WorldFault::TooManyWatchers);
+    let no_length = ScriptFault::World(WorldFault::LengthOutOfRange);
+    assert!(rt; sim_text(rt.alloc(), 1, 1, Rules::One, 254, 0) == Err(too_many));
+    assert!(rt; sim_text(rt.alloc(), 1, 0, Rules::One, 255, 1) == Err(too_many));
+    assert!(rt; sim_text(rt.alloc(), 1, 0, Rules::One, 0, 1) == Err(no_length));
+    assert!(rt; sim_text(rt.alloc(), 1, 100, Rules::One, 253, 1) == Err(no_length));
+    assert!(rt; sim_text(rt.alloc(), u64::MAX, 99, Rules::One, 253, 1).is_ok());
+}
+
+/// No party counts more entries than the referee, which comes first.
+fn check_parties(rt: &impl Abort, text: &str) -> Result<(), Fail> {
+    let mut most = None;
+    for line in text.lines() {
+        let Some(rest) = line.strip_prefix("party ") else {
+            continue;
+        };
+        let (_, entries) = rest.split_once(": ").ok_or("no colon")?;
+        let entries: u32 = entries
+            .strip_suffix(" entries")
+            .ok_or("no entries")?
+            .parse()?;
+        assert!(rt; entries <= most.unwrap_or(entries));
+        most = most.or(Some(entries));
+    }
+    Ok(())
+}
+
+/// The transcript of an automatic match by these rules, which is good.
+fn transcript_of(
+    rt: &(impl AllocGlobal + Abort),
+    seed: u64,
+    rules: Rules,
+    watchers: u8,
+    steps: u32,
+) -> Result<Vec<u8>, Fail> {
+    let text = sim_text(rt.alloc(), seed, 3, rules, watchers, steps)?;
+    let text = str::from_utf8(&text)?;
+    assert!(rt; text.matches("party ").count() == 3 + usize::from(watchers));
+    check_parties(rt, text)?;
+    let (transcript, _) = text.split_once("party 0: ").ok_or("no parties")?;
+    let judgement = judge_text(rt.alloc(), transcript.as_bytes())?;
+    assert!(rt; matches!(judgement.verdict, Verdict::Fine(_)));
+    Ok(transcript.as_bytes().to_vec(rt.alloc())?)
+}
+
+/// One begins with the other.
+fn check_one_match(rt: &impl Abort, left: &[u8], right: &[u8]) {
+    assert!(rt; left.starts_with(right) || right.starts_with(left));
+}
+
+/// Whether of five matches by these rules somebody moves: the seed and the length alone decide what their entries are,
+/// and the rest how many there are.
+fn moves_by_seed_and_length(rt: &(impl AllocGlobal + Abort), rules: Rules) -> Result<bool, Fail> {
+    let mut moved = false;
+    for seed in 1..=5 {
+        let short = transcript_of(rt, seed, rules, 1, 200)?;
+        let long = transcript_of(rt, seed, rules, 1, 2000)?;
+        let watched = transcript_of(rt, seed, rules, 5, 2000)?;
+        check_one_match(rt, &short, &long);
+        check_one_match(rt, &short, &watched);
+        check_one_match(rt, &long, &watched);
+        moved = moved || str::from_utf8(&long)?.contains(" move ");
+    }
+    Ok(moved)
+}
+
+#[test]
+fn entries_by_the_first_rules(rt: HostRuntime) -> Result<(), Fail> {
+    assert!(rt; moves_by_seed_and_length(&rt, Rules::One)?);
+    Ok(())
+}
+
+#[test]
+fn entries_by_the_second_rules(rt: HostRuntime) -> Result<(), Fail> {
+    assert!(rt; moves_by_seed_and_length(&rt, Rules::Two)?);
+    Ok(())
+}
+
+/// Fails where the growth that comes next is refused: so `tools/refuse_growths` learns how many came before.
+fn check_no_growth_is_left(alloc: Global) -> Result<(), Fail> {
+    match Vec::<u8>::with_capacity(alloc, 1) {
+        Ok(_) => Ok(()),
+        Err(AllocError) => Err(Fail::from("no growth is left")),
+    }
+}
+
+/// What comes of the match of this test, in which one growth may be refused, and then again.
+fn sim_text_at_last(rt: &(impl AllocGlobal + Abort), steps: u32) -> Result<Vec<u8>, Fail> {
+    let (no_memory, no_world) = (
+        ScriptFault::Engine(EngineFault::Memory),
+        ScriptFault::World(WorldFault::Memory),
+    );
+    match sim_text(rt.alloc(), 2047, 1, Rules::One, 1, steps) {
+        Ok(text) => Ok(text),
+        Err(fault) => {
+            assert!(rt; fault == no_memory || fault == no_world);
+            Ok(sim_text(rt.alloc(), 2047, 1, Rules::One, 1, steps)?)
+        }
+    }
+}
+
+/// Want of memory ends an automatic match of 24 events. No run of the tests refuses any, but `tools/refuse_growths`
+/// refuses each growth in turn.
+#[test]
+fn refused_growths_of_a_match(rt: HostRuntime) -> Result<(), Fail> {
+    let text = sim_text_at_last(&rt, 24)?;
+    assert!(rt; text.as_slice() == AFTER_24_EVENTS.as_bytes());
+    check_no_growth_is_left(rt.alloc())
+}
+
+/// An automatic player lacks memory for nothing but the list of legal turns.
+#[test]
+fn refused_growths_of_an_action(rt: HostRuntime) -> Result<(), Fail> {
+    let mut record = Record::new(rt.alloc(), 1, 1, Rules::One)?;
+    if record.push(Entry::Opening(Die::Three, Die::One)).is_err() {
+        record.push(Entry::Opening(Die::Three, Die::One))?;
+    }
+    let action = match auto_action(rt.alloc(), &record, Player::X) {
+        Ok(action) => action,
+        Err(AllocError) => auto_action(rt.alloc(), &record, Player::X)?,
+    };
+    assert!(rt; matches!(action, Some(Action::Move(_))));
+    check_no_growth_is_left(rt.alloc())
+}

@@ -1,0 +1,174 @@
+//! Automatic matches in memory.
+ghost use Rattle.std.specs.Prelude.{◌≡◌, IfOk, MatchResult, OnOk};
+ghost use Rattle.bg_match.specs.Terms.{terms_of};
+ghost use Rattle.bg_auto.specs.Simulating.{HappensAs, IsPrinted, IsSimFault, IsSimStart, IsSimText, Runs};
+ghost use Rattle.bg_auto.specs.Simulating.{setup_of, wants_memory as is_wanting};
+ghost use Rattle.bg_world.specs.Simulations.{memory_view};
+ghost use Rattle.bg_world.specs.Starts.{IsWorldFault};
+ghost use Rattle.bg_world.specs.State.{IsSetup};
+
+use crate::dice_attempts::DiceAttempts;
+use crate::onlookers::{NoOnlooker, Onlooker};
+use crate::schedule::event_of;
+use crate::simulation::Simulation;
+use crate::words::event_words;
+use bg_match::Rules;
+use bg_text::{EngineFault, transcript_text};
+use bg_wire::REFEREE;
+use bg_world::{Outcome, Plan, ScriptFault, Setup, WorldFault, final_text, simulate};
+use std::alloc::{AllocError, Global};
+
+impl Simulation {
+    /// The start of the match that has the seed as its number.
+    ///
+    /// # Errors
+    /// As of [`World::new`](bg_world::World::new).
+    pub fn new(
+        alloc: Global,
+        seed: u64,
+        length: u8,
+        rules: Rules,
+        watchers: u8,
+    ) -> Result<Simulation, WorldFault>
+        ensures start { IfOk result (λ start. IsSimStart (setup_of seed length rules watchers) start) }
+        ensures refusal { MatchResult result (λ _. IsSetup seed (terms_of length rules) watchers)
+            (λ fault. IsWorldFault fault (setup_of seed length rules watchers)) }
+    {
+        let setup = Setup {
+            id: seed,
+            length,
+            rules,
+            watchers,
+        };
+        let no_failures = Plan {
+            tears: Vec::new(alloc),
+            sends: Vec::new(alloc),
+            reads: Vec::new(alloc),
+        };
+        let (world, _) = simulate(alloc, setup, &no_failures, &[])?;
+        Ok(Simulation {
+            alloc,
+            seed,
+            watchers,
+            world,
+            dice: DiceAttempts::first(Some(0)),
+        })
+    }
+
+    /// Lets the event of this index happen, from 0 (docs/PROTOCOL.md, "Automatic matches").
+    ///
+    /// # Errors
+    /// AllocError where memory was wanted: the match can't go on.
+    pub fn step(&mut self, index: u32) -> Result<(), AllocError>
+        ensures { OnOk result (HappensAs self.old index self.new) }
+    {
+        let (a, b) = event_words(self.seed, index);
+        let word = self.dice.word(self.seed);
+        let event = event_of(self.alloc, &self.world, self.watchers, word, a, b)?;
+        let outcome = self.dice.step(&mut self.world, event);
+        if wants_memory(&outcome) {
+            return Err(AllocError);
+        }
+        Ok(())
+    }
+
+    /// Lets so many events happen, in order.
+    ///
+    /// # Errors
+    /// AllocError where memory was wanted: the match can't go on.
+    fn run<O: Onlooker>(&mut self, steps: u32, onlooker: &mut O) -> Result<(), AllocError>
+        ensures { OnOk result (Runs steps self.old self.new) }
+    {
+        for index in 0..steps {
+            self.step(index)?;
+            onlooker.played(index + 1);
+        }
+        Ok(())
+    }
+
+    /// The text after so many events.
+    fn text_after<O: Onlooker>(
+        &mut self,
+        steps: u32,
+        onlooker: &mut O,
+    ) -> Result<Vec<u8>, AllocError>
+        ensures runs { OnOk result (Runs steps self.old self.new) }
+        ensures printed { IfOk result (λ text. IsPrinted (memory_view self.new.world) text.items) }
+    {
+        self.run(steps, onlooker)?;
+        self.text()
+    }
+
+    /// The transcript of the referee's record, and then the final text.
+    ///
+    /// # Errors
+    /// AllocError where memory runs out.
+    pub fn text(&self) -> Result<Vec<u8>, AllocError>
+        ensures { IfOk result (λ text. IsPrinted (memory_view self.now.world) text.items) }
+    {
+        let mut text = match self.world.held(REFEREE) {
+            None => Vec::new(self.alloc),
+            Some(record) => transcript_text(self.alloc, record)?,
+        };
+        text.extend_from_slice(&final_text(&self.world)?)?;
+        Ok(text)
+    }
+}
+
+/// Whether memory was wanted: over devices in memory that never fail, a save fails for nothing else.
+fn wants_memory(outcome: &Outcome) -> bool
+    ensures { result ≡ is_wanting outcome.now }
+{
+    match outcome {
+        Outcome::SaveFault => true,
+        other => other.wants_memory(),
+    }
+}
+
+/// What an automatic match prints that has the seed as its number, after so many events: the transcript of the
+/// referee's record, and then the final text (docs/PROTOCOL.md, "Automatic matches").
+///
+/// # Errors
+/// `World` where there is no such world, by the first test that fails of [`World::new`](bg_world::World::new). `Engine`
+/// with `Memory` where memory runs out after the world is made.
+pub fn sim_text(
+    alloc: Global,
+    seed: u64,
+    length: u8,
+    rules: Rules,
+    watchers: u8,
+    steps: u32,
+) -> Result<Vec<u8>, ScriptFault>
+    ensures text { IfOk result (λ text. IsSimText seed length rules watchers steps text.items) }
+    ensures refusal { MatchResult result (λ _. IsSetup seed (terms_of length rules) watchers)
+        (λ fault. IsSimFault fault (setup_of seed length rules watchers)) }
+{
+    play_sim(alloc, seed, length, rules, watchers, steps, &mut NoOnlooker)
+}
+
+/// The same as [`sim_text`], with one who looks on: who is told how many events are played, and not what they came to.
+///
+/// # Errors
+/// Those of [`sim_text`].
+pub fn play_sim<O: Onlooker>(
+    alloc: Global,
+    seed: u64,
+    length: u8,
+    rules: Rules,
+    watchers: u8,
+    steps: u32,
+    onlooker: &mut O,
+) -> Result<Vec<u8>, ScriptFault>
+    ensures text { IfOk result (λ text. IsSimText seed length rules watchers steps text.items) }
+    ensures refusal { MatchResult result (λ _. IsSetup seed (terms_of length rules) watchers)
+        (λ fault. IsSimFault fault (setup_of seed length rules watchers)) }
+{
+    let mut simulation = match Simulation::new(alloc, seed, length, rules, watchers) {
+        Ok(simulation) => simulation,
+        Err(fault) => return Err(ScriptFault::World(fault)),
+    };
+    match simulation.text_after(steps, onlooker) {
+        Ok(text) => Ok(text),
+        Err(AllocError) => Err(ScriptFault::Engine(EngineFault::Memory)),
+    }
+}

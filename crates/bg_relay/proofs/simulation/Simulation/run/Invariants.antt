@@ -1,5 +1,0 @@
-use Rattle.bg_relay.specs.Simulating.{Runs}
-use Rattle.bg_relay.proofs.simulation.Simulation.run.Given as goal
-
-abbrev pub invariant-loop-index : goal.invariant-loop-index
-invariant-loop-index g l = Runs l.index l.fn.self l.self
