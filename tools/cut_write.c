@@ -1,4 +1,5 @@
-/* To be preloaded: cuts a write to a file of a party, and kills the process there, so that the file is torn.
+/* To be preloaded: cuts a write to a file of a party or of the match, and kills the process there, so that the file is
+ * torn.
  * CUT_WRITE is the number of the write, from 1, and CUT_SHARE how many 255ths of its bytes are written: 0 leaves the
  * file empty, 255 writes all. */
 #define _GNU_SOURCE
@@ -12,13 +13,18 @@
 
 #define MOST_FILES 1024
 
-static char is_party[MOST_FILES];
+static char is_kept[MOST_FILES];
 static long writes;
 
 static long number(const char *name)
 {
     const char *text = getenv(name);
     return text ? atol(text) : 0;
+}
+
+static int has_kept_name(const char *path)
+{
+    return strstr(path, "/party-") || strstr(path, "/secret") || strstr(path, "/match");
 }
 
 int open(const char *path, int flags, ...)
@@ -30,14 +36,14 @@ int open(const char *path, int flags, ...)
     va_end(more);
     int file = real(path, flags, mode);
     if (file >= 0 && file < MOST_FILES)
-        is_party[file] = (flags & O_ACCMODE) == O_WRONLY && strstr(path, "/party-") != NULL;
+        is_kept[file] = (flags & O_ACCMODE) == O_WRONLY && has_kept_name(path);
     return file;
 }
 
 ssize_t write(int file, const void *bytes, size_t count)
 {
     ssize_t (*real)(int, const void *, size_t) = dlsym(RTLD_NEXT, "write");
-    if (file >= 0 && file < MOST_FILES && is_party[file] && ++writes == number("CUT_WRITE")) {
+    if (file >= 0 && file < MOST_FILES && is_kept[file] && ++writes == number("CUT_WRITE")) {
         size_t kept = count * number("CUT_SHARE") / 255;
         if (kept > 0 && real(file, bytes, kept) < 0)
             abort();

@@ -1,5 +1,5 @@
 -- At which attempt the referee is handed a word for its next entry.
-use Rattle.std.specs.Prelude.{◌≡◌, ◌≢◌, ◌⊎◌, ◌==◌, ℕ, ◌+◌, ◌%◌, length, Bool, true, false}
+use Rattle.std.specs.Prelude.{◌≡◌, ◌≢◌, ◌⊎◌, ◌==◌, ℕ, ◌+◌, ◌%◌, List, length, Bool, true, false}
 use Rattle.std.specs.Prelude.{if◌then◌else◌, Option, Some, None, Err}
 use Rattle.bg_referee.specs.declared.outcomes.DueFault.TheVariants as due
 use Rattle.bg_referee.specs.declared.outcomes.TakeOutcome.TheVariants as take
@@ -9,7 +9,7 @@ use Rattle.bg_world.specs.declared.events.Event.TheVariants.{Restart}
 use Rattle.bg_world.specs.declared.events.Outcome.{Outcome}
 use Rattle.bg_world.specs.declared.events.Outcome.TheVariants.{Due, Took}
 use Rattle.bg_auto.specs.declared.dice_attempts.DiceAttempts.{DiceAttempts}
-use Rattle.bg_auto.specs.Words.{attempts, dice_word}
+use Rattle.bg_auto.specs.Words.{attempts, key_bytes, keyed_dice_word}
 
 -- the word gave no entry: it has no dice, or they are equal and open no game
 abbrev pub was_in_vain : Outcome → Bool
@@ -40,7 +40,11 @@ pub record Notes
   pub first : (restarted ≡ true) ⊎ (held ≢ old.held) → new.attempt ≡ 0
   pub next : restarted ≡ false → held ≡ old.held → new.attempt ≡ attempt_after old.attempt outcome
 
--- the word that is handed in where the referee holds so many entries: 0 where it is down
+-- the word that is handed in where the referee holds so many entries, by the bytes of a key: 0 where it is down; and by
+-- the key of a seed
+abbrev pub keyed_word_for : List ℕ → Option ℕ → ℕ → ℕ
+keyed_word_for key None attempt = 0
+keyed_word_for key (Some entries) attempt = keyed_dice_word key (entries + 1) attempt
+
 abbrev pub word_for : ℕ → Option ℕ → ℕ → ℕ
-word_for seed None attempt = 0
-word_for seed (Some entries) attempt = dice_word seed (entries + 1) attempt
+word_for seed held attempt = keyed_word_for (key_bytes seed) held attempt

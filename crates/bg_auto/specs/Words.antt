@@ -18,17 +18,23 @@ schedule_stream = 2
 abbrev pub key_bytes : ℕ → List ℕ
 key_bytes seed = to_be_bytes w64 seed ++ replicate 24 0
 
--- the word at a place, from 0, of a stream
+-- the word at a place, from 0, of a stream, for the 32 bytes of a key; and for the key of a seed
+abbrev pub keyed_word : List ℕ → ℕ → ℕ → ℕ
+keyed_word key stream place = word_at double_rounds (key_of key) stream place
+
 abbrev pub word_of : ℕ → ℕ → ℕ → ℕ
-word_of seed stream place = word_at double_rounds (key_of (key_bytes seed)) stream place
+word_of seed stream place = keyed_word (key_bytes seed) stream place
 
 -- each entry has so many places, one for each attempt
 abbrev pub attempts : ℕ
 attempts = 65536
 
--- the word for the dice of entry n at an attempt, from 0
+-- the word for the dice of entry n at an attempt, from 0, for the bytes of a key; and for the key of a seed
+abbrev pub keyed_dice_word : List ℕ → ℕ → ℕ → ℕ
+keyed_dice_word key n attempt = keyed_word key dice_stream (attempts * n + attempt)
+
 abbrev pub dice_word : ℕ → ℕ → ℕ → ℕ
-dice_word seed n attempt = word_of seed dice_stream (attempts * n + attempt)
+dice_word seed n attempt = keyed_dice_word (key_bytes seed) n attempt
 
 -- the two words that choose event i, from 0
 abbrev pub event_words : ℕ → ℕ → ℕ × ℕ

@@ -1,13 +1,13 @@
 //! At which attempt the referee is handed a word for its next entry.
 ghost use Rattle.std.specs.Prelude.{◌≡◌, option_copied};
 ghost use Rattle.bg_auto.specs.Attempts.{Notes, held_entries, restarts_referee as is_restart};
-ghost use Rattle.bg_auto.specs.Attempts.{was_in_vain as is_in_vain, word_for};
+ghost use Rattle.bg_auto.specs.Attempts.{keyed_word_for, was_in_vain as is_in_vain, word_for};
 ghost use Rattle.bg_world.specs.Calls.{Calls};
 ghost use Rattle.bg_world.specs.Roles.{role};
 ghost use Rattle.bg_world.specs.Starts.{held_of};
 ghost use Rattle.bg_world.specs.World.{view_of};
 
-use crate::words::next_dice_word;
+use crate::words::{key_of_seed, next_dice_word};
 use bg_match::{Number, Record};
 use bg_referee::{DueFault, TakeOutcome};
 use bg_wire::REFEREE;
@@ -34,9 +34,17 @@ impl DiceAttempts {
     pub fn word(self, seed: u64) -> u32
         ensures { result ≡ word_for seed self.held self.attempt }
     {
+        self.keyed_word(&key_of_seed(seed))
+    }
+
+    /// The same, by the bytes of a key that is no seed's: of a match whose dice nobody can foresee, the key is a secret
+    /// (docs/FORMATS.md, "Random words").
+    pub fn keyed_word(self, key: &[u8; 32]) -> u32
+        ensures { result ≡ keyed_word_for key.now self.held self.attempt }
+    {
         match self.held {
             None => 0,
-            Some(entries) => next_dice_word(seed, entries, self.attempt),
+            Some(entries) => next_dice_word(key, entries, self.attempt),
         }
     }
 

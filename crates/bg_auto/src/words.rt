@@ -1,7 +1,8 @@
 //! The random words of an automatic match.
 ghost use Rattle.std.specs.Prelude.{◌≡◌, ◌<◌, ◌≤◌, ◌+◌, ◌^◌};
 ghost use Rattle.rand_chacha.specs.ChaCha.{ChaCha, key_of};
-ghost use Rattle.bg_auto.specs.Words.{dice_word as word_of_dice, event_words as words_of_event, key_bytes, word_of};
+ghost use Rattle.bg_auto.specs.Words.{dice_word as word_of_dice, event_words as words_of_event, key_bytes};
+ghost use Rattle.bg_auto.specs.Words.{keyed_dice_word};
 
 use bg_match::Number;
 use rand_chacha::ChaCha20Rng;
@@ -21,43 +22,50 @@ const ATTEMPTS: u128 = 65536;
 pub fn dice_word(seed: u64, n: u32, attempt: u16) -> u32
     ensures { result ≡ word_of_dice seed n attempt }
 {
-    dice_word_at(seed, n.into(), attempt)
+    dice_word_at(&key_of_seed(seed), n.into(), attempt)
 }
 
-/// The word for the entry behind so many, at this attempt.
-pub(crate) fn next_dice_word(seed: u64, entries: Number, attempt: u16) -> u32
-    ensures { result ≡ word_of_dice seed (entries + 1) attempt }
+/// The word for the entry behind so many, at this attempt, by the bytes of a key.
+pub(crate) fn next_dice_word(key: &[u8; 32], entries: Number, attempt: u16) -> u32
+    ensures { result ≡ keyed_dice_word key.now (entries + 1) attempt }
 {
-    dice_word_at(seed, u64::from(entries) + 1, attempt)
+    dice_word_at(key, u64::from(entries) + 1, attempt)
 }
 
 /// The word for the entry of a number that may be one above those of 32 bits.
-fn dice_word_at(seed: u64, n: u64, attempt: u16) -> u32
+fn dice_word_at(key: &[u8; 32], n: u64, attempt: u16) -> u32
     requires { n ≤ 2 ^ 32 }
-    ensures { result ≡ word_of_dice seed n attempt }
+    ensures { result ≡ keyed_dice_word key.now n attempt }
 {
     let place = ATTEMPTS * u128::from(n) + u128::from(attempt);
-    words_from(seed, DICE_STREAM, place).next_word()
+    words_from(key, DICE_STREAM, place).next_word()
 }
 
 /// The two words that choose the event of this index, from 0 (docs/FORMATS.md, "Random words").
 pub fn event_words(seed: u64, index: u32) -> (u32, u32)
     ensures { result ≡ words_of_event seed index }
 {
-    let mut words = words_from(seed, SCHEDULE_STREAM, 2 * u128::from(index));
+    let mut words = words_from(&key_of_seed(seed), SCHEDULE_STREAM, 2 * u128::from(index));
     let a = words.next_word();
     let b = words.next_word();
     (a, b)
 }
 
-/// The words of a stream of a seed, from a place on.
-fn words_from(seed: u64, stream: u64, place: u128) -> ChaCha20Rng
-    requires { place < 2 ^ 68 }
-    ensures { result ≡ record { key = key_of (key_bytes seed); stream = stream; word_pos = place } }
+/// The bytes of the key of a seed.
+pub(crate) fn key_of_seed(seed: u64) -> [u8; 32]
+    ensures { result ≡ key_bytes seed }
 {
     let mut key = [0; 32];
     key[..8].copy_from_slice(&seed.to_be_bytes());
-    let mut words = ChaCha20Rng::from_seed(key);
+    key
+}
+
+/// The words of a stream of a key, from a place on.
+fn words_from(key: &[u8; 32], stream: u64, place: u128) -> ChaCha20Rng
+    requires { place < 2 ^ 68 }
+    ensures { result ≡ record { key = key_of key.now; stream = stream; word_pos = place } }
+{
+    let mut words = ChaCha20Rng::from_seed(*key);
     words.set_stream(stream);
     words.set_word_pos(place);
     words

@@ -1,2 +1,1 @@
-pub mod LoopResults
 pub mod HeldFiles

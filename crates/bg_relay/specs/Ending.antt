@@ -3,7 +3,7 @@ use Rattle.std.specs.Prelude.{ℕ, true, false}
 use Rattle.bg_text.specs.declared.verdicts.Verdict.TheVariants.{Fine, Refused, TooLong}
 use Rattle.bg_relay.specs.declared.endings.Ending.{Ending}
 use Rattle.bg_relay.specs.declared.endings.Ending.TheVariants.{Told, WrongArguments, Judged, Played, Simulated}
-use Rattle.bg_relay.specs.declared.endings.Ending.TheVariants.{Shown, Failed}
+use Rattle.bg_relay.specs.declared.endings.Ending.TheVariants.{Shown, Served, ActionRefused, Failed}
 
 -- the command was done, and has nothing to refuse
 abbrev pub done : ℕ
@@ -27,6 +27,8 @@ status_of (Played (Fine events)) = done
 status_of (Played (Refused line)) = refused
 status_of (Played TooLong) = refused
 status_of Simulated = done
+status_of Served = done
+status_of ActionRefused = refused
 status_of (Shown true) = done
 status_of (Shown false) = refused
 status_of Failed = failed

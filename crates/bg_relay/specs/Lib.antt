@@ -1,3 +1,3 @@
 pub mod Show
 pub mod Ending
-pub mod LoopResults
+pub mod Acting

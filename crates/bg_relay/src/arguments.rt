@@ -1,5 +1,8 @@
 //! The command line.
 
+use crate::match_arguments::{
+    act_command, auto_command, new_command, play_command, referee_command, watch_command,
+};
 use bg_match::{LONGEST_MATCH, Rules, SHORTEST_MATCH};
 use bg_world::MOST_WATCHERS;
 use clap::{Arg, ArgMatches, Command, Error, value_parser};
@@ -55,7 +58,13 @@ pub(crate) fn command<'a>(alloc: Global) -> Result<Command<'a>, Error> {
             .subcommand(show_command(alloc)?)?
             .subcommand(script_command(alloc)?)?
             .subcommand(sim_command(alloc)?)?
-            .subcommand(loop_command(alloc)?)?,
+            .subcommand(loop_command(alloc)?)?
+            .subcommand(new_command(alloc)?)?
+            .subcommand(referee_command(alloc)?)?
+            .subcommand(play_command(alloc)?)?
+            .subcommand(act_command(alloc)?)?
+            .subcommand(auto_command(alloc)?)?
+            .subcommand(watch_command(alloc)?)?,
     )
 }
 
@@ -189,7 +198,7 @@ fn seed_option<'a>(alloc: Global) -> Arg<'a> {
         .help("What the random words go by, and the number of the match: 0 to 18446744073709551615")
 }
 
-fn length_option<'a>(alloc: Global) -> Arg<'a> {
+pub(crate) fn length_option<'a>(alloc: Global) -> Arg<'a> {
     Arg::new(alloc, "length")
         .long("length")
         .value_name("N")
@@ -198,7 +207,7 @@ fn length_option<'a>(alloc: Global) -> Arg<'a> {
         .help("The length of the match, in points: 1 to 99")
 }
 
-fn rules_option<'a>(alloc: Global) -> Arg<'a> {
+pub(crate) fn rules_option<'a>(alloc: Global) -> Arg<'a> {
     Arg::new(alloc, "rules")
         .long("rules")
         .value_name("N")

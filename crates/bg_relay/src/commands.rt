@@ -1,17 +1,16 @@
 //! The commands that read standard input or files, and those that print a text that is made in memory.
 
 use crate::endings::Ending;
-use crate::files::{read_saved, write_text};
-use crate::printable::Printable;
-use crate::progress::Progress;
 use crate::showing::show_text;
 use crate::{NO_MEMORY, failed};
 use bg_auto::{Onlooker, play_sim};
 use bg_match::{Number, Rules};
+use bg_processes::{Printable, Progress, read_saved};
 use bg_text::{EngineFault, Reading, Writing, judge};
 use bg_world::{Event, Outcome, ScriptFault, Setup, script};
 use std::fs::File;
 use std::io;
+use std::io::Write;
 use std::rt::Files;
 use std::time::Clock;
 
@@ -138,4 +137,11 @@ pub(crate) fn run_show(
         Ok(()) => Ending::Shown { loads },
         Err(error) => failed(rt, format_args!("the output could not be written: {error}")),
     }
+}
+
+/// Writes a text to the standard output.
+fn write_text(rt: &impl Print, text: &[u8]) -> io::Result<()> {
+    let mut output = io::writer(rt);
+    output.write_all(text)?;
+    output.flush()
 }

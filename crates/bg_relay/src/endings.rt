@@ -26,6 +26,10 @@ pub enum Ending {
     Played(Verdict),
     /// An automatic match was played.
     Simulated,
+    /// A match was made, or the process of a party did what it was started for.
+    Served,
+    /// An action was refused, and nothing was claimed.
+    ActionRefused,
     /// Two saved files were shown; whether one of them loads.
     Shown { loads: bool },
     /// Reading, writing or memory failed.
@@ -40,11 +44,13 @@ impl Ending {
         match self {
             Ending::Told
             | Ending::Simulated
+            | Ending::Served
             | Ending::Judged(Verdict::Fine(_))
             | Ending::Played(Verdict::Fine(_))
             | Ending::Shown { loads: true } => DONE,
             Ending::Failed => FAILED,
             Ending::WrongArguments
+            | Ending::ActionRefused
             | Ending::Judged(Verdict::Refused(_) | Verdict::TooLong)
             | Ending::Played(Verdict::Refused(_) | Verdict::TooLong)
             | Ending::Shown { loads: false } => REFUSED,

@@ -1,19 +1,16 @@
 //! The command that plays a match over sockets and files.
 
 use crate::arguments::rules_in;
+use crate::beginnings::lock_of;
 use crate::endings::Ending;
-use crate::folder_locks::FolderLock;
-use crate::loops::play_loop;
-use crate::operators::Operator;
-use crate::printable::Printable;
-use crate::progress::Progress;
 use crate::{failed, wrong};
 use bg_auto::LoopFault;
+use bg_processes::{Operator, Printable, Progress, play_loop};
 use bg_text::Writing;
 use bg_world::WorldFault;
 use clap::ArgMatches;
 use std::fmt::Display;
-use std::fs::{File, TryLockError};
+use std::fs::File;
 use std::net::Net;
 use std::rt::Files;
 use std::time::Clock;
@@ -39,14 +36,9 @@ where
         Ok(_) => return wrong(rt, format_args!("{shown} is no folder")),
         Err(error) => return wrong(rt, format_args!("{shown} can't be used: {error}")),
     }
-    let _lock = match FolderLock::take(rt, folder) {
+    let _lock = match lock_of(rt, folder) {
         Ok(lock) => lock,
-        Err(TryLockError::WouldBlock) => {
-            return failed(rt, format_args!("another process plays over {shown}"));
-        }
-        Err(TryLockError::Error(error)) => {
-            return failed(rt, format_args!("{shown} could not be locked: {error}"));
-        }
+        Err(ending) => return ending,
     };
     let mut output = Writing::new(io::writer(rt));
     let mut operator = Operator::new(rt, progress, rounds);
@@ -77,7 +69,7 @@ where
 }
 
 /// What ended the match is a line of its own kind, and is said with nothing before it (docs/OPERATING.md, "Messages").
-fn failed_barely<D: Display + Drop>(rt: &impl Eprint, line: D) -> Ending {
+pub(crate) fn failed_barely<D: Display + Drop>(rt: &impl Eprint, line: D) -> Ending {
     let _ = rt.eprintln(line);
     Ending::Failed
 }

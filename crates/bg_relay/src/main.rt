@@ -2,72 +2,60 @@
 //! memory or over sockets and files.
 #![tactic(auto)]
 
+mod act_command;
+mod answers;
 mod arguments;
+mod auto_command;
+mod beginnings;
 mod commands;
-mod device_faults;
 mod endings;
 #[cfg(test)]
-mod failing_devices;
-#[cfg(test)]
-mod file_keeper_tests;
-mod file_keepers;
-#[cfg(test)]
-mod file_tests;
-mod files;
-mod folder_locks;
-#[cfg(test)]
-mod lock_tests;
+mod kept_output;
 mod loop_command;
-#[cfg(test)]
-mod loop_tests;
-mod loops;
-#[cfg(test)]
-mod operator_tests;
-mod operators;
-#[cfg(test)]
-mod overheard;
-mod own_sockets;
-mod printable;
-#[cfg(test)]
-mod printable_tests;
-mod progress;
-mod reports;
+mod match_arguments;
+mod new_command;
+mod play_command;
+mod referee_command;
 #[cfg(test)]
 mod rules_tests;
+mod seats;
 mod showing;
 #[cfg(test)]
 mod sim_tests;
-#[cfg(test)]
-mod stand_ins;
-#[cfg(test)]
-mod test_folders;
+mod tellings;
 #[cfg(test)]
 mod tests;
-mod udp_links;
-#[cfg(test)]
-mod udp_tests;
+mod typed_lines;
+mod watch_command;
 
+use act_command::run_act;
 use arguments::{MISPLACED_FILE, command, rules_in};
+use auto_command::run_auto;
 pub use bg_auto::{
     DiceAttempts, LoopFault, MemoryWorld, Simulation, auto_action, dice_word, event_of,
     event_words, run_rounds, sim_text,
 };
+pub use bg_processes::{FileKeeper, UdpLink, run_loop};
+use bg_processes::{PrintableLines, Progress, say};
 use bg_world::Setup;
 use clap::ArgMatches;
 use clap::error::ErrorKind;
 use commands::{run_judge, run_script, run_show, run_sim};
 use endings::Ending;
 use loop_command::run_loop_command;
-use printable::PrintableLines;
-use progress::Progress;
+use new_command::run_new;
+use play_command::run_play;
+use referee_command::run_referee;
 use std::fmt::Display;
 use std::fs::File;
 use std::io;
 use std::io::IsTerminal;
 use std::net::Net;
 use std::process::ExitCode;
+use std::random::RandomSource;
 use std::rt::Files;
 use std::time::Clock;
+use watch_command::run_watch;
 
 /// The number of the match that scripts play.
 const SCRIPTED_MATCH: u64 = 1;
@@ -98,11 +86,6 @@ fn run(rt: &HostRuntime) -> Ending {
         Ok(matches) => run_command(rt, &matches, rt.stderr().is_terminal()),
         Err(error) => answer(rt, &error),
     }
-}
-
-/// Says on the standard error what is wrong. Where that cannot be written, there is nobody to tell.
-pub(crate) fn say<D: Display + Drop>(rt: &impl Eprint, message: D) {
-    let _ = eprintln!(rt; "bg_relay: {message}");
 }
 
 /// Reading, writing or memory failed.
@@ -137,7 +120,14 @@ fn answer(rt: &(impl Print + Eprint + AllocGlobal), error: &clap::Error) -> Endi
 
 /// Runs a subcommand; somebody may watch the standard error.
 fn run_command(
-    rt: &(impl Input + Files<File = File> + Net + Clock + Print + Eprint + AllocGlobal),
+    rt: &(impl Input
+        + Files<File = File>
+        + Net
+        + Clock
+        + RandomSource
+        + Print
+        + Eprint
+        + AllocGlobal),
     matches: &ArgMatches<'_>,
     is_watched: bool,
 ) -> Ending {
@@ -193,6 +183,12 @@ fn run_command(
         Some(("loop", options)) => {
             run_loop_command(rt, options, Progress::start(rt, is_watched))
         }
+        Some(("new", options)) => run_new(rt, options),
+        Some(("referee", options)) => { run_referee(rt, options, Progress::start(rt, is_watched)) }
+        Some(("play", options)) => run_play(rt, options),
+        Some(("act", options)) => run_act(rt, options, is_watched),
+        Some(("auto", options)) => run_auto(rt, options, is_watched),
+        Some(("watch", options)) => run_watch(rt, options, is_watched),
         _ => wrong(rt, "no such command"),
     }
 }

@@ -17,7 +17,7 @@ use std::{fs, io};
 const MATCH: u64 = 1;
 
 /// A new folder among those that do not last.
-fn new_folder(rt: &HostRuntime, name: &str) -> io::Result<String> {
+pub(crate) fn new_folder(rt: &HostRuntime, name: &str) -> io::Result<String> {
     let process = std::process::id(rt.process());
     let temp = std::env::temp_dir(rt)?;
     let folder = format!(in rt.alloc(); "{}/bg_tests-{process}-{name}", temp.as_str())?;

@@ -11,7 +11,17 @@ mod fronts;
 #[cfg(test)]
 mod host_tests;
 #[cfg(test)]
+mod lone_followers;
+#[cfg(test)]
+mod lone_referee;
+#[cfg(test)]
+mod lone_table;
+#[cfg(test)]
+mod lone_tests;
+#[cfg(test)]
 mod own_devices;
+#[cfg(test)]
+mod post_link;
 #[cfg(test)]
 mod random_runs;
 #[cfg(test)]

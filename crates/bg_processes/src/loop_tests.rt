@@ -2,8 +2,8 @@
 use crate::failing_devices::{Calls, Failing};
 use crate::file_keepers::FileKeeper;
 use crate::files::read_saved;
+use crate::growth_tests::check_no_growth_is_left;
 use crate::loops::run_loop;
-use crate::tests::check_no_growth_is_left;
 use crate::udp_links::UdpLink;
 use bg_auto::{LoopFault, PARTIES, run_rounds, sim_text};
 use bg_match::{Entry, Number, Rules};

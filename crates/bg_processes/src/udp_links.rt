@@ -1,7 +1,6 @@
 //! UDP sockets that carry a match over the loopback address.
 ghost use Rattle.std.specs.Prelude.{◌≡◌, ◌⊎◌, [], None, length, IfErr};
 ghost use Rattle.bg_world.specs.Devices.{CountsFailed, HasCause};
-ghost use Rattle.bg_world.specs.Handed.{noted_answer};
 
 #[cfg(test)]
 mod tests;

@@ -1,18 +1,18 @@
-//! Saved files, and the standard output.
+//! Saved files.
 use bg_wire::LONGEST_SAVED_TEXT;
 use std::fs::File;
 use std::io;
-use std::io::{Read, Write};
+use std::io::Read;
 use std::rt::Files;
 
 /// The most bytes that are read of a saved file: one more than the longest saved text has.
 const MOST_SAVED_BYTES: u64 = LONGEST_SAVED_TEXT as u64 + 1;
 
 /// The bytes of a saved file, as far as a saved text goes, and none where it is missing.
-pub(crate) fn read_saved(
-    rt: &(impl Files<File = File> + AllocGlobal),
-    path: &str,
-) -> io::Result<Vec<u8>> {
+///
+/// # Errors
+/// Why the file could not be opened or read.
+pub fn read_saved(rt: &(impl Files<File = File> + AllocGlobal), path: &str) -> io::Result<Vec<u8>> {
     let mut bytes = Vec::new(rt.alloc());
     match File::open(rt, path) {
         Ok(file) => {
@@ -22,11 +22,4 @@ pub(crate) fn read_saved(
         Err(error) => return Err(error),
     }
     Ok(bytes)
-}
-
-/// Writes a text to the standard output.
-pub(crate) fn write_text(rt: &impl Print, text: &[u8]) -> io::Result<()> {
-    let mut output = io::writer(rt);
-    output.write_all(text)?;
-    output.flush()
 }

@@ -1,5 +1,4 @@
-//! A runtime that stands in for the system's: it has so many sockets and no more, opens files or none, and keeps what
-//! is printed.
+//! A runtime that stands in for the system's: it has so many sockets and no more, and opens files or none.
 use std::alloc::{Alloc, Allocator, Global};
 use std::cell::{Cell, RefCell};
 use std::fmt::Display;
@@ -25,7 +24,6 @@ pub(crate) struct StandIn<'a> {
     sockets: RefCell<Vec<UdpSocket>>,
     /// How many lines were said.
     pub(crate) said: Cell<u32>,
-    printed: RefCell<Vec<u8>>,
 }
 
 impl<'a> StandIn<'a> {
@@ -38,7 +36,6 @@ impl<'a> StandIn<'a> {
             bound: RefCell::new(Vec::new(rt.alloc())),
             sockets: RefCell::new(Vec::new(rt.alloc())),
             said: Cell::new(0),
-            printed: RefCell::new(Vec::new(rt.alloc())),
         }
     }
 
@@ -73,11 +70,6 @@ impl<'a> StandIn<'a> {
         }
     }
 
-    /// What was printed.
-    pub(crate) fn into_printed(self) -> Vec<u8> {
-        self.printed.into_inner()
-    }
-
     /// Keeps the address and another handle of a socket.
     fn keep(&self, address: SocketAddr, socket: &UdpSocket) -> io::Result<()> {
         let (Ok(mut bound), Ok(mut sockets)) = (
@@ -108,23 +100,6 @@ impl<'a> Eprint for StandIn<'a> {
     fn eprintln<D: Display + Drop>(&self, _value: D) -> io::Result<()> {
         self.said.set(self.said.get().saturating_add(1));
         Ok(())
-    }
-}
-
-impl<'a> Print for StandIn<'a> {
-    fn print<D: Display + Drop>(&self, _value: D) -> io::Result<()> {
-        Err(io::Error::from(ErrorKind::Unsupported))
-    }
-
-    fn println<D: Display + Drop>(&self, _value: D) -> io::Result<()> {
-        Err(io::Error::from(ErrorKind::Unsupported))
-    }
-
-    fn write_all(&self, bytes: &[u8]) -> io::Result<()> {
-        match self.printed.try_borrow_mut() {
-            Ok(mut printed) => Ok(printed.extend_from_slice(bytes)?),
-            Err(_) => Err(io::Error::from(ErrorKind::ResourceBusy)),
-        }
     }
 }
 

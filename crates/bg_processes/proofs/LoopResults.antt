@@ -6,7 +6,7 @@ use Rattle.bg_world.specs.declared.setups.Setup.{Setup}
 use Rattle.bg_auto.specs.RoundResults.{IsRoundsResult, start_moment}
 use Rattle.bg_auto.specs.declared.loop_faults.LoopFault.{LoopFault}
 use Rattle.bg_auto.specs.declared.loop_faults.LoopFault.TheVariants.{Memory, Socket, Stopped, World, Write}
-use Rattle.bg_relay.specs.LoopResults.{IsLoopResult}
+use Rattle.bg_processes.specs.LoopResults.{IsLoopResult}
 
 pub over_devices : {W : Type 0} (sink : SinkGhosts W) (setup : Setup) (rounds : ℕ) (link : LinkView) (r x o : KeeperView)
     (result : Result (Unit {0}) LoopFault) (before after : W)

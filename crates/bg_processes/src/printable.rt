@@ -6,7 +6,7 @@ use std::fmt::{Display, Formatter, Write};
 /// The name of a file or a folder as messages show it: what can't be printed stands there as its escape, a line feed as
 /// `\n` and a terminal's escape character as `\u{1b}`. A backslash and a double quote have a backslash before them.
 #[derive(Clone, Copy)]
-pub(crate) struct Printable<'a>(pub(crate) &'a str);
+pub struct Printable<'a>(pub &'a str);
 
 impl<'a> Display for Printable<'a> {
     fn fmt<W: Write>(&self, f: &mut Formatter<W>) -> fmt::Result {
@@ -22,7 +22,7 @@ impl<'a> Display for Printable<'a> {
 
 /// Lines of which each is shown as a name is.
 #[derive(Clone, Copy)]
-pub(crate) struct PrintableLines<'a>(pub(crate) &'a str);
+pub struct PrintableLines<'a>(pub &'a str);
 
 impl<'a> Display for PrintableLines<'a> {
     fn fmt<W: Write>(&self, f: &mut Formatter<W>) -> fmt::Result {

@@ -1,6 +1,6 @@
 use Rattle.bg_auto.specs.RoundResults.{setup_of}
-use Rattle.bg_relay.proofs.LoopResults.{over_devices}
-use Rattle.bg_relay.proofs.loops.play_loop.Goals as goal
+use Rattle.bg_processes.proofs.LoopResults.{over_devices}
+use Rattle.bg_processes.proofs.loops.play_loop.Goals as goal
 
 pub returns : goal.returns
 returns g c =

@@ -6,7 +6,7 @@ use std::rt::Files;
 /// That no other process plays over a folder (docs/OPERATING.md, "Files"). It lasts until it is dropped, and no longer
 /// than the process, however that ends. The lock is on the folder itself, so that nothing is left in it.
 #[derive(Drop)]
-pub(crate) struct FolderLock {
+pub struct FolderLock {
     _folder: File,
 }
 
@@ -15,10 +15,7 @@ impl FolderLock {
     ///
     /// # Errors
     /// `WouldBlock` where another holds its lock; else why it could not be opened or locked.
-    pub(crate) fn take(
-        rt: &impl Files<File = File>,
-        folder: &str,
-    ) -> Result<FolderLock, TryLockError> {
+    pub fn take(rt: &impl Files<File = File>, folder: &str) -> Result<FolderLock, TryLockError> {
         let opened = File::open(rt, folder).map_err(TryLockError::Error)?;
         opened.try_lock()?;
         Ok(FolderLock { _folder: opened })

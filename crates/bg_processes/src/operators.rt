@@ -2,13 +2,11 @@
 
 use crate::progress::Progress;
 use crate::say;
+use crate::witnesses::Witness;
 use bg_auto::{Onlooker, party_at};
 use bg_match::Number;
-use bg_party::Learned;
-use bg_referee::TakeOutcome;
 use bg_wire::REFEREE;
-use bg_world::{Event, Outcome, outcome_text};
-use std::fmt::Display;
+use bg_world::{Event, Outcome};
 use std::time::Clock;
 
 /// The parties that save: the referee and the seats.
@@ -24,49 +22,37 @@ enum Saves {
 
 /// The operator, who is told on the standard error how the match goes on (docs/OPERATING.md, "Messages").
 #[derive(Drop)]
-pub(crate) struct Operator<'a, R> {
+pub struct Operator<'a, R> {
     rt: &'a R,
     progress: Progress,
     /// How many rounds there are in all.
     rounds: u32,
     /// How many entries the referee held last.
     referee: Number,
-    /// Whether it was said that the parties can't go on together.
-    warned: bool,
+    witness: Witness<'a, R>,
     saves: [Saves; SAVING],
 }
 
 impl<'a, R: Clock + Eprint> Operator<'a, R> {
     /// Of a match of which nothing happened yet.
-    pub(crate) fn new(rt: &'a R, progress: Progress, rounds: u32) -> Operator<'a, R> {
+    pub fn new(rt: &'a R, progress: Progress, rounds: u32) -> Operator<'a, R> {
         Operator {
             rt,
             progress,
             rounds,
             referee: 0,
-            warned: false,
+            witness: Witness::new(rt),
             saves: [Saves::Untried; SAVING],
         }
     }
 
     /// The match is over: names the parties that saved, and never with success.
-    pub(crate) fn end(&self) {
+    pub fn end(&self) {
         for (party, saves) in self.saves.iter().enumerate() {
             if *saves == Saves::Failed {
                 say(self.rt, format_args!("no save of party {party} succeeded"));
             }
         }
-    }
-
-    /// Says once that the files of the parties are not of one age, and by what that was seen.
-    fn warn<D: Display + Drop>(&mut self, sign: D) {
-        if !self.warned {
-            say(
-                self.rt,
-                format_args!("the files of the parties do not belong together: {sign}"),
-            );
-        }
-        self.warned = true;
     }
 
     /// What a save came to.
@@ -85,7 +71,7 @@ impl<'a, R: Clock + Eprint> Operator<'a, R> {
     fn restarted(&mut self, party: u8, held: Number) {
         if held > self.referee {
             let referee = self.referee;
-            self.warn(format_args!(
+            self.witness.warn(format_args!(
                 "party {party} has {held} entries saved, the referee {referee}"
             ));
         }
@@ -103,22 +89,10 @@ impl<'a, R: Clock + Eprint> Onlooker for Operator<'a, R> {
             Event::Restart { party: _ } => self.restarted(party, held.unwrap_or_default()),
             _ => {}
         }
-        if is_out_of_step(outcome) {
-            let line = outcome_text(outcome);
-            self.warn(format_args!("at party {party}: {}", line.as_str()));
-        }
+        self.witness.happened(event, outcome, held);
     }
 
     fn played(&mut self, done: u32) {
         self.progress.tell(self.rt, "rounds", done, self.rounds);
     }
-}
-
-/// Whether a packet was refused that no party sends whose slots have what was last written to them.
-fn is_out_of_step(outcome: &Outcome) -> bool {
-    matches!(
-        outcome,
-        Outcome::Took(TakeOutcome::Ahead | TakeOutcome::NotYourTurn | TakeOutcome::Illegal(_))
-            | Outcome::Learned(Learned::Conflict(_) | Learned::Illegal(_))
-    )
 }

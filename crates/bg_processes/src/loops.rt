@@ -1,6 +1,6 @@
 //! A match between automatic players over UDP sockets and files.
 ghost use Rattle.bg_auto.specs.RoundResults.{setup_of};
-ghost use Rattle.bg_relay.specs.LoopResults.{IsLoopResult};
+ghost use Rattle.bg_processes.specs.LoopResults.{IsLoopResult};
 
 use crate::file_keepers::FileKeeper;
 use crate::udp_links::UdpLink;
@@ -44,7 +44,7 @@ pub fn run_loop<R: Net + Files<File = File> + AllocGlobal + Eprint, W: Sink>(
 }
 
 /// The same, with one who looks on.
-pub(crate) fn play_loop<R, W: Sink, O: Onlooker>(
+pub fn play_loop<R, W: Sink, O: Onlooker>(
     rt: &R,
     seed: u64,
     length: u8,

@@ -1,0 +1,135 @@
+//! Waits for a socket, and for standard input.
+
+use mio::unix::SourceFd;
+use mio::{Events, Interest, Poll, Registry, Token};
+use std::io;
+use std::io::ErrorKind;
+use std::net::Net;
+use std::os::fd::RawFd;
+use std::time::Duration;
+
+const SOCKET: Token = Token(0);
+
+const INPUT: Token = Token(1);
+
+const STANDARD_INPUT: RawFd = 0;
+
+/// What can be read without waiting.
+#[derive(Clone, Copy, Debug, PartialEq, Eq)]
+pub struct Ready {
+    /// The socket has a datagram.
+    pub socket: bool,
+    /// Standard input has bytes, or has ended.
+    pub input: bool,
+}
+
+/// How standard input is waited for.
+#[derive(Clone, Copy, Debug, PartialEq, Eq)]
+enum Input {
+    /// It is not.
+    Unused,
+    /// It is a pipe or a terminal.
+    Watched,
+    /// It is a file, or another thing that can always be read.
+    Always,
+}
+
+/// A socket, and perhaps standard input, for which a process waits without using the processor. The poll tells of what
+/// has become ready since its source was registered, so each wait registers them anew: then one read after each report
+/// never blocks, and what a read leaves is told again. Descriptor 0 stays as it is, since a shell and other processes
+/// share it.
+#[derive(Drop)]
+pub struct Waiting {
+    poll: Poll,
+    events: Events,
+    socket: RawFd,
+    input: Input,
+}
+
+fn watch(registry: &Registry, descriptor: RawFd, token: Token) -> io::Result<()> {
+    registry.register(&mut SourceFd(&descriptor), token, Interest::READABLE)
+}
+
+fn watch_again(registry: &Registry, descriptor: RawFd, token: Token) -> io::Result<()> {
+    registry.reregister(&mut SourceFd(&descriptor), token, Interest::READABLE)
+}
+
+impl Waiting {
+    /// For this socket, and for standard input if that is wanted.
+    ///
+    /// # Errors
+    /// Why the system gives no poll, or does not register one of them.
+    pub fn new(
+        rt: &(impl Net + AllocGlobal),
+        socket: RawFd,
+        with_input: bool,
+    ) -> io::Result<Waiting> {
+        let poll = Poll::new(rt)?;
+        watch(poll.registry(), socket, SOCKET)?;
+        let input = if with_input {
+            match watch(poll.registry(), STANDARD_INPUT, INPUT) {
+                Ok(()) => Input::Watched,
+                Err(error) if error.kind() == ErrorKind::PermissionDenied => Input::Always,
+                Err(error) => return Err(error),
+            }
+        } else {
+            Input::Unused
+        };
+        Ok(Waiting {
+            poll,
+            events: Events::with_capacity(rt.alloc(), 4)?,
+            socket,
+            input,
+        })
+    }
+
+    /// Standard input has ended, and is not waited for any more.
+    pub fn forget_input(&mut self) {
+        if self.input == Input::Watched {
+            let _ = self
+                .poll
+                .registry()
+                .deregister(&mut SourceFd(&STANDARD_INPUT));
+        }
+        self.input = Input::Unused;
+    }
+
+    /// Waits until something can be read, at most so long.
+    ///
+    /// # Errors
+    /// Why the system does not wait; a signal does not count.
+    pub fn wait(&mut self, most: Duration) -> io::Result<Ready> {
+        watch_again(self.poll.registry(), self.socket, SOCKET)?;
+        if self.input == Input::Watched {
+            watch_again(self.poll.registry(), STANDARD_INPUT, INPUT)?;
+        }
+        let always = self.input == Input::Always;
+        let most = if always {
+            Duration::from_millis(0)
+        } else {
+            most
+        };
+        match self.poll.poll(&mut self.events, Some(most)) {
+            Err(error) if error.kind() == ErrorKind::Interrupted => {
+                return Ok(Ready {
+                    socket: false,
+                    input: always,
+                });
+            }
+            result => result?,
+        }
+        let mut ready = Ready {
+            socket: false,
+            input: always,
+        };
+        for event in &self.events {
+            if event.token() == SOCKET {
+                ready.socket = true;
+            }
+            if event.token() == INPUT {
+                ready.input = true;
+            }
+        }
+        Ok(ready)
+    }
+}

@@ -1,0 +1,126 @@
+//! What the commands of one party begin with, and why they don't begin or end early.
+
+use crate::endings::Ending;
+use crate::loop_command::failed_barely;
+use crate::{NO_MEMORY, failed, wrong};
+use bg_processes::{FolderLock, MatchFile, PartySocket, Printable, Ticking, Waiting};
+use bg_world::{Outcome, outcome_text};
+use std::fs::{File, TryLockError};
+use std::io::ErrorKind;
+use std::net::Net;
+use std::os::fd::RawFd;
+use std::rt::Files;
+use std::time::Clock;
+use std::{fs, io};
+
+/// The lock of a folder that no other process plays over.
+pub(crate) fn lock_of(
+    rt: &(impl Files<File = File> + Eprint),
+    folder: &str,
+) -> Result<FolderLock, Ending> {
+    let shown = Printable(folder);
+    match FolderLock::take(rt, folder) {
+        Ok(lock) => Ok(lock),
+        Err(TryLockError::WouldBlock) => {
+            Err(failed(rt, format_args!("another process plays over {shown}")))
+        }
+        Err(TryLockError::Error(error)) => {
+            Err(failed(rt, format_args!("{shown} could not be locked: {error}")))
+        }
+    }
+}
+
+/// The lock of a folder, which is made where there is none.
+pub(crate) fn own_folder(
+    rt: &(impl Files<File = File> + Eprint),
+    folder: &str,
+) -> Result<FolderLock, Ending> {
+    let shown = Printable(folder);
+    match fs::create_dir(rt, folder) {
+        Ok(()) => {}
+        Err(error) if error.kind() == ErrorKind::AlreadyExists => match fs::metadata(rt, folder) {
+            Ok(found) if found.is_dir() => {}
+            Ok(_) => return Err(wrong(rt, format_args!("{shown} is no folder"))),
+            Err(error) => return Err(wrong(rt, format_args!("{shown} can't be used: {error}"))),
+        },
+        Err(error) => return Err(wrong(rt, format_args!("{shown} can't be made: {error}"))),
+    }
+    lock_of(rt, folder)
+}
+
+/// What the match file at a path says.
+pub(crate) fn match_of(
+    rt: &(impl Files<File = File> + Eprint + AllocGlobal),
+    path: &str,
+) -> Result<MatchFile, Ending> {
+    let shown = Printable(path);
+    match MatchFile::read(rt, path) {
+        Ok(Some(file)) => Ok(file),
+        Ok(None) => Err(wrong(rt, format_args!("{shown} is no match file"))),
+        Err(error) => Err(failed(rt, format_args!("{shown} could not be read: {error}"))),
+    }
+}
+
+/// The socket of a party of the match that has this port.
+pub(crate) fn socket_of<R: Net + Eprint>(
+    rt: &R,
+    port: u16,
+    party: u8,
+) -> Result<PartySocket<'_, R>, Ending> {
+    match PartySocket::bind(rt, port, party) {
+        Ok(socket) => Ok(socket),
+        Err(error) if error.kind() == ErrorKind::AddrInUse => {
+            let own = u32::from(port) + u32::from(party);
+            Err(failed(
+                rt,
+                format_args!("port {own} is taken: is party {party} running already?"),
+            ))
+        }
+        Err(error) => Err(no_socket(rt, party, &error)),
+    }
+}
+
+/// The system gives a party no socket.
+pub(crate) fn no_socket(rt: &impl Eprint, party: u8, error: &io::Error) -> Ending {
+    failed(
+        rt,
+        format_args!("no socket for party {party} on 127.0.0.1: {error}"),
+    )
+}
+
+/// How a party waits for its socket, and for standard input if that is wanted, and when it ticks.
+pub(crate) fn waiting_for(
+    rt: &(impl Net + Clock + Eprint + AllocGlobal),
+    socket: RawFd,
+    with_input: bool,
+) -> Result<(Waiting, Ticking), Ending> {
+    let waiting = Waiting::new(rt, socket, with_input).map_err(|error| unwaited(rt, &error))?;
+    let ticking = Ticking::new(rt).map_err(|error| unwaited(rt, &error))?;
+    Ok((waiting, ticking))
+}
+
+/// It could not be waited.
+pub(crate) fn unwaited(rt: &impl Eprint, error: &io::Error) -> Ending {
+    failed(rt, format_args!("the socket can't be waited for: {error}"))
+}
+
+/// The party is down, or can't save: why, in a line of its own.
+pub(crate) fn stopped(rt: &impl Eprint, outcome: &Outcome) -> Ending {
+    let line = outcome_text(outcome);
+    failed_barely(rt, line.as_str())
+}
+
+/// There was no memory to begin.
+pub(crate) fn no_memory(rt: &impl Eprint) -> Ending {
+    failed(rt, NO_MEMORY)
+}
+
+/// The output could not be written.
+pub(crate) fn unwritten(rt: &impl Eprint, error: &io::Error) -> Ending {
+    failed(rt, format_args!("the output could not be written: {error}"))
+}
+
+/// The input could not be read.
+pub(crate) fn unread(rt: &impl Eprint, error: &io::Error) -> Ending {
+    failed(rt, format_args!("the input could not be read: {error}"))
+}

@@ -1,0 +1,82 @@
+//! A runtime that keeps what is printed, and counts what is said.
+
+use std::alloc::{Alloc, Global};
+use std::cell::{Cell, RefCell};
+use std::fmt::Display;
+use std::io;
+use std::io::ErrorKind;
+use std::time::{Clock, Duration};
+
+/// The system's memory and clock; its standard output is kept, and nothing is said on the standard error.
+#[derive(Drop)]
+pub(crate) struct KeptOutput<'a> {
+    rt: &'a HostRuntime,
+    /// How many lines were said.
+    pub(crate) said: Cell<u32>,
+    printed: RefCell<Vec<u8>>,
+}
+
+impl<'a> KeptOutput<'a> {
+    pub(crate) fn new(rt: &'a HostRuntime) -> KeptOutput<'a> {
+        KeptOutput {
+            rt,
+            said: Cell::new(0),
+            printed: RefCell::new(Vec::new(rt.alloc())),
+        }
+    }
+
+    /// What was printed.
+    pub(crate) fn into_printed(self) -> Vec<u8> {
+        self.printed.into_inner()
+    }
+}
+
+impl<'a> Alloc for KeptOutput<'a> {
+    type A = Global;
+
+    fn alloc(&self) -> Global {
+        self.rt.alloc()
+    }
+}
+
+impl<'a> Eprint for KeptOutput<'a> {
+    fn eprint<D: Display + Drop>(&self, _value: D) -> io::Result<()> {
+        Ok(())
+    }
+
+    fn eprintln<D: Display + Drop>(&self, _value: D) -> io::Result<()> {
+        self.said.set(self.said.get().saturating_add(1));
+        Ok(())
+    }
+}
+
+impl<'a> Print for KeptOutput<'a> {
+    fn print<D: Display + Drop>(&self, _value: D) -> io::Result<()> {
+        Err(io::Error::from(ErrorKind::Unsupported))
+    }
+
+    fn println<D: Display + Drop>(&self, _value: D) -> io::Result<()> {
+        Err(io::Error::from(ErrorKind::Unsupported))
+    }
+
+    fn write_all(&self, bytes: &[u8]) -> io::Result<()> {
+        match self.printed.try_borrow_mut() {
+            Ok(mut printed) => Ok(printed.extend_from_slice(bytes)?),
+            Err(_) => Err(io::Error::from(ErrorKind::ResourceBusy)),
+        }
+    }
+}
+
+impl<'a> Clock for KeptOutput<'a> {
+    fn monotonic(&self) -> io::Result<Duration> {
+        self.rt.monotonic()
+    }
+
+    fn since_1970(&self) -> io::Result<Duration> {
+        self.rt.since_1970()
+    }
+
+    fn sleep(&self, duration: Duration) {
+        self.rt.sleep(duration)
+    }
+}

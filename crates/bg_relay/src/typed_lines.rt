@@ -1,0 +1,40 @@
+//! Lines that a person types.
+
+use std::alloc::{AllocError, Global};
+
+/// A longer line is no action, and is cut.
+const LONGEST_LINE: usize = 256;
+
+/// Bytes as they come, and the lines that are whole.
+#[derive(Drop)]
+pub(crate) struct TypedLines {
+    bytes: Vec<u8>,
+}
+
+impl TypedLines {
+    pub(crate) fn new(alloc: Global) -> TypedLines {
+        TypedLines {
+            bytes: Vec::new(alloc),
+        }
+    }
+
+    /// More bytes came.
+    pub(crate) fn push(&mut self, bytes: &[u8]) -> Result<(), AllocError> {
+        self.bytes.extend_from_slice(bytes)
+    }
+
+    /// The oldest line that is whole, without its end, and cut where it is too long.
+    pub(crate) fn next(&mut self, alloc: Global) -> Result<Option<Vec<u8>>, AllocError> {
+        let Some(end) = self.bytes.iter().position(|byte| *byte == b'\n') else {
+            return Ok(None);
+        };
+        let mut line = Vec::new(alloc);
+        for byte in self.bytes.iter().take(end.min(LONGEST_LINE)) {
+            if *byte != b'\r' {
+                line.push(*byte)?;
+            }
+        }
+        self.bytes.drain(..=end);
+        Ok(Some(line))
+    }
+}

@@ -1,0 +1,111 @@
+//! A referee in a process of its own, over a link and files of its own.
+
+use crate::own_devices::FileKeeper;
+use crate::post_link::PostLink;
+use bg_match::{LengthFault, Number, Record, Terms};
+use bg_wire::REFEREE;
+use bg_world::{Outcome, RefereeNode};
+use rand_chacha::ChaCha20Rng;
+use rand_core::utils::NextWord;
+use std::fs::File;
+use std::io;
+use std::rt::Files;
+use thiserror::Error;
+
+/// So many parties can be sent to: the referee, two seats, and all who may watch.
+pub(crate) const MOST_PARTIES: usize = 256;
+
+/// Why a process ends. The next one over the same files goes on from what was saved.
+#[derive(Debug, Drop, Error)]
+pub(crate) enum ProcessFault {
+    #[error(transparent)]
+    System(#[from] io::Error),
+    #[error(transparent)]
+    Length(#[from] LengthFault),
+    #[error("the party can't go on: {0:?}")]
+    Stopped(Outcome),
+}
+
+/// A party goes on where its restart came to this.
+pub(crate) fn check_restart(outcome: Outcome) -> Result<(), ProcessFault> {
+    match outcome {
+        Outcome::Restarted => Ok(()),
+        _ => Err(ProcessFault::Stopped(outcome)),
+    }
+}
+
+/// The referee of a match, alone in its process.
+#[derive(Drop)]
+pub(crate) struct LoneReferee<'a, R> {
+    node: RefereeNode<FileKeeper<'a, R>>,
+    pub(crate) link: PostLink,
+    words: ChaCha20Rng,
+    /// How many entries its last save has.
+    saved: Number,
+}
+
+impl<'a, R: Files<File = File> + AllocGlobal> LoneReferee<'a, R> {
+    /// Goes on with the match that the folder has, or begins it. The dice come from these random words: each process
+    /// needs others, as no word may be handed in twice.
+    pub(crate) fn begin(
+        rt: &'a R,
+        folder: &str,
+        id: u64,
+        terms: Terms,
+        words: ChaCha20Rng,
+    ) -> Result<LoneReferee<'a, R>, ProcessFault> {
+        let keeper = FileKeeper::new(rt, folder, REFEREE)?;
+        let (node, outcome) = RefereeNode::begin(rt.alloc(), id, terms, keeper)?;
+        check_restart(outcome)?;
+        let mut referee = LoneReferee {
+            node,
+            link: PostLink::new(rt.alloc()),
+            words,
+            saved: 0,
+        };
+        referee.saved = referee.entries();
+        Ok(referee)
+    }
+
+    /// Its record.
+    pub(crate) fn held(&self) -> Option<&Record> {
+        self.node.held()
+    }
+
+    fn entries(&self) -> Number {
+        match self.node.held() {
+            None => 0,
+            Some(record) => record.len(),
+        }
+    }
+
+    /// Takes what has come and answers it, opens a game or passes a turn where that is due, saves what is new, and
+    /// tells it.
+    pub(crate) fn turn(&mut self) -> Result<(), ProcessFault> {
+        for _ in 0..self.link.waiting() {
+            let word = self.words.next_word();
+            self.node.take(&mut self.link, MOST_PARTIES, 0, word);
+        }
+        // Where this word opens no game that is to be opened, the next turn tries another one.
+        let word = self.words.next_word();
+        self.node.due(word);
+        if self.entries() > self.saved {
+            self.save()?;
+        }
+        self.node.tick(&mut self.link, MOST_PARTIES);
+        Ok(())
+    }
+
+    fn save(&mut self) -> Result<(), ProcessFault> {
+        match self.node.save() {
+            Outcome::Saved(_) => {}
+            // It is tried again in the next turn.
+            Outcome::Memory => return Ok(()),
+            // The write failed and the party is down: what its files then restore is what holds.
+            Outcome::SaveFault => check_restart(self.node.restart())?,
+            outcome => return Err(ProcessFault::Stopped(outcome)),
+        }
+        self.saved = self.entries();
+        Ok(())
+    }
+}
