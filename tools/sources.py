@@ -1,0 +1,110 @@
+"""What the sources of the crates have, for the tools that compare the documents with them: definitions with their
+lines, and public items with their contracts."""
+import pathlib
+import re
+
+TOP = pathlib.Path(__file__).resolve().parent.parent
+CRATES = [line.split(":")[0] for line in (TOP / "crates.txt").read_text().splitlines() if line.startswith("bg_")]
+IMPORT = re.compile(r"\buse Rattle\.(bg_\w+)\.specs\.([\w.]+)\.\{([^}]*)\}")
+DEFINITION = re.compile(r" *(?:pub )?(?:abbrev|unfoldable|record|data) (?:pub )?([^\W\d]\w*|◌\S+)(?!\S)")
+
+
+def imported(text):
+    """What the words that a text imports stand for."""
+    for crate, module, names in IMPORT.findall(text):
+        for name in names.split(","):
+            first, _, second = name.strip().partition(" as ")
+            yield second or first, f"{crate}/{module.replace('.', '/')}/{first}"
+
+
+class Definitions:
+    """All definitions, each named 'crate/file/name'."""
+
+    def __init__(self):
+        self.lines = {}  # of each definition, with the comments above it
+        self.words = {}  # of each file: what its words stand for
+        for crate in CRATES:
+            specs = TOP / "crates" / crate / "specs"
+            for path in sorted(specs.rglob("*.antt")):
+                self.read(f"{crate}/{path.relative_to(specs).with_suffix('')}", path.read_text())
+
+    def read(self, file, text):
+        definition, comments = None, []
+        here = self.words[file] = dict(imported(text))
+        for line in text.splitlines():
+            if line.lstrip().startswith("--"):
+                comments.append(line)
+                continue
+            if head := DEFINITION.match(line):
+                definition = f"{file}/{head[1]}"
+                here[head[1]] = definition
+                self.lines[definition] = []
+            if line and definition and not line.startswith(("use ", "module ")):
+                self.lines[definition] += [*comments, line]
+            comments = []
+
+    def reach(self, definition, reached):
+        """Adds this definition to those that are reached, behind those that it rests on."""
+        if definition in reached or definition not in self.lines:
+            return
+        reached.setdefault(definition)
+        here = self.words[definition.rsplit("/", 1)[0]]
+        body = "\n".join(line for line in self.lines[definition] if not line.lstrip().startswith("--"))
+        for word in re.findall(r"\w+", body):
+            self.reach(here.get(word), reached)
+        reached[definition] = reached.pop(definition)
+
+
+def exported(crate):
+    """The names that a library hands out; of the program, those that its files share."""
+    root = TOP / "crates" / crate / "src"
+    if (root / "lib.rt").exists():
+        for names in re.findall(r"^pub use [\w:]+::(\w+|\{[^}]*\});", (root / "lib.rt").read_text(), re.M):
+            yield from re.findall(r"\w+", names)
+    else:
+        for path in sources(crate):
+            yield from re.findall(r"^pub(?:\(crate\))? (?:fn|struct|enum|trait) (\w+)", path.read_text(), re.M)
+
+
+def sources(crate):
+    """The files of a crate's code, without its tests."""
+    for path in sorted((TOP / "crates" / crate / "src").rglob("*.rt")):
+        if "test" not in str(path.relative_to(TOP / "crates" / crate)):
+            yield path
+
+
+def contracts(crate):
+    """Each public item of a crate, as 'Type::method', 'function' or 'Type', with its contract or declaration, and the
+    text of its file."""
+    names = set(exported(crate))
+    is_program = (TOP / "crates" / crate / "src/main.rt").exists()
+    for path in sources(crate):
+        text = path.read_text()
+        # Items begin at the margin, where braces and brackets that go on with one stand too.
+        indented = re.sub(r"\n([{})])", r"\n \1", text)
+        if is_program:
+            indented = indented.replace("pub(crate) ", "pub ")
+        for item in re.findall(r"^(?:pub |impl).*?(?=^\S|\Z)", indented, re.M | re.S):
+            head = item.split("\n")[0]
+            if function := re.match(r"pub fn (\w+)", head):
+                if function[1] in names:
+                    yield function[1], item.split("\n {\n")[0], text
+            elif kind := re.match(r"pub (struct|enum|trait) (\w+)", head):
+                if kind[2] in names:
+                    yield kind[2], item, text
+                    yield from methods(kind[2], "fn", item, text)
+            elif kind := re.match(r"impl(?:<.*?>)? ([\w:]+(?:<.*?>)? for )?(\w+)", head):
+                if kind[2] in names:
+                    if kind[1]:
+                        yield kind[2], item, text
+                    yield from methods(kind[2], "fn" if kind[1] else "pub fn", item, text)
+
+
+def methods(kind, keyword, item, text):
+    """The methods of an item, each up to its body, or to the next thing at its margin."""
+    for name, contract in re.findall(rf"^    {keyword} (\w+)(.*?(?:\{{|;)$.*?)(?=^    \S|\Z)", item, re.M | re.S):
+        yield f"{kind}::{name}", contract, text
+
+
+def labels(contract):
+    return re.findall(r"\b(?:ensures|requires) (\w+) \{", contract)
