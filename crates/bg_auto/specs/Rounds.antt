@@ -5,11 +5,11 @@ use Rattle.bg_board.specs.declared.players.Player.{Player}
 use Rattle.bg_board.specs.declared.players.Player.TheVariants.{X, O}
 use Rattle.bg_match.specs.Match.{Log}
 use Rattle.bg_match.specs.declared.actions.Action.{Action}
-use Rattle.bg_wire.specs.Codes.{referee, seat_of_x, seat_of_o, first_watcher}
-use Rattle.bg_world.specs.Calls.{Calls}
-use Rattle.bg_world.specs.Starts.{held_of}
-use Rattle.bg_world.specs.Views.{WorldView}
-use Rattle.bg_world.specs.WorldRuns.{is_memory}
+use Rattle.bg_wire.specs.Entries.Codes.{referee, seat_of_x, seat_of_o, first_watcher}
+use Rattle.bg_world.specs.Worlds.Calls.{Calls}
+use Rattle.bg_world.specs.Worlds.Starts.{held_of}
+use Rattle.bg_world.specs.Worlds.Views.{WorldView}
+use Rattle.bg_world.specs.Worlds.WorldRuns.{is_memory}
 use Rattle.bg_world.specs.declared.events.Event.{Event}
 use Rattle.bg_world.specs.declared.events.Event.TheVariants as events
 use Rattle.bg_world.specs.declared.events.Outcome.{Outcome}

@@ -17,24 +17,16 @@
 #![tactic(auto)]
 
 mod auto_actions;
-#[cfg(test)]
-mod auto_tests;
 mod dice_attempts;
 mod loop_faults;
 mod onlookers;
-#[cfg(test)]
-mod recording_devices;
 mod round_schedule;
-#[cfg(test)]
-mod round_tests;
 mod rounds;
-#[cfg(test)]
-mod rules_tests;
 mod schedule;
-#[cfg(test)]
-mod sim_tests;
 mod simulating;
 mod simulation;
+#[cfg(test)]
+mod tests;
 mod words;
 
 pub use auto_actions::auto_action;

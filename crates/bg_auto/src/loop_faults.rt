@@ -1,5 +1,6 @@
 //! Why a match in rounds ends before its last round.
 ghost use Rattle.std.specs.Prelude.{◌≡◌};
+ghost use Rattle.bg_auto.specs.Rounds.{ends};
 ghost use Rattle.bg_auto.specs.declared.loop_faults.LoopFault.TheVariants.{Memory, World, Write};
 
 use bg_text::StreamFault;
@@ -70,5 +71,15 @@ impl From<WorldFault> for LoopFault {
 
     fn from(fault: WorldFault) -> LoopFault {
         LoopFault::World(fault)
+    }
+}
+
+/// Whether the outcome ends the match: slots can't be restored, or there was no memory.
+pub(crate) fn ends_match(outcome: &Outcome) -> bool
+    ensures { result ≡ ends outcome.now }
+{
+    match outcome {
+        Outcome::RestoreFault(_) => true,
+        other => other.wants_memory(),
     }
 }

@@ -5,6 +5,9 @@ ghost use Rattle.bg_auto.specs.Rounds.{follow_up as follow_up_of};
 use bg_board::Player;
 use bg_world::{Event, Outcome};
 
+/// How many watch.
+pub(crate) const WATCHERS: u8 = 1;
+
 /// The party that only watches.
 const WATCHER: u8 = 3;
 

@@ -4,24 +4,21 @@ ghost use Rattle.bg_auto.specs.RoundResults.{IsGood, IsRoundsResult, WritesEnd, 
 ghost use Rattle.bg_auto.specs.RoundResults.{IsWriteFault, start_moment};
 ghost use Rattle.bg_auto.specs.Rounds.{Happens, IsChosen, IsEventOf, MayLackMemory, PlaysPart, PlaysParts, StopsAt};
 ghost use Rattle.bg_auto.specs.Rounds.{StopsIn, ends, match_parts, next_word};
-ghost use Rattle.bg_world.specs.Starts.{IsWorldFault};
-ghost use Rattle.bg_world.specs.Views.{keeper_view, link_view};
+ghost use Rattle.bg_world.specs.Worlds.Starts.{IsWorldFault};
+ghost use Rattle.bg_world.specs.Worlds.Views.{keeper_view, link_view};
 ghost use Rattle.bg_world.specs.declared.events.Outcome.{Outcome as AnOutcome};
 
 use crate::auto_actions::auto_action;
 use crate::dice_attempts::{DiceAttempts, entries_of};
-use crate::loop_faults::LoopFault;
+use crate::loop_faults::{LoopFault, ends_match};
 use crate::onlookers::{NoOnlooker, Onlooker, party_at};
-use crate::round_schedule::{FIRST, Part, ROUND, follow_up};
+use crate::round_schedule::{FIRST, Part, ROUND, WATCHERS, follow_up};
 use bg_board::Player;
 use bg_match::Rules;
 use bg_text::Sink;
 use bg_wire::{REFEREE, party_of};
 use bg_world::{Event, Keeper, Keepers, Link, Outcome, Setup, World, WorldFault, final_text};
 use std::alloc::{AllocError, Global};
-
-/// How many watch.
-const WATCHERS: u8 = 1;
 
 /// How many parties a match in rounds has: the referee, two seats and one watcher, with the numbers from 0 to 3.
 pub const PARTIES: u8 = 3 + WATCHERS;
@@ -249,15 +246,5 @@ impl<L: Link + Drop, K: Keeper + Drop> Rounds<L, K> {
         output.write_all(&text)?;
         output.flush()?;
         Ok(())
-    }
-}
-
-/// Whether the outcome ends the match: slots can't be restored, or there was no memory.
-fn ends_match(outcome: &Outcome) -> bool
-    ensures { result ≡ ends outcome.now }
-{
-    match outcome {
-        Outcome::RestoreFault(_) => true,
-        other => other.wants_memory(),
     }
 }

@@ -1,9 +1,9 @@
 //! The schedule of an automatic match.
 ghost use Rattle.std.specs.Prelude.{◌≡◌, ◌≤◌, ◌+◌, IfOk};
 ghost use Rattle.bg_auto.specs.Schedule.{IsChoice, IsScheduled, late_pick as pick_of, named_player as player_of};
-ghost use Rattle.bg_wire.specs.Codes.{first_watcher};
-ghost use Rattle.bg_world.specs.Simulations.{memory_view};
-ghost use Rattle.bg_world.specs.State.{most_watchers};
+ghost use Rattle.bg_wire.specs.Entries.Codes.{first_watcher};
+ghost use Rattle.bg_world.specs.Worlds.Simulations.{memory_view};
+ghost use Rattle.bg_world.specs.Protocol.State.{most_watchers};
 
 use crate::auto_actions::auto_action;
 use bg_board::Player;

@@ -3,9 +3,9 @@ ghost use Rattle.std.specs.Prelude.{◌≡◌, IfOk, MatchResult, OnOk};
 ghost use Rattle.bg_match.specs.Terms.{terms_of};
 ghost use Rattle.bg_auto.specs.Simulating.{HappensAs, IsPrinted, IsSimFault, IsSimStart, IsSimText, Runs};
 ghost use Rattle.bg_auto.specs.Simulating.{setup_of, wants_memory as is_wanting};
-ghost use Rattle.bg_world.specs.Simulations.{memory_view};
-ghost use Rattle.bg_world.specs.Starts.{IsWorldFault};
-ghost use Rattle.bg_world.specs.State.{IsSetup};
+ghost use Rattle.bg_world.specs.Worlds.Simulations.{memory_view};
+ghost use Rattle.bg_world.specs.Worlds.Starts.{IsWorldFault};
+ghost use Rattle.bg_world.specs.Protocol.State.{IsSetup};
 
 use crate::dice_attempts::DiceAttempts;
 use crate::onlookers::{NoOnlooker, Onlooker};

@@ -1,7 +1,7 @@
 -- What every standing keeps, phase by phase.
 use Rattle.std.proofs.Common.{◌≡◌, ℕ, zero, suc, ◌+◌, ◌*◌, ◌^◌, ◌<◌, ◌≤◌, Bool, Some, None, refl, sym, ◌∙◌, ap, arith}
 use Rattle.std.proofs.Common.{◌↔◌, List, [], ◌∷◌, eqb, ◌||◌, true, false, inl, inr}
-use Rattle.std.proofs.lemmas.Bool.{or_cases, agree_below_at}
+use Rattle.std.proofs.lemmas.Bool.{cases_lt, or_cases, agree_below_at}
 use Rattle.std.proofs.lemmas.Bool.Decides.{nat_tests}
 use Rattle.std.specs.Prelude.{IsTrue}
 use Rattle.std.specs.Int.{IsPowerOfTwo, is_power_of_two}
@@ -12,6 +12,7 @@ use Rattle.bg_board.specs.Position.{Position}
 use Rattle.bg_board.specs.declared.players.Player.{Player}
 use Rattle.bg_match.specs.declared.phases.Phase.{Phase}
 use Rattle.bg_match.specs.declared.phases.Phase.TheVariants.{Opening, ToAct, Doubled, ToMove, Resigned, Over}
+use Rattle.bg_match.specs.Limits.{greatest_cube}
 use Rattle.bg_match.specs.Terms.{match_length}
 use Rattle.bg_match.specs.State.{State, IsState, AreScoresOf, IsCubeOf, IsRunning}
 
@@ -32,14 +33,6 @@ scores_running (ToMove p d) g x o r h = h
 scores_running (Resigned p l b) g x o r h = h
 scores_running (Over p) g x o r h = absurd r
 
-pub cube_at_most : (ph : Phase) (v : ℕ) → IsCubeOf ph v → v ≤ 128
-cube_at_most Opening v h = h
-cube_at_most (ToAct p) v h = h
-cube_at_most (Doubled p) v h = omega arith
-cube_at_most (ToMove p d) v h = h
-cube_at_most (Resigned p l b) v h = h
-cube_at_most (Over p) v h = h
-
 -- another phase in which the match goes on, where the cube is allowed
 pub IsState-phase : (s : State) (ph : Phase) → IsRunning s.phase → IsRunning ph → IsCubeOf ph s.cube.value → IsState s → IsState (record s { phase = ph })
 IsState-phase s ph from to cube h = record {
@@ -53,29 +46,43 @@ IsState-phase s ph from to cube h = record {
   games = h.games;
 }
 
+-- one of the powers of two with these exponents
+abbrev is_power_in : List ℕ → ℕ → Bool
+is_power_in [] v = false
+is_power_in (k ∷ ks) v = eqb (2 ^ k) v || is_power_in ks v
+
+power_from_test : (ks : List ℕ) (v : ℕ) → is_power_in ks v ≡ true → IsPowerOfTwo v
+power_from_test [] v h = cc
+power_from_test (k ∷ ks) v h = elim (or_cases (eqb (2 ^ k) v) (is_power_in ks v) h) [
+  | inl here ↦ (k, (let e : 2 ^ k ≡ v = grind (arith, nat_tests) in sym e))
+  | inr later ↦ power_from_test ks v later
+]
+
+-- the greatest cube is a power of two
+limit_is_power : IsPowerOfTwo greatest_cube
+limit_is_power = power_from_test (0 ∷ 1 ∷ 2 ∷ 3 ∷ 4 ∷ 5 ∷ 6 ∷ 7 ∷ []) greatest_cube refl
+
+-- the double of a power of two is at most a greater power
+doubled_power : (k e : ℕ) → 2 ^ k < 2 ^ e → 2 * 2 ^ k ≤ 2 ^ e
+doubled_power k e h = elim (cases_lt k e) [
+  | inl less ↦ (let most : 2 ^ suc k ≤ 2 ^ e = pow_mono less in let twice = pow-succ' 2 k in omega arith)
+  | inr more ↦ (let least : 2 ^ e ≤ 2 ^ k = pow_mono more in absurd (omega arith))
+]
+
 -- a value of the cube below its limit may be doubled
-doubled_limit : (k : ℕ) → 2 ^ k < 128 → 2 * 2 ^ k ≤ 128
-doubled_limit zero h = omega arith
-doubled_limit (suc zero) h = omega arith
-doubled_limit (suc (suc zero)) h = omega arith
-doubled_limit (suc (suc (suc zero))) h = omega arith
-doubled_limit (suc (suc (suc (suc zero)))) h = omega arith
-doubled_limit (suc (suc (suc (suc (suc zero))))) h = omega arith
-doubled_limit (suc (suc (suc (suc (suc (suc zero)))))) h = omega arith
-doubled_limit (suc (suc (suc (suc (suc (suc (suc k))))))) h =
-    let large : 2 ^ 7 ≤ 2 ^ suc (suc (suc (suc (suc (suc (suc k)))))) = (let few : 7 ≤ suc (suc (suc (suc (suc (suc (suc k)))))) = omega arith in pow_mono few) in
-    absurd (omega arith)
+doubled_limit : (limit k : ℕ) → IsPowerOfTwo limit → 2 ^ k < limit → 2 * 2 ^ k ≤ limit
+doubled_limit limit k (e, is) h = rw is (doubled_power k e (rw is at h))
 
 -- the cube is taken
 pub IsState-taken : (s : State) (q p : Player) → s.phase ≡ Doubled q → IsState s → IsState (record s { phase = ToAct p; cube = record { value = 2 * s.cube.value; owner = Some q } })
 IsState-taken s q p is h =
-    let limit : s.cube.value < 128 = rw is at h.cube_limit in
-    let below : 2 ^ h.cube_value.0 < 128 = rw h.cube_value.1 at limit in
+    let limit : s.cube.value < greatest_cube = rw is at h.cube_limit in
+    let below : 2 ^ h.cube_value.0 < greatest_cube = rw h.cube_value.1 at limit in
     record {
       shortest = h.shortest;
       longest = h.longest;
       cube_value = (suc h.cube_value.0, ap (λ v. 2 * v) h.cube_value.1 ∙ sym (pow-succ' 2 h.cube_value.0));
-      cube_limit = rw h.cube_value.1 (doubled_limit h.cube_value.0 below);
+      cube_limit = rw h.cube_value.1 (doubled_limit greatest_cube h.cube_value.0 limit_is_power below);
       middle = (λ w. cc, λ w. absurd (omega arith));
       scores = rw is at h.scores;
       first_game = h.first_game;
@@ -94,18 +101,6 @@ IsState-next s b crawford x o h low_x low_o more = record {
   first_game = omega arith;
   games = (let g = h.games in omega arith);
 }
-
--- one of the powers of two with these exponents
-abbrev is_power_in : List ℕ → ℕ → Bool
-is_power_in [] v = false
-is_power_in (k ∷ ks) v = eqb (2 ^ k) v || is_power_in ks v
-
-power_from_test : (ks : List ℕ) (v : ℕ) → is_power_in ks v ≡ true → IsPowerOfTwo v
-power_from_test [] v h = cc
-power_from_test (k ∷ ks) v h = elim (or_cases (eqb (2 ^ k) v) (is_power_in ks v) h) [
-  | inl here ↦ (k, (let e : 2 ^ k ≡ v = grind (arith, nat_tests) in sym e))
-  | inr later ↦ power_from_test ks v later
-]
 
 test_from_power : (k v : ℕ) → v < 256 → v ≡ 2 ^ k → is_power_in (0 ∷ 1 ∷ 2 ∷ 3 ∷ 4 ∷ 5 ∷ 6 ∷ 7 ∷ []) v ≡ true
 test_from_power zero v h e = rw e refl

@@ -4,6 +4,7 @@ use Rattle.bg_board.specs.Position.{Position, start_position}
 use Rattle.bg_board.specs.declared.players.Player.TheVariants.{X, O}
 use Rattle.bg_board.specs.declared.dice.Die.TheVariants.{One, Three, Five, Six}
 use Rattle.bg_turns.specs.declared.throws.Dice.{Dice}
+use Rattle.bg_match.specs.Limits.{greatest_cube}
 use Rattle.bg_match.specs.declared.levels.Level.TheVariants.{Normal, Gammon, Backgammon}
 use Rattle.bg_match.specs.declared.phases.Actor.TheVariants.{Referee, Nobody, Seat}
 use Rattle.bg_match.specs.declared.phases.Phase.TheVariants as phase
@@ -127,7 +128,7 @@ double_dropped = (O, refl, refl)
 not_owner : IsEntryFault (fault.NoDouble no_double.NotOwner) (record x_to_act { cube = record { value = 2; owner = Some O } }) entry.Doubled
 not_owner = (X, refl, refl, (refl, refl))
 
-at_cap : IsEntryFault (fault.NoDouble no_double.AtCap) (record x_to_act { cube = record { value = 128; owner = Some X } }) entry.Doubled
+at_cap : IsEntryFault (fault.NoDouble no_double.AtCap) (record x_to_act { cube = record { value = greatest_cube; owner = Some X } }) entry.Doubled
 at_cap = (X, refl, refl, (refl, inr refl, refl))
 
 no_cube : IsEntryFault (fault.NoDouble no_double.Crawford) (record (start_of (to_points 1)) { phase = phase.ToAct X }) entry.Doubled

@@ -1,5 +1,5 @@
 -- The numbers that limit a match.
-use Rattle.std.specs.Prelude.{ℕ, ◌≤◌}
+use Rattle.std.specs.Prelude.{ℕ, ◌+◌, ◌*◌, ◌-◌, ◌≤◌}
 
 -- entries are numbered from 1 to this number
 abbrev pub most_entries : ℕ
@@ -22,8 +22,8 @@ greatest_cube = 128
 
 -- what a won game counts at most: a backgammon with the greatest cube
 abbrev pub greatest_win : ℕ
-greatest_win = 384
+greatest_win = 3 * greatest_cube
 
 -- one point short of the longest match, and then the greatest win
 abbrev pub greatest_score : ℕ
-greatest_score = 482
+greatest_score = longest_match - 1 + greatest_win

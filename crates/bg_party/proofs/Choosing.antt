@@ -3,7 +3,7 @@ use Rattle.std.proofs.Common.{◌≡◌, ◌++◌, ◌∷◌, [], ℕ, ◌+◌, 
 use Rattle.bg_match.specs.Limits.{most_entries}
 use Rattle.bg_match.specs.declared.actions.Action.{Action}
 use Rattle.bg_match.proofs.Answering.{action_in_range}
-use Rattle.bg_wire.specs.SavedText.{IsKeptClaim}
+use Rattle.bg_wire.specs.Saved.SavedText.{IsKeptClaim}
 use Rattle.bg_party.specs.Views.{SeatView}
 use Rattle.bg_party.specs.Claims.{CanClaim, trial_dice}
 

@@ -14,9 +14,9 @@ use Rattle.bg_match.specs.Match.{Log, IsLegalRecord, IsRecordFault, StandsAt, Is
 use Rattle.bg_match.specs.State.{State, start_of}
 use Rattle.bg_match.proofs.Legal.{legal_fronts}
 use Rattle.bg_match.proofs.Runs.{Leads-push, legal_follow}
-use Rattle.bg_wire.specs.SavedText.{IsFirstIllegal}
+use Rattle.bg_wire.specs.Saved.SavedText.{IsFirstIllegal}
 use Rattle.bg_party.specs.Learns.{FollowsFor}
-use Rattle.bg_wire.proofs.Loading.{is_first_illegal}
+use Rattle.bg_wire.proofs.OfSaves.Loading.{is_first_illegal}
 
 -- one more of the new entries
 more : (entries new : List Entry) (i : ℕ) (x : Entry) → i < length new → x ≡ get_or new i x

@@ -9,7 +9,7 @@ use Rattle.bg_match.specs.declared.limits.Rules.{Rules}
 use Rattle.bg_match.specs.declared.entries.Entry.{Entry}
 use Rattle.bg_match.specs.Match.{Log, IsLegalRecord, at_number}
 use Rattle.bg_match.proofs.Legal.{legal_fronts}
-use Rattle.bg_wire.specs.PacketText.{IsPacket}
+use Rattle.bg_wire.specs.Packets.PacketText.{IsPacket}
 use Rattle.bg_wire.specs.Runs.{IsRun}
 use Rattle.bg_wire.specs.declared.packets.Packet.{Packet}
 use Rattle.bg_wire.specs.declared.packets.Packet.TheVariants as packet

@@ -6,8 +6,8 @@ use Rattle.bg_match.specs.Terms.{Terms, rules_of}
 use Rattle.bg_match.specs.declared.entries.Entry.{Entry}
 use Rattle.bg_match.specs.Match.{IsLegalRecord, at_number}
 use Rattle.bg_match.proofs.Legal.{legal_fronts}
-use Rattle.bg_wire.specs.SavedText.{IsFirstIllegal}
-use Rattle.bg_wire.specs.PacketText.{IsOfMatch}
+use Rattle.bg_wire.specs.Saved.SavedText.{IsFirstIllegal}
+use Rattle.bg_wire.specs.Packets.PacketText.{IsOfMatch}
 use Rattle.bg_wire.specs.declared.packets.Packet.{Packet}
 use Rattle.bg_wire.specs.declared.packets.Packet.TheVariants as packet
 use Rattle.bg_wire.proofs.Numbers.{get_take}

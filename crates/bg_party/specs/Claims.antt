@@ -10,7 +10,7 @@ use Rattle.bg_match.specs.declared.entries.Entry.{Entry}
 use Rattle.bg_match.specs.declared.phases.Actor.TheVariants.{Seat}
 use Rattle.bg_match.specs.Answers.{Answers}
 use Rattle.bg_match.specs.Match.{Log, ActsAfter, IsRecordFault, IsNext}
-use Rattle.bg_wire.specs.PacketText.{IsPacket}
+use Rattle.bg_wire.specs.Packets.PacketText.{IsPacket}
 use Rattle.bg_wire.specs.Parties.{party_of}
 use Rattle.bg_wire.specs.declared.packets.Packet.{Packet}
 use Rattle.bg_wire.specs.declared.packets.Packet.TheVariants as packet

@@ -8,8 +8,8 @@ use Rattle.bg_match.specs.declared.actions.Action.{Action}
 use Rattle.bg_match.specs.declared.entries.Entry.{Entry}
 use Rattle.bg_match.specs.Limits.{most_entries}
 use Rattle.bg_match.specs.Match.{Log, IsLegalRecord, empty_log}
-use Rattle.bg_wire.specs.SavedText.{IsKeptClaim}
-use Rattle.bg_wire.specs.Codes.{least_save, greatest_save, seat_of_x, first_watcher, last_watcher}
+use Rattle.bg_wire.specs.Saved.SavedText.{IsKeptClaim}
+use Rattle.bg_wire.specs.Entries.Codes.{least_save, greatest_save, seat_of_x, first_watcher, last_watcher}
 use Rattle.bg_wire.specs.declared.saves.Saved.{Saved}
 use Rattle.bg_party.specs.Retry.{RetryView, at_once}
 use Rattle.bg_party.specs.Window.{at_place, window_size}

@@ -5,8 +5,8 @@ ghost use Rattle.bg_party.specs.Window.{early_behind, window_size};
 ghost use Rattle.bg_match.specs.Limits.{IsMatchLength, most_entries};
 ghost use Rattle.bg_match.specs.Match.{IsLegalRecord};
 ghost use Rattle.bg_match.specs.Terms.{rules_of, terms_of};
-ghost use Rattle.bg_wire.specs.Codes.{most_in_packet};
-ghost use Rattle.bg_wire.specs.PacketText.{IsPacket};
+ghost use Rattle.bg_wire.specs.Entries.Codes.{most_in_packet};
+ghost use Rattle.bg_wire.specs.Packets.PacketText.{IsPacket};
 
 use crate::Learned;
 use crate::retry::Retry;

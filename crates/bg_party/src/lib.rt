@@ -21,6 +21,7 @@ mod fault_words;
 mod follower;
 mod laws;
 mod outcomes;
+mod parties;
 mod retry;
 mod seat;
 #[cfg(test)]

@@ -1,22 +1,22 @@
 //! The seat of a player.
-ghost use Rattle.std.specs.Prelude.{◌≡◌, ◌≤◌, ◌<◌, ◌+◌, ◌↔◌, true, false, [], Some, None, option_copied, length, IsOk};
+ghost use Rattle.std.specs.Prelude.{◌≡◌, ◌≤◌, ◌<◌, ◌+◌, ◌↔◌, true, false, [], Some, None, length, IsOk};
 ghost use Rattle.std.specs.Prelude.{IfOk};
-ghost use Rattle.bg_match.specs.Match.{empty_log};
-ghost use Rattle.bg_match.specs.Terms.{match_length, terms_of};
-ghost use Rattle.bg_match.specs.Limits.{shortest_match, longest_match, IsMatchLength};
-ghost use Rattle.bg_wire.specs.PacketText.{IsPacket};
+ghost use Rattle.bg_match.specs.Terms.{terms_of};
+ghost use Rattle.bg_match.specs.Limits.{IsMatchLength};
+ghost use Rattle.bg_wire.specs.Packets.PacketText.{IsPacket};
 ghost use Rattle.bg_wire.specs.Parties.{party_of};
-ghost use Rattle.bg_wire.specs.Saves.{IsNextSave};
-ghost use Rattle.bg_wire.specs.SavedText.{IsSavable, parts_of, parts_with};
-ghost use Rattle.bg_wire.specs.Codes.{seat_of_x};
+ghost use Rattle.bg_wire.specs.Saved.Saves.{IsNextSave};
+ghost use Rattle.bg_wire.specs.Saved.SavedText.{IsSavable, parts_of, parts_with};
+ghost use Rattle.bg_wire.specs.Entries.Codes.{seat_of_x};
 ghost use Rattle.bg_party.specs.Views.{player_of};
 
 use crate::follower::Follower;
+use crate::parties::player_of;
 use crate::{ChooseFault, Learned};
 use bg_board::{Die, Player};
 use bg_match::{Action, Actor, LengthFault, Number, Record, Rules, entry_of};
 use bg_turns::Dice;
-use bg_wire::{Packet, SEAT_OF_X, SaveRefusal, Saved, Slot, next_save, party_of};
+use bg_wire::{Packet, SaveRefusal, Saved, Slot, next_save, party_of};
 use std::alloc::Global;
 use std::marker::Model;
 
@@ -25,17 +25,6 @@ const TRIAL_DICE: Dice = Dice {
     first: Die::One,
     second: Die::One,
 };
-
-/// The player whose seat the party is.
-fn player_of(party: u8) -> Player
-    ensures { result ≡ player_of party }
-{
-    if party == SEAT_OF_X {
-        Player::X
-    } else {
-        Player::O
-    }
-}
 
 /// The seat of a player: it follows the match, and claims his actions, one under each number (docs/PROTOCOL.md,
 /// "Claims").

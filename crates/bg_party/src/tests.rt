@@ -10,7 +10,7 @@ mod sending;
 mod windows;
 
 ghost use Rattle.std.specs.Prelude.{IfSome};
-ghost use Rattle.bg_wire.specs.PacketText.{IsPacket};
+ghost use Rattle.bg_wire.specs.Packets.PacketText.{IsPacket};
 
 use crate::{ChooseFault, Learned, Seat, Watcher};
 use arrayvec::ArrayVec;

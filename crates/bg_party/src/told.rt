@@ -2,7 +2,7 @@
 ghost use Rattle.std.specs.Prelude.{◌≡◌, ◌≤◌, ◌<◌, ◌+◌, ◌++◌, length, MatchOption, MatchResult};
 ghost use Rattle.bg_match.specs.Limits.{most_entries};
 ghost use Rattle.bg_match.specs.Match.{IsLegalRecord, StandsAt};
-ghost use Rattle.bg_wire.specs.SavedText.{IsFirstIllegal};
+ghost use Rattle.bg_wire.specs.Saved.SavedText.{IsFirstIllegal};
 ghost use Rattle.bg_party.specs.Learns.{Agrees, IsConflict, FollowsFor, new_entries};
 
 use bg_match::{Entry, Number, Record, Standing};

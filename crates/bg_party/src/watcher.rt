@@ -1,10 +1,10 @@
 //! A party that only watches.
 ghost use Rattle.std.specs.Prelude.{◌≡◌, ◌≤◌, ◌<◌, ◌↔◌, [], Some, length, IsOk, IfOk};
-ghost use Rattle.bg_wire.specs.Codes.{first_watcher};
+ghost use Rattle.bg_wire.specs.Entries.Codes.{first_watcher};
 ghost use Rattle.bg_match.specs.Match.{empty_log};
 ghost use Rattle.bg_match.specs.Terms.{terms_of};
 ghost use Rattle.bg_match.specs.Limits.{shortest_match, longest_match, IsMatchLength};
-ghost use Rattle.bg_wire.specs.PacketText.{IsPacket};
+ghost use Rattle.bg_wire.specs.Packets.PacketText.{IsPacket};
 
 use crate::Learned;
 use crate::follower::Follower;

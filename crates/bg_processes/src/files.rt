@@ -1,4 +1,10 @@
 //! Saved files.
+pub(crate) mod file_keepers;
+pub(crate) mod folder_locks;
+pub(crate) mod match_files;
+pub(crate) mod secrets;
+pub(crate) mod whole_files;
+
 use bg_wire::LONGEST_SAVED_TEXT;
 use std::fs::File;
 use std::io;

@@ -17,83 +17,32 @@
 //! ```
 #![tactic(auto)]
 
-mod device_faults;
-#[cfg(test)]
-mod failing_devices;
-#[cfg(test)]
-mod file_keeper_tests;
-mod file_keepers;
-#[cfg(test)]
-mod file_tests;
 mod files;
-mod folder_locks;
-#[cfg(test)]
-mod growth_tests;
-mod hearing;
-#[cfg(test)]
-mod lock_tests;
-#[cfg(test)]
-mod loop_tests;
 mod loops;
+mod messages;
+mod processes;
+mod sockets;
 #[cfg(test)]
-mod match_file_tests;
-mod match_files;
-#[cfg(test)]
-mod operator_tests;
-mod operators;
-#[cfg(test)]
-mod overheard;
-mod own_sockets;
-#[cfg(test)]
-mod party_socket_tests;
-mod party_sockets;
-mod printable;
-#[cfg(test)]
-mod printable_tests;
-#[cfg(test)]
-mod process_tests;
-mod progress;
-mod referee_processes;
-mod reports;
-mod rounds;
-#[cfg(test)]
-mod rules_tests;
-mod says;
-mod seat_processes;
-mod secrets;
-#[cfg(test)]
-mod stand_ins;
-#[cfg(test)]
-mod tables;
-#[cfg(test)]
-mod test_folders;
-mod ticking;
-mod udp_links;
-#[cfg(test)]
-mod udp_tests;
-mod waiting;
-mod watcher_processes;
-mod whole_files;
-mod witnesses;
+mod tests;
 
-pub use file_keepers::FileKeeper;
+pub use files::file_keepers::FileKeeper;
+pub use files::folder_locks::FolderLock;
+pub use files::match_files::{HIGHEST_PORT, LOWEST_PORT, MatchFile};
 pub use files::read_saved;
-pub use folder_locks::FolderLock;
-pub use hearing::{Hearing, Word};
+pub use files::secrets::{make_secret, read_secret};
+pub use files::whole_files::publish;
+pub use loops::operators::Operator;
 pub use loops::{play_loop, run_loop};
-pub use match_files::{HIGHEST_PORT, LOWEST_PORT, MatchFile};
-pub use operators::Operator;
-pub use party_sockets::PartySocket;
-pub use printable::{Printable, PrintableLines};
-pub use progress::Progress;
-pub use referee_processes::RefereeProcess;
-pub use rounds::{Going, MOST_PARTIES};
-pub use says::say;
-pub use seat_processes::SeatProcess;
-pub use secrets::{make_secret, read_secret};
-pub use ticking::Ticking;
-pub use udp_links::UdpLink;
-pub use waiting::{Ready, Waiting};
-pub use watcher_processes::WatcherProcess;
-pub use whole_files::publish;
-pub use witnesses::Witness;
+pub use messages::printable::{Printable, PrintableLines};
+pub use messages::progress::Progress;
+pub use messages::says::say;
+pub use processes::referee::RefereeProcess;
+pub use processes::rounds::{Going, MOST_PARTIES};
+pub use processes::seat::SeatProcess;
+pub use processes::ticking::Ticking;
+pub use processes::waiting::{Ready, Waiting};
+pub use processes::watcher::WatcherProcess;
+pub use processes::witnesses::Witness;
+pub use sockets::hearing::{Hearing, Word};
+pub use sockets::party_sockets::PartySocket;
+pub use sockets::udp_links::UdpLink;

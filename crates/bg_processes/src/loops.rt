@@ -2,8 +2,10 @@
 ghost use Rattle.bg_auto.specs.RoundResults.{setup_of};
 ghost use Rattle.bg_processes.specs.LoopResults.{IsLoopResult};
 
-use crate::file_keepers::FileKeeper;
-use crate::udp_links::UdpLink;
+pub(crate) mod operators;
+
+use crate::files::file_keepers::FileKeeper;
+use crate::sockets::udp_links::UdpLink;
 use bg_auto::{LoopFault, NoOnlooker, Onlooker, PARTIES, play_rounds};
 use bg_match::Rules;
 use bg_text::Sink;

@@ -3,8 +3,8 @@ use Rattle.std.proofs.Common.{◌≡◌, ◌==◌, ℕ, true, false, refl, ap, s
 use Rattle.std.proofs.lemmas.Bool.{and_parts, eqb-true, eq-eqb, and_from}
 use Rattle.bg_match.specs.declared.limits.Rules.{Rules}
 use Rattle.bg_match.specs.declared.limits.Rules.TheVariants.{One, Two}
-use Rattle.bg_wire.specs.Codes.{rules_code}
-use Rattle.bg_wire.specs.PacketText.{IsOfMatch, id_of, is_of_match, packet_rules}
+use Rattle.bg_wire.specs.Entries.Codes.{rules_code}
+use Rattle.bg_wire.specs.Packets.PacketText.{IsOfMatch, id_of, is_of_match, packet_rules}
 use Rattle.bg_wire.specs.declared.packets.Packet.{Packet}
 
 same_rules : (a b : Rules) → (rules_code a == rules_code b) ≡ true → a ≡ b

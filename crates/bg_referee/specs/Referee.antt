@@ -5,7 +5,7 @@ use Rattle.bg_match.specs.Terms.{Terms}
 use Rattle.bg_match.specs.Match.{Log, IsLegalRecord, empty_log}
 use Rattle.bg_wire.specs.Runs.{IsRun}
 use Rattle.bg_wire.specs.declared.saves.Saved.{Saved}
-use Rattle.bg_wire.specs.Codes.{least_save, greatest_save, most_in_packet}
+use Rattle.bg_wire.specs.Entries.Codes.{least_save, greatest_save, most_in_packet}
 use Rattle.bg_referee.specs.Sessions.{SessionsView, IsSessions, no_sessions}
 
 -- the record, how many of its entries are saved, the number of the next save, and what the parties are known to have

@@ -1,7 +1,7 @@
 -- What the referee knows that the parties have, so that it can send them what they lack.
 use Rattle.std.specs.Prelude.{◌≡◌, ◌==◌, ℕ, zero, suc, ◌+◌, ◌-◌, ◌≤◌, nat_lt, Option, Some, None, List, [], ◌∷◌}
 use Rattle.std.specs.Prelude.{◌++◌, length, take, min, slice_index_or, slice_set, replicate, if◌then◌else◌}
-use Rattle.bg_wire.specs.Codes.{seat_of_x, last_watcher, most_in_packet}
+use Rattle.bg_wire.specs.Entries.Codes.{seat_of_x, last_watcher, most_in_packet}
 use Rattle.bg_wire.specs.declared.packets.Packet.{Packet}
 use Rattle.bg_wire.specs.declared.packets.Packet.TheVariants as packet
 use Rattle.bg_referee.specs.declared.outcomes.TakeOutcome.{TakeOutcome}

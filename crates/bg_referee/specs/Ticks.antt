@@ -3,7 +3,7 @@ use Rattle.std.specs.Prelude.{◌≡◌, ℕ, ◌+◌, List, All}
 use Rattle.std.specs.List.{AllZip}
 use Rattle.bg_match.specs.Terms.{rules_of}
 use Rattle.bg_match.specs.declared.entries.Entry.{Entry}
-use Rattle.bg_wire.specs.PacketText.{IsPacket}
+use Rattle.bg_wire.specs.Packets.PacketText.{IsPacket}
 use Rattle.bg_wire.specs.declared.packets.Packet.{Packet}
 use Rattle.bg_wire.specs.declared.packets.Packet.TheVariants as packet
 use Rattle.bg_referee.specs.Referee.{RefereeView, IsShown}

@@ -4,7 +4,7 @@ ghost use Rattle.std.specs.List.{AllByRecursion};
 ghost use Rattle.bg_match.specs.Entry.{IsEntry};
 ghost use Rattle.bg_match.specs.Terms.{rules_of};
 ghost use Rattle.bg_match.specs.declared.entries.Entry.{Entry};
-ghost use Rattle.bg_wire.specs.PacketText.{IsPacket};
+ghost use Rattle.bg_wire.specs.Packets.PacketText.{IsPacket};
 
 use crate::{Referee, TakeOutcome};
 use arrayvec::ArrayVec;

@@ -21,8 +21,6 @@
 mod answers;
 mod fault_words;
 mod outcomes;
-#[cfg(test)]
-mod pass_tests;
 mod referee;
 mod saves;
 mod sessions;

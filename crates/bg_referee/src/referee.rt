@@ -3,8 +3,8 @@ ghost use Rattle.std.specs.Prelude.{◌≡◌, ◌≢◌, ◌↔◌, IsOk, IfOk,
 ghost use Rattle.bg_match.specs.Limits.{IsMatchLength};
 ghost use Rattle.bg_match.specs.Match.{ActsAfter, IsNext};
 ghost use Rattle.bg_match.specs.Terms.{terms_of};
-ghost use Rattle.bg_wire.specs.Codes.{referee};
-ghost use Rattle.bg_wire.specs.SavedText.{IsSavable, parts_of};
+ghost use Rattle.bg_wire.specs.Entries.Codes.{referee};
+ghost use Rattle.bg_wire.specs.Saved.SavedText.{IsSavable, parts_of};
 
 use crate::DueFault;
 use crate::sessions::Sessions;

@@ -1,8 +1,8 @@
 //! What the referee saves.
 ghost use Rattle.std.specs.Prelude.{◌≡◌, None};
-ghost use Rattle.bg_wire.specs.Codes.{referee};
-ghost use Rattle.bg_wire.specs.Saves.{IsNextSave};
-ghost use Rattle.bg_wire.specs.SavedText.{parts_with};
+ghost use Rattle.bg_wire.specs.Entries.Codes.{referee};
+ghost use Rattle.bg_wire.specs.Saved.Saves.{IsNextSave};
+ghost use Rattle.bg_wire.specs.Saved.SavedText.{parts_with};
 
 use crate::Referee;
 use bg_wire::{REFEREE, SaveRefusal, Slot, next_save};

@@ -1,6 +1,6 @@
 //! What the parties are known to have, so that the referee can send them what they lack without having been asked.
 ghost use Rattle.std.specs.Prelude.{◌≡◌, ◌≤◌, ◌<◌, ◌+◌, ◌++◌, ◌∷◌, [], All, take};
-ghost use Rattle.bg_wire.specs.PacketText.{IsPacket};
+ghost use Rattle.bg_wire.specs.Packets.PacketText.{IsPacket};
 ghost use Rattle.bg_referee.specs.Sessions.{IsSessions, no_sessions, tell, hear, hear_sender, hear_answer, behind};
 ghost use Rattle.bg_referee.specs.Sessions.{pushed, party_after, after_pushes, last_party, most_pushes};
 ghost use Rattle.bg_referee.specs.Takes.{AnswerFits};

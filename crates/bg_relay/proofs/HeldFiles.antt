@@ -1,7 +1,7 @@
 -- What a file holds.
 use Rattle.std.proofs.Common.{◌≡◌, ◌≢◌, ℕ, List, Result, Ok, Err, IsOk, IfOk, sym, subst, ◌∙◌}
-use Rattle.bg_wire.specs.Restoring.{LoadsAs}
-use Rattle.bg_wire.specs.SavedText.{SavedParts, IsSavedText, parts_of}
+use Rattle.bg_wire.specs.Saved.Restoring.{LoadsAs}
+use Rattle.bg_wire.specs.Saved.SavedText.{SavedParts, IsSavedText, parts_of}
 use Rattle.bg_wire.specs.declared.faults.LoadFault.{LoadFault}
 use Rattle.bg_wire.specs.declared.faults.LoadFault.TheVariants.{Memory}
 use Rattle.bg_wire.specs.declared.saves.Saved.{Saved}

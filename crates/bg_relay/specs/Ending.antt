@@ -1,6 +1,6 @@
 -- The exit status of the program.
 use Rattle.std.specs.Prelude.{ℕ, true, false}
-use Rattle.bg_text.specs.declared.verdicts.Verdict.TheVariants.{Fine, Refused, TooLong}
+use Rattle.bg_text.specs.declared.judging.verdicts.Verdict.TheVariants.{Fine, Refused, TooLong}
 use Rattle.bg_relay.specs.declared.endings.Ending.{Ending}
 use Rattle.bg_relay.specs.declared.endings.Ending.TheVariants.{Told, WrongArguments, Judged, Played, Simulated}
 use Rattle.bg_relay.specs.declared.endings.Ending.TheVariants.{Shown, Served, ActionRefused, Failed}

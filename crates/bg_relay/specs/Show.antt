@@ -5,12 +5,12 @@ use Rattle.std.specs.Fmt.{decimal}
 use Rattle.bg_match.specs.Match.{StandsAt}
 use Rattle.bg_match.specs.State.{State}
 use Rattle.bg_match.specs.declared.actions.Action.{Action}
-use Rattle.bg_text.specs.BoardText.{line_text, board_text}
-use Rattle.bg_text.specs.TermsText.{terms_text}
+use Rattle.bg_text.specs.Boards.BoardText.{line_text, board_text}
+use Rattle.bg_text.specs.Boards.TermsText.{terms_text}
 use Rattle.bg_wire.specs.Faults.{IsLoadFault}
 use Rattle.bg_wire.specs.FaultWords.{load_fault_words}
-use Rattle.bg_wire.specs.Restoring.{LoadsAs, SlotsRestore}
-use Rattle.bg_wire.specs.SavedText.{SavedParts, parts_of}
+use Rattle.bg_wire.specs.Saved.Restoring.{LoadsAs, SlotsRestore}
+use Rattle.bg_wire.specs.Saved.SavedText.{SavedParts, parts_of}
 use Rattle.bg_wire.specs.declared.saves.Saved.{Saved}
 use Rattle.bg_wire.specs.declared.faults.LoadFault.{LoadFault}
 use Rattle.bg_wire.specs.declared.faults.LoadFault.TheVariants.{Memory}

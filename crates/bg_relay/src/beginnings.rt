@@ -1,7 +1,7 @@
 //! What the commands of one party begin with, and why they don't begin or end early.
 
+use crate::commands::play_loop::failed_barely;
 use crate::endings::Ending;
-use crate::loop_command::failed_barely;
 use crate::{NO_MEMORY, failed, wrong};
 use bg_processes::{FolderLock, MatchFile, PartySocket, Printable, Ticking, Waiting};
 use bg_world::{Outcome, outcome_text};

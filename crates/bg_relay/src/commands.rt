@@ -1,5 +1,13 @@
 //! The commands that read standard input or files, and those that print a text that is made in memory.
 
+pub(crate) mod act;
+pub(crate) mod auto;
+pub(crate) mod new_match;
+pub(crate) mod play;
+pub(crate) mod play_loop;
+pub(crate) mod referee;
+pub(crate) mod watch;
+
 use crate::endings::Ending;
 use crate::showing::show_text;
 use crate::{NO_MEMORY, failed};

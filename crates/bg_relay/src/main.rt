@@ -2,35 +2,20 @@
 //! memory or over sockets and files.
 #![tactic(auto)]
 
-mod act_command;
 mod answers;
 mod arguments;
-mod auto_command;
 mod beginnings;
 mod commands;
 mod endings;
-#[cfg(test)]
-mod kept_output;
-mod loop_command;
 mod match_arguments;
-mod new_command;
-mod play_command;
-mod referee_command;
-#[cfg(test)]
-mod rules_tests;
 mod seats;
 mod showing;
-#[cfg(test)]
-mod sim_tests;
 mod tellings;
 #[cfg(test)]
 mod tests;
 mod typed_lines;
-mod watch_command;
 
-use act_command::run_act;
 use arguments::{MISPLACED_FILE, command, rules_in};
-use auto_command::run_auto;
 pub use bg_auto::{
     DiceAttempts, LoopFault, MemoryWorld, Simulation, auto_action, dice_word, event_of,
     event_words, run_rounds, sim_text,
@@ -40,12 +25,15 @@ use bg_processes::{PrintableLines, Progress, say};
 use bg_world::Setup;
 use clap::ArgMatches;
 use clap::error::ErrorKind;
+use commands::act::run_act;
+use commands::auto::run_auto;
+use commands::new_match::run_new;
+use commands::play::run_play;
+use commands::play_loop::run_loop_command;
+use commands::referee::run_referee;
+use commands::watch::run_watch;
 use commands::{run_judge, run_script, run_show, run_sim};
 use endings::Ending;
-use loop_command::run_loop_command;
-use new_command::run_new;
-use play_command::run_play;
-use referee_command::run_referee;
 use std::fmt::Display;
 use std::fs::File;
 use std::io;
@@ -55,7 +43,6 @@ use std::process::ExitCode;
 use std::random::RandomSource;
 use std::rt::Files;
 use std::time::Clock;
-use watch_command::run_watch;
 
 /// The number of the match that scripts play.
 const SCRIPTED_MATCH: u64 = 1;

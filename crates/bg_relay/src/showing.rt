@@ -1,9 +1,9 @@
 //! What two saved files of a party hold.
 ghost use Rattle.std.specs.Prelude.{◌≡◌, ◌++◌, ℕ, List, Some, IfOk, OnOk};
-ghost use Rattle.bg_text.specs.BoardText.{line_text};
+ghost use Rattle.bg_text.specs.Boards.BoardText.{line_text};
 ghost use Rattle.bg_wire.specs.FaultWords.{numbered};
-ghost use Rattle.bg_wire.specs.Restoring.{LoadsAs, newer};
-ghost use Rattle.bg_wire.specs.SavedText.{parts_of};
+ghost use Rattle.bg_wire.specs.Saved.Restoring.{LoadsAs, newer};
+ghost use Rattle.bg_wire.specs.Saved.SavedText.{parts_of};
 ghost use Rattle.bg_relay.specs.Show.{IsHeld, IsShowText, IsBoardOf, claim_part as part_of_claim, file_line, held_of};
 ghost use Rattle.bg_relay.specs.Show.{held_part, loaded_of, match_part, save_part};
 

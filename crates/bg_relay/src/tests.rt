@@ -1,4 +1,8 @@
 //! The command line, and what is shown of saved files.
+mod kept_output;
+mod rules;
+mod sim;
+
 use crate::arguments::command;
 use crate::showing::show_text;
 use clap::error::ErrorKind;

@@ -1,5 +1,5 @@
 //! Packets and saved texts in which each byte was changed to every other value, given to the calls that take bytes.
-ghost use Rattle.bg_wire.specs.SavedText.{IsSavable, parts_of};
+ghost use Rattle.bg_wire.specs.Saved.SavedText.{IsSavable, parts_of};
 
 use crate::fronts::is_front;
 use bg_board::Player;

@@ -1,6 +1,6 @@
 //! A referee's host and a world over devices of its own, as docs/USING.md shows them.
 ghost use Rattle.std.specs.Prelude.{IfSome};
-ghost use Rattle.bg_wire.specs.PacketText.{IsPacket};
+ghost use Rattle.bg_wire.specs.Packets.PacketText.{IsPacket};
 
 use crate::own_devices::{BeginFault, world_over};
 use crate::referee_host::{HostFault, RefereeHost};

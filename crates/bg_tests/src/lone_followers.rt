@@ -1,6 +1,6 @@
 //! A seat and one who watches, each in a process of its own, over a link and files of its own.
 ghost use Rattle.std.specs.Prelude.{◌≤◌};
-ghost use Rattle.bg_wire.specs.Codes.{first_watcher};
+ghost use Rattle.bg_wire.specs.Entries.Codes.{first_watcher};
 
 use crate::lone_referee::{MOST_PARTIES, ProcessFault, check_restart};
 use crate::own_devices::FileKeeper;

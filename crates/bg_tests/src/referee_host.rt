@@ -1,5 +1,5 @@
 //! The host of a referee: it answers the parties of a match over a UDP socket, and keeps the match in two files.
-ghost use Rattle.bg_wire.specs.PacketText.{IsPacket};
+ghost use Rattle.bg_wire.specs.Packets.PacketText.{IsPacket};
 
 use crate::slot_files::SlotFiles;
 use bg_match::{LengthFault, Rules};

@@ -15,10 +15,10 @@ use Rattle.bg_match.specs.declared.entries.Entry.TheVariants as entry
 use Rattle.bg_match.specs.declared.entries.EntryFault.TheVariants.{WrongPhase}
 use Rattle.bg_match.specs.declared.limits.Rules.TheVariants.{One, Two}
 use Rattle.bg_match.specs.declared.phases.Phase.TheVariants as phase
-use Rattle.bg_text.specs.BoardText.{header_line, phase_line, board_text}
-use Rattle.bg_text.specs.EntryText.{entry_text}
-use Rattle.bg_text.specs.Judging.{IsLineFault}
-use Rattle.bg_text.specs.Transcript.{length_line}
+use Rattle.bg_text.specs.Boards.BoardText.{header_line, phase_line, board_text}
+use Rattle.bg_text.specs.Entries.EntryText.{entry_text}
+use Rattle.bg_text.specs.Judge.Judging.{IsLineFault}
+use Rattle.bg_text.specs.Boards.Transcript.{length_line}
 use Rattle.bg_text.specs.declared.faults.LineFault.TheVariants as fault
 
 pass_line : entry_text None entry.Passed ≡ codes "pass"

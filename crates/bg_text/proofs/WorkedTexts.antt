@@ -14,12 +14,12 @@ use Rattle.bg_match.specs.declared.levels.Level.TheVariants.{Gammon}
 use Rattle.bg_match.specs.declared.phases.Phase.TheVariants as phase
 use Rattle.bg_match.specs.declared.actions.Action.TheVariants as action
 use Rattle.bg_match.specs.declared.entries.Entry.TheVariants as entry
-use Rattle.bg_text.specs.BoardText.{upper_points, lower_points, header_line, numbers_line, cells_line, aside_line, phase_text, board_text}
-use Rattle.bg_text.specs.EntryText.{entry_text, action_text}
-use Rattle.bg_text.specs.Judging.{IsJudgement, lines_of}
+use Rattle.bg_text.specs.Boards.BoardText.{upper_points, lower_points, header_line, numbers_line, cells_line, aside_line, phase_text, board_text}
+use Rattle.bg_text.specs.Entries.EntryText.{entry_text, action_text}
+use Rattle.bg_text.specs.Judge.Judging.{IsJudgement, lines_of}
 use Rattle.bg_text.specs.declared.faults.LineFault.TheVariants as fault
-use Rattle.bg_text.specs.declared.verdicts.Verdict.TheVariants.{Fine, Refused}
-use Rattle.bg_text.proofs.FineTranscripts.{transcripts_are_fine}
+use Rattle.bg_text.specs.declared.judging.verdicts.Verdict.TheVariants.{Fine, Refused}
+use Rattle.bg_text.proofs.Judged.FineTranscripts.{transcripts_are_fine}
 
 -- a match to so many points, by the first rules
 abbrev to_points : ℕ → Terms

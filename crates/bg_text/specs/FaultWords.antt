@@ -1,7 +1,7 @@
 -- The words of faults.
 use Rattle.std.specs.Prelude.{ℕ, List, codes}
-use Rattle.bg_text.specs.declared.verdicts.EngineFault.{EngineFault}
-use Rattle.bg_text.specs.declared.verdicts.EngineFault.TheVariants as engine_fault
+use Rattle.bg_text.specs.declared.judging.verdicts.EngineFault.{EngineFault}
+use Rattle.bg_text.specs.declared.judging.verdicts.EngineFault.TheVariants as engine_fault
 
 abbrev pub engine_fault_words : EngineFault → List ℕ
 engine_fault_words engine_fault.Read = codes "the input could not be read"

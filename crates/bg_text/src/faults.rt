@@ -1,6 +1,6 @@
 //! Why a line cannot be read, or cannot follow.
 ghost use Rattle.std.specs.Prelude.{◌≡◌};
-ghost use Rattle.bg_text.specs.Reason.{text_reason};
+ghost use Rattle.bg_text.specs.Judge.Reason.{text_reason};
 
 use bg_match::EntryFault;
 use std::fmt;
@@ -36,7 +36,7 @@ impl TextFault {
 
 impl fmt::Display for TextFault {
     ghost use Rattle.std.specs.Prelude.{Some};
-    ghost use Rattle.bg_text.specs.Reason.{text_reason};
+    ghost use Rattle.bg_text.specs.Judge.Reason.{text_reason};
 
     ghost output = { λ fault. Some (text_reason fault) };
 

@@ -4,18 +4,23 @@ ghost use Rattle.std.specs.Prelude.{IfSome};
 ghost use Rattle.bg_match.specs.Limits.{IsMatchLength};
 ghost use Rattle.bg_match.specs.Terms.{match_length};
 ghost use Rattle.bg_match.specs.declared.entries.Entry.{Entry};
-ghost use Rattle.bg_text.specs.EngineFault.{SourceFails, SinkFails};
-ghost use Rattle.bg_text.specs.Judging.{lines_of, IsWrongSeat, IsLineFault, IsJudged, IsJudgement};
-ghost use Rattle.bg_text.specs.Judging.{TranscriptsAreFine, JudgementsAgree};
+ghost use Rattle.bg_text.specs.Streams.EngineFault.{SourceFails, SinkFails};
+ghost use Rattle.bg_text.specs.Judge.Judging.{lines_of, IsWrongSeat, IsLineFault, IsJudged, IsJudgement};
+ghost use Rattle.bg_text.specs.Judge.Judging.{TranscriptsAreFine, JudgementsAgree};
 ghost use Rattle.bg_text.specs.Limits.{most_bytes};
-ghost use Rattle.bg_text.specs.Reading.{IsReadAs, IsLineAt, AddsLine, RefusesLine};
-ghost use Rattle.bg_text.specs.Transfers.{ReadsInput, WritesText};
+ghost use Rattle.bg_text.specs.Judge.Reading.{IsReadAs, IsLineAt, AddsLine, RefusesLine};
+ghost use Rattle.bg_text.specs.Streams.Transfers.{ReadsInput, WritesText};
 
+pub(crate) mod judgements;
+pub(crate) mod length_lines;
+pub(crate) mod reasons;
+pub(crate) mod verdicts;
+
+use crate::entries::lines::parse_entry;
 use crate::faults::LineFault;
-use crate::inputs::{MOST_BYTES, read_input, split_line};
-use crate::judgements::{fine, refused, refused_at_once, too_long};
-use crate::length_lines::read_terms;
-use crate::lines::parse_entry;
+use crate::judging::judgements::{fine, refused, refused_at_once, too_long};
+use crate::judging::length_lines::read_terms;
+use crate::streams::inputs::{MOST_BYTES, read_input, split_line};
 use crate::{EngineFault, Judgement, Sink, Source, Verdict};
 use bg_board::Player;
 use bg_match::{Entry, EntryFault, Record, Standing, Terms};
@@ -64,7 +69,7 @@ impl From<LineFault> for AddFault {
 
 impl From<EntryFault> for AddFault {
     ghost use Rattle.std.specs.Prelude.{◌≡◌};
-    ghost use Rattle.bg_text.specs.Reading.{fault_of_push};
+    ghost use Rattle.bg_text.specs.Judge.Reading.{fault_of_push};
 
     ghost from_gives = { λ why fault. fault ≡ fault_of_push why };
 

@@ -11,45 +11,29 @@
 #![tactic(auto)]
 
 mod board_texts;
-mod devices;
+mod entries;
 mod fault_words;
 mod faults;
-mod histories;
-mod inputs;
-#[cfg(test)]
-mod judge_tests;
-mod judgements;
 mod judging;
-mod length_lines;
-mod lines;
-mod names;
-mod pairs;
-#[cfg(test)]
-mod pass_tests;
 mod printing;
-mod reasons;
-#[cfg(test)]
-mod rules_tests;
+mod streams;
 mod terms_texts;
 #[cfg(test)]
 mod tests;
 mod transcripts;
-mod verdicts;
-mod words;
-mod writing;
 
 pub use board_texts::board_text;
-pub use devices::{Reading, Sink, Source, StreamFault, Writing};
+pub use entries::lines::{parse_action, parse_entry, split_player};
+pub use entries::words::thirds;
+pub use entries::writing::{entry_text, entry_texts_differ};
 pub use faults::TextFault;
-pub use histories::History;
-pub use inputs::{MOST_BYTES, read_input, split_line};
-pub use judgements::{Judgement, too_long};
+pub use judging::judgements::{Judgement, too_long};
+pub use judging::reasons::reason_text;
+pub use judging::verdicts::{EngineFault, Verdict};
 pub use judging::{judge, judge_text, judgements_agree, transcripts_are_fine};
-pub use lines::{parse_action, parse_entry, split_player};
 pub use printing::{put_number, put_text};
-pub use reasons::reason_text;
+pub use streams::devices::{Reading, Sink, Source, StreamFault, Writing};
+pub use streams::histories::History;
+pub use streams::inputs::{MOST_BYTES, read_input, split_line};
 pub use terms_texts::put_terms;
 pub use transcripts::transcript_text;
-pub use verdicts::{EngineFault, Verdict};
-pub use words::thirds;
-pub use writing::{entry_text, entry_texts_differ};

@@ -1,7 +1,7 @@
 //! The length and the rules of a match, in words.
 ghost use Rattle.std.specs.Prelude.{◌≡◌, ◌++◌, OnOk};
 ghost use Rattle.bg_match.specs.Terms.{terms_of};
-ghost use Rattle.bg_text.specs.TermsText.{rules_mark as mark, terms_text};
+ghost use Rattle.bg_text.specs.Boards.TermsText.{rules_mark as mark, terms_text};
 
 use crate::printing::{put_number, put_text};
 use bg_match::Rules;

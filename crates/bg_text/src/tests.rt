@@ -1,14 +1,24 @@
-//! Lines of each kind, lines of each fault, and the words of refusals.
-use crate::{
-    EngineFault, StreamFault, TextFault, entry_text, parse_action, parse_entry, reason_text,
-};
+//! Lines, boards, transcripts and judgements. The expected texts are those of the rules and formats, worked out by
+//! hand.
+mod actions;
+mod boards;
+mod device_errors;
+mod devices;
+mod growths;
+mod inputs;
+mod judging;
+mod lines;
+mod passes;
+mod pictures;
+mod reasons;
+mod records;
+mod rules;
+mod transcripts;
+
 use arrayvec::ArrayVec;
-use bg_board::{Die, Player, Step};
-use bg_match::{Action, Entry, EntryFault, Level, NoDouble};
-use bg_turns::{Dice, Turn, TurnFault};
-use std::fmt::Display;
+use bg_board::Step;
+use bg_turns::Turn;
 use std::process::Abort;
-use std::test::Fail;
 
 fn turn(rt: &impl Abort, steps: &[(u8, u8)]) -> Turn {
     let mut list = ArrayVec::new();
@@ -17,231 +27,4 @@ fn turn(rt: &impl Abort, steps: &[(u8, u8)]) -> Turn {
         assert!(rt; list.try_push(step).is_ok());
     }
     Turn { steps: list }
-}
-
-/// The line is read as this entry of this seat, which is written as the line.
-fn check_entry(rt: &impl Abort, line: &str, seat: Option<Player>, entry: Entry) {
-    let line = line.as_bytes();
-    let (by, found) = parse_entry(line).expect(rt, "a line");
-    assert_eq!(rt; by, seat);
-    assert_eq!(rt; found, entry);
-    assert_eq!(rt; entry_text(by, &found).as_str().as_bytes(), line);
-}
-
-/// The line is read as this turn of this seat.
-fn check_turn(rt: &impl Abort, line: &str, seat: Player, steps: &[(u8, u8)]) {
-    check_entry(rt, line, Some(seat), Entry::Moved(turn(rt, steps)));
-}
-
-#[test]
-fn lines_of_dice_and_doubles(rt: HostRuntime) {
-    let dice = Dice {
-        first: Die::Six,
-        second: Die::Two,
-    };
-    let opening = Entry::Opening(Die::Three, Die::One);
-    let equal = Entry::Opening(Die::Four, Die::Four);
-    check_entry(&rt, "open 3 1", None, opening);
-    check_entry(&rt, "open 4 4", None, equal);
-    check_entry(&rt, "O roll 6 2", Some(Player::O), Entry::Rolled(dice));
-    check_entry(&rt, "X double", Some(Player::X), Entry::Doubled);
-    check_entry(&rt, "O take", Some(Player::O), Entry::Taken);
-    check_entry(&rt, "X drop", Some(Player::X), Entry::Dropped);
-}
-
-#[test]
-fn lines_of_turns(rt: HostRuntime) {
-    check_turn(&rt, "X move", Player::X, &[]);
-    check_turn(&rt, "X move 8-5 6-5", Player::X, &[(8, 5), (6, 5)]);
-    check_turn(&rt, "O move bar-off 1-off", Player::O, &[(25, 0), (1, 0)]);
-    let four_entering = "X move bar-24 bar-24 bar-24 bar-24";
-    check_turn(&rt, four_entering, Player::X, &[(25, 24); 4]);
-}
-
-#[test]
-fn lines_of_resignations(rt: HostRuntime) {
-    for (line, seat, level) in [
-        ("X resign normal", Player::X, Level::Normal),
-        ("O resign gammon", Player::O, Level::Gammon),
-        ("X resign backgammon", Player::X, Level::Backgammon),
-    ] {
-        check_entry(&rt, line, Some(seat), Entry::Resigned(level));
-    }
-    check_entry(&rt, "O accept", Some(Player::O), Entry::Accepted);
-    check_entry(&rt, "X reject", Some(Player::X), Entry::Rejected);
-    check_entry(&rt, "pass", None, Entry::Passed);
-}
-
-/// Lines that are no entry, and why.
-const NO_ENTRIES: [(&str, TextFault); 44] = [
-    ("X move 0-off", TextFault::BadNumber),
-    ("X move 25-20", TextFault::BadNumber),
-    ("X move 3-0", TextFault::BadNumber),
-    ("X move 03-1", TextFault::BadNumber),
-    ("X move 5-5", TextFault::BadNumber),
-    ("X move 5-8", TextFault::BadNumber),
-    ("X move 24-23 24-23 24-23 24-23 0-off", TextFault::BadNumber),
-    ("open 0 1", TextFault::BadNumber),
-    ("open 3 7", TextFault::BadNumber),
-    ("O roll 06 2", TextFault::BadNumber),
-    (
-        "X move 24-23 24-23 24-23 24-23 24-23",
-        TextFault::TooManySteps,
-    ),
-    ("", TextFault::NotALine),
-    ("X", TextFault::NotALine),
-    ("x take", TextFault::NotALine),
-    ("X open 3 1", TextFault::NotALine),
-    ("open 3", TextFault::NotALine),
-    ("open 3 1 1", TextFault::NotALine),
-    ("roll 6 2", TextFault::NotALine),
-    ("X roll", TextFault::NotALine),
-    ("X resign", TextFault::NotALine),
-    ("X moves 8-5", TextFault::NotALine),
-    ("X move 0-off bar", TextFault::NotALine),
-    ("X move off-3", TextFault::NotALine),
-    ("X move 8-bar", TextFault::NotALine),
-    ("X move 8-5-3", TextFault::NotALine),
-    ("X move 100-5", TextFault::NotALine),
-    ("X  take", TextFault::NotALine),
-    ("X move  8-5", TextFault::NotALine),
-    (" X take", TextFault::NotALine),
-    ("X take ", TextFault::NotALine),
-    ("X move 8-5 ", TextFault::NotALine),
-    ("X take\r", TextFault::NotALine),
-    ("X take\0", TextFault::NotALine),
-    ("X take\u{80}", TextFault::NotALine),
-    ("X pass", TextFault::NotALine),
-    ("O pass", TextFault::NotALine),
-    ("pass 1", TextFault::NotALine),
-    ("pass 8-5", TextFault::NotALine),
-    ("pass ", TextFault::NotALine),
-    (" pass", TextFault::NotALine),
-    ("passed", TextFault::NotALine),
-    ("pas", TextFault::NotALine),
-    ("Pass", TextFault::NotALine),
-    ("pass\0", TextFault::NotALine),
-];
-
-#[test]
-fn refused_lines(rt: HostRuntime) {
-    for &(line, fault) in &NO_ENTRIES {
-        assert_eq!(rt; parse_entry(line.as_bytes()), Err(fault), "{line}");
-    }
-    assert_eq!(rt; parse_entry(b"X take\xff"), Err(TextFault::NotALine));
-    assert_eq!(rt; parse_entry(&[b'3'; 300]), Err(TextFault::NotALine));
-}
-
-#[test]
-fn long_numbers(rt: HostRuntime) {
-    let mut line = [b'1'; 307];
-    line[..7].copy_from_slice(b"open 3 ");
-    assert_eq!(rt; parse_entry(&line), Err(TextFault::NotALine));
-}
-
-/// The line is read as this action.
-fn check_action(rt: &impl Abort, line: &str, action: Action) {
-    assert_eq!(rt; parse_action(line.as_bytes()), Ok(action), "{line}");
-}
-
-#[test]
-fn lines_of_actions(rt: HostRuntime) {
-    check_action(&rt, "roll", Action::Roll);
-    check_action(&rt, "double", Action::Double);
-    check_action(&rt, "take", Action::Take);
-    check_action(&rt, "drop", Action::Drop);
-    check_action(&rt, "move", Action::Move(turn(&rt, &[])));
-    let steps = [(25, 20), (8, 0)];
-    check_action(&rt, "move bar-20 8-off", Action::Move(turn(&rt, &steps)));
-    check_action(&rt, "resign normal", Action::Resign(Level::Normal));
-    check_action(&rt, "resign gammon", Action::Resign(Level::Gammon));
-    check_action(&rt, "resign backgammon", Action::Resign(Level::Backgammon));
-    check_action(&rt, "accept", Action::Accept);
-    check_action(&rt, "reject", Action::Reject);
-}
-
-/// Lines that are no action, and why.
-const NO_ACTIONS: [(&str, TextFault); 6] = [
-    ("open 3 1", TextFault::NotALine),
-    ("pass", TextFault::NotALine),
-    ("roll 3 1", TextFault::NotALine),
-    ("X roll", TextFault::NotALine),
-    ("move 03-1", TextFault::BadNumber),
-    ("move 6-5 6-5 6-5 6-5 6-5", TextFault::TooManySteps),
-];
-
-#[test]
-fn lines_of_no_action(rt: HostRuntime) {
-    for &(line, fault) in &NO_ACTIONS {
-        assert_eq!(rt; parse_action(line.as_bytes()), Err(fault), "{line}");
-    }
-}
-
-fn check_words(rt: &impl Abort, fault: EntryFault, words: &str) {
-    assert_eq!(rt; reason_text(&fault).as_str(), words);
-}
-
-#[test]
-fn refusals_of_entries_in_words(rt: HostRuntime) {
-    check_words(&rt, EntryFault::RecordFull, "record full");
-    check_words(&rt, EntryFault::MatchOver, "match over");
-    check_words(&rt, EntryFault::WrongPhase, "wrong phase");
-    check_words(&rt, EntryFault::EqualOpening, "equal opening");
-    check_words(&rt, EntryFault::Memory, "out of memory");
-}
-
-#[test]
-fn refusals_of_turns_in_words(rt: HostRuntime) {
-    for (fault, words) in [
-        (TurnFault::StepIllegal(0), "step 1 illegal"),
-        (TurnFault::StepIllegal(3), "step 4 illegal"),
-        (TurnFault::MoreCanBePlayed, "more can be played"),
-        (TurnFault::LargerMustBePlayed, "larger die must be played"),
-    ] {
-        check_words(&rt, EntryFault::Turn(fault), words);
-    }
-}
-
-#[test]
-fn refusals_of_doubles_in_words(rt: HostRuntime) {
-    for (fault, words) in [
-        (NoDouble::Crawford, "no double: crawford"),
-        (NoDouble::NotOwner, "no double: not owner"),
-        (NoDouble::AtCap, "no double: at cap"),
-    ] {
-        check_words(&rt, EntryFault::NoDouble(fault), words);
-    }
-}
-
-#[test]
-fn refusals_of_lines_in_words(rt: HostRuntime) {
-    for (fault, words) in [
-        (TextFault::NotALine, "not a line"),
-        (TextFault::BadNumber, "bad number"),
-        (TextFault::TooManySteps, "too many steps"),
-    ] {
-        assert_eq!(rt; fault.reason(), words);
-    }
-}
-
-/// A fault is printed so.
-fn check_printed<T: Display + Drop>(
-    rt: &(impl AllocGlobal + Abort),
-    fault: T,
-    words: &str,
-) -> Result<(), Fail> {
-    let text = format!(in rt.alloc(); "{fault}")?;
-    assert_eq!(rt; text.as_str(), words);
-    Ok(())
-}
-
-#[test]
-fn faults_are_printed(rt: HostRuntime) -> Result<(), Fail> {
-    check_printed(&rt, StreamFault, "the device failed")?;
-    check_printed(&rt, EngineFault::Read, "the input could not be read")?;
-    check_printed(&rt, EngineFault::Write, "the output could not be written")?;
-    check_printed(&rt, EngineFault::Memory, "out of memory")?;
-    check_printed(&rt, TextFault::NotALine, "not a line")?;
-    check_printed(&rt, TextFault::BadNumber, "bad number")?;
-    check_printed(&rt, TextFault::TooManySteps, "too many steps")
 }

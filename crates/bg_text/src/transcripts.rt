@@ -1,13 +1,13 @@
 //! The transcript of a log.
 ghost use Rattle.std.specs.Prelude.{◌≡◌, ◌≤◌, ◌++◌, length, IfOk, OnOk};
 ghost use Rattle.bg_match.specs.Match.{IsLegalRecord};
-ghost use Rattle.bg_text.specs.BoardText.{line_text};
-ghost use Rattle.bg_text.specs.Reading.{AddsLineOf};
-ghost use Rattle.bg_text.specs.Transcript.{IsTranscript, length_line};
+ghost use Rattle.bg_text.specs.Boards.BoardText.{line_text};
+ghost use Rattle.bg_text.specs.Judge.Reading.{AddsLineOf};
+ghost use Rattle.bg_text.specs.Boards.Transcript.{IsTranscript, length_line};
 
+use crate::entries::writing::entry_text;
 use crate::printing::put_text;
 use crate::terms_texts::put_terms;
-use crate::writing::entry_text;
 use bg_match::{Number, Record};
 use std::alloc::{AllocError, Global};
 

@@ -1,4 +1,4 @@
--- The search for the greatest number of steps on a race, from the highest point down.
+-- The search for the greatest number of steps on the mover's counts, from the highest point down.
 use Rattle.std.proofs.Common.{◌≡◌, ◌≢◌, ◌↔◌, ℕ, ◌+◌, ◌-◌, ◌<◌, ◌≤◌, max, Bool, true, false, List, [], ◌∷◌, length, get_or, refl, sym, ◌∙◌, ap, not, eqb, subst, arith, inl, inr, w32}
 use Rattle.std.specs.Int.{trailing_zeros}
 use Rattle.std.specs.Bool.{OnTrue}
@@ -8,14 +8,14 @@ use Rattle.bg_board.specs.Position.{Position}
 use Rattle.bg_board.specs.FromTo.{FromTo}
 use Rattle.bg_board.specs.Step.{IsStep, after_step}
 use Rattle.bg_board.specs.declared.players.Player.{Player}
-use Rattle.bg_turns.specs.declared.races.Race.{Race}
-use Rattle.bg_turns.specs.Race.{Stands, step_of, can, after}
+use Rattle.bg_turns.specs.declared.mover_counts.MoverCounts.{MoverCounts}
+use Rattle.bg_turns.specs.MoverCounts.{Stands, step_of, can, after}
 use Rattle.bg_turns.specs.InOrder.{IsInOrder, IsMostInOrder}
 use Rattle.bg_turns.specs.Turn.{CanStep}
 use Rattle.bg_turns.specs.Masks.{ArePlaces}
 use Rattle.bg_turns.proofs.MostSteps.{FromTo-ext, most_of_all}
 use Rattle.bg_turns.proofs.Sides.{Stands-after, step_from_can, can_from_step, held_from_can}
-use Rattle.bg_turns.proofs.Opened.{IsLeft, CanFrom, place_low, place_passed, none_between}
+use Rattle.bg_turns.proofs.Lists.Opened.{IsLeft, CanFrom, place_low, place_passed, none_between}
 
 -- the first step, if there is one, starts above a point
 abbrev pub StartsAbove : ℕ → List FromTo → Type 0
@@ -28,7 +28,7 @@ pub record IsMostAbove (b : Position) (player : Player) (dice : List ℕ) (point
   pub greatest : (steps : List FromTo) → IsInOrder b player dice steps → StartsAbove point steps → length steps ≤ n
 
 -- a step by the die is the step from its point
-module _ (r : Race) (b : Position) (p : Player) (s : Stands r b p) (die : ℕ) (some : 1 ≤ die) (step : FromTo) (legal : IsStep b p step die) where
+module _ (r : MoverCounts) (b : Position) (p : Player) (s : Stands r b p) (die : ℕ) (some : 1 ≤ die) (step : FromTo) (legal : IsStep b p step die) where
   pub step_is : step ≡ step_of step.from die
   step_is = FromTo-ext step step.from (step.from - die) refl legal.landing
 
@@ -38,20 +38,20 @@ module _ (r : Race) (b : Position) (p : Player) (s : Stands r b p) (die : ℕ) (
       let downward = legal.downward in
       can_from_step r b p s step.from die (omega arith) starts some (subst (λ (u : FromTo). IsStep b p u die) step_is legal)
 
--- the test of a step on a race
-pub step_by_test : (r : Race) (b : Position) (p : Player) → Stands r b p → (die : ℕ) → 1 ≤ die → (step : FromTo) → 1 ≤ step.from → step.from ≤ 25 → step.to ≡ step.from - die → (t : Bool) → t ≡ can r step.from die → (t ≡ true) ↔ IsStep b p step die
+-- the test of a step on the mover's counts
+pub step_by_test : (r : MoverCounts) (b : Position) (p : Player) → Stands r b p → (die : ℕ) → 1 ≤ die → (step : FromTo) → 1 ≤ step.from → step.from ≤ 25 → step.to ≡ step.from - die → (t : Bool) → t ≡ can r step.from die → (t ≡ true) ↔ IsStep b p step die
 step_by_test r b p s die some step low high lands t is =
     let same : step ≡ step_of step.from die = FromTo-ext step step.from (step.from - die) refl lands in (
       λ yes. subst (λ (u : FromTo). IsStep b p u die) (sym same) (step_from_can r b p s step.from die low high some (sym is ∙ yes)),
       λ legal. is ∙ can_there r b p s die some step legal,
     )
 
-pub held_by_test : (r : Race) (from die : ℕ) (t : Bool) → t ≡ can r from die → OnTrue t (0 < get_or r.own from 0)
+pub held_by_test : (r : MoverCounts) (from die : ℕ) (t : Bool) → t ≡ can r from die → OnTrue t (0 < get_or r.own from 0)
 held_by_test r from die true is = held_from_can r from die (sym is)
 held_by_test r from die false is = tt
 
 -- a step can be played where there is a place
-module _ (r : Race) (b : Position) (p : Player) (s : Stands r b p) (die : ℕ) (some : 1 ≤ die) (places : ℕ) (are : ArePlaces places r die) where
+module _ (r : MoverCounts) (b : Position) (p : Player) (s : Stands r b p) (die : ℕ) (some : 1 ≤ die) (places : ℕ) (are : ArePlaces places r die) where
   pub can_by_places : places ≢ 0 → places < 4294967296 → CanStep b p die
   can_by_places on small =
       let left = left_at_first in
@@ -96,7 +96,7 @@ module _ (b : Position) (p : Player) (die : ℕ) (dice : List ℕ) where
   pub most_above_none : IsMostAbove b p (die ∷ dice) 25 0
   most_above_none = record { reached = ([], tt, refl); greatest = above_all }
 
-  module _ (r : Race) (s : Stands r b p) (some : 1 ≤ die) (below places : ℕ) (left : IsLeft (CanFrom r die) below places) (n : ℕ) (above : IsMostAbove b p (die ∷ dice) below n) where
+  module _ (r : MoverCounts) (s : Stands r b p) (some : 1 ≤ die) (below places : ℕ) (left : IsLeft (CanFrom r die) below places) (n : ℕ) (above : IsMostAbove b p (die ∷ dice) below n) where
     -- where no place is left
     pub most_above_all : places ≡ 0 → IsMostInOrder b p (die ∷ dice) n
     most_above_all none = record { reached = above.reached; greatest = few } where

@@ -10,23 +10,23 @@ use Rattle.bg_board.specs.FromTo.{FromTo}
 use Rattle.bg_board.specs.Step.{carried, after_step}
 use Rattle.bg_board.specs.declared.players.Player.{Player}
 use Rattle.bg_board.proofs.Carried.{length-carried, get_or-carried_other}
-use Rattle.bg_turns.specs.declared.races.Race.{Race}
-use Rattle.bg_turns.specs.Race.{IsRace, Stands, step_of, can_by, can, after}
+use Rattle.bg_turns.specs.declared.mover_counts.MoverCounts.{MoverCounts}
+use Rattle.bg_turns.specs.MoverCounts.{IsMoverCounts, Stands, step_of, can_by, can, after}
 use Rattle.std.proofs.lemmas.Nat.Bits.{bit_at-zero}
 use Rattle.bg_turns.specs.InOrder.{IsInOrder, IsMostInOrder}
 use Rattle.bg_turns.specs.Masks.{ArePlaces}
 use Rattle.bg_turns.proofs.Sides.{can-is, sum-none, Stands-after, step_from_can}
-use Rattle.bg_turns.proofs.OneDie.{IsRace-after}
+use Rattle.bg_turns.proofs.Lists.OneDie.{IsMoverCounts-after}
 use Rattle.bg_turns.proofs.Deepest.{step_is, can_there}
 
 -- n steps by the die can be played
-abbrev pub Reaches : ℕ → Race → ℕ → Type 0
+abbrev pub Reaches : ℕ → MoverCounts → ℕ → Type 0
 Reaches die r zero = Unit {0}
 Reaches die r (suc n) =
     (from : ℕ) × (1 ≤ from) × (from ≤ 25) × (can r from die ≡ true) × Reaches die (after r from (from - die)) n
 
 -- ---- what a step asks
-pub record MayStep (r : Race) (from die : ℕ) : Type 0 where
+pub record MayStep (r : MoverCounts) (from die : ℕ) : Type 0 where
   pub held : 0 < get_or r.own from 0
   pub enters : 0 < get_or r.own 25 0 → from ≡ 25
   pub free : die < from → get_or r.other (25 - (from - die)) 0 < 2
@@ -52,7 +52,7 @@ module _ (here bar other outside above from die : ℕ) (yes : can_by here bar ot
 by_all : (here bar other outside above from die : ℕ) → 0 < here → (0 < bar → from ≡ 25) → (die < from → other < 2) → (from ≤ die → outside ≡ 0) → (from < die → above ≡ 0) → can_by here bar other outside above from die ≡ true
 by_all here bar other outside above from die a b c d e = grind (arith, nat_tests)
 
-may_step : (r : Race) (from die : ℕ) → can r from die ≡ true → MayStep r from die
+may_step : (r : MoverCounts) (from die : ℕ) → can r from die ≡ true → MayStep r from die
 may_step r from die passed =
     let yes = sym (can-is r from die) ∙ passed in
     record {
@@ -63,7 +63,7 @@ may_step r from die passed =
       highest = by_highest (get_or r.own from 0) (get_or r.own 25 0) (get_or r.other (25 - (from - die)) 0) (sum (drop 7 r.own)) (sum (drop (from + 1) r.own)) from die yes;
     }
 
-can_step : (r : Race) (from die : ℕ) → MayStep r from die → can r from die ≡ true
+can_step : (r : MoverCounts) (from die : ℕ) → MayStep r from die → can r from die ≡ true
 can_step r from die may =
     can-is r from die
     ∙ by_all (get_or r.own from 0) (get_or r.own 25 0) (get_or r.other (25 - (from - die)) 0) (sum (drop 7 r.own)) (sum (drop (from + 1) r.own)) from die
@@ -93,7 +93,7 @@ at_carried own from to i long high low = elim (cases_eq i from) [
 ]
 
 -- two steps from two points
-module _ (r : Race) (is : IsRace r) (die : ℕ) (some : 1 ≤ die) (f g : ℕ) (apart : f ≢ g) (f_low : 1 ≤ f) (f_high : f ≤ 25) (g_low : 1 ≤ g) (g_high : g ≤ 25) (first : MayStep r f die) (second : MayStep r g die) where
+module _ (r : MoverCounts) (is : IsMoverCounts r) (die : ℕ) (some : 1 ≤ die) (f g : ℕ) (apart : f ≢ g) (f_low : 1 ≤ f) (f_high : f ≤ 25) (g_low : 1 ≤ g) (g_high : g ≤ 25) (first : MayStep r f die) (second : MayStep r g die) where
   same_above : (k : ℕ) → g < k → get_or (carried r.own g (g - die)) k 0 ≡ get_or r.own k 0
   same_above k above = get_or-carried_other r.own g (g - die) k (omega arith) (omega arith)
 
@@ -144,7 +144,7 @@ exchanged_at x i f f' g g' apart a b c d y z v w p q s t = elim (cases_eq i f) [
   ]
 ]
 
-exchanged : (r : Race) (is : IsRace r) (die : ℕ) (some : 1 ≤ die) (f g : ℕ) (apart : f ≢ g) (f_low : 1 ≤ f) (f_high : f ≤ 25) (g_low : 1 ≤ g) (g_high : g ≤ 25) (first : MayStep r f die) (second : MayStep r g die)
+exchanged : (r : MoverCounts) (is : IsMoverCounts r) (die : ℕ) (some : 1 ≤ die) (f g : ℕ) (apart : f ≢ g) (f_low : 1 ≤ f) (f_high : f ≤ 25) (g_low : 1 ≤ g) (g_high : g ≤ 25) (first : MayStep r f die) (second : MayStep r g die)
     → after (after r g (g - die)) f (f - die) ≡ after (after r f (f - die)) g (g - die)
 exchanged r is die some f g apart f_low f_high g_low g_high first second =
     ap (λ xs. record { own = xs; other = r.other })
@@ -161,7 +161,7 @@ exchanged r is die some f g apart f_low f_high g_low g_high first second =
     (at_carried (carried r.own f (f - die)) g (g - die) i (length-carried r.own f (f - die) ∙ is.points) g_high (omega arith))))
 
 -- whichever step is played first, as many follow
-pub follow_any : (die : ℕ) → 1 ≤ die → (n : ℕ) (r : Race) → IsRace r → (f : ℕ) → 1 ≤ f → f ≤ 25 → can r f die ≡ true → Reaches die r (suc n) → Reaches die (after r f (f - die)) n
+pub follow_any : (die : ℕ) → 1 ≤ die → (n : ℕ) (r : MoverCounts) → IsMoverCounts r → (f : ℕ) → 1 ≤ f → f ≤ 25 → can r f die ≡ true → Reaches die r (suc n) → Reaches die (after r f (f - die)) n
 follow_any die some zero r is f low high passed h = tt
 follow_any die some (suc n) r is f low high passed h =
     let g = h.0 in
@@ -172,17 +172,17 @@ follow_any die some (suc n) r is f low high passed h =
           let second = may_step r h.0 die h.3 in
           let still = can_step (after r h.0 (h.0 - die)) f die (still_may r is die some f h.0 other low high h.1 h.2 first second) in
           let still' = can_step (after r f (f - die)) h.0 die (still_may r is die some h.0 f (λ same. other (sym same)) h.1 h.2 low high second first) in
-          let more = follow_any die some n (after r h.0 (h.0 - die)) (IsRace-after r h.0 (h.0 - die) is h.2 (omega arith) second.held) f low high still h.4 in
-          (h.0, h.1, h.2, still', subst (λ (q : Race). Reaches die q n) (exchanged r is die some f h.0 other low high h.1 h.2 first second) more)
+          let more = follow_any die some n (after r h.0 (h.0 - die)) (IsMoverCounts-after r h.0 (h.0 - die) is h.2 (omega arith) second.held) f low high still h.4 in
+          (h.0, h.1, h.2, still', subst (λ (q : MoverCounts). Reaches die q n) (exchanged r is die some f h.0 other low high h.1 h.2 first second) more)
     ]
 
 -- ---- the same of lists of steps
-pub reaches_fewer : (die n m : ℕ) (r : Race) → m ≤ n → Reaches die r n → Reaches die r m
+pub reaches_fewer : (die n m : ℕ) (r : MoverCounts) → m ≤ n → Reaches die r n → Reaches die r m
 reaches_fewer die n zero r few h = tt
 reaches_fewer die zero (suc m) r few h = absurd (omega arith)
 reaches_fewer die (suc n) (suc m) r few h = (h.0, h.1, h.2, h.3, reaches_fewer die n m (after r h.0 (h.0 - die)) (omega arith) h.4)
 
-reach_steps : (die : ℕ) → 1 ≤ die → (k n : ℕ) → n ≤ k → (r : Race) (b : Position) (p : Player) → Stands r b p → Reaches die r n → (steps : List FromTo) × IsInOrder b p (replicate k die) steps × (length steps ≡ n)
+reach_steps : (die : ℕ) → 1 ≤ die → (k n : ℕ) → n ≤ k → (r : MoverCounts) (b : Position) (p : Player) → Stands r b p → Reaches die r n → (steps : List FromTo) × IsInOrder b p (replicate k die) steps × (length steps ≡ n)
 reach_steps die some k zero few r b p s h = ([], tt, refl)
 reach_steps die some zero (suc n) few r b p s h = absurd (omega arith)
 reach_steps die some (suc k) (suc n) few r b p s h =
@@ -190,7 +190,7 @@ reach_steps die some (suc k) (suc n) few r b p s h =
     let rest = reach_steps die some k n (omega arith) (after r h.0 (h.0 - die)) (after_step b p (step_of h.0 die)) p (Stands-after r b p h.0 (h.0 - die) s (omega arith)) h.4 in
     (step_of h.0 die ∷ rest.0, (legal, rest.1), ap suc rest.2)
 
-steps_reach : (die : ℕ) → 1 ≤ die → (k : ℕ) (steps : List FromTo) (r : Race) (b : Position) (p : Player) → Stands r b p → IsInOrder b p (replicate k die) steps → Reaches die r (length steps)
+steps_reach : (die : ℕ) → 1 ≤ die → (k : ℕ) (steps : List FromTo) (r : MoverCounts) (b : Position) (p : Player) → Stands r b p → IsInOrder b p (replicate k die) steps → Reaches die r (length steps)
 steps_reach die some k [] r b p s played = tt
 steps_reach die some zero (step ∷ rest) r b p s played = absurd played
 steps_reach die some (suc k) (step ∷ rest) r b p s played =
@@ -202,15 +202,15 @@ steps_reach die some (suc k) (step ∷ rest) r b p s played =
     let tail : IsInOrder (after_step b p (step_of step.from die)) p (replicate k die) rest = subst (λ (u : FromTo). IsInOrder (after_step b p u) p (replicate k die) rest) same played.1 in
     (step.from, omega arith, starts, passed, steps_reach die some k rest (after r step.from (step.from - die)) (after_step b p (step_of step.from die)) p (Stands-after r b p step.from (step.from - die) s (omega arith)) tail)
 
-pub most_by_reach : (die : ℕ) → 1 ≤ die → (k n : ℕ) → n ≤ k → (r : Race) (b : Position) (p : Player) → Stands r b p → Reaches die r n → ((steps : List FromTo) → IsInOrder b p (replicate k die) steps → Reaches die r (length steps) → length steps ≤ n) → IsMostInOrder b p (replicate k die) n
+pub most_by_reach : (die : ℕ) → 1 ≤ die → (k n : ℕ) → n ≤ k → (r : MoverCounts) (b : Position) (p : Player) → Stands r b p → Reaches die r n → ((steps : List FromTo) → IsInOrder b p (replicate k die) steps → Reaches die r (length steps) → length steps ≤ n) → IsMostInOrder b p (replicate k die) n
 most_by_reach die some k n few r b p s reached greatest = record {
   reached = reach_steps die some k n few r b p s reached;
   greatest = λ steps played. greatest steps played (steps_reach die some k steps r b p s played);
 }
 
 -- ---- the greatest number, by steps that are played one by one
-module _ (die : ℕ) (some : 1 ≤ die) (r : Race) where
-  pub follow_where : IsRace r → (f : ℕ) → 1 ≤ f → f ≤ 25 → can r f die ≡ true → (start : Race) (most : ℕ)
+module _ (die : ℕ) (some : 1 ≤ die) (r : MoverCounts) where
+  pub follow_where : IsMoverCounts r → (f : ℕ) → 1 ≤ f → f ≤ 25 → can r f die ≡ true → (start : MoverCounts) (most : ℕ)
       → ((n : ℕ) → Reaches die r n ↔ Reaches die start (n + most)) → (n : ℕ) → Reaches die (after r f (f - die)) n ↔ Reaches die start (n + (most + 1))
   follow_where is f low high passed start most follow n =
       let one : suc n + most ≡ n + (most + 1) = (let plus = add-one n in omega arith) in
@@ -219,7 +219,7 @@ module _ (die : ℕ) (some : 1 ≤ die) (r : Race) where
         λ h. follow_any die some n r is f low high passed (was.1 h),
       )
 
-  pub reach_ends : (places : ℕ) → ArePlaces places r die → places ≡ 0 → (start : Race) (most : ℕ)
+  pub reach_ends : (places : ℕ) → ArePlaces places r die → places ≡ 0 → (start : MoverCounts) (most : ℕ)
       → ((n : ℕ) → Reaches die r n ↔ Reaches die start (n + most)) → most ≤ 4 → (b : Position) (p : Player) → Stands start b p → IsMostInOrder b p (replicate 4 die) most
   reach_ends places are none start most follow few b p s =
       most_by_reach die some 4 most few start b p s reached greatest where

@@ -10,8 +10,8 @@ use Rattle.bg_board.specs.Step.{IsStep, after_step, carried, hit_by}
 use Rattle.bg_board.specs.declared.players.Player.{Player}
 use Rattle.bg_board.specs.declared.players.Player.TheVariants.{X, O}
 use Rattle.bg_board.proofs.Carried.{length-carried, hit_by-landing, hit_by-other, length-hit_by}
-use Rattle.bg_turns.specs.declared.races.Race.{Race}
-use Rattle.bg_turns.specs.Race.{IsRace, IsHighest, step_of, can_by, can, after, is_off, Stands}
+use Rattle.bg_turns.specs.declared.mover_counts.MoverCounts.{MoverCounts}
+use Rattle.bg_turns.specs.MoverCounts.{IsMoverCounts, IsHighest, step_of, can_by, can, after, is_off, Stands}
 
 -- the sum of zeros
 pub sum-none : (xs : List ℕ) → ((k : ℕ) → get_or xs k 0 ≡ 0) → sum xs ≡ 0
@@ -43,7 +43,7 @@ below_highest own highest from h held = elim (cases_lt highest from) [
   | inr below ↦ below
 ]
 
-pub can-is : (r : Race) (from die : ℕ) → can r from die ≡ can_by (get_or r.own from 0) (get_or r.own 25 0) (get_or r.other (25 - (from - die)) 0) (sum (drop 7 r.own)) (sum (drop (from + 1) r.own)) from die
+pub can-is : (r : MoverCounts) (from die : ℕ) → can r from die ≡ can_by (get_or r.own from 0) (get_or r.own 25 0) (get_or r.other (25 - (from - die)) 0) (sum (drop 7 r.own)) (sum (drop (from + 1) r.own)) from die
 unfolding can
 can-is r from die = refl
 
@@ -59,7 +59,7 @@ by_point here bar other outside above from die some enters far = grind (arith, n
 by_off : (here bar other outside above from die highest : ℕ) → 0 < here → (0 < bar → from ≡ 25) → from ≤ die → (highest < 7 → outside ≡ 0) → (7 ≤ highest → 0 < outside) → (highest < from + 1 → above ≡ 0) → (from + 1 ≤ highest → 0 < above) → from ≤ highest → can_by here bar other outside above from die ≡ (leb highest 6 && (eqb from die || eqb from highest))
 by_off here bar other outside above from die highest some enters near a b c d low = grind (arith, nat_tests)
 
-module _ (r : Race) (from die : ℕ) where
+module _ (r : MoverCounts) (from die : ℕ) where
   pub can-empty : get_or r.own from 0 ≡ 0 → can r from die ≡ false
   can-empty none =
       can-is r from die ∙ by_empty (get_or r.own from 0) (get_or r.own 25 0) (get_or r.other (25 - (from - die)) 0) (sum (drop 7 r.own)) (sum (drop (from + 1) r.own)) from die none
@@ -94,14 +94,14 @@ module _ (r : Race) (from die : ℕ) where
 by_yes : (here bar other outside above from die : ℕ) → can_by here bar other outside above from die ≡ true → (0 < here) × ((0 < bar → from ≡ 25) × ((die < from → other ≤ 1) × ((from ≤ die → outside ≡ 0) × (from < die → above ≡ 0))))
 by_yes here bar other outside above from die passed = grind (arith, nat_tests)
 
-pub held_from_can : (r : Race) (from die : ℕ) → can r from die ≡ true → 0 < get_or r.own from 0
+pub held_from_can : (r : MoverCounts) (from die : ℕ) → can r from die ≡ true → 0 < get_or r.own from 0
 held_from_can r from die passed =
     (by_yes (get_or r.own from 0) (get_or r.own 25 0) (get_or r.other (25 - (from - die)) 0) (sum (drop 7 r.own)) (sum (drop (from + 1) r.own)) from die (sym (can-is r from die) ∙ passed)).0
 
 by_all : (here bar other outside above from die : ℕ) → 0 < here → (0 < bar → from ≡ 25) → (die < from → other ≤ 1) → (from ≤ die → outside ≡ 0) → (from < die → above ≡ 0) → can_by here bar other outside above from die ≡ true
 by_all here bar other outside above from die a b c d e = grind (arith, nat_tests)
 
-module _ (r : Race) (b : Position) (p : Player) (s : Stands r b p) (from die : ℕ) (low : 1 ≤ from) (high : from ≤ 25) (some : 1 ≤ die) where
+module _ (r : MoverCounts) (b : Position) (p : Player) (s : Stands r b p) (from die : ℕ) (low : 1 ≤ from) (high : from ≤ 25) (some : 1 ≤ die) where
   pub step_from_can : can r from die ≡ true → IsStep b p (step_of from die) die
   step_from_can passed =
       let parts = by_yes (get_or r.own from 0) (get_or r.own 25 0) (get_or r.other (25 - (from - die)) 0) (sum (drop 7 r.own)) (sum (drop (from + 1) r.own)) from die (sym (can-is r from die) ∙ passed) in
@@ -140,7 +140,7 @@ hit_few counts landing q long low one within = elim (cases_eq q (25 - landing)) 
   | inr other ↦ (let is = hit_by-other counts landing long q other (omega arith) in rw is (λ h. h, λ h. h))
 ]
 
--- after a step a race stands for the position after it
+-- after a step the mover's counts stand for the position after it
 checkers_after : (b : Position) (p : Player) (step : FromTo) → checkers (after_step b p step) p ≡ carried (checkers b p) step.from step.to
 checkers_after b X step = refl
 checkers_after b O step = refl
@@ -149,7 +149,7 @@ checkers_hit : (b : Position) (p : Player) (step : FromTo) → checkers (after_s
 checkers_hit b X step = refl
 checkers_hit b O step = refl
 
-pub Stands-after : (r : Race) (b : Position) (p : Player) (from to : ℕ) → Stands r b p → to ≤ 24 → Stands (after r from to) (after_step b p (record { from = from; to = to })) p
+pub Stands-after : (r : MoverCounts) (b : Position) (p : Player) (from to : ℕ) → Stands r b p → to ≤ 24 → Stands (after r from to) (after_step b p (record { from = from; to = to })) p
 Stands-after r b p from to s low =
     let step : FromTo = record { from = from; to = to } in
     let few : (q : ℕ) → 1 ≤ q → q ≤ 24 → (get_or (hit_by (checkers b (opponent p)) to) q 0 ≤ 1) ↔ (get_or (checkers b (opponent p)) q 0 ≤ 1) = λ q one within. hit_few (checkers b (opponent p)) to q s.points_other low one within in
@@ -161,20 +161,20 @@ Stands-after r b p from to s low =
     }
 
 -- at the beginning
-pub Stands-of : (r : Race) (b : Position) (p : Player) → r.own ≡ checkers b p → r.other ≡ checkers b (opponent p) → IsPosition b → Stands r b p
+pub Stands-of : (r : MoverCounts) (b : Position) (p : Player) → r.own ≡ checkers b p → r.other ≡ checkers b (opponent p) → IsPosition b → Stands r b p
 Stands-of r b X own other is = record { own = own; held = λ q one within. rw other (λ h. h, λ h. h); points = ap length own ∙ is.x_points; points_other = is.o_points }
 Stands-of r b O own other is = record { own = own; held = λ q one within. rw other (λ h. h, λ h. h); points = ap length own ∙ is.o_points; points_other = is.x_points }
 
 -- the player's side of a position
-abbrev pub side_of : Position → Player → Race
+abbrev pub side_of : Position → Player → MoverCounts
 side_of b p = record { own = checkers b p; other = checkers b (opponent p) }
 
-pub IsRace-of : (b : Position) (p : Player) → IsPosition b → IsRace (side_of b p)
-IsRace-of b X is = record { points = is.x_points; fifteen = is.x_fifteen }
-IsRace-of b O is = record { points = is.o_points; fifteen = is.o_fifteen }
+pub IsMoverCounts-of : (b : Position) (p : Player) → IsPosition b → IsMoverCounts (side_of b p)
+IsMoverCounts-of b X is = record { points = is.x_points; fifteen = is.x_fifteen }
+IsMoverCounts-of b O is = record { points = is.o_points; fifteen = is.o_fifteen }
 
 -- with all checkers off no step can be played
-pub none_when_off : (r : Race) → IsRace r → is_off r ≡ true → (from : ℕ) → 1 ≤ from → get_or r.own from 0 ≡ 0
+pub none_when_off : (r : MoverCounts) → IsMoverCounts r → is_off r ≡ true → (from : ℕ) → 1 ≤ from → get_or r.own from 0 ≡ 0
 unfolding is_off
 none_when_off r is off from some =
     none_beside r.own from some is.fifteen (grind (arith, nat_tests)) where
@@ -190,7 +190,7 @@ none_when_off r is off from some =
       ]
 
 -- with no checker on a point or the bar, all are off
-pub off_when_none : (r : Race) → IsRace r → ((k : ℕ) → 1 ≤ k → get_or r.own k 0 ≡ 0) → is_off r ≡ true
+pub off_when_none : (r : MoverCounts) → IsMoverCounts r → ((k : ℕ) → 1 ≤ k → get_or r.own k 0 ≡ 0) → is_off r ≡ true
 unfolding is_off
 off_when_none r is none = eq-eqb (get_or r.own 0 0) 15 (all_there r.own is.points is.fifteen none) where
   all_there : (own : List ℕ) → length own ≡ 26 → sum own ≡ 15 → ((k : ℕ) → 1 ≤ k → get_or own k 0 ≡ 0) → get_or own 0 0 ≡ 15
@@ -200,6 +200,6 @@ off_when_none r is none = eq-eqb (get_or r.own 0 0) 15 (all_there r.own is.point
       let parts = sum_by-cons (λ y. y) x xs in
       omega arith
 
-pub is_off-iff : (r : Race) (b : Position) (p : Player) → Stands r b p → (is_off r ≡ true) ↔ HasAllOff b p
+pub is_off-iff : (r : MoverCounts) (b : Position) (p : Player) → Stands r b p → (is_off r ≡ true) ↔ HasAllOff b p
 unfolding is_off
 is_off-iff r b p s = rw s.own (λ h. grind (arith, nat_tests), λ h. grind (arith, nat_tests))

@@ -16,13 +16,13 @@ use Rattle.bg_match.specs.declared.entries.Entry.{Entry}
 use Rattle.bg_match.specs.declared.entries.Entry.TheVariants as entry
 use Rattle.bg_match.specs.declared.levels.Level.{Level}
 use Rattle.bg_match.specs.declared.levels.Level.TheVariants.{Normal, Gammon, Backgammon}
-use Rattle.bg_wire.specs.Codes.{opening_code, rolled_code, doubled_code, taken_code, dropped_code, moved_code, resigned_code, accepted_code, rejected_code, normal_code, backgammon_code, least_pips, most_pips, lowest_start, bar, most_steps}
-use Rattle.bg_wire.specs.SavedLayouts.{last_code, IsEntryIn}
-use Rattle.bg_wire.specs.declared.saved_layouts.Layout.{Layout}
-use Rattle.bg_wire.specs.declared.saved_layouts.Layout.TheVariants as layouts
-use Rattle.bg_wire.specs.Reading.{◌>>=◌, Cursor, Read, u8_at, many_at, with}
-use Rattle.bg_wire.specs.EntryText.{step_bytes, turn_bytes, level_code, dice_bytes, action_bytes, entry_bytes}
-use Rattle.bg_wire.specs.EntryReading.{step_at, turn_at, level_of_code, level_at, die_at, dice_at, action_of, action_at, entry_of, entry_at}
+use Rattle.bg_wire.specs.Entries.Codes.{opening_code, rolled_code, doubled_code, taken_code, dropped_code, moved_code, resigned_code, accepted_code, rejected_code, normal_code, backgammon_code, least_pips, most_pips, lowest_start, bar, most_steps}
+use Rattle.bg_wire.specs.Saved.SavedLayouts.{last_code, IsEntryIn}
+use Rattle.bg_wire.specs.declared.saves.layouts.Layout.{Layout}
+use Rattle.bg_wire.specs.declared.saves.layouts.Layout.TheVariants as layouts
+use Rattle.bg_wire.specs.Entries.Reading.{◌>>=◌, Cursor, Read, u8_at, many_at, with}
+use Rattle.bg_wire.specs.Entries.EntryText.{step_bytes, turn_bytes, level_code, dice_bytes, action_bytes, entry_bytes}
+use Rattle.bg_wire.specs.Entries.EntryReading.{step_at, turn_at, level_of_code, level_at, die_at, dice_at, action_of, action_at, entry_of, entry_at}
 use Rattle.bg_wire.proofs.Laws.{OneByte, Law, Then, Nothing, Mapped, Each, Choice, HasText, has_mapped, has_choice, has_each, then_law, done_law, with_law, other_text, many_law, choice_law}
 use Rattle.bg_wire.proofs.Fields.{Byte, has_byte, byte_law}
 

@@ -5,14 +5,14 @@ use Rattle.std.specs.Int.{w16, w32, w64, from_be_bytes, to_be_bytes}
 use Rattle.std.proofs.lemmas.Bool.{cases_lt, ltb-false, ltb-true, lt-ltb, le-ltb}
 use Rattle.std.proofs.lemmas.List.{take_at, take-take, drop_at, take-append-drop, length-append, length-take, get_or-take, get_or_past, take-append-le, drop-append-le}
 use Rattle.std.proofs.lemmas.Nat.{be_bytes_2, be_bytes_4, be_bytes_8, from_be_bytes-to_be_bytes_2, from_be_bytes-to_be_bytes_4, from_be_bytes-to_be_bytes_8}
-use Rattle.bg_wire.specs.declared.reader.ReadFault.{ReadFault}
-use Rattle.bg_wire.specs.declared.reader.ReadFault.TheVariants.{Short, Field}
-use Rattle.bg_wire.specs.Reading.{Cursor, is_outside, byte_of, u8_at, number_at, u16_at, u32_at, u64_at}
+use Rattle.bg_wire.specs.declared.entries.reader.ReadFault.{ReadFault}
+use Rattle.bg_wire.specs.declared.entries.reader.ReadFault.TheVariants.{Short, Field}
+use Rattle.bg_wire.specs.Entries.Reading.{Cursor, is_outside, byte_of, u8_at, number_at, u16_at, u32_at, u64_at}
 use Rattle.bg_wire.specs.Texts.{GoesOn}
-use Rattle.bg_wire.specs.SavedLayouts.{last_number, number_width, number_text}
-use Rattle.bg_wire.specs.SavedReading.{number_in}
-use Rattle.bg_wire.specs.declared.saved_layouts.Layout.{Layout}
-use Rattle.bg_wire.specs.declared.saved_layouts.Layout.TheVariants.{One, Two}
+use Rattle.bg_wire.specs.Saved.SavedLayouts.{last_number, number_width, number_text}
+use Rattle.bg_wire.specs.Saved.SavedReading.{number_in}
+use Rattle.bg_wire.specs.declared.saves.layouts.Layout.{Layout}
+use Rattle.bg_wire.specs.declared.saves.layouts.Layout.TheVariants.{One, Two}
 use Rattle.bg_wire.proofs.Laws.{IsBytes, longer, Grows, HasText, cursor, Single, OneByte, FailsAt, CutAt, Law, other_text, other_fields, ok_is}
 
 IsBytes-take : (n : ℕ) (bytes : List ℕ) → IsBytes bytes → IsBytes (take n bytes)

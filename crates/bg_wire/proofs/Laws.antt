@@ -5,9 +5,9 @@ use Rattle.std.specs.Prelude.{◌==◌, IfErr}
 use Rattle.std.proofs.lemmas.Bool.{eqb-true}
 use Rattle.std.proofs.lemmas.Bool.Decides.{nat_tests}
 use Rattle.std.proofs.lemmas.List.{append-nil, length-append, nil_from_length}
-use Rattle.bg_wire.specs.declared.reader.ReadFault.{ReadFault}
-use Rattle.bg_wire.specs.declared.reader.ReadFault.TheVariants.{Short, Field}
-use Rattle.bg_wire.specs.Reading.{◌>>=◌, Cursor, Read, many_at, whole_of, with}
+use Rattle.bg_wire.specs.declared.entries.reader.ReadFault.{ReadFault}
+use Rattle.bg_wire.specs.declared.entries.reader.ReadFault.TheVariants.{Short, Field}
+use Rattle.bg_wire.specs.Entries.Reading.{◌>>=◌, Cursor, Read, many_at, whole_of, with}
 use Rattle.bg_wire.specs.Texts.{HasMore, ArePrefixFree, IsCut, IsWrongAt, GoesOn}
 
 -- two texts in a row, each said in another way

@@ -12,13 +12,13 @@ use Rattle.bg_match.specs.declared.entries.Entry.{Entry}
 use Rattle.bg_match.specs.declared.entries.Entry.TheVariants as entry
 use Rattle.bg_wire.specs.declared.packets.Packet.{Packet}
 use Rattle.bg_wire.specs.declared.packets.Packet.TheVariants as packet
-use Rattle.bg_wire.specs.EntryText.{step_bytes, turn_bytes, action_bytes, entry_bytes, entries_bytes}
-use Rattle.bg_wire.specs.PacketText.{packet_text, IsPacket}
-use Rattle.bg_wire.specs.Codes.{longest_packet, longest_saved_text}
-use Rattle.bg_wire.specs.SavedReading.{front_of, text_of_front}
-use Rattle.bg_wire.specs.SavedLayouts.{claim_text}
-use Rattle.bg_wire.specs.declared.saved_layouts.Layout.TheVariants.{Two}
-use Rattle.bg_wire.specs.SavedText.{SavedParts, saved_text, IsClaimOf, IsInLayout}
+use Rattle.bg_wire.specs.Entries.EntryText.{step_bytes, turn_bytes, action_bytes, entry_bytes, entries_bytes}
+use Rattle.bg_wire.specs.Packets.PacketText.{packet_text, IsPacket}
+use Rattle.bg_wire.specs.Entries.Codes.{longest_packet, longest_saved_text}
+use Rattle.bg_wire.specs.Saved.SavedReading.{front_of, text_of_front}
+use Rattle.bg_wire.specs.Saved.SavedLayouts.{claim_text}
+use Rattle.bg_wire.specs.declared.saves.layouts.Layout.TheVariants.{Two}
+use Rattle.bg_wire.specs.Saved.SavedText.{SavedParts, saved_text, IsClaimOf, IsInLayout}
 use Rattle.bg_wire.proofs.ToldEntries.{all_told_of}
 
 pub length-steps : (steps : List FromTo) → length (flat_map step_bytes steps) ≡ 2 * length steps

@@ -1,9 +1,9 @@
 -- Reading one thing after another, as a loop does.
 use Rattle.std.proofs.Common.{◌≡◌, ℕ, suc, ◌-◌, ◌+◌, ◌≤◌, ◌<◌, List, [], ◌∷◌, ◌++◌, length, zero, Result, Ok, Err, refl, sym, ap, ◌∙◌, append_assoc, arith}
 use Rattle.std.proofs.lemmas.List.{append-nil}
-use Rattle.bg_wire.specs.declared.reader.ReadFault.{ReadFault}
+use Rattle.bg_wire.specs.declared.entries.reader.ReadFault.{ReadFault}
 use Rattle.bg_wire.proofs.Laws.{ok_is}
-use Rattle.bg_wire.specs.Reading.{◌>>=◌, Cursor, Read, many_at}
+use Rattle.bg_wire.specs.Entries.Reading.{◌>>=◌, Cursor, Read, many_at}
 
 -- what was read before, and what is still read
 abbrev pub with_front : {A : Type 0} → List A → Read (List A) → Read (List A)

@@ -8,7 +8,7 @@ use Rattle.bg_match.specs.Entry.{IsEntry}
 use Rattle.bg_match.specs.Match.{at_number, IsLegalRecord}
 use Rattle.bg_match.proofs.Legal.{entries_in_range}
 use Rattle.bg_wire.specs.Runs.{IsRun}
-use Rattle.bg_wire.proofs.SavedEntries.{entry_in_range}
+use Rattle.bg_wire.proofs.OfSaves.SavedEntries.{entry_in_range}
 
 -- an entry of a list that grew by one is an entry of the list, or the new one
 pub get_push : (xs : List Entry) (x : Entry) (i : ℕ) (e : Entry) → slice_get (xs ++ x ∷ []) i ≡ Some e

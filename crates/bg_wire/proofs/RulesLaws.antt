@@ -3,10 +3,10 @@ use Rattle.std.proofs.Common.{◌≡◌, ℕ, zero, suc, ◌≤◌, List, [], �
 use Rattle.std.specs.Prelude.{Some, slice_get}
 use Rattle.bg_match.specs.declared.limits.Rules.{Rules}
 use Rattle.bg_match.specs.declared.limits.Rules.TheVariants.{One, Two}
-use Rattle.bg_wire.specs.Codes.{rules_offset, rules_one, rules_two, rules_code}
-use Rattle.bg_wire.specs.Reading.{u8_at}
-use Rattle.bg_wire.specs.RulesReading.{rules_of_code, rules_at}
-use Rattle.bg_wire.specs.PacketText.{packet_text, packet_rules, TextsTellRules}
+use Rattle.bg_wire.specs.Entries.Codes.{rules_offset, rules_one, rules_two, rules_code}
+use Rattle.bg_wire.specs.Entries.Reading.{u8_at}
+use Rattle.bg_wire.specs.Entries.RulesReading.{rules_of_code, rules_at}
+use Rattle.bg_wire.specs.Packets.PacketText.{packet_text, packet_rules, TextsTellRules}
 use Rattle.bg_wire.specs.declared.packets.Packet.{Packet}
 use Rattle.bg_wire.specs.declared.packets.Packet.TheVariants as packet
 use Rattle.bg_wire.proofs.Laws.{Law, Mapped, Single, HasText, with_law, other_text}

@@ -4,11 +4,11 @@ use Rattle.std.specs.List.{AllByRecursion}
 use Rattle.bg_match.specs.Entry.{IsEntry}
 use Rattle.bg_match.specs.declared.entries.Entry.{Entry}
 use Rattle.bg_match.specs.declared.entries.Entry.TheVariants as entry
-use Rattle.bg_wire.specs.SavedLayouts.{IsEntryIn}
-use Rattle.bg_wire.specs.declared.saved_layouts.Layout.{Layout}
-use Rattle.bg_wire.specs.declared.saved_layouts.Layout.TheVariants.{Two}
-use Rattle.bg_wire.specs.EntryText.{entry_bytes}
-use Rattle.bg_wire.specs.EntryReading.{entry_at}
+use Rattle.bg_wire.specs.Saved.SavedLayouts.{IsEntryIn}
+use Rattle.bg_wire.specs.declared.saves.layouts.Layout.{Layout}
+use Rattle.bg_wire.specs.declared.saves.layouts.Layout.TheVariants.{Two}
+use Rattle.bg_wire.specs.Entries.EntryText.{entry_bytes}
+use Rattle.bg_wire.specs.Entries.EntryReading.{entry_at}
 use Rattle.bg_wire.proofs.Laws.{OneByte, Law, HasText, other_text}
 use Rattle.bg_wire.proofs.EntryLaws.{Spells, entry_law}
 

@@ -4,8 +4,8 @@ use Rattle.std.specs.Prelude.{◌==◌, nat_lt}
 use Rattle.std.proofs.lemmas.Bool.{cases_lt}
 use Rattle.std.proofs.lemmas.Bool.Decides.{nat_tests}
 use Rattle.std.proofs.lemmas.List.{length-append, nil_from_length, take_at, drop_at, take-append-le, drop-append-le}
-use Rattle.bg_wire.specs.Fields.{Fields, Done, Field, followed_by, bytes_each, width_of}
-use Rattle.bg_wire.specs.Reading.{◌>>=◌, Cursor, Read}
+use Rattle.bg_wire.specs.Entries.Fields.{Fields, Done, Field, followed_by, bytes_each, width_of}
+use Rattle.bg_wire.specs.Entries.Reading.{◌>>=◌, Cursor, Read}
 use Rattle.bg_wire.proofs.Laws.{Law, Then, Choice, HasText, Single, OneByte, then_of, other_fields, begun_fields}
 
 -- the layout's fields are these

@@ -1,7 +1,7 @@
 -- What holds of the faults of bytes: each is proved.
 use Rattle.std.specs.Prelude.{◌≡◌, ◌≢◌, ℕ, List}
-use Rattle.bg_wire.specs.PacketText.{IsText}
-use Rattle.bg_wire.specs.SavedText.{SavedParts, IsSavedText}
+use Rattle.bg_wire.specs.Packets.PacketText.{IsText}
+use Rattle.bg_wire.specs.Saved.SavedText.{SavedParts, IsSavedText}
 use Rattle.bg_wire.specs.Faults.{IsWireFault, IsLoadFault}
 use Rattle.bg_wire.specs.declared.packets.Packet.{Packet}
 use Rattle.bg_wire.specs.declared.faults.WireFault.{WireFault}

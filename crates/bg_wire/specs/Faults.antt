@@ -1,9 +1,9 @@
 -- What each fault says of the bytes, in the words of the layout.
 use Rattle.std.specs.Prelude.{◌≢◌, ℕ, List}
-use Rattle.bg_wire.specs.Codes.{magic_offset, version_offset, kind_offset}
+use Rattle.bg_wire.specs.Entries.Codes.{magic_offset, version_offset, kind_offset}
 use Rattle.bg_wire.specs.Texts.{HasMore, IsCut, IsWrongAt}
-use Rattle.bg_wire.specs.PacketText.{IsText, packet_width}
-use Rattle.bg_wire.specs.SavedText.{IsLayoutOf, IsIllegalAt, HasEntries, saved_width}
+use Rattle.bg_wire.specs.Packets.PacketText.{IsText, packet_width}
+use Rattle.bg_wire.specs.Saved.SavedText.{IsLayoutOf, IsIllegalAt, HasEntries, saved_width}
 use Rattle.bg_wire.specs.declared.faults.WireFault.{WireFault}
 use Rattle.bg_wire.specs.declared.faults.WireFault.TheVariants as wire
 use Rattle.bg_wire.specs.declared.faults.LoadFault.{LoadFault}

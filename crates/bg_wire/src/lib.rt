@@ -13,53 +13,27 @@
 //! ```
 #![tactic(auto)]
 
-mod codec;
-mod codes;
-mod entry_reading;
-mod entry_writing;
-#[cfg(test)]
-mod fault_tests;
+mod entries;
 mod fault_words;
 mod faults;
-mod packet_layout;
-#[cfg(test)]
-mod packet_tests;
 mod packets;
 mod parties;
-mod reader;
-#[cfg(test)]
-mod refused_packet_tests;
-#[cfg(test)]
-mod refused_save_tests;
-mod restoring;
-#[cfg(test)]
-mod restoring_tests;
-mod rules_bytes;
-#[cfg(test)]
-mod rules_tests;
-mod saved_layouts;
-#[cfg(test)]
-mod saved_tests;
 mod saves;
-mod saving;
-mod slot_laws;
-mod slots;
 #[cfg(test)]
-mod test_bytes;
-mod text_lengths;
+mod tests;
 
-pub use codec::{decode, encode, packet_texts_are_prefix_free};
 pub use faults::{LoadFault, RestoreRefusal, SaveRefusal, WireFault};
+pub use packets::codec::{decode, encode, packet_texts_are_prefix_free};
 pub use packets::{
     Datagram, EntryList, LONGEST_PACKET, MOST_DATAGRAM_BYTES, MOST_ENTRIES_IN_PACKET, Packet,
     PacketBytes,
 };
 pub use parties::{FIRST_WATCHER, LAST_WATCHER, REFEREE, SEAT_OF_O, SEAT_OF_X, party_of};
-pub use restoring::restore;
-pub use saves::{FIRST_SAVE, LAST_SAVE, LONGEST_SAVED_TEXT, Saved};
-pub use saving::{load, next_save, save_text, saved_texts_are_prefix_free};
-pub use slot_laws::{
+pub use saves::restoring::restore;
+pub use saves::saving::{load, next_save, save_text, saved_texts_are_prefix_free};
+pub use saves::slot_laws::{
     laws_of_constants, laws_of_faults, laws_of_loading, laws_of_restoring, laws_of_saving,
     laws_of_texts, laws_of_written_texts,
 };
-pub use slots::Slot;
+pub use saves::slots::Slot;
+pub use saves::{FIRST_SAVE, LAST_SAVE, LONGEST_SAVED_TEXT, Saved};

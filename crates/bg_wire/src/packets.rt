@@ -1,6 +1,10 @@
 //! Packets and datagrams.
 ghost use Rattle.std.specs.Prelude.{◌≡◌, ◌↔◌, IsTrue};
 
+pub(crate) mod codec;
+pub(crate) mod layout;
+pub(crate) mod writing;
+
 use arrayvec::ArrayVec;
 use bg_match::{Action, Entry, Number, Rules};
 use std::marker::Model;
@@ -77,7 +81,7 @@ pub enum Packet {
 }
 
 impl Packet {
-    ghost use Rattle.bg_wire.specs.PacketText.{id_of, packet_rules, IsOfMatch, is_of_match};
+    ghost use Rattle.bg_wire.specs.Packets.PacketText.{id_of, packet_rules, IsOfMatch, is_of_match};
 
     /// The number of the match that it is of.
     pub fn id(&self) -> u64

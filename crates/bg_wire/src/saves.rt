@@ -1,4 +1,12 @@
 //! What a party saves.
+pub(crate) mod layouts;
+pub(crate) mod restoring;
+pub(crate) mod saving;
+pub(crate) mod slot_laws;
+pub(crate) mod slots;
+pub(crate) mod text_lengths;
+pub(crate) mod writing;
+
 use bg_match::{Action, Number, Record};
 
 /// The number of the first save.

@@ -1,14 +1,22 @@
 //! The devices of a world: a link between the parties, and a keeper for each party that saves.
 ghost use Rattle.std.specs.Prelude.{◌≡◌, ◌+◌, List, Ok, Option, Result, ℕ, IfOk, IfSome};
 ghost use Rattle.arrayvec.specs.ArrayVec.{ArrayVec as Items};
-ghost use Rattle.bg_wire.specs.SlotLaws.{Slots, bytes_in};
+ghost use Rattle.bg_wire.specs.Saved.SlotLaws.{Slots, bytes_in};
 ghost use Rattle.bg_wire.specs.declared.packets.Datagram.{Datagram as Sent};
-ghost use Rattle.bg_world.specs.Devices.{HasCause, CountsFailed, Sends, MayArrive, Writes};
-ghost use Rattle.bg_world.specs.Handed.{handed};
-ghost use Rattle.bg_world.specs.Plan.{KeeperPlan, failure_at, tear_at, read_failure_at, SendsBy, WritesBy, ReadsBy};
+ghost use Rattle.bg_world.specs.Devices.Honesty.{HasCause, CountsFailed, Sends, MayArrive, Writes};
+ghost use Rattle.bg_world.specs.Devices.Handed.{handed};
+ghost use Rattle.bg_world.specs.Devices.Plan.{KeeperPlan, failure_at, tear_at, read_failure_at, SendsBy, WritesBy, ReadsBy};
 ghost use Rattle.bg_world.specs.declared.devices.DeviceFault.{DeviceFault as Fault};
 ghost use Rattle.bg_world.specs.declared.devices.DeviceFault.TheVariants.{Memory};
-ghost use Rattle.bg_world.specs.declared.plans.FailSend.{FailSend};
+ghost use Rattle.bg_world.specs.declared.devices.plans.FailSend.{FailSend};
+
+pub(crate) mod copies;
+pub(crate) mod memory_keeper;
+pub(crate) mod memory_net;
+pub(crate) mod notes;
+pub(crate) mod plans;
+pub(crate) mod sent_datagrams;
+pub(crate) mod slot_texts;
 
 use arrayvec::ArrayVec;
 use bg_wire::{Datagram, Slot};

@@ -5,7 +5,7 @@ use std::fmt;
 
 impl fmt::Display for DeviceFault {
     ghost use Rattle.std.specs.Prelude.{Some};
-    ghost use Rattle.bg_world.specs.FaultWords.{device_fault_words};
+    ghost use Rattle.bg_world.specs.Texts.FaultWords.{device_fault_words};
 
     ghost output = { λ fault. Some (device_fault_words fault) };
 
@@ -19,7 +19,7 @@ impl fmt::Display for DeviceFault {
 
 impl fmt::Display for WorldFault {
     ghost use Rattle.std.specs.Prelude.{Some};
-    ghost use Rattle.bg_world.specs.FaultWords.{world_fault_words};
+    ghost use Rattle.bg_world.specs.Texts.FaultWords.{world_fault_words};
 
     ghost output = { λ fault. Some (world_fault_words fault) };
 
@@ -34,7 +34,7 @@ impl fmt::Display for WorldFault {
 
 impl fmt::Display for ScriptFault {
     ghost use Rattle.std.specs.Prelude.{Some};
-    ghost use Rattle.bg_world.specs.FaultWords.{script_fault_words};
+    ghost use Rattle.bg_world.specs.Texts.FaultWords.{script_fault_words};
 
     ghost output = { λ fault. Some (script_fault_words fault) };
 

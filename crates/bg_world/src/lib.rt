@@ -21,81 +21,35 @@
 //! ```
 #![tactic(auto)]
 
-mod copies;
-#[cfg(test)]
-mod device_tests;
 mod devices;
-mod event_lines;
 mod events;
-#[cfg(test)]
-mod fault_tests;
 mod fault_words;
-#[cfg(test)]
-mod final_tests;
-mod final_texts;
-#[cfg(test)]
-mod growth_tests;
-mod keeper_calls;
-mod laws;
-#[cfg(test)]
-mod line_tests;
-mod link_calls;
-mod memory_keeper;
-mod memory_net;
-#[cfg(test)]
-mod node_tests;
 mod nodes;
-mod notes;
-mod numbers;
-#[cfg(test)]
-mod outcome_tests;
-mod outcome_texts;
-mod plans;
-mod restarts;
 mod roles;
 #[cfg(test)]
-mod row_tests;
-mod runs;
-mod saves;
-#[cfg(test)]
-mod script_tests;
-mod scripts;
-mod sent_datagrams;
-mod setups;
-#[cfg(test)]
-mod simulation_tests;
-mod simulations;
-mod slot_texts;
-mod steps;
-mod takes;
-#[cfg(test)]
-mod test_parties;
-#[cfg(test)]
-mod test_rows;
-#[cfg(test)]
 mod tests;
-mod ticks;
+mod texts;
 mod worlds;
 
+pub use devices::memory_keeper::MemoryKeeper;
+pub use devices::memory_net::MemoryNet;
+pub use devices::notes::{count_failed, note_taken};
+pub use devices::plans::{FailRead, FailSend, Plan, Tear};
 pub use devices::{DeviceFault, Keeper, Link, Taken};
-pub use event_lines::{event_texts_differ, parse_event};
 pub use events::{Event, Outcome, RestoreCause};
-pub use final_texts::final_text;
-pub use laws::{
+pub(crate) use nodes::Watchers;
+pub use nodes::{RefereeNode, SeatNode, WatcherNode};
+pub use roles::Role;
+pub use texts::event_lines::{event_texts_differ, parse_event};
+pub use texts::final_texts::final_text;
+pub use texts::outcome_texts::{outcome_text, outcome_texts_differ};
+pub use texts::scripts::{ScriptFault, script};
+pub use worlds::World;
+pub use worlds::laws::{
     claims_are_kept, new_worlds_are_at_the_start, nothing_is_refused, outcomes_are_fixed,
     parties_agree, processes_agree, saved_entries_alone_are_shown, saves_survive,
     slots_are_given_back,
 };
-pub use memory_keeper::MemoryKeeper;
-pub use memory_net::MemoryNet;
-pub(crate) use nodes::Watchers;
-pub use nodes::{RefereeNode, SeatNode, WatcherNode};
-pub use notes::{count_failed, note_taken};
-pub use outcome_texts::{outcome_text, outcome_texts_differ};
-pub use plans::{FailRead, FailSend, Plan, Tear};
-pub use roles::Role;
-pub use runs::RunReport;
-pub use scripts::{ScriptFault, script};
-pub use setups::{Keepers, MOST_WATCHERS, Setup, WorldFault};
-pub use simulations::simulate;
-pub use worlds::World;
+pub use worlds::runs::RunReport;
+pub use worlds::setups::{Keepers, MOST_WATCHERS, Setup, WorldFault};
+pub use worlds::simulations::simulate;

@@ -4,8 +4,14 @@
 //! (docs/PROTOCOL.md, "Parties in processes of their own"). Their fields are private: whoever holds a node can only
 //! make its events.
 
+pub(crate) mod keeper_calls;
+pub(crate) mod link_calls;
 mod referee;
+pub(crate) mod restarts;
+pub(crate) mod saves;
 mod seat;
+pub(crate) mod takes;
+pub(crate) mod ticks;
 mod watcher;
 mod watchers;
 

@@ -1,7 +1,7 @@
 //! Which party has which part.
 ghost use Rattle.std.specs.Prelude.{◌≡◌, ◌+◌, ℕ};
 ghost use Rattle.bg_board.specs.declared.players.Player.{Player};
-ghost use Rattle.bg_wire.specs.Codes.{first_watcher};
+ghost use Rattle.bg_wire.specs.Entries.Codes.{first_watcher};
 ghost use Rattle.bg_wire.specs.Parties.{party_of};
 ghost use Rattle.bg_world.specs.declared.roles.Role.TheVariants as roles;
 
@@ -20,7 +20,7 @@ pub enum Role {
 }
 
 impl Role {
-    ghost use Rattle.bg_world.specs.Roles.{role};
+    ghost use Rattle.bg_world.specs.Protocol.Roles.{role};
 
     /// The part of the party of this number: 0 is the referee, 1 the seat of X, 2 the seat of O, and the others
     /// watch.

@@ -1,4 +1,20 @@
 //! The parts of parties, and copies of events.
+mod device_growths;
+mod event_lines;
+mod event_rows;
+mod faults;
+mod final_texts;
+mod growths;
+mod memory_devices;
+mod memory_keepers;
+mod memory_nets;
+mod nodes;
+mod outcomes;
+mod parties;
+mod scripts;
+mod simulations;
+mod worked_matches;
+
 use crate::{Event, Role};
 use bg_board::Player;
 use bg_match::Action;

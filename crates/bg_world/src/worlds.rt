@@ -3,8 +3,14 @@ ghost use Rattle.std.specs.Prelude.{◌≡◌, ◌≤◌, IfOk, MatchResult, opt
 ghost use Rattle.bg_board.specs.declared.players.Player.TheVariants.{X, O};
 ghost use Rattle.bg_match.specs.Limits.{IsMatchLength};
 ghost use Rattle.bg_match.specs.Terms.{match_length};
-ghost use Rattle.bg_world.specs.Starts.{terms_in, IsWorldFault};
-ghost use Rattle.bg_world.specs.State.{IsSetup};
+ghost use Rattle.bg_world.specs.Worlds.Starts.{terms_in, IsWorldFault};
+ghost use Rattle.bg_world.specs.Protocol.State.{IsSetup};
+
+pub(crate) mod laws;
+pub(crate) mod runs;
+pub(crate) mod setups;
+pub(crate) mod simulations;
+pub(crate) mod steps;
 
 use crate::{Keeper, Keepers, Link, RefereeNode, Role, SeatNode, Setup, Watchers, WorldFault};
 use bg_board::Player;
@@ -33,10 +39,10 @@ pub struct World<L, K> {
 }
 
 impl<L: Link + Drop, K: Keeper + Drop> World<L, K> {
-    ghost use Rattle.bg_world.specs.Starts.{AreUnused, fresh_world};
-    ghost use Rattle.bg_world.specs.Views.{keeper_view, link_view};
-    ghost use Rattle.bg_world.specs.World.{view_of};
-    ghost use Rattle.bg_world.specs.WorldState.{IsReachedWorld};
+    ghost use Rattle.bg_world.specs.Worlds.Starts.{AreUnused, fresh_world};
+    ghost use Rattle.bg_world.specs.Worlds.Views.{keeper_view, link_view};
+    ghost use Rattle.bg_world.specs.Worlds.World.{view_of};
+    ghost use Rattle.bg_world.specs.Worlds.WorldState.{IsReachedWorld};
 
     /// A world where nothing has happened yet: all parties are fresh and up (docs/PROTOCOL.md, "The state and its
     /// steps"). It asks nothing of the link and of the keepers.
@@ -93,10 +99,10 @@ impl<L: Link + Drop, K: Keeper + Drop> World<L, K> {
 }
 
 impl<L: Link, K: Keeper> World<L, K> {
-    ghost use Rattle.bg_world.specs.Roles.{role};
-    ghost use Rattle.bg_world.specs.Starts.{held_of};
-    ghost use Rattle.bg_world.specs.Views.{link_view, parties};
-    ghost use Rattle.bg_world.specs.World.{view_of};
+    ghost use Rattle.bg_world.specs.Protocol.Roles.{role};
+    ghost use Rattle.bg_world.specs.Worlds.Starts.{held_of};
+    ghost use Rattle.bg_world.specs.Worlds.Views.{link_view, parties};
+    ghost use Rattle.bg_world.specs.Worlds.World.{view_of};
 
     /// The link.
     pub fn link(&self) -> &L

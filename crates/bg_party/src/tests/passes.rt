@@ -1,7 +1,7 @@
 //! Seats and watchers of a match by the second rules, in which X is hit, and rolls double sixes with which he can't
 //! enter.
 ghost use Rattle.std.specs.Prelude.{IfSome};
-ghost use Rattle.bg_wire.specs.PacketText.{IsPacket};
+ghost use Rattle.bg_wire.specs.Packets.PacketText.{IsPacket};
 
 use crate::{ChooseFault, Learned, Seat, Watcher};
 use arrayvec::ArrayVec;

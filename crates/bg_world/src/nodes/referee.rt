@@ -2,13 +2,13 @@
 ghost use Rattle.std.specs.Prelude.{◌≡◌, ◌↔◌, IsOk, IfOk, option_copied};
 ghost use Rattle.bg_match.specs.Limits.{IsMatchLength};
 ghost use Rattle.bg_match.specs.Terms.{match_length};
-ghost use Rattle.bg_world.specs.Starts.{referee_log};
-ghost use Rattle.bg_world.specs.Views.{keeper_view, link_view};
+ghost use Rattle.bg_world.specs.Worlds.Starts.{referee_log};
+ghost use Rattle.bg_world.specs.Worlds.Views.{keeper_view, link_view};
 
-use crate::restarts::restart_referee;
-use crate::saves::save_referee;
-use crate::takes::take_at_referee;
-use crate::ticks::tick_referee;
+use crate::nodes::restarts::restart_referee;
+use crate::nodes::saves::save_referee;
+use crate::nodes::takes::take_at_referee;
+use crate::nodes::ticks::tick_referee;
 use crate::{Keeper, Link, Outcome};
 use bg_match::{LengthFault, Record, Terms};
 use bg_referee::Referee;
@@ -30,7 +30,7 @@ pub struct RefereeNode<K> {
 }
 
 impl<K: Keeper + Drop> RefereeNode<K> {
-    ghost use Rattle.bg_world.specs.Nodes.{RefereeNodeRestarts, fresh_referee_node, referee_node_of};
+    ghost use Rattle.bg_world.specs.Worlds.Nodes.{RefereeNodeRestarts, fresh_referee_node, referee_node_of};
 
     /// The referee that goes on from what the slots of its keeper restore, and what that came to: it is down where the
     /// outcome is not `Restarted`. So a process begins, the first of a match and each later one.
@@ -78,8 +78,8 @@ impl<K: Keeper + Drop> RefereeNode<K> {
 }
 
 impl<K: Keeper> RefereeNode<K> {
-    ghost use Rattle.bg_world.specs.Nodes.{RefereeNodeDues, RefereeNodeRestarts, RefereeNodeSaves};
-    ghost use Rattle.bg_world.specs.Nodes.{RefereeNodeTakes, RefereeNodeTicks, referee_node_of};
+    ghost use Rattle.bg_world.specs.Worlds.Nodes.{RefereeNodeDues, RefereeNodeRestarts, RefereeNodeSaves};
+    ghost use Rattle.bg_world.specs.Worlds.Nodes.{RefereeNodeTakes, RefereeNodeTicks, referee_node_of};
 
     /// The record; `None` exactly where it is down.
     pub fn held(&self) -> Option<&Record>

@@ -2,13 +2,13 @@
 ghost use Rattle.std.specs.Prelude.{◌≡◌, ◌≤◌, ◌↔◌, IsOk, IfOk, option_copied};
 ghost use Rattle.bg_match.specs.Limits.{IsMatchLength};
 ghost use Rattle.bg_match.specs.Terms.{match_length};
-ghost use Rattle.bg_world.specs.Starts.{seat_log};
-ghost use Rattle.bg_world.specs.Views.{keeper_view, link_view};
+ghost use Rattle.bg_world.specs.Worlds.Starts.{seat_log};
+ghost use Rattle.bg_world.specs.Worlds.Views.{keeper_view, link_view};
 
-use crate::restarts::restart_seat;
-use crate::saves::save_seat;
-use crate::takes::take_at_seat;
-use crate::ticks::tick_seat;
+use crate::nodes::restarts::restart_seat;
+use crate::nodes::saves::save_seat;
+use crate::nodes::takes::take_at_seat;
+use crate::nodes::ticks::tick_seat;
 use crate::{Keeper, Link, Outcome};
 use bg_board::Player;
 use bg_match::{Action, LengthFault, Number, Record, Terms};
@@ -33,7 +33,7 @@ pub struct SeatNode<K> {
 }
 
 impl<K: Keeper + Drop> SeatNode<K> {
-    ghost use Rattle.bg_world.specs.Nodes.{SeatNodeRestarts, fresh_seat_node, seat_node_of};
+    ghost use Rattle.bg_world.specs.Worlds.Nodes.{SeatNodeRestarts, fresh_seat_node, seat_node_of};
 
     /// The seat of a player that goes on from what the slots of its keeper restore, and what that came to: it is down
     /// where the outcome is not `Restarted`. So a process begins, the first of a match and each later one.
@@ -84,8 +84,8 @@ impl<K: Keeper + Drop> SeatNode<K> {
 }
 
 impl<K: Keeper> SeatNode<K> {
-    ghost use Rattle.bg_world.specs.Nodes.{SeatNodeChooses, SeatNodeRestarts, SeatNodeSaves, SeatNodeTakes};
-    ghost use Rattle.bg_world.specs.Nodes.{SeatNodeTicks, seat_claim, seat_node_of};
+    ghost use Rattle.bg_world.specs.Worlds.Nodes.{SeatNodeChooses, SeatNodeRestarts, SeatNodeSaves, SeatNodeTakes};
+    ghost use Rattle.bg_world.specs.Worlds.Nodes.{SeatNodeTicks, seat_claim, seat_node_of};
 
     /// The record; `None` exactly where it is down.
     pub fn held(&self) -> Option<&Record>

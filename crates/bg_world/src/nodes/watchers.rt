@@ -3,11 +3,11 @@ ghost use Rattle.std.specs.Prelude.{◌≡◌, ◌+◌, ◌<◌, ◌≤◌, vec_
 ghost use Rattle.bg_match.specs.Limits.{IsMatchLength};
 ghost use Rattle.bg_match.specs.Terms.{match_length};
 ghost use Rattle.bg_party.specs.Views.{fresh_watcher};
-ghost use Rattle.bg_wire.specs.Codes.{first_watcher};
-ghost use Rattle.bg_world.specs.Nodes.{WatchersRestart, WatchersTake, WatchersTick};
-ghost use Rattle.bg_world.specs.Starts.{fresh_watchers, watcher_log};
-ghost use Rattle.bg_world.specs.State.{most_watchers};
-ghost use Rattle.bg_world.specs.Views.{AreNumbered, link_view};
+ghost use Rattle.bg_wire.specs.Entries.Codes.{first_watcher};
+ghost use Rattle.bg_world.specs.Worlds.Nodes.{WatchersRestart, WatchersTake, WatchersTick};
+ghost use Rattle.bg_world.specs.Worlds.Starts.{fresh_watchers, watcher_log};
+ghost use Rattle.bg_world.specs.Protocol.State.{most_watchers};
+ghost use Rattle.bg_world.specs.Worlds.Views.{AreNumbered, link_view};
 
 use crate::{Link, Outcome, WatcherNode, WorldFault};
 use bg_match::{Record, Terms};

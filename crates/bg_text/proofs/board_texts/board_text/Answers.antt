@@ -1,5 +1,5 @@
-use Rattle.bg_text.specs.BoardText.{board_text, header_line, numbers_line, cells_line, aside_line, phase_line, upper_points, lower_points}
-use Rattle.bg_text.proofs.LineLists.{seven_lines}
+use Rattle.bg_text.specs.Boards.BoardText.{board_text, header_line, numbers_line, cells_line, aside_line, phase_line, upper_points, lower_points}
+use Rattle.bg_text.proofs.Judged.LineLists.{seven_lines}
 use Rattle.bg_text.proofs.board_texts.board_text.Goals as goal
 
 pub returns : goal.returns

@@ -1,5 +1,5 @@
-use Rattle.bg_text.specs.BoardText.{game_part, score_part, cube_part, crawford_mark}
-use Rattle.bg_text.proofs.LineLists.{four_parts}
+use Rattle.bg_text.specs.Boards.BoardText.{game_part, score_part, cube_part, crawford_mark}
+use Rattle.bg_text.proofs.Judged.LineLists.{four_parts}
 use Rattle.bg_text.proofs.board_texts.put_header.Goals as goal
 
 pub returns : goal.returns

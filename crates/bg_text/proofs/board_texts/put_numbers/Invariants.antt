@@ -1,5 +1,5 @@
 use Rattle.std.proofs.Common.{◌≡◌, ◌++◌, take}
-use Rattle.bg_text.specs.BoardText.{numbers_line}
+use Rattle.bg_text.specs.Boards.BoardText.{numbers_line}
 use Rattle.bg_text.proofs.board_texts.put_numbers.Given as goal
 
 abbrev pub invariant-loop-point : goal.invariant-loop-point

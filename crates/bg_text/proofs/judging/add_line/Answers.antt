@@ -1,8 +1,8 @@
 use Rattle.std.proofs.Common.{◌≡◌, ap}
 use Rattle.std.proofs.lemmas.Result.{err_from_is_err_and}
 use Rattle.bg_match.specs.declared.entries.Entry.{Entry}
-use Rattle.bg_text.specs.Reading.{IsLineAt}
-use Rattle.bg_text.proofs.ReadLines.{line_added, line_refused, same_ok, refused_illegal}
+use Rattle.bg_text.specs.Judge.Reading.{IsLineAt}
+use Rattle.bg_text.proofs.Judged.ReadLines.{line_added, line_refused, same_ok, refused_illegal}
 use Rattle.bg_text.proofs.judging.add_line.Goals as goal
 
 pub returns-in_err-push-clause-fault : goal.returns-in_err-push-clause-fault

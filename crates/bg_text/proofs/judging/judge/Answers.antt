@@ -1,5 +1,5 @@
 use Rattle.std.proofs.Common.{Ok, ◌≡◌, ◌∙◌, ◌+◌, ap, rules}
-use Rattle.bg_text.proofs.WholeInputs.{judged_known, added_kept}
+use Rattle.bg_text.proofs.Judged.WholeInputs.{judged_known, added_kept}
 use Rattle.bg_text.proofs.judging.judge.Goals as goal
 
 pub returns-clause-judged : goal.returns-clause-judged

@@ -1,7 +1,7 @@
 use Rattle.std.proofs.Common.{ap, refl}
 use Rattle.bg_match.specs.Match.{Log}
-use Rattle.bg_text.specs.Judging.{lines_of}
-use Rattle.bg_text.proofs.PartRead.{part_start, part_more, judged_fine, judged_refused}
+use Rattle.bg_text.specs.Judge.Judging.{lines_of}
+use Rattle.bg_text.proofs.Judged.PartRead.{part_start, part_more, judged_fine, judged_refused}
 use Rattle.bg_text.proofs.judging.judge_lines.Goals as goal
 
 pub loop-line-init : goal.loop-line-init

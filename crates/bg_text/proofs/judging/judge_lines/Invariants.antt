@@ -1,6 +1,6 @@
 use Rattle.std.proofs.Common.{length}
-use Rattle.bg_text.specs.Judging.{lines_of}
-use Rattle.bg_text.specs.Reading.{IsPartRead}
+use Rattle.bg_text.specs.Judge.Judging.{lines_of}
+use Rattle.bg_text.specs.Judge.Reading.{IsPartRead}
 use Rattle.bg_text.proofs.judging.judge_lines.Given as goal
 
 abbrev pub invariant-loop-line : goal.invariant-loop-line

@@ -1,5 +1,5 @@
 use Rattle.std.proofs.Common.{sym}
-use Rattle.bg_text.proofs.WrittenLines.{seat_of_entry}
+use Rattle.bg_text.proofs.Judged.WrittenLines.{seat_of_entry}
 use Rattle.bg_text.proofs.transcripts.put_line.Goals as goal
 
 pub entry_text-requires : goal.entry_text-requires

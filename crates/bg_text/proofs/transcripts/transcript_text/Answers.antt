@@ -1,5 +1,5 @@
 use Rattle.std.proofs.Common.{◌+◌, arith}
-use Rattle.bg_text.proofs.WrittenLines.{more_written, all_written}
+use Rattle.bg_text.proofs.Judged.WrittenLines.{more_written, all_written}
 use Rattle.bg_text.proofs.transcripts.transcript_text.Goals as goal
 
 pub loop-written-preserved : goal.loop-written-preserved

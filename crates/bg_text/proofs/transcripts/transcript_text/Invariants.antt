@@ -1,5 +1,5 @@
 use Rattle.std.proofs.Common.{◌+◌}
-use Rattle.bg_text.specs.Reading.{IsPartWritten}
+use Rattle.bg_text.specs.Judge.Reading.{IsPartWritten}
 use Rattle.bg_text.proofs.transcripts.transcript_text.Given as goal
 
 abbrev pub invariant-loop-written : goal.invariant-loop-written

@@ -1,15 +1,15 @@
 use Rattle.std.proofs.Common.{ℕ, ◌↔◌, ◌+◌, ◌-◌, ◌≤◌}
-use Rattle.bg_turns.specs.Race.{IsRace}
+use Rattle.bg_turns.specs.MoverCounts.{IsMoverCounts}
 use Rattle.bg_turns.specs.Masks.{AreMasks}
 use Rattle.bg_turns.proofs.Exchanged.{Reaches}
 use Rattle.bg_turns.proofs.search.most_of_double.Given as goal
 
 abbrev pub invariant-loop-most : goal.invariant-loop-most
 invariant-loop-most l = record {
-  race : IsRace l.race;
-  masks : AreMasks l.masks l.race;
+  mover : IsMoverCounts l.mover;
+  masks : AreMasks l.masks l.mover;
   few : l.most ≤ 4;
-  follow : (n : ℕ) → Reaches l.die l.race n ↔ Reaches l.die l.fn.race (n + l.most);
+  follow : (n : ℕ) → Reaches l.die l.mover n ↔ Reaches l.die l.fn.mover (n + l.most);
 }
 
 abbrev pub decreases-loop-most : goal.decreases-loop-most

@@ -1,7 +1,7 @@
 use Rattle.std.proofs.Common.{◌≡◌, ◌∙◌, subst, sym, ap, refl, List}
 use Rattle.bg_match.specs.Terms.{rules_of}
 use Rattle.bg_match.specs.declared.entries.Entry.{Entry}
-use Rattle.bg_wire.specs.PacketText.{id_of, packet_rules}
+use Rattle.bg_wire.specs.Packets.PacketText.{id_of, packet_rules}
 use Rattle.bg_party.specs.Views.{FollowerView}
 use Rattle.bg_party.specs.Learns.{Teaches}
 use Rattle.bg_party.proofs.Holding.{learns_entries}

@@ -1,6 +1,6 @@
 use Rattle.std.proofs.Common.{◌≡◌, length, take}
 use Rattle.std.specs.Prelude.{All}
-use Rattle.bg_wire.specs.PacketText.{IsPacket}
+use Rattle.bg_wire.specs.Packets.PacketText.{IsPacket}
 use Rattle.bg_referee.specs.Takes.{TellsSaved}
 use Rattle.bg_referee.specs.Ticks.{ArePushes}
 use Rattle.bg_referee.proofs.referee.Referee.pushes.Given as goal

@@ -1,4 +1,4 @@
-use Rattle.bg_turns.proofs.Places.{off_by_held}
+use Rattle.bg_turns.proofs.Bits.Places.{off_by_held}
 use Rattle.bg_turns.proofs.masks.Masks.is_off.Goals as goal
 
 pub returns : goal.returns

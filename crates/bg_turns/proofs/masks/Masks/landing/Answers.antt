@@ -1,4 +1,4 @@
-use Rattle.bg_turns.proofs.Bits.{landing_inside, landing_outside}
+use Rattle.bg_turns.proofs.Bits.Single.{landing_inside, landing_outside}
 use Rattle.bg_turns.proofs.masks.Masks.landing.Goals as goal
 
 pub returns-clause-inside : goal.returns-clause-inside

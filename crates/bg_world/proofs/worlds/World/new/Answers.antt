@@ -1,7 +1,7 @@
-use Rattle.bg_world.specs.Starts.{IsWorldFault}
-use Rattle.bg_world.specs.Views.{keeper_view, link_view}
-use Rattle.bg_world.specs.World.{view_of}
-use Rattle.bg_world.proofs.Starting.{made_reached}
+use Rattle.bg_world.specs.Worlds.Starts.{IsWorldFault}
+use Rattle.bg_world.specs.Worlds.Views.{keeper_view, link_view}
+use Rattle.bg_world.specs.Worlds.World.{view_of}
+use Rattle.bg_world.proofs.ReachedWorlds.Starting.{made_reached}
 use Rattle.bg_world.proofs.worlds.World.new.Goals as goal
 
 pub returns-clause-reached : goal.returns-clause-reached

@@ -1,6 +1,6 @@
-use Rattle.bg_world.specs.World.{view_of}
-use Rattle.bg_world.proofs.Goes.{runs_all}
-use Rattle.bg_world.proofs.Upheld.{upholds}
+use Rattle.bg_world.specs.Worlds.World.{view_of}
+use Rattle.bg_world.proofs.Steps.Goes.{runs_all}
+use Rattle.bg_world.proofs.ReachedWorlds.Upheld.{upholds}
 use Rattle.bg_world.proofs.worlds.World.run.Goals as goal
 
 pub returns-clause-run : goal.returns-clause-run

@@ -1,6 +1,6 @@
-use Rattle.bg_world.specs.World.{view_of}
-use Rattle.bg_world.proofs.Goes.{goes}
-use Rattle.bg_world.proofs.NoRefusals.{never_refused}
+use Rattle.bg_world.specs.Worlds.World.{view_of}
+use Rattle.bg_world.proofs.Steps.Goes.{goes}
+use Rattle.bg_world.proofs.ReachedWorlds.NoRefusals.{never_refused}
 use Rattle.bg_world.proofs.worlds.World.step.Goals as goal
 
 pub returns-clause-protocol : goal.returns-clause-protocol

@@ -1,9 +1,9 @@
 use Rattle.std.proofs.Common.{◌≡◌, ◌+◌, List, arith, take, ◌++◌, ◌∷◌, [], subst, sym, ap, ◌∙◌}
 use Rattle.std.proofs.lemmas.List.{take_more}
-use Rattle.bg_world.specs.World.{view_of}
-use Rattle.bg_world.specs.WorldRuns.{RunsCalls, is_fault, is_memory}
+use Rattle.bg_world.specs.Worlds.World.{view_of}
+use Rattle.bg_world.specs.Worlds.WorldRuns.{RunsCalls, is_fault, is_memory}
 use Rattle.bg_world.specs.declared.events.Event.{Event}
-use Rattle.bg_world.proofs.Running.{at_most_one, calls_more, reports_more}
+use Rattle.bg_world.proofs.ReachedWorlds.Running.{at_most_one, calls_more, reports_more}
 use Rattle.bg_world.proofs.worlds.World.steps.Goals as goal
 
 pub loop-event-preserved : goal.loop-event-preserved

@@ -1,6 +1,6 @@
 use Rattle.std.proofs.Common.{take, ◌≤◌, ◌≡◌}
-use Rattle.bg_world.specs.World.{view_of}
-use Rattle.bg_world.specs.WorldRuns.{RunsCalls}
+use Rattle.bg_world.specs.Worlds.World.{view_of}
+use Rattle.bg_world.specs.Worlds.WorldRuns.{RunsCalls}
 use Rattle.bg_world.proofs.worlds.World.steps.Given as goal
 
 abbrev pub invariant-loop-event : goal.invariant-loop-event

@@ -1,6 +1,6 @@
 use Rattle.std.proofs.Common.{arith, subst, sym}
-use Rattle.bg_world.specs.Views.{AreNumbered}
-use Rattle.bg_world.proofs.Numbered.{fresh_numbered}
+use Rattle.bg_world.specs.Worlds.Views.{AreNumbered}
+use Rattle.bg_world.proofs.ReachedWorlds.Numbered.{fresh_numbered}
 use Rattle.bg_world.proofs.nodes.watchers.Watchers.fresh.Goals as goal
 
 pub invariant_of-result : goal.invariant_of-result

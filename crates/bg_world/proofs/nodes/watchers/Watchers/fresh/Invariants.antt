@@ -1,5 +1,5 @@
 use Rattle.std.proofs.Common.{◌≡◌, vec_len}
-use Rattle.bg_world.specs.Starts.{fresh_watchers}
+use Rattle.bg_world.specs.Worlds.Starts.{fresh_watchers}
 use Rattle.bg_world.proofs.nodes.watchers.Watchers.fresh.Given as goal
 
 abbrev pub invariant-loop-index : goal.invariant-loop-index

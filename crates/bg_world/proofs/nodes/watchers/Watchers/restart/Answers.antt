@@ -2,9 +2,9 @@ use Rattle.std.proofs.Common.{ap, refl, subst}
 use Rattle.std.proofs.lemmas.Option.{slice_get_read}
 use Rattle.bg_party.specs.Views.{WatcherView}
 use Rattle.std.specs.Prelude.{List, slice_set}
-use Rattle.bg_world.specs.Nodes.{WatchersRestart}
+use Rattle.bg_world.specs.Worlds.Nodes.{WatchersRestart}
 use Rattle.bg_world.specs.declared.events.Outcome.TheVariants as outcomes
-use Rattle.bg_world.proofs.Numbered.{restarts_at, set_numbered}
+use Rattle.bg_world.proofs.ReachedWorlds.Numbered.{restarts_at, set_numbered}
 use Rattle.bg_world.proofs.nodes.watchers.Watchers.restart.Goals as goal
 
 pub invariant_of-self-inside-2 : goal.invariant_of-self-inside-2

@@ -2,9 +2,9 @@ use Rattle.std.proofs.Common.{◌∙◌, refl, subst}
 use Rattle.std.proofs.lemmas.Option.{slice_get_read}
 use Rattle.bg_party.specs.Views.{WatcherView}
 use Rattle.std.specs.Prelude.{List, slice_set}
-use Rattle.bg_world.specs.Nodes.{WatchersTake}
-use Rattle.bg_world.specs.Views.{link_view}
-use Rattle.bg_world.proofs.Numbered.{set_numbered, take_keeps, takes_at}
+use Rattle.bg_world.specs.Worlds.Nodes.{WatchersTake}
+use Rattle.bg_world.specs.Worlds.Views.{link_view}
+use Rattle.bg_world.proofs.ReachedWorlds.Numbered.{set_numbered, take_keeps, takes_at}
 use Rattle.bg_world.proofs.nodes.watchers.Watchers.take.Goals as goal
 
 pub invariant_of-self-inside-2 : goal.invariant_of-self-inside-2

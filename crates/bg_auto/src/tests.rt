@@ -1,0 +1,9 @@
+//! Automatic players and their matches, in memory and in rounds.
+
+mod auto_actions;
+mod recording_devices;
+mod round_calls;
+mod round_setups;
+mod rounds;
+mod rules;
+mod simulations;

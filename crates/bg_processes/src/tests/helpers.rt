@@ -1,0 +1,7 @@
+//! What these tests are made of.
+
+pub(crate) mod failing_devices;
+pub(crate) mod folders;
+pub(crate) mod overheard;
+pub(crate) mod stand_ins;
+pub(crate) mod tables;

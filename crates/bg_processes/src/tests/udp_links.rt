@@ -1,0 +1,186 @@
+//! Sockets of a match among those of others, and what is said of sockets that fail.
+use crate::files::file_keepers::FileKeeper;
+use crate::loops::run_loop;
+use crate::sockets::udp_links::UdpLink;
+use crate::tests::helpers::folders::new_folder;
+use crate::tests::helpers::overheard::Overheard;
+use arrayvec::ArrayVec;
+use bg_auto::{Onlooker, PARTIES, play_rounds};
+use bg_match::{Number, Rules};
+use bg_text::Writing;
+use bg_wire::{Datagram, PacketBytes, REFEREE, SEAT_OF_O, SEAT_OF_X, decode};
+use bg_world::{DeviceFault, Event, Keepers, Link, Outcome};
+use std::fs;
+use std::net::{Ipv4Addr, SocketAddr, UdpSocket};
+use std::process::Abort;
+use std::test::Fail;
+
+/// The number of the match.
+const SEED: u64 = 7;
+
+/// Packets of match 7 that no party of it sends: an opening 5 6, another one 1 2, a claim of X and one of O to resign
+/// as entry 2, and party 1 asking for what follows entry 1000000.
+const FORGED: [&[u8]; 5] = [
+    &[
+        0x42, 0x47, 2, 3, 0, 0, 0, 0, 0, 0, 0, 7, 1, 0, 0, 0, 1, 1, 1, 5, 6,
+    ],
+    &[
+        0x42, 0x47, 2, 3, 0, 0, 0, 0, 0, 0, 0, 7, 1, 0, 0, 0, 1, 1, 1, 1, 2,
+    ],
+    &[
+        0x42, 0x47, 2, 2, 0, 0, 0, 0, 0, 0, 0, 7, 1, 1, 0, 0, 0, 2, 7, 3,
+    ],
+    &[
+        0x42, 0x47, 2, 2, 0, 0, 0, 0, 0, 0, 0, 7, 1, 2, 0, 0, 0, 2, 7, 3,
+    ],
+    &[
+        0x42, 0x47, 2, 1, 0, 0, 0, 0, 0, 0, 0, 7, 1, 1, 0, 0x0F, 0x42, 0x40,
+    ],
+];
+
+/// Another process, which sends forged packets to each party after each event.
+#[derive(Drop)]
+struct Forger {
+    socket: UdpSocket,
+    addresses: Vec<SocketAddr>,
+}
+
+impl Onlooker for Forger {
+    fn happened(&mut self, _event: &Event, _outcome: &Outcome, _held: Option<Number>) {
+        for address in self.addresses.iter().copied() {
+            for packet in FORGED {
+                let _ = self.socket.send_to(packet, address);
+            }
+        }
+    }
+
+    fn played(&mut self, _done: u32) {}
+}
+
+#[test]
+fn forged_packets_change_nothing(rt: HostRuntime) -> Result<(), Fail> {
+    for packet in FORGED {
+        assert!(rt; decode(packet).is_ok());
+    }
+    let quiet = new_folder(&rt, "quiet")?;
+    let mut expected = Vec::new(rt.alloc());
+    run_loop(
+        &rt,
+        SEED,
+        1,
+        Rules::One,
+        60,
+        quiet.as_str(),
+        &mut Writing::new(&mut expected),
+    )?;
+
+    let besieged = new_folder(&rt, "besieged")?;
+    let folder = besieged.as_str();
+    let link = UdpLink::bind(&rt, PARTIES)?;
+    assert!(rt; link.sockets.ends.len() == 4);
+    let ends = link.sockets.ends.iter();
+    let mut forger = Forger {
+        socket: UdpSocket::bind(&rt, (Ipv4Addr::LOCALHOST, 0))?,
+        addresses: ends.map(|end| end.socket.address).collect(rt.alloc())?,
+    };
+    let keepers = Keepers {
+        referee: FileKeeper::new(&rt, folder, REFEREE)?,
+        x: FileKeeper::new(&rt, folder, SEAT_OF_X)?,
+        o: FileKeeper::new(&rt, folder, SEAT_OF_O)?,
+    };
+    let mut text = Vec::new(rt.alloc());
+    let mut output = Writing::new(&mut text);
+    play_rounds(
+        rt.alloc(),
+        SEED,
+        1,
+        Rules::One,
+        60,
+        link,
+        keepers,
+        &mut output,
+        &mut forger,
+    )?;
+    assert!(rt; text.as_slice() == expected.as_slice());
+    fs::remove_dir_all(&rt, quiet.as_str())?;
+    fs::remove_dir_all(&rt, folder)?;
+    Ok(())
+}
+
+/// A datagram of one byte to a party.
+fn datagram(to: u8) -> Datagram {
+    let mut bytes = ArrayVec::new();
+    let _ = bytes.try_push(to);
+    Datagram {
+        to,
+        bytes: PacketBytes { bytes },
+    }
+}
+
+/// Sockets of three parties. Those of the first two reach a port that nobody has, so that the call after each send
+/// fails.
+fn broken<'a, 'b>(
+    rt: &HostRuntime,
+    heard: &'a Overheard<'b>,
+) -> Result<UdpLink<'a, Overheard<'b>>, Fail> {
+    let link = UdpLink::bind(heard, 3)?;
+    for end in link.sockets.ends.iter().take(2) {
+        let closed = UdpSocket::bind(rt, (Ipv4Addr::LOCALHOST, 0))?.local_addr()?;
+        end.socket.hear_only(closed)?;
+    }
+    Ok(link)
+}
+
+/// So many lines were said, which begin so.
+fn check_said(rt: &impl Abort, said: &str, lines: &[&str]) {
+    assert!(rt; said.lines().count() == lines.len(), "{said}");
+    for (line, wanted) in said.lines().zip(lines) {
+        assert!(rt; line.starts_with(*wanted), "{line}");
+    }
+}
+
+#[test]
+fn each_socket_says_that_it_fails(rt: HostRuntime) -> Result<(), Fail> {
+    let heard = Overheard::new(&rt);
+    let mut link = broken(&rt, &heard)?;
+    for _ in 0..3 {
+        for party in 0..3 {
+            assert!(rt; link.send(&datagram(party)) == Ok(()));
+            assert!(rt; link.take(party, 0).is_err() == (party < 2));
+        }
+    }
+    let unread = [
+        "bg_relay: the socket of party 0 could not be read: ",
+        "bg_relay: the socket of party 1 could not be read: ",
+    ];
+    check_said(&rt, heard.said().as_str(), unread.as_slice());
+    for _ in 0..2 {
+        for party in 0..3 {
+            assert!(rt; link.send(&datagram(party)) == Ok(()));
+            assert!(rt; link.send(&datagram(party)).is_err() == (party < 2));
+        }
+    }
+    // A send that succeeded lies between two that failed, so that each of these is said.
+    let unsent = [
+        "bg_relay: no datagram could be sent to party 0: ",
+        "bg_relay: no datagram could be sent to party 1: ",
+        "bg_relay: no datagram could be sent to party 0: ",
+        "bg_relay: no datagram could be sent to party 1: ",
+    ];
+    check_said(&rt, heard.said().as_str(), unsent.as_slice());
+    Ok(())
+}
+
+#[test]
+fn a_party_without_a_socket(rt: HostRuntime) -> Result<(), Fail> {
+    let heard = Overheard::new(&rt);
+    let mut link = UdpLink::bind(&heard, 2)?;
+    for _ in 0..2 {
+        assert!(rt; link.send(&datagram(2)) == Err(DeviceFault::Failed));
+        assert!(rt; link.send(&datagram(1)) == Ok(()));
+        assert!(rt; link.take(2, 0) == Ok(None));
+    }
+    let unsent = "bg_relay: no datagram could be sent to party 2: ";
+    check_said(&rt, heard.said().as_str(), &[unsent]);
+    Ok(())
+}

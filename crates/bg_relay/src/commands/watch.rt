@@ -1,0 +1,191 @@
+//! The command that watches a match.
+ghost use Rattle.std.specs.Prelude.{◌≤◌};
+ghost use Rattle.bg_wire.specs.Entries.Codes.{first_watcher};
+
+use crate::beginnings::{match_of, no_memory, no_socket, unwaited, unwritten, waiting_for};
+use crate::endings::Ending;
+use crate::tellings::{Telling, tell_word};
+use crate::{failed, wrong};
+use bg_match::Record;
+use bg_processes::{
+    Going, Hearing, MatchFile, PartySocket, Printable, Ticking, Waiting, WatcherProcess, Witness,
+    publish,
+};
+use bg_text::{board_text, transcript_text};
+use bg_wire::{FIRST_WATCHER, LAST_WATCHER};
+use clap::ArgMatches;
+use std::fs::File;
+use std::io::ErrorKind;
+use std::net::Net;
+use std::rt::Files;
+use std::time::Clock;
+
+/// The files are written anew after so many ticks at least, since all of the transcript is.
+const PAUSE_TICKS: u32 = 10;
+
+/// The files that are kept for others.
+#[derive(Drop)]
+struct Published<'a> {
+    board: Option<&'a str>,
+    transcript: Option<&'a str>,
+    /// How many ticks ago they were written.
+    age: u32,
+    /// Whether there are entries that they lack.
+    is_old: bool,
+}
+
+/// Watches the match that the options name, prints its transcript, and keeps the files that were asked for.
+pub(crate) fn run_watch<R>(rt: &R, options: &ArgMatches<'_>, is_watched: bool) -> Ending
+where
+    R: Net + Files<File = File> + Clock + Print + Eprint + AllocGlobal,
+{
+    let Some(path) = options.get_str("match") else {
+        return wrong(rt, "an option is missing");
+    };
+    let published = Published {
+        board: options.get_str("board"),
+        transcript: options.get_str("transcript"),
+        age: PAUSE_TICKS,
+        is_old: true,
+    };
+    match begin(rt, path) {
+        Ok((process, waiting, ticking)) => {
+            match watch(rt, process, waiting, ticking, published, is_watched) {
+                Ok(()) => Ending::Served,
+                Err(ending) => ending,
+            }
+        }
+        Err(ending) => ending,
+    }
+}
+
+type Watcher<'a, R> = WatcherProcess<PartySocket<'a, R>>;
+
+/// A watcher under the first number whose port is free.
+fn begin<'a, R>(rt: &'a R, path: &str) -> Result<(Watcher<'a, R>, Waiting, Ticking), Ending>
+where
+    R: Net + Files<File = File> + Clock + Eprint + AllocGlobal,
+{
+    let file = match_of(rt, path)?;
+    for party in FIRST_WATCHER..=LAST_WATCHER {
+        match PartySocket::bind(rt, file.port, party) {
+            Ok(link) => return sit_down(rt, file, party, link),
+            Err(error) if error.kind() == ErrorKind::AddrInUse => {}
+            Err(error) => return Err(no_socket(rt, party, &error)),
+        }
+    }
+    Err(failed(rt, "no port of a watcher is free"))
+}
+
+fn sit_down<'a, R>(
+    rt: &'a R,
+    file: MatchFile,
+    party: u8,
+    link: PartySocket<'a, R>,
+) -> Result<(Watcher<'a, R>, Waiting, Ticking), Ending>
+where
+    R: Net + Clock + Eprint + AllocGlobal,
+    requires { first_watcher ≤ party }
+{
+    let (waiting, ticking) = waiting_for(rt, link.descriptor(), false)?;
+    match WatcherProcess::begin(rt.alloc(), party, file.id, file.terms, link) {
+        Ok(process) => Ok((process, waiting, ticking)),
+        Err(_) => Err(wrong(rt, "length out of range")),
+    }
+}
+
+fn watch<R>(
+    rt: &R,
+    process: Watcher<'_, R>,
+    waiting: Waiting,
+    ticking: Ticking,
+    published: Published<'_>,
+    is_watched: bool,
+) -> Result<(), Ending>
+where
+    R: Net + Files<File = File> + Clock + Print + Eprint + AllocGlobal,
+{
+    let (mut process, mut waiting, mut ticking) = (process, waiting, ticking);
+    let mut published = published;
+    let mut witness = Witness::new(rt);
+    let mut hearing = Hearing::new(rt);
+    let mut telling = Telling::new();
+    for _ in 0..u64::MAX {
+        let (_, tick) = ticking
+            .next_round(rt, &mut waiting)
+            .map_err(|error| unwaited(rt, &error))?;
+        let going = process.round(tick, &mut witness);
+        tell_word(
+            rt,
+            hearing.after_round(rt, process.link(), tick),
+            is_watched,
+        );
+        let news = telling
+            .go_on(rt, process.held())
+            .map_err(|error| unwritten(rt, &error))?;
+        published.after_round(rt, process.held(), news, tick)?;
+        if going == Going::Over {
+            return published.write(rt, process.held());
+        }
+    }
+    Ok(())
+}
+
+impl<'a> Published<'a> {
+    /// After a round that brought news or not, and in which a tick was due or not: writes the files anew where they
+    /// are old, and some time has passed since.
+    fn after_round<R>(
+        &mut self,
+        rt: &R,
+        record: &Record,
+        news: bool,
+        tick: bool,
+    ) -> Result<(), Ending>
+    where
+        R: Files<File = File> + Eprint + AllocGlobal,
+    {
+        self.is_old = self.is_old || news;
+        if !tick {
+            return Ok(());
+        }
+        self.age = self.age.saturating_add(1);
+        if self.age < PAUSE_TICKS {
+            return Ok(());
+        }
+        self.write(rt, record)
+    }
+
+    /// Puts the record into the files that were asked for, where they lack some of it.
+    fn write<R>(&mut self, rt: &R, record: &Record) -> Result<(), Ending>
+    where
+        R: Files<File = File> + Eprint + AllocGlobal,
+    {
+        if !self.is_old {
+            return Ok(());
+        }
+        if let Some(path) = self.board {
+            let text = board_text(rt.alloc(), &record.standing()).map_err(|_| no_memory(rt))?;
+            put(rt, path, &text)?;
+        }
+        if let Some(path) = self.transcript {
+            let text = transcript_text(rt.alloc(), record).map_err(|_| no_memory(rt))?;
+            put(rt, path, &text)?;
+        }
+        self.is_old = false;
+        self.age = 0;
+        Ok(())
+    }
+}
+
+fn put<R>(rt: &R, path: &str, text: &[u8]) -> Result<(), Ending>
+where
+    R: Files<File = File> + Eprint + AllocGlobal,
+{
+    match publish(rt, path, text) {
+        Ok(()) => Ok(()),
+        Err(error) => {
+            let shown = Printable(path);
+            Err(failed(rt, format_args!("{shown} could not be written: {error}")))
+        }
+    }
+}

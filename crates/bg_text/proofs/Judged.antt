@@ -1,0 +1,11 @@
+-- Lemmas of inputs and of what is judged of them.
+pub mod FineTranscripts
+pub mod InputLines
+pub mod LengthLines
+pub mod LineLists
+pub mod OneJudgement
+pub mod PartRead
+pub mod ReadLines
+pub mod ShortLines
+pub mod WholeInputs
+pub mod WrittenLines

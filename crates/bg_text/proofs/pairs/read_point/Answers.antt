@@ -1,6 +1,0 @@
-use Rattle.std.proofs.Common.{arith}
-use Rattle.bg_text.proofs.PairTexts.{no_such_point}
-use Rattle.bg_text.proofs.pairs.read_point.Goals as goal
-
-pub returns-else-number-lt-BAR : goal.returns-else-number-lt-BAR
-returns-else-number-lt-BAR c = no_such_point _ _ (omega arith) c.in_ok-number.ensures

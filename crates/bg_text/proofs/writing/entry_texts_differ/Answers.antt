@@ -1,5 +1,0 @@
-use Rattle.bg_text.proofs.EntryTexts.{one_entry}
-use Rattle.bg_text.proofs.writing.entry_texts_differ.Goals as goal
-
-pub returns : goal.returns
-returns c = one_entry

@@ -1,5 +1,0 @@
-use Rattle.bg_text.proofs.MoveLines.{IsWritten}
-use Rattle.bg_text.proofs.writing.put_turn.Given as goal
-
-abbrev pub invariant-loop-step : goal.invariant-loop-step
-invariant-loop-step l = IsWritten l.fn.line.bytes l.line.bytes l.steps l.step-index

@@ -1,0 +1,4 @@
+-- What the judge says of an input.
+pub mod Judging
+pub mod Reading
+pub mod Reason

@@ -1,0 +1,130 @@
+//! The pairs of a move, and the numbers of two dice.
+ghost use Rattle.std.specs.Prelude.{◌≡◌, ℕ, Ok, List, [], ◌∷◌, ◌++◌, MatchResult};
+ghost use Rattle.std.specs.List.{AllByRecursion};
+ghost use Rattle.bg_text.specs.Entries.Words.{words_of};
+ghost use Rattle.bg_text.specs.Entries.EntryText.{dice_words};
+ghost use Rattle.bg_text.specs.Entries.EntryShape.{IsPairShape};
+ghost use Rattle.bg_text.specs.Entries.Pairs.{both_of, IsNumberOf, IsPointOf, IsSourceOf, IsTargetOf, IsPairOf, IsTurnOf};
+ghost use Rattle.bg_text.specs.Entries.Pairs.{IsDiceFault};
+
+use crate::TextFault;
+use crate::entries::words::{Pieces, halves};
+use arrayvec::ArrayVec;
+use bg_board::{BAR, Die, OFF, Step};
+use bg_turns::Turn;
+
+/// The turn that the pairs of a move write, one space between each two. A wrong number comes before too many steps.
+pub(crate) fn read_turn(pairs: &[u8]) -> Result<Turn, TextFault>
+    ensures { IsTurnOf (words_of pairs.now) result }
+{
+    let mut words = Pieces::new(pairs, b' ');
+    let mut turn = Ok(Turn {
+        steps: ArrayVec::new(),
+    });
+    while let Some(word) = words.next_piece() {
+        match read_pair(word) {
+            Ok(step) => turn = with_step(turn, step),
+            Err(TextFault::NotALine) => return Err(TextFault::NotALine),
+            Err(TextFault::BadNumber) => turn = Err(TextFault::BadNumber),
+            // no pair alone is too many
+            Err(TextFault::TooManySteps) => turn = Err(TextFault::TooManySteps),
+        }
+    }
+    turn
+}
+
+/// The turn of some pairs, with one more pair's step behind it.
+fn with_step(turn: Result<Turn, TextFault>, step: Step) -> Result<Turn, TextFault>
+    ensures { (pairs : List (List ℕ)) (pair : List ℕ) → AllByRecursion IsPairShape pairs → IsTurnOf pairs turn
+        → IsPairOf pair (Ok step) → IsTurnOf (pairs ++ pair ∷ []) result }
+{
+    let mut turn = turn?;
+    if turn.steps.is_full() {
+        return Err(TextFault::TooManySteps);
+    }
+    turn.steps.push(step);
+    Ok(turn)
+}
+
+/// The step of a pair.
+fn read_pair(word: &[u8]) -> Result<Step, TextFault>
+    ensures { IsPairOf word.now result }
+{
+    let Some((start, end)) = halves(word, b'-') else {
+        return Err(TextFault::NotALine);
+    };
+    let (from, to) = both(read_source(start), read_target(end))?;
+    match Step::new(from, to) {
+        Some(step) => Ok(step),
+        None => Err(TextFault::BadNumber),
+    }
+}
+
+/// The point where a step begins, 25 for the bar.
+fn read_source(word: &[u8]) -> Result<u8, TextFault>
+    ensures { IsSourceOf word.now result }
+{
+    match word {
+        b"bar" => Ok(BAR),
+        _ => read_point(word),
+    }
+}
+
+/// The point where a step ends, 0 for off.
+fn read_target(word: &[u8]) -> Result<u8, TextFault>
+    ensures { IsTargetOf word.now result }
+{
+    match word {
+        b"off" => Ok(OFF),
+        _ => read_point(word),
+    }
+}
+
+/// The point that a numeral names, 1 to 24.
+fn read_point(word: &[u8]) -> Result<u8, TextFault>
+    ensures { IsPointOf word.now result }
+{
+    let number = read_number(word)?;
+    if number < BAR {
+        Ok(number)
+    } else {
+        Err(TextFault::BadNumber)
+    }
+}
+
+/// Both numbers, or the graver of the faults: another shape of one word comes before a wrong number in the other.
+fn both(first: Result<u8, TextFault>, second: Result<u8, TextFault>) -> Result<(u8, u8), TextFault>
+    ensures { result ≡ both_of first second }
+{
+    match (first, second) {
+        (Err(TextFault::NotALine), _) | (_, Err(TextFault::NotALine)) => Err(TextFault::NotALine),
+        (first, second) => Ok((first?, second?)),
+    }
+}
+
+/// The dice that two numbers write, one space between them.
+pub(crate) fn read_dice(numbers: &[u8]) -> Result<(Die, Die), TextFault>
+    ensures { MatchResult result (λ dice. words_of numbers.now ≡ dice_words dice.0 dice.1)
+        (λ fault. IsDiceFault fault (words_of numbers.now)) }
+{
+    let Some((first, second)) = halves(numbers, b' ') else {
+        return Err(TextFault::NotALine);
+    };
+    let (first, second) = both(read_number(first), read_number(second))?;
+    match (Die::new(first), Die::new(second)) {
+        (Some(first), Some(second)) => Ok((first, second)),
+        _ => Err(TextFault::BadNumber),
+    }
+}
+
+/// The number, 1 to 99, that one or two digits write. A leading zero is a wrong number, as is 0.
+pub(crate) fn read_number(word: &[u8]) -> Result<u8, TextFault>
+    ensures { IsNumberOf word.now result }
+{
+    match word {
+        [b'0'] | [b'0', b'0'..=b'9'] => Err(TextFault::BadNumber),
+        [ones @ b'1'..=b'9'] => Ok(ones - b'0'),
+        [tens @ b'1'..=b'9', ones @ b'0'..=b'9'] => Ok(10 * (tens - b'0') + (ones - b'0')),
+        _ => Err(TextFault::NotALine),
+    }
+}

@@ -1,0 +1,112 @@
+//! What the judge says of an input: a board, and the verdict line.
+ghost use Rattle.std.specs.Prelude.{◌≡◌, ◌++◌, ◌+◌, length, OnOk, IfOk};
+ghost use Rattle.bg_match.specs.Match.{StandsAt};
+ghost use Rattle.bg_match.specs.State.{State};
+ghost use Rattle.bg_text.specs.Boards.BoardText.{line_text, board_text as text_of_board};
+ghost use Rattle.bg_text.specs.Judge.Judging.{fault_reason, refused_line, fine_line, IsTooLong};
+
+use crate::Verdict;
+use crate::board_texts::board_text;
+use crate::faults::LineFault;
+use crate::judging::reasons::reason_text;
+use crate::printing::{put_number, put_text};
+use bg_match::Record;
+use std::alloc::{AllocError, Global};
+
+/// What the judge says of an input.
+#[derive(Debug, PartialEq, Eq, Drop)]
+pub struct Judgement {
+    /// The board text of the standing after the good lines, and the verdict line.
+    pub text: Vec<u8>,
+    /// The verdict that the text ends with.
+    pub verdict: Verdict,
+}
+
+/// Adds the reason why a line is refused.
+fn put_reason(out: &mut Vec<u8>, why: LineFault) -> Result<(), AllocError>
+    ensures { OnOk result (out.new.items ≡ out.old.items ++ fault_reason why) }
+{
+    match why {
+        LineFault::NotALengthLine => put_text(out, "not a length line"),
+        LineFault::LengthOutOfRange => put_text(out, "length out of range"),
+        LineFault::Text(fault) => put_text(out, fault.reason()),
+        LineFault::WrongPlayer => put_text(out, "wrong player"),
+        LineFault::Entry(fault) => put_text(out, reason_text(&fault).as_str()),
+    }
+}
+
+/// Adds the verdict line of a refusal.
+fn put_refused(out: &mut Vec<u8>, number: u32, why: LineFault) -> Result<(), AllocError>
+    ensures { OnOk result (out.new.items ≡ out.old.items ++ line_text (refused_line number why)) }
+{
+    put_text(out, "refused at line ")?;
+    put_number(out, number.into())?;
+    put_text(out, ": ")?;
+    put_reason(out, why)?;
+    put_text(out, "\n")
+}
+
+/// Adds the verdict line of a good transcript.
+fn put_fine(out: &mut Vec<u8>, entries: u32) -> Result<(), AllocError>
+    ensures { OnOk result (out.new.items ≡ out.old.items ++ line_text (fine_line entries)) }
+{
+    put_text(out, "ok ")?;
+    put_number(out, entries.into())?;
+    put_text(out, "\n")
+}
+
+/// The judgement where a line after those of the record is refused.
+pub(crate) fn refused(alloc: Global, log: &Record, why: LineFault) -> Result<Judgement, AllocError>
+    ensures { IfOk result (λ judgement. (t : State) × StandsAt log.now.terms log.now.entries t
+        × (judgement.text.items ≡ text_of_board t ++ line_text (refused_line (length log.now.entries + 2) why))
+        × (judgement.verdict ≡ Verdict.Refused (length log.now.entries + 2))) }
+{
+    let number = log.len() + 2;
+    let mut text = board_text(alloc, &log.standing())?;
+    put_refused(&mut text, number, why)?;
+    Ok(Judgement {
+        text,
+        verdict: Verdict::Refused(number),
+    })
+}
+
+/// The judgement where all lines are those of the log.
+pub(crate) fn fine(alloc: Global, log: &Record) -> Result<Judgement, AllocError>
+    ensures { IfOk result (λ judgement. (t : State) × StandsAt log.now.terms log.now.entries t
+        × (judgement.text.items ≡ text_of_board t ++ line_text (fine_line (length log.now.entries)))
+        × (judgement.verdict ≡ Verdict.Fine (length log.now.entries))) }
+{
+    let entries = log.len();
+    let mut text = board_text(alloc, &log.standing())?;
+    put_fine(&mut text, entries)?;
+    Ok(Judgement {
+        text,
+        verdict: Verdict::Fine(entries),
+    })
+}
+
+/// The judgement where line 1 is refused.
+pub(crate) fn refused_at_once(alloc: Global, why: LineFault) -> Result<Judgement, AllocError>
+    ensures { IfOk result (λ judgement. (judgement.text.items ≡ line_text (refused_line 1 why))
+        × (judgement.verdict ≡ Verdict.Refused 1)) }
+{
+    let mut text = Vec::new(alloc);
+    put_refused(&mut text, 1, why)?;
+    Ok(Judgement {
+        text,
+        verdict: Verdict::Refused(1),
+    })
+}
+
+/// The judgement on an input that is longer than the limit (docs/FORMATS.md, "The judge").
+///
+/// # Errors
+/// `AllocError` where there is no memory for the text.
+pub fn too_long(alloc: Global) -> Result<Judgement, AllocError>
+    ensures { IfOk result (λ judgement. IsTooLong judgement.text.items judgement.verdict) }
+{
+    Ok(Judgement {
+        text: Vec::from_slice(alloc, b"refused: input too long\n")?,
+        verdict: Verdict::TooLong,
+    })
+}

@@ -1,0 +1,71 @@
+//! Refused growths.
+use super::devices::verdict_on;
+use super::records::{MATCH, TEXT_OF_MATCH, record};
+use crate::{EngineFault, Verdict, board_text, judge_text, transcript_text};
+use std::alloc::{AllocError, Global};
+use std::test::Fail;
+
+/// Fails where the growth that comes next is refused: so `tools/refuse_growths` learns how many came before.
+fn check_no_growth_is_left(alloc: Global) -> Result<(), Fail> {
+    match Vec::<u8>::with_capacity(alloc, 1) {
+        Ok(_) => Ok(()),
+        Err(AllocError) => Err(Fail::from("no growth is left")),
+    }
+}
+
+/// Where memory is refused the same call then succeeds. No run of the tests refuses any, but `tools/refuse_growths`
+/// refuses each growth in turn.
+#[test]
+fn refused_growths_of_boards(rt: HostRuntime) -> Result<(), Fail> {
+    let standing = record(&rt)?.standing();
+    let board = match board_text(rt.alloc(), &standing) {
+        Ok(board) => board,
+        Err(_) => board_text(rt.alloc(), &standing)?,
+    };
+    assert_eq!(rt;
+        Some(board.as_slice()),
+        TEXT_OF_MATCH.as_bytes().strip_suffix(b"ok 2\n")
+    );
+    check_no_growth_is_left(rt.alloc())
+}
+
+/// The same, of a transcript.
+#[test]
+fn refused_growths_of_transcripts(rt: HostRuntime) -> Result<(), Fail> {
+    let record = record(&rt)?;
+    let transcript = match transcript_text(rt.alloc(), &record) {
+        Ok(transcript) => transcript,
+        Err(_) => transcript_text(rt.alloc(), &record)?,
+    };
+    assert_eq!(rt; transcript.as_slice(), MATCH.as_bytes());
+    check_no_growth_is_left(rt.alloc())
+}
+
+/// The same, of a judgement.
+#[test]
+fn refused_growths_of_judgements(rt: HostRuntime) -> Result<(), Fail> {
+    let judged = match judge_text(rt.alloc(), MATCH.as_bytes()) {
+        Ok(judged) => judged,
+        Err(_) => judge_text(rt.alloc(), MATCH.as_bytes())?,
+    };
+    assert_eq!(rt; judged.verdict, Verdict::Fine(2));
+    assert_eq!(rt; judged.text.as_slice(), TEXT_OF_MATCH.as_bytes());
+    check_no_growth_is_left(rt.alloc())
+}
+
+/// The same, of the judge between devices, who then has written nothing.
+#[test]
+fn refused_growths_between_devices(rt: HostRuntime) -> Result<(), Fail> {
+    let mut written = match Vec::with_capacity(rt.alloc(), 1000) {
+        Ok(written) => written,
+        Err(_) => Vec::with_capacity(rt.alloc(), 1000)?,
+    };
+    let mut verdict = verdict_on(rt.alloc(), &mut MATCH.as_bytes(), &mut written);
+    if verdict == Err(EngineFault::Memory) {
+        assert!(rt; written.is_empty());
+        verdict = verdict_on(rt.alloc(), &mut MATCH.as_bytes(), &mut written);
+    }
+    assert_eq!(rt; verdict, Ok(Verdict::Fine(2)));
+    assert_eq!(rt; written.as_slice(), TEXT_OF_MATCH.as_bytes());
+    check_no_growth_is_left(rt.alloc())
+}

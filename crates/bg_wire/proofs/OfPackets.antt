@@ -1,0 +1,4 @@
+-- Lemmas of packets.
+pub mod PacketBodies
+pub mod PacketFaults
+pub mod PacketLaws

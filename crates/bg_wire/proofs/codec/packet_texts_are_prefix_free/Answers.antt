@@ -1,7 +1,0 @@
-use Rattle.bg_wire.specs.PacketReading.{packet_at}
-use Rattle.bg_wire.proofs.Laws.{prefix_free}
-use Rattle.bg_wire.proofs.PacketLaws.{packet_law}
-use Rattle.bg_wire.proofs.codec.packet_texts_are_prefix_free.Goals as goal
-
-pub returns : goal.returns
-returns c = prefix_free packet_at packet_law

@@ -1,8 +1,0 @@
-use Rattle.std.proofs.Common.{◌≡◌, ◌-◌}
-use Rattle.bg_wire.specs.Reading.{many_at}
-use Rattle.bg_wire.proofs.Many.{passed_of}
-use Rattle.bg_wire.specs.EntryReading.{entry_at}
-use Rattle.bg_wire.proofs.saved_layouts.pass_entries.Given as goal
-
-abbrev pub invariant-loop : goal.invariant-loop
-invariant-loop l = passed_of (many_at (entry_at l.layout) (l.count - l.counter) l.reader) ≡ passed_of (many_at (entry_at l.layout) l.count l.fn.reader)

@@ -1,0 +1,3 @@
+-- Packets in bytes.
+pub mod PacketText
+pub mod PacketReading

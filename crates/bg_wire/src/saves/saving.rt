@@ -1,0 +1,224 @@
+//! Saved texts, written and read.
+ghost use Rattle.std.specs.Prelude.{◌≡◌, ◌≢◌, ◌↔◌, ◌<◌, ◌≤◌, ◌+◌, ◌++◌, [], List, ℕ, length, IsOk, IfOk, IfErr, vec_len, vec_capacity};
+ghost use Rattle.std.specs.List.{AllByRecursion};
+ghost use Rattle.arrayvec.specs.ArrayVec.{array_vec_len};
+ghost use Rattle.bg_match.specs.Limits.{most_entries};
+ghost use Rattle.bg_match.specs.Entry.{IsEntry};
+ghost use Rattle.bg_match.specs.Match.{IsLegalRecord};
+ghost use Rattle.bg_wire.specs.Entries.Codes.{longest_saved_text, seat_of_o};
+ghost use Rattle.bg_wire.specs.Texts.{HasMore, ArePrefixFree};
+ghost use Rattle.bg_wire.specs.Entries.EntryText.{entries_bytes, bytes_at};
+ghost use Rattle.bg_wire.specs.Saved.SavedText.{SavedParts, IsSavable, IsLayoutOf, IsSavedText, IsWrittenText, IsIllegalAt, HasEntries, parts_of, parts_with, IsClaimOf};
+ghost use Rattle.bg_wire.specs.Faults.{IsLoadFault};
+ghost use Rattle.bg_wire.specs.Saved.Saves.{IsNextSave};
+ghost use Rattle.bg_wire.specs.Saved.SavedReading.{layout_of, entries_of, append_fault, Loads, Replays};
+
+use crate::entries::entry_reading::entry;
+use crate::entries::entry_writing::put_entry;
+use crate::entries::reader::Reader;
+use crate::saves::layouts::{Layout, end, pass_entries, split_front};
+use crate::saves::text_lengths::entries_len;
+use crate::saves::writing::front_text;
+use crate::{LoadFault, SaveRefusal, Saved, Slot};
+use arrayvec::ArrayVec;
+use bg_match::{Action, EntryFault, MOST_ENTRIES, Number, Record};
+use std::alloc::{AllocError, Global};
+
+/// The saved text, in the second layout: at most 10000038 bytes (docs/FORMATS.md, "Saved files").
+///
+/// # Errors
+/// AllocError where there is no memory for it.
+pub fn save_text(alloc: Global, saved: &Saved) -> Result<Vec<u8>, AllocError>
+    requires { IsSavable (parts_of saved.now) }
+    ensures text { IfOk result (λ text. IsWrittenText (parts_of saved.now) text.items) }
+    ensures longest { IfOk result (λ text. vec_len text ≤ longest_saved_text) }
+{
+    text_of(alloc, saved.party, saved.save, &saved.claim, &saved.log)
+}
+
+/// The slot, the number and the text of the save that follows the save `last`, or the first one where `last` is 0
+/// (docs/PROTOCOL.md, "Saving"). The text is the one that [`save_text`] gives of the same parts, which are only lent.
+///
+/// # Errors
+/// `SavesSpent` where `last` is 4294967295, else `Memory` where there is no memory for the text.
+pub fn next_save(
+    alloc: Global,
+    last: u32,
+    party: u8,
+    claim: &Option<(Number, Action)>,
+    log: &Record,
+) -> Result<(Slot, u32, Vec<u8>), SaveRefusal>
+    requires party { party ≤ seat_of_o }
+    requires claim { IsClaimOf party claim.now }
+    ensures next { IsNextSave (parts_with party (last + 1) claim.now log.now) result }
+    ensures longest { IfOk result (λ next. vec_len (next.2) ≤ longest_saved_text) }
+{
+    let Some(save) = last.checked_add(1) else {
+        return Err(SaveRefusal::SavesSpent);
+    };
+    match text_of(alloc, party, save, claim, log) {
+        Ok(text) => Ok((Slot::of(save), save, text)),
+        Err(_) => Err(SaveRefusal::Memory),
+    }
+}
+
+/// The saved text of these parts. Room for it is made once.
+fn text_of(
+    alloc: Global,
+    party: u8,
+    save: u32,
+    claim: &Option<(Number, Action)>,
+    log: &Record,
+) -> Result<Vec<u8>, AllocError>
+    requires { IsSavable (parts_with party save claim.now log.now) }
+    ensures text { IfOk result (λ text.
+        IsWrittenText (parts_with party save claim.now log.now) text.items) }
+    ensures longest { IfOk result (λ text. vec_len text ≤ longest_saved_text) }
+{
+    let front = front_text(party, save, claim, log);
+    let mut text = Vec::with_capacity(alloc, front.len() + entries_len(log))?;
+    append(&mut text, front.as_slice());
+    push_entries(&mut text, log);
+    Ok(text)
+}
+
+/// No saved text, of either layout, begins with another saved text, or with a shorter one of its own: one text is the
+/// text of one value.
+pub fn saved_texts_are_prefix_free()
+    ensures { ArePrefixFree IsSavedText }
+{}
+
+/// Room for the texts of some hundred entries.
+type Chunk = ArrayVec<u8, 1024>;
+
+/// Appends the texts of all entries, for which there is room, some hundred at a time.
+fn push_entries(text: &mut Vec<u8>, log: &Record)
+    requires room { length text.old.items + length (entries_bytes log.now.entries) ≤ vec_capacity text.old }
+    ensures { text.new.items ≡ text.old.items ++ entries_bytes log.now.entries }
+{
+    let mut chunk = Chunk::new();
+    for index in 0..log.len() {
+        put_index(&mut chunk, log, index);
+        make_room(text, &mut chunk);
+    }
+    append(text, chunk.as_slice());
+}
+
+/// Appends bytes for which there is room.
+fn append(text: &mut Vec<u8>, bytes: &[u8])
+    requires { length text.old.items + length bytes.now ≤ vec_capacity text.old }
+    ensures items { text.new.items ≡ text.old.items ++ bytes.now }
+    ensures capacity { vec_capacity text.old ≤ vec_capacity text.new }
+{
+    text.extend_from_slice(bytes).unwrap();
+}
+
+/// The text of the entry of this index, from 0; nothing past the end.
+fn put_index(chunk: &mut Chunk, log: &Record, index: Number)
+    requires below { index < most_entries }
+    requires in_range { AllByRecursion IsEntry log.now.entries }
+    requires room { array_vec_len chunk.old + 10 ≤ 1024 }
+    ensures text { chunk.new.items ≡ chunk.old.items ++ bytes_at log.now.entries index }
+    ensures len { array_vec_len chunk.new ≤ array_vec_len chunk.old + 10 }
+{
+    if let Some(entry) = log.entry(index + 1) {
+        put_entry(chunk, entry);
+    }
+}
+
+/// Appends a chunk that has no room for a further entry, and empties it. The text has room for it.
+fn make_room(text: &mut Vec<u8>, chunk: &mut Chunk)
+    requires { length (text.old.items ++ chunk.old.items) ≤ vec_capacity text.old }
+    ensures same { text.new.items ++ chunk.new.items ≡ text.old.items ++ chunk.old.items }
+    ensures room { array_vec_len chunk.new + 10 ≤ 1024 }
+    ensures capacity { vec_capacity text.old ≤ vec_capacity text.new }
+{
+    if chunk.remaining_capacity() < 10 {
+        append(text, chunk.as_slice());
+        chunk.clear();
+    }
+}
+
+/// What the saved text says, in either layout (docs/FORMATS.md, "Saved files"). The claim is not compared with the
+/// record.
+///
+/// # Errors
+/// The first fault that is met from left to right, of the layout that the first field says. Where the layout holds,
+/// Illegal of the first entry that does not follow. Memory where there is none for the entries.
+pub fn load(alloc: Global, bytes: &[u8]) -> Result<Saved, LoadFault>
+    // What is loaded is spelled so.
+    ensures found { IfOk result (λ saved. IsSavedText (parts_of saved) bytes.now) }
+    ensures savable { IfOk result (λ saved. IsSavable (parts_of saved)) }
+    // What is spelled so is loaded.
+    ensures only { (p : SavedParts) → IsSavedText p bytes.now → result ≢ Err LoadFault.Memory
+        → IsOk result × IfOk result (λ saved. parts_of saved ≡ p) }
+    // The front of a text, and no more, is short.
+    ensures short { (p : SavedParts) (rest : List ℕ) → IsLayoutOf p (bytes.now ++ rest) → rest ≢ []
+        → result ≡ Err LoadFault.Short }
+    // Bytes behind the layout are extra, and nothing else is.
+    ensures extra { (result ≡ Err LoadFault.Extra) ↔ HasMore IsLayoutOf bytes.now }
+    // The first entry that does not follow.
+    ensures illegal { (n : ℕ) → result ≡ Err (LoadFault.Illegal n) → IsIllegalAt n bytes.now }
+    ensures only_illegal { (n : ℕ) → IsIllegalAt n bytes.now → result ≢ Err LoadFault.Memory
+        → result ≡ Err (LoadFault.Illegal n) }
+    // Memory is wanted for entries alone, once the layout holds.
+    ensures memory { result ≡ Err LoadFault.Memory → HasEntries bytes.now }
+    // What a fault says of the bytes: by `laws_of_faults` they have no other, want of memory aside.
+    ensures why { IfErr result (λ fault. IsLoadFault fault bytes.now) }
+{
+    load_record(alloc, bytes)
+}
+
+/// The saved text as a record. Room is made for no more entries than there are bytes for, so no count is trusted.
+fn load_record(alloc: Global, bytes: &[u8]) -> Result<Saved, LoadFault>
+    ensures { Loads result (layout_of bytes.now) }
+{
+    let (front, mut reader) = split_front(bytes)?;
+    let mut log = Record::new(alloc, front.id, front.terms.length, front.terms.rules).unwrap();
+    if log.reserve(reader.at_most(front.count)).is_err() {
+        pass_entries(&mut reader, front.layout, front.count)?;
+        return Err(LoadFault::Memory);
+    }
+    replay(&mut log, &mut reader, front.layout, front.count)?;
+    Ok(Saved {
+        party: front.party,
+        save: front.save,
+        claim: front.claim,
+        log,
+    })
+}
+
+/// Appends so many entries, with which the text ends, to a record that has none. What is wrong with the layout comes
+/// first, also behind an entry that does not follow.
+fn replay(
+    log: &mut Record,
+    reader: &mut Reader<'_>,
+    layout: Layout,
+    count: Number,
+) -> Result<(), LoadFault>
+    requires none { log.old.entries ≡ [] }
+    requires legal { IsLegalRecord log.old.terms [] }
+    ensures { Replays result log.old log.new (entries_of layout count reader.old) }
+{
+    for done in 0..count {
+        let entry = match entry(reader, layout) {
+            Ok(entry) => entry,
+            Err(fault) => return Err(LoadFault::of(fault)),
+        };
+        if let Err(fault) = log.push(entry) {
+            pass_entries(reader, layout, count - (done + 1))?;
+            return Err(append_fault(done + 1, &fault));
+        }
+    }
+    end(reader)
+}
+
+/// Why loading ends where the entry of this number was not appended.
+fn append_fault(number: Number, fault: &EntryFault) -> LoadFault
+    ensures { result ≡ append_fault number fault.now }
+{
+    match fault {
+        EntryFault::Memory => LoadFault::Memory,
+        _ => LoadFault::Illegal(number),
+    }
+}

@@ -1,0 +1,8 @@
+-- Lemmas of the texts of worlds.
+pub mod Digits
+pub mod EventTexts
+pub mod EventShapes
+pub mod EventFaults
+pub mod OutcomeReads
+pub mod OutcomeTexts
+pub mod ScriptLines

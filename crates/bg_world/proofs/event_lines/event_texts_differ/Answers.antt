@@ -1,5 +1,0 @@
-use Rattle.bg_world.proofs.EventTexts.{one_event}
-use Rattle.bg_world.proofs.event_lines.event_texts_differ.Goals as goal
-
-pub returns : goal.returns
-returns c = one_event

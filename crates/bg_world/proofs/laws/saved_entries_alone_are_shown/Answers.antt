@@ -1,5 +1,0 @@
-use Rattle.bg_world.proofs.laws.saved_entries_alone_are_shown.Goals as goal
-use Rattle.bg_world.proofs.Reached.{reached, no_more}
-
-pub returns : goal.returns
-returns c = λ w h. no_more w (reached w h)

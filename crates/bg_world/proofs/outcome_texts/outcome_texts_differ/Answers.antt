@@ -1,5 +1,0 @@
-use Rattle.bg_world.proofs.OutcomeTexts.{texts_differ}
-use Rattle.bg_world.proofs.outcome_texts.outcome_texts_differ.Goals as goal
-
-pub returns : goal.returns
-returns c = texts_differ

@@ -1,0 +1,24 @@
+-- A party takes what the network hands it.
+use Rattle.std.specs.Prelude.{◌≡◌, ℕ, ◌+◌, List, slice_set}
+use Rattle.bg_match.specs.declared.entries.Entry.{Entry}
+use Rattle.bg_wire.specs.Entries.Codes.{first_watcher}
+use Rattle.bg_wire.specs.Parties.{party_of}
+use Rattle.bg_world.specs.declared.events.Outcome.{Outcome}
+use Rattle.bg_world.specs.declared.roles.Role.{Role}
+use Rattle.bg_world.specs.declared.roles.Role.TheVariants.{Referee as AsReferee, Seat as AsSeat, Watcher as AsWatcher}
+use Rattle.bg_world.specs.Protocol.FollowerTakeStep.{FollowerTakeStep}
+use Rattle.bg_world.specs.Protocol.Frames.{IfUp, SeatChanges, SeatIfUp, AtWatcher}
+use Rattle.bg_world.specs.Protocol.RefereeTakeStep.{RefereeTakeStep}
+use Rattle.bg_world.specs.Protocol.State.{ProtocolState, seat}
+
+-- The referee answers, or accepts a claim. Of a follower only the record changes.
+abbrev pub TakeStep : ProtocolState → Role → ℕ → Outcome → ProtocolState → Type 0
+TakeStep w AsReferee word o v = IfUp w.referee.up w o v (RefereeTakeStep w word o v)
+TakeStep w (AsSeat player) word o v =
+    SeatChanges w player v (λ new. SeatIfUp (seat w player).up o (seat w player) new
+    ((log : List Entry) × FollowerTakeStep w.id w.terms w.sent (party_of player) o (seat w player).log log
+    × (new ≡ record (seat w player) { log = log })))
+TakeStep w (AsWatcher index) word o v =
+    AtWatcher w index o v (λ old. (new : List Entry)
+    × FollowerTakeStep w.id w.terms w.sent (first_watcher + index) o old new
+    × (v ≡ record w { watchers = slice_set w.watchers index new }))

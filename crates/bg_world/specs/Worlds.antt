@@ -1,0 +1,14 @@
+-- Worlds and nodes: what contracts see of them, which are reached, and what holds of these.
+pub mod Views
+pub mod Calls
+pub mod WorldState
+pub mod WorldRuns
+pub mod World
+pub mod Nodes
+pub mod Interleavings
+pub mod Starts
+pub mod NotRefused
+pub mod Upholds
+pub mod WorldLaws
+pub mod DiceWords
+pub mod Simulations

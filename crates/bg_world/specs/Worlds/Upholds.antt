@@ -1,0 +1,41 @@
+-- What holds of a reached world.
+use Rattle.std.specs.Prelude.{◌≡◌, ℕ, Some}
+use Rattle.bg_board.specs.declared.players.Player.{Player}
+use Rattle.bg_match.specs.Match.{IsLegalRecord, Log}
+use Rattle.bg_wire.specs.Entries.Codes.{referee}
+use Rattle.bg_world.specs.Promises.Agreement.{Agreement, IsPrefix}
+use Rattle.bg_world.specs.Promises.Claims.{AreClaimsKept}
+use Rattle.bg_world.specs.Promises.Headline.{AreAnswered, Headline}
+use Rattle.bg_world.specs.Promises.Refusals.{IsNoPacketRefused, IsNoSlotRefused}
+use Rattle.bg_world.specs.Protocol.Roles.{role}
+use Rattle.bg_world.specs.Promises.Shown.{ShowsSavedAlone}
+use Rattle.bg_world.specs.Protocol.Slots.{claim_in}
+use Rattle.bg_world.specs.Worlds.Starts.{held_of}
+use Rattle.bg_world.specs.Protocol.State.{log_of}
+use Rattle.bg_world.specs.Promises.Survival.{SavesSurvive}
+use Rattle.bg_world.specs.Worlds.Views.{WorldView}
+use Rattle.bg_world.specs.Worlds.WorldState.{IsLogOf, IsReachedWorld, restorable_of, protocol_state}
+
+-- The headline over what a world holds, where its referee is up and has this record: each record that a party holds is
+-- of the world's match, and a prefix of it; it is a legal match; and each entry of a seat in it answers the one action
+-- that this seat ever claimed under its number.
+pub record HeadlineHeld (w : WorldView) (log : Log) : Type 0 where
+  pub of_match : (party : ℕ) (held : Log) → held_of w (role party) ≡ Some held → IsLogOf w.id w.terms held
+  pub prefix : (party : ℕ) (held : Log) → held_of w (role party) ≡ Some held → IsPrefix held.entries log.entries
+  pub legal : IsLegalRecord w.terms log.entries
+  pub answered : AreAnswered w.terms log.entries w.link.sent
+
+-- The headline over what a world holds, and over the state of the protocol that it is in; and the other laws of runs.
+-- The record of a party that is up is the one that the state has.
+pub record Upholds (w : WorldView) : Type 0 where
+  pub world : IsReachedWorld w
+  pub held_headline : (log : Log) → held_of w (role referee) ≡ Some log → HeadlineHeld w log
+  pub headline : Headline (protocol_state w world.restorable)
+  pub agreement : Agreement (protocol_state w world.restorable)
+  pub claims : (player : Player) → AreClaimsKept w.link.sent player (claim_in (restorable_of world.restorable player))
+  pub saved_alone : ShowsSavedAlone (protocol_state w world.restorable)
+  pub packets : IsNoPacketRefused (protocol_state w world.restorable)
+  pub slots : IsNoSlotRefused (protocol_state w world.restorable)
+  pub survive : SavesSurvive (protocol_state w world.restorable)
+  pub held : (party : ℕ) (log : Log) → held_of w (role party) ≡ Some log
+      → log_of (protocol_state w world.restorable) party ≡ Some log.entries

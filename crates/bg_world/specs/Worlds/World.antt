@@ -1,0 +1,19 @@
+-- A world as contracts see it.
+use Rattle.bg_world.specs.Worlds.Views.{WorldView, keeper_view, link_view}
+use Rattle.bg_world.specs.declared.devices.Keeper as keeper
+use Rattle.bg_world.specs.declared.devices.Link as link
+use Rattle.bg_world.specs.declared.worlds.World.{World}
+
+abbrev pub view_of : {L K : Type 0} → link.Ghosts L → keeper.Ghosts K → World L K → WorldView
+view_of l k w = record {
+  id = w.id;
+  terms = w.terms;
+  link = link_view l w.link;
+  referee_keeper = keeper_view k w.referee.keeper;
+  x_keeper = keeper_view k w.x.keeper;
+  o_keeper = keeper_view k w.o.keeper;
+  referee = w.referee.core;
+  x = w.x.core;
+  o = w.o.core;
+  watchers = w.watchers;
+}

@@ -1,0 +1,47 @@
+//! One call of a link.
+ghost use Rattle.std.specs.Prelude.{◌≡◌, IfOk};
+ghost use Rattle.bg_wire.specs.Packets.PacketText.{IsPacket};
+ghost use Rattle.bg_world.specs.Devices.DeviceCalls.{Posts, Receives, link_outcome};
+ghost use Rattle.bg_world.specs.Worlds.Views.{link_view};
+
+use crate::{DeviceFault, Link, Outcome};
+use bg_wire::{Datagram, Packet, PacketBytes, decode, encode};
+
+/// What a fault of the link comes to.
+pub(crate) fn link_outcome(fault: DeviceFault) -> Outcome
+    ensures { result ≡ link_outcome fault }
+{
+    match fault {
+        DeviceFault::Failed => Outcome::LinkFault,
+        DeviceFault::Memory => Outcome::Memory,
+    }
+}
+
+/// Takes a datagram for the party, and reads its packet; or says why there is none.
+pub(crate) fn receive<L: Link>(link: &mut L, party: u8, pick: u32) -> Result<Packet, Outcome>
+    ensures receives { Receives L.is_honest (link_view L.Link link.old) party pick result (link_view L.Link link.new) }
+    ensures fits { IfOk result IsPacket }
+{
+    match link.take(party, pick) {
+        Err(fault) => Err(link_outcome(fault)),
+        Ok(None) => Err(Outcome::NoDatagram),
+        Ok(Some(bytes)) => match decode(bytes.as_slice()) {
+            Ok(packet) => Ok(packet),
+            Err(fault) => Err(Outcome::NotAPacket(fault)),
+        },
+    }
+}
+
+/// Sends a packet to the party.
+pub(crate) fn post<L: Link>(link: &mut L, to: u8, packet: &Packet) -> Result<(), DeviceFault>
+    requires { IsPacket packet.now }
+    ensures { Posts L.is_honest (link_view L.Link link.old) to packet.now result (link_view L.Link link.new) }
+{
+    let datagram = Datagram {
+        to,
+        bytes: PacketBytes {
+            bytes: encode(packet),
+        },
+    };
+    link.send(&datagram)
+}

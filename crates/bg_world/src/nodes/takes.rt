@@ -1,0 +1,96 @@
+//! A party takes a datagram.
+ghost use Rattle.bg_referee.specs.Takes.{AnswerFits, RefereeTakes};
+ghost use Rattle.bg_wire.specs.Packets.PacketText.{IsPacket};
+ghost use Rattle.bg_world.specs.Worlds.Calls.{SeatTakes, WatcherTakes};
+ghost use Rattle.bg_world.specs.Devices.LinkCalls.{AnswerCalls, FollowerTakeCalls, RefereeTakeCalls};
+ghost use Rattle.bg_world.specs.Worlds.Views.{link_view};
+
+use crate::nodes::link_calls::{link_outcome, post, receive};
+use crate::{Link, Outcome};
+use bg_party::{Learned, Seat, Watcher};
+use bg_referee::{Referee, TakeOutcome};
+use bg_wire::{Packet, REFEREE};
+
+/// Sends an answer, if there is one, to a party that exists. So many parties exist, from 0.
+fn send_answer<L: Link>(link: &mut L, parties: usize, took: TakeOutcome) -> Outcome
+    requires { AnswerFits took }
+    ensures { AnswerCalls L.is_honest parties (link_view L.Link link.old) took result (link_view L.Link link.new) }
+{
+    if let TakeOutcome::Answer(to, packet) = &took {
+        if usize::from(*to) < parties {
+            if let Err(fault) = post(link, *to, packet) {
+                return link_outcome(fault);
+            }
+        }
+    }
+    Outcome::Took(took)
+}
+
+fn hand_to_referee(core: &mut Referee, packet: &Packet, word: u32) -> TakeOutcome
+    requires { IsPacket packet.now }
+    ensures takes { RefereeTakes core.old packet.now word result core.new }
+    ensures fits { AnswerFits result }
+{
+    core.take(packet, word)
+}
+
+fn hand_to_seat(core: &mut Seat, packet: &Packet) -> Learned
+    requires { IsPacket packet.now }
+    ensures { SeatTakes core.old packet.now result core.new }
+{
+    core.take(packet)
+}
+
+fn hand_to_watcher(core: &mut Watcher, packet: &Packet) -> Learned
+    requires { IsPacket packet.now }
+    ensures { WatcherTakes core.old packet.now result core.new }
+{
+    core.take(packet)
+}
+
+/// The referee takes a datagram, and sends its answer. So many parties exist, from 0.
+pub(crate) fn take_at_referee<L: Link>(
+    link: &mut L,
+    parties: usize,
+    core: &mut Referee,
+    pick: u32,
+    word: u32,
+) -> Outcome
+    ensures { RefereeTakeCalls L.is_honest parties (link_view L.Link link.old) core.old pick word
+        result (link_view L.Link link.new) core.new }
+{
+    match receive(link, REFEREE, pick) {
+        Err(why) => why,
+        Ok(packet) => {
+            let took = hand_to_referee(core, &packet, word);
+            send_answer(link, parties, took)
+        }
+    }
+}
+
+/// A seat takes a datagram.
+pub(crate) fn take_at_seat<L: Link>(link: &mut L, party: u8, core: &mut Seat, pick: u32) -> Outcome
+    ensures { FollowerTakeCalls SeatTakes L.is_honest party (link_view L.Link link.old) core.old pick
+        result (link_view L.Link link.new) core.new }
+{
+    match receive(link, party, pick) {
+        Err(why) => why,
+        Ok(packet) => Outcome::Learned(hand_to_seat(core, &packet)),
+    }
+}
+
+/// A watcher takes a datagram.
+pub(crate) fn take_at_watcher<L: Link>(
+    link: &mut L,
+    party: u8,
+    core: &mut Watcher,
+    pick: u32,
+) -> Outcome
+    ensures { FollowerTakeCalls WatcherTakes L.is_honest party (link_view L.Link link.old) core.old pick
+        result (link_view L.Link link.new) core.new }
+{
+    match receive(link, party, pick) {
+        Err(why) => why,
+        Ok(packet) => Outcome::Learned(hand_to_watcher(core, &packet)),
+    }
+}

@@ -1,0 +1,79 @@
+//! A party sends what its core gives without having been handed anything.
+ghost use Rattle.std.specs.Prelude.{length, ◌≤◌, IfSome};
+ghost use Rattle.std.specs.List.{AllByRecursion};
+ghost use Rattle.bg_party.specs.Claims.{SeatTicks, WatcherTicks};
+ghost use Rattle.bg_wire.specs.Packets.PacketText.{IsPacket};
+ghost use Rattle.bg_world.specs.Devices.LinkCalls.{FollowerTickCalls, RefereeTickCalls, SendCalls, to_referee};
+ghost use Rattle.bg_world.specs.Worlds.Views.{link_view};
+
+use crate::nodes::link_calls::{link_outcome, post};
+use crate::{Link, Outcome};
+use bg_party::{Seat, Watcher};
+use bg_referee::Referee;
+use bg_wire::{Packet, REFEREE};
+
+/// Sends packets to those of their parties that exist, up to the first that fails. So many parties exist, from 0.
+fn send_all<L: Link>(link: &mut L, parties: usize, packets: &[(u8, Packet)]) -> Outcome
+    requires few { length packets.now ≤ 2 }
+    requires fit { AllByRecursion (λ packet. IsPacket packet.1) packets.now }
+    ensures { SendCalls L.is_honest parties 0 (link_view L.Link link.old) packets.now
+        result (link_view L.Link link.new) }
+{
+    let mut sent = 0;
+    let mut rest = packets;
+    while let [(to, packet), after @ ..] = rest {
+        if usize::from(*to) < parties {
+            if let Err(fault) = post(link, *to, packet) {
+                return link_outcome(fault);
+            }
+            sent += 1;
+        }
+        rest = after;
+    }
+    Outcome::Sent(sent)
+}
+
+/// A follower sends this to the referee, if anything.
+fn send_to_referee<L: Link>(link: &mut L, parties: usize, packet: Option<Packet>) -> Outcome
+    requires fits { IfSome packet IsPacket }
+    requires referee_exists { 1 ≤ parties }
+    ensures { SendCalls L.is_honest parties 0 (link_view L.Link link.old) (to_referee packet)
+        result (link_view L.Link link.new) }
+{
+    let Some(packet) = packet else {
+        return Outcome::Sent(0);
+    };
+    match post(link, REFEREE, &packet) {
+        Ok(()) => Outcome::Sent(1),
+        Err(fault) => link_outcome(fault),
+    }
+}
+
+/// The referee's tick. So many parties exist, from 0.
+pub(crate) fn tick_referee<L: Link>(link: &mut L, parties: usize, core: &mut Referee) -> Outcome
+    ensures { RefereeTickCalls L.is_honest parties (link_view L.Link link.old) core.old
+        result (link_view L.Link link.new) core.new }
+{
+    let packets = core.tick();
+    send_all(link, parties, packets.as_slice())
+}
+
+/// A seat's tick.
+pub(crate) fn tick_seat<L: Link>(link: &mut L, parties: usize, core: &mut Seat) -> Outcome
+    requires { 1 ≤ parties }
+    ensures { FollowerTickCalls SeatTicks L.is_honest parties (link_view L.Link link.old) core.old
+        result (link_view L.Link link.new) core.new }
+{
+    let packet = core.tick();
+    send_to_referee(link, parties, packet)
+}
+
+/// A watcher's tick.
+pub(crate) fn tick_watcher<L: Link>(link: &mut L, parties: usize, core: &mut Watcher) -> Outcome
+    requires { 1 ≤ parties }
+    ensures { FollowerTickCalls WatcherTicks L.is_honest parties (link_view L.Link link.old) core.old
+        result (link_view L.Link link.new) core.new }
+{
+    let packet = core.tick();
+    send_to_referee(link, parties, packet)
+}
