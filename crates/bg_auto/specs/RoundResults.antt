@@ -1,8 +1,8 @@
 -- What a match that is played round by round comes to, and what the output gets.
 use Rattle.std.specs.Prelude.{◌≡◌, ◌⊎◌, ◌≤◌, ℕ, ◌+◌, List, Some, Result, Ok, Err}
 use Rattle.bg_match.specs.declared.limits.Rules.{Rules}
-use Rattle.bg_text.specs.Streams.Transfers.{WritesText}
-use Rattle.bg_text.specs.declared.streams.devices.Sink.{Ghosts as SinkGhosts}
+use Rattle.bg_streams.specs.Transfers.{WritesText}
+use Rattle.bg_streams.specs.declared.devices.Sink.{Ghosts as SinkGhosts}
 use Rattle.bg_world.specs.Texts.FinalText.{IsFinalText}
 use Rattle.bg_world.specs.Worlds.Starts.{IsWorldFault, fresh_world, terms_in}
 use Rattle.bg_world.specs.Protocol.State.{IsSetup}

@@ -2,8 +2,8 @@
 use Rattle.std.specs.Prelude.{◌≡◌, ℕ, zero, suc, ◌+◌, Bool, true, false, Option, Some, None, List, [], ◌++◌}
 use Rattle.bg_match.specs.Match.{Log}
 use Rattle.bg_match.specs.declared.limits.Rules.{Rules}
+use Rattle.bg_streams.specs.declared.faults.EngineFault.TheVariants as engine
 use Rattle.bg_text.specs.Boards.Transcript.{IsTranscript}
-use Rattle.bg_text.specs.declared.judging.verdicts.EngineFault.TheVariants as engine
 use Rattle.bg_wire.specs.Entries.Codes.{first_watcher}
 use Rattle.bg_world.specs.Worlds.Calls.{Calls}
 use Rattle.bg_world.specs.Texts.FinalText.{IsFinalText}

@@ -3,7 +3,7 @@ ghost use Rattle.std.specs.Prelude.{◌≡◌};
 ghost use Rattle.bg_auto.specs.Rounds.{ends};
 ghost use Rattle.bg_auto.specs.declared.loop_faults.LoopFault.TheVariants.{Memory, World, Write};
 
-use bg_text::StreamFault;
+use bg_streams::StreamFault;
 use bg_world::{Outcome, WorldFault, outcome_text};
 use std::alloc::{AllocError, AllocFailed};
 use std::fmt;

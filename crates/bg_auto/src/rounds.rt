@@ -15,7 +15,7 @@ use crate::onlookers::{NoOnlooker, Onlooker, party_at};
 use crate::round_schedule::{FIRST, Part, ROUND, WATCHERS, follow_up};
 use bg_board::Player;
 use bg_match::Rules;
-use bg_text::Sink;
+use bg_streams::{Sink, write_text};
 use bg_wire::{REFEREE, party_of};
 use bg_world::{Event, Keeper, Keepers, Link, Outcome, Setup, World, WorldFault, final_text};
 use std::alloc::{AllocError, Global};
@@ -243,8 +243,7 @@ impl<L: Link + Drop, K: Keeper + Drop> Rounds<L, K> {
         ensures fault { IfErr result (IsWriteFault W.Sink output.old output.new) }
     {
         let text = final_text(&self.world)?;
-        output.write_all(&text)?;
-        output.flush()?;
+        write_text(output, &text)?;
         Ok(())
     }
 }

@@ -1,6 +1,6 @@
 -- What a match over sockets and files comes to, and what the output gets.
 use Rattle.std.specs.Prelude.{◌≡◌, ℕ, Result, Err}
-use Rattle.bg_text.specs.declared.streams.devices.Sink.{Ghosts as SinkGhosts}
+use Rattle.bg_streams.specs.declared.devices.Sink.{Ghosts as SinkGhosts}
 use Rattle.bg_world.specs.Worlds.Views.{KeeperView, LinkView}
 use Rattle.bg_world.specs.declared.worlds.setups.Setup.{Setup}
 use Rattle.bg_auto.specs.RoundResults.{IsRoundsResult, start_moment}

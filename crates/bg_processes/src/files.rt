@@ -3,6 +3,7 @@ pub(crate) mod file_keepers;
 pub(crate) mod folder_locks;
 pub(crate) mod match_files;
 pub(crate) mod secrets;
+pub(crate) mod slot_names;
 pub(crate) mod whole_files;
 
 use bg_wire::LONGEST_SAVED_TEXT;

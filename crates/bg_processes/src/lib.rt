@@ -5,44 +5,47 @@
 //! // What all processes of a match agree on is a line; this is one of a match to 3 points.
 //! let file = MatchFile::parse("match 7 length 3 rules 1 port 4000").expect(&rt, "a good line");
 //! assert!(rt; file.terms.length == 3);
-//! // The referee's process, over its own socket and a folder, with a secret that its dice go by.
-//! let link = PartySocket::bind(&rt, file.port, REFEREE)?;
-//! let keeper = FileKeeper::new(&rt, folder, REFEREE)?;
+//! // The referee's process, over its own socket and a folder, with a secret that its dice go by. Why a call of the
+//! // socket or of the files failed is noted.
+//! let failures = Failures::new();
+//! let link = PartySocket::bind(&rt, file.port, REFEREE, &failures)?;
+//! let keeper = FileKeeper::new(&rt, folder, REFEREE, &failures)?;
 //! let begun = RefereeProcess::begin(alloc, file.id, file.terms, [7; 32], link, keeper)?;
 //! let (mut referee, outcome) = begun;
 //! assert!(rt; outcome == Outcome::Restarted);
 //! // A round opens the game, and saves that. Between two of them a process waits (`Waiting`, `Ticking`).
 //! assert!(rt; referee.round(true, &mut NoOnlooker) == Ok(Going::On));
 //! assert!(rt; !read_saved(&rt, format!(in alloc; "{folder}/party-0.1")?.as_str())?.is_empty());
+//! assert!(rt; failures.drain().next().is_none());
 //! ```
 #![tactic(auto)]
 
+mod failures;
 mod files;
 mod loops;
-mod messages;
+mod printable;
 mod processes;
 mod sockets;
 #[cfg(test)]
 mod tests;
 
+pub use failures::device_failures::{DeviceFailure, FailedCall, FailureText};
+pub use failures::{DrainedFailures, Failures};
 pub use files::file_keepers::FileKeeper;
 pub use files::folder_locks::FolderLock;
 pub use files::match_files::{HIGHEST_PORT, LOWEST_PORT, MatchFile};
 pub use files::read_saved;
 pub use files::secrets::{make_secret, read_secret};
+pub use files::slot_names::SlotName;
 pub use files::whole_files::publish;
-pub use loops::operators::Operator;
 pub use loops::{play_loop, run_loop};
-pub use messages::printable::{Printable, PrintableLines};
-pub use messages::progress::Progress;
-pub use messages::says::say;
+pub use printable::{Printable, PrintableLines};
 pub use processes::referee::RefereeProcess;
 pub use processes::rounds::{Going, MOST_PARTIES};
 pub use processes::seat::SeatProcess;
 pub use processes::ticking::Ticking;
 pub use processes::waiting::{Ready, Waiting};
 pub use processes::watcher::WatcherProcess;
-pub use processes::witnesses::Witness;
 pub use sockets::hearing::{Hearing, Word};
 pub use sockets::party_sockets::PartySocket;
 pub use sockets::udp_links::UdpLink;

@@ -2,13 +2,12 @@
 ghost use Rattle.bg_auto.specs.RoundResults.{setup_of};
 ghost use Rattle.bg_processes.specs.LoopResults.{IsLoopResult};
 
-pub(crate) mod operators;
-
+use crate::failures::Failures;
 use crate::files::file_keepers::FileKeeper;
 use crate::sockets::udp_links::UdpLink;
 use bg_auto::{LoopFault, NoOnlooker, Onlooker, PARTIES, play_rounds};
 use bg_match::Rules;
-use bg_text::Sink;
+use bg_streams::Sink;
 use bg_wire::{REFEREE, SEAT_OF_O, SEAT_OF_X};
 use bg_world::Keepers;
 use std::fs::File;
@@ -17,18 +16,19 @@ use std::rt::Files;
 
 /// Plays a match of automatic players as [`run_rounds`](bg_auto::run_rounds) does, over sockets on 127.0.0.1 and
 /// the files of a folder (docs/OPERATING.md). Over the same folder, with the same seed, length and rules, it goes on
-/// where it was left.
+/// where it was left. The devices note in `failures` why their calls failed.
 ///
 /// # Errors
 /// `Socket` where a socket can't be had, `Memory` where there is no memory for the sockets and the names of the files;
 /// then those of `run_rounds`.
-pub fn run_loop<R: Net + Files<File = File> + AllocGlobal + Eprint, W: Sink>(
+pub fn run_loop<R: Net + Files<File = File> + AllocGlobal, W: Sink>(
     rt: &R,
     seed: u64,
     length: u8,
     rules: Rules,
     rounds: u32,
     folder: &str,
+    failures: &Failures,
     output: &mut W,
 ) -> Result<(), LoopFault>
     ensures { IsLoopResult W.Sink (setup_of seed length rules) rounds result output.old output.new }
@@ -40,12 +40,13 @@ pub fn run_loop<R: Net + Files<File = File> + AllocGlobal + Eprint, W: Sink>(
         rules,
         rounds,
         folder,
+        failures,
         output,
         &mut NoOnlooker,
     )
 }
 
-/// The same, with one who looks on.
+/// The same, with one who looks on: when he is told of an event, `failures` has why the calls of devices in it failed.
 pub fn play_loop<R, W: Sink, O: Onlooker>(
     rt: &R,
     seed: u64,
@@ -53,18 +54,19 @@ pub fn play_loop<R, W: Sink, O: Onlooker>(
     rules: Rules,
     rounds: u32,
     folder: &str,
+    failures: &Failures,
     output: &mut W,
     onlooker: &mut O,
 ) -> Result<(), LoopFault>
 where
-    R: Net + Files<File = File> + AllocGlobal + Eprint,
+    R: Net + Files<File = File> + AllocGlobal,
     ensures { IsLoopResult W.Sink (setup_of seed length rules) rounds result output.old output.new }
 {
-    let link = UdpLink::bind(rt, PARTIES)?;
+    let link = UdpLink::bind(rt, PARTIES, failures)?;
     let keepers = Keepers {
-        referee: FileKeeper::new(rt, folder, REFEREE)?,
-        x: FileKeeper::new(rt, folder, SEAT_OF_X)?,
-        o: FileKeeper::new(rt, folder, SEAT_OF_O)?,
+        referee: FileKeeper::new(rt, folder, REFEREE, failures)?,
+        x: FileKeeper::new(rt, folder, SEAT_OF_X, failures)?,
+        o: FileKeeper::new(rt, folder, SEAT_OF_O, failures)?,
     };
     play_rounds(
         rt.alloc(),

@@ -6,4 +6,3 @@ pub(crate) mod seat;
 pub(crate) mod ticking;
 pub(crate) mod waiting;
 pub(crate) mod watcher;
-pub(crate) mod witnesses;

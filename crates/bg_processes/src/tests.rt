@@ -1,11 +1,11 @@
 //! Sockets, files and processes.
 
 mod failing_calls;
+mod failures;
 mod files;
 mod growths;
 mod helpers;
 mod loops;
-mod operators;
 mod own_sockets;
 mod party_sockets;
 mod printable;

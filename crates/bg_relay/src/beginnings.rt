@@ -1,9 +1,8 @@
 //! What the commands of one party begin with, and why they don't begin or end early.
 
-use crate::commands::play_loop::failed_barely;
 use crate::endings::Ending;
-use crate::{NO_MEMORY, failed, wrong};
-use bg_processes::{FolderLock, MatchFile, PartySocket, Printable, Ticking, Waiting};
+use crate::messages::{failed, failed_barely, wrong};
+use bg_processes::{Failures, FolderLock, MatchFile, PartySocket, Printable, Ticking, Waiting};
 use bg_world::{Outcome, outcome_text};
 use std::fs::{File, TryLockError};
 use std::io::ErrorKind;
@@ -61,13 +60,14 @@ pub(crate) fn match_of(
     }
 }
 
-/// The socket of a party of the match that has this port.
-pub(crate) fn socket_of<R: Net + Eprint>(
-    rt: &R,
+/// The socket of a party of the match that has this port; why it fails later is noted there.
+pub(crate) fn socket_of<'a>(
+    rt: &(impl Net + Eprint),
     port: u16,
     party: u8,
-) -> Result<PartySocket<'_, R>, Ending> {
-    match PartySocket::bind(rt, port, party) {
+    failures: &'a Failures,
+) -> Result<PartySocket<'a>, Ending> {
+    match PartySocket::bind(rt, port, party, failures) {
         Ok(socket) => Ok(socket),
         Err(error) if error.kind() == ErrorKind::AddrInUse => {
             let own = u32::from(port) + u32::from(party);
@@ -108,19 +108,4 @@ pub(crate) fn unwaited(rt: &impl Eprint, error: &io::Error) -> Ending {
 pub(crate) fn stopped(rt: &impl Eprint, outcome: &Outcome) -> Ending {
     let line = outcome_text(outcome);
     failed_barely(rt, line.as_str())
-}
-
-/// There was no memory to begin.
-pub(crate) fn no_memory(rt: &impl Eprint) -> Ending {
-    failed(rt, NO_MEMORY)
-}
-
-/// The output could not be written.
-pub(crate) fn unwritten(rt: &impl Eprint, error: &io::Error) -> Ending {
-    failed(rt, format_args!("the output could not be written: {error}"))
-}
-
-/// The input could not be read.
-pub(crate) fn unread(rt: &impl Eprint, error: &io::Error) -> Ending {
-    failed(rt, format_args!("the input could not be read: {error}"))
 }

@@ -1,29 +1,28 @@
 //! The process of a seat, for the commands that play.
 
-use crate::beginnings::{
-    match_of, no_memory, own_folder, socket_of, stopped, unwaited, waiting_for,
-};
+use crate::beginnings::{match_of, own_folder, socket_of, stopped, unwaited, waiting_for};
 use crate::endings::Ending;
-use crate::wrong;
+use crate::messages::says::say_failures;
+use crate::messages::witnesses::Witness;
+use crate::messages::{no_memory, wrong};
 use bg_board::Player;
 use bg_match::Action;
 use bg_processes::{
-    FileKeeper, FolderLock, Going, Hearing, PartySocket, SeatProcess, Ticking, Waiting, Witness,
+    Failures, FileKeeper, FolderLock, Going, Hearing, PartySocket, SeatProcess, Ticking, Waiting,
     Word,
 };
 use bg_wire::party_of;
 use bg_world::Outcome;
-use clap::ArgMatches;
 use std::fs::File;
 use std::net::Net;
 use std::rt::Files;
 use std::time::Clock;
 
-type Process<'a, R> = SeatProcess<PartySocket<'a, R>, FileKeeper<'a, R>>;
+type Process<'a, R> = SeatProcess<PartySocket<'a>, FileKeeper<'a, R>>;
 
 /// A seat that plays, how it waits, and the lock of its folder.
 #[derive(Drop)]
-pub(crate) struct Seat<'a, R: Eprint> {
+pub(crate) struct Seat<'a, R> {
     rt: &'a R,
     pub(crate) process: Process<'a, R>,
     pub(crate) waiting: Waiting,
@@ -45,37 +44,30 @@ pub(crate) struct Round {
     pub(crate) word: Option<Word>,
 }
 
-/// The player that the options name.
-pub(crate) fn player_in(options: &ArgMatches<'_>) -> Option<Player> {
-    match options.get_str("player")? {
-        "X" => Some(Player::X),
-        "O" => Some(Player::O),
-        _ => None,
-    }
-}
-
 impl<'a, R> Seat<'a, R>
 where
     R: Net + Files<File = File> + Clock + Eprint + AllocGlobal,
 {
-    /// The seat of a player in the match that a file names, over a folder of its own. Standard input is waited for too
-    /// if that is wanted.
+    /// The seat of a player in the match that a file names, over a folder of its own; its devices note their failures
+    /// there. Standard input is waited for too if that is wanted.
     pub(crate) fn open(
         rt: &'a R,
+        failures: &'a Failures,
         player: Player,
         match_path: &str,
-        folder: &str,
+        folder: &'a str,
         with_input: bool,
     ) -> Result<Seat<'a, R>, Ending> {
         let file = match_of(rt, match_path)?;
         let lock = own_folder(rt, folder)?;
         let party = party_of(player);
-        let link = socket_of(rt, file.port, party)?;
+        let link = socket_of(rt, file.port, party, failures)?;
         let (waiting, ticking) = waiting_for(rt, link.descriptor(), with_input)?;
-        let Ok(keeper) = FileKeeper::new(rt, folder, party) else {
+        let Ok(keeper) = FileKeeper::new(rt, folder, party, failures) else {
             return Err(no_memory(rt));
         };
         let begun = SeatProcess::begin(rt.alloc(), player, file.id, file.terms, link, keeper);
+        say_failures(rt, failures, folder);
         let (process, outcome) = begun.map_err(|_| wrong(rt, "length out of range"))?;
         if outcome != Outcome::Restarted {
             return Err(stopped(rt, &outcome));
@@ -84,7 +76,7 @@ where
             rt,
             process,
             waiting,
-            witness: Witness::new(rt),
+            witness: Witness::new(rt, failures, folder),
             ticking,
             hearing: Hearing::new(rt),
             _lock: lock,

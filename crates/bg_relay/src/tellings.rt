@@ -2,8 +2,9 @@
 ghost use Rattle.std.specs.Prelude.{◌≤◌, length};
 ghost use Rattle.bg_match.specs.Match.{IsLegalRecord};
 
+use crate::messages::says::say;
 use bg_match::{Number, Record};
-use bg_processes::{Word, say};
+use bg_processes::Word;
 use bg_text::{board_text, entry_text, put_terms};
 use std::io;
 use std::io::Write;

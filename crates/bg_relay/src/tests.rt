@@ -1,9 +1,11 @@
 //! The command line, and what is shown of saved files.
+mod folders;
 mod kept_output;
+mod operators;
 mod rules;
 mod sim;
 
-use crate::arguments::command;
+use crate::commands::command_line;
 use crate::showing::show_text;
 use clap::error::ErrorKind;
 use std::alloc::{AllocError, Global};
@@ -12,7 +14,7 @@ use std::test::Fail;
 
 #[test]
 fn judge_is_a_command(rt: HostRuntime) -> Result<(), Fail> {
-    let matches = command(rt.alloc())?.try_get_matches_from(["bg_relay", "judge"].as_slice())?;
+    let matches = command_line(rt.alloc())?.try_get_matches_from(["bg_relay", "judge"].as_slice())?;
     assert!(rt; matches.subcommand_name() == Some("judge"));
     Ok(())
 }
@@ -24,7 +26,7 @@ fn check_refused(
     kind: ErrorKind,
     on_stderr: bool,
 ) -> Result<(), Fail> {
-    match command(rt.alloc())?.try_get_matches_from(words) {
+    match command_line(rt.alloc())?.try_get_matches_from(words) {
         Ok(_) => Err(Fail::from("accepted")),
         Err(error) => {
             assert!(rt; error.kind() == kind);

@@ -5,6 +5,18 @@ use std::alloc::{AllocError, Global};
 /// A longer line is no action, and is cut.
 const LONGEST_LINE: usize = 256;
 
+/// Words as one line, with a blank between two.
+pub(crate) fn joined(alloc: Global, words: &[&str]) -> Result<Vec<u8>, AllocError> {
+    let mut line = Vec::new(alloc);
+    for word in words {
+        if !line.is_empty() {
+            line.push(b' ')?;
+        }
+        line.extend_from_slice(word.as_bytes())?;
+    }
+    Ok(line)
+}
+
 /// Bytes as they come, and the lines that are whole.
 #[derive(Drop)]
 pub(crate) struct TypedLines {

@@ -6,7 +6,7 @@ ghost use Rattle.bg_world.specs.Protocol.Slots.{empty_slots};
 
 use crate::slot_files::SlotFiles;
 use arrayvec::ArrayVec;
-use bg_text::History;
+use bg_streams::History;
 use bg_wire::{Datagram, FIRST_WATCHER, REFEREE, SEAT_OF_O, SEAT_OF_X, Slot};
 use bg_world::{
     DeviceFault, Event, Keeper, Keepers, Link, Outcome, Setup, Taken, World, WorldFault,

@@ -4,7 +4,7 @@ ghost use Rattle.bg_world.specs.Devices.Honesty.{CountsFailed, HasCause};
 ghost use Rattle.bg_world.specs.Devices.Handed.{noted_answer};
 
 use arrayvec::ArrayVec;
-use bg_text::History;
+use bg_streams::History;
 use bg_wire::Datagram;
 use bg_world::{DeviceFault, Link, Taken, count_failed, note_taken};
 use std::alloc::Global;

@@ -2,10 +2,14 @@
 use crate::host_tests::new_folder;
 use bg_auto::{NoOnlooker, auto_action, dice_word, sim_text};
 use bg_board::{Board, Die, Player, Step};
-use bg_match::{Action, Actor, Entry, Level, Record, Rules};
+use bg_match::{Action, Actor, Entry, Level, Record, Rules, Terms};
+use bg_parties::Party;
 use bg_party::{Learned, Seat};
-use bg_processes::{FileKeeper, Going, MatchFile, PartySocket, RefereeProcess, read_saved};
+use bg_processes::{
+    Failures, FileKeeper, Going, MatchFile, PartySocket, RefereeProcess, read_saved,
+};
 use bg_referee::{Referee, TakeOutcome};
+use bg_streams::{Reading, Writing, read_input, write_text};
 use bg_text::{Verdict, entry_text, judge_text, parse_entry};
 use bg_turns::{dice_of, judge_turn, legal_turns, most};
 use bg_wire::{Packet, REFEREE, decode, encode};
@@ -60,6 +64,19 @@ fn records(rt: HostRuntime) -> Result<(), Fail> {
 }
 
 #[test]
+fn streams(rt: HostRuntime) -> Result<(), Fail> {
+    let alloc = rt.alloc();
+    // bg_streams
+    let mut source = Reading::new("some bytes".as_bytes());
+    let input = read_input(alloc, &mut source, 10)?;
+    let mut written = Vec::new(alloc);
+    write_text(&mut Writing::new(&mut written), &input)?;
+    assert!(rt; written.ends_with(b"some bytes"));
+    // end
+    Ok(())
+}
+
+#[test]
 fn texts(rt: HostRuntime) -> Result<(), Fail> {
     let alloc = rt.alloc();
     // bg_text
@@ -104,6 +121,35 @@ fn referees(rt: HostRuntime) -> Result<(), Fail> {
     };
     // The answer goes to party 3.
     assert!(rt; matches!(referee.take(&want, 0), TakeOutcome::Answer(3, _)));
+    // end
+    Ok(())
+}
+
+#[test]
+fn parties(rt: HostRuntime) -> Result<(), Fail> {
+    let alloc = rt.alloc();
+    // bg_parties
+    let terms = Terms {
+        length: 5,
+        rules: Rules::One,
+    };
+    // Party 0 is the referee. Its two slots are empty, so it begins afresh.
+    let mut referee = Party::open(alloc, 0, 1, terms, b"", b"")?;
+    assert!(rt; referee.due(12) == Ok(1));
+    // Nothing is told before it is saved: write the text to the slot, and then say so.
+    let (_slot, save, _text) = referee.to_save()?;
+    assert!(rt; referee.mark_saved(save).is_ok());
+    // An entry that comes in between ends the save, so that it can't be marked.
+    let (_slot, save, _text) = referee.to_save()?;
+    let resigns = Packet::Claim {
+        id: 1,
+        rules: Rules::One,
+        sender: 1,
+        number: 2,
+        action: Action::Resign(Level::Normal),
+    };
+    assert!(rt; referee.take(&resigns, 0).grows());
+    assert!(rt; referee.mark_saved(save).is_err());
     // end
     Ok(())
 }
@@ -179,15 +225,18 @@ fn processes(rt: HostRuntime) -> Result<(), Fail> {
     // What all processes of a match agree on is a line; this is one of a match to 3 points.
     let file = MatchFile::parse("match 7 length 3 rules 1 port 4000").expect(&rt, "a good line");
     assert!(rt; file.terms.length == 3);
-    // The referee's process, over its own socket and a folder, with a secret that its dice go by.
-    let link = PartySocket::bind(&rt, file.port, REFEREE)?;
-    let keeper = FileKeeper::new(&rt, folder, REFEREE)?;
+    // The referee's process, over its own socket and a folder, with a secret that its dice go by. Why a call of the
+    // socket or of the files failed is noted.
+    let failures = Failures::new();
+    let link = PartySocket::bind(&rt, file.port, REFEREE, &failures)?;
+    let keeper = FileKeeper::new(&rt, folder, REFEREE, &failures)?;
     let begun = RefereeProcess::begin(alloc, file.id, file.terms, [7; 32], link, keeper)?;
     let (mut referee, outcome) = begun;
     assert!(rt; outcome == Outcome::Restarted);
     // A round opens the game, and saves that. Between two of them a process waits (`Waiting`, `Ticking`).
     assert!(rt; referee.round(true, &mut NoOnlooker) == Ok(Going::On));
     assert!(rt; !read_saved(&rt, format!(in alloc; "{folder}/party-0.1")?.as_str())?.is_empty());
+    assert!(rt; failures.drain().next().is_none());
     // end
     fs::remove_dir_all(&rt, folder)?;
     Ok(())

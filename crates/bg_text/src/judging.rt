@@ -4,12 +4,12 @@ ghost use Rattle.std.specs.Prelude.{IfSome};
 ghost use Rattle.bg_match.specs.Limits.{IsMatchLength};
 ghost use Rattle.bg_match.specs.Terms.{match_length};
 ghost use Rattle.bg_match.specs.declared.entries.Entry.{Entry};
-ghost use Rattle.bg_text.specs.Streams.EngineFault.{SourceFails, SinkFails};
+ghost use Rattle.bg_streams.specs.EngineFault.{SourceFails, SinkFails};
+ghost use Rattle.bg_streams.specs.Transfers.{ReadsInput, WritesText};
 ghost use Rattle.bg_text.specs.Judge.Judging.{lines_of, IsWrongSeat, IsLineFault, IsJudged, IsJudgement};
 ghost use Rattle.bg_text.specs.Judge.Judging.{TranscriptsAreFine, JudgementsAgree};
 ghost use Rattle.bg_text.specs.Limits.{most_bytes};
 ghost use Rattle.bg_text.specs.Judge.Reading.{IsReadAs, IsLineAt, AddsLine, RefusesLine};
-ghost use Rattle.bg_text.specs.Streams.Transfers.{ReadsInput, WritesText};
 
 pub(crate) mod judgements;
 pub(crate) mod length_lines;
@@ -18,12 +18,13 @@ pub(crate) mod verdicts;
 
 use crate::entries::lines::parse_entry;
 use crate::faults::LineFault;
+use crate::inputs::{MOST_BYTES, split_line};
 use crate::judging::judgements::{fine, refused, refused_at_once, too_long};
 use crate::judging::length_lines::read_terms;
-use crate::streams::inputs::{MOST_BYTES, read_input, split_line};
-use crate::{EngineFault, Judgement, Sink, Source, Verdict};
+use crate::{Judgement, Verdict};
 use bg_board::Player;
 use bg_match::{Entry, EntryFault, Record, Standing, Terms};
+use bg_streams::{EngineFault, Sink, Source, read_input, write_text};
 use std::alloc::{AllocError, Global};
 
 /// Whether a line names a seat where the other seat must act.
@@ -152,7 +153,7 @@ pub fn judge<S: Source, T: Sink>(
     sink: &mut T,
 ) -> Result<Verdict, EngineFault>
     ensures judged { IfOk result (λ verdict. (input : List ℕ) × (text : List ℕ)
-        × ReadsInput S.Source source.old source.new input × IsJudgement input text verdict
+        × ReadsInput most_bytes S.Source source.old source.new input × IsJudgement input text verdict
         × WritesText T.Sink sink.old sink.new text
         × IfSome (S.remaining source.old) (λ bytes. IsJudgement bytes text verdict)) }
     ensures untaken { IfErr result (λ _. T.taken sink.new ≡ T.taken sink.old) }
@@ -162,10 +163,8 @@ pub fn judge<S: Source, T: Sink>(
     ensures source { SourceFails result (S.failures source.old) (S.failures source.new) }
     ensures sink { SinkFails result (T.failures sink.old) (T.failures sink.new) }
 {
-    let input = read_input(alloc, source)?;
+    let input = read_input(alloc, source, MOST_BYTES)?;
     let judgement = judge_text(alloc, &input).map_err(|_| EngineFault::Memory)?;
-    sink.write_all(&judgement.text)
-        .map_err(|_| EngineFault::Write)?;
-    sink.flush().map_err(|_| EngineFault::Write)?;
+    write_text(sink, &judgement.text).map_err(|_| EngineFault::Write)?;
     Ok(judgement.verdict)
 }

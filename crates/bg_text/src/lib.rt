@@ -12,11 +12,10 @@
 
 mod board_texts;
 mod entries;
-mod fault_words;
 mod faults;
+mod inputs;
 mod judging;
 mod printing;
-mod streams;
 mod terms_texts;
 #[cfg(test)]
 mod tests;
@@ -27,13 +26,11 @@ pub use entries::lines::{parse_action, parse_entry, split_player};
 pub use entries::words::thirds;
 pub use entries::writing::{entry_text, entry_texts_differ};
 pub use faults::TextFault;
+pub use inputs::{MOST_BYTES, split_line};
 pub use judging::judgements::{Judgement, too_long};
 pub use judging::reasons::reason_text;
-pub use judging::verdicts::{EngineFault, Verdict};
+pub use judging::verdicts::Verdict;
 pub use judging::{judge, judge_text, judgements_agree, transcripts_are_fine};
 pub use printing::{put_number, put_text};
-pub use streams::devices::{Reading, Sink, Source, StreamFault, Writing};
-pub use streams::histories::History;
-pub use streams::inputs::{MOST_BYTES, read_input, split_line};
 pub use terms_texts::put_terms;
 pub use transcripts::transcript_text;

@@ -2,7 +2,6 @@
 //! hand.
 mod actions;
 mod boards;
-mod device_errors;
 mod devices;
 mod growths;
 mod inputs;

@@ -4,3 +4,4 @@ pub mod Steps
 pub mod ReachedWorlds
 pub mod Outcomes
 pub mod Lines
+pub mod Seats

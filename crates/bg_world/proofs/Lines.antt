@@ -1,5 +1,7 @@
 -- Lemmas of the texts of worlds.
 pub mod Digits
+pub mod LineParts
+pub mod EventKinds
 pub mod EventTexts
 pub mod EventShapes
 pub mod EventFaults

@@ -5,6 +5,7 @@ pub mod WorldState
 pub mod WorldRuns
 pub mod World
 pub mod Nodes
+pub mod Seats
 pub mod Interleavings
 pub mod Starts
 pub mod NotRefused

@@ -10,6 +10,7 @@ mod referee;
 pub(crate) mod restarts;
 pub(crate) mod saves;
 mod seat;
+mod seats;
 pub(crate) mod takes;
 pub(crate) mod ticks;
 mod watcher;
@@ -17,5 +18,6 @@ mod watchers;
 
 pub use referee::RefereeNode;
 pub use seat::SeatNode;
+pub(crate) use seats::Seats;
 pub use watcher::WatcherNode;
 pub(crate) use watchers::Watchers;

@@ -1,4 +1,4 @@
-//! Which party has which part.
+//! Which party has which role.
 ghost use Rattle.std.specs.Prelude.{◌≡◌, ◌+◌, ℕ};
 ghost use Rattle.bg_board.specs.declared.players.Player.{Player};
 ghost use Rattle.bg_wire.specs.Entries.Codes.{first_watcher};
@@ -8,7 +8,7 @@ ghost use Rattle.bg_world.specs.declared.roles.Role.TheVariants as roles;
 use bg_board::Player;
 use bg_wire::{FIRST_WATCHER, REFEREE, SEAT_OF_O, SEAT_OF_X};
 
-/// The part of a party (docs/PROTOCOL.md, "Parties").
+/// The role of a party (docs/PROTOCOL.md, "Parties").
 #[derive(Clone, Copy, Debug, PartialEq, Eq)]
 pub enum Role {
     /// The referee decides which entries there are.
@@ -22,7 +22,7 @@ pub enum Role {
 impl Role {
     ghost use Rattle.bg_world.specs.Protocol.Roles.{role};
 
-    /// The part of the party of this number: 0 is the referee, 1 the seat of X, 2 the seat of O, and the others
+    /// The role of the party of this number: 0 is the referee, 1 the seat of X, 2 the seat of O, and the others
     /// watch.
     pub fn of(party: u8) -> Role
         ensures value { result ≡ role party }

@@ -1,4 +1,4 @@
-//! The parts of parties, and copies of events.
+//! The roles of parties, and copies of events.
 mod device_growths;
 mod event_lines;
 mod event_rows;

@@ -12,7 +12,9 @@ pub(crate) mod setups;
 pub(crate) mod simulations;
 pub(crate) mod steps;
 
-use crate::{Keeper, Keepers, Link, RefereeNode, Role, SeatNode, Setup, Watchers, WorldFault};
+use crate::{
+    Keeper, Keepers, Link, RefereeNode, Role, SeatNode, Seats, Setup, Watchers, WorldFault,
+};
 use bg_board::Player;
 use bg_match::{Record, Terms};
 use bg_wire::FIRST_WATCHER;
@@ -29,13 +31,12 @@ pub struct World<L, K> {
     pub(crate) terms: Terms,
     pub(crate) link: L,
     pub(crate) referee: RefereeNode<K>,
-    pub(crate) x: SeatNode<K>,
-    pub(crate) o: SeatNode<K>,
+    pub(crate) seats: Seats<K>,
     pub(crate) watchers: Watchers,
     ghost length_in_range: { IsMatchLength (match_length terms) },
-    ghost same_id: { (referee.id ≡ id) × (x.id ≡ id) × (o.id ≡ id) },
-    ghost same_terms: { (referee.terms ≡ terms) × (x.terms ≡ terms) × (o.terms ≡ terms) },
-    ghost players: { (x.player ≡ X) × (o.player ≡ O) },
+    ghost same_id: { (referee.id ≡ id) × (seats.x.id ≡ id) × (seats.o.id ≡ id) },
+    ghost same_terms: { (referee.terms ≡ terms) × (seats.x.terms ≡ terms) × (seats.o.terms ≡ terms) },
+    ghost players: { (seats.x.player ≡ X) × (seats.o.player ≡ O) },
 }
 
 impl<L: Link + Drop, K: Keeper + Drop> World<L, K> {
@@ -91,8 +92,10 @@ impl<L: Link + Drop, K: Keeper + Drop> World<L, K> {
             terms,
             link,
             referee: RefereeNode::fresh(alloc, id, terms, keepers.referee).unwrap(),
-            x: SeatNode::fresh(alloc, Player::X, id, terms, keepers.x).unwrap(),
-            o: SeatNode::fresh(alloc, Player::O, id, terms, keepers.o).unwrap(),
+            seats: Seats {
+                x: SeatNode::fresh(alloc, Player::X, id, terms, keepers.x).unwrap(),
+                o: SeatNode::fresh(alloc, Player::O, id, terms, keepers.o).unwrap(),
+            },
             watchers,
         })
     }
@@ -126,8 +129,7 @@ impl<L: Link, K: Keeper> World<L, K> {
     {
         match Role::of(party) {
             Role::Referee => self.referee.held(),
-            Role::Seat(Player::X) => self.x.held(),
-            Role::Seat(Player::O) => self.o.held(),
+            Role::Seat(player) => self.seats.of(player).held(),
             Role::Watcher(index) => self.watchers.held(index),
         }
     }

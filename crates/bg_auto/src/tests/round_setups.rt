@@ -5,7 +5,7 @@ use super::recording_devices::{Call, Recorder};
 use crate::loop_faults::LoopFault;
 use crate::rounds::run_rounds;
 use bg_match::Rules;
-use bg_text::Writing;
+use bg_streams::Writing;
 use bg_world::Keepers;
 use std::alloc::{AllocError, Global};
 use std::process::Abort;

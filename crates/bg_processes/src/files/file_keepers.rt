@@ -3,11 +3,12 @@ ghost use Rattle.std.specs.Prelude.{None, length};
 ghost use Rattle.bg_world.specs.Devices.Honesty.{CountsFailed, HasCause};
 ghost use Rattle.bg_world.specs.Protocol.Slots.{empty_slots};
 
+use crate::failures::Failures;
+use crate::failures::device_failures::FailedCall;
+use crate::failures::first_failures::FirstFailures;
 use crate::files::read_saved;
-use crate::messages::device_faults::fault_of;
-use crate::messages::printable::Printable;
-use crate::messages::reports::Reports;
-use bg_text::History;
+use crate::files::slot_names::SlotName;
+use bg_streams::History;
 use bg_wire::Slot;
 use bg_world::{DeviceFault, Keeper, count_failed};
 use std::alloc::AllocError;
@@ -19,9 +20,9 @@ use std::rt::Files;
 /// The two files of a party in a folder: slot S of party P is `party-P.S` (docs/OPERATING.md, "Files"). It says nothing
 /// of honesty: others may write to these files.
 ///
-/// Each failure is said on the standard error, with the name of the file or the folder and the system's words for it.
+/// It notes why a call failed, with the file, in the [`Failures`] that it is lent.
 #[derive(Drop)]
-pub struct FileKeeper<'a, R: Eprint> {
+pub struct FileKeeper<'a, R> {
     folder: Folder<'a, R>,
     zero: SlotFile<'a, R>,
     one: SlotFile<'a, R>,
@@ -33,35 +34,26 @@ pub struct FileKeeper<'a, R: Eprint> {
 
 /// The folder of the files.
 #[derive(Drop)]
-struct Folder<'a, R: Eprint> {
+struct Folder<'a, R> {
     rt: &'a R,
     name: String,
-    syncs: Reports<'a, R>,
+    syncs: FirstFailures<'a>,
 }
 
-impl<'a, R: Files<File = File> + AllocGlobal + Eprint> Folder<'a, R> {
+impl<'a, R: Files<File = File> + AllocGlobal> Folder<'a, R> {
     /// The folder of this name. It opens nothing.
-    fn new(rt: &'a R, name: &str) -> Result<Folder<'a, R>, AllocError> {
+    fn new(rt: &'a R, name: &str, failures: &'a Failures) -> Result<Folder<'a, R>, AllocError> {
         Ok(Folder {
             rt,
             name: format!(in rt.alloc(); "{name}")?,
-            syncs: Reports::new(rt),
+            syncs: FirstFailures::new(failures),
         })
     }
 
     /// Writes the names in it through to the device.
     fn sync(&mut self) -> Result<(), DeviceFault> {
-        match sync_names(self.rt, &self.name) {
-            Ok(()) => {
-                self.syncs.succeeded();
-                Ok(())
-            }
-            Err(error) => {
-                let what = format_args!("{} could not be synced", Printable(&self.name));
-                self.syncs.failed(what, &error);
-                Err(fault_of(&error))
-            }
-        }
+        self.syncs
+            .after(FailedCall::Sync, sync_names(self.rt, &self.name))
     }
 }
 
@@ -69,41 +61,44 @@ impl<'a, R: Files<File = File> + AllocGlobal + Eprint> Folder<'a, R> {
 fn sync_names(rt: &impl Files<File = File>, folder: &str) -> io::Result<()> {
     match File::open(rt, folder)?.sync_all() {
         Err(error) if error.kind() == ErrorKind::InvalidInput => Ok(()),
-        result => result,
+        answer => answer,
     }
 }
 
 /// The file of a slot.
 #[derive(Drop)]
-struct SlotFile<'a, R: Eprint> {
+struct SlotFile<'a, R> {
     rt: &'a R,
+    name: SlotName,
     path: String,
     /// Whether the folder was synced since the file was made, so that its name lasts too.
     entered: bool,
-    writes: Reports<'a, R>,
-    reads: Reports<'a, R>,
+    writes: FirstFailures<'a>,
+    reads: FirstFailures<'a>,
 }
 
-impl<'a, R: Files<File = File> + AllocGlobal + Eprint> SlotFile<'a, R> {
-    /// The file of a slot of a party in a folder. It opens nothing.
-    fn new(rt: &'a R, folder: &str, party: u8, slot: u8) -> Result<SlotFile<'a, R>, AllocError> {
+impl<'a, R: Files<File = File> + AllocGlobal> SlotFile<'a, R> {
+    /// The file of this name in a folder. It opens nothing.
+    fn new(
+        rt: &'a R,
+        folder: &str,
+        name: SlotName,
+        failures: &'a Failures,
+    ) -> Result<SlotFile<'a, R>, AllocError> {
         Ok(SlotFile {
             rt,
-            path: format!(in rt.alloc(); "{folder}/party-{party}.{slot}")?,
+            name,
+            path: format!(in rt.alloc(); "{folder}/{name}")?,
             entered: false,
-            writes: Reports::new(rt),
-            reads: Reports::new(rt),
+            writes: FirstFailures::new(failures),
+            reads: FirstFailures::new(failures),
         })
     }
 
     /// Puts bytes in the place of those that the file has; its folder is synced where its name may be new.
     fn write(&mut self, folder: &mut Folder<'a, R>, bytes: &[u8]) -> Result<(), DeviceFault> {
-        if let Err(error) = self.put(bytes) {
-            let what = format_args!("{} could not be written", Printable(&self.path));
-            self.writes.failed(what, &error);
-            return Err(fault_of(&error));
-        }
-        self.writes.succeeded();
+        let answer = self.put(bytes);
+        self.writes.after(FailedCall::Write(self.name), answer)?;
         if !self.entered {
             folder.sync()?;
             self.entered = true;
@@ -112,7 +107,7 @@ impl<'a, R: Files<File = File> + AllocGlobal + Eprint> SlotFile<'a, R> {
     }
 
     /// Makes or empties the file, and writes the bytes through to the device.
-    fn put(&mut self, bytes: &[u8]) -> io::Result<()> {
+    fn put(&self, bytes: &[u8]) -> io::Result<()> {
         let mut file = File::create(self.rt, &self.path)?;
         file.write_all(bytes)?;
         file.sync_all()
@@ -120,30 +115,27 @@ impl<'a, R: Files<File = File> + AllocGlobal + Eprint> SlotFile<'a, R> {
 
     /// The bytes that the file has, none where it is missing.
     fn read(&mut self) -> Result<Vec<u8>, DeviceFault> {
-        match read_saved(self.rt, &self.path) {
-            Ok(bytes) => {
-                self.reads.succeeded();
-                Ok(bytes)
-            }
-            Err(error) => {
-                let what = format_args!("{} could not be read", Printable(&self.path));
-                self.reads.failed(what, &error);
-                Err(fault_of(&error))
-            }
-        }
+        let answer = read_saved(self.rt, &self.path);
+        self.reads.after(FailedCall::Read(self.name), answer)
     }
 }
 
-impl<'a, R: Files<File = File> + AllocGlobal + Eprint> FileKeeper<'a, R> {
-    /// The keeper of a party in a folder. It opens nothing.
+impl<'a, R: Files<File = File> + AllocGlobal> FileKeeper<'a, R> {
+    /// The keeper of a party in a folder, which notes its failures there. It opens nothing.
     ///
     /// # Errors
     /// Where there is no memory for the names of the files.
-    pub fn new(rt: &'a R, folder: &str, party: u8) -> Result<FileKeeper<'a, R>, AllocError> {
+    pub fn new(
+        rt: &'a R,
+        folder: &str,
+        party: u8,
+        failures: &'a Failures,
+    ) -> Result<FileKeeper<'a, R>, AllocError> {
+        let file = |slot| SlotFile::new(rt, folder, SlotName { party, slot }, failures);
         Ok(FileKeeper {
-            folder: Folder::new(rt, folder)?,
-            zero: SlotFile::new(rt, folder, party, 0)?,
-            one: SlotFile::new(rt, folder, party, 1)?,
+            folder: Folder::new(rt, folder, failures)?,
+            zero: file(Slot::Zero)?,
+            one: file(Slot::One)?,
             writes: History::new(),
             reads: History::new(),
             faults: History::new(),
@@ -152,7 +144,7 @@ impl<'a, R: Files<File = File> + AllocGlobal + Eprint> FileKeeper<'a, R> {
     }
 }
 
-impl<'a, R: Files<File = File> + AllocGlobal + Eprint> Keeper for FileKeeper<'a, R> {
+impl<'a, R: Files<File = File> + AllocGlobal> Keeper for FileKeeper<'a, R> {
     // Nothing is said of honesty: so nothing of what the slots have either.
     ghost is_honest = { ⊥ };
 

@@ -53,10 +53,10 @@ impl Hearing {
     }
 
     /// After a round over this socket, in which a tick was due or not: what has changed, if anything has.
-    pub fn after_round<R: Eprint>(
+    pub fn after_round(
         &mut self,
         rt: &impl Clock,
-        socket: &PartySocket<'_, R>,
+        socket: &PartySocket<'_>,
         tick: bool,
     ) -> Option<Word> {
         if tick {

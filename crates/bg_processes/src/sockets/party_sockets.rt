@@ -2,11 +2,12 @@
 ghost use Rattle.std.specs.Prelude.{◌≡◌, [], None, length};
 ghost use Rattle.bg_world.specs.Devices.Honesty.{CountsFailed, HasCause};
 
-use crate::messages::device_faults::fault_of;
-use crate::messages::reports::Reports;
+use crate::failures::Failures;
+use crate::failures::device_failures::FailedCall;
+use crate::failures::first_failures::FirstFailures;
 use crate::sockets::own_sockets::MOST_BYTES;
 use arrayvec::ArrayVec;
-use bg_text::History;
+use bg_streams::History;
 use bg_wire::{Datagram, Packet, REFEREE, decode};
 use bg_world::{DeviceFault, Link, Taken, count_failed, note_taken};
 use std::io;
@@ -25,10 +26,10 @@ const MOST_PASSED_OVER: u32 = 64;
 /// The referee's socket sends a datagram without a byte back to the party that it came from, so that who waits can
 /// [`ask`](Self::ask) whether the referee is there.
 ///
-/// Each failure is said on the standard error, with the system's words for it.
+/// It notes why a call failed in the [`Failures`] that it is lent.
 #[derive(Drop)]
-pub struct PartySocket<'a, R: Eprint> {
-    end: End<'a, R>,
+pub struct PartySocket<'a> {
+    end: End<'a>,
     takes: History,
     sends: History,
     faults: History,
@@ -37,14 +38,14 @@ pub struct PartySocket<'a, R: Eprint> {
 
 /// A party's end of the match that has this port.
 #[derive(Drop)]
-struct End<'a, R: Eprint> {
+struct End<'a> {
     socket: UdpSocket,
     port: u16,
     party: u8,
     /// How many datagrams came from the referee.
     heard: u32,
-    sends: Reports<'a, R>,
-    takes: Reports<'a, R>,
+    sends: FirstFailures<'a>,
+    takes: FirstFailures<'a>,
 }
 
 /// The address of a party of the match that has this port.
@@ -63,15 +64,17 @@ fn is_at(from: SocketAddr, wanted: io::Result<SocketAddr>) -> bool {
     }
 }
 
-impl<'a, R: Eprint> PartySocket<'a, R> {
-    /// The socket of a party of the match that has this port.
+impl<'a> PartySocket<'a> {
+    /// The socket of a party of the match that has this port; why it fails later is noted there.
     ///
     /// # Errors
     /// `AddrInUse` where another process has the party's port; else why the system gives no socket.
-    pub fn bind(rt: &'a R, port: u16, party: u8) -> io::Result<PartySocket<'a, R>>
-    where
-        R: Net,
-    {
+    pub fn bind(
+        rt: &impl Net,
+        port: u16,
+        party: u8,
+        failures: &'a Failures,
+    ) -> io::Result<PartySocket<'a>> {
         let socket = UdpSocket::bind(rt, address_of(port, party)?)?;
         socket.set_nonblocking(true)?;
         Ok(PartySocket {
@@ -80,8 +83,8 @@ impl<'a, R: Eprint> PartySocket<'a, R> {
                 port,
                 party,
                 heard: 0,
-                sends: Reports::new(rt),
-                takes: Reports::new(rt),
+                sends: FirstFailures::new(failures),
+                takes: FirstFailures::new(failures),
             },
             takes: History::new(),
             sends: History::new(),
@@ -107,20 +110,12 @@ impl<'a, R: Eprint> PartySocket<'a, R> {
     }
 }
 
-impl<'a, R: Eprint> End<'a, R> {
+impl<'a> End<'a> {
     /// Sends a datagram to the port of its party.
     fn send(&mut self, datagram: &Datagram) -> Result<(), DeviceFault> {
-        match self.send_out(datagram) {
-            Ok(()) => {
-                self.sends.succeeded();
-                Ok(())
-            }
-            Err(error) => {
-                let what = format_args!("no datagram could be sent to party {}", datagram.to);
-                self.sends.failed(what, &error);
-                Err(fault_of(&error))
-            }
-        }
+        let answer = self.send_out(datagram);
+        self.sends
+            .after(FailedCall::Send { to: datagram.to }, answer)
     }
 
     fn send_out(&self, datagram: &Datagram) -> io::Result<()> {
@@ -134,17 +129,8 @@ impl<'a, R: Eprint> End<'a, R> {
         if party != self.party {
             return Ok(None);
         }
-        match self.receive() {
-            Ok(found) => {
-                self.takes.succeeded();
-                Ok(found)
-            }
-            Err(error) => {
-                let what = format_args!("the socket of party {party} could not be read");
-                self.takes.failed(what, &error);
-                Err(fault_of(&error))
-            }
-        }
+        let answer = self.receive();
+        self.takes.after(FailedCall::Receive { party }, answer)
     }
 
     /// The datagram that has waited longest of those whose packet comes from the port of its sender.
@@ -201,7 +187,7 @@ impl<'a, R: Eprint> End<'a, R> {
     }
 }
 
-impl<'a, R: Eprint> Link for PartySocket<'a, R> {
+impl<'a> Link for PartySocket<'a> {
     ghost use Rattle.std.specs.Prelude.{None, []};
     ghost use Rattle.bg_world.specs.Devices.Handed.{noted_answer};
 

@@ -2,12 +2,12 @@
 ghost use Rattle.std.specs.Prelude.{◌≡◌, ◌⊎◌, [], None, length, IfErr};
 ghost use Rattle.bg_world.specs.Devices.Honesty.{CountsFailed, HasCause};
 
-use crate::messages::device_faults::fault_of;
-use crate::messages::reports::Reports;
-use crate::say;
+use crate::failures::Failures;
+use crate::failures::device_failures::FailedCall;
+use crate::failures::first_failures::FirstFailures;
 use crate::sockets::own_sockets::OwnSocket;
 use bg_auto::LoopFault;
-use bg_text::History;
+use bg_streams::History;
 use bg_wire::Datagram;
 use bg_world::{DeviceFault, Link, Taken, count_failed, note_taken};
 use std::io;
@@ -18,10 +18,10 @@ use std::net::Net;
 /// "Sockets"). A datagram goes out of the socket of the party that it goes to, and none comes from elsewhere. It says
 /// nothing of honesty: the system may lose datagrams.
 ///
-/// Each failure is said on the standard error, with the system's words for it.
+/// It notes why a call failed, with the party, in the [`Failures`] that it is lent.
 #[derive(Drop)]
-pub struct UdpLink<'a, R: Eprint> {
-    pub(crate) sockets: Sockets<'a, R>,
+pub struct UdpLink<'a> {
+    pub(crate) sockets: Sockets<'a>,
     takes: History,
     sends: History,
     faults: History,
@@ -30,75 +30,53 @@ pub struct UdpLink<'a, R: Eprint> {
 
 /// The sockets of all parties, in the order of their numbers from 0.
 #[derive(Drop)]
-pub(crate) struct Sockets<'a, R: Eprint> {
-    pub(crate) ends: Vec<End<'a, R>>,
+pub(crate) struct Sockets<'a> {
+    pub(crate) ends: Vec<End<'a>>,
     /// Of sends to parties that have no socket.
-    misdirected: Reports<'a, R>,
+    misdirected: FirstFailures<'a>,
 }
 
 /// A party's socket.
 #[derive(Drop)]
-pub(crate) struct End<'a, R: Eprint> {
+pub(crate) struct End<'a> {
     party: u8,
     pub(crate) socket: OwnSocket,
-    sends: Reports<'a, R>,
-    takes: Reports<'a, R>,
+    sends: FirstFailures<'a>,
+    takes: FirstFailures<'a>,
 }
 
-impl<'a, R: Eprint> End<'a, R> {
-    fn open(rt: &'a R, party: u8) -> io::Result<End<'a, R>>
-    where
-        R: Net,
-    {
+impl<'a> End<'a> {
+    fn open(rt: &impl Net, party: u8, failures: &'a Failures) -> io::Result<End<'a>> {
         Ok(End {
             party,
             socket: OwnSocket::open(rt)?,
-            sends: Reports::new(rt),
-            takes: Reports::new(rt),
+            sends: FirstFailures::new(failures),
+            takes: FirstFailures::new(failures),
         })
     }
 
     /// Sends bytes to the party.
     fn send(&mut self, bytes: &[u8]) -> Result<(), DeviceFault> {
-        match self.socket.send(bytes) {
-            Ok(()) => {
-                self.sends.succeeded();
-                Ok(())
-            }
-            Err(error) => {
-                let what = format_args!("no datagram could be sent to party {}", self.party);
-                self.sends.failed(what, &error);
-                Err(fault_of(&error))
-            }
-        }
+        let call = FailedCall::Send { to: self.party };
+        self.sends.after(call, self.socket.send(bytes))
     }
 
     /// What has come for the party.
     fn take(&mut self) -> Taken {
-        match self.socket.receive() {
-            Ok(found) => {
-                self.takes.succeeded();
-                Ok(found)
-            }
-            Err(error) => {
-                let what = format_args!("the socket of party {} could not be read", self.party);
-                self.takes.failed(what, &error);
-                Err(fault_of(&error))
-            }
-        }
+        let call = FailedCall::Receive { party: self.party };
+        self.takes.after(call, self.socket.receive())
     }
 }
 
-impl<'a, R: Eprint> Sockets<'a, R> {
+impl<'a> Sockets<'a> {
     /// Sends a datagram to its party.
     fn send(&mut self, datagram: &Datagram) -> Result<(), DeviceFault> {
         if let Some(end) = self.ends.get_mut(usize::from(datagram.to)) {
             return end.send(datagram.bytes.bytes.as_slice());
         }
         let error = io::Error::from(ErrorKind::AddrNotAvailable);
-        let what = format_args!("no datagram could be sent to party {}", datagram.to);
-        self.misdirected.failed(what, &error);
-        Err(fault_of(&error))
+        self.misdirected
+            .after(FailedCall::Send { to: datagram.to }, Err(error))
     }
 
     /// What has come for a party.
@@ -110,26 +88,26 @@ impl<'a, R: Eprint> Sockets<'a, R> {
     }
 }
 
-impl<'a, R: Eprint> UdpLink<'a, R> {
+impl<'a> UdpLink<'a> {
     /// Sockets for the parties below `parties`, on ports of 127.0.0.1 that the system chooses. A take for another party
     /// gives nothing, and a send to one fails.
     ///
     /// # Errors
-    /// `Socket` where one could not be opened or made non-blocking; `Memory` where there is no memory for them.
-    pub fn bind(rt: &'a R, parties: u8) -> Result<UdpLink<'a, R>, LoopFault>
-    where
-        R: Net + AllocGlobal,
+    /// `Socket` where one could not be opened or made non-blocking, and why is noted; `Memory` where there is no memory
+    /// for them.
+    pub fn bind(
+        rt: &(impl Net + AllocGlobal),
+        parties: u8,
+        failures: &'a Failures,
+    ) -> Result<UdpLink<'a>, LoopFault>
         ensures { IfErr result (λ fault. (fault ≡ LoopFault.Socket) ⊎ (fault ≡ LoopFault.Memory)) }
     {
         let mut ends = Vec::new(rt.alloc());
         for party in 0..parties {
-            match End::open(rt, party) {
+            match End::open(rt, party, failures) {
                 Ok(end) => ends.push(end)?,
                 Err(error) => {
-                    say(
-                        rt,
-                        format_args!("no socket for party {party} on 127.0.0.1: {error}"),
-                    );
+                    failures.note(FailedCall::Open { party }, error);
                     return Err(LoopFault::Socket);
                 }
             }
@@ -137,7 +115,7 @@ impl<'a, R: Eprint> UdpLink<'a, R> {
         Ok(UdpLink {
             sockets: Sockets {
                 ends,
-                misdirected: Reports::new(rt),
+                misdirected: FirstFailures::new(failures),
             },
             takes: History::new(),
             sends: History::new(),
@@ -147,7 +125,7 @@ impl<'a, R: Eprint> UdpLink<'a, R> {
     }
 }
 
-impl<'a, R: Eprint> Link for UdpLink<'a, R> {
+impl<'a> Link for UdpLink<'a> {
     ghost use Rattle.std.specs.Prelude.{None, []};
     ghost use Rattle.bg_world.specs.Devices.Handed.{noted_answer};
 

@@ -6,7 +6,7 @@ use crate::tests::helpers::failing_devices::{Calls, Failing};
 use crate::tests::helpers::folders::new_folder;
 use bg_auto::{LoopFault, PARTIES, run_rounds};
 use bg_match::Rules;
-use bg_text::Writing;
+use bg_streams::Writing;
 use bg_wire::{REFEREE, SEAT_OF_O, SEAT_OF_X};
 use bg_world::{Keepers, Outcome, RestoreCause};
 use std::fs;
@@ -14,11 +14,20 @@ use std::test::Fail;
 
 /// Plays ten rounds over devices of which one call fails.
 fn play_failing(rt: &HostRuntime, folder: &str, calls: &Calls) -> Result<Vec<u8>, LoopFault> {
-    let link = Failing::new(UdpLink::bind(rt, PARTIES)?, calls);
+    let link = Failing::new(UdpLink::bind(rt, PARTIES, &calls.failures)?, calls);
     let keepers = Keepers {
-        referee: Failing::new(FileKeeper::new(rt, folder, REFEREE)?, calls),
-        x: Failing::new(FileKeeper::new(rt, folder, SEAT_OF_X)?, calls),
-        o: Failing::new(FileKeeper::new(rt, folder, SEAT_OF_O)?, calls),
+        referee: Failing::new(
+            FileKeeper::new(rt, folder, REFEREE, &calls.failures)?,
+            calls,
+        ),
+        x: Failing::new(
+            FileKeeper::new(rt, folder, SEAT_OF_X, &calls.failures)?,
+            calls,
+        ),
+        o: Failing::new(
+            FileKeeper::new(rt, folder, SEAT_OF_O, &calls.failures)?,
+            calls,
+        ),
     };
     let mut text = Vec::new(rt.alloc());
     run_rounds(

@@ -1,10 +1,12 @@
 //! Matches over sockets and files.
+use crate::Failures;
 use crate::files::read_saved;
 use crate::loops::run_loop;
 use crate::tests::helpers::folders::new_folder;
 use bg_auto::{LoopFault, sim_text};
 use bg_match::{Entry, Number, Rules};
-use bg_text::{Writing, transcript_text};
+use bg_streams::Writing;
+use bg_text::transcript_text;
 use bg_wire::{REFEREE, Saved, restore};
 use bg_world::{Outcome, RestoreCause};
 use std::fs;
@@ -40,6 +42,7 @@ pub(crate) fn played(
         Rules::One,
         rounds,
         folder,
+        &Failures::new(),
         &mut Writing::new(&mut text),
     )?;
     Ok(text)
@@ -123,6 +126,7 @@ fn entries_are_those_of_the_match_in_memory(rt: HostRuntime) -> Result<(), Fail>
             Rules::One,
             rounds,
             folder.as_str(),
+            &Failures::new(),
             &mut output,
         )?;
         let played = saved_by_referee(&rt, folder.as_str(), seed, 3)?;
@@ -168,6 +172,7 @@ fn no_such_matches(rt: HostRuntime) -> Result<(), Fail> {
             Rules::One,
             1,
             folder.as_str(),
+            &Failures::new(),
             &mut output,
         );
         assert!(rt; matches!(refused, Err(LoopFault::World(_))));

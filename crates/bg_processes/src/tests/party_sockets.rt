@@ -1,5 +1,5 @@
 //! A party's socket, and what strangers send to it.
-use crate::{Hearing, PartySocket, Ticking, Waiting, Word};
+use crate::{Failures, Hearing, PartySocket, Ticking, Waiting, Word};
 use arrayvec::ArrayVec;
 use bg_wire::{Datagram, PacketBytes};
 use bg_world::Link;
@@ -36,19 +36,19 @@ fn datagram(rt: &impl Abort, to: u8, bytes: &[u8]) -> Datagram {
 #[derive(Drop)]
 struct Three<'a> {
     port: u16,
-    referee: PartySocket<'a, HostRuntime>,
-    x: PartySocket<'a, HostRuntime>,
-    o: PartySocket<'a, HostRuntime>,
+    referee: PartySocket<'a>,
+    x: PartySocket<'a>,
+    o: PartySocket<'a>,
 }
 
 /// A port such that those of three parties are free, with their sockets.
-fn three_sockets(rt: &HostRuntime) -> Result<Three<'_>, Fail> {
+fn three_sockets<'a>(rt: &HostRuntime, failures: &'a Failures) -> Result<Three<'a>, Fail> {
     let mut port = 30_000 + (std::process::id(rt.process()) % 500) as u16 * 20;
     for _ in 0..500 {
         if let (Ok(referee), Ok(x), Ok(o)) = (
-            PartySocket::bind(rt, port, 0),
-            PartySocket::bind(rt, port, 1),
-            PartySocket::bind(rt, port, 2),
+            PartySocket::bind(rt, port, 0, failures),
+            PartySocket::bind(rt, port, 1, failures),
+            PartySocket::bind(rt, port, 2, failures),
         ) {
             return Ok(Three {
                 port,
@@ -64,12 +64,13 @@ fn three_sockets(rt: &HostRuntime) -> Result<Three<'_>, Fail> {
 
 #[test]
 fn packets_go_to_their_party(rt: HostRuntime) -> Result<(), Fail> {
+    let failures = Failures::new();
     let Three {
         port,
         mut referee,
         mut x,
         mut o,
-    } = three_sockets(&rt)?;
+    } = three_sockets(&rt, &failures)?;
     assert!(rt; x.send(&datagram(&rt, 0, &want(1))).is_ok());
     assert!(rt; o.take(2, 0)?.is_none());
     let taken = referee.take(0, 0)?.expect(&rt, "a datagram");
@@ -79,13 +80,13 @@ fn packets_go_to_their_party(rt: HostRuntime) -> Result<(), Fail> {
     assert!(rt; x.send(&datagram(&rt, 0, &want(1))).is_ok());
     assert!(rt; referee.take(1, 0)?.is_none());
     // A second process of the party.
-    match PartySocket::bind(&rt, port, 1) {
+    match PartySocket::bind(&rt, port, 1, &failures) {
         Ok(_) => return Err(Fail::from("two processes have one port")),
         Err(error) => assert!(rt; error.kind() == ErrorKind::AddrInUse),
     }
     // To a party that is away, and to one that has no port.
     assert!(rt; x.send(&datagram(&rt, 9, &want(1))).is_ok());
-    match PartySocket::bind(&rt, 65_500, 200) {
+    match PartySocket::bind(&rt, 65_500, 200, &failures) {
         Ok(_) => return Err(Fail::from("a port beyond the last")),
         Err(error) => assert!(rt; error.kind() == ErrorKind::AddrNotAvailable),
     }
@@ -104,12 +105,13 @@ fn send_from_elsewhere(rt: &HostRuntime, port: u16, bytes: &[u8], times: u32) ->
 /// Packets of strangers, well made or not, are passed over, and those of parties that send for others.
 #[test]
 fn packets_of_strangers(rt: HostRuntime) -> Result<(), Fail> {
+    let failures = Failures::new();
     let Three {
         port,
         mut referee,
         mut x,
         mut o,
-    } = three_sockets(&rt)?;
+    } = three_sockets(&rt, &failures)?;
     send_from_elsewhere(&rt, port, &want(1), 1)?;
     send_from_elsewhere(&rt, port, b"rubbish", 1)?;
     send_from_elsewhere(&rt, port, &[7; 300], 1)?;
@@ -143,12 +145,13 @@ impl Clock for SetClock {
 
 #[test]
 fn questions_are_answered(rt: HostRuntime) -> Result<(), Fail> {
+    let failures = Failures::new();
     let Three {
         port,
         mut referee,
         mut x,
         mut o,
-    } = three_sockets(&rt)?;
+    } = three_sockets(&rt, &failures)?;
     send_from_elsewhere(&rt, port, b"", 2)?;
     send_from_elsewhere(&rt, port.saturating_add(1), b"", 2)?;
     x.ask();
@@ -165,11 +168,12 @@ fn questions_are_answered(rt: HostRuntime) -> Result<(), Fail> {
 
 #[test]
 fn silence_of_the_referee(rt: HostRuntime) -> Result<(), Fail> {
+    let failures = Failures::new();
     let Three {
         mut referee,
         mut x,
         ..
-    } = three_sockets(&rt)?;
+    } = three_sockets(&rt, &failures)?;
     let clock = SetClock {
         milliseconds: Cell::new(0),
     };
@@ -195,11 +199,12 @@ fn silence_of_the_referee(rt: HostRuntime) -> Result<(), Fail> {
 
 #[test]
 fn waiting_for_a_socket(rt: HostRuntime) -> Result<(), Fail> {
+    let failures = Failures::new();
     let Three {
         mut referee,
         mut x,
         ..
-    } = three_sockets(&rt)?;
+    } = three_sockets(&rt, &failures)?;
     let mut waiting = Waiting::new(&rt, referee.descriptor(), false)?;
     let begun = Instant::now(&rt)?;
     assert!(rt; !waiting.wait(Duration::from_millis(30))?.socket);

@@ -1,5 +1,5 @@
 //! What messages show of names.
-use crate::messages::printable::{Printable, PrintableLines};
+use crate::printable::{Printable, PrintableLines};
 use std::process::Abort;
 use std::test::Fail;
 

@@ -1,9 +1,10 @@
 //! Files of matches by the second rules.
+use crate::Failures;
 use crate::loops::run_loop;
 use crate::tests::helpers::folders::new_folder;
 use bg_auto::LoopFault;
 use bg_match::Rules;
-use bg_text::Writing;
+use bg_streams::Writing;
 use bg_world::{Outcome, RestoreCause};
 use std::fs;
 use std::test::Fail;
@@ -11,7 +12,16 @@ use std::test::Fail;
 /// What comes of some rounds of match 7 over the folder, by these rules.
 fn played(rt: &HostRuntime, folder: &str, rules: Rules) -> Result<Vec<u8>, LoopFault> {
     let mut text = Vec::new(rt.alloc());
-    run_loop(rt, 7, 1, rules, 5, folder, &mut Writing::new(&mut text))?;
+    run_loop(
+        rt,
+        7,
+        1,
+        rules,
+        5,
+        folder,
+        &Failures::new(),
+        &mut Writing::new(&mut text),
+    )?;
     Ok(text)
 }
 

@@ -1,13 +1,15 @@
 //! Single calls of the sockets of a match.
+use crate::Failures;
+use crate::failures::first_failures::fault_of;
 use crate::loops::run_loop;
-use crate::messages::device_faults::fault_of;
 use crate::sockets::udp_links::UdpLink;
 use crate::tests::helpers::folders::new_folder;
 use crate::tests::helpers::stand_ins::StandIn;
+use crate::tests::helpers::told_failures::told;
 use arrayvec::ArrayVec;
 use bg_auto::LoopFault;
 use bg_match::Rules;
-use bg_text::Writing;
+use bg_streams::Writing;
 use bg_wire::{Datagram, PacketBytes};
 use bg_world::{DeviceFault, Link};
 use std::net::{Ipv4Addr, SocketAddr};
@@ -24,7 +26,8 @@ fn any_port() -> SocketAddr {
 #[test]
 fn sockets_are_bound_to_the_loopback_address(rt: HostRuntime) -> Result<(), Fail> {
     let net = StandIn::new(&rt, 255);
-    let _link = UdpLink::bind(&net, 255)?;
+    let failures = Failures::new();
+    let _link = UdpLink::bind(&net, 255, &failures)?;
     let bound = net.bound()?;
     assert!(rt; bound.len() == 255 && bound.iter().all(|address| *address == any_port()));
     for index in 0..255 {
@@ -70,7 +73,8 @@ fn check_nothing<L: Link>(rt: &impl Abort, link: &mut L, party: u8) {
 fn datagrams_come_to_their_party(rt: HostRuntime) -> Result<(), Fail> {
     let bytes = counted();
     let (longest, packet) = (&bytes[..128], &bytes[..95]);
-    let mut link = UdpLink::bind(&rt, 4)?;
+    let failures = Failures::new();
+    let mut link = UdpLink::bind(&rt, 4, &failures)?;
     for party in 0..4 {
         check_nothing(&rt, &mut link, party);
     }
@@ -92,7 +96,8 @@ fn datagrams_come_to_their_party(rt: HostRuntime) -> Result<(), Fail> {
 fn longer_datagrams_are_cut(rt: HostRuntime) -> Result<(), Fail> {
     let bytes = counted();
     let net = StandIn::new(&rt, 4);
-    let mut link = UdpLink::bind(&net, 4)?;
+    let failures = Failures::new();
+    let mut link = UdpLink::bind(&net, 4, &failures)?;
     for (count, taken) in [(0, 0), (255, 255), (256, 256), (257, 256), (600, 256)] {
         let sent = &bytes[..count.min(bytes.len())];
         let expected = &bytes[..taken.min(bytes.len())];
@@ -107,7 +112,8 @@ fn longer_datagrams_are_cut(rt: HostRuntime) -> Result<(), Fail> {
 #[test]
 fn parties_beyond_the_last(rt: HostRuntime) -> Result<(), Fail> {
     let net = StandIn::new(&rt, 255);
-    let mut link = UdpLink::bind(&net, 4)?;
+    let failures = Failures::new();
+    let mut link = UdpLink::bind(&net, 4, &failures)?;
     assert!(rt; net.bound()?.len() == 4);
     for party in [4, 5, 255] {
         check_nothing(&rt, &mut link, party);
@@ -122,22 +128,23 @@ fn parties_beyond_the_last(rt: HostRuntime) -> Result<(), Fail> {
     Ok(())
 }
 
-/// Where the process may not have as many open files as there are parties, there is no link: it says so once.
+/// Where the process may not have as many open files as there are parties, there is no link: it notes for which party
+/// it got no socket.
 #[test]
-fn too_few_open_files(rt: HostRuntime) {
-    for sockets in 0..5 {
+fn too_few_open_files(rt: HostRuntime) -> Result<(), Fail> {
+    let failures = Failures::new();
+    for sockets in 0..4 {
         let net = StandIn::new(&rt, sockets);
-        let fault = UdpLink::bind(&net, 4).err();
-        assert!(rt;
-            fault
-                == if sockets < 4 {
-                    Some(LoopFault::Socket)
-                } else {
-                    None
-                }
-        );
-        assert!(rt; net.said.get() == if sockets < 4 { 1 } else { 0 });
+        assert!(rt; UdpLink::bind(&net, 4, &failures).err() == Some(LoopFault::Socket));
+        let said = told(&rt, &failures, "")?;
+        let wanted = format!(in rt.alloc();
+            "no socket for party {sockets} on 127.0.0.1: Too many open files (os error 24)\n"
+        )?;
+        assert!(rt; said.as_str() == wanted.as_str(), "{said}");
     }
+    assert!(rt; UdpLink::bind(&StandIn::new(&rt, 4), 4, &failures).is_ok());
+    assert!(rt; failures.drain().next().is_none());
+    Ok(())
 }
 
 /// Sockets are opened before the match is looked at, and no file before there are all of them.
@@ -154,6 +161,7 @@ fn sockets_come_before_the_match(rt: HostRuntime) -> Result<(), Fail> {
             Rules::One,
             1,
             folder.as_str(),
+            &Failures::new(),
             &mut Writing::new(&mut text),
         );
         assert!(rt; refused == Err(LoopFault::Socket) && text.is_empty());

@@ -1,13 +1,14 @@
-//! Sockets of a match among those of others, and what is said of sockets that fail.
+//! Sockets of a match among those of others, and what is noted of sockets that fail.
+use crate::Failures;
 use crate::files::file_keepers::FileKeeper;
 use crate::loops::run_loop;
 use crate::sockets::udp_links::UdpLink;
 use crate::tests::helpers::folders::new_folder;
-use crate::tests::helpers::overheard::Overheard;
+use crate::tests::helpers::told_failures::told;
 use arrayvec::ArrayVec;
 use bg_auto::{Onlooker, PARTIES, play_rounds};
 use bg_match::{Number, Rules};
-use bg_text::Writing;
+use bg_streams::Writing;
 use bg_wire::{Datagram, PacketBytes, REFEREE, SEAT_OF_O, SEAT_OF_X, decode};
 use bg_world::{DeviceFault, Event, Keepers, Link, Outcome};
 use std::fs;
@@ -71,12 +72,14 @@ fn forged_packets_change_nothing(rt: HostRuntime) -> Result<(), Fail> {
         Rules::One,
         60,
         quiet.as_str(),
+        &Failures::new(),
         &mut Writing::new(&mut expected),
     )?;
 
     let besieged = new_folder(&rt, "besieged")?;
     let folder = besieged.as_str();
-    let link = UdpLink::bind(&rt, PARTIES)?;
+    let failures = Failures::new();
+    let link = UdpLink::bind(&rt, PARTIES, &failures)?;
     assert!(rt; link.sockets.ends.len() == 4);
     let ends = link.sockets.ends.iter();
     let mut forger = Forger {
@@ -84,9 +87,9 @@ fn forged_packets_change_nothing(rt: HostRuntime) -> Result<(), Fail> {
         addresses: ends.map(|end| end.socket.address).collect(rt.alloc())?,
     };
     let keepers = Keepers {
-        referee: FileKeeper::new(&rt, folder, REFEREE)?,
-        x: FileKeeper::new(&rt, folder, SEAT_OF_X)?,
-        o: FileKeeper::new(&rt, folder, SEAT_OF_O)?,
+        referee: FileKeeper::new(&rt, folder, REFEREE, &failures)?,
+        x: FileKeeper::new(&rt, folder, SEAT_OF_X, &failures)?,
+        o: FileKeeper::new(&rt, folder, SEAT_OF_O, &failures)?,
     };
     let mut text = Vec::new(rt.alloc());
     let mut output = Writing::new(&mut text);
@@ -119,11 +122,8 @@ fn datagram(to: u8) -> Datagram {
 
 /// Sockets of three parties. Those of the first two reach a port that nobody has, so that the call after each send
 /// fails.
-fn broken<'a, 'b>(
-    rt: &HostRuntime,
-    heard: &'a Overheard<'b>,
-) -> Result<UdpLink<'a, Overheard<'b>>, Fail> {
-    let link = UdpLink::bind(heard, 3)?;
+fn broken<'a>(rt: &HostRuntime, failures: &'a Failures) -> Result<UdpLink<'a>, Fail> {
+    let link = UdpLink::bind(rt, 3, failures)?;
     for end in link.sockets.ends.iter().take(2) {
         let closed = UdpSocket::bind(rt, (Ipv4Addr::LOCALHOST, 0))?.local_addr()?;
         end.socket.hear_only(closed)?;
@@ -131,18 +131,24 @@ fn broken<'a, 'b>(
     Ok(link)
 }
 
-/// So many lines were said, which begin so.
-fn check_said(rt: &impl Abort, said: &str, lines: &[&str]) {
-    assert!(rt; said.lines().count() == lines.len(), "{said}");
-    for (line, wanted) in said.lines().zip(lines) {
+/// So many failures were noted, whose lines begin so.
+fn check_noted(
+    rt: &(impl AllocGlobal + Abort),
+    failures: &Failures,
+    lines: &[&str],
+) -> Result<(), Fail> {
+    let noted = told(rt, failures, "")?;
+    assert!(rt; noted.as_str().lines().count() == lines.len(), "{noted}");
+    for (line, wanted) in noted.as_str().lines().zip(lines) {
         assert!(rt; line.starts_with(*wanted), "{line}");
     }
+    Ok(())
 }
 
 #[test]
-fn each_socket_says_that_it_fails(rt: HostRuntime) -> Result<(), Fail> {
-    let heard = Overheard::new(&rt);
-    let mut link = broken(&rt, &heard)?;
+fn each_socket_notes_that_it_fails(rt: HostRuntime) -> Result<(), Fail> {
+    let failures = Failures::new();
+    let mut link = broken(&rt, &failures)?;
     for _ in 0..3 {
         for party in 0..3 {
             assert!(rt; link.send(&datagram(party)) == Ok(()));
@@ -150,37 +156,34 @@ fn each_socket_says_that_it_fails(rt: HostRuntime) -> Result<(), Fail> {
         }
     }
     let unread = [
-        "bg_relay: the socket of party 0 could not be read: ",
-        "bg_relay: the socket of party 1 could not be read: ",
+        "the socket of party 0 could not be read: ",
+        "the socket of party 1 could not be read: ",
     ];
-    check_said(&rt, heard.said().as_str(), unread.as_slice());
+    check_noted(&rt, &failures, unread.as_slice())?;
     for _ in 0..2 {
         for party in 0..3 {
             assert!(rt; link.send(&datagram(party)) == Ok(()));
             assert!(rt; link.send(&datagram(party)).is_err() == (party < 2));
         }
     }
-    // A send that succeeded lies between two that failed, so that each of these is said.
+    // A send that succeeded lies between two that failed, so that each of these is noted.
     let unsent = [
-        "bg_relay: no datagram could be sent to party 0: ",
-        "bg_relay: no datagram could be sent to party 1: ",
-        "bg_relay: no datagram could be sent to party 0: ",
-        "bg_relay: no datagram could be sent to party 1: ",
+        "no datagram could be sent to party 0: ",
+        "no datagram could be sent to party 1: ",
+        "no datagram could be sent to party 0: ",
+        "no datagram could be sent to party 1: ",
     ];
-    check_said(&rt, heard.said().as_str(), unsent.as_slice());
-    Ok(())
+    check_noted(&rt, &failures, unsent.as_slice())
 }
 
 #[test]
 fn a_party_without_a_socket(rt: HostRuntime) -> Result<(), Fail> {
-    let heard = Overheard::new(&rt);
-    let mut link = UdpLink::bind(&heard, 2)?;
+    let failures = Failures::new();
+    let mut link = UdpLink::bind(&rt, 2, &failures)?;
     for _ in 0..2 {
         assert!(rt; link.send(&datagram(2)) == Err(DeviceFault::Failed));
         assert!(rt; link.send(&datagram(1)) == Ok(()));
         assert!(rt; link.take(2, 0) == Ok(None));
     }
-    let unsent = "bg_relay: no datagram could be sent to party 2: ";
-    check_said(&rt, heard.said().as_str(), &[unsent]);
-    Ok(())
+    check_noted(&rt, &failures, &["no datagram could be sent to party 2: "])
 }

@@ -1,21 +1,28 @@
 //! The command of one action, for scripts.
 
 use crate::answers::ending_of;
-use crate::beginnings::{no_memory, unwritten};
+use crate::commands::options::{
+    THREE_TERMINALS, folder_option, match_option, player_in, player_option,
+};
 use crate::endings::Ending;
-use crate::seats::{Seat, player_in};
+use crate::messages::says::say;
+use crate::messages::{failed, no_memory, option_missing, unwritten, wrong};
+use crate::seats::Seat;
 use crate::tellings::{print_board, put_entries, tell_word, write_out};
-use crate::{failed, wrong};
-use bg_match::{Action, Number};
-use bg_processes::{Going, say};
+use crate::typed_lines::joined;
+use bg_match::{Action, MOST_ENTRIES, Number};
+use bg_processes::{Failures, Going};
 use bg_text::parse_action;
 use bg_world::{Outcome, outcome_text};
-use clap::ArgMatches;
+use clap::{Arg, ArgMatches, Command, Error, value_parser};
+use std::alloc::Global;
 use std::fs::File;
-use std::io;
 use std::net::Net;
 use std::rt::Files;
 use std::time::Clock;
+
+/// The most seconds that one action may have.
+const MOST_SECONDS: u32 = 1_000_000;
 
 /// So many ticks pass before the seat claims, in which the referee may tell what this life of it does not know.
 const TICKS_TO_LISTEN: u32 = 2;
@@ -34,6 +41,13 @@ struct Wanted {
     ticks: u32,
 }
 
+impl Wanted {
+    /// Whether the entry that the action is to be claimed as is there already, among so many.
+    fn is_there(&self, held: Number) -> bool {
+        self.entry.is_some_and(|entry| entry <= held)
+    }
+}
+
 /// Where the call is.
 #[derive(Clone, Copy, PartialEq, Eq)]
 enum Stage {
@@ -43,20 +57,45 @@ enum Stage {
     Claimed(Number),
 }
 
-/// The words of an action, in one line.
-fn joined<R: AllocGlobal>(rt: &R, words: &[&str]) -> io::Result<Vec<u8>> {
-    let mut line = Vec::new(rt.alloc());
-    for word in words {
-        if !line.is_empty() {
-            line.push(b' ')?;
-        }
-        line.extend_from_slice(word.as_bytes())?;
-    }
-    Ok(line)
+/// Its options and help.
+pub(crate) fn command<'a>(alloc: Global) -> Result<Command<'a>, Error> {
+    let seconds = Arg::new(alloc, "seconds")
+        .long("seconds")
+        .value_name("N")
+        .value_parser(value_parser!(u32).range(1..=i64::from(MOST_SECONDS)))
+        .required(true)
+        .help("How long it may take: 1 to 1000000");
+    let entry = Arg::new(alloc, "entry")
+        .long("entry")
+        .value_name("N")
+        .value_parser(value_parser!(u32).range(1..=i64::from(MOST_ENTRIES)))
+        .help("The entry that the action is claimed as, so that two calls act once: 1 to 1000000");
+    let action = Arg::new(alloc, "ACTION").num_args(0..).help(
+        "The action, as in transcripts: roll, double, take, drop, move 8-5 6-5, resign normal, ..",
+    );
+    Ok(
+        Command::new(alloc, "act")
+            .about("Make one action, for scripts")
+            .long_about(
+                "Make one action when it is the player's turn, and wait for its entry; with no ACTION wait for\n\
+             the turn. Prints the entries since the call before, and the board.\n\
+             \n\
+             A call that finds a claim of an earlier one follows that first. Ends with status 0 where the entry\n\
+             answers the action; with 2 where it is refused, and nothing is claimed, or the entry is another;\n\
+             with 1 where the time is over, or as `play`.",
+            )
+            .after_help(THREE_TERMINALS)
+            .arg(player_option(alloc)?)?
+            .arg(match_option(alloc))?
+            .arg(folder_option(alloc))?
+            .arg(seconds)?
+            .arg(entry)?
+            .arg(action)?,
+    )
 }
 
 /// Makes the one action that the options name, or waits for the player's turn.
-pub(crate) fn run_act<R>(rt: &R, options: &ArgMatches<'_>, is_watched: bool) -> Ending
+pub(crate) fn run<R>(rt: &R, options: &ArgMatches<'_>, is_watched: bool) -> Result<Ending, Ending>
 where
     R: Net + Files<File = File> + Clock + Print + Eprint + AllocGlobal,
 {
@@ -66,26 +105,25 @@ where
         options.get_str("dir"),
         options.get_one::<u32>("seconds"),
     ) else {
-        return wrong(rt, "an option is missing");
-    };
-    let Ok(line) = joined(rt, options.get_strs("ACTION").unwrap_or_default()) else {
-        return no_memory(rt);
-    };
-    let action = match parse_action(&line) {
-        Ok(action) => Some(action),
-        Err(_) if line.is_empty() => None,
-        Err(fault) => return wrong(rt, fault.reason()),
+        return Err(option_missing(rt));
     };
     let wanted = Wanted {
-        action,
+        action: action_of(rt, options.get_strs("ACTION").unwrap_or_default())?,
         entry: options.get_one("entry"),
         ticks: seconds.saturating_mul(TICKS_A_SECOND),
     };
-    match Seat::open(rt, player, path, folder, false) {
-        Ok(seat) => match act(rt, seat, &wanted, is_watched) {
-            Ok(ending) | Err(ending) => ending,
-        },
-        Err(ending) => ending,
+    let failures = Failures::new();
+    let seat = Seat::open(rt, &failures, player, path, folder, false)?;
+    act(rt, seat, &wanted, is_watched)
+}
+
+/// The action that some words say; none where there is no word.
+fn action_of<R: Eprint + AllocGlobal>(rt: &R, words: &[&str]) -> Result<Option<Action>, Ending> {
+    let line = joined(rt.alloc(), words).map_err(|_| no_memory(rt))?;
+    match parse_action(&line) {
+        Ok(action) => Ok(Some(action)),
+        Err(_) if line.is_empty() => Ok(None),
+        Err(fault) => Err(wrong(rt, fault.reason())),
     }
 }
 
@@ -117,7 +155,7 @@ where
             Stage::Listening
                 if over
                     || (ticks >= TICKS_TO_LISTEN
-                        && (is_there(wanted, seat.held()) || seat.process.acts())) => {
+                        && (wanted.is_there(seat.held()) || seat.process.acts())) => {
                 match claim(rt, &mut seat, wanted)? {
                     Some(number) => stage = Stage::Claimed(number),
                     None => return finish(rt, &seat, wanted, from, wanted.entry),
@@ -132,14 +170,6 @@ where
     Ok(Ending::Failed)
 }
 
-/// Whether the entry that the action is to be claimed as is there already, among so many.
-fn is_there(wanted: &Wanted, held: Number) -> bool {
-    match wanted.entry {
-        Some(entry) => entry <= held,
-        None => false,
-    }
-}
-
 /// Claims the action; the number of its entry, or none where there is nothing to claim.
 fn claim<R>(rt: &R, seat: &mut Seat<'_, R>, wanted: &Wanted) -> Result<Option<Number>, Ending>
 where
@@ -149,7 +179,7 @@ where
         return Ok(None);
     };
     if let Some(entry) = wanted.entry {
-        if entry <= seat.held() {
+        if wanted.is_there(seat.held()) {
             return Ok(None);
         }
         if entry > seat.held().saturating_add(1) {

@@ -1,21 +1,42 @@
 //! The command that plays for a player until the match is over.
 
-use crate::beginnings::{no_memory, unwritten};
+use crate::commands::options::{
+    THREE_TERMINALS, folder_option, match_option, player_in, player_option,
+};
 use crate::endings::Ending;
-use crate::seats::{Seat, player_in};
+use crate::messages::{no_memory, option_missing, unwritten};
+use crate::seats::Seat;
 use crate::tellings::{Telling, tell_word};
-use crate::wrong;
 use bg_auto::auto_action;
 use bg_board::Player;
-use bg_processes::Going;
-use clap::ArgMatches;
+use bg_processes::{Failures, Going};
+use clap::{ArgMatches, Command, Error};
+use std::alloc::Global;
 use std::fs::File;
 use std::net::Net;
 use std::rt::Files;
 use std::time::Clock;
 
+/// Its options and help.
+pub(crate) fn command<'a>(alloc: Global) -> Result<Command<'a>, Error> {
+    Ok(
+        Command::new(alloc, "auto")
+            .about("Let an automatic player play a match")
+            .long_about(
+                "Let an automatic player play a match until it is over, and print its transcript.\n\
+             \n\
+             Keeps what it claims in DIR, a folder of this player alone, which is made where it is missing.\n\
+             Ends with the statuses of `play`.",
+            )
+            .after_help(THREE_TERMINALS)
+            .arg(player_option(alloc)?)?
+            .arg(match_option(alloc))?
+            .arg(folder_option(alloc))?,
+    )
+}
+
 /// Plays for the player that the options name, and prints the transcript of the match.
-pub(crate) fn run_auto<R>(rt: &R, options: &ArgMatches<'_>, is_watched: bool) -> Ending
+pub(crate) fn run<R>(rt: &R, options: &ArgMatches<'_>, is_watched: bool) -> Result<Ending, Ending>
 where
     R: Net + Files<File = File> + Clock + Print + Eprint + AllocGlobal,
 {
@@ -24,14 +45,11 @@ where
         options.get_str("match"),
         options.get_str("dir"),
     ) else {
-        return wrong(rt, "an option is missing");
+        return Err(option_missing(rt));
     };
-    match Seat::open(rt, player, path, folder, false) {
-        Ok(seat) => match play(rt, player, seat, is_watched) {
-            Ok(ending) | Err(ending) => ending,
-        },
-        Err(ending) => ending,
-    }
+    let failures = Failures::new();
+    let seat = Seat::open(rt, &failures, player, path, folder, false)?;
+    play(rt, player, seat, is_watched)
 }
 
 fn play<R>(rt: &R, player: Player, seat: Seat<'_, R>, is_watched: bool) -> Result<Ending, Ending>

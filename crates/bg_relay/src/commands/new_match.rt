@@ -1,12 +1,15 @@
 //! The command that makes a match between processes.
 
-use crate::arguments::rules_in;
-use crate::beginnings::{no_memory, own_folder};
+use crate::beginnings::own_folder;
+use crate::commands::options::{
+    THREE_TERMINALS, folder_option, length_option, rules_in, rules_option,
+};
 use crate::endings::Ending;
-use crate::{failed, wrong};
+use crate::messages::{failed, no_memory, option_missing, unwritten, wrong};
 use bg_match::Terms;
-use bg_processes::{MatchFile, Printable, make_secret};
-use clap::ArgMatches;
+use bg_processes::{HIGHEST_PORT, LOWEST_PORT, MatchFile, Printable, make_secret};
+use clap::{Arg, ArgMatches, Command, Error, value_parser};
+use std::alloc::Global;
 use std::fs;
 use std::fs::File;
 use std::random::RandomSource;
@@ -15,8 +18,35 @@ use std::rt::Files;
 /// The files that a folder of a match may have from the beginning: what has one of them is no new folder.
 const NAMES: [&str; 4] = ["match", "secret", "party-0.0", "party-0.1"];
 
+/// Its options and help.
+pub(crate) fn command<'a>(alloc: Global) -> Result<Command<'a>, Error> {
+    let port = Arg::new(alloc, "port")
+        .long("port")
+        .value_name("P")
+        .value_parser(value_parser!(u16).range(i64::from(LOWEST_PORT)..=i64::from(HIGHEST_PORT)))
+        .required(true)
+        .help("The port of the referee on 127.0.0.1, below those of all others: 1024 to 65280");
+    Ok(
+        Command::new(alloc, "new")
+            .about("Make a match between processes")
+            .long_about(
+                "Make a match between processes.\n\
+             \n\
+             Writes the files `match` and `secret` into DIR, which is made where it is missing, and prints the\n\
+             line of `match`. Hand that file to the players and to who may watch: its number is the key of the\n\
+             match. The dice go by the secret, which stays with the referee. Ends with status 0; with 2 where\n\
+             DIR has a match already; with 1 where reading, writing or memory failed.",
+            )
+            .after_help(THREE_TERMINALS)
+            .arg(length_option(alloc))?
+            .arg(rules_option(alloc))?
+            .arg(port)?
+            .arg(folder_option(alloc))?,
+    )
+}
+
 /// Makes the match that the options name, and prints its line.
-pub(crate) fn run_new<R>(rt: &R, options: &ArgMatches<'_>) -> Ending
+pub(crate) fn run<R>(rt: &R, options: &ArgMatches<'_>) -> Result<Ending, Ending>
 where
     R: Files<File = File> + RandomSource + Print + Eprint + AllocGlobal,
 {
@@ -26,15 +56,11 @@ where
         options.get_one("port"),
         options.get_str("dir"),
     ) else {
-        return wrong(rt, "an option is missing");
+        return Err(option_missing(rt));
     };
-    match make_match(rt, Terms { length, rules }, port, folder) {
-        Ok(file) => match rt.println(file) {
-            Ok(()) => Ending::Served,
-            Err(error) => failed(rt, format_args!("the output could not be written: {error}")),
-        },
-        Err(ending) => ending,
-    }
+    let file = make_match(rt, Terms { length, rules }, port, folder)?;
+    rt.println(file).map_err(|error| unwritten(rt, &error))?;
+    Ok(Ending::Served)
 }
 
 /// Makes the secret first, and then the match file, so that where there is one the match is whole.

@@ -1,18 +1,21 @@
 //! The command of a person who plays at a terminal.
 
-use crate::beginnings::{no_memory, unread, unwritten};
+use crate::commands::options::{
+    THREE_TERMINALS, folder_option, match_option, player_in, player_option,
+};
 use crate::endings::Ending;
-use crate::seats::{Round, Seat, player_in};
+use crate::messages::{no_memory, option_missing, unread, unwritten};
+use crate::seats::{Round, Seat};
 use crate::tellings::{print_board, put_entries, write_out};
 use crate::typed_lines::TypedLines;
-use crate::wrong;
 use bg_board::Player;
 use bg_match::{Actor, Entry, Number, Phase, Record};
-use bg_processes::Going;
+use bg_processes::{Failures, Going};
 use bg_text::{entry_text, parse_action, split_player};
 use bg_turns::legal_turns;
 use bg_world::{Outcome, outcome_text};
-use clap::ArgMatches;
+use clap::{ArgMatches, Command, Error};
+use std::alloc::Global;
 use std::fs::File;
 use std::io;
 use std::io::Read;
@@ -36,8 +39,29 @@ and at any time:
   quit                       ends; the same command goes on later
 ";
 
+/// Its options and help.
+pub(crate) fn command<'a>(alloc: Global) -> Result<Command<'a>, Error> {
+    Ok(
+        Command::new(alloc, "play")
+            .about("Play a match at this terminal")
+            .long_about(
+                "Play a match at this terminal, until it is over or you quit.\n\
+             \n\
+             Draws the board when you are to act, and takes the lines that you type: `help` lists them. What\n\
+             you chose is kept in DIR, a folder of this player alone, which is made where it is missing: the\n\
+             same command goes on where you were. Ends with status 0; with 1 where the port is taken, another\n\
+             process plays over DIR, its files are damaged or of another match, or reading, writing or memory\n\
+             failed; with 2 where the match file or DIR is none.",
+            )
+            .after_help(THREE_TERMINALS)
+            .arg(player_option(alloc)?)?
+            .arg(match_option(alloc))?
+            .arg(folder_option(alloc))?,
+    )
+}
+
 /// Lets a person play for the player that the options name.
-pub(crate) fn run_play<R>(rt: &R, options: &ArgMatches<'_>) -> Ending
+pub(crate) fn run<R>(rt: &R, options: &ArgMatches<'_>) -> Result<Ending, Ending>
 where
     R: Input + Net + Files<File = File> + Clock + Print + Eprint + AllocGlobal,
 {
@@ -46,27 +70,21 @@ where
         options.get_str("match"),
         options.get_str("dir"),
     ) else {
-        return wrong(rt, "an option is missing");
+        return Err(option_missing(rt));
     };
-    match Seat::open(rt, player, path, folder, true) {
-        Ok(seat) => {
-            let mut table = Table {
-                rt,
-                player,
-                seat,
-                shown: 0,
-            };
-            match table.play() {
-                Ok(ending) | Err(ending) => ending,
-            }
-        }
-        Err(ending) => ending,
-    }
+    let failures = Failures::new();
+    let mut table = Table {
+        rt,
+        player,
+        seat: Seat::open(rt, &failures, player, path, folder, true)?,
+        shown: 0,
+    };
+    table.play()
 }
 
 /// A person's seat, and what he has been shown.
 #[derive(Drop)]
-struct Table<'a, R: Eprint> {
+struct Table<'a, R> {
     rt: &'a R,
     player: Player,
     seat: Seat<'a, R>,

@@ -1,45 +1,64 @@
 //! The command that runs the referee of a match.
 
-use crate::beginnings::{lock_of, match_of, no_memory, socket_of, stopped, unwaited, waiting_for};
+use crate::beginnings::{lock_of, match_of, socket_of, stopped, unwaited, waiting_for};
+use crate::commands::options::{THREE_TERMINALS, folder_option};
 use crate::endings::Ending;
-use crate::{failed, wrong};
+use crate::messages::progress::Progress;
+use crate::messages::says::say_failures;
+use crate::messages::witnesses::Witness;
+use crate::messages::{failed, no_memory, option_missing, wrong};
 use bg_match::Number;
 use bg_processes::{
-    FileKeeper, Going, PartySocket, Printable, Progress, RefereeProcess, Ticking, Waiting, Witness,
+    Failures, FileKeeper, Going, PartySocket, Printable, RefereeProcess, Ticking, Waiting,
     read_secret,
 };
 use bg_wire::REFEREE;
 use bg_world::Outcome;
-use clap::ArgMatches;
+use clap::{ArgMatches, Command, Error};
+use std::alloc::Global;
 use std::fs::File;
 use std::net::Net;
 use std::rt::Files;
 use std::time::Clock;
 
-type Referee<'a, R> = RefereeProcess<PartySocket<'a, R>, FileKeeper<'a, R>>;
+type Referee<'a, R> = RefereeProcess<PartySocket<'a>, FileKeeper<'a, R>>;
+
+/// Its options and help.
+pub(crate) fn command<'a>(alloc: Global) -> Result<Command<'a>, Error> {
+    Ok(
+        Command::new(alloc, "referee")
+            .about("Run the referee of a match until it is over")
+            .long_about(
+                "Run the referee of the match in DIR until it is over.\n\
+             \n\
+             Ends some seconds after nobody lacks an entry any more, with status 0; with 1 where the port is\n\
+             taken, another process plays over DIR, its files are damaged or of another match, or reading,\n\
+             writing or memory failed.",
+            )
+            .after_help(THREE_TERMINALS)
+            .arg(folder_option(alloc))?,
+    )
+}
 
 /// Runs the referee of the match in the folder that the options name, until the match is over.
-pub(crate) fn run_referee<R>(rt: &R, options: &ArgMatches<'_>, progress: Progress) -> Ending
+pub(crate) fn run<R>(rt: &R, options: &ArgMatches<'_>, progress: Progress) -> Result<Ending, Ending>
 where
     R: Net + Files<File = File> + Clock + Print + Eprint + AllocGlobal,
 {
-    let Some(folder) = options.get_str("dir") else {
-        return wrong(rt, "an option is missing");
-    };
-    let lock = match lock_of(rt, folder) {
-        Ok(lock) => lock,
-        Err(ending) => return ending,
-    };
-    let ending = match begin(rt, folder) {
-        Ok((process, waiting, ticking)) => serve(rt, process, waiting, ticking, progress),
-        Err(ending) => ending,
-    };
-    drop(lock);
-    ending
+    let folder = options.get_str("dir").ok_or_else(|| option_missing(rt))?;
+    let _lock = lock_of(rt, folder)?;
+    let failures = Failures::new();
+    let (process, waiting, ticking) = begin(rt, folder, &failures)?;
+    let witness = Witness::new(rt, &failures, folder);
+    serve(rt, process, waiting, ticking, witness, progress)
 }
 
-/// The referee of the match in a folder, and how it waits.
-fn begin<'a, R>(rt: &'a R, folder: &str) -> Result<(Referee<'a, R>, Waiting, Ticking), Ending>
+/// The referee of the match in a folder, and how it waits; its devices note their failures there.
+fn begin<'a, R>(
+    rt: &'a R,
+    folder: &str,
+    failures: &'a Failures,
+) -> Result<(Referee<'a, R>, Waiting, Ticking), Ending>
 where
     R: Net + Files<File = File> + Clock + Eprint + AllocGlobal,
 {
@@ -57,12 +76,13 @@ where
             ));
         }
     };
-    let link = socket_of(rt, file.port, REFEREE)?;
+    let link = socket_of(rt, file.port, REFEREE, failures)?;
     let (waiting, ticking) = waiting_for(rt, link.descriptor(), false)?;
-    let Ok(keeper) = FileKeeper::new(rt, folder, REFEREE) else {
+    let Ok(keeper) = FileKeeper::new(rt, folder, REFEREE, failures) else {
         return Err(no_memory(rt));
     };
     let begun = RefereeProcess::begin(rt.alloc(), file.id, file.terms, key, link, keeper);
+    say_failures(rt, failures, folder);
     let (process, outcome) = begun.map_err(|_| wrong(rt, "length out of range"))?;
     if outcome != Outcome::Restarted {
         return Err(stopped(rt, &outcome));
@@ -76,24 +96,23 @@ fn serve<R>(
     process: Referee<'_, R>,
     waiting: Waiting,
     ticking: Ticking,
+    witness: Witness<'_, R>,
     progress: Progress,
-) -> Ending
+) -> Result<Ending, Ending>
 where
     R: Net + Files<File = File> + Clock + Eprint + AllocGlobal,
 {
     let (mut process, mut waiting, mut ticking) = (process, waiting, ticking);
-    let mut progress = progress;
-    let mut witness = Witness::new(rt);
+    let (mut witness, mut progress) = (witness, progress);
     let mut told: Number = 0;
     for _ in 0..u64::MAX {
-        let tick = match ticking.next_round(rt, &mut waiting) {
-            Ok((_, tick)) => tick,
-            Err(error) => return unwaited(rt, &error),
-        };
+        let (_, tick) = ticking
+            .next_round(rt, &mut waiting)
+            .map_err(|error| unwaited(rt, &error))?;
         match process.round(tick, &mut witness) {
             Ok(Going::On) => {}
-            Ok(Going::Over) => return Ending::Served,
-            Err(outcome) => return stopped(rt, &outcome),
+            Ok(Going::Over) => return Ok(Ending::Served),
+            Err(outcome) => return Err(stopped(rt, &outcome)),
         }
         let held = process.held().map_or(0, |record| record.len());
         if held != told {
@@ -101,5 +120,5 @@ where
             told = held;
         }
     }
-    Ending::Failed
+    Ok(Ending::Failed)
 }

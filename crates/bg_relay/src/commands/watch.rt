@@ -2,18 +2,21 @@
 ghost use Rattle.std.specs.Prelude.{◌≤◌};
 ghost use Rattle.bg_wire.specs.Entries.Codes.{first_watcher};
 
-use crate::beginnings::{match_of, no_memory, no_socket, unwaited, unwritten, waiting_for};
+use crate::beginnings::{match_of, no_socket, unwaited, waiting_for};
+use crate::commands::options::{THREE_TERMINALS, match_option};
 use crate::endings::Ending;
+use crate::messages::witnesses::Witness;
+use crate::messages::{failed, no_memory, option_missing, unwritten, wrong};
 use crate::tellings::{Telling, tell_word};
-use crate::{failed, wrong};
 use bg_match::Record;
 use bg_processes::{
-    Going, Hearing, MatchFile, PartySocket, Printable, Ticking, Waiting, WatcherProcess, Witness,
+    Failures, Going, Hearing, MatchFile, PartySocket, Printable, Ticking, Waiting, WatcherProcess,
     publish,
 };
 use bg_text::{board_text, transcript_text};
 use bg_wire::{FIRST_WATCHER, LAST_WATCHER};
-use clap::ArgMatches;
+use clap::{Arg, ArgMatches, Command, Error};
+use std::alloc::Global;
 use std::fs::File;
 use std::io::ErrorKind;
 use std::net::Net;
@@ -34,41 +37,68 @@ struct Published<'a> {
     is_old: bool,
 }
 
+/// Its options and help.
+pub(crate) fn command<'a>(alloc: Global) -> Result<Command<'a>, Error> {
+    let board = Arg::new(alloc, "board")
+        .long("board")
+        .value_name("FILE")
+        .help("A file that has the board, always whole");
+    let transcript = Arg::new(alloc, "transcript")
+        .long("transcript")
+        .value_name("FILE")
+        .help("A file that has the transcript, always whole");
+    Ok(
+        Command::new(alloc, "watch")
+            .about("Watch a match")
+            .long_about(
+                "Watch a match until it is over, and print its transcript, entry by entry.\n\
+             \n\
+             Takes the first number of a watcher, from 3, whose port is free. Ends with status 0; with 1 where\n\
+             no port is free, or reading, writing or memory failed; with 2 where the match file is none.",
+            )
+            .after_help(THREE_TERMINALS)
+            .arg(match_option(alloc))?
+            .arg(board)?
+            .arg(transcript)?,
+    )
+}
+
 /// Watches the match that the options name, prints its transcript, and keeps the files that were asked for.
-pub(crate) fn run_watch<R>(rt: &R, options: &ArgMatches<'_>, is_watched: bool) -> Ending
+pub(crate) fn run<R>(rt: &R, options: &ArgMatches<'_>, is_watched: bool) -> Result<Ending, Ending>
 where
     R: Net + Files<File = File> + Clock + Print + Eprint + AllocGlobal,
 {
-    let Some(path) = options.get_str("match") else {
-        return wrong(rt, "an option is missing");
-    };
+    let path = options.get_str("match").ok_or_else(|| option_missing(rt))?;
     let published = Published {
         board: options.get_str("board"),
         transcript: options.get_str("transcript"),
         age: PAUSE_TICKS,
         is_old: true,
     };
-    match begin(rt, path) {
-        Ok((process, waiting, ticking)) => {
-            match watch(rt, process, waiting, ticking, published, is_watched) {
-                Ok(()) => Ending::Served,
-                Err(ending) => ending,
-            }
-        }
-        Err(ending) => ending,
-    }
+    let failures = Failures::new();
+    let (process, waiting, ticking) = begin(rt, path, &failures)?;
+    // No file is a device of a watcher, so there is no folder to name.
+    let witness = Witness::new(rt, &failures, "");
+    watch(
+        rt, process, waiting, ticking, witness, published, is_watched,
+    )?;
+    Ok(Ending::Served)
 }
 
-type Watcher<'a, R> = WatcherProcess<PartySocket<'a, R>>;
+type Watcher<'a> = WatcherProcess<PartySocket<'a>>;
 
-/// A watcher under the first number whose port is free.
-fn begin<'a, R>(rt: &'a R, path: &str) -> Result<(Watcher<'a, R>, Waiting, Ticking), Ending>
+/// A watcher under the first number whose port is free; its socket notes its failures there.
+fn begin<'a, R>(
+    rt: &R,
+    path: &str,
+    failures: &'a Failures,
+) -> Result<(Watcher<'a>, Waiting, Ticking), Ending>
 where
     R: Net + Files<File = File> + Clock + Eprint + AllocGlobal,
 {
     let file = match_of(rt, path)?;
     for party in FIRST_WATCHER..=LAST_WATCHER {
-        match PartySocket::bind(rt, file.port, party) {
+        match PartySocket::bind(rt, file.port, party, failures) {
             Ok(link) => return sit_down(rt, file, party, link),
             Err(error) if error.kind() == ErrorKind::AddrInUse => {}
             Err(error) => return Err(no_socket(rt, party, &error)),
@@ -78,11 +108,11 @@ where
 }
 
 fn sit_down<'a, R>(
-    rt: &'a R,
+    rt: &R,
     file: MatchFile,
     party: u8,
-    link: PartySocket<'a, R>,
-) -> Result<(Watcher<'a, R>, Waiting, Ticking), Ending>
+    link: PartySocket<'a>,
+) -> Result<(Watcher<'a>, Waiting, Ticking), Ending>
 where
     R: Net + Clock + Eprint + AllocGlobal,
     requires { first_watcher ≤ party }
@@ -96,9 +126,10 @@ where
 
 fn watch<R>(
     rt: &R,
-    process: Watcher<'_, R>,
+    process: Watcher<'_>,
     waiting: Waiting,
     ticking: Ticking,
+    witness: Witness<'_, R>,
     published: Published<'_>,
     is_watched: bool,
 ) -> Result<(), Ending>
@@ -106,8 +137,7 @@ where
     R: Net + Files<File = File> + Clock + Print + Eprint + AllocGlobal,
 {
     let (mut process, mut waiting, mut ticking) = (process, waiting, ticking);
-    let mut published = published;
-    let mut witness = Witness::new(rt);
+    let (mut witness, mut published) = (witness, published);
     let mut hearing = Hearing::new(rt);
     let mut telling = Telling::new();
     for _ in 0..u64::MAX {

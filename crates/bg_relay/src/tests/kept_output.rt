@@ -1,18 +1,17 @@
-//! A runtime that keeps what is printed, and counts what is said.
+//! A runtime that keeps what is printed and what is said.
 
-use std::alloc::{Alloc, Global};
+use std::alloc::{Alloc, AllocError, Global};
 use std::cell::{Cell, RefCell};
 use std::fmt::Display;
 use std::io;
 use std::io::ErrorKind;
 use std::time::{Clock, Duration};
 
-/// The system's memory and clock; its standard output is kept, and nothing is said on the standard error.
+/// The system's memory and clock; its standard output and its standard error are kept.
 #[derive(Drop)]
 pub(crate) struct KeptOutput<'a> {
     rt: &'a HostRuntime,
-    /// How many lines were said.
-    pub(crate) said: Cell<u32>,
+    said: Cell<String>,
     printed: RefCell<Vec<u8>>,
 }
 
@@ -20,9 +19,21 @@ impl<'a> KeptOutput<'a> {
     pub(crate) fn new(rt: &'a HostRuntime) -> KeptOutput<'a> {
         KeptOutput {
             rt,
-            said: Cell::new(0),
+            said: Cell::new(String::new(rt.alloc())),
             printed: RefCell::new(Vec::new(rt.alloc())),
         }
+    }
+
+    /// What was said since the last call.
+    pub(crate) fn said(&self) -> String {
+        self.said.replace(String::new(self.rt.alloc()))
+    }
+
+    fn say<D: Display + Drop>(&self, value: D, end: &str) -> Result<(), AllocError> {
+        let mut said = self.said();
+        write!(said, "{value}{end}")?;
+        self.said.set(said);
+        Ok(())
     }
 
     /// What was printed.
@@ -40,13 +51,12 @@ impl<'a> Alloc for KeptOutput<'a> {
 }
 
 impl<'a> Eprint for KeptOutput<'a> {
-    fn eprint<D: Display + Drop>(&self, _value: D) -> io::Result<()> {
-        Ok(())
+    fn eprint<D: Display + Drop>(&self, value: D) -> io::Result<()> {
+        Ok(self.say(value, "")?)
     }
 
-    fn eprintln<D: Display + Drop>(&self, _value: D) -> io::Result<()> {
-        self.said.set(self.said.get().saturating_add(1));
-        Ok(())
+    fn eprintln<D: Display + Drop>(&self, value: D) -> io::Result<()> {
+        Ok(self.say(value, "\n")?)
     }
 }
 

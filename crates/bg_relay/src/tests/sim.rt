@@ -1,17 +1,17 @@
 //! What the command of automatic matches prints.
-use crate::commands::run_sim;
+use crate::commands::sim::play;
+use crate::messages::progress::Progress;
 use crate::tests::kept_output::KeptOutput;
 use bg_auto::sim_text;
 use bg_match::Rules;
-use bg_processes::Progress;
 use std::test::Fail;
 
 /// What the command prints of a match of length 3, with two watchers.
 fn printed(rt: &HostRuntime, seed: u64, steps: u32) -> Option<Vec<u8>> {
     let system = KeptOutput::new(rt);
     let progress = Progress::start(&system, false);
-    let ending = run_sim(&system, seed, 3, Rules::One, 2, steps, progress);
-    if ending.status() != 0 || system.said.get() != 0 {
+    let ending = play(&system, seed, 3, Rules::One, 2, steps, progress).ok()?;
+    if ending.status() != 0 || system.said().as_str() != "" {
         return None;
     }
     Some(system.into_printed())

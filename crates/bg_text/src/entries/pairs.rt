@@ -84,7 +84,7 @@ fn read_target(word: &[u8]) -> Result<u8, TextFault>
 fn read_point(word: &[u8]) -> Result<u8, TextFault>
     ensures { IsPointOf word.now result }
 {
-    let number = read_number(word)?;
+    let number = read_two_digits(word)?;
     if number < BAR {
         Ok(number)
     } else {
@@ -110,7 +110,7 @@ pub(crate) fn read_dice(numbers: &[u8]) -> Result<(Die, Die), TextFault>
     let Some((first, second)) = halves(numbers, b' ') else {
         return Err(TextFault::NotALine);
     };
-    let (first, second) = both(read_number(first), read_number(second))?;
+    let (first, second) = both(read_two_digits(first), read_two_digits(second))?;
     match (Die::new(first), Die::new(second)) {
         (Some(first), Some(second)) => Ok((first, second)),
         _ => Err(TextFault::BadNumber),
@@ -118,7 +118,7 @@ pub(crate) fn read_dice(numbers: &[u8]) -> Result<(Die, Die), TextFault>
 }
 
 /// The number, 1 to 99, that one or two digits write. A leading zero is a wrong number, as is 0.
-pub(crate) fn read_number(word: &[u8]) -> Result<u8, TextFault>
+pub(crate) fn read_two_digits(word: &[u8]) -> Result<u8, TextFault>
     ensures { IsNumberOf word.now result }
 {
     match word {

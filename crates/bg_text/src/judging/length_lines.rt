@@ -9,7 +9,7 @@ ghost use Rattle.bg_text.specs.Boards.TermsText.{rules_mark};
 ghost use Rattle.bg_text.specs.Boards.Transcript.{length_line};
 
 use crate::TextFault;
-use crate::entries::pairs::read_number;
+use crate::entries::pairs::read_two_digits;
 use crate::faults::LineFault;
 use bg_match::{LONGEST_MATCH, Rules, SHORTEST_MATCH, Terms};
 
@@ -43,7 +43,7 @@ fn read_digits(digits: &[u8]) -> Result<u8, LineFault>
     ensures found { IfOk result (λ length. IsMatchLength length × (digits.now ≡ decimal length)) }
     ensures fault { IfErr result (λ fault. IsDigitsFault fault digits.now) }
 {
-    match (read_number(digits), digits) {
+    match (read_two_digits(digits), digits) {
         (Ok(length @ SHORTEST_MATCH..=LONGEST_MATCH), _) => Ok(length),
         (Ok(_) | Err(TextFault::BadNumber), _) => Err(LineFault::LengthOutOfRange),
         (Err(_), [b'0'..=b'9', b'0'..=b'9', b'0'..=b'9']) => Err(LineFault::LengthOutOfRange),

@@ -10,14 +10,3 @@ pub enum Verdict {
     /// The input is longer than the limit.
     TooLong,
 }
-
-/// Why no verdict was reached.
-#[derive(Clone, Copy, Debug, PartialEq, Eq)]
-pub enum EngineFault {
-    /// The reader failed. Nothing was written.
-    Read,
-    /// The writer failed. Nothing is said of how much was written.
-    Write,
-    /// Memory ran out. Nothing was written.
-    Memory,
-}

@@ -1,7 +1,8 @@
 //! The judge between readers and writers: slow ones, endless ones, and those that fail.
 use super::inputs::{TOO_LONG, followed_by};
 use super::records::{MATCH, TEXT_OF_MATCH};
-use crate::{EngineFault, MOST_BYTES, Reading, Verdict, Writing, judge};
+use crate::{MOST_BYTES, Verdict, judge};
+use bg_streams::{EngineFault, Reading, Writing};
 use std::alloc::Global;
 use std::io::{self, Read, Write};
 use std::process::Abort;

@@ -1,7 +1,8 @@
 //! Refused growths.
 use super::devices::verdict_on;
 use super::records::{MATCH, TEXT_OF_MATCH, record};
-use crate::{EngineFault, Verdict, board_text, judge_text, transcript_text};
+use crate::{Verdict, board_text, judge_text, transcript_text};
+use bg_streams::EngineFault;
 use std::alloc::{AllocError, Global};
 use std::test::Fail;
 

@@ -1,6 +1,7 @@
 //! The words of refusals and of faults.
-use crate::{EngineFault, StreamFault, TextFault, reason_text};
+use crate::{TextFault, reason_text};
 use bg_match::{EntryFault, NoDouble};
+use bg_streams::{EngineFault, StreamFault};
 use bg_turns::TurnFault;
 use std::fmt::Display;
 use std::process::Abort;

@@ -99,7 +99,7 @@ fn push_entries(text: &mut Vec<u8>, log: &Record)
     let mut chunk = Chunk::new();
     for index in 0..log.len() {
         put_index(&mut chunk, log, index);
-        make_room(text, &mut chunk);
+        append_full(text, &mut chunk);
     }
     append(text, chunk.as_slice());
 }
@@ -127,7 +127,7 @@ fn put_index(chunk: &mut Chunk, log: &Record, index: Number)
 }
 
 /// Appends a chunk that has no room for a further entry, and empties it. The text has room for it.
-fn make_room(text: &mut Vec<u8>, chunk: &mut Chunk)
+fn append_full(text: &mut Vec<u8>, chunk: &mut Chunk)
     requires { length (text.old.items ++ chunk.old.items) ≤ vec_capacity text.old }
     ensures same { text.new.items ++ chunk.new.items ≡ text.old.items ++ chunk.old.items }
     ensures room { array_vec_len chunk.new + 10 ≤ 1024 }

@@ -22,7 +22,8 @@ use Rattle.bg_world.specs.declared.texts.event_lines.EventKind.{EventKind}
 use Rattle.bg_world.specs.declared.texts.event_lines.EventKind.TheVariants as kind
 use Rattle.bg_world.specs.declared.events.Event.{Event}
 use Rattle.bg_world.specs.declared.events.Event.TheVariants as event
-use Rattle.bg_world.proofs.Lines.EventShapes.{AreNumerals, IsRestShape, kind_of, line_shape, numeral_of_one, of_line, one_numeral, rest_words, shape_of_line, shape_of_rest}
+use Rattle.bg_world.proofs.Lines.EventKinds.{kind_of, rest_words}
+use Rattle.bg_world.proofs.Lines.EventShapes.{AreNumerals, IsRestShape, line_shape, numeral_of_one, of_line, one_numeral, shape_of_line, shape_of_rest}
 use Rattle.bg_world.proofs.Lines.EventTexts.{choice_text, number_text, right_numbers, same_event, words_of_event}
 
 -- ---- one number

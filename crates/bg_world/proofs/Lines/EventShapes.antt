@@ -1,69 +1,18 @@
--- The kinds of event lines, and their shapes.
+-- The shapes of event lines.
 use Rattle.std.proofs.Common.{◌≡◌, ℕ, inl, inr, List, [], ◌∷◌, ◌++◌, length, refl, sym, ◌∙◌, ap, subst, arith}
-use Rattle.std.specs.Prelude.{codes}
 use Rattle.std.specs.List.{AllByRecursion}
-use Rattle.std.specs.Fmt.{decimal}
 use Rattle.bg_board.specs.declared.players.Player.{Player}
-use Rattle.bg_text.specs.Entries.EntryText.{letter, action_words}
+use Rattle.bg_text.specs.Entries.EntryText.{letter}
 use Rattle.bg_text.specs.Entries.EntryShape.{IsActionShape}
 use Rattle.bg_text.specs.Entries.Words.{words_of, spaced}
-use Rattle.bg_text.proofs.Spelling.ActionTexts.{first_sum}
-use Rattle.bg_text.proofs.Spelling.EntryTexts.{word_by_test}
-use Rattle.bg_text.proofs.Spelling.Splits.{first_piece, line_spaced, one_piece}
-use Rattle.bg_world.specs.Texts.EventText.{HasRightNumbers, IsEventShape, IsLongNumeral, IsNumbersShape, event_text, event_words}
+use Rattle.bg_text.proofs.Spelling.Splits.{line_spaced, one_piece}
+use Rattle.bg_world.specs.Texts.EventText.{HasRightNumbers, IsEventShape, IsLongNumeral, IsNumbersShape, event_text}
 use Rattle.bg_world.specs.Texts.EventLines.{kind_start}
 use Rattle.bg_world.specs.declared.texts.event_lines.EventKind.{EventKind}
 use Rattle.bg_world.specs.declared.texts.event_lines.EventKind.TheVariants as kind
 use Rattle.bg_world.specs.declared.events.Event.{Event}
-use Rattle.bg_world.specs.declared.events.Event.TheVariants as event
-use Rattle.bg_world.proofs.Lines.EventTexts.{numeral_word, words_of_event}
-
--- the first word of a kind's lines
-abbrev pub kind_word : EventKind → List ℕ
-kind_word kind.Due = codes "due"
-kind_word kind.Take = codes "take"
-kind_word kind.Choose = codes "choose"
-kind_word kind.Save = codes "save"
-kind_word kind.Tick = codes "tick"
-kind_word kind.Restart = codes "restart"
-
-pub words_of_start : (k : EventKind) (rest : List ℕ) → words_of (kind_start k ++ rest) ≡ kind_word k ∷ words_of rest
-words_of_start kind.Due rest =
-    first_piece 32 (codes "due " ++ rest) (codes "due") rest (word_by_test (codes "due") refl) refl
-words_of_start kind.Take rest =
-    first_piece 32 (codes "take " ++ rest) (codes "take") rest (word_by_test (codes "take") refl) refl
-words_of_start kind.Choose rest =
-    first_piece 32 (codes "choose " ++ rest) (codes "choose") rest (word_by_test (codes "choose") refl) refl
-words_of_start kind.Save rest =
-    first_piece 32 (codes "save " ++ rest) (codes "save") rest (word_by_test (codes "save") refl) refl
-words_of_start kind.Tick rest =
-    first_piece 32 (codes "tick " ++ rest) (codes "tick") rest (word_by_test (codes "tick") refl) refl
-words_of_start kind.Restart rest =
-    first_piece 32 (codes "restart " ++ rest) (codes "restart") rest (word_by_test (codes "restart") refl) refl
-
-start_of_spaced : (k : EventKind) (word : List ℕ) (words : List (List ℕ))
-    → spaced (kind_word k ∷ word ∷ words) ≡ kind_start k ++ spaced (word ∷ words)
-start_of_spaced kind.Due word words = refl
-start_of_spaced kind.Take word words = refl
-start_of_spaced kind.Choose word words = refl
-start_of_spaced kind.Save word words = refl
-start_of_spaced kind.Tick word words = refl
-start_of_spaced kind.Restart word words = refl
-
--- the first words tell the kinds apart
-pub same_kind : (k l : EventKind) (u v : List (List ℕ)) → kind_word k ∷ u ≡ kind_word l ∷ v → k ≡ l
-same_kind kind.Due kind.Due u v e = refl
-same_kind kind.Due _ u v e = absurd (omega (arith, ap first_sum e))
-same_kind kind.Take kind.Take u v e = refl
-same_kind kind.Take _ u v e = absurd (omega (arith, ap first_sum e))
-same_kind kind.Choose kind.Choose u v e = refl
-same_kind kind.Choose _ u v e = absurd (omega (arith, ap first_sum e))
-same_kind kind.Save kind.Save u v e = refl
-same_kind kind.Save _ u v e = absurd (omega (arith, ap first_sum e))
-same_kind kind.Tick kind.Tick u v e = refl
-same_kind kind.Tick _ u v e = absurd (omega (arith, ap first_sum e))
-same_kind kind.Restart kind.Restart u v e = refl
-same_kind kind.Restart _ u v e = absurd (omega (arith, ap first_sum e))
+use Rattle.bg_world.proofs.Lines.EventKinds.{kind_first, kind_of, kind_word, rest_words, same_kind, start_of_spaced, words_of_start}
+use Rattle.bg_world.proofs.Lines.EventTexts.{numeral_word, tails, words_of_event}
 
 -- ---- what stands behind the first word
 
@@ -96,21 +45,18 @@ numbers_shape : (word : List ℕ) (count : ℕ) (words : List (List ℕ)) → Ar
 numbers_shape word count words h = record { numerals = words; spelled = refl; many = h.0; each = h.1 }
 
 pub shape_of_rest : (k : EventKind) (words : List (List ℕ)) → IsRestShape k words → IsEventShape (kind_word k ∷ words)
-shape_of_rest kind.Due words h = inl (numbers_shape (codes "due") 1 words h)
-shape_of_rest kind.Take words h = inr (inl (numbers_shape (codes "take") 3 words h))
+shape_of_rest kind.Due words h = inl (numbers_shape (kind_word kind.Due) 1 words h)
+shape_of_rest kind.Take words h = inr (inl (numbers_shape (kind_word kind.Take) 3 words h))
 shape_of_rest kind.Choose words h =
     inr (inr (inl (record {
       player = h.0;
       rest = h.1;
-      spelled = ap (λ (rest : List (List ℕ)). codes "choose" ∷ rest) h.2;
+      spelled = ap (λ (rest : List (List ℕ)). kind_word kind.Choose ∷ rest) h.2;
       choice = h.3;
     })))
-shape_of_rest kind.Save words h = inr (inr (inr (inl (numbers_shape (codes "save") 1 words h))))
-shape_of_rest kind.Tick words h = inr (inr (inr (inr (inl (numbers_shape (codes "tick") 1 words h)))))
-shape_of_rest kind.Restart words h = inr (inr (inr (inr (inr (numbers_shape (codes "restart") 1 words h)))))
-
-tails : (a b : List ℕ) (u v : List (List ℕ)) → a ∷ u ≡ b ∷ v → u ≡ v
-tails a b u v e = cc
+shape_of_rest kind.Save words h = inr (inr (inr (inl (numbers_shape (kind_word kind.Save) 1 words h))))
+shape_of_rest kind.Tick words h = inr (inr (inr (inr (inl (numbers_shape (kind_word kind.Tick) 1 words h)))))
+shape_of_rest kind.Restart words h = inr (inr (inr (inr (inr (numbers_shape (kind_word kind.Restart) 1 words h)))))
 
 rest_of_shape : (k : EventKind) (words : List (List ℕ)) → IsEventShape (kind_word k ∷ words) → IsRestShape k words
 rest_of_shape k words shape =
@@ -164,31 +110,7 @@ numeral_of_one word h = of_words (words_of word) refl h
     of_words (a ∷ []) e k = subst IsLongNumeral (sym (line_spaced word (a ∷ []) e)) k.1.0
     of_words (a ∷ b ∷ more) e k = absurd (omega (arith, k.0))
 
--- ---- the kind of an event
-
-abbrev pub kind_of : Event → EventKind
-kind_of (event.Due word) = kind.Due
-kind_of (event.Take party pick word) = kind.Take
-kind_of (event.Choose player a) = kind.Choose
-kind_of (event.Save party) = kind.Save
-kind_of (event.Tick party) = kind.Tick
-kind_of (event.Restart party) = kind.Restart
-
-abbrev pub rest_words : Event → List (List ℕ)
-rest_words (event.Due word) = decimal word ∷ []
-rest_words (event.Take party pick word) = decimal party ∷ decimal pick ∷ decimal word ∷ []
-rest_words (event.Choose player a) = letter player ∷ action_words a
-rest_words (event.Save party) = decimal party ∷ []
-rest_words (event.Tick party) = decimal party ∷ []
-rest_words (event.Restart party) = decimal party ∷ []
-
-kind_first : (e : Event) → event_words e ≡ kind_word (kind_of e) ∷ rest_words e
-kind_first (event.Due word) = refl
-kind_first (event.Take party pick word) = refl
-kind_first (event.Choose player a) = refl
-kind_first (event.Save party) = refl
-kind_first (event.Tick party) = refl
-kind_first (event.Restart party) = refl
+-- ---- the event of a line
 
 -- an event whose line is of a kind is of that kind, and the rest of the line has its words
 pub of_line : (k : EventKind) (rest : List ℕ) (e : Event) → HasRightNumbers e → kind_start k ++ rest ≡ event_text e

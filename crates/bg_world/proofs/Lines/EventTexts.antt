@@ -1,6 +1,5 @@
 -- The words of an event's line, and that one line is the line of one event.
-use Rattle.std.proofs.Common.{◌≡◌, ◌≢◌, ℕ, ◌≤◌, true, List, [], ◌∷◌, ◌++◌, refl, sym, ◌∙◌, ap, subst, arith, false, ◌<◌, ◌^◌}
-use Rattle.std.specs.Prelude.{codes}
+use Rattle.std.proofs.Common.{◌≡◌, ◌≢◌, ℕ, ◌≤◌, true, List, [], ◌∷◌, ◌++◌, refl, sym, ◌∙◌, ap, subst, arith, false}
 use Rattle.std.specs.Char.{is_ascii_digit}
 use Rattle.std.specs.List.{All}
 use Rattle.std.specs.Fmt.{decimal}
@@ -15,14 +14,16 @@ use Rattle.bg_match.specs.declared.actions.Action.TheVariants as action
 use Rattle.bg_text.specs.Entries.EntryText.{letter, action_text, action_words}
 use Rattle.bg_text.specs.Entries.EntryShape.{MovesDownward}
 use Rattle.bg_text.specs.Entries.Words.{words_of, spaced}
-use Rattle.bg_text.proofs.Spelling.ActionTexts.{downward_action, first_sum, same_words, words_of_action}
+use Rattle.bg_text.proofs.Spelling.ActionTexts.{downward_action, same_words, words_of_action}
 use Rattle.bg_text.proofs.Spelling.EntryLines.{words_behind}
-use Rattle.bg_text.proofs.Spelling.EntryTexts.{same_player, word_by_test}
+use Rattle.bg_text.proofs.Spelling.EntryTexts.{same_player}
 use Rattle.bg_text.proofs.Spelling.Splits.{IsWord, first_piece, words_spaced}
 use Rattle.bg_world.specs.Texts.EventText.{EventTextsDiffer, HasRightNumbers, IsEvent, IsLongNumeral, event_text, event_words, greatest_word}
 use Rattle.bg_world.specs.declared.events.Event.{Event}
 use Rattle.bg_world.specs.declared.events.Event.TheVariants as event
+use Rattle.bg_world.specs.declared.texts.event_lines.EventKind.TheVariants as kind
 use Rattle.bg_world.proofs.Lines.Digits.{own}
+use Rattle.bg_world.proofs.Lines.EventKinds.{kind_first, kind_is_word, kind_of, kind_word, rest_words, same_kind}
 
 -- ---- numbers
 
@@ -47,10 +48,6 @@ digits_lack c [] f h = All-nil (λ b. b ≢ c)
 digits_lack c (d ∷ ds) f h =
     let k = and_parts (is_ascii_digit d) (all_ascii_digits ds) h in
     All-cons (λ b. b ≢ c) d ds (digit_is_not c d f k.0) (digits_lack c ds f k.1)
-
--- a number has no other byte than digits
-pub decimal_lacks : (c n : ℕ) → is_ascii_digit c ≡ false → n < 2 ^ 64 → All (λ b. b ≢ c) (decimal n)
-decimal_lacks c n f low = digits_lack c (decimal n) f (digits_decimal own n (omega (arith, low)))
 
 pub numeral_word : (word : List ℕ) → IsLongNumeral word → IsWord word
 numeral_word word h = digits_lack 32 word refl h.digits
@@ -81,22 +78,22 @@ words_of_choice player a h =
 -- the words of an event's text are its words
 pub words_of_event : (e : Event) → HasRightNumbers e → words_of (event_text e) ≡ event_words e
 words_of_event (event.Due word) h =
-    words_spaced (codes "due") (decimal word ∷ []) (word_by_test (codes "due") refl) (number_word word h, tt)
+    words_spaced (kind_word kind.Due) (decimal word ∷ []) (kind_is_word kind.Due) (number_word word h, tt)
 words_of_event (event.Take party pick word) h =
-    words_spaced (codes "take") (decimal party ∷ decimal pick ∷ decimal word ∷ []) (word_by_test (codes "take") refl)
+    words_spaced (kind_word kind.Take) (decimal party ∷ decimal pick ∷ decimal word ∷ []) (kind_is_word kind.Take)
     (number_word party (omega (arith, h.0)), (number_word pick h.1, (number_word word h.2, tt)))
 words_of_event (event.Choose player a) h =
-    first_piece 32 (event_text (event.Choose player a)) (codes "choose") (spaced (letter player ∷ action_words a))
-    (word_by_test (codes "choose") refl) refl
-    ∙ ap (λ (words : List (List ℕ)). codes "choose" ∷ words) (words_of_choice player a h)
+    first_piece 32 (event_text (event.Choose player a)) (kind_word kind.Choose)
+    (spaced (letter player ∷ action_words a)) (kind_is_word kind.Choose) refl
+    ∙ ap (λ (words : List (List ℕ)). kind_word kind.Choose ∷ words) (words_of_choice player a h)
 words_of_event (event.Save party) h =
-    words_spaced (codes "save") (decimal party ∷ []) (word_by_test (codes "save") refl)
+    words_spaced (kind_word kind.Save) (decimal party ∷ []) (kind_is_word kind.Save)
     (number_word party (omega (arith, h)), tt)
 words_of_event (event.Tick party) h =
-    words_spaced (codes "tick") (decimal party ∷ []) (word_by_test (codes "tick") refl)
+    words_spaced (kind_word kind.Tick) (decimal party ∷ []) (kind_is_word kind.Tick)
     (number_word party (omega (arith, h)), tt)
 words_of_event (event.Restart party) h =
-    words_spaced (codes "restart") (decimal party ∷ []) (word_by_test (codes "restart") refl)
+    words_spaced (kind_word kind.Restart) (decimal party ∷ []) (kind_is_word kind.Restart)
     (number_word party (omega (arith, h)), tt)
 
 -- ---- one line is the line of one event
@@ -104,35 +101,46 @@ words_of_event (event.Restart party) h =
 three_same : (p k w q l v : ℕ) → p ≡ q → k ≡ l → w ≡ v → event.Take p k w ≡ event.Take q l v
 three_same p k w q l v a b c = cc
 
-same_event_words : (a b : Event) → HasRightNumbers a → HasRightNumbers b → event_words a ≡ event_words b → a ≡ b
-same_event_words (event.Due w) (event.Due v) h k e =
+same_rest : (a b : Event) → HasRightNumbers a → HasRightNumbers b → kind_of a ≡ kind_of b → rest_words a ≡ rest_words b
+    → a ≡ b
+same_rest (event.Due w) (event.Due v) h k is e =
     let text : decimal w ≡ decimal v = cc in ap event.Due (same_number w v h k text)
-same_event_words (event.Due w) _ h k e = absurd (omega (arith, ap first_sum e))
-same_event_words (event.Take p i w) (event.Take q j v) h k e =
+same_rest (event.Due w) _ h k is e = absurd cc
+same_rest (event.Take p i w) (event.Take q j v) h k is e =
     let party : decimal p ≡ decimal q = cc in
     let pick : decimal i ≡ decimal j = cc in
     let word : decimal w ≡ decimal v = cc in
     three_same p i w q j v (same_number p q (omega (arith, h.0)) (omega (arith, k.0)) party)
     (same_number i j h.1 k.1 pick) (same_number w v h.2 k.2 word)
-same_event_words (event.Take p i w) _ h k e = absurd (omega (arith, ap first_sum e))
-same_event_words (event.Choose p a) (event.Choose q b) h k e =
+same_rest (event.Take p i w) _ h k is e = absurd cc
+same_rest (event.Choose p a) (event.Choose q b) h k is e =
     let player : letter p ≡ letter q = cc in
     let words : action_words a ≡ action_words b = cc in
     let one : p ≡ q = same_player p q player in
     let other : a ≡ b = same_words a b h k words in cc
-same_event_words (event.Choose p a) _ h k e = absurd (omega (arith, ap first_sum e))
-same_event_words (event.Save p) (event.Save q) h k e =
+same_rest (event.Choose p a) _ h k is e = absurd cc
+same_rest (event.Save p) (event.Save q) h k is e =
     let text : decimal p ≡ decimal q = cc in
     ap event.Save (same_number p q (omega (arith, h)) (omega (arith, k)) text)
-same_event_words (event.Save p) _ h k e = absurd (omega (arith, ap first_sum e))
-same_event_words (event.Tick p) (event.Tick q) h k e =
+same_rest (event.Save p) _ h k is e = absurd cc
+same_rest (event.Tick p) (event.Tick q) h k is e =
     let text : decimal p ≡ decimal q = cc in
     ap event.Tick (same_number p q (omega (arith, h)) (omega (arith, k)) text)
-same_event_words (event.Tick p) _ h k e = absurd (omega (arith, ap first_sum e))
-same_event_words (event.Restart p) (event.Restart q) h k e =
+same_rest (event.Tick p) _ h k is e = absurd cc
+same_rest (event.Restart p) (event.Restart q) h k is e =
     let text : decimal p ≡ decimal q = cc in
     ap event.Restart (same_number p q (omega (arith, h)) (omega (arith, k)) text)
-same_event_words (event.Restart p) _ h k e = absurd (omega (arith, ap first_sum e))
+same_rest (event.Restart p) _ h k is e = absurd cc
+
+pub tails : (a b : List ℕ) (u v : List (List ℕ)) → a ∷ u ≡ b ∷ v → u ≡ v
+tails a b u v e = cc
+
+same_event_words : (a b : Event) → HasRightNumbers a → HasRightNumbers b → event_words a ≡ event_words b → a ≡ b
+same_event_words a b h k e =
+    let words : kind_word (kind_of a) ∷ rest_words a ≡ kind_word (kind_of b) ∷ rest_words b =
+    sym (kind_first a) ∙ (e ∙ kind_first b) in
+    same_rest a b h k (same_kind (kind_of a) (kind_of b) (rest_words a) (rest_words b) words)
+    (tails (kind_word (kind_of a)) (kind_word (kind_of b)) (rest_words a) (rest_words b) words)
 
 pub same_event : (a b : Event) → HasRightNumbers a → HasRightNumbers b → event_text a ≡ event_text b → a ≡ b
 same_event a b h k e =

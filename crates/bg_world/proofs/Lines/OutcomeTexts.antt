@@ -1,76 +1,70 @@
 -- Which outcomes have one line.
-use Rattle.std.proofs.Common.{◌≡◌, ◌≢◌, ℕ, true, inl, inr, List, ◌∷◌, ◌++◌, drop, Option, Some, None, Ok, Err, refl, sym, ◌∙◌, ap, subst, arith, append_assoc}
-use Rattle.std.specs.Prelude.{◌⊎◌, ◌==◌, IfSome, codes}
+use Rattle.std.proofs.Common.{◌≡◌, ℕ, true, false, inl, inr, List, [], ◌++◌, Option, Some, None, Ok, Err, refl, sym, ◌∙◌, ap, subst}
+use Rattle.std.specs.Prelude.{◌⊎◌}
 use Rattle.std.specs.Fmt.{decimal}
-use Rattle.std.specs.List.{All, slice_split}
 use Rattle.std.proofs.lemmas.Fmt.{decimal_injective}
-use Rattle.bg_text.proofs.Spelling.Splits.{first_piece, pieces_joined}
+use Rattle.std.proofs.lemmas.List.{append-nil, append_assoc}
 use Rattle.bg_wire.specs.declared.packets.Packet.{Packet}
 use Rattle.bg_referee.specs.declared.outcomes.DueFault.TheVariants as due_fault
 use Rattle.bg_referee.specs.declared.outcomes.TakeOutcome.TheVariants as take
 use Rattle.bg_party.specs.declared.outcomes.Learned.TheVariants as learn
-use Rattle.bg_world.specs.Texts.OutcomeText.{AreAnswersAlike, HasNumbers, IsNothing, FitsIn64Bits, IsOtherMatch, OutcomeTextsDiffer, ShareLine, entries_told, outcome_text, told_part}
+use Rattle.bg_world.specs.Texts.OutcomeText.{AreAnswersAlike, HasNumbers, IsNothing, FitsIn64Bits, IsOtherMatch, OutcomeTextsDiffer, ShareLine, answer_text, entries_told, outcome_text, told_part}
 use Rattle.bg_world.specs.Worlds.WorldRuns.{is_memory}
 use Rattle.bg_world.specs.declared.events.Outcome.{Outcome}
 use Rattle.bg_world.specs.declared.events.Outcome.TheVariants as outcome
-use Rattle.bg_world.proofs.Lines.EventTexts.{decimal_lacks}
-use Rattle.bg_world.proofs.Lines.OutcomeReads.{five, outcome_read, plain, read}
+use Rattle.bg_world.proofs.Lines.LineParts.{are_digits, begins_otherwise, cut_digits, from_digit, from_number, same, words}
+use Rattle.bg_world.proofs.Lines.OutcomeReads.{HasRange, no_words, outcome_read, plain, read, told_words}
 
 -- ---- answers
-
--- texts up to the first such byte are equal, and so is what follows it
-cut_at : (c : ℕ) (a b rest other : List ℕ) → All (λ x. x ≢ c) a → All (λ x. x ≢ c) b → a ++ c ∷ rest ≡ b ++ c ∷ other
-    → (a ≡ b) × (rest ≡ other)
-cut_at c a b rest other ha hb e =
-    let pieces : a ∷ slice_split (λ x. x == c) rest ≡ b ∷ slice_split (λ x. x == c) other =
-    sym (first_piece c (a ++ c ∷ rest) a rest ha refl)
-    ∙ (ap (slice_split (λ x. x == c)) e ∙ first_piece c (b ++ c ∷ other) b other hb refl) in
-    let first : a ≡ b = cc in
-    let more : slice_split (λ x. x == c) rest ≡ slice_split (λ x. x == c) other = cc in (
-      first,
-      pieces_joined c rest (slice_split (λ x. x == c) other) more
-          ∙ sym (pieces_joined c other (slice_split (λ x. x == c) other) refl),
-    )
-
-abbrev HasRange : Option (ℕ × ℕ) → Type 0
-HasRange told = IfSome told (λ range. FitsIn64Bits range.0 × FitsIn64Bits range.1)
 
 same_pair : (a b c d : ℕ) → a ≡ c → b ≡ d
     → ◌≡◌ {A = Option (ℕ × ℕ)} (Some (a, b)) (Some (c, d))
 same_pair a b c d e f = cc
 
-same_told : (x y : Option (ℕ × ℕ)) → HasRange x → HasRange y → drop 1 (told_part x) ≡ drop 1 (told_part y) → x ≡ y
+-- two numbers, each before what no digit begins, are the same where the texts are
+same_numbers : (n m : ℕ) (rest other : List ℕ) → FitsIn64Bits n → FitsIn64Bits m → decimal n ++ rest ≡ decimal m ++ other
+    → begins_otherwise rest ≡ true → begins_otherwise other ≡ true → (n ≡ m) × (rest ≡ other)
+same_numbers n m rest other h k e hr ho =
+    let both = cut_digits (decimal n) (decimal m) rest other (are_digits n h) (are_digits m k) hr ho e in
+    (decimal_injective n m h k both.0, both.1)
+
+-- and so are two numbers that end their texts, where these are the same from the first digit on
+same_last : (n m : ℕ) → FitsIn64Bits n → FitsIn64Bits m → from_digit (decimal n) ≡ from_digit (decimal m) → n ≡ m
+same_last n m h k e =
+    let texts : from_digit (decimal n ++ []) ≡ from_digit (decimal m ++ []) =
+    ap from_digit (append-nil (decimal n)) ∙ (e ∙ sym (ap from_digit (append-nil (decimal m)))) in
+    (same_numbers n m [] [] h k (sym (from_number n [] h) ∙ (texts ∙ from_number m [] k)) refl refl).0
+
+-- that there are no entries is not told as some are
+some_or_none : (range : ℕ × ℕ) → HasRange (Some range) → told_part None ≡ told_part (Some range) → ⊥
+some_or_none range h e =
+    let words_same = simp no_words at (ap words e ∙ told_words (Some range) h) in
+    let wrong : true ≡ false = ap (same (words (told_part None))) words_same in
+    absurd (cc (wrong))
+
+same_told : (x y : Option (ℕ × ℕ)) → HasRange x → HasRange y → told_part x ≡ told_part y → x ≡ y
 same_told None None h k e = refl
-same_told None (Some y) h k e = absurd (omega (arith, ap five e))
-same_told (Some x) None h k e = absurd (omega (arith, ap five e))
+same_told None (Some y) h k e = absurd (some_or_none y k e)
+same_told (Some x) None h k e = absurd (some_or_none x h (sym e))
 same_told (Some x) (Some y) h k e =
-    let behind : decimal x.0 ++ 32 ∷ (codes "to " ++ decimal x.1) ≡ decimal y.0 ++ 32 ∷ (codes "to " ++ decimal y.1) =
-    sym (append_assoc (decimal x.0) (codes " to ") (decimal x.1))
-    ∙ (ap (drop 9) e ∙ append_assoc (decimal y.0) (codes " to ") (decimal y.1)) in
-    let both =
-    cut_at 32 (decimal x.0) (decimal y.0) (codes "to " ++ decimal x.1) (codes "to " ++ decimal y.1)
-    (decimal_lacks 32 x.0 refl h.0) (decimal_lacks 32 y.0 refl k.0) behind in
-    let last : decimal x.1 ≡ decimal y.1 = ap (drop 3) both.1 in
-    same_pair x.0 x.1 y.0 y.1 (decimal_injective x.0 y.0 h.0 k.0 both.0) (decimal_injective x.1 y.1 h.1 k.1 last)
+    let low : FitsIn64Bits x.0 = h.0 in
+    let low_other : FitsIn64Bits y.0 = k.0 in
+    let texts = rw (append_assoc (decimal x.0), append_assoc (decimal y.0), from_number x.0, from_number y.0) at (ap from_digit e) in
+    let first = same_numbers x.0 y.0 _ _ low low_other texts refl refl in
+    let last = same_last x.1 y.1 h.1 k.1 (ap from_digit first.1) in
+    same_pair x.0 x.1 y.0 y.1 first.0 last
 
-abbrev answer_line : ℕ → Option (ℕ × ℕ) → List ℕ
-answer_line to told = codes "answer to " ++ decimal to ++ told_part told
-
-colon_first : (told : Option (ℕ × ℕ)) → told_part told ≡ 58 ∷ drop 1 (told_part told)
-colon_first None = refl
-colon_first (Some range) = refl
+told_begins : (told : Option (ℕ × ℕ)) → begins_otherwise (told_part told) ≡ true
+told_begins None = refl
+told_begins (Some range) = refl
 
 same_answer : (to other : ℕ) (x y : Option (ℕ × ℕ)) → FitsIn64Bits to → FitsIn64Bits other → HasRange x → HasRange y
-    → answer_line to x ≡ answer_line other y → (to ≡ other) × (x ≡ y)
+    → answer_text to x ≡ answer_text other y → (to ≡ other) × (x ≡ y)
 same_answer to other x y a b h k e =
-    let behind : decimal to ++ told_part x ≡ decimal other ++ told_part y = ap (drop 10) e in
-    let cut : decimal to ++ 58 ∷ drop 1 (told_part x) ≡ decimal other ++ 58 ∷ drop 1 (told_part y) =
-    ap (λ (t : List ℕ). decimal to ++ t) (sym (colon_first x))
-    ∙ (behind ∙ ap (λ (t : List ℕ). decimal other ++ t) (colon_first y)) in
-    let both =
-    cut_at 58 (decimal to) (decimal other) (drop 1 (told_part x)) (drop 1 (told_part y))
-    (decimal_lacks 58 to refl a) (decimal_lacks 58 other refl b) cut in
-    (decimal_injective to other a b both.0, same_told x y h k both.1)
+    let texts : decimal to ++ told_part x ≡ decimal other ++ told_part y =
+    sym (from_number to (told_part x) a) ∙ (ap from_digit e ∙ from_number other (told_part y) b) in
+    let both = same_numbers to other (told_part x) (told_part y) a b texts (told_begins x) (told_begins y) in
+    (both.0, same_told x y h k both.1)
 
 -- ---- outcomes that share a line
 
@@ -135,7 +129,7 @@ answers_alike : (a b : Outcome) → IsAnswer a → IsAnswer b → HasNumbers a �
 answers_alike a b (to, p, first) (other, q, second) h k e =
     let ha : HasNumbers (outcome.Took (take.Answer to p)) = subst HasNumbers first h in
     let kb : HasNumbers (outcome.Took (take.Answer other q)) = subst HasNumbers second k in
-    let lines : answer_line to (entries_told p) ≡ answer_line other (entries_told q) =
+    let lines : answer_text to (entries_told p) ≡ answer_text other (entries_told q) =
     ap outcome_text (sym first) ∙ (e ∙ ap outcome_text second) in
     let both = same_answer to other (entries_told p) (entries_told q) ha.0 kb.0 ha.1 kb.1 lines in
     record {
@@ -171,7 +165,7 @@ told_apart a b h k e = by_cases (stands a) (stands b)
 
 -- ---- those lines are the same
 
-memory_text : (o : Outcome) → is_memory o ≡ true → outcome_text o ≡ codes "out of memory"
+memory_text : (o : Outcome) → is_memory o ≡ true → outcome_text o ≡ outcome_text outcome.Memory
 memory_text (outcome.Due (Ok n)) h = absurd cc
 memory_text (outcome.Due (Err due_fault.NothingDue)) h = absurd cc
 memory_text (outcome.Due (Err due_fault.WordRefused)) h = absurd cc
@@ -208,11 +202,11 @@ memory_text outcome.SaveFault h = absurd cc
 memory_text (outcome.RestoreFault why) h = absurd cc
 memory_text outcome.Memory h = refl
 
-nothing_text : (o : Outcome) → IsNothing o → outcome_text o ≡ codes "nothing"
+nothing_text : (o : Outcome) → IsNothing o → outcome_text o ≡ outcome_text (outcome.Learned learn.Nothing)
 nothing_text o (inl is) = ap outcome_text is
 nothing_text o (inr is) = ap outcome_text is
 
-other_text : (o : Outcome) → IsOtherMatch o → outcome_text o ≡ codes "other match"
+other_text : (o : Outcome) → IsOtherMatch o → outcome_text o ≡ outcome_text (outcome.Learned learn.OtherMatch)
 other_text o (inl is) = ap outcome_text is
 other_text o (inr is) = ap outcome_text is
 
@@ -222,7 +216,7 @@ told_alike a b (inr (inl h)) = memory_text a h.0 ∙ sym (memory_text b h.1)
 told_alike a b (inr (inr (inl h))) = other_text a h.0 ∙ sym (other_text b h.1)
 told_alike a b (inr (inr (inr (inl h)))) = nothing_text a h.0 ∙ sym (nothing_text b h.1)
 told_alike a b (inr (inr (inr (inr h)))) =
-    ap outcome_text h.first ∙ (ap (answer_line h.party) h.same ∙ sym (ap outcome_text h.second))
+    ap outcome_text h.first ∙ (ap (answer_text h.party) h.same ∙ sym (ap outcome_text h.second))
 
 pub texts_differ : OutcomeTextsDiffer
 texts_differ a b h k = (told_apart a b h k, told_alike a b)

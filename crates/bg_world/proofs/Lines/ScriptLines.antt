@@ -4,10 +4,10 @@ use Rattle.std.specs.Prelude.{◌⊎◌, map, take, IfSome}
 use Rattle.std.specs.List.{AllByRecursion}
 use Rattle.std.proofs.lemmas.Grind.{flat_map-append}
 use Rattle.std.proofs.lemmas.List.{append-nil, map-append, take_all}
+use Rattle.bg_streams.specs.Transfers.{IsReadOf}
 use Rattle.bg_text.specs.Boards.BoardText.{line_text, lines_text}
 use Rattle.bg_text.specs.Judge.Judging.{lines_of}
 use Rattle.bg_text.specs.Limits.{most_bytes}
-use Rattle.bg_text.specs.Streams.Transfers.{IsReadOf}
 use Rattle.bg_text.specs.declared.faults.TextFault.{TextFault}
 use Rattle.bg_text.specs.declared.judging.verdicts.Verdict.{Verdict}
 use Rattle.bg_text.specs.declared.judging.verdicts.Verdict.TheVariants.{Fine}
@@ -145,7 +145,7 @@ none_happen lh kh old new (o ∷ outcomes) h = absurd h
 
 -- ---- what is printed of what is read is printed of the bytes
 
-text_whole : (lh kh : Type 0) (old : WorldView) (bytes input text : List ℕ) (verdict : Verdict) → IsReadOf input bytes
+text_whole : (lh kh : Type 0) (old : WorldView) (bytes input text : List ℕ) (verdict : Verdict) → IsReadOf most_bytes input bytes
     → IsTextFrom lh kh old input text verdict → IsTextFrom lh kh old bytes text verdict
 text_whole lh kh old bytes input text verdict read from =
     let long : length input ≡ length (take (most_bytes + 1) bytes) = ap length read in
@@ -163,7 +163,7 @@ text_whole lh kh old bytes input text verdict read from =
     ]
 
 pub script_known : (setup : Setup) (u : Option (List ℕ)) (input text : List ℕ) (verdict : Verdict)
-    → IfSome u (IsReadOf input) → IsScriptText setup input text verdict
+    → IfSome u (IsReadOf most_bytes input) → IsScriptText setup input text verdict
     → IfSome u (λ bytes. IsScriptText setup bytes text verdict)
 script_known setup None input text verdict read h = tt
 script_known setup (Some bytes) input text verdict read (plan, empty, from) =

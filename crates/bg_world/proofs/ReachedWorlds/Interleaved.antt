@@ -1,5 +1,5 @@
 -- A run of processes is a run of the protocol.
-use Rattle.std.specs.Prelude.{◌≡◌, ℕ, ◌+◌, List, [], ◌∷◌, IfSome, ⊤}
+use Rattle.std.specs.Prelude.{◌≡◌, ◌+◌, List, [], ◌∷◌, IfSome, ⊤}
 use Rattle.std.proofs.Common.{refl, sym, ap₂, subst, ◌∙◌}
 use Rattle.std.proofs.lemmas.List.Elements.{All-nil}
 use Rattle.bg_wire.specs.Entries.Codes.{first_watcher, seat_of_o, seat_of_x}

@@ -1,4 +1,4 @@
--- Which party has which part.
+-- Which party has which role.
 use Rattle.std.specs.Prelude.{ℕ, zero, suc}
 use Rattle.bg_board.specs.declared.players.Player.TheVariants.{X, O}
 use Rattle.bg_world.specs.declared.roles.Role.{Role}

@@ -1,6 +1,6 @@
 -- The words of faults.
 use Rattle.std.specs.Prelude.{ℕ, List, codes}
-use Rattle.bg_text.specs.FaultWords.{engine_fault_words}
+use Rattle.bg_streams.specs.FaultWords.{engine_fault_words}
 use Rattle.bg_world.specs.declared.devices.DeviceFault.{DeviceFault}
 use Rattle.bg_world.specs.declared.devices.DeviceFault.TheVariants as device_fault
 use Rattle.bg_world.specs.declared.worlds.setups.WorldFault.{WorldFault}

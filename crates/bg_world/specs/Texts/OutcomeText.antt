@@ -43,10 +43,13 @@ abbrev pub told_part : Option (ℕ × ℕ) → List ℕ
 told_part (Some range) = codes ": entries " ++ decimal range.0 ++ codes " to " ++ decimal range.1
 told_part None = codes ": no entries"
 
+abbrev pub answer_text : ℕ → Option (ℕ × ℕ) → List ℕ
+answer_text to told = codes "answer to " ++ decimal to ++ told_part told
+
 abbrev pub took_text : TakeOutcome → List ℕ
 took_text take.OtherMatch = codes "other match"
 took_text take.Nothing = codes "nothing"
-took_text (take.Answer to p) = codes "answer to " ++ decimal to ++ told_part (entries_told p)
+took_text (take.Answer to p) = answer_text to (entries_told p)
 took_text take.Ahead = codes "ahead"
 took_text take.NotYourTurn = codes "not your turn"
 took_text take.WordRefused = codes "word refused"

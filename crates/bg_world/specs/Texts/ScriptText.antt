@@ -2,13 +2,13 @@
 use Rattle.std.specs.Prelude.{◌≡◌, ◌⊎◌, ℕ, ◌+◌, ◌<◌, ◌≤◌, List, ◌∷◌, ◌++◌, length, map, Result, Err, codes}
 use Rattle.std.specs.Fmt.{decimal}
 use Rattle.std.specs.List.{AllByRecursion}
+use Rattle.bg_streams.specs.declared.faults.EngineFault.TheVariants as engine
 use Rattle.bg_text.specs.Boards.BoardText.{line_text, lines_text}
 use Rattle.bg_text.specs.Judge.Judging.{IsTooLong, lines_of}
 use Rattle.bg_text.specs.Limits.{most_bytes}
 use Rattle.bg_text.specs.Judge.Reason.{text_reason}
 use Rattle.bg_text.specs.declared.faults.TextFault.{TextFault}
 use Rattle.bg_text.specs.declared.faults.TextFault.TheVariants.{NotALine}
-use Rattle.bg_text.specs.declared.judging.verdicts.EngineFault.TheVariants as engine
 use Rattle.bg_text.specs.declared.judging.verdicts.Verdict.{Verdict}
 use Rattle.bg_text.specs.declared.judging.verdicts.Verdict.TheVariants.{Fine, Refused}
 use Rattle.bg_world.specs.Texts.EventText.{IsEvent, IsEventTextFault, event_text}

@@ -52,11 +52,11 @@ memory_view w = record {
   terms = w.terms;
   link = memory_link_view w.link;
   referee_keeper = memory_keeper_view w.referee.keeper;
-  x_keeper = memory_keeper_view w.x.keeper;
-  o_keeper = memory_keeper_view w.o.keeper;
+  x_keeper = memory_keeper_view w.seats.x.keeper;
+  o_keeper = memory_keeper_view w.seats.o.keeper;
   referee = w.referee.core;
-  x = w.x.core;
-  o = w.o.core;
+  x = w.seats.x.core;
+  o = w.seats.o.core;
   watchers = w.watchers;
 }
 

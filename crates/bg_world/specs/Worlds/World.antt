@@ -10,10 +10,10 @@ view_of l k w = record {
   terms = w.terms;
   link = link_view l w.link;
   referee_keeper = keeper_view k w.referee.keeper;
-  x_keeper = keeper_view k w.x.keeper;
-  o_keeper = keeper_view k w.o.keeper;
+  x_keeper = keeper_view k w.seats.x.keeper;
+  o_keeper = keeper_view k w.seats.o.keeper;
   referee = w.referee.core;
-  x = w.x.core;
-  o = w.o.core;
+  x = w.seats.x.core;
+  o = w.seats.o.core;
   watchers = w.watchers;
 }

@@ -7,7 +7,7 @@ use crate::devices::notes::count_failed;
 use crate::devices::plans::{find_read_failure, find_tear};
 use crate::devices::slot_texts::SlotTexts;
 use crate::{DeviceFault, FailRead, Keeper, Tear};
-use bg_text::History;
+use bg_streams::History;
 use bg_wire::Slot;
 use std::alloc::Global;
 

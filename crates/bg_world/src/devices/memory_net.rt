@@ -8,7 +8,7 @@ use crate::devices::plans::find_failure;
 use crate::devices::sent_datagrams::SentDatagrams;
 use crate::{DeviceFault, FailSend, Link, Taken};
 use arrayvec::ArrayVec;
-use bg_text::History;
+use bg_streams::History;
 use bg_wire::Datagram;
 use std::alloc::Global;
 

@@ -5,7 +5,7 @@ ghost use Rattle.bg_world.specs.Devices.Handed.{noted, noted_answer};
 
 use crate::{DeviceFault, Taken};
 use arrayvec::ArrayVec;
-use bg_text::History;
+use bg_streams::History;
 
 /// The bytes that a take gave, if it gave any.
 pub(crate) fn note_bytes(taken: &Option<ArrayVec<u8, 256>>) -> Option<History>

@@ -2,7 +2,8 @@
 use crate::tests::event_rows::check_no_growth_is_left;
 use crate::{ScriptFault, Setup, WorldFault, script};
 use bg_match::Rules;
-use bg_text::{EngineFault, MOST_BYTES, Reading, Verdict, Writing};
+use bg_streams::{EngineFault, Reading, Writing};
+use bg_text::{MOST_BYTES, Verdict};
 use std::alloc::Global;
 use std::process::Abort;
 use std::test::Fail;

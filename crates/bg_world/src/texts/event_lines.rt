@@ -7,7 +7,7 @@ ghost use Rattle.bg_world.specs.declared.texts.event_lines.EventKind.TheVariants
 ghost use Rattle.bg_world.specs.declared.events.Event.{Event};
 
 use crate::Event;
-use crate::texts::numbers::read_number;
+use crate::texts::numbers::read_up_to;
 use bg_text::{TextFault, parse_action, split_player, thirds};
 
 /// The kinds of events.
@@ -44,7 +44,7 @@ fn split_kind(line: &[u8]) -> Option<(EventKind, &[u8])>
 fn read_party(word: &[u8]) -> Result<u8, TextFault>
     ensures { IsNumberUpTo greatest_party word.now result }
 {
-    match read_number(word, u64::from(u8::MAX)) {
+    match read_up_to(word, u64::from(u8::MAX)) {
         Ok(number) => Ok(number as u8),
         Err(fault) => Err(fault),
     }
@@ -54,7 +54,7 @@ fn read_party(word: &[u8]) -> Result<u8, TextFault>
 fn read_word(word: &[u8]) -> Result<u32, TextFault>
     ensures { IsNumberUpTo greatest_word word.now result }
 {
-    match read_number(word, u64::from(u32::MAX)) {
+    match read_up_to(word, u64::from(u32::MAX)) {
         Ok(number) => Ok(number as u32),
         Err(fault) => Err(fault),
     }

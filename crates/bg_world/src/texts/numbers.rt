@@ -38,7 +38,7 @@ fn is_written(word: &[u8], number: u64) -> bool
 }
 
 /// The number, up to `most`, that one to ten digits write. A leading zero before another digit is a wrong number.
-pub(crate) fn read_number(word: &[u8], most: u64) -> Result<u64, TextFault>
+pub(crate) fn read_up_to(word: &[u8], most: u64) -> Result<u64, TextFault>
     ensures { IsNumberUpTo most word.now result }
 {
     let Some(value) = value_of(word) else {

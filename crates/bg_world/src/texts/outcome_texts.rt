@@ -2,7 +2,7 @@
 ghost use Rattle.std.specs.Prelude.{◌≡◌, ◌≤◌, ◌++◌, length, codes};
 ghost use Rattle.std.specs.Fmt.{decimal};
 ghost use Rattle.bg_wire.specs.FaultWords.{numbered, wire_fault_words};
-ghost use Rattle.bg_world.specs.Texts.OutcomeText.{OutcomeTextsDiffer, cause_words, choose_reason, chose_text, due_text, entries_told, learned_text, outcome_text, told_part, took_text};
+ghost use Rattle.bg_world.specs.Texts.OutcomeText.{OutcomeTextsDiffer, answer_text, cause_words, choose_reason, chose_text, due_text, entries_told, learned_text, outcome_text, took_text};
 
 use crate::{Outcome, RestoreCause};
 use arrayvec::ArrayString;
@@ -120,7 +120,7 @@ fn told(packet: &Packet) -> Option<(Number, u64)>
 }
 
 fn answer_text(to: u8, packet: &Packet) -> Line
-    ensures { result.bytes ≡ codes "answer to " ++ decimal to ++ told_part (entries_told packet.now) }
+    ensures { result.bytes ≡ answer_text to (entries_told packet.now) }
 {
     let mut digits = Buffer::new();
     let mut line = words("answer to ");

@@ -1,10 +1,10 @@
 //! Scripts: lists of events, and what they come to.
 ghost use Rattle.std.specs.Prelude.{◌≡◌, ◌≢◌, ◌≤◌, ◌++◌, ◌+◌, ℕ, length, List, Ok, Err, IfErr, IfOk, IfSome, MatchResult, OnOk};
+ghost use Rattle.bg_streams.specs.EngineFault.{SinkFails, SourceFails};
+ghost use Rattle.bg_streams.specs.Transfers.{ReadsInput, WritesText};
 ghost use Rattle.bg_text.specs.Boards.BoardText.{line_text};
-ghost use Rattle.bg_text.specs.Streams.EngineFault.{SinkFails, SourceFails};
 ghost use Rattle.bg_text.specs.Judge.Judging.{lines_of};
 ghost use Rattle.bg_text.specs.Limits.{most_bytes};
-ghost use Rattle.bg_text.specs.Streams.Transfers.{ReadsInput, WritesText};
 ghost use Rattle.bg_world.specs.Texts.OutcomeText.{outcome_text};
 ghost use Rattle.bg_world.specs.Texts.ScriptText.{IsScriptFault, IsScriptText, IsTextFrom, SinkFailsOnce};
 ghost use Rattle.bg_world.specs.Texts.ScriptText.{SourceFailsOnce, event_reason, refused_event_line};
@@ -19,10 +19,8 @@ use crate::{
     Keeper, Link, MemoryKeeper, MemoryNet, Outcome, Plan, Setup, World, WorldFault, final_text,
     outcome_text, parse_event, simulate,
 };
-use bg_text::{
-    EngineFault, MOST_BYTES, Sink, Source, TextFault, Verdict, put_number, put_text, read_input,
-    split_line, too_long,
-};
+use bg_streams::{EngineFault, Sink, Source, read_input, write_text};
+use bg_text::{MOST_BYTES, TextFault, Verdict, put_number, put_text, split_line, too_long};
 use std::alloc::{AllocError, Global};
 use thiserror::Error;
 
@@ -131,7 +129,7 @@ fn carry<L: Link, K: Keeper, S: Source, T: Sink>(
     sink: &mut T,
 ) -> Result<Verdict, EngineFault>
     ensures printed { IfOk result (λ verdict. (input : List ℕ) × (text : List ℕ)
-        × ReadsInput S.Source source.old source.new input
+        × ReadsInput most_bytes S.Source source.old source.new input
         × IsTextFrom L.is_honest K.is_honest (view_of L.Link K.Keeper world.old) input text verdict
         × WritesText T.Sink sink.old sink.new text) }
     ensures untaken { IfErr result (λ _. T.taken sink.new ≡ T.taken sink.old) }
@@ -141,11 +139,9 @@ fn carry<L: Link, K: Keeper, S: Source, T: Sink>(
     ensures source { SourceFails result (S.failures source.old) (S.failures source.new) }
     ensures sink { SinkFails result (T.failures sink.old) (T.failures sink.new) }
 {
-    let input = read_input(alloc, source)?;
+    let input = read_input(alloc, source, MOST_BYTES)?;
     let printed = printed(alloc, world, &input).map_err(|_| EngineFault::Memory)?;
-    sink.write_all(&printed.text)
-        .map_err(|_| EngineFault::Write)?;
-    sink.flush().map_err(|_| EngineFault::Write)?;
+    write_text(sink, &printed.text).map_err(|_| EngineFault::Write)?;
     Ok(printed.verdict)
 }
 
@@ -190,7 +186,7 @@ pub fn script<S: Source, T: Sink>(
     setup: Setup,
 ) -> Result<Verdict, ScriptFault>
     ensures printed { IfOk result (λ verdict. (input : List ℕ) × (text : List ℕ)
-        × ReadsInput S.Source source.old source.new input × IsScriptText setup input text verdict
+        × ReadsInput most_bytes S.Source source.old source.new input × IsScriptText setup input text verdict
         × WritesText T.Sink sink.old sink.new text
         × IfSome (S.remaining source.old) (λ bytes. IsScriptText setup bytes text verdict)) }
     ensures refusal { MatchResult result (λ _. IsSetup setup.id (terms_in setup) setup.watchers)

@@ -1,6 +1,5 @@
 //! One event, at the node of the party that it names.
-ghost use Rattle.std.specs.Prelude.{◌≡◌, ◌+◌, ℕ};
-ghost use Rattle.bg_board.specs.declared.players.Player.{Player};
+ghost use Rattle.std.specs.Prelude.{◌+◌, ℕ};
 ghost use Rattle.bg_wire.specs.Entries.Codes.{first_watcher};
 ghost use Rattle.bg_wire.specs.Parties.{party_of};
 ghost use Rattle.bg_world.specs.declared.roles.Role.TheVariants as roles;
@@ -10,6 +9,7 @@ use bg_board::Player;
 use bg_match::Action;
 
 impl<L: Link, K: Keeper> World<L, K> {
+    ghost use Rattle.bg_world.specs.Protocol.Roles.{role};
     ghost use Rattle.bg_world.specs.Worlds.Calls.{Calls, ChooseCalls, DueCalls, RestartCalls, SaveCalls, TakeCalls, TickCalls};
     ghost use Rattle.bg_world.specs.Worlds.NotRefused.{IsNotRefused};
     ghost use Rattle.bg_world.specs.Worlds.World.{view_of};
@@ -40,11 +40,11 @@ impl<L: Link, K: Keeper> World<L, K> {
     {
         match event {
             Event::Due { word } => self.due(word),
-            Event::Take { party, pick, word } => self.take(Role::of(party), party, pick, word),
+            Event::Take { party, pick, word } => self.take(party, pick, word),
             Event::Choose { seat, action } => self.choose(seat, action),
-            Event::Save { party } => self.save(Role::of(party)),
-            Event::Tick { party } => self.tick(Role::of(party)),
-            Event::Restart { party } => self.restart(Role::of(party), party),
+            Event::Save { party } => self.save(party),
+            Event::Tick { party } => self.tick(party),
+            Event::Restart { party } => self.restart(party),
         }
     }
 
@@ -60,85 +60,86 @@ impl<L: Link, K: Keeper> World<L, K> {
         ensures { ChooseCalls (view_of L.Link K.Keeper self.old) player action
             result (view_of L.Link K.Keeper self.new) }
     {
-        match player {
-            Player::X => self.x.choose(action),
-            Player::O => self.o.choose(action),
-        }
+        self.seats.of_mut(player).choose(action)
     }
 
-    /// The party of this part takes what the link gives for this pick.
-    fn take(&mut self, part: Role, party: u8, pick: u32, word: u32) -> Outcome
-        requires seat { (player : Player) → part ≡ roles.Seat player → party ≡ party_of player }
-        requires watcher { (index : ℕ) → part ≡ roles.Watcher index → party ≡ first_watcher + index }
-        ensures { TakeCalls L.is_honest (view_of L.Link K.Keeper self.old) part party pick word
+    /// A party takes what the link gives for this pick.
+    fn take(&mut self, party: u8, pick: u32, word: u32) -> Outcome
+        ensures { TakeCalls L.is_honest (view_of L.Link K.Keeper self.old) (role party) party pick word
             result (view_of L.Link K.Keeper self.new) }
     {
         let parties = self.parties();
-        match part {
+        match Role::of(party) {
             Role::Referee => self.referee.take(&mut self.link, parties, pick, word),
-            Role::Seat(Player::X) => self.x.take(&mut self.link, pick),
-            Role::Seat(Player::O) => self.o.take(&mut self.link, pick),
+            Role::Seat(player) => self.take_at_seat(player, pick),
             Role::Watcher(index) => self.watchers.take(&mut self.link, index, pick),
         }
     }
 
-    /// The party of this part sends what its core gives.
-    fn tick(&mut self, part: Role) -> Outcome
-        ensures { TickCalls L.is_honest (view_of L.Link K.Keeper self.old) part
+    fn take_at_seat(&mut self, player: Player, pick: u32) -> Outcome
+        ensures { (word : ℕ) → TakeCalls L.is_honest (view_of L.Link K.Keeper self.old) (roles.Seat player)
+            (party_of player) pick word result (view_of L.Link K.Keeper self.new) }
+    {
+        self.seats.of_mut(player).take(&mut self.link, pick)
+    }
+
+    /// A party sends what its core gives.
+    fn tick(&mut self, party: u8) -> Outcome
+        ensures { TickCalls L.is_honest (view_of L.Link K.Keeper self.old) (role party)
             result (view_of L.Link K.Keeper self.new) }
     {
         let parties = self.parties();
-        match part {
+        match Role::of(party) {
             Role::Referee => self.referee.tick(&mut self.link, parties),
-            Role::Seat(Player::X) => self.x.tick(&mut self.link, parties),
-            Role::Seat(Player::O) => self.o.tick(&mut self.link, parties),
+            Role::Seat(player) => self.tick_seat(player),
             Role::Watcher(index) => self.watchers.tick(&mut self.link, parties, index),
         }
     }
 
-    /// The party of this part saves.
-    fn save(&mut self, part: Role) -> Outcome
-        ensures { SaveCalls K.is_honest (view_of L.Link K.Keeper self.old) part
+    fn tick_seat(&mut self, player: Player) -> Outcome
+        ensures { TickCalls L.is_honest (view_of L.Link K.Keeper self.old) (roles.Seat player)
             result (view_of L.Link K.Keeper self.new) }
     {
-        match part {
+        let parties = self.parties();
+        self.seats.of_mut(player).tick(&mut self.link, parties)
+    }
+
+    /// A party saves.
+    fn save(&mut self, party: u8) -> Outcome
+        ensures { SaveCalls K.is_honest (view_of L.Link K.Keeper self.old) (role party)
+            result (view_of L.Link K.Keeper self.new) }
+    {
+        match Role::of(party) {
             Role::Referee => self.referee.save(),
-            Role::Seat(player) => self.save_seat_of(player),
+            Role::Seat(player) => self.save_seat(player),
             Role::Watcher(_) => Outcome::NoSuchParty,
         }
     }
 
-    fn save_seat_of(&mut self, player: Player) -> Outcome
+    fn save_seat(&mut self, player: Player) -> Outcome
         ensures { SaveCalls K.is_honest (view_of L.Link K.Keeper self.old) (roles.Seat player)
             result (view_of L.Link K.Keeper self.new) }
     {
-        match player {
-            Player::X => self.x.save(),
-            Player::O => self.o.save(),
-        }
+        self.seats.of_mut(player).save()
     }
 
-    /// The party of this part begins again.
-    fn restart(&mut self, part: Role, party: u8) -> Outcome
-        requires { (index : ℕ) → part ≡ roles.Watcher index → party ≡ first_watcher + index }
-        ensures { RestartCalls K.is_honest (view_of L.Link K.Keeper self.old) part party
+    /// A party begins again.
+    fn restart(&mut self, party: u8) -> Outcome
+        ensures { RestartCalls K.is_honest (view_of L.Link K.Keeper self.old) (role party) party
             result (view_of L.Link K.Keeper self.new) }
     {
-        match part {
+        match Role::of(party) {
             Role::Referee => self.referee.restart(),
-            Role::Seat(player) => self.restart_seat_of(player),
+            Role::Seat(player) => self.restart_seat(player),
             Role::Watcher(index) => self.restart_watcher(index),
         }
     }
 
-    fn restart_seat_of(&mut self, player: Player) -> Outcome
+    fn restart_seat(&mut self, player: Player) -> Outcome
         ensures { (party : ℕ) → RestartCalls K.is_honest (view_of L.Link K.Keeper self.old) (roles.Seat player) party
             result (view_of L.Link K.Keeper self.new) }
     {
-        match player {
-            Player::X => self.x.restart(),
-            Player::O => self.o.restart(),
-        }
+        self.seats.of_mut(player).restart()
     }
 
     fn restart_watcher(&mut self, index: usize) -> Outcome

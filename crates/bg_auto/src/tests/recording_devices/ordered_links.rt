@@ -5,7 +5,7 @@ ghost use Rattle.bg_world.specs.Devices.Handed.{noted_answer};
 
 use super::{Call, Recorder, Says};
 use arrayvec::ArrayVec;
-use bg_text::History;
+use bg_streams::History;
 use bg_wire::{Datagram, Packet, decode};
 use bg_world::{DeviceFault, Link, Taken, count_failed, note_taken};
 

@@ -4,7 +4,7 @@ ghost use Rattle.bg_world.specs.Devices.Honesty.{CountsFailed, HasCause};
 ghost use Rattle.bg_world.specs.Protocol.Slots.{empty_slots};
 
 use super::{Call, Recorder};
-use bg_text::History;
+use bg_streams::History;
 use bg_wire::{Slot, load};
 use bg_world::{DeviceFault, Keeper, count_failed};
 

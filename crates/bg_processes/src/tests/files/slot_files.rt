@@ -1,10 +1,11 @@
 //! Which file has what: single calls of the files of a match, and the first rounds.
+use crate::Failures;
 use crate::files::file_keepers::FileKeeper;
 use crate::loops::run_loop;
 use crate::tests::helpers::folders::new_folder;
 use crate::tests::helpers::stand_ins::StandIn;
 use bg_match::Rules;
-use bg_text::Writing;
+use bg_streams::Writing;
 use bg_wire::{Slot, load};
 use bg_world::{DeviceFault, Keeper};
 use std::io::ErrorKind;
@@ -43,12 +44,13 @@ fn count(rt: &HostRuntime, folder: &str) -> io::Result<usize> {
 #[test]
 fn files_of_slots(rt: HostRuntime) -> Result<(), Fail> {
     let folder = new_folder(&rt, "files-of-slots")?;
+    let failures = Failures::new();
     for (party, zero, one) in [
         (0, "party-0.0", "party-0.1"),
         (1, "party-1.0", "party-1.1"),
         (2, "party-2.0", "party-2.1"),
     ] {
-        let mut keeper = FileKeeper::new(&rt, folder.as_str(), party)?;
+        let mut keeper = FileKeeper::new(&rt, folder.as_str(), party, &failures)?;
         assert!(rt; reads(&mut keeper, Slot::Zero, b"") && reads(&mut keeper, Slot::One, b""));
         assert!(rt; keeper.write(Slot::One, b"the longer text") == Ok(()));
         assert!(rt; has(&rt, folder.as_str(), one, b"the longer text")?);
@@ -67,13 +69,13 @@ fn files_of_slots(rt: HostRuntime) -> Result<(), Fail> {
     Ok(())
 }
 
-/// Where a file can't be opened, want of memory is told from other failures, by reads as by writes; it is said each
-/// time that it begins.
+/// Where a file can't be opened, want of memory is told from other failures, by reads as by writes.
 #[test]
 fn files_that_fail(rt: HostRuntime) -> Result<(), Fail> {
     let folder = new_folder(&rt, "files-that-fail")?;
     let files = StandIn::new(&rt, 0);
-    let mut keeper = FileKeeper::new(&files, folder.as_str(), 1)?;
+    let failures = Failures::new();
+    let mut keeper = FileKeeper::new(&files, folder.as_str(), 1, &failures)?;
     for (kind, fault) in [
         (ErrorKind::OutOfMemory, DeviceFault::Memory),
         (ErrorKind::PermissionDenied, DeviceFault::Failed),
@@ -104,6 +106,7 @@ fn play_a_round(rt: &HostRuntime, folder: &str) -> Result<(), Fail> {
         Rules::One,
         1,
         folder,
+        &Failures::new(),
         &mut Writing::new(&mut text),
     )?;
     Ok(())

@@ -4,7 +4,8 @@ ghost use Rattle.bg_world.specs.Devices.Honesty.{CountsFailed, HasCause};
 ghost use Rattle.bg_world.specs.Devices.Handed.{noted_answer};
 ghost use Rattle.bg_world.specs.Protocol.Slots.{empty_slots};
 
-use bg_text::History;
+use crate::Failures;
+use bg_streams::History;
 use bg_wire::{Datagram, Slot};
 use bg_world::{DeviceFault, Keeper, Link, Taken, count_failed, note_taken};
 use std::cell::Cell;
@@ -18,6 +19,8 @@ pub(crate) struct Calls {
     pub(crate) made: Cell<u32>,
     /// Whether the one that failed was a read.
     pub(crate) failed_to_read: Cell<bool>,
+    /// What the devices noted.
+    pub(crate) failures: Failures,
 }
 
 impl Calls {
@@ -26,6 +29,7 @@ impl Calls {
             failing,
             made: Cell::new(0),
             failed_to_read: Cell::new(false),
+            failures: Failures::new(),
         }
     }
 

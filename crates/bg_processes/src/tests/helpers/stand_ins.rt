@@ -1,16 +1,13 @@
 //! A runtime that stands in for the system's: it has so many sockets and no more, and opens files or none.
 use std::alloc::{Alloc, Allocator, Global};
 use std::cell::{Cell, RefCell};
-use std::fmt::Display;
 use std::fs::{File, Metadata, OpenOptions};
 use std::io;
 use std::io::ErrorKind;
 use std::net::{Net, SocketAddr, TcpListener, TcpStream, UdpSocket};
 use std::rt::Files;
-use std::time::{Clock, Duration};
 
-/// The system's files and sockets, as far as this lets them through. It says nothing on the standard error, but counts
-/// what is said.
+/// The system's files and sockets, as far as this lets them through.
 #[derive(Drop)]
 pub(crate) struct StandIn<'a> {
     rt: &'a HostRuntime,
@@ -22,8 +19,6 @@ pub(crate) struct StandIn<'a> {
     bound: RefCell<Vec<SocketAddr>>,
     /// Another handle of each of them.
     sockets: RefCell<Vec<UdpSocket>>,
-    /// How many lines were said.
-    pub(crate) said: Cell<u32>,
 }
 
 impl<'a> StandIn<'a> {
@@ -35,7 +30,6 @@ impl<'a> StandIn<'a> {
             files_fail: Cell::new(None),
             bound: RefCell::new(Vec::new(rt.alloc())),
             sockets: RefCell::new(Vec::new(rt.alloc())),
-            said: Cell::new(0),
         }
     }
 
@@ -89,31 +83,6 @@ impl<'a> Alloc for StandIn<'a> {
 
     fn alloc(&self) -> Global {
         self.rt.alloc()
-    }
-}
-
-impl<'a> Eprint for StandIn<'a> {
-    fn eprint<D: Display + Drop>(&self, _value: D) -> io::Result<()> {
-        Ok(())
-    }
-
-    fn eprintln<D: Display + Drop>(&self, _value: D) -> io::Result<()> {
-        self.said.set(self.said.get().saturating_add(1));
-        Ok(())
-    }
-}
-
-impl<'a> Clock for StandIn<'a> {
-    fn monotonic(&self) -> io::Result<Duration> {
-        self.rt.monotonic()
-    }
-
-    fn since_1970(&self) -> io::Result<Duration> {
-        self.rt.since_1970()
-    }
-
-    fn sleep(&self, duration: Duration) {
-        self.rt.sleep(duration)
     }
 }
 

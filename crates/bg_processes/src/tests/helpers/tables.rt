@@ -4,7 +4,9 @@ ghost use Rattle.std.specs.Prelude.{◌<◌, ◌≤◌};
 mod saved_matches;
 
 use crate::tests::helpers::failing_devices::{Calls, Failing};
-use crate::{FileKeeper, Going, PartySocket, RefereeProcess, SeatProcess, WatcherProcess};
+use crate::{
+    Failures, FileKeeper, Going, PartySocket, RefereeProcess, SeatProcess, WatcherProcess,
+};
 use bg_auto::{NoOnlooker, auto_action};
 use bg_board::Player;
 use bg_match::{Number, Rules, Terms};
@@ -23,7 +25,7 @@ const WATCHER: u8 = 3;
 /// No match of the tests has as many turns.
 const MOST_TURNS: u32 = 20_000;
 
-type Socket<'a> = Failing<'a, PartySocket<'a, HostRuntime>>;
+type Socket<'a> = Failing<'a, PartySocket<'a>>;
 
 type Files<'a> = Failing<'a, FileKeeper<'a, HostRuntime>>;
 
@@ -43,9 +45,10 @@ pub(crate) struct Table<'a> {
 
 /// A port such that those of five parties are free.
 fn free_port(rt: &HostRuntime) -> u16 {
+    let failures = Failures::new();
     let mut port = 20_000 + (std::process::id(rt.process()) % 500) as u16 * 20;
     for _ in 0..500 {
-        let free = (0..5).all(|party| PartySocket::bind(rt, port, party).is_ok());
+        let free = (0..5).all(|party| PartySocket::bind(rt, port, party, &failures).is_ok());
         if free {
             return port;
         }
@@ -76,11 +79,13 @@ impl<'a> Table<'a> {
     }
 
     fn socket(&self, party: u8) -> io::Result<Socket<'a>> {
-        Ok(Failing::new(PartySocket::bind(self.rt, self.port, party)?, self.calls))
+        let socket = PartySocket::bind(self.rt, self.port, party, &self.calls.failures)?;
+        Ok(Failing::new(socket, self.calls))
     }
 
     fn keeper(&self, party: u8) -> io::Result<Files<'a>> {
-        Ok(Failing::new(FileKeeper::new(self.rt, self.folder, party)?, self.calls))
+        let keeper = FileKeeper::new(self.rt, self.folder, party, &self.calls.failures)?;
+        Ok(Failing::new(keeper, self.calls))
     }
 
     /// A round of the referee, which begins first where it does not run.

@@ -3,8 +3,8 @@ use Rattle.bg_wire.specs.Entries.EntryText.{entries_bytes, bytes_at}
 use Rattle.bg_wire.proofs.OfSaves.SavedEntries.{written_next, written_fits}
 use Rattle.bg_wire.proofs.saves.saving.push_entries.Goals as goal
 
-pub make_room-requires : goal.make_room-requires
-make_room-requires c =
+pub append_full-requires : goal.append_full-requires
+append_full-requires c =
     let entries = c.args.log.now.entries in
     let start = c.args.text.now.items in
     let text = c.loop-index.text.items in
@@ -35,10 +35,10 @@ loop-index-preserved c =
     let added = bytes_at c.args.log.now.entries c.loop-index.index in
     record {
       text = written_next c.args.log.now.entries c.loop-index.index c.args.text.now.items (text ++ chunk)
-          (c.make_room.new.text.items ++ c.make_room.new.chunk.items) added c.loop-index.invariant.text
-          (c.make_room.ensures.same ∙ ap (λ (r : List ℕ). text ++ r) c.put_index.ensures.text
+          (c.append_full.new.text.items ++ c.append_full.new.chunk.items) added c.loop-index.invariant.text
+          (c.append_full.ensures.same ∙ ap (λ (r : List ℕ). text ++ r) c.put_index.ensures.text
           ∙ sym (append_assoc text chunk added)) refl;
-      room = c.make_room.ensures.room;
-      capacity = omega (arith, c.loop-index.invariant.capacity, c.make_room.ensures.capacity);
+      room = c.append_full.ensures.room;
+      capacity = omega (arith, c.loop-index.invariant.capacity, c.append_full.ensures.capacity);
       end = c.len-index-end.ensures.value;
     }

@@ -1,0 +1,210 @@
+//! A party of a match with the save that is under way.
+ghost use Rattle.std.specs.Prelude.{◌≡◌, ◌↔◌, Ok, Err, Some, None, IsOk, IfOk, IfErr, is_ok};
+ghost use Rattle.bg_wire.specs.Packets.PacketText.{IsPacket};
+ghost use Rattle.bg_parties.specs.Party.{IsUnderWay, Opens};
+ghost use Rattle.bg_parties.specs.Calls.{PartyChooses, PartyDues, PartySaves, PartyTakes, PartyTicks, begun_save, claim_of, kept_save, log_of, saved_of};
+
+use crate::cores::Core;
+use crate::{NotUnderWay, OpenFault, RoleFault, SaveFault};
+use arrayvec::ArrayVec;
+use bg_match::{Action, Number, Record, Terms};
+use bg_party::{ChooseFault, Learned};
+use bg_referee::{DueFault, TakeOutcome};
+use bg_wire::{Packet, Slot};
+use std::alloc::Global;
+
+/// The most packets that a party sends on a tick.
+pub const MOST_SENT: usize = 2;
+
+/// What a party makes of a packet.
+#[derive(Debug, PartialEq, Eq, Drop)]
+pub enum Taken {
+    /// The referee: what it answers.
+    Referee(TakeOutcome),
+    /// A seat or a watcher: what it learns.
+    Follower(Learned),
+}
+
+impl Taken {
+    ghost use Rattle.bg_parties.specs.Calls.{grows as record_grows};
+
+    /// Whether the record has grown.
+    pub fn grows(&self) -> bool
+        ensures { result ≡ record_grows self.now }
+    {
+        matches!(
+            self,
+            Taken::Referee(TakeOutcome::Accepted(_)) | Taken::Follower(Learned::Grew(_))
+        )
+    }
+}
+
+/// The referee, a seat or a watcher of one match, for a host that keeps its slots and carries its packets
+/// (docs/USING.md).
+///
+/// A save that is under way is part of it: [`to_save`](Party::to_save) begins one, what changes the record or the claim
+/// ends it, and [`mark_saved`](Party::mark_saved) is refused where it is not that save's number. So no entry counts as
+/// saved that no slot has, whatever order the calls come in.
+///
+/// Contracts see the core, and the number of the save that is under way.
+#[derive(Debug, Drop)]
+pub struct Party {
+    core: Core,
+    under_way: Option<u32>,
+    ghost next: { IsUnderWay core under_way },
+}
+
+impl Party {
+    ghost use Rattle.bg_parties.specs.Calls.{after_save, grows};
+
+    /// The party of this number in a match, as its two slots restore it: 0 the referee, 1 and 2 the seats of X and of O;
+    /// each is fresh where they are empty. A watcher, 3 to 255, is fresh whatever they have. No save is under way.
+    ///
+    /// # Errors
+    /// `LengthOutOfRange` where the length is not from 1 to 99; then, of the referee and of seats, `Restore` with what
+    /// [`restore`] refuses.
+    pub fn open(
+        alloc: Global,
+        number: u8,
+        id: u64,
+        terms: Terms,
+        slot0: &[u8],
+        slot1: &[u8],
+    ) -> Result<Party, OpenFault>
+        ensures opened { IfOk result (λ party. Opens slot0.now slot1.now number id terms (Ok party.core)
+            × (party.under_way ≡ None)) }
+        ensures refused { IfErr result (λ why. Opens slot0.now slot1.now number id terms (Err why)) }
+    {
+        let core = Core::open(alloc, number, id, terms, slot0, slot1)?;
+        Ok(Party {
+            core,
+            under_way: None,
+        })
+    }
+
+    /// Its record.
+    pub fn held(&self) -> &Record
+        ensures { result.now ≡ log_of self.now.core }
+    {
+        match &self.core {
+            Core::Referee(referee) => referee.held(),
+            Core::Seat(seat) => seat.held(),
+            Core::Watcher(watcher) => watcher.held(),
+        }
+    }
+
+    /// Of the referee how many entries are saved, which is the number of the last one that is; it tells no others.
+    pub fn saved(&self) -> Option<Number>
+        ensures { result ≡ saved_of self.now.core }
+    {
+        match &self.core {
+            Core::Referee(referee) => Some(referee.saved()),
+            Core::Seat(_) | Core::Watcher(_) => None,
+        }
+    }
+
+    /// Of a seat its last claim: the number of the entry that shall answer the action, from 1, and the action.
+    pub fn claim(&self) -> Option<(Number, Action)>
+        ensures { result ≡ claim_of self.now.core }
+    {
+        match &self.core {
+            Core::Seat(seat) => seat.claim(),
+            Core::Referee(_) | Core::Watcher(_) => None,
+        }
+    }
+
+    /// The referee opens a game with the dice of a random word, or passes a turn, and gives the number of that entry
+    /// (docs/PROTOCOL.md, "What the referee adds itself"). A refusal changes nothing.
+    ///
+    /// # Errors
+    /// `OtherRole` where the party is not the referee; else `Core` with what [`Referee::due`] refuses.
+    pub fn due(&mut self, word: u32) -> Result<Number, RoleFault<DueFault>>
+        ensures dues { PartyDues self.old.core word result self.new.core }
+        ensures save { self.new.under_way ≡ kept_save self.old.under_way (is_ok result) }
+    {
+        let number = self.core.due(word)?;
+        self.under_way = None;
+        Ok(number)
+    }
+
+    /// A seat claims an action as the next entry, and gives its number (docs/PROTOCOL.md, "Claims"). A refusal changes
+    /// nothing.
+    ///
+    /// # Errors
+    /// `OtherRole` where the party is no seat; else `Core` with what [`Seat::choose`] refuses.
+    pub fn choose(&mut self, action: Action) -> Result<Number, RoleFault<ChooseFault>>
+        ensures chooses { PartyChooses self.old.core action result self.new.core }
+        ensures save { self.new.under_way ≡ kept_save self.old.under_way (is_ok result) }
+    {
+        let number = self.core.choose(action)?;
+        self.under_way = None;
+        Ok(number)
+    }
+
+    /// Takes a packet: the referee answers it, and accepts a roll with the dice of the random word; a seat or a watcher
+    /// learns from it (docs/PROTOCOL.md, "What the referee answers", "What a follower learns"). The packet is one that
+    /// has a text, as each that `decode` gives.
+    pub fn take(&mut self, packet: &Packet, word: u32) -> Taken
+        requires { IsPacket packet.now }
+        ensures takes { PartyTakes self.old.core packet.now word result self.new.core }
+        ensures save { self.new.under_way ≡ kept_save self.old.under_way (grows result) }
+    {
+        let taken = self.core.take(packet, word);
+        if taken.grows() {
+            self.under_way = None;
+        }
+        taken
+    }
+
+    /// What is to be sent without having been asked for, each packet beside the party that it goes to (docs/PROTOCOL.md,
+    /// "What the referee sends unasked", "When a follower sends"). A save that is under way stays so.
+    pub fn tick(&mut self) -> ArrayVec<(u8, Packet), MOST_SENT>
+        ensures ticks { PartyTicks self.old.core result.items self.new.core }
+        ensures save { self.new.under_way ≡ self.old.under_way }
+    {
+        self.core.tick()
+    }
+
+    /// Begins the next save: the slot that it goes to, its number and its text (docs/PROTOCOL.md, "Saving"). Once the
+    /// text is written, [`mark_saved`](Party::mark_saved) says so. A refusal changes nothing.
+    ///
+    /// # Errors
+    /// `OtherRole` where the party is a watcher, which saves nothing; else `Core` with `SavesSpent` where the last save
+    /// was that of number 4294967295, or `Memory` where there is no memory for the text.
+    pub fn to_save(&mut self) -> Result<(Slot, u32, Vec<u8>), SaveFault>
+        ensures saves { PartySaves self.old.core result }
+        ensures same { self.new.core ≡ self.old.core }
+        ensures save { self.new.under_way ≡ begun_save self.old.under_way result }
+    {
+        let (slot, save, text) = self.core.to_save()?;
+        self.under_way = Some(save);
+        Ok((slot, save, text))
+    }
+
+    /// Gives up the save that is under way, as where its text could not be kept: none is under way any more.
+    pub fn abandon_save(&mut self)
+        ensures same { self.new.core ≡ self.old.core }
+        ensures save { self.new.under_way ≡ None }
+    {
+        self.under_way.take();
+    }
+
+    /// The save that is under way was written: what its text has is saved, and no save is under way any more.
+    ///
+    /// # Errors
+    /// Exactly where no save of this number is under way: none was begun, or the record or the claim has changed since,
+    /// so that another has to be begun. Nothing changes then.
+    pub fn mark_saved(&mut self, save: u32) -> Result<(), NotUnderWay>
+        ensures ok { IsOk result ↔ (self.old.under_way ≡ Some save) }
+        ensures saved { IfOk result (λ done. (self.new.core ≡ after_save self.old.core save)
+            × (self.new.under_way ≡ None)) }
+        ensures same { IfErr result (λ why. self.new ≡ self.old) }
+    {
+        if self.under_way != Some(save) {
+            return Err(NotUnderWay);
+        }
+        self.core.mark_saved(save);
+        self.under_way = None;
+        Ok(())
+    }
+}

@@ -1,0 +1,67 @@
+//! A call of a device that failed, and the words for it.
+
+use crate::files::slot_names::SlotName;
+use crate::printable::Printable;
+use std::fmt::{Display, Formatter, Write};
+use std::{fmt, io};
+
+/// A call of a device, by what it was to do.
+#[derive(Clone, Copy, Debug, PartialEq, Eq)]
+pub enum FailedCall {
+    /// A socket was to be opened for a party.
+    Open { party: u8 },
+    /// A datagram was to be sent to a party.
+    Send { to: u8 },
+    /// The socket of a party was to be read.
+    Receive { party: u8 },
+    /// The file of a slot was to be written.
+    Write(SlotName),
+    /// The file of a slot was to be read.
+    Read(SlotName),
+    /// The folder of the files was to be synced.
+    Sync,
+}
+
+/// Why a call of a device failed.
+#[derive(Clone, Copy, Debug)]
+pub struct DeviceFailure {
+    /// What was to be done.
+    pub call: FailedCall,
+    /// The system's reason.
+    pub error: io::Error,
+}
+
+impl DeviceFailure {
+    /// The failure in words, where the files of the devices lie in this folder (docs/OPERATING.md, "Messages"). No
+    /// folder is named for a socket.
+    pub fn in_folder(self, folder: &str) -> FailureText<'_> {
+        FailureText {
+            failure: self,
+            folder,
+        }
+    }
+}
+
+/// A failure in words, with the name of the file or the folder and the system's words for the reason.
+#[derive(Clone, Copy)]
+pub struct FailureText<'a> {
+    failure: DeviceFailure,
+    folder: &'a str,
+}
+
+impl<'a> Display for FailureText<'a> {
+    fn fmt<W: Write>(&self, f: &mut Formatter<W>) -> fmt::Result {
+        let folder = Printable(self.folder);
+        match self.failure.call {
+            FailedCall::Open { party } => write!(f, "no socket for party {party} on 127.0.0.1")?,
+            FailedCall::Send { to } => write!(f, "no datagram could be sent to party {to}")?,
+            FailedCall::Receive { party } => {
+                write!(f, "the socket of party {party} could not be read")?
+            }
+            FailedCall::Write(file) => write!(f, "{folder}/{file} could not be written")?,
+            FailedCall::Read(file) => write!(f, "{folder}/{file} could not be read")?,
+            FailedCall::Sync => write!(f, "{folder} could not be synced")?,
+        }
+        write!(f, ": {}", self.failure.error)
+    }
+}

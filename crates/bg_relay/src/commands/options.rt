@@ -1,0 +1,111 @@
+//! The options that several commands have.
+
+use bg_board::Player;
+use bg_match::{LONGEST_MATCH, Rules, SHORTEST_MATCH};
+use bg_world::MOST_WATCHERS;
+use clap::{Arg, ArgMatches, Error, value_parser};
+use std::alloc::Global;
+
+/// The names of the players.
+const PLAYERS: [&str; 2] = ["X", "O"];
+
+/// A file that is named to a command which reads the standard input. It is an argument that help leaves out, so that
+/// the answer can say how to hand the file in.
+pub(crate) const MISPLACED_FILE: &str = "FILE";
+
+/// How a match between processes begins, for the help of each of its commands.
+pub(crate) const THREE_TERMINALS: &str =
+    "A match of length 3 between two people, in three terminals of one machine:
+
+    bg_relay new --length 3 --port 4000 --dir table
+    bg_relay referee --dir table
+    bg_relay play --player X --match table/match --dir x
+    bg_relay play --player O --match table/match --dir o
+
+The first two go into one terminal. Anybody who has the match file may watch:
+bg_relay watch --match table/match. Each process may be ended and started again at any moment.";
+
+pub(crate) fn misplaced_file<'a>(alloc: Global) -> Arg<'a> {
+    Arg::new(alloc, MISPLACED_FILE).hide(true)
+}
+
+pub(crate) fn seed_option<'a>(alloc: Global) -> Arg<'a> {
+    Arg::new(alloc, "seed")
+        .long("seed")
+        .value_name("N")
+        .value_parser(value_parser!(u64))
+        .required(true)
+        .help("What the random words go by, and the number of the match: 0 to 18446744073709551615")
+}
+
+pub(crate) fn length_option<'a>(alloc: Global) -> Arg<'a> {
+    Arg::new(alloc, "length")
+        .long("length")
+        .value_name("N")
+        .value_parser(value_parser!(u8).range(i64::from(SHORTEST_MATCH)..=i64::from(LONGEST_MATCH)))
+        .required(true)
+        .help("The length of the match, in points: 1 to 99")
+}
+
+pub(crate) fn rules_option<'a>(alloc: Global) -> Arg<'a> {
+    Arg::new(alloc, "rules")
+        .long("rules")
+        .value_name("N")
+        .value_parser(value_parser!(u8).range(1..=2))
+        .default_value("1")
+        .help("The rules: 1, or 2, by which the referee passes a turn that has no step")
+}
+
+/// The rules that the options name.
+pub(crate) fn rules_in(options: &ArgMatches<'_>) -> Option<Rules> {
+    match options.get_one::<u8>("rules")? {
+        1 => Some(Rules::One),
+        2 => Some(Rules::Two),
+        _ => None,
+    }
+}
+
+pub(crate) fn watchers_option<'a>(alloc: Global) -> Arg<'a> {
+    Arg::new(alloc, "watchers")
+        .long("watchers")
+        .value_name("N")
+        .value_parser(value_parser!(u8).range(0..=i64::from(MOST_WATCHERS)))
+        .required(true)
+        .help("How many watch it: 0 to 253")
+}
+
+pub(crate) fn player_option<'a>(alloc: Global) -> Result<Arg<'a>, Error> {
+    Ok(
+        Arg::new(alloc, "player")
+            .long("player")
+            .value_name("P")
+            .value_parser(PLAYERS.as_slice())
+            .required(true)
+            .help("The player: X or O"),
+    )
+}
+
+/// The player that the options name.
+pub(crate) fn player_in(options: &ArgMatches<'_>) -> Option<Player> {
+    match options.get_str("player")? {
+        "X" => Some(Player::X),
+        "O" => Some(Player::O),
+        _ => None,
+    }
+}
+
+pub(crate) fn match_option<'a>(alloc: Global) -> Arg<'a> {
+    Arg::new(alloc, "match")
+        .long("match")
+        .value_name("FILE")
+        .required(true)
+        .help("The match file that `new` made")
+}
+
+pub(crate) fn folder_option<'a>(alloc: Global) -> Arg<'a> {
+    Arg::new(alloc, "dir")
+        .long("dir")
+        .value_name("DIR")
+        .required(true)
+        .help("The folder of the saved files, which no other process uses")
+}

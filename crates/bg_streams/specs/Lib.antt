@@ -1,0 +1,5 @@
+pub mod Devices
+pub mod DeviceParts
+pub mod Transfers
+pub mod EngineFault
+pub mod FaultWords
