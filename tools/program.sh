@@ -18,7 +18,7 @@ crates_of() {
 
 # is_current FILE CRATE (whether what was built of a crate stands there, and no source of it or below it is newer)
 is_current() {
-    [ -x "$1" ] || return 1
+    [ -e "$1" ] || return 1
     local name folders=()
     for name in $(crates_of "$2"); do
         folders+=("$top/crates/$name/src" "$top/crates/$name/specs" "$top/crates/$name/proofs")
@@ -37,4 +37,26 @@ needs_rt() {
         echo "bg_relay: rt, the command of the Rattle toolchain, is not on the PATH" >&2
         exit 1
     fi
+}
+
+# prove_up_to CRATE COMMAND.. (proves the crates that a crate stands on, the lowest first, and then runs the command in
+# it, which is one of rt that proves it; says on the standard error how far it is, and ends the script where one fails.
+# What rt prints goes to build.log of the crate's folder out)
+prove_up_to() {
+    local log=$top/crates/$1/out/build.log crates at command
+    mkdir -p "$(dirname "$log")"
+    echo "bg_relay: what rt prints goes to $log" >&2
+    : > "$log"
+    mapfile -t crates < <(crates_of "$1")
+    for at in "${!crates[@]}"; do
+        echo "bg_relay: crate $((at + 1)) of ${#crates[@]}, ${crates[at]}, after $((SECONDS / 60)) minutes" >&2
+        command=(rt lib)
+        if [ "${crates[at]}" = "$1" ]; then command=("${@:2}"); fi
+        if ! (cd "$top/crates/${crates[at]}" && "${command[@]}" < /dev/null) >> "$log" 2>&1; then
+            echo "bg_relay: the build failed at ${crates[at]}; the end of what rt printed:" >&2
+            tail -n 20 "$log" >&2
+            exit 1
+        fi
+    done
+    echo "bg_relay: built and proved, after $((SECONDS / 60)) minutes" >&2
 }

@@ -4,7 +4,7 @@ import pathlib
 import re
 
 TOP = pathlib.Path(__file__).resolve().parent.parent
-CRATES = [line.split(":")[0] for line in (TOP / "crates.txt").read_text().splitlines() if line.startswith("bg_")]
+CRATES = re.findall(r"^bg_\w+", (TOP / "crates.txt").read_text(), re.M)
 IMPORT = re.compile(r"\buse Rattle\.(bg_\w+)\.specs\.([\w.]+)\.\{([^}]*)\}")
 DEFINITION = re.compile(r" *(?:pub )?(?:abbrev|unfoldable|record|data) (?:pub )?([^\W\d]\w*|◌\S+)(?!\S)")
 
@@ -56,11 +56,13 @@ class Definitions:
 
 
 def exported(crate):
-    """The names that a library hands out; of the program, those that its files share."""
+    """The names that a library hands out, to C too; of the program, those that its files share."""
     root = TOP / "crates" / crate / "src"
     if (root / "lib.rt").exists():
         for names in re.findall(r"^pub use [\w:]+::(\w+|\{[^}]*\});", (root / "lib.rt").read_text(), re.M):
             yield from re.findall(r"\w+", names)
+        for path in sources(crate):
+            yield from re.findall(r'^pub extern "C" fn (\w+)', path.read_text(), re.M)
     else:
         for path in sources(crate):
             yield from re.findall(r"^pub(?:\(crate\))? (?:fn|struct|enum|trait) (\w+)", path.read_text(), re.M)
@@ -86,7 +88,7 @@ def contracts(crate):
             indented = indented.replace("pub(crate) ", "pub ")
         for item in re.findall(r"^(?:pub |impl).*?(?=^\S|\Z)", indented, re.M | re.S):
             head = item.split("\n")[0]
-            if function := re.match(r"pub fn (\w+)", head):
+            if function := re.match(r'pub (?:extern "C" )?fn (\w+)', head):
                 if function[1] in names:
                     yield function[1], item.split("\n {\n")[0], text
             elif kind := re.match(r"pub (struct|enum|trait) (\w+)", head):

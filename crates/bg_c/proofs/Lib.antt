@@ -1,0 +1,4 @@
+mod Values
+mod HandleSteps
+mod StatusCodes
+mod Opened

@@ -1,0 +1,13 @@
+pub mod Status
+pub mod Answers
+pub mod Rooms
+pub mod Sets
+pub mod Handle
+pub mod Outcomes
+pub mod Datagrams
+pub mod Packets
+pub mod Turns
+pub mod Openings
+pub mod PartyCalls
+pub mod PartyTexts
+pub mod Verdicts

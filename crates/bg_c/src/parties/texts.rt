@@ -1,0 +1,106 @@
+//! The texts of a party's record.
+ghost use Rattle.std.specs.Prelude.{◌≡◌, None, Some};
+ghost use Rattle.bg_c.specs.Handle.{Held};
+ghost use Rattle.bg_c.specs.PartyTexts.{MakesBoard, MakesTranscript, MakesTurns};
+ghost use Rattle.bg_c.specs.Sets.{Writes};
+ghost use Rattle.bg_c.specs.Status.{status_code};
+ghost use Rattle.bg_c.specs.declared.statuses.Status.TheVariants.{NotOpen};
+
+use crate::handle::Handle;
+use crate::rooms::give;
+use crate::statuses::Status;
+use crate::turns::turns_text;
+use bg_parties::Party;
+use bg_text::{board_text, transcript_text};
+use std::alloc::Global;
+
+/// The board of a party's record.
+fn board(alloc: Global, party: &Party) -> Result<Vec<u8>, Status>
+    ensures { MakesBoard party.now result }
+{
+    Ok(board_text(alloc, &party.held().standing())?)
+}
+
+/// The transcript of a party's record.
+fn transcript(alloc: Global, party: &Party) -> Result<Vec<u8>, Status>
+    ensures { MakesTranscript party.now result }
+{
+    Ok(transcript_text(alloc, party.held())?)
+}
+
+/// The legal turns of the player to move by a party's record.
+fn turns(alloc: Global, party: &Party) -> Result<Vec<u8>, Status>
+    ensures { MakesTurns party.now result }
+{
+    match turns_text(alloc, &party.held().standing())? {
+        Some(text) => Ok(text),
+        None => Err(Status::NotToMove),
+    }
+}
+
+/// Writes the board of a party's record.
+#[unsafe(no_mangle)]
+pub extern "C" fn bg_party_board(
+    alloc: Global,
+    handle: &mut Handle,
+    out: &mut [u8],
+    needed: &mut usize,
+) -> u32
+    ensures same { handle.new.value ≡ handle.old.value }
+    ensures closed { handle.old.value ≡ None → (result ≡ status_code NotOpen) × (out.new ≡ out.old)
+        × (needed.new ≡ needed.old) }
+    ensures board { (party : Held) → handle.old.value ≡ Some party
+        → Writes (MakesBoard party) out.old needed.old result out.new needed.new }
+{
+    let Some(party) = handle.take(alloc) else {
+        return Status::NotOpen.code();
+    };
+    let made = board(alloc, &party);
+    handle.put(party);
+    give(made, out, needed).code()
+}
+
+/// Writes the transcript of a party's record.
+#[unsafe(no_mangle)]
+pub extern "C" fn bg_party_transcript(
+    alloc: Global,
+    handle: &mut Handle,
+    out: &mut [u8],
+    needed: &mut usize,
+) -> u32
+    ensures same { handle.new.value ≡ handle.old.value }
+    ensures closed { handle.old.value ≡ None → (result ≡ status_code NotOpen) × (out.new ≡ out.old)
+        × (needed.new ≡ needed.old) }
+    ensures transcript { (party : Held) → handle.old.value ≡ Some party
+        → Writes (MakesTranscript party) out.old needed.old result out.new needed.new }
+{
+    let Some(party) = handle.take(alloc) else {
+        return Status::NotOpen.code();
+    };
+    let made = transcript(alloc, &party);
+    handle.put(party);
+    give(made, out, needed).code()
+}
+
+/// Writes each legal turn of the player to move by a party's record, a line each, such as `move 8-5 6-5`, the greatest
+/// first. BG_NOT_TO_MOVE where no player is to move.
+#[unsafe(no_mangle)]
+pub extern "C" fn bg_party_turns(
+    alloc: Global,
+    handle: &mut Handle,
+    out: &mut [u8],
+    needed: &mut usize,
+) -> u32
+    ensures same { handle.new.value ≡ handle.old.value }
+    ensures closed { handle.old.value ≡ None → (result ≡ status_code NotOpen) × (out.new ≡ out.old)
+        × (needed.new ≡ needed.old) }
+    ensures turns { (party : Held) → handle.old.value ≡ Some party
+        → Writes (MakesTurns party) out.old needed.old result out.new needed.new }
+{
+    let Some(party) = handle.take(alloc) else {
+        return Status::NotOpen.code();
+    };
+    let made = turns(alloc, &party);
+    handle.put(party);
+    give(made, out, needed).code()
+}

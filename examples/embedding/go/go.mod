@@ -1,0 +1,3 @@
+module bg_relay
+
+go 1.17

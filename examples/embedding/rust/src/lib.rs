@@ -1,0 +1,224 @@
+//! The relay of bg_relay.h, safely: a party is closed when it is dropped, texts get the room that they need, and what a
+//! call refuses is an error.
+mod raw;
+
+use std::error::Error;
+use std::fmt;
+use std::ptr::null_mut;
+
+/// Why a call does not answer BG_OK, in the order of the numbers, from 2.
+#[derive(Clone, Copy, Debug, PartialEq, Eq)]
+#[repr(u32)]
+pub enum Status {
+    Memory = 2,
+    BadArgument,
+    NotOpen,
+    WrongParty,
+    NotAPacket,
+    NotAnAction,
+    Damaged,
+    WrongMatch,
+    WrongSave,
+    SavesSpent,
+    NotYourTurn,
+    AlreadyClaimed,
+    Illegal,
+    NotDue,
+    WordRefused,
+    NotToMove,
+}
+
+use Status::*;
+
+/// Every status, in the order of the numbers.
+pub const STATUSES: [Status; 16] = [
+    Memory, BadArgument, NotOpen, WrongParty, NotAPacket, NotAnAction, Damaged, WrongMatch, WrongSave, SavesSpent,
+    NotYourTurn, AlreadyClaimed, Illegal, NotDue, WordRefused, NotToMove,
+];
+
+const OK: u32 = 0;
+const NO_ROOM: u32 = 1;
+
+/// What a number says: `Ok` where it is BG_OK.
+fn done(status: u32) -> Result<(), Status> {
+    match STATUSES.iter().find(|it| **it as u32 == status) {
+        None if status == OK => Ok(()),
+        Some(status) => Err(*status),
+        None => panic!("bg_relay: status {status}, which this wrapper does not know"),
+    }
+}
+
+impl fmt::Display for Status {
+    fn fmt(&self, f: &mut fmt::Formatter<'_>) -> fmt::Result {
+        // SAFETY: room and length belong to one buffer.
+        let text = text(|out, room, needed| unsafe { raw::bg_status_text(*self as u32, out, room, needed) });
+        f.write_str(&String::from_utf8_lossy(&text.map_err(|_| fmt::Error)?))
+    }
+}
+
+impl Error for Status {}
+
+/// The text that a call writes, which is made again where the room is too small.
+fn text(mut call: impl FnMut(*mut u8, usize, *mut usize) -> u32) -> Result<Vec<u8>, Status> {
+    let mut out = vec![0; 1024];
+    let mut needed = 0;
+    loop {
+        let status = call(out.as_mut_ptr(), out.len(), &mut needed);
+        if status != NO_ROOM {
+            done(status)?;
+            out.truncate(needed);
+            return Ok(out);
+        }
+        out.resize(needed, 0);
+    }
+}
+
+/// What the judge says of a transcript.
+#[derive(Clone, Debug, PartialEq, Eq)]
+pub enum Verdict {
+    /// It has so many entries.
+    Fine(u32),
+    /// The first line that is refused, from 1.
+    Refused(u32),
+    TooLong,
+}
+
+/// Judges a transcript: the verdict, and the text that says it, below the board.
+pub fn judge(transcript: &[u8]) -> Result<(Verdict, Vec<u8>), Status> {
+    let mut verdict = raw::Verdict::default();
+    // SAFETY: each pointer is that of a buffer of the length beside it, or of an object that is initialised.
+    let text = text(|out, room, needed| unsafe {
+        raw::bg_judge(transcript.as_ptr(), transcript.len(), &mut verdict, out, room, needed)
+    })?;
+    let verdict = match verdict.kind {
+        0 => Verdict::Fine(verdict.number),
+        1 => Verdict::Refused(verdict.number),
+        _ => Verdict::TooLong,
+    };
+    Ok((verdict, text))
+}
+
+/// A packet on its way to a party.
+#[derive(Clone, Debug, PartialEq, Eq)]
+pub struct Datagram {
+    pub to: u8,
+    pub bytes: Vec<u8>,
+}
+
+const NOTHING: raw::Datagram = raw::Datagram { to: 0, length: 0, bytes: [0; 128] };
+
+fn sent(datagram: &raw::Datagram) -> Option<Datagram> {
+    let bytes = &datagram.bytes[..datagram.length as usize];
+    (!bytes.is_empty()).then(|| Datagram { to: datagram.to as u8, bytes: bytes.to_vec() })
+}
+
+/// What a party made of a packet: a number of the header, BG_TOOK_.., and what goes with it.
+#[derive(Clone, Debug, PartialEq, Eq)]
+pub struct Taken {
+    pub kind: u32,
+    pub number: u32,
+    pub why: u32,
+    pub answer: Option<Datagram>,
+}
+
+/// A save that is under way: this text goes to this slot.
+#[derive(Clone, Debug, PartialEq, Eq)]
+pub struct Save {
+    pub slot: u32,
+    pub number: u32,
+    pub text: Vec<u8>,
+}
+
+/// The referee, a seat or a watcher of a match. It may pass to another thread, and no two use it at once: hence `&mut`.
+pub struct Party(raw::Party);
+
+// SAFETY: the library has no state of a thread, and says that a party may pass from thread to thread.
+unsafe impl Send for Party {}
+
+impl Drop for Party {
+    fn drop(&mut self) {
+        // SAFETY: the handle is one that bg_party_open has set, and is not used again.
+        unsafe { raw::bg_party_close(&mut self.0) }
+    }
+}
+
+// SAFETY of the calls below: the handle is one that bg_party_open has set, each pointer is that of a buffer of the
+// length beside it, or of an object that is initialised, and none of them overlap.
+impl Party {
+    /// Opens a party as its two slots restore it.
+    pub fn open(number: u8, id: u64, length: u8, rules: u8, slots: [&[u8]; 2]) -> Result<Party, Status> {
+        let mut party = raw::Party(null_mut());
+        let [zero, one] = slots;
+        done(unsafe {
+            raw::bg_party_open(
+                &mut party, number, id, length, rules, zero.as_ptr(), zero.len(), one.as_ptr(), one.len(),
+            )
+        })?;
+        Ok(Party(party))
+    }
+
+    pub fn entries(&mut self) -> u32 {
+        unsafe { raw::bg_party_entries(&mut self.0) }
+    }
+
+    pub fn saved(&mut self) -> u32 {
+        unsafe { raw::bg_party_saved(&mut self.0) }
+    }
+
+    pub fn board(&mut self) -> Result<Vec<u8>, Status> {
+        text(|out, room, needed| unsafe { raw::bg_party_board(&mut self.0, out, room, needed) })
+    }
+
+    pub fn transcript(&mut self) -> Result<Vec<u8>, Status> {
+        text(|out, room, needed| unsafe { raw::bg_party_transcript(&mut self.0, out, room, needed) })
+    }
+
+    pub fn turns(&mut self) -> Result<Vec<u8>, Status> {
+        text(|out, room, needed| unsafe { raw::bg_party_turns(&mut self.0, out, room, needed) })
+    }
+
+    /// The referee adds what is its to add, and gives that entry's number.
+    pub fn due(&mut self, word: u32) -> Result<u32, Status> {
+        let mut number = 0;
+        done(unsafe { raw::bg_referee_due(&mut self.0, word, &mut number) })?;
+        Ok(number)
+    }
+
+    pub fn take(&mut self, packet: &[u8], word: u32) -> Result<Taken, Status> {
+        let (mut outcome, mut answer) = (raw::Outcome::default(), NOTHING);
+        done(unsafe {
+            raw::bg_party_take(&mut self.0, packet.as_ptr(), packet.len(), word, &mut outcome, &mut answer)
+        })?;
+        let raw::Outcome { kind, number, why } = outcome;
+        Ok(Taken { kind, number, why, answer: sent(&answer) })
+    }
+
+    /// A seat claims an action, and gives the number of its entry; the second of an error is BG_WHY_.., 0 where the
+    /// status is not `Illegal`.
+    pub fn choose(&mut self, action: &str) -> Result<u32, (Status, u32)> {
+        let (mut number, mut why) = (0, 0);
+        done(unsafe { raw::bg_seat_choose(&mut self.0, action.as_ptr(), action.len(), &mut number, &mut why) })
+            .map_err(|status| (status, why))?;
+        Ok(number)
+    }
+
+    /// What is to be sent now, at most two packets.
+    pub fn tick(&mut self) -> Result<Vec<Datagram>, Status> {
+        let (mut first, mut second) = (NOTHING, NOTHING);
+        done(unsafe { raw::bg_party_tick(&mut self.0, &mut first, &mut second) })?;
+        Ok([sent(&first), sent(&second)].into_iter().flatten().collect())
+    }
+
+    /// Begins the next save: its text is to be written, and then marked.
+    pub fn to_save(&mut self) -> Result<Save, Status> {
+        let (mut slot, mut number) = (0, 0);
+        let text = text(|out, room, needed| unsafe {
+            raw::bg_party_to_save(&mut self.0, &mut slot, &mut number, out, room, needed)
+        })?;
+        Ok(Save { slot, number, text })
+    }
+
+    pub fn mark_saved(&mut self, number: u32) -> Result<(), Status> {
+        done(unsafe { raw::bg_party_mark_saved(&mut self.0, number) })
+    }
+}

@@ -1,0 +1,217 @@
+/* Handles that are not open, parties of the wrong role, arguments out of their range, null pointers, and room that is
+ * too small: what the header says of each, and that nothing else changes. */
+#include "bg_relay.h"
+#include "checks.h"
+
+#include <string.h>
+
+#define BYTES(text) (const uint8_t *)(text), sizeof(text) - 1
+
+enum { ROOM = 4096, UNTOUCHED = 0xA5 };
+
+static const char TRANSCRIPT[] = "length 1\nopen 3 1\n";
+
+/* Everything that a call may set. */
+struct answers {
+    uint8_t out[ROOM];
+    size_t needed;
+    uint32_t number, other;
+    bg_verdict verdict;
+    bg_outcome outcome;
+    bg_datagram first, second;
+};
+static struct answers answers;
+
+static void forget(void) {
+    memset(&answers, UNTOUCHED, sizeof answers);
+}
+
+static int is_untouched(void) {
+    const uint8_t *bytes = (const uint8_t *)&answers;
+    for (size_t at = 0; at < sizeof answers; at++) {
+        if (bytes[at] != UNTOUCHED) {
+            return 0;
+        }
+    }
+    return 1;
+}
+
+/* The calls on a party, by their numbers; the word opens no game. */
+enum { BOARD, A_TRANSCRIPT, TURNS, ACTOR, DUE, TAKE, CHOOSE, TICK, TO_SAVE, MARK_SAVED, CALLS };
+
+static const char *const NAMES[CALLS] = {
+    "bg_party_board", "bg_party_transcript", "bg_party_turns", "bg_party_actor", "bg_referee_due", "bg_party_take",
+    "bg_seat_choose", "bg_party_tick", "bg_party_to_save", "bg_party_mark_saved",
+};
+
+static bg_status call(int which, bg_party *party) {
+    struct answers *to = &answers;
+    forget();
+    switch (which) {
+    case BOARD:
+        return bg_party_board(party, to->out, ROOM, &to->needed);
+    case A_TRANSCRIPT:
+        return bg_party_transcript(party, to->out, ROOM, &to->needed);
+    case TURNS:
+        return bg_party_turns(party, to->out, ROOM, &to->needed);
+    case ACTOR:
+        return bg_party_actor(party, &to->number);
+    case DUE:
+        return bg_referee_due(party, 12, &to->number);
+    case TAKE:
+        return bg_party_take(party, BYTES("BG"), 0, &to->outcome, &to->first);
+    case CHOOSE:
+        return bg_seat_choose(party, BYTES("roll"), &to->number, &to->other);
+    case TICK:
+        return bg_party_tick(party, &to->first, &to->second);
+    case TO_SAVE:
+        return bg_party_to_save(party, &to->number, &to->other, to->out, ROOM, &to->needed);
+    default:
+        return bg_party_mark_saved(party, 1);
+    }
+}
+
+static void refuses(int which, bg_party *party, bg_status wanted) {
+    check_status(call(which, party), wanted, NAMES[which]);
+    check(is_untouched(), NAMES[which]);
+}
+
+static bg_status open_fresh(bg_party *party, uint8_t number) {
+    return bg_party_open(party, number, 1, 5, 1, NULL, 0, NULL, 0);
+}
+
+static void check_closed(bg_party *party) {
+    for (int which = 0; which < CALLS; which++) {
+        refuses(which, party, BG_NOT_OPEN);
+    }
+    check_number(bg_party_entries(party), 0, "the entries of a handle that is not open");
+    check_number(bg_party_saved(party), 0, "what a handle that is not open has saved");
+    check(party->inner == NULL, "a handle that is not open is zero bytes");
+}
+
+static void check_handles(void) {
+    bg_party party = BG_PARTY_INIT;
+    check_closed(&party);
+    bg_party_close(&party);
+    check_closed(&party);
+    check_status(open_fresh(&party, 0), BG_OK, "a referee is opened");
+    check_status(open_fresh(&party, 1), BG_OK, "a seat is opened over it");
+    bg_party_close(&party);
+    check_closed(&party);
+    bg_party_close(&party);
+    check_status(open_fresh(&party, 2), BG_OK, "a handle is opened again");
+    bg_party moved = party;
+    check_status(call(BOARD, &moved), BG_OK, "a handle that was moved");
+    bg_party_close(&moved);
+}
+
+static void check_roles(void) {
+    bg_party referee = BG_PARTY_INIT, seat = BG_PARTY_INIT, watcher = BG_PARTY_INIT;
+    check_status(open_fresh(&referee, 0), BG_OK, "the referee");
+    check_status(open_fresh(&seat, 1), BG_OK, "the seat of X");
+    check_status(open_fresh(&watcher, 255), BG_OK, "the last watcher");
+    refuses(CHOOSE, &referee, BG_WRONG_PARTY);
+    refuses(DUE, &seat, BG_WRONG_PARTY);
+    refuses(DUE, &watcher, BG_WRONG_PARTY);
+    refuses(CHOOSE, &watcher, BG_WRONG_PARTY);
+    refuses(TO_SAVE, &watcher, BG_WRONG_PARTY);
+    refuses(MARK_SAVED, &watcher, BG_WRONG_SAVE);
+    refuses(TAKE, &referee, BG_NOT_A_PACKET);
+    refuses(TAKE, &seat, BG_NOT_A_PACKET);
+    refuses(TAKE, &watcher, BG_NOT_A_PACKET);
+    refuses(TURNS, &referee, BG_NOT_TO_MOVE);
+    check_number(bg_party_saved(&seat), 0, "a seat tells nothing");
+    bg_party_close(&referee);
+    bg_party_close(&seat);
+    bg_party_close(&watcher);
+}
+
+/* An open that is refused leaves the handle as it is: here a referee with an entry. */
+static void check_open(bg_party *party, uint8_t number, uint8_t length, uint8_t rules, const char *slot0,
+                       const char *slot1, bg_status wanted, const char *what) {
+    void *inner = party->inner;
+    bg_status status = bg_party_open(party, number, 1, length, rules, (const uint8_t *)slot0, strlen(slot0),
+                                     (const uint8_t *)slot1, strlen(slot1));
+    check_status(status, wanted, what);
+    check(status == BG_OK || (party->inner == inner && bg_party_entries(party) == 1), what);
+}
+
+static void check_arguments(void) {
+    bg_party party = BG_PARTY_INIT;
+    check_status(open_fresh(&party, 0), BG_OK, "the referee");
+    check_status(call(DUE, &party), BG_OK, "the word 12 opens a game");
+    check_open(&party, 0, 0, 1, "", "", BG_BAD_ARGUMENT, "a length of 0");
+    check_open(&party, 0, 100, 1, "", "", BG_BAD_ARGUMENT, "a length of 100");
+    check_open(&party, 0, 5, 0, "", "", BG_BAD_ARGUMENT, "rules of 0");
+    check_open(&party, 0, 5, 3, "", "", BG_BAD_ARGUMENT, "rules of 3");
+    check_open(&party, 3, 0, 1, "", "", BG_BAD_ARGUMENT, "a watcher of a match of length 0");
+    check_open(&party, 0, 5, 1, "x", "", BG_DAMAGED, "a slot 0 that is no saved text");
+    check_open(&party, 1, 5, 1, "BGS2", "x", BG_DAMAGED, "two slots that are none");
+    check_open(&party, 0, 5, 1, "", "x", BG_OK, "a slot 1 that was never whole");
+    check_open(&party, 4, 99, 2, "x", "x", BG_OK, "a watcher, who reads no slot");
+    bg_party_close(&party);
+}
+
+static void check_nulls(void) {
+    struct answers *to = &answers;
+    bg_party seat = BG_PARTY_INIT;
+    forget();
+    check_status(bg_judge(NULL, 0, &to->verdict, NULL, 0, &to->needed), BG_NO_ROOM, "a transcript without bytes");
+    check_number(to->verdict.kind, 1, "it is refused");
+    check_number(to->verdict.number, 1, "at line 1");
+    check_number(to->needed, strlen("refused at line 1: not a length line\n"), "the text that it needs room for");
+    check_status(open_fresh(&seat, 1), BG_OK, "slots without bytes");
+    check_status(bg_party_take(&seat, NULL, 0, 0, &to->outcome, &to->first), BG_NOT_A_PACKET, "a packet without bytes");
+    check_status(bg_seat_choose(&seat, NULL, 0, &to->number, &to->other), BG_NOT_AN_ACTION, "an action without bytes");
+    check_status(bg_party_board(&seat, NULL, 0, &to->needed), BG_NO_ROOM, "no room at all");
+    check(to->needed > 0, "the text that there is no room for");
+    bg_party_close(&seat);
+}
+
+/* The text of a call, by its number, of a transcript or of a party. */
+enum { JUDGE = CALLS, STATUS_TEXT };
+
+static bg_status text_of(int which, bg_party *party, size_t room) {
+    struct answers *to = &answers;
+    forget();
+    switch (which) {
+    case BOARD:
+        return bg_party_board(party, to->out, room, &to->needed);
+    case A_TRANSCRIPT:
+        return bg_party_transcript(party, to->out, room, &to->needed);
+    case TO_SAVE:
+        return bg_party_to_save(party, &to->number, &to->other, to->out, room, &to->needed);
+    case JUDGE:
+        return bg_judge(BYTES(TRANSCRIPT), &to->verdict, to->out, room, &to->needed);
+    default:
+        return bg_status_text(BG_DAMAGED, to->out, room, &to->needed);
+    }
+}
+
+static void check_room(int which, bg_party *party, const char *what) {
+    check_status(text_of(which, party, ROOM), BG_OK, what);
+    size_t needed = answers.needed;
+    check(needed > 0 && needed < ROOM && answers.out[needed] == UNTOUCHED, what);
+    check_status(text_of(which, party, needed - 1), BG_NO_ROOM, what);
+    check_number(answers.needed, needed, what);
+    check(answers.out[0] == UNTOUCHED && answers.out[needed - 2] == UNTOUCHED, what);
+    check_status(text_of(which, party, needed), BG_OK, what);
+    check_number(answers.needed, needed, what);
+    check(answers.out[needed - 1] != UNTOUCHED && answers.out[needed] == UNTOUCHED, what);
+}
+
+int main(void) {
+    bg_party party = BG_PARTY_INIT;
+    check_handles();
+    check_roles();
+    check_arguments();
+    check_nulls();
+    check_status(open_fresh(&party, 0), BG_OK, "the referee");
+    check_room(BOARD, &party, "room for a board");
+    check_room(A_TRANSCRIPT, &party, "room for the transcript of a party");
+    check_room(TO_SAVE, &party, "room for a saved text");
+    check_room(JUDGE, &party, "room for what the judge says");
+    check_room(STATUS_TEXT, &party, "room for what a status says");
+    bg_party_close(&party);
+    return checked();
+}
