@@ -59,7 +59,8 @@ enum {
     BG_ILLEGAL = 14,           /* bg_seat_choose: the action does not follow the record, and `why` says why */
     BG_NOT_DUE = 15,           /* bg_referee_due: the referee has nothing to add, or the record is full */
     BG_WORD_REFUSED = 16,      /* bg_referee_due: the word opens no game: draw another */
-    BG_NOT_TO_MOVE = 17        /* no player is to move */
+    BG_NOT_TO_MOVE = 17,       /* no player is to move */
+    BG_REFUSED = 18            /* the transcript is one that bg_judge does not find fine */
 };
 /* What a status says, in English. BG_BAD_ARGUMENT where there is no such status. */
 bg_status bg_status_text(bg_status status, uint8_t *out, size_t room, size_t *needed);
@@ -94,6 +95,11 @@ typedef struct bg_verdict {
  * where the answer is BG_OK or BG_NO_ROOM. */
 bg_status bg_judge(const uint8_t *transcript, size_t length, bg_verdict *verdict,
                    uint8_t *out, size_t room, size_t *needed);
+/* The board after a transcript. BG_REFUSED where bg_judge does not find it fine. */
+bg_status bg_transcript_board(const uint8_t *transcript, size_t length, uint8_t *out, size_t room, size_t *needed);
+/* Each legal turn after a transcript, a line each, such as "move 8-5 6-5", the greatest first. BG_REFUSED where
+ * bg_judge does not find it fine; BG_NOT_TO_MOVE where no player is to move. */
+bg_status bg_transcript_turns(const uint8_t *transcript, size_t length, uint8_t *out, size_t room, size_t *needed);
 
 /* ---- bytes (docs/FORMATS.md) ---- */
 

@@ -1,8 +1,8 @@
 #!/usr/bin/env python3
 """Judges a transcript through the shared library, as `bg_relay judge` does: prints the board and the verdict, and ends
-with status 0 where it is fine and 2 where it is refused.
+with status 0 where it is fine and 2 where it is refused. With --turns it lists the legal turns after it.
 
-    ./judge.py OUT/libbg_relay.so.1 TRANSCRIPT
+    ./judge.py OUT/libbg_relay.so.1 TRANSCRIPT [--turns]
 """
 import ctypes
 import sys
@@ -29,7 +29,8 @@ class Library:
         self.calls = ctypes.CDLL(path)
         self.calls.bg_status_text.argtypes = [ctypes.c_uint32, *text_out, *needed]
         self.calls.bg_judge.argtypes = [*text_in, ctypes.POINTER(Verdict), *text_out, *needed]
-        for call in (self.calls.bg_status_text, self.calls.bg_judge):
+        self.calls.bg_transcript_turns.argtypes = [*text_in, *text_out, *needed]
+        for call in (self.calls.bg_status_text, self.calls.bg_judge, self.calls.bg_transcript_turns):
             call.restype = ctypes.c_uint32
 
     def text(self, call, *arguments):
@@ -50,11 +51,18 @@ class Library:
         text = self.text(self.calls.bg_judge, transcript, len(transcript), ctypes.byref(verdict))
         return text, verdict.kind == 0
 
+    def turns(self, transcript):
+        """The legal turns after a transcript."""
+        return self.text(self.calls.bg_transcript_turns, transcript, len(transcript))
+
 
 def main():
     library = Library(sys.argv[1])
     with open(sys.argv[2], "rb") as file:
         transcript = file.read()
+    if sys.argv[3:] == ["--turns"]:
+        sys.stdout.buffer.write(library.turns(transcript))
+        return 0
     text, is_fine = library.judge(transcript)
     sys.stdout.buffer.write(text)
     return 0 if is_fine else 2

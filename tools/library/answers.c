@@ -35,11 +35,11 @@ static uint8_t out[ROOM];
 static size_t needed;
 
 static void check_statuses(void) {
-    for (bg_status status = BG_OK; status <= BG_NOT_TO_MOVE; status++) {
+    for (bg_status status = BG_OK; status <= BG_REFUSED; status++) {
         check_status(bg_status_text(status, out, ROOM, &needed), BG_OK, "a status has a text");
         check(needed > 0 && memchr(out, '\n', needed) == NULL, "a text without a line feed");
     }
-    check_status(bg_status_text(BG_NOT_TO_MOVE + 1, out, ROOM, &needed), BG_BAD_ARGUMENT, "the first number of no status");
+    check_status(bg_status_text(BG_REFUSED + 1, out, ROOM, &needed), BG_BAD_ARGUMENT, "the first number of no status");
     check_status(bg_status_text(UINT32_MAX, out, ROOM, &needed), BG_BAD_ARGUMENT, "the last one");
     check_number(bg_version(), BG_VERSION, "the version of the library");
 }
@@ -52,6 +52,17 @@ static void check_judged(const char *transcript, uint32_t kind, uint32_t number,
     check_number(verdict.number, number, transcript);
     check(needed >= strlen(line), transcript);
     check_text(out + needed - strlen(line), strlen(line), line, transcript);
+    status = bg_transcript_board((const uint8_t *)transcript, strlen(transcript), out, ROOM, &needed);
+    check_status(status, kind == 0 ? BG_OK : BG_REFUSED, transcript);
+}
+
+static void check_turns(const char *transcript, bg_status wanted, const char *first) {
+    bg_status status = bg_transcript_turns((const uint8_t *)transcript, strlen(transcript), out, ROOM, &needed);
+    check_status(status, wanted, transcript);
+    if (wanted == BG_OK) {
+        check(needed >= strlen(first), transcript);
+        check_text(out, strlen(first), first, transcript);
+    }
 }
 
 static void check_texts(void) {
@@ -60,6 +71,11 @@ static void check_texts(void) {
     check_judged("length 1\n\n", 1, 2, "refused at line 2: not a line\n");
     check_judged("length 0\n", 1, 1, "refused at line 1: length out of range\n");
     check_judged("length 99 rules 2", 0, 0, "ok 0\n");
+    check_turns("length 1\nopen 3 1\nX move 8-5\n", BG_REFUSED, "");
+    check_turns("length 1\n", BG_NOT_TO_MOVE, "");
+    check_turns("length 1\nopen 3 1\nX move 8-5 6-5\n", BG_NOT_TO_MOVE, "");
+    /* The first step of the greatest turn begins at the highest point, and ends at the highest. */
+    check_turns("length 1\nopen 3 1\n", BG_OK, "move 24-23 24-21\n");
 }
 
 static void check_read(const char *bytes, size_t length, bg_packet wanted, const char *what) {

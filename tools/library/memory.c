@@ -108,6 +108,12 @@ static bg_status judge(void) {
 static bg_status judge_without_room(void) {
     return bg_judge(BYTES(TRANSCRIPT), &run.now.verdict, NULL, 0, &run.now.needed);
 }
+static bg_status transcript_board(void) {
+    return bg_transcript_board(BYTES(TRANSCRIPT), run.now.out, ROOM, &run.now.needed);
+}
+static bg_status transcript_turns(void) {
+    return bg_transcript_turns(BYTES(TRANSCRIPT), run.now.out, ROOM, &run.now.needed);
+}
 static bg_status packet_read(void) {
     return bg_packet_read(run.sent.bytes, run.sent.length, &run.now.packet);
 }
@@ -119,7 +125,7 @@ static const step STEPS[] = {
     open_referee, open_seat, open_watcher, due, save_referee, mark_referee, tick_seat, packet_read, referee_takes,
     seat_takes, turns, choose, save_seat, mark_seat, read_slots, tick_seat, referee_takes, save_referee, mark_referee,
     tick_watcher, referee_takes, watcher_takes, board, transcript, open_again, turns, judge, judge_without_room,
-    status_text,
+    transcript_board, transcript_turns, status_text,
 };
 enum { COUNT = sizeof STEPS / sizeof *STEPS };
 

@@ -160,6 +160,7 @@ static void check_nulls(void) {
     check_number(to->verdict.kind, 1, "it is refused");
     check_number(to->verdict.number, 1, "at line 1");
     check_number(to->needed, strlen("refused at line 1: not a length line\n"), "the text that it needs room for");
+    check_status(bg_transcript_board(NULL, 0, NULL, 0, &to->needed), BG_REFUSED, "the board of no bytes");
     check_status(open_fresh(&seat, 1), BG_OK, "slots without bytes");
     check_status(bg_party_take(&seat, NULL, 0, 0, &to->outcome, &to->first), BG_NOT_A_PACKET, "a packet without bytes");
     check_status(bg_seat_choose(&seat, NULL, 0, &to->number, &to->other), BG_NOT_AN_ACTION, "an action without bytes");
@@ -169,7 +170,7 @@ static void check_nulls(void) {
 }
 
 /* The text of a call, by its number, of a transcript or of a party. */
-enum { JUDGE = CALLS, STATUS_TEXT };
+enum { JUDGE = CALLS, TRANSCRIPT_BOARD, TRANSCRIPT_TURNS, STATUS_TEXT };
 
 static bg_status text_of(int which, bg_party *party, size_t room) {
     struct answers *to = &answers;
@@ -183,6 +184,10 @@ static bg_status text_of(int which, bg_party *party, size_t room) {
         return bg_party_to_save(party, &to->number, &to->other, to->out, room, &to->needed);
     case JUDGE:
         return bg_judge(BYTES(TRANSCRIPT), &to->verdict, to->out, room, &to->needed);
+    case TRANSCRIPT_BOARD:
+        return bg_transcript_board(BYTES(TRANSCRIPT), to->out, room, &to->needed);
+    case TRANSCRIPT_TURNS:
+        return bg_transcript_turns(BYTES(TRANSCRIPT), to->out, room, &to->needed);
     default:
         return bg_status_text(BG_DAMAGED, to->out, room, &to->needed);
     }
@@ -211,6 +216,8 @@ int main(void) {
     check_room(A_TRANSCRIPT, &party, "room for the transcript of a party");
     check_room(TO_SAVE, &party, "room for a saved text");
     check_room(JUDGE, &party, "room for what the judge says");
+    check_room(TRANSCRIPT_BOARD, &party, "room for the board after a transcript");
+    check_room(TRANSCRIPT_TURNS, &party, "room for legal turns");
     check_room(STATUS_TEXT, &party, "room for what a status says");
     bg_party_close(&party);
     return checked();

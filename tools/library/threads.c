@@ -124,6 +124,7 @@ static void *all_calls(void *argument) {
     failed |= bg_party_open(party, 0, 1, 5, 1, NULL, 0, NULL, 0) != BG_OK;
     failed |= bg_referee_due(party, THREE_ONE, &one) != BG_OK;
     failed |= bg_judge(BYTES(TRANSCRIPT), &verdict, out, sizeof out, &needed) != BG_OK;
+    failed |= bg_transcript_turns(BYTES(TRANSCRIPT), out, sizeof out, &needed) != BG_OK;
     return failed ? "a call on a small stack" : NULL;
 }
 

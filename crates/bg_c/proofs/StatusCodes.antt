@@ -11,7 +11,7 @@ all =
     status.Ok ∷ status.NoRoom ∷ status.Memory ∷ status.BadArgument ∷ status.NotOpen ∷
     status.WrongParty ∷ status.NotAPacket ∷ status.NotAnAction ∷ status.Damaged ∷ status.WrongMatch ∷
     status.WrongSave ∷ status.SavesSpent ∷ status.NotYourTurn ∷ status.AlreadyClaimed ∷ status.Illegal ∷
-    status.NotDue ∷ status.WordRefused ∷ status.NotToMove ∷ []
+    status.NotDue ∷ status.WordRefused ∷ status.NotToMove ∷ status.Refused ∷ []
 
 is_coded : (s : Status) → slice_get all (status_code s) ≡ Some s
 is_coded status.Ok = refl
@@ -32,6 +32,7 @@ is_coded status.Illegal = refl
 is_coded status.NotDue = refl
 is_coded status.WordRefused = refl
 is_coded status.NotToMove = refl
+is_coded status.Refused = refl
 
 pub same_status : (a b : Status) → status_code a ≡ status_code b → a ≡ b
 same_status a b same =

@@ -1,5 +1,4 @@
 -- Which status a call of a party answers.
-use Rattle.std.specs.Prelude.{Result, Ok, Err}
 use Rattle.bg_wire.specs.declared.faults.RestoreRefusal.{RestoreRefusal}
 use Rattle.bg_wire.specs.declared.faults.RestoreRefusal.TheVariants as restore
 use Rattle.bg_wire.specs.declared.faults.SaveRefusal.{SaveRefusal}
@@ -49,8 +48,3 @@ choose_status (choose.Illegal why) = status.Illegal
 abbrev pub save_status : SaveRefusal → Status
 save_status save.SavesSpent = status.SavesSpent
 save_status save.Memory = status.Memory
-
--- of a call that is done, or that comes to nothing with what has this status
-abbrev pub status_of : {T F : Type 0} → (F → Status) → Result T F → Status
-status_of status_of_fault (Ok value) = status.Ok
-status_of status_of_fault (Err why) = status_of_fault why

@@ -11,3 +11,4 @@ pub mod Openings
 pub mod PartyCalls
 pub mod PartyTexts
 pub mod Verdicts
+pub mod Transcripts

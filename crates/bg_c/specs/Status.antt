@@ -22,6 +22,7 @@ status_code status.Illegal = 14
 status_code status.NotDue = 15
 status_code status.WordRefused = 16
 status_code status.NotToMove = 17
+status_code status.Refused = 18
 
 abbrev pub status_text : Status → List ℕ
 status_text status.Ok = codes "it is done"
@@ -42,3 +43,4 @@ status_text status.Illegal = codes "the action does not follow the record"
 status_text status.NotDue = codes "the referee has nothing to add, or the record is full"
 status_text status.WordRefused = codes "the word opens no game"
 status_text status.NotToMove = codes "no player is to move"
+status_text status.Refused = codes "the transcript is refused"

@@ -20,6 +20,7 @@ mod slots;
 mod statuses;
 #[cfg(test)]
 mod tests;
+mod transcripts;
 mod turns;
 
 ghost use Rattle.std.specs.Prelude.{◌≡◌, ◌≢◌};

@@ -41,6 +41,8 @@ pub enum Status {
     WordRefused,
     /// No player is to move.
     NotToMove,
+    /// The transcript is refused.
+    Refused,
 }
 
 impl Status {
@@ -70,6 +72,7 @@ impl Status {
             Status::NotDue => 15,
             Status::WordRefused => 16,
             Status::NotToMove => 17,
+            Status::Refused => 18,
         }
     }
 
@@ -97,6 +100,7 @@ impl Status {
             15 => Status::NotDue,
             16 => Status::WordRefused,
             17 => Status::NotToMove,
+            18 => Status::Refused,
             _ => return None,
         })
     }
@@ -126,6 +130,7 @@ impl Status {
             Status::NotDue => "the referee has nothing to add, or the record is full",
             Status::WordRefused => "the word opens no game",
             Status::NotToMove => "no player is to move",
+            Status::Refused => "the transcript is refused",
         }
     }
 }

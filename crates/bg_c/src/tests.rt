@@ -8,6 +8,7 @@ mod readers;
 mod roles;
 mod rooms;
 mod save_order;
+mod transcripts;
 
 use crate::datagrams::Datagram;
 use crate::handle::Handle;
@@ -48,6 +49,8 @@ const NOT_DUE: u32 = 15;
 const WORD_REFUSED: u32 = 16;
 
 const NOT_TO_MOVE: u32 = 17;
+
+const REFUSED: u32 = 18;
 
 /// A word that opens a game with 3 1, for X.
 const THREE_ONE: u32 = 12;

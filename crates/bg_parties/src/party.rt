@@ -57,8 +57,8 @@ pub struct Party {
 impl Party {
     ghost use Rattle.bg_parties.specs.Calls.{after_save, grows};
 
-    /// The party of this number in a match, as its two slots restore it: 0 the referee, 1 and 2 the seats of X and of O;
-    /// each is fresh where they are empty. A watcher, 3 to 255, is fresh whatever they have. No save is under way.
+    /// The party of this number in a match, as its two slots restore it: 0 the referee, 1 and 2 the seats of X and of
+    /// O; each is fresh where they are empty. A watcher, 3 to 255, is fresh whatever they have. No save is under way.
     ///
     /// # Errors
     /// `LengthOutOfRange` where the length is not from 1 to 99; then, of the referee and of seats, `Restore` with what
@@ -156,8 +156,8 @@ impl Party {
         taken
     }
 
-    /// What is to be sent without having been asked for, each packet beside the party that it goes to (docs/PROTOCOL.md,
-    /// "What the referee sends unasked", "When a follower sends"). A save that is under way stays so.
+    /// What is to be sent without having been asked for, each packet beside the party that it goes to
+    /// (docs/PROTOCOL.md, "What the referee sends unasked", "When a follower sends"). A save that is under way stays so.
     pub fn tick(&mut self) -> ArrayVec<(u8, Packet), MOST_SENT>
         ensures ticks { PartyTicks self.old.core result.items self.new.core }
         ensures save { self.new.under_way ≡ self.old.under_way }

@@ -6,6 +6,7 @@ pub mod LineLists
 pub mod OneJudgement
 pub mod PartRead
 pub mod ReadLines
+pub mod ReadInputs
 pub mod ShortLines
 pub mod WholeInputs
 pub mod WrittenLines

@@ -2,3 +2,4 @@
 pub mod Judging
 pub mod Reading
 pub mod Reason
+pub mod Transcripts

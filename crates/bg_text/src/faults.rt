@@ -47,6 +47,34 @@ impl fmt::Display for TextFault {
 
 impl std::error::Error for TextFault {}
 
+/// Why a transcript gives no record.
+#[derive(Clone, Copy, Debug, PartialEq, Eq)]
+pub enum TranscriptFault {
+    /// The first line that is refused. Lines count from 1.
+    Refused(u32),
+    /// The input is longer than 41943040 bytes.
+    TooLong,
+    /// There is no memory for the record.
+    Memory,
+}
+
+impl fmt::Display for TranscriptFault {
+    ghost use Rattle.std.specs.Prelude.{Some};
+    ghost use Rattle.bg_text.specs.Judge.Reason.{transcript_fault_words};
+
+    ghost output = { λ fault. Some (transcript_fault_words fault) };
+
+    fn fmt<W: fmt::Write>(&self, f: &mut fmt::Formatter<W>) -> fmt::Result {
+        match self {
+            TranscriptFault::Refused(line) => write!(f, "refused at line {line}"),
+            TranscriptFault::TooLong => f.write_str("input too long"),
+            TranscriptFault::Memory => f.write_str("out of memory"),
+        }
+    }
+}
+
+impl std::error::Error for TranscriptFault {}
+
 /// Why a line of a transcript is refused (docs/FORMATS.md, "The judge").
 #[derive(Clone, Copy, Debug, PartialEq, Eq)]
 pub(crate) enum LineFault {

@@ -13,102 +13,16 @@ ghost use Rattle.bg_text.specs.Judge.Reading.{IsReadAs, IsLineAt, AddsLine, Refu
 
 pub(crate) mod judgements;
 pub(crate) mod length_lines;
+pub(crate) mod reading;
 pub(crate) mod reasons;
 pub(crate) mod verdicts;
 
-use crate::entries::lines::parse_entry;
-use crate::faults::LineFault;
-use crate::inputs::{MOST_BYTES, split_line};
+use crate::inputs::MOST_BYTES;
 use crate::judging::judgements::{fine, refused, refused_at_once, too_long};
-use crate::judging::length_lines::read_terms;
+use crate::judging::reading::{ReadFault, read_whole};
 use crate::{Judgement, Verdict};
-use bg_board::Player;
-use bg_match::{Entry, EntryFault, Record, Standing, Terms};
 use bg_streams::{EngineFault, Sink, Source, read_input, write_text};
 use std::alloc::{AllocError, Global};
-
-/// Whether a line names a seat where the other seat must act.
-fn is_wrong_seat(seat: Option<Player>, standing: &Standing) -> bool
-    ensures { IsTrue result ↔ IsWrongSeat seat standing.now }
-{
-    match (seat, standing.actor().seat()) {
-        (Some(named), Some(acting)) => named != acting,
-        _ => false,
-    }
-}
-
-/// The entry of a line, unless it names the wrong seat.
-fn read_line(standing: &Standing, line: &[u8]) -> Result<Entry, LineFault>
-    ensures found { IfOk result (IsReadAs standing.now line.now) }
-    ensures only { (entry : Entry) → IsLineAt standing.now line.now entry → result ≡ Ok entry }
-    ensures fault { IfErr result (λ why. (entries : ℕ) → IsLineFault why entries standing.now line.now) }
-{
-    let (seat, entry) = parse_entry(line).map_err(LineFault::Text)?;
-    if is_wrong_seat(seat, standing) {
-        return Err(LineFault::WrongPlayer);
-    }
-    Ok(entry)
-}
-
-/// Why a line was not added.
-#[derive(Drop)]
-enum AddFault {
-    Refused(LineFault),
-    Memory,
-}
-
-impl From<LineFault> for AddFault {
-    ghost use Rattle.std.specs.Prelude.{◌≡◌};
-    ghost use Rattle.bg_text.specs.declared.judging.AddFault.TheVariants.{Refused};
-
-    ghost from_gives = { λ why fault. fault ≡ Refused why };
-
-    fn from(why: LineFault) -> AddFault {
-        AddFault::Refused(why)
-    }
-}
-
-impl From<EntryFault> for AddFault {
-    ghost use Rattle.std.specs.Prelude.{◌≡◌};
-    ghost use Rattle.bg_text.specs.Judge.Reading.{fault_of_push};
-
-    ghost from_gives = { λ why fault. fault ≡ fault_of_push why };
-
-    fn from(why: EntryFault) -> AddFault {
-        match why {
-            EntryFault::Memory => AddFault::Memory,
-            why => AddFault::Refused(LineFault::Entry(why)),
-        }
-    }
-}
-
-/// Adds the entry of a line.
-fn add_line(log: &mut Record, line: &[u8]) -> Result<(), AddFault>
-    ensures added { OnOk result (AddsLine log.old log.new line.now) }
-    ensures fault { IfErr result (λ fault. RefusesLine fault log.old line.now) }
-    ensures err { OnErr result (log.new ≡ log.old) }
-{
-    let entry = read_line(&log.standing(), line)?;
-    log.push(entry)?;
-    Ok(())
-}
-
-/// Judges the lines after line 1 of a match of these terms.
-fn judge_lines(alloc: Global, terms: Terms, lines: &[u8]) -> Result<Judgement, AllocError>
-    requires { IsMatchLength (match_length terms) }
-    ensures { IfOk result (λ judgement. IsJudged terms (lines_of lines.now) judgement.text.items judgement.verdict) }
-{
-    let mut log = Record::new(alloc, 0, terms.length, terms.rules).unwrap();
-    let mut rest = lines;
-    while let Some((line, after)) = split_line(rest) {
-        match add_line(&mut log, line) {
-            Ok(()) => rest = after,
-            Err(AddFault::Refused(why)) => return refused(alloc, &log, why),
-            Err(AddFault::Memory) => return Err(AllocError),
-        }
-    }
-    fine(alloc, &log)
-}
 
 /// What the judge says of an input: the board after its longest legal part, and the verdict, as docs/FORMATS.md,
 /// "The judge", says.
@@ -118,15 +32,14 @@ fn judge_lines(alloc: Global, terms: Terms, lines: &[u8]) -> Result<Judgement, A
 pub fn judge_text(alloc: Global, input: &[u8]) -> Result<Judgement, AllocError>
     ensures { IfOk result (λ judgement. IsJudgement input.now judgement.text.items judgement.verdict) }
 {
-    if input.len() > MOST_BYTES {
-        return too_long(alloc);
-    }
-    let Some((line, lines)) = split_line(input) else {
-        return refused_at_once(alloc, LineFault::NotALengthLine);
-    };
-    match read_terms(line) {
-        Ok(terms) => judge_lines(alloc, terms, lines),
-        Err(why) => refused_at_once(alloc, why),
+    match read_whole(alloc, 0, input) {
+        Ok((log, why)) => match why {
+            None => fine(alloc, &log),
+            Some(why) => refused(alloc, &log, why),
+        },
+        Err(ReadFault::LengthLine(why)) => refused_at_once(alloc, why),
+        Err(ReadFault::TooLong) => too_long(alloc),
+        Err(ReadFault::Memory) => Err(AllocError),
     }
 }
 

@@ -85,8 +85,8 @@ fn statuses_say_what_they_mean(rt: HostRuntime) {
     assert!(rt; bg_version() == 1);
     assert!(rt; bg_status_text(4, &mut room, &mut needed) == OK);
     assert!(rt; holds(&room, needed, b"the handle holds no party"));
-    assert!(rt; bg_status_text(18, &mut room, &mut needed) == BAD_ARGUMENT && needed == 25);
-    for status in 0..18 {
+    assert!(rt; bg_status_text(19, &mut room, &mut needed) == BAD_ARGUMENT && needed == 25);
+    for status in 0..19 {
         assert!(rt; bg_status_text(status, &mut room, &mut needed) == OK && needed > 0);
     }
 }

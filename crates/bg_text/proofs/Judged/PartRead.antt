@@ -1,5 +1,5 @@
 -- A transcript that is read line by line.
-use Rattle.std.proofs.Common.{◌≡◌, ℕ, suc, ◌+◌, ◌-◌, ◌<◌, List, [], ◌∷◌, ◌++◌, length, take, slice_index_or, Result, Ok, Err, IfOk, refl, sym, ◌∙◌, ap, subst, arith, length-append, append-nil, append_assoc, inl, inr}
+use Rattle.std.proofs.Common.{◌≡◌, ℕ, suc, ◌+◌, ◌-◌, ◌<◌, List, [], ◌∷◌, ◌++◌, length, take, slice_index_or, Option, None, Some, refl, sym, ◌∙◌, ap, subst, arith, length-append, append-nil, append_assoc, inl, inr}
 use Rattle.std.proofs.lemmas.Bool.{cases_lt}
 use Rattle.std.proofs.Math.Seq.{get_or-append_seam, take-append-add}
 use Rattle.std.proofs.lemmas.List.{take_all, take-append-le}
@@ -12,28 +12,28 @@ use Rattle.bg_match.proofs.Legal.{one_standing}
 use Rattle.bg_text.specs.Boards.BoardText.{board_text, line_text}
 use Rattle.bg_text.specs.Boards.Transcript.{AreLinesOf}
 use Rattle.bg_text.specs.Judge.Judging.{lines_of, StandsAfter, IsLineFault, IsJudged, fine_line, refused_line}
-use Rattle.bg_text.specs.Judge.Reading.{IsLineAt, AddsLine, RefusesLine, IsPartRead}
+use Rattle.bg_text.specs.Judge.Reading.{IsLineAt, AddsLine, RefusesLine, IsPartRead, AreRead}
 use Rattle.bg_text.specs.declared.faults.LineFault.{LineFault}
-use Rattle.bg_text.specs.declared.judging.AddFault.TheVariants.{Refused as RefusedLine}
-use Rattle.bg_text.specs.declared.judging.judgements.Judgement.{Judgement}
+use Rattle.bg_text.specs.declared.judging.reading.AddFault.TheVariants.{Refused as RefusedLine}
 use Rattle.bg_text.specs.declared.judging.verdicts.Verdict.{Verdict}
 use Rattle.bg_text.specs.declared.judging.verdicts.Verdict.TheVariants.{Fine, Refused}
 use Rattle.bg_text.proofs.Judged.ReadLines.{AreLinesOf-Leads, AreLinesOf-length, AreLinesOf-push, AreLinesOf-same, AreLinesOf-next}
 
-module _ (terms : Terms) (lines : List (List ℕ)) where
+module _ (id : ℕ) (terms : Terms) (lines : List (List ℕ)) where
   -- nothing is read yet
-  pub part_start : (r : Log) (rest : List ℕ) → lines ≡ lines_of rest → r.entries ≡ [] → r.terms ≡ terms → IsPartRead terms lines r rest
-  part_start r rest split none same = record {
+  pub part_start : (r : Log) (rest : List ℕ) → lines ≡ lines_of rest → r.entries ≡ [] → r.terms ≡ terms → r.id ≡ id → IsPartRead id terms lines r rest
+  part_start r rest split none same numbered = record {
     done = [];
     split = split;
     state = start_of terms;
     entries = rw none refl;
     few = rw none (omega arith);
     same_terms = same;
+    same_id = numbered;
   }
 
   -- one more line is read
-  pub part_more : (r new : Log) (rest after line : List ℕ) → IsPartRead terms lines r rest → lines_of rest ≡ line ∷ lines_of after → AddsLine r new line → IsPartRead terms lines new after
+  pub part_more : (r new : Log) (rest after line : List ℕ) → IsPartRead id terms lines r rest → lines_of rest ≡ line ∷ lines_of after → AddsLine r new line → IsPartRead id terms lines new after
   part_more r new rest after line part first added =
       let stands : StandsAt terms r.entries added.1 = subst (λ (m : Terms). StandsAt m r.entries added.1) part.same_terms added.2 in
       let same : added.1 ≡ part.state = one_standing terms r.entries added.1 part.state stands (AreLinesOf-Leads (start_of terms) r.entries part.done part.state part.entries) in
@@ -46,44 +46,49 @@ module _ (terms : Terms) (lines : List (List ℕ)) where
         entries = rw added.5 (AreLinesOf-push (start_of terms) r.entries part.done part.state added.0 line at.1.0 part.entries at.0 at.1.1);
         few = rw added.5 (omega (arith, added.4, more));
         same_terms = added.6 ∙ part.same_terms;
+        same_id = added.7 ∙ part.same_id;
       }
 
-  -- the lines of the record are a legal part
-  part_stands : (r : Log) (rest : List ℕ) (part : IsPartRead terms lines r rest) → StandsAfter terms lines (length r.entries) part.state
+  -- the lines of the record are the first ones
+  part_lines : (r : Log) (rest : List ℕ) (part : IsPartRead id terms lines r rest) → AreLinesOf (start_of terms) r.entries (take (length r.entries) lines) part.state
+  part_lines r rest part =
+      let long = AreLinesOf-length (start_of terms) r.entries part.done part.state part.entries in
+      let front : take (length r.entries) lines ≡ part.done =
+      ap (take (length r.entries)) part.split ∙ (take-append-le (length r.entries) part.done (lines_of rest) (omega arith) ∙ take_all (length r.entries) part.done (omega arith)) in
+      rw front part.entries
+
+  -- they are a legal part
+  part_stands : (r : Log) (rest : List ℕ) (part : IsPartRead id terms lines r rest) → StandsAfter terms lines (length r.entries) part.state
   part_stands r rest part =
       let long = AreLinesOf-length (start_of terms) r.entries part.done part.state part.entries in
       let whole : length lines ≡ length (part.done ++ lines_of rest) = ap length part.split in
       let sum = length-append part.done (lines_of rest) in
-      let front : take (length r.entries) lines ≡ part.done =
-      ap (take (length r.entries)) part.split ∙ (take-append-le (length r.entries) part.done (lines_of rest) (omega arith) ∙ take_all (length r.entries) part.done (omega arith)) in
-      (omega arith, part.few, (r.entries, rw front part.entries))
+      (omega arith, part.few, (r.entries, part_lines r rest part))
 
   -- where the record stands
-  part_state : (r : Log) (rest : List ℕ) (part : IsPartRead terms lines r rest) (t : State) → StandsAt r.terms r.entries t → t ≡ part.state
+  part_state : (r : Log) (rest : List ℕ) (part : IsPartRead id terms lines r rest) (t : State) → StandsAt r.terms r.entries t → t ≡ part.state
   part_state r rest part t stands =
       one_standing terms r.entries t part.state (subst (λ (m : Terms). StandsAt m r.entries t) part.same_terms stands)
       (AreLinesOf-Leads (start_of terms) r.entries part.done part.state part.entries)
 
   -- all lines are read
-  pub part_fine : (r : Log) (text : List ℕ) (verdict : Verdict) (t : State) → IsPartRead terms lines r [] → StandsAt r.terms r.entries t
-      → text ≡ board_text t ++ line_text (fine_line (length r.entries)) → verdict ≡ Fine (length r.entries) → IsJudged terms lines text verdict
-  part_fine r text verdict t part stands printed fine =
+  pub all_read : (r : Log) → IsPartRead id terms lines r [] → AreRead id terms lines r None
+  all_read r part =
       let long = AreLinesOf-length (start_of terms) r.entries part.done part.state part.entries in
       let whole : length lines ≡ length (part.done ++ []) = ap length part.split in
       let none = append-nil part.done in
       let all : length r.entries ≡ length lines = long ∙ ap length (sym none) ∙ sym whole in
-      let same = part_state r [] part t stands in
       record {
-        count = length r.entries;
         state = part.state;
+        same_id = part.same_id;
+        same_terms = part.same_terms;
         longest = record { stands = part_stands r [] part; longest = λ m s h. omega (arith, h.0, all) };
-        line = fine_line (length r.entries);
-        named = rw fine (all, refl, refl);
-        printed = subst (λ (s : State). text ≡ board_text s ++ line_text (fine_line (length r.entries))) same printed;
+        entries = part_lines r [] part;
+        stop = all;
       }
 
   -- no longer part is legal where the next line is that of no entry which follows
-  next_refused : (r : Log) (rest line : List ℕ) (more : List (List ℕ)) (part : IsPartRead terms lines r rest) → lines ≡ part.done ++ line ∷ more
+  next_refused : (r : Log) (rest line : List ℕ) (more : List (List ℕ)) (part : IsPartRead id terms lines r rest) → lines ≡ part.done ++ line ∷ more
       → ((e : Entry) → length r.entries < most_entries → IsLineAt part.state line e → ⊥) → (m : ℕ) (s : State) → length r.entries < m → StandsAfter terms lines m s → ⊥
   next_refused r rest line more part split refuses m s longer h =
       let long = AreLinesOf-length (start_of terms) r.entries part.done part.state part.entries in
@@ -98,22 +103,21 @@ module _ (terms : Terms) (lines : List (List ℕ)) where
       refuses next.3.0 (omega (arith, h.1)) (subst (λ (u : State). IsLineAt u line next.3.0) same next.3.1)
 
   -- a line is refused
-  pub part_refused : (r : Log) (rest after line : List ℕ) (why : LineFault) (text : List ℕ) (verdict : Verdict) (t : State)
-      → IsPartRead terms lines r rest → lines_of rest ≡ line ∷ lines_of after → RefusesLine (RefusedLine why) r line → StandsAt r.terms r.entries t
-      → text ≡ board_text t ++ line_text (refused_line (length r.entries + 2) why) → verdict ≡ Refused (length r.entries + 2) → IsJudged terms lines text verdict
-  part_refused r rest after line why text verdict t part first refuses stands printed refused =
+  pub line_stops : (r : Log) (rest after line : List ℕ) (why : LineFault) → IsPartRead id terms lines r rest → lines_of rest ≡ line ∷ lines_of after
+      → RefusesLine (RefusedLine why) r line → AreRead id terms lines r (Some why)
+  line_stops r rest after line why part first refuses =
       let long = AreLinesOf-length (start_of terms) r.entries part.done part.state part.entries in
       let split : lines ≡ part.done ++ line ∷ lines_of after = part.split ∙ ap (λ rest. part.done ++ rest) first in
       let whole : length lines ≡ length (part.done ++ line ∷ lines_of after) = ap length split in
       let sum = length-append part.done (line ∷ lines_of after) in
-      let same = part_state r rest part t stands in
       let refuser = part_state r rest part refuses.0 refuses.1 in
       let at_line : slice_index_or lines (length r.entries) [] ≡ line =
       ap (λ ls. slice_index_or ls (length r.entries) []) split ∙ (ap (λ n. slice_index_or (part.done ++ line ∷ lines_of after) n []) long ∙ get_or-append_seam part.done line (lines_of after) []) in
       let fault : IsLineFault why (length r.entries) part.state line = subst (λ (s : State). IsLineFault why (length r.entries) s line) refuser refuses.2 in
       record {
-        count = length r.entries;
         state = part.state;
+        same_id = part.same_id;
+        same_terms = part.same_terms;
         longest = record {
           stands = part_stands r rest part;
           longest = λ m s h. elim (cases_lt (length r.entries) m) [
@@ -121,21 +125,35 @@ module _ (terms : Terms) (lines : List (List ℕ)) where
             | inr within ↦ within
           ];
         };
-        line = refused_line (length r.entries + 2) why;
-        named = rw refused (omega (arith, whole, sum, long), refl, (why, rw at_line fault, refl));
-        printed = subst (λ (s : State). text ≡ board_text s ++ line_text (refused_line (length r.entries + 2) why)) same printed;
+        entries = part_lines r rest part;
+        stop = (omega (arith, whole, sum, long), rw at_line fault);
       }
 
-  -- the judgements of the two ways to end
-  pub judged_fine : {E : Type 0} (r : Log) (result : Result Judgement E) → IsPartRead terms lines r [] → IfOk result (λ j. (t : State) × StandsAt r.terms r.entries t
-      × (j.text.items ≡ board_text t ++ line_text (fine_line (length r.entries))) × (j.verdict ≡ Fine (length r.entries)))
-      → IfOk result (λ j. IsJudged terms lines j.text.items j.verdict)
-  judged_fine r (Ok j) part h = part_fine r j.text.items j.verdict h.0 part h.1 h.2 h.3
-  judged_fine r (Err e) part h = tt
+  -- where the record that is read stands
+  read_state : (r : Log) (why : Option LineFault) (read : AreRead id terms lines r why) (t : State) → StandsAt r.terms r.entries t → t ≡ read.state
+  read_state r why read t stands =
+      one_standing terms r.entries t read.state (subst (λ (m : Terms). StandsAt m r.entries t) read.same_terms stands)
+      (AreLinesOf-Leads (start_of terms) r.entries (take (length r.entries) lines) read.state read.entries)
 
-  pub judged_refused : {E : Type 0} (r : Log) (result : Result Judgement E) (rest after line : List ℕ) (why : LineFault) → IsPartRead terms lines r rest → lines_of rest ≡ line ∷ lines_of after
-      → RefusesLine (RefusedLine why) r line → IfOk result (λ j. (t : State) × StandsAt r.terms r.entries t
-      × (j.text.items ≡ board_text t ++ line_text (refused_line (length r.entries + 2) why)) × (j.verdict ≡ Refused (length r.entries + 2)))
-      → IfOk result (λ j. IsJudged terms lines j.text.items j.verdict)
-  judged_refused r (Ok j) rest after line why part first refuses h = part_refused r rest after line why j.text.items j.verdict h.0 part first refuses h.1 h.2 h.3
-  judged_refused r (Err e) rest after line why part first refuses h = tt
+  -- the judgements of the two ways to end
+  pub judged_fine : (r : Log) (text : List ℕ) (verdict : Verdict) (t : State) → AreRead id terms lines r None → StandsAt r.terms r.entries t
+      → text ≡ board_text t ++ line_text (fine_line (length r.entries)) → verdict ≡ Fine (length r.entries) → IsJudged terms lines text verdict
+  judged_fine r text verdict t read stands printed fine = record {
+    count = length r.entries;
+    state = read.state;
+    longest = read.longest;
+    line = fine_line (length r.entries);
+    named = rw fine (read.stop, refl, refl);
+    printed = subst (λ (s : State). text ≡ board_text s ++ line_text (fine_line (length r.entries))) (read_state r None read t stands) printed;
+  }
+
+  pub judged_refused : (r : Log) (why : LineFault) (text : List ℕ) (verdict : Verdict) (t : State) → AreRead id terms lines r (Some why) → StandsAt r.terms r.entries t
+      → text ≡ board_text t ++ line_text (refused_line (length r.entries + 2) why) → verdict ≡ Refused (length r.entries + 2) → IsJudged terms lines text verdict
+  judged_refused r why text verdict t read stands printed refused = record {
+    count = length r.entries;
+    state = read.state;
+    longest = read.longest;
+    line = refused_line (length r.entries + 2) why;
+    named = rw refused (read.stop.0, refl, (why, read.stop.1, refl));
+    printed = subst (λ (s : State). text ≡ board_text s ++ line_text (refused_line (length r.entries + 2) why)) (read_state r (Some why) read t stands) printed;
+  }

@@ -22,7 +22,7 @@ use Rattle.bg_text.specs.Entries.EntryText.{entry_text, IsSeatOf}
 use Rattle.bg_text.specs.Boards.Transcript.{AreLinesOf}
 use Rattle.bg_text.specs.Judge.Judging.{IsRefusal}
 use Rattle.bg_text.specs.Judge.Reading.{IsReadAs, IsLineAt, AddsLine, RefusesLine, fault_of_push}
-use Rattle.bg_text.specs.declared.judging.AddFault.TheVariants.{Refused}
+use Rattle.bg_text.specs.declared.judging.reading.AddFault.TheVariants.{Refused}
 use Rattle.bg_text.specs.declared.faults.LineFault.{LineFault}
 use Rattle.bg_text.specs.declared.faults.LineFault.TheVariants.{Entry as RefusedEntry}
 use Rattle.bg_text.specs.declared.faults.TextFault.{TextFault}
@@ -137,12 +137,12 @@ line_at s line e t read follows =
 
 module _ (r : Log) (s : State) (line : List ℕ) (stands : StandsAt r.terms r.entries s) where
   -- a line whose entry was added
-  pub line_added : (e : Entry) (new : Log) → IsReadAs s line e → new.entries ≡ r.entries ++ e ∷ [] → new.terms ≡ r.terms → IsLegalRecord new.terms new.entries → AddsLine r new line
-  line_added e new read is same legal =
+  pub line_added : (e : Entry) (new : Log) → IsReadAs s line e → new.entries ≡ r.entries ++ e ∷ [] → new.terms ≡ r.terms → new.id ≡ r.id → IsLegalRecord new.terms new.entries → AddsLine r new line
+  line_added e new read is same numbered legal =
       let legal_here : IsNext r.terms r.entries e = rw (is, same) at legal in
       let follows = Leads-last (start_of r.terms) r.entries e s legal_here.1.0 stands legal_here.1.1 in
       let more = length-append r.entries (e ∷ []) in
-      (e, s, stands, line_at s line e legal_here.1.0 read follows, omega (arith, legal_here.0, more), is, same)
+      (e, s, stands, line_at s line e legal_here.1.0 read follows, omega (arith, legal_here.0, more), is, same, numbered)
 
   -- the fault of an entry is that of its line
   refusal_of : (why : EntryFault) (e : Entry) → why ≢ entry_fault.Memory → IsRecordFault why r e → IsRefusal why (length r.entries) s e

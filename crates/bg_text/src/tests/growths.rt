@@ -1,7 +1,7 @@
 //! Refused growths.
 use super::devices::verdict_on;
-use super::records::{MATCH, TEXT_OF_MATCH, record};
-use crate::{Verdict, board_text, judge_text, transcript_text};
+use super::records::{MATCH, TEXT_OF_MATCH, check_is_match, record};
+use crate::{TranscriptFault, Verdict, board_text, judge_text, read_transcript, transcript_text};
 use bg_streams::EngineFault;
 use std::alloc::{AllocError, Global};
 use std::test::Fail;
@@ -39,6 +39,17 @@ fn refused_growths_of_transcripts(rt: HostRuntime) -> Result<(), Fail> {
         Err(_) => transcript_text(rt.alloc(), &record)?,
     };
     assert_eq!(rt; transcript.as_slice(), MATCH.as_bytes());
+    check_no_growth_is_left(rt.alloc())
+}
+
+/// The same, of a record that is read.
+#[test]
+fn refused_growths_of_records_that_are_read(rt: HostRuntime) -> Result<(), Fail> {
+    let record = match read_transcript(rt.alloc(), 7, MATCH.as_bytes()) {
+        Err(TranscriptFault::Memory) => read_transcript(rt.alloc(), 7, MATCH.as_bytes())?,
+        read => read?,
+    };
+    check_is_match(&rt, &record)?;
     check_no_growth_is_left(rt.alloc())
 }
 

@@ -1,5 +1,5 @@
 //! The words of refusals and of faults.
-use crate::{TextFault, reason_text};
+use crate::{TextFault, TranscriptFault, reason_text};
 use bg_match::{EntryFault, NoDouble};
 use bg_streams::{EngineFault, StreamFault};
 use bg_turns::TurnFault;
@@ -73,5 +73,8 @@ fn faults_are_printed(rt: HostRuntime) -> Result<(), Fail> {
     check_printed(&rt, EngineFault::Memory, "out of memory")?;
     check_printed(&rt, TextFault::NotALine, "not a line")?;
     check_printed(&rt, TextFault::BadNumber, "bad number")?;
-    check_printed(&rt, TextFault::TooManySteps, "too many steps")
+    check_printed(&rt, TextFault::TooManySteps, "too many steps")?;
+    check_printed(&rt, TranscriptFault::Refused(12), "refused at line 12")?;
+    check_printed(&rt, TranscriptFault::TooLong, "input too long")?;
+    check_printed(&rt, TranscriptFault::Memory, "out of memory")
 }

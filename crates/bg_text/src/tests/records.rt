@@ -1,4 +1,5 @@
 //! The match of these tests, as a text and as a record, its picture, and a record that is full.
+use crate::transcript_text;
 use arrayvec::ArrayVec;
 use bg_board::{Die, Step};
 use bg_match::{Entry, Level, Record, Rules};
@@ -41,6 +42,18 @@ pub(crate) fn record(rt: &(impl AllocGlobal + Abort)) -> Result<Record, Fail> {
         }
     }
     Ok(record)
+}
+
+/// That a record is that of MATCH, as match number 7.
+pub(crate) fn check_is_match(rt: &(impl AllocGlobal + Abort), read: &Record) -> Result<(), Fail> {
+    assert_eq!(rt; (read.id(), read.len(), read.length()), (7, 2, 1));
+    assert!(rt; read.rules() == Rules::One);
+    let written = match transcript_text(rt.alloc(), read) {
+        Ok(text) => text,
+        Err(_) => transcript_text(rt.alloc(), read)?,
+    };
+    assert_eq!(rt; written.as_slice(), MATCH.as_bytes());
+    Ok(())
 }
 
 /// A record that is full: an opening, offers and their replies, and an offer.

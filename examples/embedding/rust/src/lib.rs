@@ -26,14 +26,15 @@ pub enum Status {
     NotDue,
     WordRefused,
     NotToMove,
+    Refused,
 }
 
 use Status::*;
 
 /// Every status, in the order of the numbers.
-pub const STATUSES: [Status; 16] = [
+pub const STATUSES: [Status; 17] = [
     Memory, BadArgument, NotOpen, WrongParty, NotAPacket, NotAnAction, Damaged, WrongMatch, WrongSave, SavesSpent,
-    NotYourTurn, AlreadyClaimed, Illegal, NotDue, WordRefused, NotToMove,
+    NotYourTurn, AlreadyClaimed, Illegal, NotDue, WordRefused, NotToMove, Refused,
 ];
 
 const OK: u32 = 0;

@@ -1,6 +1,6 @@
 use Rattle.std.proofs.Common.{◌≡◌, Ok, ap, rules}
 use Rattle.bg_text.proofs.Judged.ReadLines.{read_of_line, same_found}
-use Rattle.bg_text.proofs.judging.read_line.Goals as goal
+use Rattle.bg_text.proofs.judging.reading.read_line.Goals as goal
 
 pub returns-in_err-seat-clause-only : goal.returns-in_err-seat-clause-only
 returns-in_err-seat-clause-only c e at =

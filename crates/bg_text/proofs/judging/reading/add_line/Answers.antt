@@ -3,7 +3,7 @@ use Rattle.std.proofs.lemmas.Result.{err_from_is_err_and}
 use Rattle.bg_match.specs.declared.entries.Entry.{Entry}
 use Rattle.bg_text.specs.Judge.Reading.{IsLineAt}
 use Rattle.bg_text.proofs.Judged.ReadLines.{line_added, line_refused, same_ok, refused_illegal}
-use Rattle.bg_text.proofs.judging.add_line.Goals as goal
+use Rattle.bg_text.proofs.judging.reading.add_line.Goals as goal
 
 pub returns-in_err-push-clause-fault : goal.returns-in_err-push-clause-fault
 returns-in_err-push-clause-fault c =
@@ -18,5 +18,5 @@ returns-in_err-push-clause-fault c =
 pub returns-clause-added : goal.returns-clause-added
 returns-clause-added c =
     line_added c.args.log.now c.standing.result c.args.line.now c.standing.ensures.stands c.in_ok-entry.entry c.push.new.self
-    c.in_ok-entry.ensures.found (ap (λ log. log.entries) c.in_ok-push.ensures.appended) (ap (λ log. log.terms) c.in_ok-push.ensures.appended)
+    c.in_ok-entry.ensures.found (ap (λ log. log.entries) c.in_ok-push.ensures.appended) (ap (λ log. log.terms) c.in_ok-push.ensures.appended) (ap (λ log. log.id) c.in_ok-push.ensures.appended)
     c.in_ok-push.ensures.legal
