@@ -15,4 +15,4 @@ IsLoopResult sink setup rounds (Err Memory) before after = after ≡ before
 IsLoopResult sink setup rounds result before after =
     (link : LinkView) × (referee_keeper : KeeperView) × (x_keeper : KeeperView) × (o_keeper : KeeperView)
     × IsRoundsResult sink ⊥ ⊥ setup (start_moment setup link referee_keeper x_keeper o_keeper) rounds result before
-        after
+    after
