@@ -1,0 +1,12 @@
+pub mod Elements
+pub mod Numberings
+pub mod Places
+pub mod Shapes
+pub mod Descriptions
+pub mod Stacks
+pub mod Tables
+pub mod Pictures
+pub mod Escapes
+pub mod Items
+pub mod PageParts
+pub mod Pages

@@ -1,0 +1,7 @@
+//! Pictures and pages. The expected texts are worked out by hand, from where things stand on a board.
+mod growths;
+mod pages;
+mod pictures;
+mod records;
+mod standings;
+mod uses;
