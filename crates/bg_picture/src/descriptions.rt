@@ -3,20 +3,27 @@ ghost use Rattle.std.specs.Prelude.{◌≡◌, ◌≤◌, ◌-◌, ◌++◌, OnO
 ghost use Rattle.std.specs.List.{list_all};
 ghost use Rattle.bg_text.specs.Boards.BoardText.{is_point};
 ghost use Rattle.bg_picture.specs.Descriptions.{crawford_words as crawford_mark, game_words, score_words, cube_words};
-ghost use Rattle.bg_picture.specs.Descriptions.{terms_words};
+ghost use Rattle.bg_picture.specs.Descriptions.{phase_words, terms_words};
 ghost use Rattle.bg_picture.specs.Descriptions.{owner_words, number_for as number_of, point_words, bar_words, off_words};
 ghost use Rattle.bg_picture.specs.Descriptions.{points_words, checkers_words, reader_words, description, titles_text};
 
-use crate::phase_words::{letter, put_phase};
 use bg_board::{BAR, Board, OFF, Player};
 use bg_match::{Cube, Standing};
-use bg_text::{put_number, put_terms, put_text};
+use bg_text::{letter, put_number, put_phase, put_terms, put_text};
 use std::alloc::AllocError;
 
 /// The points of the board from a player's greatest on.
 const POINTS_DOWN: [u8; 24] = [
     24, 23, 22, 21, 20, 19, 18, 17, 16, 15, 14, 13, 12, 11, 10, 9, 8, 7, 6, 5, 4, 3, 2, 1,
 ];
+
+/// Adds what is to happen next.
+#[tactic(auto, unfolding(crate::specs::Descriptions::phase_words))]
+pub(crate) fn put_phase_words(out: &mut Vec<u8>, standing: &Standing) -> Result<(), AllocError>
+    ensures { OnOk result (out.new.items ≡ out.old.items ++ phase_words standing.now) }
+{
+    put_phase(out, standing)
+}
 
 /// Adds the title and the description of a picture whose points have the numbers of a player.
 #[tactic(auto, unfolding(crate::specs::Descriptions::titles_text))]
@@ -28,7 +35,7 @@ pub(crate) fn put_titles(
     ensures { OnOk result (out.new.items ≡ out.old.items ++ titles_text standing.now reader) }
 {
     put_text(out, "<title>")?;
-    put_phase(out, standing)?;
+    put_phase_words(out, standing)?;
     put_text(out, "</title><desc>")?;
     put_description(out, standing, reader)?;
     put_text(out, "</desc>")

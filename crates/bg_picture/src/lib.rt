@@ -16,7 +16,6 @@ mod items;
 mod numberings;
 mod page_parts;
 mod pages;
-mod phase_words;
 mod pictures;
 mod places;
 mod shapes;

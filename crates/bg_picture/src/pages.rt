@@ -6,11 +6,10 @@ ghost use Rattle.bg_picture.specs.Pages.{page_end, page_start, refresh_text, sha
 ghost use Rattle.bg_picture.specs.Pages.{summary_text, title_text};
 
 use crate::Numbering;
-use crate::descriptions::put_standing;
+use crate::descriptions::{put_phase_words, put_standing};
 use crate::escapes::put_escaped;
 use crate::items::{put_entry, put_item};
 use crate::page_parts::{put_head_start, put_page_style, put_script, put_view};
-use crate::phase_words::put_phase;
 use crate::shapes::{put_shapes, put_style};
 use crate::stacks::put_numbers;
 use bg_board::Player;
@@ -188,7 +187,7 @@ fn put_summary(out: &mut Vec<u8>, standing: &Standing) -> Result<(), AllocError>
     put_text(out, "<p>")?;
     put_standing(out, standing)?;
     put_text(out, "; ")?;
-    put_phase(out, standing)?;
+    put_phase_words(out, standing)?;
     put_text(out, "</p>\n")
 }
 

@@ -6,9 +6,8 @@ ghost use Rattle.bg_picture.specs.Pictures.{picture_start, picture_text as text_
 ghost use Rattle.bg_picture.specs.Pictures.{scores_text, shapes_text, style_text};
 
 use crate::Numbering;
-use crate::descriptions::{put_game, put_titles};
+use crate::descriptions::{put_game, put_phase_words, put_titles};
 use crate::elements::{begin_group, begin_words, end_group, end_words, put_shape};
-use crate::phase_words::put_phase;
 use crate::shapes::{put_shapes, put_style};
 use crate::stacks::{numbers_name, put_checkers, put_numbers};
 use crate::tables::{put_cube, put_table};
@@ -143,7 +142,7 @@ fn put_phase_caption(out: &mut Vec<u8>, standing: &Standing) -> Result<(), Alloc
     ensures { OnOk result (out.new.items ≡ out.old.items ++ phase_caption standing.now) }
 {
     begin_words(out, 0, 549)?;
-    put_phase(out, standing)?;
+    put_phase_words(out, standing)?;
     end_words(out)
 }
 

@@ -1,15 +1,17 @@
 //! The cube, the dice and the offers of a picture.
 ghost use Rattle.std.specs.Prelude.{◌≡◌, ◌≤◌, ◌<◌, ◌+◌, ◌++◌, OnOk, IsTrue};
+ghost use Rattle.bg_board.specs.declared.players.Player.{Player};
+ghost use Rattle.bg_turns.specs.declared.throws.Dice.{Dice};
 ghost use Rattle.bg_match.specs.Actor.{passes};
 ghost use Rattle.bg_picture.specs.Tables.{cube_at, cube_text, dice_text, die_name as name_of_die, die_text};
 ghost use Rattle.bg_picture.specs.Tables.{offer_text, pass_text, table_text};
 
 use crate::elements::{begin_group, end_group, put_count, put_shape, put_words};
-use crate::phase_words::{is_passing, level_word};
 use crate::places::{cube_height, half};
 use crate::stacks::class;
 use bg_board::{Die, Player};
-use bg_match::{Cube, Level, Phase, Standing};
+use bg_match::{Actor, Cube, Level, Phase, Standing};
+use bg_text::level_word;
 use bg_turns::Dice;
 use std::alloc::AllocError;
 
@@ -53,6 +55,14 @@ pub(crate) fn put_table(out: &mut Vec<u8>, standing: &Standing) -> Result<(), Al
         }
         _ => Ok(()),
     }
+}
+
+/// Whether a player's dice are to be passed: then the referee acts.
+fn is_passing(standing: &Standing) -> bool
+    ensures { (player : Player) (dice : Dice) → standing.now.phase ≡ Phase.ToMove player dice
+        → result ≡ passes standing.now }
+{
+    matches!(standing.actor(), Actor::Referee)
 }
 
 /// Adds the dice of a player.

@@ -1,1 +1,4 @@
+pub mod CutLines
 pub mod HeldFiles
+pub mod LineAt
+pub mod SameFronts

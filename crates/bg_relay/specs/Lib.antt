@@ -1,3 +1,7 @@
 pub mod Show
 pub mod Ending
 pub mod Acting
+pub mod Check
+pub mod Harmless
+pub mod Restored
+pub mod Folder

@@ -3,9 +3,14 @@
 
 mod act;
 mod auto;
+mod check;
+mod export;
+mod import;
 mod judge;
 mod new_match;
 mod options;
+mod page;
+mod picture;
 mod play;
 mod play_loop;
 mod referee;
@@ -37,7 +42,12 @@ pub(crate) fn command_line<'a>(alloc: Global) -> Result<Command<'a>, Error> {
             .subcommand_required(true)
             .arg_required_else_help(true)
             .subcommand(judge::command(alloc)?)?
+            .subcommand(check::command(alloc)?)?
+            .subcommand(import::command(alloc)?)?
+            .subcommand(export::command(alloc)?)?
             .subcommand(show::command(alloc)?)?
+            .subcommand(page::command(alloc)?)?
+            .subcommand(picture::command(alloc)?)?
             .subcommand(script::command(alloc)?)?
             .subcommand(sim::command(alloc)?)?
             .subcommand(play_loop::command(alloc)?)?
@@ -50,15 +60,27 @@ pub(crate) fn command_line<'a>(alloc: Global) -> Result<Command<'a>, Error> {
     )
 }
 
-/// Runs the command that the arguments name; somebody may watch the standard error. It is said already why a command
-/// ended early.
-pub(crate) fn run<R>(rt: &R, matches: &ArgMatches<'_>, is_watched: bool) -> Result<Ending, Ending>
+/// Runs the command that the arguments name; somebody may watch the standard error, and the standard output may be a
+/// screen of so many columns. It is said already why a command ended early.
+pub(crate) fn run<R>(
+    rt: &R,
+    matches: &ArgMatches<'_>,
+    is_watched: bool,
+    columns: Option<usize>,
+) -> Result<Ending, Ending>
 where
     R: Input + Files<File = File> + Net + Clock + RandomSource + Print + Eprint + AllocGlobal,
 {
     match matches.subcommand() {
         Some(("judge", options)) => judge::run(rt, options),
+        Some(("check", options)) => {
+            check::run(rt, options, columns, Progress::start(rt, is_watched))
+        }
+        Some(("import", options)) => import::run(rt, options),
+        Some(("export", options)) => export::run(rt, options),
         Some(("show", options)) => show::run(rt, options),
+        Some(("page", options)) => page::run(rt, options),
+        Some(("picture", options)) => picture::run(rt, options),
         Some(("script", options)) => script::run(rt, options),
         Some(("sim", options)) => sim::run(rt, options, Progress::start(rt, is_watched)),
         Some(("loop", options)) => play_loop::run(rt, options, Progress::start(rt, is_watched)),

@@ -10,8 +10,19 @@ pub const DONE: u8 = 0;
 /// The status where reading, writing or memory failed.
 pub const FAILED: u8 = 1;
 
-/// The status where the arguments, the transcript, the script or both of the files are refused.
+/// The status where the arguments, the transcript, the script, both saved files or one of many files are refused.
 pub const REFUSED: u8 = 2;
+
+/// The worst that was found of many files.
+#[derive(Clone, Copy, Debug, PartialEq, Eq)]
+pub enum Found {
+    /// All are good.
+    Good,
+    /// One is refused.
+    Refused,
+    /// One could not be judged.
+    Unjudged,
+}
 
 /// What a command came to.
 #[derive(Clone, Copy, Debug, PartialEq, Eq)]
@@ -32,6 +43,8 @@ pub enum Ending {
     ActionRefused,
     /// Two saved files were shown; whether one of them loads.
     Shown { loads: bool },
+    /// Many files were judged.
+    Checked(Found),
     /// Reading, writing or memory failed.
     Failed,
 }
@@ -47,12 +60,14 @@ impl Ending {
             | Ending::Served
             | Ending::Judged(Verdict::Fine(_))
             | Ending::Played(Verdict::Fine(_))
+            | Ending::Checked(Found::Good)
             | Ending::Shown { loads: true } => DONE,
-            Ending::Failed => FAILED,
+            Ending::Checked(Found::Unjudged) | Ending::Failed => FAILED,
             Ending::WrongArguments
             | Ending::ActionRefused
             | Ending::Judged(Verdict::Refused(_) | Verdict::TooLong)
             | Ending::Played(Verdict::Refused(_) | Verdict::TooLong)
+            | Ending::Checked(Found::Refused)
             | Ending::Shown { loads: false } => REFUSED,
         }
     }

@@ -4,11 +4,21 @@
 
 mod answers;
 mod beginnings;
+mod checkers;
+mod checking;
 mod commands;
+mod comparing;
 mod endings;
+mod folders;
+mod harmless;
+mod inputs;
 mod messages;
+mod published;
+mod restored;
+mod screens;
 mod seats;
 mod showing;
+mod tallies;
 mod tellings;
 #[cfg(test)]
 mod tests;
@@ -48,9 +58,12 @@ fn run(rt: &HostRuntime) -> Ending {
         return no_memory(rt);
     };
     match command.try_get_matches_from(words.as_slice()) {
-        Ok(matches) => match commands::run(rt, &matches, rt.stderr().is_terminal()) {
-            Ok(ending) | Err(ending) => ending,
-        },
+        Ok(matches) => {
+            let is_watched = rt.stderr().is_terminal();
+            match commands::run(rt, &matches, is_watched, screens::columns(rt)) {
+                Ok(ending) | Err(ending) => ending,
+            }
+        }
         Err(error) => answer(rt, &error),
     }
 }

@@ -13,7 +13,7 @@ use bg_wire::{LoadFault, Saved, load};
 use std::alloc::{AllocError, Global};
 
 /// What a file holds: what was saved, or why its bytes are no saved text.
-type Held = Result<Saved, LoadFault>;
+pub(crate) type Held = Result<Saved, LoadFault>;
 
 /// A line for each of two saved files of a party, and the board of what the two restore; and whether one loads
 /// (docs/FORMATS.md, "Showing saved files").
@@ -33,7 +33,7 @@ pub fn show_text(alloc: Global, file0: &[u8], file1: &[u8]) -> Result<(Vec<u8>, 
 }
 
 /// What a file holds.
-fn hold(alloc: Global, bytes: &[u8]) -> Result<Held, AllocError>
+pub(crate) fn hold(alloc: Global, bytes: &[u8]) -> Result<Held, AllocError>
     ensures holds { IfOk result (λ held. IsHeld bytes.now (held_of held)) }
     ensures loads { IfOk result (λ held. LoadsAs bytes.now (loaded_of held)) }
 {
@@ -56,7 +56,7 @@ fn put_file(out: &mut Vec<u8>, file: u8, held: &Held) -> Result<(), AllocError>
 }
 
 /// Adds what is said of a file.
-fn put_held(out: &mut Vec<u8>, held: &Held) -> Result<(), AllocError>
+pub(crate) fn put_held(out: &mut Vec<u8>, held: &Held) -> Result<(), AllocError>
     ensures { OnOk result (out.new.items ≡ out.old.items ++ held_part (held_of held.now)) }
 {
     match held {
@@ -108,7 +108,11 @@ fn put_claim(out: &mut Vec<u8>, claim: &Option<(Number, Action)>) -> Result<(), 
 }
 
 /// Adds some words, and the number behind them, if there is one.
-fn put_numbered(out: &mut Vec<u8>, words: &str, number: Option<u64>) -> Result<(), AllocError>
+pub(crate) fn put_numbered(
+    out: &mut Vec<u8>,
+    words: &str,
+    number: Option<u64>,
+) -> Result<(), AllocError>
     ensures { OnOk result (out.new.items ≡ out.old.items ++ numbered words.now number) }
 {
     put_text(out, words)?;
@@ -132,7 +136,11 @@ fn put_board(alloc: Global, out: &mut Vec<u8>, zero: &Held, one: &Held) -> Resul
 }
 
 /// Adds the board of a saved match.
-fn put_board_of(alloc: Global, out: &mut Vec<u8>, saved: &Saved) -> Result<(), AllocError>
+pub(crate) fn put_board_of(
+    alloc: Global,
+    out: &mut Vec<u8>,
+    saved: &Saved,
+) -> Result<(), AllocError>
     ensures { OnOk result ((board : List ℕ) × IsBoardOf (Some (parts_of saved.now)) board
         × (out.new.items ≡ out.old.items ++ board)) }
 {

@@ -1,8 +1,10 @@
 //! The command line, and what is shown of saved files.
+mod checking;
 mod folders;
 mod kept_output;
 mod operators;
 mod rules;
+mod shown_folders;
 mod sim;
 
 use crate::commands::command_line;
@@ -20,7 +22,7 @@ fn judge_is_a_command(rt: HostRuntime) -> Result<(), Fail> {
 }
 
 /// These words are refused so.
-fn check_refused(
+pub(crate) fn check_refused(
     rt: &(impl AllocGlobal + Abort),
     words: &[&str],
     kind: ErrorKind,
@@ -54,30 +56,30 @@ fn other_words_are_refused(rt: HostRuntime) -> Result<(), Fail> {
 }
 
 /// Save 2 of the referee of match 1, length 1: an opening and its move.
-const REFEREE: [u8; 33] = [
+pub(crate) const REFEREE: [u8; 33] = [
     0x42, 0x47, 0x53, 0x32, 0, 0, 0, 0, 0, 0, 0, 0, 1, 1, 1, 0, 0, 0, 2, 0, 0, 0, 0, 2, 1, 3, 1, 6,
     2, 8, 5, 6, 5,
 ];
 
 /// The same in the layout that is read, and no longer written.
-const REFEREE_OF_OLD: [u8; 30] = [
+pub(crate) const REFEREE_OF_OLD: [u8; 30] = [
     0x42, 0x47, 0x53, 0x31, 0, 0, 0, 0, 0, 0, 0, 0, 1, 1, 0, 0, 0, 2, 0, 0, 2, 1, 3, 1, 6, 2, 8, 5,
     6, 5,
 ];
 
 /// Save 3 of the referee of the same match, which has the opening alone.
-const OPENING: [u8; 27] = [
+pub(crate) const OPENING: [u8; 27] = [
     0x42, 0x47, 0x53, 0x32, 0, 0, 0, 0, 0, 0, 0, 0, 1, 1, 1, 0, 0, 0, 3, 0, 0, 0, 0, 1, 1, 3, 1,
 ];
 
 /// Save 1 of the seat of X, which has the opening and claims its move as entry 2, in the layout that is no longer
 /// written.
-const SEAT: [u8; 32] = [
+pub(crate) const SEAT: [u8; 32] = [
     0x42, 0x47, 0x53, 0x31, 1, 0, 0, 0, 0, 0, 0, 0, 1, 1, 0, 0, 0, 1, 1, 0, 2, 6, 2, 8, 5, 6, 5, 0,
     1, 1, 3, 1,
 ];
 
-const AFTER_THE_MOVE: &str = "length 1 game 1 score 0-0 cube 1 middle crawford
+pub(crate) const AFTER_THE_MOVE: &str = "length 1 game 1 score 0-0 cube 1 middle crawford
   13  14  15  16  17  18  19  20  21  22  23  24
   X5   .   .   .  O3   .  O5   .   .   .   .  X2
   O5   .   .   .  X2   .  X4  X2   .   .   .  O2
@@ -86,7 +88,7 @@ bar X 0 O 0 off X 0 O 0
 O to roll
 ";
 
-const AFTER_THE_OPENING: &str = "length 1 game 1 score 0-0 cube 1 middle crawford
+pub(crate) const AFTER_THE_OPENING: &str = "length 1 game 1 score 0-0 cube 1 middle crawford
   13  14  15  16  17  18  19  20  21  22  23  24
   X5   .   .   .  O3   .  O5   .   .   .   .  X2
   O5   .   .   .  X3   .  X5   .   .   .   .  O2

@@ -19,6 +19,8 @@ mod lone_table;
 #[cfg(test)]
 mod lone_tests;
 #[cfg(test)]
+mod match_files;
+#[cfg(test)]
 mod own_devices;
 #[cfg(test)]
 mod post_link;

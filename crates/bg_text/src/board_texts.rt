@@ -36,7 +36,7 @@ pub fn board_text(alloc: Global, standing: &Standing) -> Result<Vec<u8>, AllocEr
     put_cells(&mut out, &board, &LOWER)?;
     put_numbers(&mut out, &LOWER)?;
     put_aside(&mut out, &board)?;
-    put_phase(&mut out, standing)?;
+    put_phase_line(&mut out, standing)?;
     Ok(out)
 }
 
@@ -183,15 +183,19 @@ fn put_counts(out: &mut Vec<u8>, board: &Board, point: u8) -> Result<(), AllocEr
 }
 
 /// Adds the last line: what is to happen next.
-fn put_phase(out: &mut Vec<u8>, standing: &Standing) -> Result<(), AllocError>
+fn put_phase_line(out: &mut Vec<u8>, standing: &Standing) -> Result<(), AllocError>
     ensures { OnOk result (out.new.items ≡ out.old.items ++ line_text (phase_line standing.now)) }
 {
-    put_phase_words(out, standing)?;
+    put_phase(out, standing)?;
     put_text(out, "\n")
 }
 
-/// Adds what is to happen next.
-fn put_phase_words(out: &mut Vec<u8>, standing: &Standing) -> Result<(), AllocError>
+/// Adds what is to happen next, as in `X to roll`: the last line of the board text, without its line feed
+/// (docs/FORMATS.md, "Board text").
+///
+/// # Errors
+/// AllocError where there is no memory; then some of it may be added.
+pub fn put_phase(out: &mut Vec<u8>, standing: &Standing) -> Result<(), AllocError>
     ensures { OnOk result (out.new.items ≡ out.old.items ++ phase_line standing.now) }
 {
     match standing.phase() {

@@ -21,8 +21,9 @@ mod terms_texts;
 mod tests;
 mod transcripts;
 
-pub use board_texts::board_text;
+pub use board_texts::{board_text, put_phase};
 pub use entries::lines::{parse_action, parse_entry, split_player};
+pub use entries::names::{letter, level_word};
 pub use entries::words::thirds;
 pub use entries::writing::{entry_text, entry_texts_differ};
 pub use faults::{TextFault, TranscriptFault};

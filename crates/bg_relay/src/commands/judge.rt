@@ -1,8 +1,8 @@
 //! The command that judges a transcript.
 
-use crate::commands::options::{MISPLACED_FILE, misplaced_file};
+use crate::commands::options::{misplaced_file, refuse_misplaced};
 use crate::endings::Ending;
-use crate::messages::{engine_failed, wrong};
+use crate::messages::engine_failed;
 use bg_streams::{Reading, Writing};
 use bg_text::judge;
 use clap::{ArgMatches, Command, Error};
@@ -49,12 +49,7 @@ pub(crate) fn run<R>(rt: &R, options: &ArgMatches<'_>) -> Result<Ending, Ending>
 where
     R: Input + Print + Eprint + AllocGlobal,
 {
-    if options.contains_id(MISPLACED_FILE) {
-        return Err(wrong(
-            rt,
-            "a file is handed in on the standard input: bg_relay judge < FILE",
-        ));
-    }
+    refuse_misplaced(rt, options, "judge")?;
     let mut input = Reading::new(rt.reader());
     let mut output = Writing::new(io::writer(rt));
     match judge(rt.alloc(), &mut input, &mut output) {

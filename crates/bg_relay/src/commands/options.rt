@@ -1,7 +1,10 @@
 //! The options that several commands have.
 
+use crate::endings::Ending;
+use crate::messages::wrong;
 use bg_board::Player;
 use bg_match::{LONGEST_MATCH, Rules, SHORTEST_MATCH};
+use bg_picture::Numbering;
 use bg_world::MOST_WATCHERS;
 use clap::{Arg, ArgMatches, Error, value_parser};
 use std::alloc::Global;
@@ -9,9 +12,15 @@ use std::alloc::Global;
 /// The names of the players.
 const PLAYERS: [&str; 2] = ["X", "O"];
 
+/// In whose numbers points may be named.
+const NUMBERINGS: [&str; 2] = ["mover", "X"];
+
+/// The title of a page that is given none.
+const USUAL_TITLE: &str = "Backgammon match";
+
 /// A file that is named to a command which reads the standard input. It is an argument that help leaves out, so that
 /// the answer can say how to hand the file in.
-pub(crate) const MISPLACED_FILE: &str = "FILE";
+const MISPLACED_FILE: &str = "FILE";
 
 /// How a match between processes begins, for the help of each of its commands.
 pub(crate) const THREE_TERMINALS: &str =
@@ -27,6 +36,21 @@ bg_relay watch --match table/match. Each process may be ended and started again 
 
 pub(crate) fn misplaced_file<'a>(alloc: Global) -> Arg<'a> {
     Arg::new(alloc, MISPLACED_FILE).hide(true)
+}
+
+/// Refuses a file that is named to a command which reads the standard input.
+pub(crate) fn refuse_misplaced(
+    rt: &impl Eprint,
+    options: &ArgMatches<'_>,
+    command: &str,
+) -> Result<(), Ending> {
+    if options.contains_id(MISPLACED_FILE) {
+        return Err(wrong(
+            rt,
+            format_args!("a file is handed in on the standard input: bg_relay {command} < FILE"),
+        ));
+    }
+    Ok(())
 }
 
 pub(crate) fn seed_option<'a>(alloc: Global) -> Arg<'a> {
@@ -92,6 +116,38 @@ pub(crate) fn player_in(options: &ArgMatches<'_>) -> Option<Player> {
         "O" => Some(Player::O),
         _ => None,
     }
+}
+
+pub(crate) fn numbering_option<'a>(alloc: Global) -> Arg<'a> {
+    Arg::new(alloc, "numbering")
+        .long("numbering")
+        .value_name("WHOSE")
+        .value_parser(NUMBERINGS.as_slice())
+        .default_value("mover")
+        .help(
+            "In whose numbers the points are: those of the player who moves, or always those of X",
+        )
+}
+
+/// In whose numbers the points are, by the options.
+pub(crate) fn numbering_in(options: &ArgMatches<'_>) -> Numbering {
+    match options.get_str("numbering") {
+        Some("X") => Numbering::X,
+        _ => Numbering::Mover,
+    }
+}
+
+pub(crate) fn title_option<'a>(alloc: Global) -> Arg<'a> {
+    Arg::new(alloc, "title")
+        .long("title")
+        .value_name("TITLE")
+        .default_value(USUAL_TITLE)
+        .help("The title of the page, any text")
+}
+
+/// The title of a page, by the options.
+pub(crate) fn title_in<'a>(options: &ArgMatches<'a>) -> &'a str {
+    options.get_str("title").unwrap_or(USUAL_TITLE)
 }
 
 pub(crate) fn match_option<'a>(alloc: Global) -> Arg<'a> {

@@ -1,10 +1,10 @@
 //! The command that plays a script.
 
 use crate::commands::options::{
-    MISPLACED_FILE, length_option, misplaced_file, rules_in, rules_option, watchers_option,
+    length_option, misplaced_file, refuse_misplaced, rules_in, rules_option, watchers_option,
 };
 use crate::endings::Ending;
-use crate::messages::{engine_failed, failed, option_missing, wrong};
+use crate::messages::{engine_failed, failed, option_missing};
 use bg_streams::{Reading, Writing};
 use bg_world::{ScriptFault, Setup, script};
 use clap::{ArgMatches, Command, Error};
@@ -42,12 +42,7 @@ pub(crate) fn run<R>(rt: &R, options: &ArgMatches<'_>) -> Result<Ending, Ending>
 where
     R: Input + Print + Eprint + AllocGlobal,
 {
-    if options.contains_id(MISPLACED_FILE) {
-        return Err(wrong(
-            rt,
-            "a file is handed in on the standard input: bg_relay script --length N --watchers N < FILE",
-        ));
-    }
+    refuse_misplaced(rt, options, "script --length N --watchers N")?;
     let (Some(length), Some(rules), Some(watchers)) = (
         options.get_one("length"),
         rules_in(options),

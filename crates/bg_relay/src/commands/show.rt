@@ -1,55 +1,161 @@
 //! The command that shows saved files.
 
 use crate::endings::Ending;
+use crate::folders::{SlotBytes, folder_text};
+use crate::messages::says::say;
 use crate::messages::{failed, no_memory, unwritten, wrong};
+use crate::restored::restored_transcript;
 use crate::showing::show_text;
 use crate::tellings::write_out;
-use bg_processes::{Printable, read_saved};
-use clap::{Arg, ArgMatches, Command, Error};
+use bg_processes::{Printable, SlotName, read_saved};
+use bg_wire::{REFEREE, SEAT_OF_O, SEAT_OF_X, Slot};
+use clap::{Arg, ArgAction, ArgMatches, Command, Error};
 use std::alloc::Global;
+use std::fs;
 use std::fs::File;
 use std::rt::Files;
 
+/// What `show` does.
+const ABOUT_SHOW: &str = "Show what saved files hold: the two of a party, or the six of a folder.
+
+A party saves its match in two files by turns: saves with even numbers in the one, with odd
+numbers in the other, so that a save that is cut short leaves the one before it. Prints a line
+for each file, and the board of the newer one that loads. A missing file counts as empty.
+
+Of a folder it shows the files party-P.S of the referee, 0, and of the seats of X and O, 1 and 2:
+a line for each, then for each party how many entries it holds, and how many it is behind the
+one that holds most, and the board of that one.
+
+With --transcript it prints the transcript of what the two files restore, and nothing else:
+
+    bg_relay show --transcript DIR/party-0.0 DIR/party-0.1 > transcript.txt
+
+Ends with status 0 where a file loads, 2 where none does, and 1 where reading, writing or memory
+failed.";
+
 /// Its options and help.
 pub(crate) fn command<'a>(alloc: Global) -> Result<Command<'a>, Error> {
+    let transcript = Arg::new(alloc, "transcript")
+        .long("transcript")
+        .action(ArgAction::SetTrue)
+        .requires_arg("FILE1")?
+        .help("Print the transcript of what the two files restore");
     let file0 = Arg::new(alloc, "FILE0")
         .required(true)
-        .help("The file of the even saves");
-    let file1 = Arg::new(alloc, "FILE1")
-        .required(true)
-        .help("The file of the odd saves");
+        .help("The file of the even saves, or a folder");
+    let file1 = Arg::new(alloc, "FILE1").help("The file of the odd saves");
     Ok(
         Command::new(alloc, "show")
-            .about("Show what the two saved files of a party hold")
-            .long_about(
-                "Show what the two saved files of a party hold.\n\
-             \n\
-             A party saves its match in two files by turns: saves with even numbers in the one, with odd\n\
-             numbers in the other, so that a save that is cut short leaves the one before it. Prints a line\n\
-             for each file, and the board of the newer one that loads. A missing file counts as empty. Ends\n\
-             with status 0 where one of them loads, 2 where none does, and 1 where reading, writing or memory\n\
-             failed.",
-            )
+            .about("Show what saved files hold")
+            .long_about(ABOUT_SHOW)
+            .arg(transcript)?
             .arg(file0)?
             .arg(file1)?,
     )
 }
 
-/// Shows the two saved files that the options name.
+/// Shows the saved files that the options name.
 pub(crate) fn run<R>(rt: &R, options: &ArgMatches<'_>) -> Result<Ending, Ending>
 where
     R: Files<File = File> + Print + Eprint + AllocGlobal,
 {
     let path0 = options.get_str("FILE0").unwrap_or_default();
-    let path1 = options.get_str("FILE1").unwrap_or_default();
-    if path0.is_empty() || path1.is_empty() {
+    let path1 = options.get_str("FILE1");
+    if path0.is_empty() || path1 == Some("") {
         return Err(wrong(rt, "the name of a file is empty"));
     }
+    match path1 {
+        Some(path1) if options.get_flag("transcript") => print_transcript(rt, path0, path1),
+        Some(path1) => show_files(rt, path0, path1),
+        None => show_folder(rt, path0),
+    }
+}
+
+/// Shows the two files of a party.
+fn show_files<R>(rt: &R, path0: &str, path1: &str) -> Result<Ending, Ending>
+where
+    R: Files<File = File> + Print + Eprint + AllocGlobal,
+{
     let file0 = bytes_of(rt, path0)?;
     let file1 = bytes_of(rt, path1)?;
     let (text, loads) = show_text(rt.alloc(), &file0, &file1).map_err(|_| no_memory(rt))?;
-    write_out(rt, &text).map_err(|error| unwritten(rt, &error))?;
+    print(rt, &text)?;
     Ok(Ending::Shown { loads })
+}
+
+/// Prints the transcript of what the two files of a party restore; where that is nothing, it says what they hold.
+fn print_transcript<R>(rt: &R, path0: &str, path1: &str) -> Result<Ending, Ending>
+where
+    R: Files<File = File> + Print + Eprint + AllocGlobal,
+{
+    let file0 = bytes_of(rt, path0)?;
+    let file1 = bytes_of(rt, path1)?;
+    let transcript = restored_transcript(rt.alloc(), &file0, &file1).map_err(|_| no_memory(rt))?;
+    match transcript {
+        Some(text) => {
+            print(rt, &text)?;
+            Ok(Ending::Shown { loads: true })
+        }
+        None => {
+            let (text, _) = show_text(rt.alloc(), &file0, &file1).map_err(|_| no_memory(rt))?;
+            for line in str::from_utf8(&text).unwrap_or_default().lines() {
+                say(rt, line);
+            }
+            Ok(Ending::Shown { loads: false })
+        }
+    }
+}
+
+/// Shows the files of the parties in a folder.
+fn show_folder<R>(rt: &R, folder: &str) -> Result<Ending, Ending>
+where
+    R: Files<File = File> + Print + Eprint + AllocGlobal,
+{
+    let shown = Printable(folder);
+    match fs::metadata(rt, folder) {
+        Ok(found) if found.is_dir() => {}
+        Ok(_) => {
+            return Err(wrong(
+                rt,
+                format_args!("{shown} is no folder: name the two files of a party, or a folder"),
+            ));
+        }
+        Err(error) => return Err(wrong(rt, format_args!("{shown} can't be used: {error}"))),
+    }
+    let referee = slots_of(rt, folder, REFEREE)?;
+    let x = slots_of(rt, folder, SEAT_OF_X)?;
+    let o = slots_of(rt, folder, SEAT_OF_O)?;
+    let (text, loads) = folder_text(rt.alloc(), &referee, &x, &o).map_err(|_| no_memory(rt))?;
+    print(rt, &text)?;
+    Ok(Ending::Shown { loads })
+}
+
+/// The bytes of the two files of a party in a folder.
+fn slots_of<R>(rt: &R, folder: &str, party: u8) -> Result<SlotBytes, Ending>
+where
+    R: Files<File = File> + Eprint + AllocGlobal,
+{
+    Ok(SlotBytes {
+        zero: slot_of(rt, folder, party, Slot::Zero)?,
+        one: slot_of(rt, folder, party, Slot::One)?,
+    })
+}
+
+/// The bytes of a file of a party in a folder.
+fn slot_of<R>(rt: &R, folder: &str, party: u8, slot: Slot) -> Result<Vec<u8>, Ending>
+where
+    R: Files<File = File> + Eprint + AllocGlobal,
+{
+    let name = SlotName { party, slot };
+    match format!(in rt.alloc(); "{folder}/{name}") {
+        Ok(path) => bytes_of(rt, path.as_str()),
+        Err(_) => Err(no_memory(rt)),
+    }
+}
+
+/// Prints a text.
+fn print(rt: &(impl Print + Eprint), text: &[u8]) -> Result<(), Ending> {
+    write_out(rt, text).map_err(|error| unwritten(rt, &error))
 }
 
 /// The bytes of a saved file.

@@ -3,17 +3,17 @@ ghost use Rattle.std.specs.Prelude.{◌≤◌};
 ghost use Rattle.bg_wire.specs.Entries.Codes.{first_watcher};
 
 use crate::beginnings::{match_of, no_socket, unwaited, waiting_for};
-use crate::commands::options::{THREE_TERMINALS, match_option};
+use crate::commands::options::{
+    THREE_TERMINALS, match_option, numbering_in, numbering_option, title_in, title_option,
+};
 use crate::endings::Ending;
 use crate::messages::witnesses::Witness;
-use crate::messages::{failed, no_memory, option_missing, unwritten, wrong};
+use crate::messages::{failed, option_missing, unwritten, wrong};
+use crate::published::Published;
 use crate::tellings::{Telling, tell_word};
-use bg_match::Record;
 use bg_processes::{
-    Failures, Going, Hearing, MatchFile, PartySocket, Printable, Ticking, Waiting, WatcherProcess,
-    publish,
+    Failures, Going, Hearing, MatchFile, PartySocket, Ticking, Waiting, WatcherProcess,
 };
-use bg_text::{board_text, transcript_text};
 use bg_wire::{FIRST_WATCHER, LAST_WATCHER};
 use clap::{Arg, ArgMatches, Command, Error};
 use std::alloc::Global;
@@ -22,20 +22,6 @@ use std::io::ErrorKind;
 use std::net::Net;
 use std::rt::Files;
 use std::time::Clock;
-
-/// The files are written anew after so many ticks at least, since all of the transcript is.
-const PAUSE_TICKS: u32 = 10;
-
-/// The files that are kept for others.
-#[derive(Drop)]
-struct Published<'a> {
-    board: Option<&'a str>,
-    transcript: Option<&'a str>,
-    /// How many ticks ago they were written.
-    age: u32,
-    /// Whether there are entries that they lack.
-    is_old: bool,
-}
 
 /// Its options and help.
 pub(crate) fn command<'a>(alloc: Global) -> Result<Command<'a>, Error> {
@@ -47,6 +33,9 @@ pub(crate) fn command<'a>(alloc: Global) -> Result<Command<'a>, Error> {
         .long("transcript")
         .value_name("FILE")
         .help("A file that has the transcript, always whole");
+    let page = Arg::new(alloc, "page").long("page").value_name("FILE").help(
+        "A file that has a page for browsers, always whole; they show it anew by themselves",
+    );
     Ok(
         Command::new(alloc, "watch")
             .about("Watch a match")
@@ -59,7 +48,10 @@ pub(crate) fn command<'a>(alloc: Global) -> Result<Command<'a>, Error> {
             .after_help(THREE_TERMINALS)
             .arg(match_option(alloc))?
             .arg(board)?
-            .arg(transcript)?,
+            .arg(transcript)?
+            .arg(page)?
+            .arg(title_option(alloc))?
+            .arg(numbering_option(alloc))?,
     )
 }
 
@@ -69,12 +61,13 @@ where
     R: Net + Files<File = File> + Clock + Print + Eprint + AllocGlobal,
 {
     let path = options.get_str("match").ok_or_else(|| option_missing(rt))?;
-    let published = Published {
-        board: options.get_str("board"),
-        transcript: options.get_str("transcript"),
-        age: PAUSE_TICKS,
-        is_old: true,
-    };
+    let published = Published::new(
+        options.get_str("board"),
+        options.get_str("transcript"),
+        options.get_str("page"),
+        title_in(options),
+        numbering_in(options),
+    );
     let failures = Failures::new();
     let (process, waiting, ticking) = begin(rt, path, &failures)?;
     // No file is a device of a watcher, so there is no folder to name.
@@ -159,63 +152,4 @@ where
         }
     }
     Ok(())
-}
-
-impl<'a> Published<'a> {
-    /// After a round that brought news or not, and in which a tick was due or not: writes the files anew where they
-    /// are old, and some time has passed since.
-    fn after_round<R>(
-        &mut self,
-        rt: &R,
-        record: &Record,
-        news: bool,
-        tick: bool,
-    ) -> Result<(), Ending>
-    where
-        R: Files<File = File> + Eprint + AllocGlobal,
-    {
-        self.is_old = self.is_old || news;
-        if !tick {
-            return Ok(());
-        }
-        self.age = self.age.saturating_add(1);
-        if self.age < PAUSE_TICKS {
-            return Ok(());
-        }
-        self.write(rt, record)
-    }
-
-    /// Puts the record into the files that were asked for, where they lack some of it.
-    fn write<R>(&mut self, rt: &R, record: &Record) -> Result<(), Ending>
-    where
-        R: Files<File = File> + Eprint + AllocGlobal,
-    {
-        if !self.is_old {
-            return Ok(());
-        }
-        if let Some(path) = self.board {
-            let text = board_text(rt.alloc(), &record.standing()).map_err(|_| no_memory(rt))?;
-            put(rt, path, &text)?;
-        }
-        if let Some(path) = self.transcript {
-            let text = transcript_text(rt.alloc(), record).map_err(|_| no_memory(rt))?;
-            put(rt, path, &text)?;
-        }
-        self.is_old = false;
-        self.age = 0;
-        Ok(())
-    }
-}
-
-fn put<R>(rt: &R, path: &str, text: &[u8]) -> Result<(), Ending>
-where
-    R: Files<File = File> + Eprint + AllocGlobal,
-{
-    match publish(rt, path, text) {
-        Ok(()) => Ok(()),
-        Err(error) => {
-            let shown = Printable(path);
-            Err(failed(rt, format_args!("{shown} could not be written: {error}")))
-        }
-    }
 }

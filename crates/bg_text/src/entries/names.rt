@@ -5,8 +5,8 @@ ghost use Rattle.bg_text.specs.Entries.EntryText.{letter as letter_of, level_wor
 use bg_board::Player;
 use bg_match::Level;
 
-/// The player's letter.
-pub(crate) fn letter(player: Player) -> &'static str
+/// The player's letter: `X` or `O` (docs/FORMATS.md, "Entry lines").
+pub fn letter(player: Player) -> &'static str
     ensures word { result.now ≡ letter_of player }
     ensures fits { length result.now ≤ 1 }
 {
@@ -16,8 +16,8 @@ pub(crate) fn letter(player: Player) -> &'static str
     }
 }
 
-/// The word for a level.
-pub(crate) fn level_word(level: Level) -> &'static str
+/// The word for a level of an offer to resign: `normal`, `gammon` or `backgammon` (docs/FORMATS.md, "Entry lines").
+pub fn level_word(level: Level) -> &'static str
     ensures word { result.now ≡ word_of_level level }
     ensures fits { length result.now ≤ 10 }
 {

@@ -1,8 +1,9 @@
 //! The boards of standings.
 use super::pictures::{ASIDE, HEADER, OPENED, UPPER, check_picture, counts};
 use super::records::record;
+use crate::{letter, level_word, put_phase};
 use bg_board::{Board, Player};
-use bg_match::{Cube, Phase, Rules, Standing};
+use bg_match::{Cube, Level, Phase, Rules, Standing};
 use std::test::Fail;
 
 #[test]
@@ -43,5 +44,16 @@ fn checkers_on_the_bar_and_off(rt: HostRuntime) -> Result<(), Fail> {
         let standing = standing_of(x, o)?;
         check_picture(&rt, &standing, [header, upper, lower, aside, "X to roll"])?;
     }
+    Ok(())
+}
+
+#[test]
+fn what_is_next_stands_behind_other_words(rt: HostRuntime) -> Result<(), Fail> {
+    let mut text = Vec::from_slice(rt.alloc(), b"next: ")?;
+    put_phase(&mut text, &record(&rt)?.standing())?;
+    assert_eq!(rt; text.as_slice(), b"next: O to roll".as_slice());
+    assert!(rt; letter(Player::X) == "X" && letter(Player::O) == "O");
+    let words = [Level::Normal, Level::Gammon, Level::Backgammon].map(level_word);
+    assert!(rt; words == ["normal", "gammon", "backgammon"]);
     Ok(())
 }

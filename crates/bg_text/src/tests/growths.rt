@@ -1,7 +1,9 @@
 //! Refused growths.
 use super::devices::verdict_on;
 use super::records::{MATCH, TEXT_OF_MATCH, check_is_match, record};
-use crate::{TranscriptFault, Verdict, board_text, judge_text, read_transcript, transcript_text};
+use crate::{
+    TranscriptFault, Verdict, board_text, judge_text, put_phase, read_transcript, transcript_text,
+};
 use bg_streams::EngineFault;
 use std::alloc::{AllocError, Global};
 use std::test::Fail;
@@ -27,6 +29,19 @@ fn refused_growths_of_boards(rt: HostRuntime) -> Result<(), Fail> {
         Some(board.as_slice()),
         TEXT_OF_MATCH.as_bytes().strip_suffix(b"ok 2\n")
     );
+    check_no_growth_is_left(rt.alloc())
+}
+
+/// The same, of the words for what is next.
+#[test]
+fn refused_growths_of_phases(rt: HostRuntime) -> Result<(), Fail> {
+    let standing = record(&rt)?.standing();
+    let mut text = Vec::new(rt.alloc());
+    if put_phase(&mut text, &standing).is_err() {
+        text.clear();
+        put_phase(&mut text, &standing)?;
+    }
+    assert_eq!(rt; text.as_slice(), b"O to roll".as_slice());
     check_no_growth_is_left(rt.alloc())
 }
 

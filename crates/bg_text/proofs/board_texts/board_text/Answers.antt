@@ -9,4 +9,4 @@ returns c =
     seven_lines (header_line s) (numbers_line upper_points) (cells_line s.board upper_points) (cells_line s.board lower_points) (numbers_line lower_points) (aside_line s.board) (phase_line s)
     _ _ _ _ _ _ _ _ c.new-out.ensures.items c.in_ok-put_header.ensures c.in_ok-put_numbers.ensures
     (rw c.board-board.ensures at c.in_ok-put_cells.ensures) (rw c.board-board.ensures at c.in_ok-put_cells-2.ensures) c.in_ok-put_numbers-2.ensures
-    (rw c.board-board.ensures at c.in_ok-put_aside.ensures) c.in_ok-put_phase.ensures
+    (rw c.board-board.ensures at c.in_ok-put_aside.ensures) c.in_ok-put_phase_line.ensures

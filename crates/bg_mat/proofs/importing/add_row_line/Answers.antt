@@ -1,0 +1,10 @@
+use Rattle.std.proofs.Common.{refl, inr}
+use Rattle.bg_mat.specs.Files.{items_of}
+use Rattle.bg_mat.proofs.LegLemmas.{if_ok}
+use Rattle.bg_mat.proofs.importing.add_row_line.Goals as goal
+
+pub returns-in-Ok-clause-done : goal.returns-in-Ok-clause-done
+returns-in-Ok-clause-done c =
+    if_ok c.add_row.result
+    (λ next h. (items_of c.in-Ok.row.left c.in-Ok.row.right, inr (c.in-Ok.row, c.in-Ok.ensures, refl, h.0), h.1))
+    c.add_row.ensures.done

@@ -1,0 +1,18 @@
+use Rattle.std.proofs.Common.{◌+◌, ◌≤◌, length}
+use Rattle.bg_text.specs.Judge.Judging.{lines_of}
+use Rattle.bg_mat.specs.Refusals.{IsToldLine}
+use Rattle.bg_mat.specs.Replaying.{pending_items}
+use Rattle.bg_mat.proofs.Readings.{IsReadUpTo}
+use Rattle.bg_mat.proofs.Refusing.{AreOn, IsCut}
+use Rattle.bg_mat.proofs.importing.read_games.Given as goal
+
+abbrev pub invariant-loop-line : goal.invariant-loop-line
+invariant-loop-line l = record {
+  read : IsReadUpTo l.fn.start l.fn.first l.input l.replay l.awaited l.number l.rest;
+  cut : IsCut l.fn.first l.input l.number l.rest;
+  pending : AreOn (IsToldLine l.fn.first (lines_of l.input)) (pending_items l.replay.pending);
+  few : l.number + length l.rest ≤ l.fn.first + length l.input;
+}
+
+abbrev pub decreases-loop-line : goal.decreases-loop-line
+decreases-loop-line l = length l.rest

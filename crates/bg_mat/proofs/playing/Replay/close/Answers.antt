@@ -1,0 +1,10 @@
+use Rattle.std.proofs.Common.{◌≡◌, Some}
+use Rattle.bg_mat.proofs.LegLemmas.{on_ok}
+use Rattle.bg_mat.proofs.Replays.{closed_by}
+use Rattle.bg_mat.proofs.playing.Replay.close.Goals as goal
+
+pub returns-in-Some-clause-done : goal.returns-in-Some-clause-done
+returns-in-Some-clause-done c =
+    let is : c.args.self.now.pending ≡ Some c.in-Some.turn = cc (c.take.ensures.value, c.in-Some.is) in
+    let played = rw c.take.ensures.after at c.add_pending.ensures.done in
+    on_ok c.add_pending.result (λ p. closed_by c.args.self.now c.add_pending.new.self c.in-Some.turn is p) played

@@ -1,0 +1,14 @@
+use Rattle.std.proofs.Common.{refl, arith}
+use Rattle.bg_match.specs.declared.entries.Entry.TheVariants as entry
+use Rattle.bg_mat.specs.Telling as telling
+use Rattle.bg_mat.proofs.LegLemmas.{on_ok}
+use Rattle.bg_mat.proofs.Replays as replays
+use Rattle.bg_mat.proofs.playing.Replay.double.Goals as goal
+
+pub returns-clause-done : goal.returns-clause-done
+returns-clause-done c =
+    on_ok c.add.result
+    (λ added. replays.alone c.args.self.now c.add.new.self c.args.line c.args.player (telling.Doubles c.args.shows) entry.Doubled
+    (c.requires.goes_on, c.is_to_act.ensures c.if-not-is_to_act.false, omega (arith, c.doubled_cube.ensures), refl)
+    c.requires.closed added)
+    c.add.ensures.done

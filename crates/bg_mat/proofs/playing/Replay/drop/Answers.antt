@@ -1,0 +1,13 @@
+use Rattle.std.proofs.Common.{refl}
+use Rattle.bg_match.specs.declared.entries.Entry.TheVariants as entry
+use Rattle.bg_mat.specs.Telling as telling
+use Rattle.bg_mat.proofs.LegLemmas.{on_ok}
+use Rattle.bg_mat.proofs.Replays as replays
+use Rattle.bg_mat.proofs.playing.Replay.drop.Goals as goal
+
+pub returns-clause-done : goal.returns-clause-done
+returns-clause-done c =
+    on_ok c.add.result
+    (λ added. replays.alone c.args.self.now c.add.new.self c.args.line c.args.player telling.Drops entry.Dropped
+    (c.requires.goes_on, c.is_doubled.ensures c.if-not-is_doubled.false, refl) c.requires.closed added)
+    c.add.ensures.done

@@ -1,0 +1,12 @@
+use Rattle.std.proofs.Common.{[], ◌∷◌}
+use Rattle.bg_mat.specs.Telling.{Does, deed_of}
+use Rattle.bg_mat.proofs.LegLemmas.{on_ok}
+use Rattle.bg_mat.proofs.Replays.{goes_on_twice}
+use Rattle.bg_mat.proofs.playing.Replay.play.Goals as goal
+
+pub returns-clause-done : goal.returns-clause-done
+returns-clause-done c =
+    on_ok c.play_next.result
+    (λ next. goes_on_twice c.args.self.now c.close.new.self c.play_next.new.self []
+    (record { line = c.args.line; item = Does c.args.player (deed_of c.args.cell) } ∷ []) c.in_ok-close.ensures.done.0 next)
+    c.play_next.ensures.done

@@ -1,0 +1,10 @@
+use Rattle.bg_mat.proofs.LegLemmas.{on_ok}
+use Rattle.bg_mat.proofs.Replays as replays
+use Rattle.bg_mat.proofs.playing.Replay.win_by_offer.Goals as goal
+
+pub returns-clause-done : goal.returns-clause-done
+returns-clause-done c =
+    on_ok c.check_end.result
+    (λ over. replays.won_by_offer c.args.self.now c.resign.new.self c.args.line c.args.winner c.args.win.points c.args.win.ends_match
+    c.requires.goes_on c.requires.closed c.in_ok-resign.ensures.done over)
+    c.check_end.ensures.done

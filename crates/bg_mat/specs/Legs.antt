@@ -1,0 +1,62 @@
+-- What the words of a movement tell.
+use Rattle.std.specs.Prelude.{◌≡◌, ◌≢◌, ◌⊎◌, ℕ, zero, suc, ◌+◌, ◌≤◌, Bool, true, false, List, [], ◌∷◌, ◌++◌, codes}
+use Rattle.bg_mat.specs.Numbers.{IsNumber}
+use Rattle.bg_mat.specs.declared.legs.Leg.{Leg}
+
+-- the word names the point, which is 25 for the bar and 0 for off
+abbrev pub IsPointText : List ℕ → ℕ → Type 0
+IsPointText word point =
+    ((point ≡ 25) × ((word ≡ codes "bar") ⊎ (word ≡ codes "Bar")))
+    ⊎ (((point ≡ 0) × ((word ≡ codes "off") ⊎ (word ≡ codes "Off"))) ⊎ IsNumber word point)
+
+-- the mark of a hit stands behind the point
+abbrev pub mark : Bool → List ℕ
+mark true = codes "*"
+mark false = []
+
+-- from a point on, the word tells the leg: the point where it ends, and whether it hits there
+pub record TellsLeg (from : ℕ) (word : List ℕ) (leg : Leg) : Type 0 where
+  pub point : List ℕ
+  pub starts : leg.step.from ≡ from
+  pub ends : IsPointText point leg.step.to
+  pub marked : word ≡ point ++ mark leg.hits
+
+-- from a point on, the text tells the legs, each behind a slash and from where the one before it ends
+abbrev pub TellsLegs : ℕ → List ℕ → List Leg → Type 0
+TellsLegs from text [] = text ≡ []
+TellsLegs from text (leg ∷ legs) =
+    (word rest : List ℕ) × (text ≡ codes "/" ++ (word ++ rest)) × TellsLeg from word leg
+    × TellsLegs leg.step.to rest legs
+
+-- the text tells the way of a checker: the point where it begins, and its legs
+abbrev pub TellsPath : List ℕ → List Leg → Type 0
+TellsPath text legs =
+    (from : ℕ) × (start rest : List ℕ) × (text ≡ start ++ rest) × IsPointText start from × TellsLegs from rest legs
+    × (legs ≢ [])
+
+-- a list so many times, one behind the other
+abbrev pub repeated : {X : Type 0} → ℕ → List X → List X
+repeated zero xs = []
+repeated (suc n) xs = xs ++ repeated n xs
+
+-- so many checkers, 1 to 4, go the path of a word
+abbrev pub IsCounted : List ℕ → List ℕ → ℕ → Type 0
+IsCounted word path count =
+    ((word ≡ path) × (count ≡ 1))
+    ⊎ ((1 ≤ count) × (count ≤ 4) × (word ≡ path ++ codes "(" ++ (48 + count) ∷ codes ")"))
+
+-- the word tells the legs of all checkers that go its path
+abbrev pub TellsWord : List ℕ → List Leg → Type 0
+TellsWord word legs =
+    (path : List ℕ) × (count : ℕ) × (once : List Leg) × IsCounted word path count × TellsPath path once
+    × (legs ≡ repeated count once)
+
+-- the words tell the legs, one behind the other
+abbrev pub TellsMovement : List (List ℕ) → List Leg → Type 0
+TellsMovement [] legs = legs ≡ []
+TellsMovement (word ∷ words) legs =
+    (first rest : List Leg) × TellsWord word first × TellsMovement words rest × (legs ≡ first ++ rest)
+
+-- legs of which this holds are added to others
+abbrev pub AddsLegs : (List Leg → Type 0) → List Leg → List Leg → Type 0
+AddsLegs Tells old new = (more : List Leg) × Tells more × (new ≡ old ++ more)

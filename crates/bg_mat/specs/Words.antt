@@ -1,0 +1,44 @@
+-- The words of a line: its longest runs of bytes that are not blank.
+use Rattle.std.specs.Prelude.{◌≡◌, ◌==◌, ◌||◌, ℕ, suc, ◌<◌, Bool, true, false, List, [], ◌∷◌, ◌++◌, length}
+use Rattle.std.specs.Prelude.{if◌then◌else◌}
+use Rattle.std.specs.List.{All}
+
+-- a space, a tab, or the carriage return before a line feed
+abbrev pub is_blank : ℕ → Bool
+is_blank byte = byte == 32 || byte == 9 || byte == 13
+
+abbrev pub IsBlankText : List ℕ → Type 0
+IsBlankText text = All (λ byte. is_blank byte ≡ true) text
+
+abbrev pub IsSolid : List ℕ → Type 0
+IsSolid text = All (λ byte. is_blank byte ≡ false) text
+
+-- how many blanks a text begins with
+abbrev pub leading_blanks : List ℕ → ℕ
+leading_blanks [] = 0
+leading_blanks (byte ∷ rest) = if is_blank byte then suc (leading_blanks rest) else 0
+
+-- a word ends here: at the end, or at a blank
+abbrev pub EndsWord : List ℕ → Type 0
+EndsWord [] = Unit {0}
+EndsWord (byte ∷ rest) = is_blank byte ≡ true
+
+-- no blank begins the text
+abbrev pub BeginsSolid : List ℕ → Type 0
+BeginsSolid [] = Unit {0}
+BeginsSolid (byte ∷ rest) = is_blank byte ≡ false
+
+-- the first word of a text, and what follows it
+pub record IsFirstWord (text word rest : List ℕ) : Type 0 where
+  pub blanks : List ℕ
+  pub blank : IsBlankText blanks
+  pub some : 0 < length word
+  pub solid : IsSolid word
+  pub ends : EndsWord rest
+  pub spelled : text ≡ blanks ++ word ++ rest
+
+-- the text begins with these words, and then comes the rest
+abbrev pub BeginsWith : List ℕ → List (List ℕ) → List ℕ → Type 0
+BeginsWith text [] rest = text ≡ rest
+BeginsWith text (word ∷ words) rest =
+    (after : List ℕ) × IsFirstWord text word after × BeginsWith after words rest

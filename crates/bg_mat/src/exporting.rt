@@ -1,0 +1,107 @@
+//! A record written as a match file.
+ghost use Rattle.std.specs.Prelude.{◌≡◌, ◌<◌, ◌≤◌, ◌++◌, ◌∷◌, length, IfOk, OnOk, MatchOption, List};
+ghost use Rattle.bg_mat.specs.Files.{Exports};
+ghost use Rattle.bg_mat.specs.RowTexts.{Both, Alone, WritesRow, grouped, length_text, lines_text};
+ghost use Rattle.bg_mat.specs.RowTexts.{next_row as next_row_number};
+ghost use Rattle.bg_mat.specs.declared.tellings.Telling.{Telling as Told};
+
+use crate::cells::Cell;
+use crate::retelling::tellings_of;
+use crate::row_texts::{put_alone, put_both, put_game};
+use crate::tellings::Telling;
+use bg_board::Player;
+use bg_match::Record;
+use bg_text::{put_number, put_text};
+use std::alloc::{AllocError, Global};
+
+/// The match file of a record: X has the left column, and each step stands by itself (docs/FORMATS.md, "Match files of
+/// other programs"). An offer to resign that was not accepted is not in it, nor are the number of the match and its
+/// rules. The rows of a game are numbered from 1; those behind 9999 have no number.
+///
+/// # Errors
+/// AllocError where memory runs out.
+pub fn export_mat(alloc: Global, log: &Record) -> Result<Vec<u8>, AllocError>
+    ensures { IfOk result (λ text. Exports log.now text.items) }
+{
+    let tellings = tellings_of(alloc, log)?;
+    let mut out = Vec::new(alloc);
+    put_length(&mut out, log.length())?;
+    put_tellings(&mut out, tellings.as_slice())?;
+    Ok(out)
+}
+
+/// Adds the line of the length.
+fn put_length(out: &mut Vec<u8>, length: u8) -> Result<(), AllocError>
+    ensures { OnOk result (out.new.items ≡ out.old.items ++ length_text length) }
+{
+    put_text(out, " ")?;
+    put_number(out, length.into())?;
+    put_text(out, " point match\n")
+}
+
+/// The cell of O that stands in the row of a cell of X: the next one, unless one of both is a win.
+fn partner<'a>(player: Player, cell: &Cell, next: &'a [Telling]) -> Option<&'a Cell>
+    ensures { MatchOption result
+        (grouped (Telling.Does player cell.now ∷ next.now) ≡ Alone player cell.now ∷ grouped next.now)
+        (λ right. (more : List Told) × (next.now ≡ Telling.Does Player.O right.now ∷ more)
+        × (grouped (Telling.Does player cell.now ∷ next.now) ≡ Both cell.now right.now ∷ grouped more)) }
+{
+    match (player, cell, next.first()) {
+        (_, Cell::Wins(_), _) | (_, _, Some(Telling::Does(_, Cell::Wins(_)))) => None,
+        (Player::X, _, Some(Telling::Does(Player::O, cell))) => Some(cell),
+        _ => None,
+    }
+}
+
+/// The number of the next row. All behind 9999 have the same.
+fn next_row(row: u16) -> u16
+    ensures { result ≡ next_row_number row }
+{
+    if row < 10000 { row + 1 } else { row }
+}
+
+/// Adds a row that begins with what a player does, and gives what follows it.
+fn put_row<'a>(
+    out: &mut Vec<u8>,
+    row: u16,
+    player: Player,
+    cell: &Cell,
+    next: &'a [Telling],
+) -> Result<&'a [Telling], AllocError>
+    ensures { IfOk result
+        (λ rest. WritesRow row (Telling.Does player cell.now ∷ next.now) rest.now out.old.items out.new.items
+        × (length rest.now ≤ length next.now)) }
+{
+    match partner(player, cell, next) {
+        Some(right) => {
+            put_both(out, row, cell, right)?;
+            Ok(&next[1..])
+        }
+        None => {
+            put_alone(out, row, player, cell)?;
+            Ok(next)
+        }
+    }
+}
+
+/// Adds the games and their rows.
+fn put_tellings(out: &mut Vec<u8>, tellings: &[Telling]) -> Result<(), AllocError>
+    ensures { OnOk result (out.new.items ≡ out.old.items ++ lines_text 1 (grouped tellings.now)) }
+{
+    let mut rest = tellings;
+    let mut row = 1;
+    while let Some((first, next)) = rest.split_first() {
+        match first {
+            Telling::Game(game) => {
+                put_game(out, *game)?;
+                row = 1;
+                rest = next;
+            }
+            Telling::Does(player, cell) => {
+                rest = put_row(out, row, *player, cell, next)?;
+                row = next_row(row);
+            }
+        }
+    }
+    Ok(())
+}

@@ -1,0 +1,255 @@
+//! A match file read as a record.
+ghost use Rattle.std.specs.Prelude.{◌≡◌, ◌+◌, ◌<◌, ◌≤◌, ◌↔◌, ℕ, List, None, Err, IfOk, IfErr, OnOk, length};
+ghost use Rattle.bg_match.specs.Match.{IsLog, empty_log};
+ghost use Rattle.bg_match.specs.Terms.{terms_of};
+ghost use Rattle.bg_mat.specs.Files.{Imports, after_row, is_win as is_win_cell, item_of, items_of, numbered};
+ghost use Rattle.bg_mat.specs.Headings.{IsGameLine, IsLengthLine};
+ghost use Rattle.bg_text.specs.Judge.Judging.{lines_of};
+ghost use Rattle.bg_text.specs.Limits.{most_bytes};
+ghost use Rattle.bg_mat.specs.Replaying.{Begins, GoesOnBy, IsReplay};
+ghost use Rattle.bg_mat.specs.Reading.{AddsLine, ReadsGames};
+ghost use Rattle.bg_mat.specs.Refusals.{IsAtLineOf, IsAtToldLine, IsBeginFault, IsReadFault, IsRefusal};
+
+use crate::cells::Cell;
+use crate::faults::{ReadFault, refused};
+use crate::headings::{is_filler, read_game, read_length};
+use crate::playing::Replay;
+use crate::rows::{Row, read_row};
+use crate::{ImportFault, MatFault};
+use bg_board::Player;
+use bg_match::{LONGEST_MATCH, LengthFault, Record, Rules};
+use bg_text::{MOST_BYTES, split_line};
+use std::alloc::Global;
+
+/// A match file as a record.
+#[derive(Debug, Drop)]
+pub struct Imported {
+    /// The match.
+    pub record: Record,
+    /// For each entry, in order, the line of the file that tells it, from 1.
+    pub lines: Vec<u32>,
+}
+
+/// What may stand on the next line that tells something.
+#[derive(Clone, Copy, Debug, PartialEq, Eq)]
+pub(crate) enum Awaited {
+    /// The number of a game.
+    Game,
+    /// The scores before the game.
+    Scores,
+    /// A row of the game, or the number of the next game.
+    Row,
+}
+
+/// The record of a match file, as the match of this number, by these rules; X has the left column (docs/FORMATS.md,
+/// "Match files of other programs").
+///
+/// # Errors
+/// `TooLong` where the file has more than 41943040 bytes; `Refused` with the first line that is not good, and why;
+/// `Memory` where memory runs out. The line that is refused tells something: it is neither blank nor a comment. Only
+/// where no line does it is one more than there are.
+pub fn import_mat(
+    alloc: Global,
+    id: u64,
+    rules: Rules,
+    input: &[u8],
+) -> Result<Imported, ImportFault>
+    ensures imports { IfOk result
+        (λ imported. Imports id rules input.now imported.record imported.lines.items) }
+    ensures too_long { (result ≡ Err ImportFault.TooLong) ↔ (most_bytes < length input.now) }
+    ensures refused { IfErr result (IsRefusal (lines_of input.now)) }
+{
+    if input.len() > MOST_BYTES {
+        return Err(ImportFault::TooLong);
+    }
+    match read_file(alloc, id, rules, input) {
+        Ok(imported) => Ok(imported),
+        Err(ReadFault::Refused { line, why }) => Err(ImportFault::Refused { line, why }),
+        Err(ReadFault::Memory) => Err(ImportFault::Memory),
+    }
+}
+
+/// The record of a match file that is not too long.
+fn read_file(alloc: Global, id: u64, rules: Rules, input: &[u8]) -> Result<Imported, ReadFault>
+    requires { length input.now ≤ most_bytes }
+    ensures done { IfOk result (λ imported. Imports id rules input.now imported.record imported.lines.items) }
+    ensures fault { IfErr result (IsReadFault (lines_of input.now)) }
+{
+    let mut rest = input;
+    let mut number: u32 = 1;
+    while let Some((line, after)) = split_line(rest) {
+        if !is_filler(line) {
+            let record = begin(alloc, id, rules, line, number)?;
+            return read_games(Replay::new(alloc, record), after, number + 1);
+        }
+        rest = after;
+        number += 1;
+    }
+    Err(refused(number, MatFault::NoLength))
+}
+
+/// The match of the length that a line tells.
+fn begin(
+    alloc: Global,
+    id: u64,
+    rules: Rules,
+    line: &[u8],
+    number: u32,
+) -> Result<Record, ReadFault>
+    ensures done { IfOk result (λ log. IsLog log
+        × ((points : ℕ) × IsLengthLine line.now points × (log ≡ empty_log id (terms_of points rules)))) }
+    ensures fault { IfErr result (IsBeginFault line.now number) }
+{
+    let Some(points) = read_length(line) else {
+        return Err(refused(number, MatFault::NoLength));
+    };
+    if points == 0 {
+        return Err(refused(number, MatFault::Money));
+    }
+    if points > u16::from(LONGEST_MATCH) {
+        return Err(refused(number, MatFault::LengthOutOfRange));
+    }
+    match Record::new(alloc, id, points as u8, rules) {
+        Ok(record) => Ok(record),
+        Err(LengthFault::LengthOutOfRange) => Err(refused(number, MatFault::LengthOutOfRange)),
+    }
+}
+
+/// Reads the lines of games, from the line of this number on.
+fn read_games(start: Replay, input: &[u8], first: u32) -> Result<Imported, ReadFault>
+    requires replay { IsReplay start }
+    requires none { start.pending ≡ None }
+    requires few { first + length input.now < 4294967296 }
+    ensures done { IfOk result (λ imported.
+        ReadsGames start first (lines_of input.now) imported.record imported.lines.items) }
+    ensures fault { IfErr result (IsAtToldLine first (lines_of input.now)) }
+{
+    let mut replay = start;
+    let mut awaited = Awaited::Game;
+    let mut rest = input;
+    let mut number = first;
+    while let Some((line, after)) = split_line(rest) {
+        if !is_filler(line) {
+            awaited = read_line(&mut replay, awaited, line, number)?;
+        }
+        rest = after;
+        number += 1;
+    }
+    replay.finish()?;
+    Ok(Imported {
+        record: replay.log,
+        lines: replay.lines,
+    })
+}
+
+/// Adds the scores before a game.
+fn add_scores(replay: &mut Replay, line: &[u8], number: u32) -> Result<Awaited, ReadFault>
+    requires { IsReplay replay.old }
+    ensures done { IfOk result (AddsLine Awaited.Scores line.now number replay.old replay.new) }
+    ensures fault { IfErr result (IsAtLineOf replay.old number) }
+{
+    replay.tell_scores(number, line)?;
+    Ok(Awaited::Row)
+}
+
+/// Begins a game where a line says so.
+fn add_game(replay: &mut Replay, game: u16, line: &[u8], number: u32) -> Result<Awaited, ReadFault>
+    requires replay { IsReplay replay.old }
+    requires line { IsGameLine line.now game }
+    ensures done { IfOk result (AddsLine Awaited.Game line.now number replay.old replay.new) }
+    ensures fault { IfErr result (IsAtLineOf replay.old number) }
+{
+    replay.begin_game(number, game)?;
+    Ok(Awaited::Scores)
+}
+
+/// Adds what a line tells where a game is awaited.
+fn add_heading(replay: &mut Replay, line: &[u8], number: u32) -> Result<Awaited, ReadFault>
+    requires { IsReplay replay.old }
+    ensures done { IfOk result (AddsLine Awaited.Game line.now number replay.old replay.new) }
+    ensures fault { IfErr result (IsAtLineOf replay.old number) }
+{
+    match read_game(line) {
+        Some(game) => add_game(replay, game, line, number),
+        None => Err(refused(number, MatFault::NotALine)),
+    }
+}
+
+/// Adds what a line tells where a row, or the next game, is awaited.
+fn add_row_line(replay: &mut Replay, line: &[u8], number: u32) -> Result<Awaited, ReadFault>
+    requires { IsReplay replay.old }
+    ensures done { IfOk result (AddsLine Awaited.Row line.now number replay.old replay.new) }
+    ensures fault { IfErr result (IsAtLineOf replay.old number) }
+{
+    match read_row(line) {
+        Ok(row) => add_row(replay, row, number),
+        Err(why) => Err(refused(number, why)),
+    }
+}
+
+/// Adds what a line tells, and gives what may follow.
+fn read_line(
+    replay: &mut Replay,
+    awaited: Awaited,
+    line: &[u8],
+    number: u32,
+) -> Result<Awaited, ReadFault>
+    requires { IsReplay replay.old }
+    ensures done { IfOk result (AddsLine awaited line.now number replay.old replay.new) }
+    ensures fault { IfErr result (IsAtLineOf replay.old number) }
+{
+    match awaited {
+        Awaited::Scores => add_scores(replay, line, number),
+        Awaited::Game => add_heading(replay, line, number),
+        Awaited::Row if read_game(line).is_some() => add_heading(replay, line, number),
+        Awaited::Row => add_row_line(replay, line, number),
+    }
+}
+
+/// What may follow a row.
+fn awaited_behind(row: &Row) -> Awaited
+    ensures { result ≡ after_row row.now }
+{
+    if is_win(&row.left) || is_win(&row.right) {
+        Awaited::Game
+    } else {
+        Awaited::Row
+    }
+}
+
+/// Adds what a cell tells, if it is there.
+fn add_cell(
+    replay: &mut Replay,
+    player: Player,
+    cell: Option<Cell>,
+    number: u32,
+) -> Result<(), ReadFault>
+    requires { IsReplay replay.old }
+    ensures done { OnOk result (GoesOnBy replay.old replay.new (numbered number (item_of player cell))) }
+    ensures fault { IfErr result (IsAtLineOf replay.old number) }
+{
+    match cell {
+        Some(cell) => replay.play(number, player, cell),
+        None => Ok(()),
+    }
+}
+
+/// Adds what the cells of a row tell, and gives what may follow.
+fn add_row(replay: &mut Replay, row: Row, number: u32) -> Result<Awaited, ReadFault>
+    requires { IsReplay replay.old }
+    ensures done { IfOk result (λ next. (next ≡ after_row row)
+        × GoesOnBy replay.old replay.new (numbered number (items_of row.left row.right))) }
+    ensures fault { IfErr result (IsAtLineOf replay.old number) }
+{
+    let next = awaited_behind(&row);
+    let Row { left, right } = row;
+    add_cell(replay, Player::X, left, number)?;
+    add_cell(replay, Player::O, right, number)?;
+    Ok(next)
+}
+
+fn is_win(cell: &Option<Cell>) -> bool
+    ensures { result ≡ is_win_cell cell.now }
+{
+    matches!(cell, Some(Cell::Wins(_)))
+}

@@ -1,0 +1,39 @@
+//! Match files of other programs: the `.mat` files that most backgammon programs write and read. For whoever takes
+//! matches over from them, or hands matches on.
+//!
+//! ```
+//! let file = b" 1 point match\n\n Game 1\n A : 0   B : 0\n 1) 31: 8/5 6/5\n";
+//! let imported = import_mat(alloc, 1, Rules::One, file)?;
+//! assert!(rt; imported.record.len() == 2);
+//! assert!(rt; imported.lines.as_slice() == [5, 5].as_slice());
+//! let text = export_mat(alloc, &imported.record)?;
+//! assert!(rt; text.starts_with(b" 1 point match\n\n Game 1\n X : 0 "));
+//! ```
+#![tactic(auto)]
+
+mod cell_texts;
+mod cells;
+mod exporting;
+mod fault_words;
+mod faults;
+mod headings;
+mod importing;
+mod legs;
+mod movements;
+mod numbers;
+mod playing;
+mod retelling;
+mod row_texts;
+mod rows;
+mod telling_apart;
+mod tellings;
+#[cfg(test)]
+mod tests;
+mod turns;
+mod words;
+mod writing;
+
+pub use exporting::export_mat;
+pub use faults::{ImportFault, MatFault};
+pub use importing::{Imported, import_mat};
+pub use telling_apart::is_match_file;

@@ -1,0 +1,99 @@
+//! What a movement and a turn have in common: from which points checkers go to which, and what they hit.
+ghost use Rattle.std.specs.Prelude.{◌≡◌, ◌+◌, ◌≤◌, ◌↔◌, length, IsTrue};
+ghost use Rattle.bg_mat.specs.Turns.{HasHits, SameMovement, coming, is_hit as is_hit_by_rule};
+ghost use Rattle.bg_mat.specs.Turns.{is_marked as is_marked_point, is_reached as is_reached_point, leaving, steps_of};
+
+use crate::legs::Leg;
+use arrayvec::ArrayVec;
+use bg_board::{BAR, Board, OFF, Player, Step};
+use bg_turns::Turn;
+
+/// The legs as steps.
+pub(crate) fn as_turn(legs: &[Leg]) -> Turn
+    requires { length legs.now ≤ 4 }
+    ensures { result ≡ steps_of legs.now }
+{
+    let mut steps = ArrayVec::new();
+    for leg in legs {
+        steps.push(leg.step);
+    }
+    Turn { steps }
+}
+
+/// How many of the steps leave a point.
+fn count_leaving(steps: &[Step], point: u8) -> usize
+    ensures value { result ≡ leaving point steps.now }
+    ensures few { result ≤ length steps.now }
+{
+    match steps.split_first() {
+        Some((step, rest)) => usize::from(step.from() == point) + count_leaving(rest, point),
+        None => 0,
+    }
+}
+
+/// How many of the steps come to a point.
+fn count_coming(steps: &[Step], point: u8) -> usize
+    ensures value { result ≡ coming point steps.now }
+    ensures few { result ≤ length steps.now }
+{
+    match steps.split_first() {
+        Some((step, rest)) => usize::from(step.to() == point) + count_coming(rest, point),
+        None => 0,
+    }
+}
+
+/// Whether both lists of steps have the same movement.
+pub(crate) fn same_movement(written: &[Step], played: &[Step]) -> bool
+    requires few { length written.now ≤ 4 }
+    requires short { length played.now ≤ 4 }
+    ensures { IsTrue result ↔ SameMovement written.now played.now }
+{
+    for point in 0..BAR + 1 {
+        let before = count_leaving(written, point) + count_coming(played, point);
+        if before != count_leaving(played, point) + count_coming(written, point) {
+            return false;
+        }
+    }
+    true
+}
+
+/// Whether the legs mark a hit on a point.
+fn is_marked(legs: &[Leg], point: u8) -> bool
+    ensures { result ≡ is_marked_point point legs.now }
+{
+    match legs.split_first() {
+        Some((leg, rest)) => leg.hits && leg.step.to() == point || is_marked(rest, point),
+        None => false,
+    }
+}
+
+/// Whether a step ends on a point.
+pub(crate) fn is_reached(steps: &[Step], point: u8) -> bool
+    ensures { result ≡ is_reached_point point steps.now }
+{
+    match steps.split_first() {
+        Some((step, rest)) => step.to() == point || is_reached(rest, point),
+        None => false,
+    }
+}
+
+/// Whether a turn of the steps hits on a point: it is not off, a single opposing checker stands there, and a step ends
+/// there.
+fn is_hit(board: &Board, player: Player, steps: &[Step], point: u8) -> bool
+    requires { point ≤ 25 }
+    ensures { result ≡ is_hit_by_rule board.now player steps.now point }
+{
+    point > OFF && board.count(player.opponent(), BAR - point) == 1 && is_reached(steps, point)
+}
+
+/// Whether the legs mark those points where the steps hit.
+pub(crate) fn same_hits(board: &Board, player: Player, legs: &[Leg], steps: &[Step]) -> bool
+    ensures { IsTrue result ↔ HasHits board.now player legs.now steps.now }
+{
+    for point in 0..BAR + 1 {
+        if is_marked(legs, point) != is_hit(board, player, steps, point) {
+            return false;
+        }
+    }
+    true
+}

@@ -1,0 +1,197 @@
+//! What the cells of a file add to a record.
+ghost use Rattle.std.specs.Prelude.{◌≡◌, ◌≢◌, ◌+◌, ◌*◌, ◌<◌, [], ◌∷◌, true, None, IsTrue, IfOk, IfSome, OnOk};
+ghost use Rattle.std.specs.Bool.{OnTrue, OnFalse};
+ghost use Rattle.bg_match.specs.Level.{points as points_of};
+ghost use Rattle.bg_match.specs.Match.{IsLog};
+ghost use Rattle.bg_match.specs.State.{State, score_of};
+ghost use Rattle.bg_turns.specs.Dice.{first_pips, second_pips};
+ghost use Rattle.bg_mat.specs.Turns.{TellsTurn};
+ghost use Rattle.bg_mat.specs.Telling.{Does, Game, Doubles, Drops, Takes, Turn as Turns, Wins, deed_of, GoesOn};
+ghost use Rattle.bg_mat.specs.Telling.{IsOver, IsOverMatch, BringsDice, MayResign, before_of};
+ghost use Rattle.bg_mat.specs.Replaying.{Adds, AddsMove, Begins, Closes, GoesOnBy, IsReplay, Plays, Resigns, Rolls};
+ghost use Rattle.bg_mat.specs.Replaying.{TellsScores, place_of};
+ghost use Rattle.bg_mat.specs.Refusals.{IsAtLine, IsAtLineOf, IsAtPending};
+ghost use Rattle.std.specs.Prelude.{IfErr};
+
+use crate::MatFault;
+use crate::cells::{Cell, Win};
+use crate::faults::{ReadFault, refused};
+use crate::headings::has_scores;
+use crate::legs::Legs;
+use crate::turns::{find_turn, turn_fault};
+use arrayvec::ArrayVec;
+use bg_board::Player;
+use bg_match::{Actor, Entry, EntryFault, Level, Phase, Record, Standing};
+use bg_turns::{Dice, Turn, can_step};
+use std::alloc::{AllocError, Global};
+
+mod doubling;
+mod moving;
+mod winning;
+
+/// A turn that is told by its dice alone, as long as it is not known whether the player moved.
+#[derive(Clone, Copy, Debug, PartialEq, Eq)]
+pub(crate) struct PendingTurn {
+    line: u32,
+    player: Player,
+    dice: Dice,
+}
+
+/// What was read so far: the record and where it stands, the line of each entry, the number of the game that is read
+/// and the scores before it, and a turn that is pending.
+#[derive(Drop)]
+pub(crate) struct Replay {
+    pub(crate) log: Record,
+    pub(crate) lines: Vec<u32>,
+    standing: Standing,
+    game: u8,
+    before: (u16, u16),
+    pending: Option<PendingTurn>,
+}
+
+impl Replay {
+    /// Nothing is read yet of a match without entries.
+    pub(crate) fn new(alloc: Global, log: Record) -> Replay
+        requires log { IsLog log }
+        requires empty { log.entries ≡ [] }
+        ensures { Begins log result }
+    {
+        let standing = log.standing();
+        Replay {
+            log,
+            lines: Vec::new(alloc),
+            standing,
+            game: 0,
+            before: (0, 0),
+            pending: None,
+        }
+    }
+
+    /// Adds an entry, for a line.
+    fn add(&mut self, line: u32, entry: Entry) -> Result<(), ReadFault>
+        requires replay { IsReplay self.old }
+        requires closed { self.old.pending ≡ None }
+        ensures done { OnOk result (Adds self.old self.new line entry) }
+        ensures fault { IfErr result (IsAtLine line) }
+    {
+        if self.lines.push(line).is_err() {
+            return Err(ReadFault::Memory);
+        }
+        match self.log.push(entry) {
+            Ok(()) => {
+                self.standing = self.log.standing();
+                Ok(())
+            }
+            Err(EntryFault::Memory) => Err(ReadFault::Memory),
+            Err(why) => Err(refused(line, MatFault::Entry(why))),
+        }
+    }
+
+    /// Whether the game that is read goes on.
+    fn goes_on(&self) -> bool
+        ensures on { OnTrue result (GoesOn (place_of self.now)) }
+        ensures over { OnFalse result (IsOver (place_of self.now)) }
+    {
+        match self.standing.phase() {
+            Phase::Over(_) => false,
+            _ => self.standing.game() == self.game,
+        }
+    }
+
+    /// Whether a game is to be opened.
+    fn is_opening(&self) -> bool
+        ensures { IsTrue result → self.now.standing.phase ≡ Phase.Opening }
+    {
+        matches!(self.standing.phase(), Phase::Opening)
+    }
+
+    /// Why no game begins.
+    fn game_fault(&self) -> MatFault {
+        match self.standing.phase() {
+            Phase::Over(_) => MatFault::Entry(EntryFault::MatchOver),
+            _ => MatFault::GameGoesOn,
+        }
+    }
+
+    /// Begins the game of this number.
+    pub(crate) fn begin_game(&mut self, line: u32, number: u16) -> Result<(), ReadFault>
+        requires { IsReplay self.old }
+        ensures done { OnOk result (GoesOnBy self.old self.new (record { line = line; item = Game number } ∷ [])) }
+        ensures fault { IfErr result (IsAtLineOf self.old line) }
+    {
+        self.close(false)?;
+        if !self.is_opening() {
+            return Err(refused(line, self.game_fault()));
+        }
+        let game = self.standing.game();
+        if number != u16::from(game) || game == self.game {
+            return Err(refused(line, MatFault::WrongGame));
+        }
+        self.game = game;
+        self.before = self.standing.score();
+        Ok(())
+    }
+
+    /// Adds what a player does.
+    pub(crate) fn play(&mut self, line: u32, player: Player, cell: Cell) -> Result<(), ReadFault>
+        requires { IsReplay self.old }
+        ensures done { OnOk result (GoesOnBy self.old self.new
+            (record { line = line; item = Does player (deed_of cell) } ∷ [])) }
+        ensures fault { IfErr result (IsAtLineOf self.old line) }
+    {
+        let stays = matches!(cell, Cell::Wins(_)) && self.is_lost_to(player);
+        self.close(stays)?;
+        self.play_next(line, player, cell)
+    }
+
+    /// Adds what a player does, where no turn is pending.
+    fn play_next(&mut self, line: u32, player: Player, cell: Cell) -> Result<(), ReadFault>
+        requires replay { IsReplay self.old }
+        requires closed { self.old.pending ≡ None }
+        ensures done { OnOk result (GoesOnBy self.old self.new
+            (record { line = line; item = Does player (deed_of cell) } ∷ [])) }
+        ensures fault { IfErr result (IsAtLine line) }
+    {
+        match cell {
+            Cell::Wins(win) => self.win(line, player, win),
+            cell if self.goes_on() => self.act(line, player, cell),
+            _ => Err(refused(line, MatFault::GameOver)),
+        }
+    }
+
+    /// Adds what a player does in a game that goes on.
+    fn act(&mut self, line: u32, player: Player, cell: Cell) -> Result<(), ReadFault>
+        requires replay { IsReplay self.old }
+        requires goes_on { GoesOn (place_of self.old) }
+        requires closed { self.old.pending ≡ None }
+        ensures done { OnOk result (GoesOnBy self.old self.new
+            (record { line = line; item = Does player (deed_of cell) } ∷ [])) }
+        ensures fault { IfErr result (IsAtLine line) }
+    {
+        match cell {
+            Cell::Turn(dice, legs) if legs.is_empty() => {
+                self.pending = Some(PendingTurn { line, player, dice });
+                Ok(())
+            }
+            Cell::Turn(dice, legs) => self.turn(line, player, dice, &legs),
+            Cell::Doubles(shows) => self.double(line, player, shows),
+            Cell::Takes => self.take(line, player),
+            Cell::Drops => self.drop(line, player),
+            Cell::Wins(win) => self.win(line, player, win),
+        }
+    }
+
+    /// Compares a line with the scores before the game.
+    pub(crate) fn tell_scores(&mut self, number: u32, line: &[u8]) -> Result<(), ReadFault>
+        requires { IsReplay self.old }
+        ensures done { OnOk result (TellsScores self.old self.new number line.now) }
+        ensures fault { IfErr result (IsAtLineOf self.old number) }
+    {
+        self.close(false)?;
+        let (x, o) = self.standing.score();
+        if !has_scores(line, x, o) {
+            return Err(refused(number, MatFault::WrongScores));
+        }
+        Ok(())
+    }
+}

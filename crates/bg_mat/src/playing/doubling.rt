@@ -1,0 +1,92 @@
+//! Doubles and their answers.
+ghost use Rattle.std.specs.Prelude.{◌≡◌, ◌≢◌, ◌+◌, ◌*◌, ◌<◌, [], ◌∷◌, true, None, IsTrue, IfOk, IfSome, OnOk};
+ghost use Rattle.std.specs.Bool.{OnTrue, OnFalse};
+ghost use Rattle.bg_match.specs.Level.{points as points_of};
+ghost use Rattle.bg_match.specs.Match.{IsLog};
+ghost use Rattle.bg_match.specs.State.{State, score_of};
+ghost use Rattle.bg_turns.specs.Dice.{first_pips, second_pips};
+ghost use Rattle.bg_mat.specs.Turns.{TellsTurn};
+ghost use Rattle.bg_mat.specs.Telling.{Does, Game, Doubles, Drops, Takes, Turn as Turns, Wins, deed_of, GoesOn};
+ghost use Rattle.bg_mat.specs.Telling.{IsOver, IsOverMatch, BringsDice, MayResign, before_of};
+ghost use Rattle.bg_mat.specs.Replaying.{Adds, AddsMove, Begins, Closes, GoesOnBy, IsReplay, Plays, Resigns, Rolls};
+ghost use Rattle.bg_mat.specs.Replaying.{TellsScores, place_of};
+ghost use Rattle.bg_mat.specs.Refusals.{IsAtLine, IsAtLineOf, IsAtPending};
+ghost use Rattle.std.specs.Prelude.{IfErr};
+
+use super::Replay;
+use crate::MatFault;
+use crate::cells::{Cell, Win};
+use crate::faults::{ReadFault, refused};
+use crate::headings::has_scores;
+use crate::legs::Legs;
+use crate::turns::{find_turn, turn_fault};
+use arrayvec::ArrayVec;
+use bg_board::Player;
+use bg_match::{Actor, Entry, EntryFault, Level, Phase, Record, Standing};
+use bg_turns::{Dice, Turn, can_step};
+use std::alloc::{AllocError, Global};
+
+impl Replay {
+    /// Whether the player is to act.
+    fn is_to_act(&self, player: Player) -> bool
+        ensures { IsTrue result → self.now.standing.phase ≡ Phase.ToAct player }
+    {
+        matches!(self.standing.phase(), Phase::ToAct(acting) if acting == player)
+    }
+
+    /// Whether the player is to answer a double.
+    fn is_doubled(&self, player: Player) -> bool
+        ensures { IsTrue result → self.now.standing.phase ≡ Phase.Doubled player }
+    {
+        matches!(self.standing.phase(), Phase::Doubled(acting) if acting == player)
+    }
+
+    /// What the cube shows once it is turned.
+    fn doubled_cube(&self) -> u16
+        ensures { result ≡ 2 * self.now.standing.cube.value }
+    {
+        2 * u16::from(self.standing.cube().value)
+    }
+
+    pub(super) fn double(&mut self, line: u32, player: Player, shows: u16) -> Result<(), ReadFault>
+        requires replay { IsReplay self.old }
+        requires goes_on { GoesOn (place_of self.old) }
+        requires closed { self.old.pending ≡ None }
+        ensures done { OnOk result (Plays self.old self.new line player (Doubles shows)) }
+        ensures fault { IfErr result (IsAtLine line) }
+    {
+        if !self.is_to_act(player) {
+            return Err(refused(line, MatFault::OutOfTurn));
+        }
+        if shows != self.doubled_cube() {
+            return Err(refused(line, MatFault::WrongCube));
+        }
+        self.add(line, Entry::Doubled)
+    }
+
+    pub(super) fn take(&mut self, line: u32, player: Player) -> Result<(), ReadFault>
+        requires replay { IsReplay self.old }
+        requires goes_on { GoesOn (place_of self.old) }
+        requires closed { self.old.pending ≡ None }
+        ensures done { OnOk result (Plays self.old self.new line player Takes) }
+        ensures fault { IfErr result (IsAtLine line) }
+    {
+        if !self.is_doubled(player) {
+            return Err(refused(line, MatFault::OutOfTurn));
+        }
+        self.add(line, Entry::Taken)
+    }
+
+    pub(super) fn drop(&mut self, line: u32, player: Player) -> Result<(), ReadFault>
+        requires replay { IsReplay self.old }
+        requires goes_on { GoesOn (place_of self.old) }
+        requires closed { self.old.pending ≡ None }
+        ensures done { OnOk result (Plays self.old self.new line player Drops) }
+        ensures fault { IfErr result (IsAtLine line) }
+    {
+        if !self.is_doubled(player) {
+            return Err(refused(line, MatFault::OutOfTurn));
+        }
+        self.add(line, Entry::Dropped)
+    }
+}

@@ -1,0 +1,182 @@
+//! Dice and moves.
+ghost use Rattle.std.specs.Prelude.{◌≡◌, ◌≢◌, ◌+◌, ◌*◌, ◌<◌, [], ◌∷◌, true, None, IsTrue, IfOk, IfSome, OnOk};
+ghost use Rattle.std.specs.Bool.{OnTrue, OnFalse};
+ghost use Rattle.bg_match.specs.Level.{points as points_of};
+ghost use Rattle.bg_match.specs.Match.{IsLog};
+ghost use Rattle.bg_match.specs.State.{State, score_of};
+ghost use Rattle.bg_turns.specs.Dice.{first_pips, second_pips};
+ghost use Rattle.bg_mat.specs.Turns.{TellsTurn};
+ghost use Rattle.bg_mat.specs.Telling.{Does, Game, Doubles, Drops, Takes, Turn as Turns, Wins, deed_of, GoesOn};
+ghost use Rattle.bg_mat.specs.Telling.{IsOver, IsOverMatch, BringsDice, MayResign, before_of};
+ghost use Rattle.bg_mat.specs.Replaying.{Adds, AddsMove, Begins, Closes, GoesOnBy, IsReplay, Plays, Resigns, Rolls};
+ghost use Rattle.bg_mat.specs.Replaying.{TellsScores, place_of};
+ghost use Rattle.bg_mat.specs.Refusals.{IsAtLine, IsAtLineOf, IsAtPending};
+ghost use Rattle.std.specs.Prelude.{IfErr};
+
+use super::{PendingTurn, Replay};
+use crate::MatFault;
+use crate::cells::{Cell, Win};
+use crate::faults::{ReadFault, refused};
+use crate::headings::has_scores;
+use crate::legs::Legs;
+use crate::turns::{find_turn, turn_fault};
+use arrayvec::ArrayVec;
+use bg_board::Player;
+use bg_match::{Actor, Entry, EntryFault, Level, Phase, Record, Standing};
+use bg_turns::{Dice, Turn, can_step};
+use std::alloc::{AllocError, Global};
+
+/// The opening by which a player brings dice.
+fn opening_of(player: Player, dice: Dice) -> Entry
+    requires { first_pips dice ≢ second_pips dice }
+    ensures { (s : State) → BringsDice s player dice result }
+{
+    let (higher, lower) = if dice.first.pips() < dice.second.pips() {
+        (dice.second, dice.first)
+    } else {
+        (dice.first, dice.second)
+    };
+    match player {
+        Player::X => Entry::Opening(higher, lower),
+        Player::O => Entry::Opening(lower, higher),
+    }
+}
+
+/// The entry by which a player brings dice: he opens the game, or rolls.
+fn entry_of_dice(player: Player, dice: Dice, standing: &Standing) -> Result<Entry, MatFault>
+    ensures { IfOk result (BringsDice standing.now player dice) }
+{
+    match standing.phase() {
+        Phase::Opening if dice.is_double() => Err(MatFault::Entry(EntryFault::EqualOpening)),
+        Phase::Opening => Ok(opening_of(player, dice)),
+        Phase::ToAct(acting) if acting == player => Ok(Entry::Rolled(dice)),
+        _ => Err(MatFault::OutOfTurn),
+    }
+}
+
+impl Replay {
+    /// Adds the entry by which a player brings dice.
+    fn roll(&mut self, line: u32, player: Player, dice: Dice) -> Result<(), ReadFault>
+        requires replay { IsReplay self.old }
+        requires closed { self.old.pending ≡ None }
+        ensures done { OnOk result (Rolls self.old self.new line player dice) }
+        ensures fault { IfErr result (IsAtLine line) }
+    {
+        match entry_of_dice(player, dice, &self.standing) {
+            Ok(entry) => self.add(line, entry),
+            Err(why) => Err(refused(line, why)),
+        }
+    }
+
+    /// The turn that a movement tells where the match stands.
+    fn turn_of(&self, line: u32, player: Player, dice: Dice, legs: &Legs) -> Result<Turn, ReadFault>
+        ensures done { IfOk result (TellsTurn self.now.standing.board player dice legs.now.items) }
+        ensures fault { IfErr result (IsAtLine line) }
+    {
+        let alloc = *self.lines.allocator();
+        let board = self.standing.board();
+        match find_turn(alloc, &board, player, dice, legs.as_slice()) {
+            Ok(Some(turn)) => return Ok(turn),
+            Ok(None) => {}
+            Err(AllocError) => return Err(ReadFault::Memory),
+        }
+        match turn_fault(alloc, &board, player, dice, legs.as_slice()) {
+            Ok(why) => Err(refused(line, why)),
+            Err(AllocError) => Err(ReadFault::Memory),
+        }
+    }
+
+    /// Adds a turn of a movement.
+    pub(super) fn turn(
+        &mut self,
+        line: u32,
+        player: Player,
+        dice: Dice,
+        legs: &Legs,
+    ) -> Result<(), ReadFault>
+        requires replay { IsReplay self.old }
+        requires goes_on { GoesOn (place_of self.old) }
+        requires closed { self.old.pending ≡ None }
+        ensures done { OnOk result (Plays self.old self.new line player (Turns dice legs.now.items)) }
+        ensures fault { IfErr result (IsAtLine line) }
+    {
+        self.roll(line, player, dice)?;
+        let turn = self.turn_of(line, player, dice, legs)?;
+        self.add(line, Entry::Moved(turn))
+    }
+
+    /// The turn without steps, where the match stands.
+    fn empty_turn(&self, line: u32, player: Player, dice: Dice) -> Result<Turn, ReadFault>
+        ensures done { IfOk result (TellsTurn self.now.standing.board player dice []) }
+        ensures fault { IfErr result (IsAtLine line) }
+    {
+        self.turn_of(line, player, dice, &ArrayVec::new())
+    }
+
+    /// Adds an empty move, or a pass where one is due.
+    fn add_empty(&mut self, line: u32, player: Player, dice: Dice) -> Result<(), ReadFault>
+        requires replay { IsReplay self.old }
+        requires closed { self.old.pending ≡ None }
+        ensures done { OnOk result (AddsMove self.old self.new line player dice) }
+        ensures fault { IfErr result (IsAtLine line) }
+    {
+        if self.log.actor() == Actor::Referee {
+            return self.add(line, Entry::Passed);
+        }
+        let turn = self.empty_turn(line, player, dice)?;
+        self.add(line, Entry::Moved(turn))
+    }
+
+    /// Adds the turn that was pending: its dice alone where it stays without a turn, else with an empty move or a pass.
+    fn add_pending(&mut self, turn: PendingTurn, stays: bool) -> Result<(), ReadFault>
+        requires replay { IsReplay self.old }
+        requires goes_on { GoesOn (place_of self.old) }
+        requires closed { self.old.pending ≡ None }
+        ensures done { OnOk result (Plays self.old self.new turn.line turn.player (Turns turn.dice [])) }
+        ensures fault { IfErr result (IsAtLine turn.line) }
+    {
+        self.roll(turn.line, turn.player, turn.dice)?;
+        if stays {
+            return Ok(());
+        }
+        self.add_empty(turn.line, turn.player, turn.dice)
+    }
+
+    /// Adds the turn that is pending, if there is one: its dice alone where it stays without a turn.
+    pub(super) fn close(&mut self, stays: bool) -> Result<(), ReadFault>
+        requires { IsReplay self.old }
+        ensures done { OnOk result (Closes self.old self.new) }
+        ensures fault { IfErr result (IsAtPending self.old) }
+    {
+        match self.pending.take() {
+            Some(turn) => self.add_pending(turn, stays),
+            None => Ok(()),
+        }
+    }
+
+    /// Whether the turn that is pending is that of a player who loses to this one.
+    pub(super) fn is_lost_to(&self, winner: Player) -> bool {
+        match self.pending {
+            Some(turn) => turn.player != winner,
+            None => false,
+        }
+    }
+
+    /// Whether the player whose turn is pending has a step.
+    fn can_move(&self) -> bool {
+        match self.pending {
+            Some(turn) => can_step(&self.standing.board(), turn.player, turn.dice),
+            None => false,
+        }
+    }
+
+    /// Ends the replay: a turn that is pending is without steps where none can be played, and else still to come.
+    pub(crate) fn finish(&mut self) -> Result<(), ReadFault>
+        requires { IsReplay self.old }
+        ensures done { OnOk result (Closes self.old self.new) }
+        ensures fault { IfErr result (IsAtPending self.old) }
+    {
+        let stays = self.can_move();
+        self.close(stays)
+    }
+}

@@ -1,0 +1,151 @@
+//! Wins.
+ghost use Rattle.std.specs.Prelude.{◌≡◌, ◌≢◌, ◌+◌, ◌*◌, ◌<◌, [], ◌∷◌, true, None, IsTrue, IfOk, IfSome, OnOk};
+ghost use Rattle.std.specs.Bool.{OnTrue, OnFalse};
+ghost use Rattle.bg_match.specs.Level.{points as points_of};
+ghost use Rattle.bg_match.specs.Match.{IsLog};
+ghost use Rattle.bg_match.specs.State.{State, score_of};
+ghost use Rattle.bg_turns.specs.Dice.{first_pips, second_pips};
+ghost use Rattle.bg_mat.specs.Turns.{TellsTurn};
+ghost use Rattle.bg_mat.specs.Telling.{Does, Game, Doubles, Drops, Takes, Turn as Turns, Wins, deed_of, GoesOn};
+ghost use Rattle.bg_mat.specs.Telling.{IsOver, IsOverMatch, BringsDice, MayResign, before_of};
+ghost use Rattle.bg_mat.specs.Replaying.{Adds, AddsMove, Begins, Closes, GoesOnBy, IsReplay, Plays, Resigns, Rolls};
+ghost use Rattle.bg_mat.specs.Replaying.{TellsScores, place_of};
+ghost use Rattle.bg_mat.specs.Refusals.{IsAtLine, IsAtLineOf, IsAtPending};
+ghost use Rattle.std.specs.Prelude.{IfErr};
+
+use super::Replay;
+use crate::MatFault;
+use crate::cells::{Cell, Win};
+use crate::faults::{ReadFault, refused};
+use crate::headings::has_scores;
+use crate::legs::Legs;
+use crate::turns::{find_turn, turn_fault};
+use arrayvec::ArrayVec;
+use bg_board::Player;
+use bg_match::{Actor, Entry, EntryFault, Level, Phase, Record, Standing};
+use bg_turns::{Dice, Turn, can_step};
+use std::alloc::{AllocError, Global};
+
+/// Whether a score has grown by so many points, at least one.
+fn has_grown(before: u16, after: u16, points: u16) -> bool
+    ensures { IsTrue result → (0 < points) × (after ≡ before + points) }
+{
+    points > 0 && u32::from(after) == u32::from(before) + u32::from(points)
+}
+
+/// The level at which so many points are won with the cube.
+fn level_of_points(won: u16, cube: u8) -> Option<Level>
+    ensures { IfSome result (λ level. won ≡ points_of level * cube) }
+{
+    let cube = u16::from(cube);
+    if won == cube {
+        Some(Level::Normal)
+    } else if won == 2 * cube {
+        Some(Level::Gammon)
+    } else if won == 3 * cube {
+        Some(Level::Backgammon)
+    } else {
+        None
+    }
+}
+
+impl Replay {
+    /// Adds a win: nothing where the game was won so, else the other player's offer to resign, and its acceptance.
+    pub(super) fn win(&mut self, line: u32, winner: Player, win: Win) -> Result<(), ReadFault>
+        requires replay { IsReplay self.old }
+        requires closed { self.old.pending ≡ None }
+        ensures done { OnOk result (Plays self.old self.new line winner (Wins win.points win.ends_match)) }
+        ensures fault { IfErr result (IsAtLine line) }
+    {
+        if self.goes_on() {
+            self.win_by_offer(line, winner, win)
+        } else {
+            self.win_by_play(line, winner, win)
+        }
+    }
+
+    /// Adds an offer to resign and its acceptance, by the row of a win.
+    fn win_by_offer(&mut self, line: u32, winner: Player, win: Win) -> Result<(), ReadFault>
+        requires replay { IsReplay self.old }
+        requires goes_on { GoesOn (place_of self.old) }
+        requires closed { self.old.pending ≡ None }
+        ensures done { OnOk result (Plays self.old self.new line winner (Wins win.points win.ends_match)) }
+        ensures fault { IfErr result (IsAtLine line) }
+    {
+        self.resign(line, winner, win.points)?;
+        self.check_end(line, win)
+    }
+
+    /// Adds nothing, by the row of a win that the entries before it tell.
+    fn win_by_play(&self, line: u32, winner: Player, win: Win) -> Result<(), ReadFault>
+        requires replay { IsReplay self.now }
+        requires over { IsOver (place_of self.now) }
+        requires closed { self.now.pending ≡ None }
+        ensures done { OnOk result (Plays self.now self.now line winner (Wins win.points win.ends_match)) }
+        ensures fault { IfErr result (IsAtLine line) }
+    {
+        if !self.has_won(winner, win.points) {
+            return Err(refused(line, MatFault::WrongPoints));
+        }
+        self.check_end(line, win)
+    }
+
+    /// Whether the player has so many points more than before the game.
+    fn has_won(&self, winner: Player, points: u16) -> bool
+        ensures { IsTrue result → (0 < points)
+            × (score_of self.now.standing winner ≡ before_of (place_of self.now) winner + points) }
+    {
+        let score = self.standing.score();
+        match winner {
+            Player::X => has_grown(self.before.0, score.0, points),
+            Player::O => has_grown(self.before.1, score.1, points),
+        }
+    }
+
+    /// Refuses a win that ends the match by the file alone.
+    fn check_end(&self, line: u32, win: Win) -> Result<(), ReadFault>
+        ensures done { OnOk result (win.ends_match ≡ true → IsOverMatch self.now.standing) }
+        ensures fault { IfErr result (IsAtLine line) }
+    {
+        match self.standing.phase() {
+            Phase::Over(_) => Ok(()),
+            _ if win.ends_match => Err(refused(line, MatFault::MatchGoesOn)),
+            _ => Ok(()),
+        }
+    }
+
+    /// Whether the player may offer to resign.
+    fn may_lose(&self, loser: Player) -> bool
+        ensures { IsTrue result → MayResign self.now.standing loser }
+    {
+        match self.standing.phase() {
+            Phase::ToAct(acting) => acting == loser,
+            Phase::ToMove(acting, _) => acting == loser,
+            _ => false,
+        }
+    }
+
+    /// The level at which so many points are won with the cube as it is.
+    fn level_for(&self, won: u16) -> Option<Level>
+        ensures { IfSome result (λ level. won ≡ points_of level * self.now.standing.cube.value) }
+    {
+        level_of_points(won, self.standing.cube().value)
+    }
+
+    /// Adds an offer to resign and its acceptance.
+    fn resign(&mut self, line: u32, winner: Player, won: u16) -> Result<(), ReadFault>
+        requires replay { IsReplay self.old }
+        requires closed { self.old.pending ≡ None }
+        ensures done { OnOk result (Resigns self.old self.new line winner won) }
+        ensures fault { IfErr result (IsAtLine line) }
+    {
+        if !self.may_lose(winner.opponent()) {
+            return Err(refused(line, MatFault::OutOfTurn));
+        }
+        let Some(level) = self.level_for(won) else {
+            return Err(refused(line, MatFault::WrongPoints));
+        };
+        self.add(line, Entry::Resigned(level))?;
+        self.add(line, Entry::Accepted)
+    }
+}

@@ -1,0 +1,71 @@
+//! A row of a game: what X does, in the left column, and what O does, in the right one.
+ghost use Rattle.std.specs.Prelude.{ℕ, List, IfOk};
+ghost use Rattle.bg_mat.specs.Cells.{SkipsNumber, TellsCell, TellsCells, TellsRow};
+ghost use Rattle.bg_mat.specs.Words.{IsBlankText};
+
+use crate::MatFault;
+use crate::cells::{Cell, split_cell};
+use crate::numbers::read_number;
+use crate::words::{count_blanks, is_blank_text, split_word};
+
+/// So many blanks before the first cell of a row, or more, stand for an empty left column.
+const LEFT_COLUMN: usize = 16;
+
+/// The cells of a row, of which at least one is there.
+#[derive(Debug, PartialEq, Eq, Drop)]
+pub(crate) struct Row {
+    pub(crate) left: Option<Cell>,
+    pub(crate) right: Option<Cell>,
+}
+
+/// What follows the number of a row, as `12)`, or the text itself where it begins with none.
+fn skip_row_number(line: &[u8]) -> &[u8]
+    ensures { SkipsNumber line.now result.now }
+{
+    match split_word(line) {
+        Some(([digits @ .., b')'], rest)) if read_number(digits).is_some() => rest,
+        _ => line,
+    }
+}
+
+/// A text's first cell alone: nothing follows it.
+fn read_cell(text: &[u8]) -> Result<Cell, MatFault>
+    ensures { IfOk result (λ cell. (rest : List ℕ) × TellsCell text.now cell rest × IsBlankText rest) }
+{
+    let (cell, rest) = split_cell(text)?;
+    if is_blank_text(rest) {
+        Ok(cell)
+    } else {
+        Err(MatFault::NotALine)
+    }
+}
+
+/// The cells of a row behind its number.
+fn read_cells(text: &[u8]) -> Result<Row, MatFault>
+    ensures { IfOk result (λ row. TellsCells text.now row.left row.right) }
+{
+    if count_blanks(text) >= LEFT_COLUMN {
+        return Ok(Row {
+            left: None,
+            right: Some(read_cell(text)?),
+        });
+    }
+    let (first, rest) = split_cell(text)?;
+    if is_blank_text(rest) {
+        return Ok(Row {
+            left: Some(first),
+            right: None,
+        });
+    }
+    Ok(Row {
+        left: Some(first),
+        right: Some(read_cell(rest)?),
+    })
+}
+
+/// The cells of a row.
+pub(crate) fn read_row(line: &[u8]) -> Result<Row, MatFault>
+    ensures { IfOk result (TellsRow line.now) }
+{
+    read_cells(skip_row_number(line))
+}

@@ -1,0 +1,50 @@
+//! Refused growths.
+use super::records::check_same;
+use crate::{ImportFault, Imported, export_mat, import_mat};
+use bg_match::Rules;
+use std::alloc::{AllocError, Global};
+use std::test::Fail;
+
+const MATCH: &str = " 1 point match\n Game 1\n X : 0 O : 0\n  1) 64: 24/14\n      Wins 1 point\n";
+
+/// Fails where the growth that comes next is refused: so `tools/refuse_growths` learns how many came before.
+fn check_no_growth_is_left(alloc: Global) -> Result<(), Fail> {
+    match Vec::<u8>::with_capacity(alloc, 1) {
+        Ok(_) => Ok(()),
+        Err(AllocError) => Err(Fail::from("no growth is left")),
+    }
+}
+
+/// What is read of MATCH, also where memory is refused once.
+fn read(alloc: Global) -> Result<Imported, Fail> {
+    match import_mat(alloc, 1, Rules::One, MATCH.as_bytes()) {
+        Err(ImportFault::Memory) => Ok(import_mat(alloc, 1, Rules::One, MATCH.as_bytes())?),
+        read => Ok(read?),
+    }
+}
+
+/// Where memory is refused the same call then succeeds. No run of the tests refuses any, but `tools/refuse_growths`
+/// refuses each growth in turn.
+#[test]
+fn refused_growths_of_imports(rt: HostRuntime) -> Result<(), Fail> {
+    let imported = read(rt.alloc())?;
+    assert_eq!(rt; imported.record.len(), 4);
+    assert_eq!(rt; imported.lines.as_slice(), [4, 4, 5, 5].as_slice());
+    check_no_growth_is_left(rt.alloc())
+}
+
+/// The same, of exports.
+#[test]
+fn refused_growths_of_exports(rt: HostRuntime) -> Result<(), Fail> {
+    let imported = read(rt.alloc())?;
+    let written = match export_mat(rt.alloc(), &imported.record) {
+        Ok(written) => written,
+        Err(AllocError) => export_mat(rt.alloc(), &imported.record)?,
+    };
+    let again = match import_mat(rt.alloc(), 1, Rules::One, written.as_slice()) {
+        Err(ImportFault::Memory) => import_mat(rt.alloc(), 1, Rules::One, written.as_slice())?,
+        read => read?,
+    };
+    check_same(&rt, &again.record, &imported.record);
+    check_no_growth_is_left(rt.alloc())
+}

@@ -1,0 +1,52 @@
+//! What was found of many files.
+ghost use Rattle.std.specs.Prelude.{◌≡◌};
+ghost use Rattle.bg_relay.specs.Ending.{worst_of};
+
+use crate::endings::Found;
+use std::fmt;
+use std::fmt::{Display, Formatter, Write};
+
+/// How many files are good, how many are refused, and how many could not be judged. It is shown in words.
+#[derive(Clone, Copy, Default)]
+pub(crate) struct Tally {
+    pub(crate) good: u64,
+    pub(crate) refused: u64,
+    pub(crate) unjudged: u64,
+}
+
+impl Tally {
+    /// How many files there were.
+    pub(crate) fn files(self) -> u64 {
+        self.good
+            .saturating_add(self.refused)
+            .saturating_add(self.unjudged)
+    }
+
+    /// The worst of it: a file that could not be judged before one that is refused.
+    pub(crate) fn worst(self) -> Found
+        ensures { result ≡ worst_of self.refused self.unjudged }
+    {
+        if self.unjudged > 0 {
+            Found::Unjudged
+        } else if self.refused > 0 {
+            Found::Refused
+        } else {
+            Found::Good
+        }
+    }
+}
+
+impl Display for Tally {
+    fn fmt<W: Write>(&self, f: &mut Formatter<W>) -> fmt::Result {
+        let Tally {
+            good,
+            refused,
+            unjudged,
+        } = *self;
+        write!(f, "{good} ok, {refused} refused")?;
+        if unjudged > 0 {
+            write!(f, ", {unjudged} not judged")?;
+        }
+        Ok(())
+    }
+}
