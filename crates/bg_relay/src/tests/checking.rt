@@ -81,16 +81,35 @@ fn files_that_are_refused(rt: HostRuntime) -> Result<(), Fail> {
     Ok(())
 }
 
-/// A match file of another program is refused as what it is judged as.
+/// A match file of another program is one where its first line that tells something is a length, and is judged by what
+/// it imports to; any other file is judged as a transcript.
 #[test]
 fn files_of_other_kinds(rt: HostRuntime) -> Result<(), Fail> {
-    check_said(
-        &rt,
-        b"; [Site \"here\"]\n\n 3 point match\n",
-        None,
-        "a/file: refused at line 1: not a length line: ; [Site \"here\"]\n",
-        Verdict::Refused(1),
-    )
+    let games = b" 1 point match\n\n Game 1\n A : 0 B : 0\n 1) 31: 8/5 6/5\n";
+    for (bytes, entries) in [
+        (b"; [Site \"here\"]\n\n 3 point match\n".as_slice(), 0),
+        (games, 2),
+    ] {
+        let said = format!(in rt.alloc(); "a/file: ok {entries}\n")?;
+        check_said(&rt, bytes, None, said.as_str(), Verdict::Fine(entries))?;
+    }
+    for (bytes, line, why) in [
+        (
+            b" 1 point match\n\n Game 1\n A : 0 B : 0\n 1) 31: 8/5 6/4\n".as_slice(),
+            5,
+            "no legal turn has this movement:  1) 31: 8/5 6/4",
+        ),
+        (b"; nothing\n 0 point match\n", 2, "a money game:  0 point match"),
+        (
+            b"; [Site \"here\"]\n\n Game 1\n",
+            1,
+            "not a length line: ; [Site \"here\"]",
+        ),
+    ] {
+        let said = format!(in rt.alloc(); "a/file: refused at line {line}: {why}\n")?;
+        check_said(&rt, bytes, None, said.as_str(), Verdict::Refused(line))?;
+    }
+    Ok(())
 }
 
 /// The line is cut where the screen ends, and says so.
