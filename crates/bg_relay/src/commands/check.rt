@@ -12,12 +12,18 @@ use std::time::Clock;
 
 /// What `check` does, with an example.
 const ABOUT_CHECK: &str =
-    "Judge many files, transcripts as `judge` reads them: a line for each, in the order given.
+    "Judge many files, transcripts as `judge` reads them and match files as `import` does: a line for
+each, in the order given.
 
-    $ bg_relay check good.txt bad.txt
+    $ bg_relay check good.txt bad.txt other.mat
     good.txt: ok 2
     bad.txt: refused at line 3: more can be played: X move 8-5
-    bg_relay: 1 ok, 1 refused
+    other.mat: ok 10
+    bg_relay: 2 ok, 1 refused
+
+A file is taken for a match file of another program, by the first rules, where its first line that is
+neither blank nor a comment says how long the match is, as `7 point match` does; its name says
+nothing.
 
 Behind the reason stands the line itself, cut to the width of the screen where the standard output is
 one (COLUMNS says how wide it is, and else it is taken for 80 columns), and to 1000 columns elsewhere.
