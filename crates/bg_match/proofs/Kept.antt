@@ -1,16 +1,19 @@
 -- What a record keeps.
-use Rattle.std.proofs.Common.{◌≡◌, ℕ, zero, suc, ◌-◌, ◌<◌, ◌≤◌, Option, Some, option_map, map, sub-one, List, [], ◌∷◌, ◌++◌, length, length-append, take, slice_get, refl, ◌∙◌, arith, inl, inr, ◌⊎◌}
-use Rattle.std.proofs.lemmas.List.{take-append-le}
+use Rattle.std.proofs.Common.{◌≡◌, ℕ, zero, suc, ◌-◌, ◌<◌, ◌≤◌, Option, Some, option_map, map, sub-one, List, [], ◌∷◌, ◌++◌, length, length-append, take, slice_get, refl, sym, ◌∙◌, arith, inl, inr, ◌⊎◌}
+use Rattle.std.proofs.lemmas.List.{take-append-le, length-map, map-append}
 use Rattle.std.proofs.lemmas.Option.{slice_get-map}
 use Rattle.std.proofs.Math.Seq.{take-append_seam}
 use Rattle.bg_match.specs.Terms.{Terms, match_length}
 use Rattle.bg_board.specs.declared.players.Player.{Player}
 use Rattle.bg_match.specs.Limits.{most_entries, shortest_match, longest_match}
 use Rattle.bg_match.specs.declared.entries.Entry.{Entry}
+use Rattle.bg_match.specs.declared.made.Made.{Made}
 use Rattle.bg_match.specs.Actor.{actor_of, seat_of}
 use Rattle.bg_match.specs.State.{State, start_of}
+use Rattle.bg_match.specs.Follows.{Follows}
 use Rattle.bg_match.specs.Match.{Leads, StandsAt, LeadsWithScores, scores_then, IsMarkedByScores, SeatAfter, IsKept, IsLog, at_number}
 use Rattle.bg_match.proofs.Crawford.{marks_crawford}
+use Rattle.bg_match.proofs.Runs.{Leads-push}
 
 -- the scores before the games, as the entries go
 with_scores : (s : State) (scores : List ℕ) (entries : List Entry) (t : State) → Leads s entries t → (all : List ℕ) × LeadsWithScores s scores entries t all
@@ -82,3 +85,16 @@ IsKept-push terms entries seats s e t kept same few stands = record {
         rw all (s, kept.stands, last.1)
   ];
 }
+
+-- one more entry that may follow, with the seat that acts
+pub IsKept-made : (terms : Terms) (made : List Made) (m : Made) (s t : State)
+    → IsKept terms (map (λ k. k.entry) made) (map (λ k. k.seat) made) s → length made < most_entries
+    → m.seat ≡ seat_of (actor_of s) → Follows s m.entry t
+    → IsKept terms (map (λ k. k.entry) (made ++ m ∷ [])) (map (λ k. k.seat) (made ++ m ∷ [])) t
+IsKept-made terms made m s t kept few seat follows =
+    let entries = map (λ (k : Made). k.entry) made in
+    let seats = map (λ (k : Made). k.seat) made in
+    let same : length seats ≡ length entries = length-map made (λ k. k.seat) ∙ sym (length-map made (λ k. k.entry)) in
+    let stands = Leads-push (start_of terms) entries m.entry s t kept.stands follows in
+    rw (map-append (λ (k : Made). k.entry), map-append (λ (k : Made). k.seat), seat)
+    (IsKept-push terms entries seats s m.entry t kept same (rw length-map few) stands)

@@ -1,10 +1,10 @@
 -- Where a turn is to be passed, the referee acts and nothing but a pass follows; elsewhere the phase says who acts.
 use Rattle.std.proofs.Common.{◌≡◌, ◌≢◌, false, true, Option, Some, None, refl, ◌∙◌, ap}
 use Rattle.std.specs.Prelude.{IsSome}
-use Rattle.bg_board.specs.Position.{Position}
+use Rattle.bg_board.specs.Position.{Position, opponent}
 use Rattle.bg_board.specs.declared.players.Player.{Player}
 use Rattle.bg_turns.specs.declared.throws.Dice.{Dice}
-use Rattle.bg_match.specs.Actor.{actor_in, actor_of, seat_of, passes_in, passes}
+use Rattle.bg_match.specs.Actor.{actor_in, actor_of, seat_of, passes_in, passes, IsPassOf}
 use Rattle.bg_match.specs.Entry.{IsByReferee}
 use Rattle.bg_match.specs.Follows.{Follows, CanFollow, phase_back, is_allowed, is_pass}
 use Rattle.bg_match.specs.State.{State}
@@ -53,6 +53,10 @@ seat_acts s (entry.Resigned level) t h other = (h.3, rw h.2 (resigner h.0 h.1)) 
   resigner p (Some dice) = refl
 seat_acts s entry.Accepted t h other = (not_passed s (phase.Resigned h.0 h.1 h.2) h.3 (λ p dice is. cc), rw h.3 refl)
 seat_acts s entry.Rejected t h other = (not_passed s (phase.Resigned h.0 h.1 h.2) h.3 (λ p dice is. cc), rw h.3 refl)
+
+-- where a turn is to be passed, a pass may follow
+pub pass_can_follow : (s : State) (p : Player) → IsPassOf s p → CanFollow s entry.Passed
+pass_can_follow s p h = (record s { phase = phase.ToAct (opponent p) }, (p, h.0, h.1, h.2, refl))
 
 -- where a turn is to be passed, nothing but a pass follows
 pub only_passed : (s : State) (e : Entry) → passes s ≡ true → CanFollow s e → e ≡ entry.Passed

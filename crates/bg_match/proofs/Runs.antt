@@ -18,7 +18,7 @@ use Rattle.bg_match.specs.Actor.{passes}
 use Rattle.bg_match.specs.Follows.{Follows, CanFollow, IsEntryFault, MayDouble, opener, phase_back, after_turn}
 use Rattle.bg_match.specs.declared.entries.EntryFault.{EntryFault}
 use Rattle.bg_match.specs.declared.entries.EntryFault.TheVariants as fault
-use Rattle.std.specs.Prelude.{false, Result, Ok, Err, IsOk, IfOk, IfErr}
+use Rattle.std.specs.Prelude.{false, Result, Ok, Err, IfOk, IfErr}
 use Rattle.bg_match.specs.Terms.{Terms}
 use Rattle.bg_match.specs.Match.{Leads, StandsAt, IsRecordFault, IsNext}
 
@@ -94,7 +94,7 @@ module _ (terms : Terms) (entries : List Entry) (e : Entry) (m : State) (at : St
   after_follow (Ok t) h = (few, Leads-push (start_of terms) entries e m t at h)
   after_follow (Err why) h = tt
 
-  record_fault : (why : EntryFault) (id spare : ℕ) → IsEntryFault why m e → IsRecordFault why (record { id = id; terms = terms; entries = entries; spare = spare }) e
+  pub record_fault : (why : EntryFault) (id spare : ℕ) → IsEntryFault why m e → IsRecordFault why (record { id = id; terms = terms; entries = entries; spare = spare }) e
   record_fault fault.RecordFull id spare h = absurd h
   record_fault fault.Memory id spare h = absurd h
   record_fault fault.MatchOver id spare h = (few, (m, at, h))
@@ -118,12 +118,6 @@ CanFollow-Moved s p dice turn is play = (
   λ legal. (after_turn s p (after_steps s.board p turn), (p, dice, is, play, legal, refl)),
 )
 
--- what comes of judging a turn that is to be moved
-pub moved_follows : (s : State) (p : Player) (dice : Dice) (turn : List FromTo) → s.phase ≡ phase.ToMove p dice → passes s ≡ false → (r : Result State EntryFault)
-    → IsOk r ↔ IsLegalTurn s.board p dice turn → IfOk r (λ t. t ≡ after_turn s p (after_steps s.board p turn)) → IfOk r (λ t. Follows s (entry.Moved turn) t)
-moved_follows s p dice turn is play (Ok t) ok after = (p, dice, is, play, ok.0 refl, after)
-moved_follows s p dice turn is play (Err why) ok after = tt
-
 -- an opening may follow where a game is to be opened exactly where its dice differ
 pub CanFollow-Opening : (s : State) (x o : Die) → s.phase ≡ phase.Opening → CanFollow s (entry.Opening x o) ↔ (pips x ≢ pips o)
 CanFollow-Opening s x o is = (λ h. h.1.1, λ differ. (record s { phase = phase.ToMove (opener x o) (record { first = x; second = o }) }, (is, differ, refl)))
@@ -137,3 +131,22 @@ CanFollow-Doubled s p is = (
       subst (λ (q : Player). MayDouble s q) player h.1.2),
   λ may. (record s { phase = phase.Doubled (opponent p) }, (p, is, may, refl)),
 )
+
+-- what may follow in its phase whatever else holds
+pub CanFollow-Rolled : (s : State) (p : Player) (dice : Dice) → s.phase ≡ phase.ToAct p → CanFollow s (entry.Rolled dice)
+CanFollow-Rolled s p dice is = (record s { phase = phase.ToMove p dice }, (p, is, refl))
+
+pub CanFollow-Taken : (s : State) (q : Player) → s.phase ≡ phase.Doubled q → CanFollow s entry.Taken
+CanFollow-Taken s q is = (record s { phase = phase.ToAct (opponent q); cube = record { value = 2 * s.cube.value; owner = Some q } }, (q, is, refl))
+
+pub CanFollow-Dropped : (s : State) (q : Player) → s.phase ≡ phase.Doubled q → CanFollow s entry.Dropped
+CanFollow-Dropped s q is = (after_win s (opponent q) s.cube.value, (q, is, refl))
+
+pub CanFollow-Resigned : (s : State) (p : Player) (back : Option Dice) (level : Level) → s.phase ≡ phase_back p back → passes s ≡ false → CanFollow s (entry.Resigned level)
+CanFollow-Resigned s p back level is play = (record s { phase = phase.Resigned p level back }, (p, back, is, play, refl))
+
+pub CanFollow-Accepted : (s : State) (p : Player) (level : Level) (back : Option Dice) → s.phase ≡ phase.Resigned p level back → CanFollow s entry.Accepted
+CanFollow-Accepted s p level back is = (after_win s (opponent p) (points level * s.cube.value), (p, level, back, is, refl))
+
+pub CanFollow-Rejected : (s : State) (p : Player) (level : Level) (back : Option Dice) → s.phase ≡ phase.Resigned p level back → CanFollow s entry.Rejected
+CanFollow-Rejected s p level back is = (record s { phase = phase_back p back }, (p, level, back, is, refl))

@@ -6,6 +6,8 @@ ghost use Rattle.bg_match.specs.Limits.{IsMatchLength, longest_match, most_entri
 ghost use Rattle.bg_match.specs.Match.{at_number};
 ghost use Rattle.bg_match.specs.Terms.{match_length, rules_of, terms_of};
 
+mod pushing;
+
 use crate::made::{Made, made_at, make_room};
 use crate::{
     Actor, Entry, EntryFault, LONGEST_MATCH, MOST_ENTRIES, Number, Rules, SHORTEST_MATCH, Standing,
@@ -183,14 +185,11 @@ impl Record {
         ensures err { OnErr result (self.new ≡ self.old) }
         ensures fault { IfErr result (λ fault. IsRecordFault fault self.old entry) }
     {
-        let after = self.after(&entry)?;
-        if make_room(&mut self.made, 1).is_err() {
-            return Err(EntryFault::Memory);
+        if self.made.len() < self.made.capacity() {
+            self.push_into_room(entry)
+        } else {
+            self.push_growing(entry)
         }
-        let seat = self.standing.actor().seat();
-        self.made.push_reserved(Made { entry, seat });
-        self.standing = after;
-        Ok(())
     }
 
     /// Makes room for this many more entries, and for as many again as there are. Where there is room for this many

@@ -5,6 +5,7 @@ ghost use Rattle.bg_match.specs.Limits.{longest_match, shortest_match};
 
 mod parts;
 mod transitions;
+mod wins;
 
 use crate::{Actor, Cube, Phase, Rules, Terms};
 use bg_board::{Board, Player};

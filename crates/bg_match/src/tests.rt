@@ -1,4 +1,5 @@
 //! Worked matches. The numbers are those of the rules, worked out by hand.
+mod applied;
 mod games;
 mod growths;
 mod passes;

@@ -2,11 +2,12 @@
 use super::{both_opened, cube, dice, moved, opened, record};
 use crate::{Cube, Entry, EntryFault, Level, NoDouble, Phase, Record, Rules, Standing};
 use bg_board::{Board, Die, Player};
+use std::alloc::Global;
 use std::process::Abort;
 use std::test::Fail;
 
-#[test]
-fn crawford_game(rt: HostRuntime) -> Result<(), Fail> {
+/// A match of three points in which X has moved in the Crawford game.
+pub(super) fn moved_in_crawford(alloc: Global) -> Result<Record, Fail> {
     let moved = moved(&[(8, 5), (6, 5)])?;
     let entries = [
         Entry::Opening(Die::One, Die::Three),
@@ -15,7 +16,12 @@ fn crawford_game(rt: HostRuntime) -> Result<(), Fail> {
         Entry::Opening(Die::Three, Die::One),
         moved,
     ];
-    let mut record = record(rt.alloc(), 3, &entries)?;
+    record(alloc, 3, &entries)
+}
+
+#[test]
+fn crawford_game(rt: HostRuntime) -> Result<(), Fail> {
+    let mut record = moved_in_crawford(rt.alloc())?;
     let to_act = Phase::ToAct(Player::O);
     let standing = Standing::from_parts(
         3,
@@ -36,8 +42,8 @@ fn crawford_game(rt: HostRuntime) -> Result<(), Fail> {
     Ok(())
 }
 
-#[test]
-fn after_the_crawford_game(rt: HostRuntime) -> Result<(), Fail> {
+/// A match of three points in which O doubles in the game after the Crawford game.
+pub(super) fn doubled_after_crawford(alloc: Global) -> Result<Record, Fail> {
     let moved = moved(&[(8, 5), (6, 5)])?;
     let entries = [
         Entry::Opening(Die::One, Die::Three),
@@ -50,7 +56,12 @@ fn after_the_crawford_game(rt: HostRuntime) -> Result<(), Fail> {
         moved,
         Entry::Doubled,
     ];
-    let record = record(rt.alloc(), 3, &entries)?;
+    record(alloc, 3, &entries)
+}
+
+#[test]
+fn after_the_crawford_game(rt: HostRuntime) -> Result<(), Fail> {
+    let record = doubled_after_crawford(rt.alloc())?;
     let doubled = Phase::Doubled(Player::X);
     let standing = Standing::from_parts(
         3,
@@ -82,7 +93,7 @@ fn push_rows(
 }
 
 /// A match of five points in which X has taken a double and then doubles.
-fn doubled_twice(rt: &(impl AllocGlobal + Abort)) -> Result<Record, Fail> {
+pub(super) fn doubled_twice(rt: &(impl AllocGlobal + Abort)) -> Result<Record, Fail> {
     let (start, opened, both) = (Board::start(), opened()?, both_opened()?);
     let throw = dice(Die::Three, Die::One);
     let by_x = cube(2, Player::X);

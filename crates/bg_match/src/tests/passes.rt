@@ -6,7 +6,7 @@ use std::alloc::Global;
 use std::test::Fail;
 
 /// X is hit, and rolls double sixes: O's six point keeps him on the bar.
-fn kept_on_the_bar(alloc: Global, rules: Rules) -> Result<Record, Fail> {
+pub(super) fn kept_on_the_bar(alloc: Global, rules: Rules) -> Result<Record, Fail> {
     let mut record = Record::new(alloc, 1, 1, rules)?;
     record.push(Entry::Opening(Die::Two, Die::One))?;
     record.push(moved(&[(13, 11), (6, 5)])?)?;

@@ -4,8 +4,8 @@ use crate::{Actor, Cube, Entry, EntryFault, Level, Phase, Rules, Standing, level
 use bg_board::{Board, Die, Player};
 use std::test::Fail;
 
-/// X bears off his last checker while O has one on the bar: three times the cube of 2 win the match of seven points.
-fn won_by_a_backgammon() -> Result<Standing, Fail> {
+/// X is to bear off his last checker, while O has one on the bar.
+pub(super) fn before_a_backgammon() -> Result<Standing, Fail> {
     let before = board(&[(1, 1), (0, 14)], &[(25, 1), (1, 14)])?;
     let phase = Phase::ToMove(Player::X, dice(Die::Six, Die::Five));
     let standing = Standing::from_parts(
@@ -18,8 +18,13 @@ fn won_by_a_backgammon() -> Result<Standing, Fail> {
         false,
         4,
     );
+    Ok(standing.ok_or("standing")?)
+}
+
+/// Three times the cube of 2 win the match of seven points.
+fn won_by_a_backgammon() -> Result<Standing, Fail> {
     let moved = moved(&[(1, 0)])?;
-    Ok(standing.ok_or("standing")?.next(&moved)?)
+    Ok(before_a_backgammon()?.next(&moved)?)
 }
 
 #[test]

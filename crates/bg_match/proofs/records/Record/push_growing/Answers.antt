@@ -1,7 +1,7 @@
 use Rattle.std.proofs.Common.{◌≡◌, map, length, ◌∙◌, sym}
 use Rattle.std.proofs.lemmas.List.{length-map, map-append}
 use Rattle.bg_match.proofs.Kept.{IsKept-push}
-use Rattle.bg_match.proofs.records.Record.push.Goals as goal
+use Rattle.bg_match.proofs.records.Record.push_growing.Goals as goal
 
 pub invariant_of-self-2 : goal.invariant_of-self-2
 invariant_of-self-2 c =
