@@ -1,7 +1,7 @@
 -- The random words of an automatic match: words of ChaCha20.
 use Rattle.std.specs.Prelude.{ℕ, ◌+◌, ◌*◌, List, ◌++◌, replicate}
 use Rattle.std.specs.Int.{w64, to_be_bytes}
-use Rattle.rand_chacha.specs.ChaCha.{key_of, word_at}
+use Rattle.rand_chacha.specs.ChaCha.{ChaCha, key_of, word_at}
 
 -- ChaCha20 has twenty rounds, which are ten double rounds
 abbrev pub double_rounds : ℕ
@@ -39,3 +39,7 @@ dice_word seed n attempt = keyed_dice_word (key_bytes seed) n attempt
 -- the two words that choose event i, from 0
 abbrev pub event_words : ℕ → ℕ → ℕ × ℕ
 event_words seed i = (word_of seed schedule_stream (2 * i), word_of seed schedule_stream (2 * i + 1))
+
+-- the generator of the schedule's words before event i, from 0
+abbrev pub schedule_at : ℕ → ℕ → ChaCha
+schedule_at seed i = record { key = key_of (key_bytes seed); stream = schedule_stream; word_pos = 2 * i }

@@ -18,6 +18,7 @@
 
 mod auto_actions;
 mod dice_attempts;
+mod kept_words;
 mod loop_faults;
 mod onlookers;
 mod round_schedule;

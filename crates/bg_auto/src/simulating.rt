@@ -1,17 +1,20 @@
 //! Automatic matches in memory.
-ghost use Rattle.std.specs.Prelude.{◌≡◌, IfOk, MatchResult, OnOk};
+ghost use Rattle.std.specs.Prelude.{◌≡◌, ℕ, IfOk, MatchResult, OnOk};
 ghost use Rattle.bg_match.specs.Terms.{terms_of};
+ghost use Rattle.bg_auto.specs.Attempts.{word_for};
 ghost use Rattle.bg_auto.specs.Simulating.{HappensAs, IsPrinted, IsSimFault, IsSimStart, IsSimText, Runs};
 ghost use Rattle.bg_auto.specs.Simulating.{setup_of, wants_memory as is_wanting};
+ghost use Rattle.bg_auto.specs.Words.{event_words as words_of_event};
 ghost use Rattle.bg_world.specs.Worlds.Simulations.{memory_view};
 ghost use Rattle.bg_world.specs.Worlds.Starts.{IsWorldFault};
 ghost use Rattle.bg_world.specs.Protocol.State.{IsSetup};
 
 use crate::dice_attempts::DiceAttempts;
+use crate::kept_words::KeptWord;
 use crate::onlookers::{NoOnlooker, Onlooker};
 use crate::schedule::event_of;
 use crate::simulation::Simulation;
-use crate::words::event_words;
+use crate::words::{event_words, next_event_words, schedule_from};
 use bg_match::Rules;
 use bg_streams::EngineFault;
 use bg_text::transcript_text;
@@ -64,7 +67,15 @@ impl Simulation {
         ensures { OnOk result (HappensAs self.old index self.new) }
     {
         let (a, b) = event_words(self.seed, index);
-        let word = self.dice.word(self.seed);
+        self.happen(self.dice.word(self.seed), (a, b))
+    }
+
+    /// Lets the event happen that these words of the schedule choose, with this word for the referee.
+    fn happen(&mut self, word: u32, words: (u32, u32)) -> Result<(), AllocError>
+        ensures { (index : ℕ) → word ≡ word_for self.old.seed self.old.dice.held self.old.dice.attempt
+            → words ≡ words_of_event self.old.seed index → OnOk result (HappensAs self.old index self.new) }
+    {
+        let (a, b) = words;
         let event = event_of(self.alloc, &self.world, self.watchers, word, a, b)?;
         let outcome = self.dice.step(&mut self.world, event);
         if wants_memory(&outcome) {
@@ -80,8 +91,11 @@ impl Simulation {
     fn run<O: Onlooker>(&mut self, steps: u32, onlooker: &mut O) -> Result<(), AllocError>
         ensures { OnOk result (Runs steps self.old self.new) }
     {
+        let mut schedule = schedule_from(self.seed, 0);
+        let mut kept = KeptWord::new(self.seed, self.dice);
         for index in 0..steps {
-            self.step(index)?;
+            let word = kept.word_for(self.dice);
+            self.happen(word, next_event_words(&mut schedule))?;
             onlooker.played(index + 1);
         }
         Ok(())

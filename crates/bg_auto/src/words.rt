@@ -1,8 +1,8 @@
 //! The random words of an automatic match.
-ghost use Rattle.std.specs.Prelude.{◌≡◌, ◌<◌, ◌≤◌, ◌+◌, ◌^◌};
+ghost use Rattle.std.specs.Prelude.{◌≡◌, ◌<◌, ◌≤◌, ◌+◌, ◌^◌, ℕ};
 ghost use Rattle.rand_chacha.specs.ChaCha.{ChaCha, key_of};
 ghost use Rattle.bg_auto.specs.Words.{dice_word as word_of_dice, event_words as words_of_event, key_bytes};
-ghost use Rattle.bg_auto.specs.Words.{keyed_dice_word};
+ghost use Rattle.bg_auto.specs.Words.{keyed_dice_word, schedule_at};
 
 use bg_match::Number;
 use rand_chacha::ChaCha20Rng;
@@ -45,9 +45,25 @@ fn dice_word_at(key: &[u8; 32], n: u64, attempt: u16) -> u32
 pub fn event_words(seed: u64, index: u32) -> (u32, u32)
     ensures { result ≡ words_of_event seed index }
 {
-    let mut words = words_from(&key_of_seed(seed), SCHEDULE_STREAM, 2 * u128::from(index));
-    let a = words.next_word();
-    let b = words.next_word();
+    next_event_words(&mut schedule_from(seed, index))
+}
+
+/// The schedule's generator before the event of this index, from 0.
+pub(crate) fn schedule_from(seed: u64, index: u32) -> ChaCha20Rng
+    ensures { result ≡ schedule_at seed index }
+{
+    words_from(&key_of_seed(seed), SCHEDULE_STREAM, 2 * u128::from(index))
+}
+
+/// The two words that choose the next event, and the schedule's generator goes on behind them.
+pub(crate) fn next_event_words(schedule: &mut ChaCha20Rng) -> (u32, u32)
+    ensures words { (seed index : ℕ) → index < 2 ^ 32 → schedule.old ≡ schedule_at seed index
+        → result ≡ words_of_event seed index }
+    ensures next { (seed index : ℕ) → index < 2 ^ 32 → schedule.old ≡ schedule_at seed index
+        → schedule.new ≡ schedule_at seed (index + 1) }
+{
+    let a = schedule.next_word();
+    let b = schedule.next_word();
     (a, b)
 }
 
