@@ -99,7 +99,11 @@ fn files_of_other_kinds(rt: HostRuntime) -> Result<(), Fail> {
             5,
             "no legal turn has this movement:  1) 31: 8/5 6/4",
         ),
-        (b"; nothing\n 0 point match\n", 2, "a money game:  0 point match"),
+        (
+            b"; nothing\n 0 point match\n",
+            2,
+            "a money game:  0 point match",
+        ),
         (
             b"; [Site \"here\"]\n\n Game 1\n",
             1,
