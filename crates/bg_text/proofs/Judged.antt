@@ -1,5 +1,7 @@
 -- Lemmas of inputs and of what is judged of them.
+pub mod Courses
 pub mod FineTranscripts
+pub mod HeardBytes
 pub mod InputLines
 pub mod LengthLines
 pub mod LineLists

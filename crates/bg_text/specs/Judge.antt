@@ -1,4 +1,5 @@
 -- What the judge says of an input.
+pub mod Hearing
 pub mod Judging
 pub mod Reading
 pub mod Reason

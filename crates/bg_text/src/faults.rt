@@ -89,3 +89,14 @@ pub(crate) enum LineFault {
     /// The entry does not follow.
     Entry(EntryFault),
 }
+
+impl From<EntryFault> for LineFault {
+    ghost use Rattle.std.specs.Prelude.{◌≡◌};
+    ghost use Rattle.bg_text.specs.declared.faults.LineFault.TheVariants.{Entry as RefusedEntry};
+
+    ghost from_gives = { λ why fault. fault ≡ RefusedEntry why };
+
+    fn from(why: EntryFault) -> LineFault {
+        LineFault::Entry(why)
+    }
+}

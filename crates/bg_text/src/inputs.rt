@@ -1,5 +1,6 @@
 //! An input of the judge: how long it may be, and its lines.
-ghost use Rattle.std.specs.Prelude.{◌≡◌, ◌<◌, ◌↔◌, ◌∷◌, [], length, IsNone, IfSome};
+ghost use Rattle.std.specs.Prelude.{◌≡◌, ◌<◌, ◌↔◌, ◌∷◌, ◌++◌, [], length, IsNone, IfSome};
+ghost use Rattle.bg_text.specs.Judge.Hearing.{IsUnended};
 ghost use Rattle.bg_text.specs.Judge.Judging.{lines_of};
 
 use memchr::memchr;
@@ -21,4 +22,13 @@ pub fn split_line(input: &[u8]) -> Option<(&[u8], &[u8])>
         Some(end) => Some((&input[..end], &input[end + 1..])),
         None => Some((input, &[])),
     }
+}
+
+/// The first line of a text that its line feed ends, without this, and what follows it. None where no line feed is.
+pub(crate) fn split_ended_line(bytes: &[u8]) -> Option<(&[u8], &[u8])>
+    ensures none { IsNone result → IsUnended bytes.now }
+    ensures line { IfSome result (λ parts. IsUnended parts.0.now × (bytes.now ≡ parts.0.now ++ 10 ∷ parts.1.now)) }
+{
+    let end = memchr(b'\n', bytes)?;
+    Some((&bytes[..end], &bytes[end + 1..]))
 }

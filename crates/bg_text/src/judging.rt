@@ -11,6 +11,8 @@ ghost use Rattle.bg_text.specs.Judge.Judging.{TranscriptsAreFine, JudgementsAgre
 ghost use Rattle.bg_text.specs.Limits.{most_bytes};
 ghost use Rattle.bg_text.specs.Judge.Reading.{IsReadAs, IsLineAt, AddsLine, RefusesLine};
 
+pub(crate) mod courses;
+pub(crate) mod hearing;
 pub(crate) mod judgements;
 pub(crate) mod length_lines;
 pub(crate) mod reading;
@@ -18,29 +20,26 @@ pub(crate) mod reasons;
 pub(crate) mod verdicts;
 
 use crate::inputs::MOST_BYTES;
-use crate::judging::judgements::{fine, refused, refused_at_once, too_long};
-use crate::judging::reading::{ReadFault, read_whole};
+use crate::judging::hearing::{Judge, hear_input};
+use crate::judging::judgements::too_long;
 use crate::{Judgement, Verdict};
-use bg_streams::{EngineFault, Sink, Source, read_input, write_text};
+use bg_streams::{EngineFault, Sink, Source, write_text};
 use std::alloc::{AllocError, Global};
 
 /// What the judge says of an input: the board after its longest legal part, and the verdict, as docs/FORMATS.md,
 /// "The judge", says.
 ///
 /// # Errors
-/// AllocError where there is no memory for the text or the log.
+/// AllocError where there is no memory for the text or a line.
 pub fn judge_text(alloc: Global, input: &[u8]) -> Result<Judgement, AllocError>
     ensures { IfOk result (λ judgement. IsJudgement input.now judgement.text.items judgement.verdict) }
 {
-    match read_whole(alloc, 0, input) {
-        Ok((log, why)) => match why {
-            None => fine(alloc, &log),
-            Some(why) => refused(alloc, &log, why),
-        },
-        Err(ReadFault::LengthLine(why)) => refused_at_once(alloc, why),
-        Err(ReadFault::TooLong) => too_long(alloc),
-        Err(ReadFault::Memory) => Err(AllocError),
+    if input.len() > MOST_BYTES {
+        return too_long(alloc);
     }
+    let mut judge = Judge::new(alloc);
+    judge.tell(input)?;
+    judge.end(alloc)
 }
 
 /// An input has one judgement: no two texts, and no two verdicts, are both right.
@@ -76,8 +75,11 @@ pub fn judge<S: Source, T: Sink>(
     ensures source { SourceFails result (S.failures source.old) (S.failures source.new) }
     ensures sink { SinkFails result (T.failures sink.old) (T.failures sink.new) }
 {
-    let input = read_input(alloc, source, MOST_BYTES)?;
-    let judgement = judge_text(alloc, &input).map_err(|_| EngineFault::Memory)?;
+    let judgement = match hear_input(alloc, source)? {
+        Some(judge) => judge.end(alloc),
+        None => too_long(alloc),
+    }
+    .map_err(|_| EngineFault::Memory)?;
     write_text(sink, &judgement.text).map_err(|_| EngineFault::Write)?;
     Ok(judgement.verdict)
 }

@@ -1,7 +1,5 @@
 -- A transcript that is read line by line.
-use Rattle.std.proofs.Common.{◌≡◌, ℕ, suc, ◌+◌, ◌-◌, ◌<◌, List, [], ◌∷◌, ◌++◌, length, take, slice_index_or, Option, None, Some, refl, sym, ◌∙◌, ap, subst, arith, length-append, append-nil, append_assoc, inl, inr}
-use Rattle.std.proofs.lemmas.Bool.{cases_lt}
-use Rattle.std.proofs.Math.Seq.{get_or-append_seam, take-append-add}
+use Rattle.std.proofs.Common.{◌≡◌, ℕ, ◌+◌, ◌<◌, List, [], ◌∷◌, ◌++◌, length, take, slice_index_or, None, Some, refl, sym, ◌∙◌, ap, subst, arith, length-append, append-nil, append_assoc}
 use Rattle.std.proofs.lemmas.List.{take_all, take-append-le}
 use Rattle.bg_match.specs.Terms.{Terms}
 use Rattle.bg_match.specs.Match.{Log, StandsAt}
@@ -11,13 +9,15 @@ use Rattle.bg_match.specs.Limits.{most_entries}
 use Rattle.bg_match.proofs.Legal.{one_standing}
 use Rattle.bg_text.specs.Boards.BoardText.{board_text, line_text}
 use Rattle.bg_text.specs.Boards.Transcript.{AreLinesOf}
-use Rattle.bg_text.specs.Judge.Judging.{lines_of, StandsAfter, IsLineFault, IsJudged, fine_line, refused_line}
+use Rattle.bg_text.specs.Judge.Hearing.{IsCourseOf}
+use Rattle.bg_text.specs.Judge.Judging.{lines_of, IsLineFault, IsLongestPart, IsJudged, refused_line}
 use Rattle.bg_text.specs.Judge.Reading.{IsLineAt, AddsLine, RefusesLine, IsPartRead, AreRead}
 use Rattle.bg_text.specs.declared.faults.LineFault.{LineFault}
 use Rattle.bg_text.specs.declared.judging.reading.AddFault.TheVariants.{Refused as RefusedLine}
-use Rattle.bg_text.specs.declared.judging.verdicts.Verdict.{Verdict}
-use Rattle.bg_text.specs.declared.judging.verdicts.Verdict.TheVariants.{Fine, Refused}
-use Rattle.bg_text.proofs.Judged.ReadLines.{AreLinesOf-Leads, AreLinesOf-length, AreLinesOf-push, AreLinesOf-same, AreLinesOf-next}
+use Rattle.bg_text.specs.declared.judging.courses.Course.{Course}
+use Rattle.bg_text.specs.declared.judging.verdicts.Verdict.TheVariants.{Refused}
+use Rattle.bg_text.proofs.Judged.Courses.{line_behind, longest_of_all, longest_stopped}
+use Rattle.bg_text.proofs.Judged.ReadLines.{AreLinesOf-Leads, AreLinesOf-length, AreLinesOf-push}
 
 module _ (id : ℕ) (terms : Terms) (lines : List (List ℕ)) where
   -- nothing is read yet
@@ -57,13 +57,9 @@ module _ (id : ℕ) (terms : Terms) (lines : List (List ℕ)) where
       ap (take (length r.entries)) part.split ∙ (take-append-le (length r.entries) part.done (lines_of rest) (omega arith) ∙ take_all (length r.entries) part.done (omega arith)) in
       rw front part.entries
 
-  -- they are a legal part
-  part_stands : (r : Log) (rest : List ℕ) (part : IsPartRead id terms lines r rest) → StandsAfter terms lines (length r.entries) part.state
-  part_stands r rest part =
-      let long = AreLinesOf-length (start_of terms) r.entries part.done part.state part.entries in
-      let whole : length lines ≡ length (part.done ++ lines_of rest) = ap length part.split in
-      let sum = length-append part.done (lines_of rest) in
-      (omega arith, part.few, (r.entries, part_lines r rest part))
+  -- they lead where the course of the record stands
+  course_of : (r : Log) (rest : List ℕ) (part : IsPartRead id terms lines r rest) → IsCourseOf terms part.done (record { standing = part.state; entries = length r.entries })
+  course_of r rest part = record { entries = r.entries; leads = part.entries; counted = refl; few = part.few }
 
   -- where the record stands
   part_state : (r : Log) (rest : List ℕ) (part : IsPartRead id terms lines r rest) (t : State) → StandsAt r.terms r.entries t → t ≡ part.state
@@ -74,86 +70,49 @@ module _ (id : ℕ) (terms : Terms) (lines : List (List ℕ)) where
   -- all lines are read
   pub all_read : (r : Log) → IsPartRead id terms lines r [] → AreRead id terms lines r None
   all_read r part =
+      let same : part.done ≡ lines = sym (append-nil part.done) ∙ sym part.split in
       let long = AreLinesOf-length (start_of terms) r.entries part.done part.state part.entries in
-      let whole : length lines ≡ length (part.done ++ []) = ap length part.split in
-      let none = append-nil part.done in
-      let all : length r.entries ≡ length lines = long ∙ ap length (sym none) ∙ sym whole in
       record {
         state = part.state;
         same_id = part.same_id;
         same_terms = part.same_terms;
-        longest = record { stands = part_stands r [] part; longest = λ m s h. omega (arith, h.0, all) };
+        longest = subst (λ (ls : List (List ℕ)). IsLongestPart terms ls (length r.entries) part.state) same
+            (longest_of_all terms part.done (record { standing = part.state; entries = length r.entries }) (course_of r [] part));
         entries = part_lines r [] part;
-        stop = all;
+        stop = long ∙ ap length same;
       }
-
-  -- no longer part is legal where the next line is that of no entry which follows
-  next_refused : (r : Log) (rest line : List ℕ) (more : List (List ℕ)) (part : IsPartRead id terms lines r rest) → lines ≡ part.done ++ line ∷ more
-      → ((e : Entry) → length r.entries < most_entries → IsLineAt part.state line e → ⊥) → (m : ℕ) (s : State) → length r.entries < m → StandsAfter terms lines m s → ⊥
-  next_refused r rest line more part split refuses m s longer h =
-      let long = AreLinesOf-length (start_of terms) r.entries part.done part.state part.entries in
-      let beyond : m ≡ length part.done + (m - length part.done) = omega arith in
-      let past : take m lines ≡ part.done ++ take (m - length part.done) (line ∷ more) = ap (take m) split ∙ (ap (λ n. take n (part.done ++ line ∷ more)) beyond ∙ take-append-add part.done (line ∷ more) (m - length part.done)) in
-      let one : m - length part.done ≡ suc (m - length part.done - 1) = omega arith in
-      let parts : take m lines ≡ part.done ++ line ∷ take (m - length part.done - 1) more = past ∙ ap (λ n. part.done ++ take n (line ∷ more)) one in
-      let read : AreLinesOf (start_of terms) h.2.0 (part.done ++ line ∷ take (m - length part.done - 1) more) s =
-      subst (λ (ls : List (List ℕ)). AreLinesOf (start_of terms) h.2.0 ls s) parts h.2.1 in
-      let next = AreLinesOf-next (start_of terms) h.2.0 part.done line (take (m - length part.done - 1) more) s read in
-      let same = AreLinesOf-same (start_of terms) next.0 r.entries part.done next.1 part.state next.2 part.entries in
-      refuses next.3.0 (omega (arith, h.1)) (subst (λ (u : State). IsLineAt u line next.3.0) same next.3.1)
 
   -- a line is refused
   pub line_stops : (r : Log) (rest after line : List ℕ) (why : LineFault) → IsPartRead id terms lines r rest → lines_of rest ≡ line ∷ lines_of after
       → RefusesLine (RefusedLine why) r line → AreRead id terms lines r (Some why)
   line_stops r rest after line why part first refuses =
-      let long = AreLinesOf-length (start_of terms) r.entries part.done part.state part.entries in
       let split : lines ≡ part.done ++ line ∷ lines_of after = part.split ∙ ap (λ rest. part.done ++ rest) first in
-      let whole : length lines ≡ length (part.done ++ line ∷ lines_of after) = ap length split in
-      let sum = length-append part.done (line ∷ lines_of after) in
       let refuser = part_state r rest part refuses.0 refuses.1 in
-      let at_line : slice_index_or lines (length r.entries) [] ≡ line =
-      ap (λ ls. slice_index_or ls (length r.entries) []) split ∙ (ap (λ n. slice_index_or (part.done ++ line ∷ lines_of after) n []) long ∙ get_or-append_seam part.done line (lines_of after) []) in
       let fault : IsLineFault why (length r.entries) part.state line = subst (λ (s : State). IsLineFault why (length r.entries) s line) refuser refuses.2 in
+      let refused : (e : Entry) → length r.entries < most_entries → IsLineAt part.state line e → ⊥ =
+      λ e few at. refuses.3 e few (subst (λ (u : State). IsLineAt u line e) (sym refuser) at) in
+      let course = course_of r rest part in
+      let c : Course = record { standing = part.state; entries = length r.entries } in
+      let at = line_behind terms part.done c course line (lines_of after) in
       record {
         state = part.state;
         same_id = part.same_id;
         same_terms = part.same_terms;
-        longest = record {
-          stands = part_stands r rest part;
-          longest = λ m s h. elim (cases_lt (length r.entries) m) [
-            | inl longer ↦ absurd (next_refused r rest line (lines_of after) part split (λ e few at. refuses.3 e few (subst (λ (u : State). IsLineAt u line e) (sym refuser) at)) m s longer h)
-            | inr within ↦ within
-          ];
-        };
+        longest = subst (λ (ls : List (List ℕ)). IsLongestPart terms ls (length r.entries) part.state) (sym split)
+            (longest_stopped terms part.done c course line (lines_of after) refused);
         entries = part_lines r rest part;
-        stop = (omega (arith, whole, sum, long), rw at_line fault);
+        stop = subst (λ (ls : List (List ℕ)). (length r.entries < length ls) × IsLineFault why (length r.entries) part.state (slice_index_or ls (length r.entries) [])) (sym split)
+            (at.0, rw at.1 fault);
       }
 
-  -- where the record that is read stands
-  read_state : (r : Log) (why : Option LineFault) (read : AreRead id terms lines r why) (t : State) → StandsAt r.terms r.entries t → t ≡ read.state
-  read_state r why read t stands =
-      one_standing terms r.entries t read.state (subst (λ (m : Terms). StandsAt m r.entries t) read.same_terms stands)
-      (AreLinesOf-Leads (start_of terms) r.entries (take (length r.entries) lines) read.state read.entries)
-
-  -- the judgements of the two ways to end
-  pub judged_fine : (r : Log) (text : List ℕ) (verdict : Verdict) (t : State) → AreRead id terms lines r None → StandsAt r.terms r.entries t
-      → text ≡ board_text t ++ line_text (fine_line (length r.entries)) → verdict ≡ Fine (length r.entries) → IsJudged terms lines text verdict
-  judged_fine r text verdict t read stands printed fine = record {
-    count = length r.entries;
-    state = read.state;
-    longest = read.longest;
-    line = fine_line (length r.entries);
-    named = rw fine (read.stop, refl, refl);
-    printed = subst (λ (s : State). text ≡ board_text s ++ line_text (fine_line (length r.entries))) (read_state r None read t stands) printed;
-  }
-
-  pub judged_refused : (r : Log) (why : LineFault) (text : List ℕ) (verdict : Verdict) (t : State) → AreRead id terms lines r (Some why) → StandsAt r.terms r.entries t
-      → text ≡ board_text t ++ line_text (refused_line (length r.entries + 2) why) → verdict ≡ Refused (length r.entries + 2) → IsJudged terms lines text verdict
-  judged_refused r why text verdict t read stands printed refused = record {
+  -- the judgement where a line is refused
+  pub judged_refused : (r : Log) (why : LineFault) (read : AreRead id terms lines r (Some why))
+      → IsJudged terms lines (board_text read.state ++ line_text (refused_line (length r.entries + 2) why)) (Refused (length r.entries + 2))
+  judged_refused r why read = record {
     count = length r.entries;
     state = read.state;
     longest = read.longest;
     line = refused_line (length r.entries + 2) why;
-    named = rw refused (read.stop.0, refl, (why, read.stop.1, refl));
-    printed = subst (λ (s : State). text ≡ board_text s ++ line_text (refused_line (length r.entries + 2) why)) (read_state r (Some why) read t stands) printed;
+    named = (read.stop.0, refl, (why, read.stop.1, refl));
+    printed = refl;
   }

@@ -129,7 +129,7 @@ same_makers (Some p) None e h k fits = let none = h.1 (k.0 refl) in absurd cc
 same_makers (Some p) (Some q) e h k fits = ap Some (same_players p q (fits p q refl refl))
 
 -- what is read and follows is the line of the seat that acts
-line_at : (s : State) (line : List ℕ) (e : Entry) (t : State) → IsReadAs s line e → Follows s e t → IsLineAt s line e
+pub line_at : (s : State) (line : List ℕ) (e : Entry) (t : State) → IsReadAs s line e → Follows s e t → IsLineAt s line e
 line_at s line e t read follows =
     let acting = seat_of (actor_of s) in
     let same : read.0 ≡ acting = same_makers read.0 acting e read.1 (seat_acts s e t follows) (λ p q named acts differ. read.4 (p, q, named, acts, differ)) in

@@ -1,16 +1,15 @@
 //! What the judge says of an input: a board, and the verdict line.
-ghost use Rattle.std.specs.Prelude.{◌≡◌, ◌++◌, ◌+◌, length, OnOk, IfOk};
-ghost use Rattle.bg_match.specs.Match.{StandsAt};
-ghost use Rattle.bg_match.specs.State.{State};
+ghost use Rattle.std.specs.Prelude.{◌≡◌, ◌≤◌, ◌++◌, ◌+◌, OnOk, IfOk};
+ghost use Rattle.bg_match.specs.Limits.{most_entries};
 ghost use Rattle.bg_text.specs.Boards.BoardText.{line_text, board_text as text_of_board};
 ghost use Rattle.bg_text.specs.Judge.Judging.{fault_reason, refused_line, fine_line, IsTooLong};
 
 use crate::Verdict;
 use crate::board_texts::board_text;
 use crate::faults::LineFault;
+use crate::judging::courses::Course;
 use crate::judging::reasons::reason_text;
 use crate::printing::{put_number, put_text};
-use bg_match::Record;
 use std::alloc::{AllocError, Global};
 
 /// What the judge says of an input.
@@ -55,14 +54,19 @@ fn put_fine(out: &mut Vec<u8>, entries: u32) -> Result<(), AllocError>
     put_text(out, "\n")
 }
 
-/// The judgement where a line after those of the record is refused.
-pub(crate) fn refused(alloc: Global, log: &Record, why: LineFault) -> Result<Judgement, AllocError>
-    ensures { IfOk result (λ judgement. (t : State) × StandsAt log.now.terms log.now.entries t
-        × (judgement.text.items ≡ text_of_board t ++ line_text (refused_line (length log.now.entries + 2) why))
-        × (judgement.verdict ≡ Verdict.Refused (length log.now.entries + 2))) }
+/// The judgement where the line behind those of the course is refused.
+pub(crate) fn refused(
+    alloc: Global,
+    course: &Course,
+    why: LineFault,
+) -> Result<Judgement, AllocError>
+    ensures text { course.now.entries ≤ most_entries → IfOk result (λ judgement. judgement.text.items
+        ≡ text_of_board course.now.standing ++ line_text (refused_line (course.now.entries + 2) why)) }
+    ensures verdict { course.now.entries ≤ most_entries
+        → IfOk result (λ judgement. judgement.verdict ≡ Verdict.Refused (course.now.entries + 2)) }
 {
-    let number = log.len() + 2;
-    let mut text = board_text(alloc, &log.standing())?;
+    let number = course.entries.saturating_add(2);
+    let mut text = board_text(alloc, &course.standing)?;
     put_refused(&mut text, number, why)?;
     Ok(Judgement {
         text,
@@ -70,18 +74,17 @@ pub(crate) fn refused(alloc: Global, log: &Record, why: LineFault) -> Result<Jud
     })
 }
 
-/// The judgement where all lines are those of the log.
-pub(crate) fn fine(alloc: Global, log: &Record) -> Result<Judgement, AllocError>
-    ensures { IfOk result (λ judgement. (t : State) × StandsAt log.now.terms log.now.entries t
-        × (judgement.text.items ≡ text_of_board t ++ line_text (fine_line (length log.now.entries)))
-        × (judgement.verdict ≡ Verdict.Fine (length log.now.entries))) }
+/// The judgement where all lines are those of the course.
+pub(crate) fn fine(alloc: Global, course: &Course) -> Result<Judgement, AllocError>
+    ensures text { IfOk result (λ judgement. judgement.text.items
+        ≡ text_of_board course.now.standing ++ line_text (fine_line course.now.entries)) }
+    ensures verdict { IfOk result (λ judgement. judgement.verdict ≡ Verdict.Fine course.now.entries) }
 {
-    let entries = log.len();
-    let mut text = board_text(alloc, &log.standing())?;
-    put_fine(&mut text, entries)?;
+    let mut text = board_text(alloc, &course.standing)?;
+    put_fine(&mut text, course.entries)?;
     Ok(Judgement {
         text,
-        verdict: Verdict::Fine(entries),
+        verdict: Verdict::Fine(course.entries),
     })
 }
 

@@ -26,7 +26,7 @@ fn is_wrong_seat(seat: Option<Player>, standing: &Standing) -> bool
 }
 
 /// The entry of a line, unless it names the wrong seat.
-fn read_line(standing: &Standing, line: &[u8]) -> Result<Entry, LineFault>
+pub(crate) fn read_line(standing: &Standing, line: &[u8]) -> Result<Entry, LineFault>
     ensures found { IfOk result (IsReadAs standing.now line.now) }
     ensures only { (entry : Entry) → IsLineAt standing.now line.now entry → result ≡ Ok entry }
     ensures fault { IfErr result (λ why. (entries : ℕ) → IsLineFault why entries standing.now line.now) }

@@ -1,7 +1,7 @@
 //! The judge between readers and writers: slow ones, endless ones, and those that fail.
 use super::inputs::{TOO_LONG, followed_by};
 use super::records::{MATCH, TEXT_OF_MATCH};
-use crate::{MOST_BYTES, Verdict, judge};
+use crate::{MOST_BYTES, Verdict, judge, judge_text};
 use bg_streams::{EngineFault, Reading, Writing};
 use std::alloc::Global;
 use std::io::{self, Read, Write};
@@ -131,6 +131,29 @@ fn read_and_written_in_parts(rt: HostRuntime) -> Result<(), Fail> {
             TEXT_OF_MATCH.as_bytes(),
         );
         assert_eq!(rt; reader.given, MATCH.len());
+    }
+    Ok(())
+}
+
+/// Whatever the parts are in which an input comes, it is judged as it is where it comes at once.
+#[test]
+fn read_in_parts_of_each_size(rt: HostRuntime) -> Result<(), Fail> {
+    for input in [
+        MATCH,
+        "length 1\nopen 3 1\nX move 8-5 6-5",
+        "length 3 rules 2\nopen 1 3\nX roll 1 2\nO move 8-5 6-5\nrubbish",
+        "length 3\nopen 3 1\n\nX move 8-5 6-5\n",
+        "length 100\nopen 3 1\n",
+        "length 1\n",
+        "",
+    ] {
+        let whole = judge_text(rt.alloc(), input.as_bytes())?;
+        for step in 1..=input.len() {
+            let mut reader = Fed::new(input.as_bytes(), step);
+            let verdict = Ok(whole.verdict);
+            check_read(&rt, &mut reader, 1000, verdict, &whole.text);
+            assert_eq!(rt; reader.given, input.len());
+        }
     }
     Ok(())
 }

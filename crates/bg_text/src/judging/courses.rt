@@ -1,0 +1,97 @@
+//! Where the lines of a transcript lead, one after the other.
+ghost use Rattle.std.specs.Prelude.{◌≡◌, ℕ, List, [], ◌∷◌, ◌++◌, None, IfSome, IsSome, IfOk, OnOk, OnErr, IfErr};
+ghost use Rattle.bg_text.specs.Judge.Hearing.{AreAll, Continues, IsHeardAs, Keeps, Stops};
+ghost use Rattle.bg_text.specs.Judge.Judging.{IsAnswerTo, IsLengthFault};
+
+use crate::faults::LineFault;
+use crate::judging::judgements::{Judgement, fine, refused, refused_at_once};
+use crate::judging::length_lines::read_terms;
+use crate::judging::reading::read_line;
+use bg_match::{EntryFault, MOST_ENTRIES, Number, Standing, Terms};
+use std::alloc::{AllocError, Global};
+
+/// Where entries led, and how many they were.
+#[derive(Clone, Copy, Debug, PartialEq, Eq)]
+pub(crate) struct Course {
+    pub(crate) standing: Standing,
+    pub(crate) entries: Number,
+}
+
+impl Course {
+    /// Lets the entry of a line follow. A refusal changes nothing.
+    fn follow(&mut self, line: &[u8]) -> Result<(), LineFault>
+        ensures added { OnOk result (Continues self.old self.new line.now) }
+        ensures refused { IfErr result (λ why. Stops why self.old line.now) }
+        ensures same { OnErr result (self.new ≡ self.old) }
+    {
+        let entry = read_line(&self.standing, line)?;
+        if self.entries >= MOST_ENTRIES {
+            return Err(LineFault::Entry(EntryFault::RecordFull));
+        }
+        self.standing.apply(&entry)?;
+        self.entries += 1;
+        Ok(())
+    }
+}
+
+/// What the lines of a transcript come to: where those that are good lead, and why the one behind them is refused.
+#[derive(Clone, Copy, Debug, PartialEq, Eq)]
+pub(crate) struct Heard {
+    /// Nothing before line 1.
+    pub(crate) course: Option<Course>,
+    pub(crate) refusal: Option<LineFault>,
+}
+
+impl Heard {
+    /// No line so far.
+    pub(crate) fn nothing() -> Heard
+        ensures { Keeps result.course result.refusal [] }
+    {
+        Heard {
+            course: None,
+            refusal: None,
+        }
+    }
+
+    /// Hears one more line, where none was refused.
+    pub(crate) fn hear(&mut self, line: &[u8])
+        ensures { self.old.refusal ≡ None → (lines : List (List ℕ)) → Keeps self.old.course None lines
+            → Keeps self.new.course self.new.refusal (lines ++ line.now ∷ []) }
+    {
+        let heard = match &mut self.course {
+            Some(course) => course.follow(line),
+            None => self.begin(line),
+        };
+        if let Err(why) = heard {
+            self.refusal = Some(why);
+        }
+    }
+
+    /// The judgement on lines of which this was heard.
+    pub(crate) fn judgement(&self, alloc: Global) -> Result<Judgement, AllocError>
+        ensures { IfOk result (λ judgement. (lines all : List (List ℕ)) → Keeps self.now.course self.now.refusal lines
+            → AreAll self.now.refusal lines all → IsAnswerTo all judgement.text.items judgement.verdict) }
+    {
+        match (&self.course, self.refusal) {
+            (Some(course), None) => fine(alloc, course),
+            (Some(course), Some(why)) => refused(alloc, course, why),
+            (None, Some(why)) => refused_at_once(alloc, why),
+            (None, None) => refused_at_once(alloc, LineFault::NotALengthLine),
+        }
+    }
+
+    /// Hears line 1.
+    fn begin(&mut self, line: &[u8]) -> Result<(), LineFault>
+        ensures begun { OnOk result (IfSome self.new.course (IsHeardAs (line.now ∷ [])) × IsSome self.new.course) }
+        ensures refused { IfErr result (λ why. IsLengthFault why (line.now ∷ [])) }
+        ensures course { OnErr result (self.new.course ≡ self.old.course) }
+        ensures refusal { self.new.refusal ≡ self.old.refusal }
+    {
+        let Terms { length, rules } = read_terms(line)?;
+        self.course = Some(Course {
+            standing: Standing::start(length, rules),
+            entries: 0,
+        });
+        Ok(())
+    }
+}
