@@ -4,7 +4,6 @@ ghost use Rattle.bg_mat.specs.Turns.{HasHits, SameMovement, coming, is_hit as is
 ghost use Rattle.bg_mat.specs.Turns.{is_marked as is_marked_point, is_reached as is_reached_point, leaving, steps_of};
 
 use crate::legs::Leg;
-use arrayvec::ArrayVec;
 use bg_board::{BAR, Board, OFF, Player, Step};
 use bg_turns::Turn;
 
@@ -13,11 +12,11 @@ pub(crate) fn as_turn(legs: &[Leg]) -> Turn
     requires { length legs.now ≤ 4 }
     ensures { result ≡ steps_of legs.now }
 {
-    let mut steps = ArrayVec::new();
+    let mut turn = Turn::new();
     for leg in legs {
-        steps.push(leg.step);
+        turn.push(leg.step);
     }
-    Turn { steps }
+    turn
 }
 
 /// How many of the steps leave a point.

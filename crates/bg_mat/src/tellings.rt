@@ -120,7 +120,7 @@ pub(crate) fn told_by(before: &Standing, entry: &Entry) -> Option<Telling>
     let phase = before.phase();
     match entry {
         Entry::Opening(_, _) => Some(game_of(before)),
-        Entry::Moved(turn) => turn_in(before, turn.copy().steps.as_slice()),
+        Entry::Moved(turn) => turn_in(before, turn.steps()),
         Entry::Passed => turn_in(before, &[]),
         Entry::Doubled => deed_in(phase, Cell::Doubles(doubled_cube(before))),
         Entry::Taken => deed_in(phase, Cell::Takes),

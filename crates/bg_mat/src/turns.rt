@@ -17,7 +17,7 @@ fn has_hits(board: &Board, player: Player, dice: Dice, legs: &[Leg], turn: &Turn
         × HasHits board.now player legs.now turn.now) }
 {
     match judge_turn(board, player, dice, turn) {
-        Ok(_) => same_hits(board, player, legs, turn.steps.as_slice()),
+        Ok(_) => same_hits(board, player, legs, turn.steps()),
         Err(_) => false,
     }
 }
@@ -26,8 +26,8 @@ fn has_hits(board: &Board, player: Player, dice: Dice, legs: &[Leg], turn: &Turn
 fn fits(board: &Board, player: Player, legs: &[Leg], written: &Turn, turn: &Turn) -> bool
     ensures { IsTrue result ↔ (SameMovement written.now turn.now × HasHits board.now player legs.now turn.now) }
 {
-    let steps = turn.steps.as_slice();
-    if same_movement(written.steps.as_slice(), steps) {
+    let steps = turn.steps();
+    if same_movement(written.steps(), steps) {
         same_hits(board, player, legs, steps)
     } else {
         false
@@ -75,7 +75,7 @@ pub(crate) fn turn_fault(
     let written = as_turn(legs);
     let turns = legal_turns(alloc, board, player, dice)?;
     for turn in &turns {
-        if same_movement(written.steps.as_slice(), turn.steps.as_slice()) {
+        if same_movement(written.steps(), turn.steps()) {
             return Ok(MatFault::WrongHits);
         }
     }

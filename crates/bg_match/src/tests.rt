@@ -9,7 +9,6 @@ mod texts;
 mod wins;
 
 use crate::{Cube, Entry, Number, Record, Rules};
-use arrayvec::ArrayVec;
 use bg_board::{Board, Die, Player, Step};
 use bg_turns::{Dice, Turn};
 use std::alloc::Global;
@@ -20,13 +19,14 @@ fn dice(first: Die, second: Die) -> Dice {
 }
 
 fn turn(steps: &[(u8, u8)]) -> Result<Turn, Fail> {
-    let mut list = ArrayVec::new();
+    let mut turn = Turn::new();
     for &(from, to) in steps {
-        if list.try_push(Step::new(from, to).ok_or("step")?).is_err() {
+        if turn.is_full() {
             return Err(Fail::from("long"));
         }
+        turn.push(Step::new(from, to).ok_or("step")?);
     }
-    Ok(Turn { steps: list })
+    Ok(turn)
 }
 
 fn moved(steps: &[(u8, u8)]) -> Result<Entry, Fail> {

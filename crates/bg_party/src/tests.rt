@@ -125,10 +125,10 @@ fn watcher_asks(watcher: &mut Watcher, held: Number) -> bool {
 }
 
 fn opening_move() -> Turn {
-    let mut steps = ArrayVec::new();
-    steps.push(Step::new(8, 5).unwrap());
-    steps.push(Step::new(6, 5).unwrap());
-    Turn { steps }
+    let mut turn = Turn::new();
+    turn.push(Step::new(8, 5).unwrap());
+    turn.push(Step::new(6, 5).unwrap());
+    turn
 }
 
 fn claims_a_roll(seat: &mut Seat) -> Result<Number, ChooseFault> {

@@ -1,5 +1,4 @@
 //! Actions of all kinds, few of which may follow at a time.
-use arrayvec::ArrayVec;
 use bg_board::Step;
 use bg_match::{Action, Level, Phase};
 use bg_turns::Turn;
@@ -17,13 +16,13 @@ const TURNS: [[(u8, u8); 2]; 8] = [
 ];
 
 fn turn_of(steps: &[(u8, u8)]) -> Turn {
-    let mut list = ArrayVec::new();
+    let mut turn = Turn::new();
     for &(from, to) in steps {
-        if let Some(step) = Step::new(from, to) {
-            let _ = list.try_push(step);
+        if let (Some(step), false) = (Step::new(from, to), turn.is_full()) {
+            turn.push(step);
         }
     }
-    Turn { steps: list }
+    turn
 }
 
 /// The action of a random word, whatever may follow.

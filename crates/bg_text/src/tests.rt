@@ -14,16 +14,16 @@ mod records;
 mod rules;
 mod transcripts;
 
-use arrayvec::ArrayVec;
 use bg_board::Step;
 use bg_turns::Turn;
 use std::process::Abort;
 
 fn turn(rt: &impl Abort, steps: &[(u8, u8)]) -> Turn {
-    let mut list = ArrayVec::new();
+    let mut turn = Turn::new();
     for &(from, to) in steps {
         let step = Step::new(from, to).expect(rt, "a step");
-        assert!(rt; list.try_push(step).is_ok());
+        assert!(rt; !turn.is_full());
+        turn.push(step);
     }
-    Turn { steps: list }
+    turn
 }

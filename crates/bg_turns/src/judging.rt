@@ -35,7 +35,7 @@ pub fn judge_turn(
     ensures after { IfOk result (λ after. after ≡ after_steps board.now player turn.now) }
     ensures fault { IfErr result (λ fault. IsTurnFault fault board.now player dice turn.now) }
 {
-    judge_steps(board, player, dice, turn.steps.as_slice())
+    judge_steps(board, player, dice, turn.steps())
 }
 
 /// Judges the steps of a turn.

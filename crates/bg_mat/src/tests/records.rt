@@ -1,6 +1,5 @@
 //! Records, and what is read of match files.
 use crate::{Imported, import_mat};
-use arrayvec::ArrayVec;
 use bg_board::{Die, Step};
 use bg_match::{Entry, Record, Rules};
 use bg_turns::{Dice, Turn};
@@ -26,12 +25,13 @@ pub(crate) fn read_rows(rt: &impl AllocGlobal, head: &str, rows: &str) -> Result
 
 /// The turn of these steps.
 pub(crate) fn turn(rt: &impl Abort, pairs: &[(u8, u8)]) -> Entry {
-    let mut steps = ArrayVec::new();
+    let mut turn = Turn::new();
     for (from, to) in pairs {
         let step = Step::new(*from, *to).expect(rt, "a step");
-        assert!(rt; steps.try_push(step).is_ok());
+        assert!(rt; !turn.is_full());
+        turn.push(step);
     }
-    Entry::Moved(Turn { steps })
+    Entry::Moved(turn)
 }
 
 /// The throw of these dice.

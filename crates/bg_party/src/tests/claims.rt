@@ -4,7 +4,6 @@ use super::{
     holds_the_opening, one_gives, opening_move, packet, size_of_save,
 };
 use crate::{ChooseFault, Learned, Seat};
-use arrayvec::ArrayVec;
 use bg_board::{Player, Step};
 use bg_match::{Action, EntryFault, Rules};
 use bg_turns::{Turn, TurnFault};
@@ -13,9 +12,9 @@ use std::alloc::Global;
 use std::test::Fail;
 
 fn half_a_move() -> Turn {
-    let mut steps = ArrayVec::new();
-    steps.push(Step::new(8, 5).unwrap());
-    Turn { steps }
+    let mut turn = Turn::new();
+    turn.push(Step::new(8, 5).unwrap());
+    turn
 }
 
 /// Whether a seat sends nothing on this tick.

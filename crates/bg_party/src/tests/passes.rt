@@ -52,10 +52,7 @@ fn shown(watcher: &mut Watcher, rules: u8) -> Option<Learned> {
 
 /// Whether the seat may claim neither an empty move nor an offer to resign.
 fn claims_nothing(seat: &mut Seat) -> bool {
-    let no_step = Turn {
-        steps: ArrayVec::new(),
-    };
-    seat.choose(Action::Move(no_step)) == Err(ChooseFault::NotYourTurn)
+    seat.choose(Action::Move(Turn::new())) == Err(ChooseFault::NotYourTurn)
         && seat.choose(Action::Resign(Level::Normal)) == Err(ChooseFault::NotYourTurn)
 }
 

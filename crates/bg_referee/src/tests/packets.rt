@@ -157,8 +157,8 @@ pub(crate) fn rolled() -> Entry {
 }
 
 pub(crate) fn moved() -> Entry {
-    let mut steps = ArrayVec::new();
-    steps.push(Step::new(8, 5).unwrap());
-    steps.push(Step::new(6, 5).unwrap());
-    Entry::Moved(Turn { steps })
+    let mut turn = Turn::new();
+    turn.push(Step::new(8, 5).unwrap());
+    turn.push(Step::new(6, 5).unwrap());
+    Entry::Moved(turn)
 }

@@ -11,7 +11,6 @@ ghost use Rattle.bg_text.specs.Entries.Lines.{IsFixed, IsReply, IsActionOf, IsSe
 
 use crate::TextFault;
 use crate::entries::pairs::{read_dice, read_turn};
-use arrayvec::ArrayVec;
 use bg_board::Player;
 use bg_match::{Action, Entry, Level, entry_of};
 use bg_turns::{Dice, Turn};
@@ -62,9 +61,7 @@ fn read_fixed(line: &[u8]) -> Option<Action>
     match line {
         b"roll" => Some(Action::Roll),
         b"double" => Some(Action::Double),
-        b"move" => Some(Action::Move(Turn {
-            steps: ArrayVec::new(),
-        })),
+        b"move" => Some(Action::Move(Turn::new())),
         _ => read_reply(line),
     }
 }

@@ -9,7 +9,6 @@ ghost use Rattle.bg_text.specs.Entries.Pairs.{IsDiceFault};
 
 use crate::TextFault;
 use crate::entries::words::{Pieces, halves};
-use arrayvec::ArrayVec;
 use bg_board::{BAR, Die, OFF, Step};
 use bg_turns::Turn;
 
@@ -18,9 +17,7 @@ pub(crate) fn read_turn(pairs: &[u8]) -> Result<Turn, TextFault>
     ensures { IsTurnOf (words_of pairs.now) result }
 {
     let mut words = Pieces::new(pairs, b' ');
-    let mut turn = Ok(Turn {
-        steps: ArrayVec::new(),
-    });
+    let mut turn = Ok(Turn::new());
     while let Some(word) = words.next_piece() {
         match read_pair(word) {
             Ok(step) => turn = with_step(turn, step),
@@ -39,10 +36,10 @@ fn with_step(turn: Result<Turn, TextFault>, step: Step) -> Result<Turn, TextFaul
         → IsPairOf pair (Ok step) → IsTurnOf (pairs ++ pair ∷ []) result }
 {
     let mut turn = turn?;
-    if turn.steps.is_full() {
+    if turn.is_full() {
         return Err(TextFault::TooManySteps);
     }
-    turn.steps.push(step);
+    turn.push(step);
     Ok(turn)
 }
 

@@ -72,7 +72,7 @@ fn put_turn(line: &mut ArrayString<40>, turn: &Turn)
     ensures { line.new.bytes ≡ line.old.bytes ++ spaced (codes "move" ∷ map step_text turn.now) }
 {
     line.push_str("move");
-    let steps = turn.steps.as_slice();
+    let steps = turn.steps();
     for step in steps {
         put_step(line, *step);
     }

@@ -1,6 +1,5 @@
 //! The match of these tests, as a text and as a record, its picture, and a record that is full.
 use crate::transcript_text;
-use arrayvec::ArrayVec;
 use bg_board::{Die, Step};
 use bg_match::{Entry, Level, Record, Rules};
 use bg_turns::Turn;
@@ -24,12 +23,13 @@ ok 2
 
 /// The first turn of MATCH.
 fn first_turn(rt: &impl Abort) -> Turn {
-    let mut steps = ArrayVec::new();
+    let mut turn = Turn::new();
     for (from, to) in [(8, 5), (6, 5)] {
         let step = Step::new(from, to).expect(rt, "a step");
-        assert!(rt; steps.try_push(step).is_ok());
+        assert!(rt; !turn.is_full());
+        turn.push(step);
     }
-    Turn { steps }
+    turn
 }
 
 /// The record of MATCH, also where memory for an entry is refused once.

@@ -2,23 +2,14 @@
 ghost use Rattle.std.specs.Prelude.{◌≡◌, ◌≤◌, ◌<◌, take, slice_set};
 
 use crate::Turn;
-use arrayvec::ArrayVec;
 use bg_board::Step;
 
-/// The turn of the first of these steps. Each number of them is written out, so that no loop cuts the rest.
+/// The turn of the first of these steps.
 pub(crate) fn turn_of(steps: [Step; 4], count: usize) -> Turn
     requires { count ≤ 4 }
     ensures { result ≡ take count steps }
 {
-    let mut steps = ArrayVec::from(steps);
-    match count {
-        0 => steps.truncate(0),
-        1 => steps.truncate(1),
-        2 => steps.truncate(2),
-        3 => steps.truncate(3),
-        _ => (),
-    }
-    Turn { steps }
+    Turn::of(steps, count as u8)
 }
 
 /// The steps with another one at a place. Each place is written out, so that the four steps stay in one

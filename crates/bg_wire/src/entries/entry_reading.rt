@@ -9,7 +9,6 @@ use crate::entries::codes::{
 };
 use crate::entries::reader::{ReadFault, Reader};
 use crate::saves::layouts::Layout;
-use arrayvec::ArrayVec;
 use bg_board::{Die, Step};
 use bg_match::{Action, Entry, Level};
 use bg_turns::{Dice, Turn};
@@ -28,11 +27,11 @@ fn steps(reader: &mut Reader<'_>, count: u8) -> Result<Turn, ReadFault>
     requires { count ≤ MOST_STEPS }
     ensures { Reads result reader.new (many_at step_at count reader.old) }
 {
-    let mut steps = ArrayVec::new();
+    let mut turn = Turn::new();
     for _ in 0..count {
-        steps.push(step(reader)?);
+        turn.push(step(reader)?);
     }
-    Ok(Turn { steps })
+    Ok(turn)
 }
 
 #[tactic(auto, unfolding(crate::specs::Entries::EntryReading::turn_at))]

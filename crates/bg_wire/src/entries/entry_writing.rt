@@ -23,7 +23,7 @@ fn put_turn<const N: usize>(out: &mut ArrayVec<u8, N>, turn: &Turn)
     ensures text { out.new.items ≡ out.old.items ++ turn_bytes turn.now }
     ensures len { array_vec_len out.new ≤ array_vec_len out.old + 9 }
 {
-    let steps = turn.steps.as_slice();
+    let steps = turn.steps();
     out.push(steps.len() as u8);
     for step in steps {
         out.push(step.from());

@@ -16,7 +16,7 @@ fn entry_len(entry: &Entry) -> usize
 {
     match entry {
         Entry::Opening(_, _) | Entry::Rolled(_) => 3,
-        Entry::Moved(turn) => 2 + 2 * turn.steps.as_slice().len(),
+        Entry::Moved(turn) => 2 + 2 * turn.steps().len(),
         Entry::Resigned(_) => 2,
         Entry::Doubled
         | Entry::Taken

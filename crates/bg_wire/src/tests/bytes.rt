@@ -11,12 +11,13 @@ pub(crate) type Bytes = ArrayVec<u8, MOST_DATAGRAM_BYTES>;
 
 /// A turn of these steps.
 pub(crate) fn turn(rt: &impl Abort, steps: &[(u8, u8)]) -> Turn {
-    let mut list = ArrayVec::new();
+    let mut turn = Turn::new();
     for &(from, to) in steps {
         let step = Step::new(from, to).expect(rt, "a step");
-        assert!(rt; list.try_push(step).is_ok());
+        assert!(rt; !turn.is_full());
+        turn.push(step);
     }
-    Turn { steps: list }
+    turn
 }
 
 /// A list of these entries.

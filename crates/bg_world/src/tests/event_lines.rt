@@ -1,6 +1,5 @@
 //! Lines of events of each kind, and lines of each fault.
 use crate::{Event, parse_event};
-use arrayvec::ArrayVec;
 use bg_board::{Player, Step};
 use bg_match::{Action, Level};
 use bg_text::TextFault;
@@ -19,12 +18,13 @@ fn check_choice(rt: &impl Abort, line: &str, seat: Player, action: Action) {
 }
 
 fn move_of(rt: &impl Abort, steps: &[(u8, u8)]) -> Action {
-    let mut list = ArrayVec::new();
+    let mut turn = Turn::new();
     for &(from, to) in steps {
         let step = Step::new(from, to).expect(rt, "a step");
-        assert!(rt; list.try_push(step).is_ok());
+        assert!(rt; !turn.is_full());
+        turn.push(step);
     }
-    Action::Move(Turn { steps: list })
+    Action::Move(turn)
 }
 
 #[test]

@@ -3,7 +3,6 @@ use crate::{
     Event, FailRead, FailSend, MemoryKeeper, MemoryNet, Outcome, Plan, RestoreCause, Setup, Tear,
     World, WorldFault, simulate,
 };
-use arrayvec::ArrayVec;
 use bg_board::{Player, Step};
 use bg_match::{Action, Number, Rules};
 use bg_party::{ChooseFault, Learned};
@@ -140,17 +139,17 @@ pub(crate) fn events_of(alloc: Global, rows: &[Row]) -> Result<Vec<Event>, Alloc
     Ok(events)
 }
 
-fn push_step(steps: &mut ArrayVec<Step, 4>, step: (u8, u8)) {
-    if let Some(step) = Step::new(step.0, step.1) {
-        let _ = steps.try_push(step);
+fn push_step(turn: &mut Turn, step: (u8, u8)) {
+    if let (Some(step), false) = (Step::new(step.0, step.1), turn.is_full()) {
+        turn.push(step);
     }
 }
 
 fn move_of(first: (u8, u8), second: (u8, u8)) -> Action {
-    let mut steps = ArrayVec::new();
-    push_step(&mut steps, first);
-    push_step(&mut steps, second);
-    Action::Move(Turn { steps })
+    let mut turn = Turn::new();
+    push_step(&mut turn, first);
+    push_step(&mut turn, second);
+    Action::Move(turn)
 }
 
 pub(crate) fn event(happens: Happens) -> Event {

@@ -4,6 +4,6 @@ use Rattle.bg_mat.proofs.movements.as_turn.Given as goal
 
 abbrev pub invariant-loop-leg : goal.invariant-loop-leg
 invariant-loop-leg l = record {
-  steps : l.steps.items ≡ steps_of (take l.leg-index l.legs);
-  many : length l.steps.items ≡ l.leg-index;
+  steps : l.turn ≡ steps_of (take l.leg-index l.legs);
+  many : length l.turn ≡ l.leg-index;
 }

@@ -10,5 +10,5 @@ returns-in_err-turn c = λ pairs pair shapes turn right.
 
 pub returns-then-is_full : goal.returns-then-is_full
 returns-then-is_full c = λ pairs pair shapes turn right.
-    let full : length c.turn.inside.steps.items ≡ 4 = eqb-true _ 4 (sym (sym c.if-is_full.true ∙ c.is_full.ensures.value)) in
-    too_many pairs pair c.in_ok-turn.turn c.args.step (rw c.in_ok-turn.was at turn) right (rw (← c.turn.view_is) full)
+    let full : length c.in_ok-turn.turn ≡ 4 = eqb-true _ 4 (sym (sym c.if-is_full.true ∙ c.is_full.ensures)) in
+    too_many pairs pair c.in_ok-turn.turn c.args.step (rw c.in_ok-turn.was at turn) right full
