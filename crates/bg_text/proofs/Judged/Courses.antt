@@ -1,10 +1,10 @@
 -- Where the lines of a transcript lead.
-use Rattle.std.proofs.Common.{◌≡◌, ◌≢◌, ℕ, suc, ◌+◌, ◌-◌, ◌<◌, ◌≤◌, List, [], ◌∷◌, ◌++◌, length, take, slice_index_or, Option, None, Some, refl, sym, ◌∙◌, ap, subst, arith, length-append, append-nil, append_assoc, inl, inr}
+use Rattle.std.proofs.Common.{◌≡◌, ℕ, suc, ◌+◌, ◌-◌, ◌<◌, ◌≤◌, List, [], ◌∷◌, ◌++◌, length, take, slice_index_or, Option, None, Some, refl, sym, ◌∙◌, ap, subst, arith, length-append, append-nil, append_assoc, inl, inr}
 use Rattle.std.specs.Prelude.{Result, Ok, Err, IsOk, IfOk, IfSome, IsSome, is_ok, true, ◌↔◌}
 use Rattle.std.proofs.lemmas.Bool.{cases_lt}
 use Rattle.std.proofs.Math.Seq.{get_or-append_seam, take-append-add}
 use Rattle.std.proofs.lemmas.List.{take_all, take-append-le}
-use Rattle.bg_match.specs.Follows.{CanFollow, Follows, IsEntryFault}
+use Rattle.bg_match.specs.Follows.{CanFollow, IsEntryFault}
 use Rattle.bg_match.specs.Limits.{most_entries}
 use Rattle.bg_match.specs.State.{State, start_of}
 use Rattle.bg_match.specs.Terms.{Terms}

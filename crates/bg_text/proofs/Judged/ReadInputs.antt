@@ -7,7 +7,7 @@ use Rattle.bg_text.specs.Judge.Judging.{refused_line, IsLengthFault, IsAnswerTo,
 use Rattle.bg_text.specs.Judge.Transcripts.{IsReadOf}
 use Rattle.bg_text.specs.declared.faults.LineFault.{LineFault}
 use Rattle.bg_text.specs.declared.judging.verdicts.Verdict.{Verdict}
-use Rattle.bg_text.specs.declared.judging.verdicts.Verdict.TheVariants.{Fine, Refused}
+use Rattle.bg_text.specs.declared.judging.verdicts.Verdict.TheVariants.{Refused}
 use Rattle.bg_text.proofs.Judged.PartRead.{judged_refused}
 
 -- line 1 is refused

@@ -1,4 +1,4 @@
-use Rattle.std.proofs.Common.{◌≡◌, ◌≤◌, ◌<◌, ◌+◌, ◌-◌, ◌++◌, ◌∙◌, Ok, length, take, length-take, length-append, append-nil, append_assoc, arith, rules, refl, sym, ap}
+use Rattle.std.proofs.Common.{◌≡◌, ◌≤◌, ◌<◌, ◌+◌, ◌++◌, ◌∙◌, Ok, length, take, length-take, length-append, append-nil, append_assoc, arith, rules, refl, sym, ap}
 use Rattle.bg_text.specs.Limits.{most_bytes}
 use Rattle.bg_streams.proofs.KnownBytes.{read_to_end, read_to_limit}
 use Rattle.bg_text.proofs.Judged.HeardBytes.{consumes_on}

@@ -1,5 +1,6 @@
-use Rattle.std.proofs.Common.{arith}
+use Rattle.std.proofs.Common.{arith, length-append}
 use Rattle.std.proofs.lemmas.Result.{err_from_is_err_and}
+use Rattle.bg_board.specs.FromTo.{FromTo}
 use Rattle.bg_wire.specs.Entries.Reading.{many_at}
 use Rattle.bg_wire.specs.Entries.EntryReading.{step_at}
 use Rattle.bg_wire.proofs.Many.{goes_on, ends, is_done}
@@ -13,7 +14,7 @@ returns-in_err-step c =
 pub loop-preserved : goal.loop-preserved
 loop-preserved c = record {
   read = rw c.push.ensures (goes_on step_at c.loop.turn c.args.count c.loop.counter c.loop.reader (many_at step_at c.args.count c.args.reader.now) c.in_ok-step.field-0 c.step.new.reader c.loop-test.true c.in_ok-step.ensures c.loop.invariant.read);
-  len = omega arith;
+  len = rw c.push.ensures (omega (arith, length-append {A = FromTo}, c.loop.invariant.len));
 }
 
 pub returns : goal.returns

@@ -1,4 +1,4 @@
-use Rattle.std.proofs.Common.{◌≡◌, ◌≢◌, List, ℕ, [], ◌∷◌, ◌++◌, None, refl, sym, ◌∙◌, ap, subst, append_assoc}
+use Rattle.std.proofs.Common.{◌≡◌, [], ◌∷◌, ◌++◌, sym, ◌∙◌, ap, subst, append_assoc}
 use Rattle.bg_text.specs.Judge.Hearing.{HasHeard}
 use Rattle.bg_text.proofs.Judged.HeardBytes.{none_of, rest_unheard, some_of}
 use Rattle.bg_text.proofs.judging.hearing.Judge.tell.Goals as goal
