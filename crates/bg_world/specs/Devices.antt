@@ -3,6 +3,7 @@ pub mod Honesty
 pub mod Handed
 pub mod Plan
 pub mod Places
+pub mod Kept
 pub mod MemoryDevices
 pub mod DeviceCalls
 pub mod LinkCalls

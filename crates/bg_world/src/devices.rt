@@ -11,6 +11,7 @@ ghost use Rattle.bg_world.specs.declared.devices.DeviceFault.TheVariants.{Memory
 ghost use Rattle.bg_world.specs.declared.devices.plans.FailSend.{FailSend};
 
 pub(crate) mod copies;
+pub(crate) mod kept_datagrams;
 pub(crate) mod memory_keeper;
 pub(crate) mod memory_net;
 pub(crate) mod notes;

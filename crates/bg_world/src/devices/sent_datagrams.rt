@@ -1,50 +1,14 @@
 //! The datagrams that a link in memory has sent, in the bytes that they have.
 ghost use Rattle.std.specs.Prelude.{◌≡◌, ℕ, ◌+◌, ◌<◌, ◌==◌, if◌then◌else◌, ◌∷◌, ◌++◌, [], length, slice_get, vec_len};
-ghost use Rattle.std.specs.Prelude.{vec_capacity, IfOk, OnOk, OnErr};
+ghost use Rattle.std.specs.Prelude.{vec_capacity, OnOk, OnErr};
 ghost use Rattle.bg_world.specs.Devices.Handed.{bytes_handed, count_to, sent_to};
 ghost use Rattle.bg_world.specs.Devices.Places.{datagram_at, places_at};
 
+use crate::devices::kept_datagrams::KeptDatagram;
 use arrayvec::ArrayVec;
 use bg_wire::Datagram;
 use std::alloc::{AllocError, Global};
 use std::marker::Model;
-
-/// A datagram as it is kept.
-#[derive(Drop)]
-struct KeptDatagram {
-    to: u8,
-    bytes: Vec<u8>,
-}
-
-impl Model for KeptDatagram {
-    ghost use Rattle.std.specs.Prelude.{◌≤◌, length};
-    ghost use Rattle.bg_wire.specs.declared.packets.Datagram.{Datagram as Sent};
-
-    ghost Value = { Sent };
-
-    ghost view = { λ d. record { to = d.to; bytes = d.bytes.items } };
-
-    ghost invariant = { λ d. length d.bytes.items ≤ 128 };
-}
-
-impl KeptDatagram {
-    fn new(alloc: Global, datagram: &Datagram) -> Result<KeptDatagram, AllocError>
-        ensures { IfOk result (λ kept. kept ≡ datagram.now) }
-    {
-        Ok(KeptDatagram {
-            to: datagram.to,
-            bytes: datagram.bytes.bytes.as_slice().to_vec(alloc)?,
-        })
-    }
-
-    fn bytes(&self) -> ArrayVec<u8, 256>
-        ensures { result.items ≡ self.now.bytes }
-    {
-        let mut bytes = ArrayVec::new();
-        bytes.try_extend_from_slice(&self.bytes).unwrap();
-        bytes
-    }
-}
 
 /// All datagrams that were sent, and where those to each party stand. Contracts see the datagrams, the oldest first.
 #[derive(Drop)]
@@ -122,7 +86,9 @@ fn find_bytes(datagrams: &[KeptDatagram], places: &[usize], index: u32) -> Optio
 {
     let place = places.get(index as usize)?;
     let kept = datagrams.get(*place)?;
-    Some(kept.bytes())
+    let mut bytes = ArrayVec::new();
+    bytes.try_extend_from_slice(kept.bytes()).unwrap();
+    Some(bytes)
 }
 
 /// Makes lists, empty ones, up to that of the party.

@@ -42,10 +42,12 @@ fn refused_growths_of_sends(rt: HostRuntime) -> Result<(), Fail> {
     for byte in 0..6 {
         assert!(rt; send_at_last(&rt, &mut net, 2, &[byte]) == Ok(()));
         assert!(rt; send_at_last(&rt, &mut net, 0, &[byte, byte]) == Ok(()));
+        assert!(rt; send_at_last(&rt, &mut net, 1, &[byte; 30]) == Ok(()));
     }
     check_take(&rt, &mut net, 2, 5, &[5]);
     check_take(&rt, &mut net, 0, 0, &[0, 0]);
     check_take(&rt, &mut net, 0, 5, &[5, 5]);
+    check_take(&rt, &mut net, 1, 5, &[5; 30]);
     check_no_growth_is_left(rt.alloc())
 }
 

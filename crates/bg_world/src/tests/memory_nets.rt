@@ -22,6 +22,29 @@ fn datagrams_are_handed_over(rt: HostRuntime) -> Result<(), Fail> {
     Ok(())
 }
 
+/// Texts of each length are handed over as they were sent, the short ones, which are kept in place, and longer ones.
+#[test]
+fn texts_of_each_length(rt: HostRuntime) -> Result<(), Fail> {
+    let mut net = net(rt.alloc(), &[])?;
+    let mut text = [0; 128];
+    for place in 0..128u8 {
+        text[usize::from(place)] = place + 1;
+    }
+    for count in 0..129u8 {
+        check_send(&rt, &mut net, 2, &text[..usize::from(count)], Ok(()));
+    }
+    for count in 0..129u8 {
+        check_take(
+            &rt,
+            &mut net,
+            2,
+            u32::from(count),
+            &text[..usize::from(count)],
+        );
+    }
+    Ok(())
+}
+
 /// The last pick gives one byte 0, also where nothing was sent.
 #[test]
 fn garbled_pick(rt: HostRuntime) -> Result<(), Fail> {
