@@ -87,12 +87,14 @@ fn send_by(
 fn hand_over(sent: &SentDatagrams, party: u8, pick: u32) -> Option<ArrayVec<u8, 256>>
     ensures { result ≡ handed sent.now party pick }
 {
+    let mut bytes = ArrayVec::new();
     if pick == GARBLED {
-        let mut bytes = ArrayVec::new();
         bytes.push(0);
         return Some(bytes);
     }
-    sent.get(party, pick)
+    let kept = sent.get(party, pick)?;
+    bytes.try_extend_from_slice(kept.bytes()).unwrap();
+    Some(bytes)
 }
 
 impl Link for MemoryNet {

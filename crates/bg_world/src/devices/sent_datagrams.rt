@@ -1,11 +1,10 @@
 //! The datagrams that a link in memory has sent, in the bytes that they have.
 ghost use Rattle.std.specs.Prelude.{◌≡◌, ℕ, ◌+◌, ◌<◌, ◌==◌, if◌then◌else◌, ◌∷◌, ◌++◌, [], length, slice_get, vec_len};
-ghost use Rattle.std.specs.Prelude.{vec_capacity, OnOk, OnErr};
-ghost use Rattle.bg_world.specs.Devices.Handed.{bytes_handed, count_to, sent_to};
+ghost use Rattle.std.specs.Prelude.{vec_capacity, option_copied, OnOk, OnErr};
+ghost use Rattle.bg_world.specs.Devices.Handed.{count_to, sent_to};
 ghost use Rattle.bg_world.specs.Devices.Places.{datagram_at, places_at};
 
 use crate::devices::kept_datagrams::KeptDatagram;
-use arrayvec::ArrayVec;
 use bg_wire::Datagram;
 use std::alloc::{AllocError, Global};
 use std::marker::Model;
@@ -55,11 +54,11 @@ impl SentDatagrams {
         Ok(())
     }
 
-    /// The bytes of the datagram of this index, from 0, among those to the party.
-    pub(crate) fn get(&self, party: u8, index: u32) -> Option<ArrayVec<u8, 256>>
-        ensures { result ≡ bytes_handed (slice_get (sent_to party self.now) index) }
+    /// The datagram of this index, from 0, among those to the party.
+    pub(crate) fn get(&self, party: u8, index: u32) -> Option<&KeptDatagram>
+        ensures { option_copied result ≡ slice_get (sent_to party self.now) index }
     {
-        find_bytes(&self.datagrams, places_of(&self.places, party), index)
+        find_datagram(&self.datagrams, places_of(&self.places, party), index)
     }
 
     /// How many there are to the party; 4294967295 where there are as many or more.
@@ -80,15 +79,16 @@ fn places_of(lists: &[Vec<usize>], party: u8) -> &[usize]
     }
 }
 
-/// The bytes of the datagram at the place of this index.
-fn find_bytes(datagrams: &[KeptDatagram], places: &[usize], index: u32) -> Option<ArrayVec<u8, 256>>
-    ensures { result ≡ bytes_handed (datagram_at datagrams.now (slice_get places.now index)) }
+/// The datagram at the place of this index.
+fn find_datagram<'a>(
+    datagrams: &'a [KeptDatagram],
+    places: &[usize],
+    index: u32,
+) -> Option<&'a KeptDatagram>
+    ensures { option_copied result ≡ datagram_at datagrams.now (slice_get places.now index) }
 {
     let place = places.get(index as usize)?;
-    let kept = datagrams.get(*place)?;
-    let mut bytes = ArrayVec::new();
-    bytes.try_extend_from_slice(kept.bytes()).unwrap();
-    Some(bytes)
+    datagrams.get(*place)
 }
 
 /// Makes lists, empty ones, up to that of the party.
