@@ -22,8 +22,9 @@ pub(crate) fn receive<L: Link>(link: &mut L, party: u8, pick: u32) -> Result<Pac
     ensures receives { Receives L.is_honest (link_view L.Link link.old) party pick result (link_view L.Link link.new) }
     ensures fits { IfOk result IsPacket }
 {
-    match link.take(party, pick) {
-        Err(fault) => Err(link_outcome(fault)),
+    let taken = link.take(party, pick);
+    match &taken {
+        Err(fault) => Err(link_outcome(*fault)),
         Ok(None) => Err(Outcome::NoDatagram),
         Ok(Some(bytes)) => match decode(bytes.as_slice()) {
             Ok(packet) => Ok(packet),

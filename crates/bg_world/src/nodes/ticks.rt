@@ -34,16 +34,16 @@ fn send_all<L: Link>(link: &mut L, parties: usize, packets: &[(u8, Packet)]) -> 
 }
 
 /// A follower sends this to the referee, if anything.
-fn send_to_referee<L: Link>(link: &mut L, parties: usize, packet: Option<Packet>) -> Outcome
-    requires fits { IfSome packet IsPacket }
+fn send_to_referee<L: Link>(link: &mut L, parties: usize, packet: &Option<Packet>) -> Outcome
+    requires fits { IfSome packet.now IsPacket }
     requires referee_exists { 1 ≤ parties }
-    ensures { SendCalls L.is_honest parties 0 (link_view L.Link link.old) (to_referee packet)
+    ensures { SendCalls L.is_honest parties 0 (link_view L.Link link.old) (to_referee packet.now)
         result (link_view L.Link link.new) }
 {
     let Some(packet) = packet else {
         return Outcome::Sent(0);
     };
-    match post(link, REFEREE, &packet) {
+    match post(link, REFEREE, packet) {
         Ok(()) => Outcome::Sent(1),
         Err(fault) => link_outcome(fault),
     }
@@ -65,7 +65,7 @@ pub(crate) fn tick_seat<L: Link>(link: &mut L, parties: usize, core: &mut Seat) 
         result (link_view L.Link link.new) core.new }
 {
     let packet = core.tick();
-    send_to_referee(link, parties, packet)
+    send_to_referee(link, parties, &packet)
 }
 
 /// A watcher's tick.
@@ -75,5 +75,5 @@ pub(crate) fn tick_watcher<L: Link>(link: &mut L, parties: usize, core: &mut Wat
         result (link_view L.Link link.new) core.new }
 {
     let packet = core.tick();
-    send_to_referee(link, parties, packet)
+    send_to_referee(link, parties, &packet)
 }
