@@ -1,4 +1,4 @@
-//! The datagrams that a link in memory has sent, in the bytes that they have.
+//! The datagrams that a link in memory has sent.
 ghost use Rattle.std.specs.Prelude.{◌≡◌, ℕ, ◌+◌, ◌<◌, ◌==◌, if◌then◌else◌, ◌∷◌, ◌++◌, [], length, slice_get, vec_len};
 ghost use Rattle.std.specs.Prelude.{vec_capacity, option_copied, OnOk, OnErr};
 ghost use Rattle.bg_world.specs.Devices.Handed.{count_to, sent_to};
