@@ -25,9 +25,6 @@ pub length-steps : (steps : List FromTo) → length (flat_map step_bytes steps) 
 length-steps [] = refl
 length-steps (step ∷ steps) = omega (arith, ap length (flat_map-cons step_bytes step steps), length-steps steps)
 
-pub turn_bytes_len : (steps : List FromTo) → length (turn_bytes steps) ≡ 1 + 2 * length steps
-turn_bytes_len steps = omega (arith, length-steps steps)
-
 length-turn_text : (steps : List FromTo) → IsTurn steps → length (turn_bytes steps) ≤ 9
 length-turn_text steps turn = omega (arith, length-steps steps, turn.few)
 
@@ -53,7 +50,7 @@ length-entry_text entry.Accepted h = omega arith
 length-entry_text entry.Rejected h = omega arith
 length-entry_text entry.Passed h = omega arith
 
-length-entries_text : (entries : List Entry) → AllByRecursion IsEntry entries
+pub length-entries_text : (entries : List Entry) → AllByRecursion IsEntry entries
     → length (entries_bytes entries) ≤ 10 * length entries
 length-entries_text [] h = omega arith
 length-entries_text (e ∷ entries) h =

@@ -4,7 +4,6 @@ pub(crate) mod restoring;
 pub(crate) mod saving;
 pub(crate) mod slot_laws;
 pub(crate) mod slots;
-pub(crate) mod text_lengths;
 pub(crate) mod writing;
 
 use bg_match::{Action, Number, Record};

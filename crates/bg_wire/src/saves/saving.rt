@@ -17,7 +17,6 @@ use crate::entries::entry_reading::entry;
 use crate::entries::entry_writing::put_entry;
 use crate::entries::reader::Reader;
 use crate::saves::layouts::{Layout, end, pass_entries, split_front};
-use crate::saves::text_lengths::entries_len;
 use crate::saves::writing::front_text;
 use crate::{LoadFault, SaveRefusal, Saved, Slot};
 use arrayvec::ArrayVec;
@@ -62,7 +61,11 @@ pub fn next_save(
     }
 }
 
-/// The saved text of these parts. Room for it is made once.
+/// The most bytes of an entry's text.
+const LONGEST_ENTRY: usize = 10;
+
+/// The saved text of these parts. Room is made once, for entries of the longest texts: so nothing asks for the length
+/// of each before it is written.
 fn text_of(
     alloc: Global,
     party: u8,
@@ -76,7 +79,7 @@ fn text_of(
     ensures longest { IfOk result (λ text. vec_len text ≤ longest_saved_text) }
 {
     let front = front_text(party, save, claim, log);
-    let mut text = Vec::with_capacity(alloc, front.len() + entries_len(log))?;
+    let mut text = Vec::with_capacity(alloc, front.len() + LONGEST_ENTRY * log.len() as usize)?;
     append(&mut text, front.as_slice());
     push_entries(&mut text, log);
     Ok(text)
@@ -133,7 +136,7 @@ fn append_full(text: &mut Vec<u8>, chunk: &mut Chunk)
     ensures room { array_vec_len chunk.new + 10 ≤ 1024 }
     ensures capacity { vec_capacity text.old ≤ vec_capacity text.new }
 {
-    if chunk.remaining_capacity() < 10 {
+    if chunk.remaining_capacity() < LONGEST_ENTRY {
         append(text, chunk.as_slice());
         chunk.clear();
     }

@@ -1,8 +1,16 @@
 use Rattle.std.proofs.Common.{◌∙◌, ◌++◌, ap, arith, length, List, ℕ}
 use Rattle.bg_wire.specs.Entries.EntryText.{entries_bytes}
 use Rattle.bg_wire.specs.Saved.SavedText.{parts_with}
-use Rattle.bg_wire.proofs.Lengths.{length-saved_text}
+use Rattle.bg_wire.proofs.Lengths.{length-saved_text, length-entries_text}
 use Rattle.bg_wire.proofs.saves.saving.text_of.Goals as goal
+
+pub push_entries-requires : goal.push_entries-requires
+push_entries-requires c =
+    let front = c.front_text-front.result.items in
+    let made = c.in_ok-text.ensures in
+    let begun = ap length (c.append.ensures.items ∙ ap (λ (r : List ℕ). r ++ c.as_slice.result.now) made.items ∙ c.as_slice.ensures.value) in
+    let entries = length-entries_text c.args.log.now.entries c.len-2.ensures.in_range in
+    omega (arith, begun, entries, made.capacity, c.append.ensures.capacity, c.len.ensures.value, c.len-2.ensures.value)
 
 pub returns-clause-text : goal.returns-clause-text
 returns-clause-text c =
