@@ -1,6 +1,6 @@
 -- What a record keeps.
-use Rattle.std.proofs.Common.{◌≡◌, ℕ, zero, suc, ◌-◌, ◌<◌, ◌≤◌, Option, Some, option_map, map, sub-one, List, [], ◌∷◌, ◌++◌, length, length-append, take, slice_get, refl, sym, ◌∙◌, arith, inl, inr, ◌⊎◌}
-use Rattle.std.proofs.lemmas.List.{take-append-le, length-map, map-append}
+use Rattle.std.proofs.Common.{◌≡◌, ℕ, zero, suc, ◌-◌, ◌<◌, ◌≤◌, Option, Some, option_map, map, sub-one, List, [], ◌∷◌, ◌++◌, length, length-append, take, slice_get, refl, sym, subst, ◌∙◌, arith, inl, inr, ◌⊎◌}
+use Rattle.std.proofs.lemmas.List.{take-append-le, length-map, map-append, take-map, take-take, length-take-le}
 use Rattle.std.proofs.lemmas.Option.{slice_get-map}
 use Rattle.std.proofs.Math.Seq.{take-append_seam}
 use Rattle.bg_match.specs.Terms.{Terms, match_length}
@@ -98,3 +98,38 @@ IsKept-made terms made m s t kept few seat follows =
     let stands = Leads-push (start_of terms) entries m.entry s t kept.stands follows in
     rw (map-append (λ (k : Made). k.entry), map-append (λ (k : Made). k.seat), seat)
     (IsKept-push terms entries seats s m.entry t kept same (rw length-map few) stands)
+
+-- an element of a front is one of the list
+slice_get-front : {X : Type 0} (n : ℕ) (xs : List X) (i : ℕ) (y : X) → slice_get (take n xs) i ≡ Some y
+    → (i < n) × (slice_get xs i ≡ Some y)
+slice_get-front zero xs i y h = absurd (cc)
+slice_get-front (suc n) [] i y h = absurd (cc)
+slice_get-front (suc n) (x ∷ xs) zero y h = (omega arith, h)
+slice_get-front (suc n) (x ∷ xs) (suc i) y h =
+    let r = slice_get-front n xs i y h in (omega (arith, r.0), r.1)
+
+-- the first entries alone, where they lead to t
+pub IsKept-front : (terms : Terms) (made : List Made) (n : ℕ) (s t : State)
+    → IsKept terms (map (λ k. k.entry) made) (map (λ k. k.seat) made) s
+    → n ≤ length (map (λ (k : Made). k.entry) made)
+    → StandsAt terms (take n (map (λ k. k.entry) made)) t
+    → IsKept terms (map (λ k. k.entry) (take n made)) (map (λ k. k.seat) (take n made)) t
+IsKept-front terms made n s t kept within stands =
+    let entries = map (λ (k : Made). k.entry) made in
+    let seats = map (λ (k : Made). k.seat) made in
+    let many : length (take n entries) ≡ n = length-take-le n entries within in
+    subst (λ (l : List Entry). IsKept terms l (map (λ k. k.seat) (take n made)) t)
+    (take-map (λ (k : Made). k.entry) n made)
+    (subst (λ (l : List (Option Player)). IsKept terms (take n entries) l t) (take-map (λ (k : Made). k.seat) n made)
+    (record {
+      shortest = kept.shortest;
+      longest = kept.longest;
+      few = omega (arith, kept.few);
+      stands = stands;
+      marked = marked_by_scores terms (take n entries) t stands;
+      made = λ i seat h.
+          let at = slice_get-front n seats i seat h in
+          let less : i ≤ n = omega (arith, at.0) in
+          subst (λ (l : List Entry). SeatAfter terms l seat) (sym (take-take i n entries less))
+          (kept.made i seat at.1);
+    }))

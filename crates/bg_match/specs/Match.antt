@@ -1,5 +1,5 @@
 -- A whole match, entry by entry.
-use Rattle.std.specs.Prelude.{◌≡◌, ◌==◌, ◌↔◌, ℕ, zero, suc, ◌+◌, ◌<◌, ◌≤◌, true, Option, Some, None, List, [], ◌∷◌}
+use Rattle.std.specs.Prelude.{◌≡◌, ◌==◌, ◌↔◌, ℕ, zero, suc, ◌+◌, ◌-◌, ◌<◌, ◌≤◌, true, Option, Some, None, List, [], ◌∷◌}
 use Rattle.std.specs.Prelude.{◌++◌, length, take, slice_get, if◌then◌else◌}
 use Rattle.bg_board.specs.declared.players.Player.{Player}
 use Rattle.bg_match.specs.Limits.{most_entries, shortest_match, longest_match, IsMatchLength}
@@ -8,6 +8,8 @@ use Rattle.bg_match.specs.declared.phases.Actor.{Actor}
 use Rattle.bg_match.specs.declared.entries.Entry.{Entry}
 use Rattle.bg_match.specs.declared.entries.EntryFault.{EntryFault}
 use Rattle.bg_match.specs.declared.entries.EntryFault.TheVariants as fault
+use Rattle.bg_match.specs.declared.entries.ExtendFault.{ExtendFault}
+use Rattle.bg_match.specs.declared.entries.ExtendFault.TheVariants as extend_fault
 use Rattle.bg_match.specs.Actor.{actor_of, seat_of}
 use Rattle.bg_match.specs.State.{State, greater_score, start_of}
 use Rattle.bg_match.specs.Follows.{Follows, IsEntryFault}
@@ -28,6 +30,13 @@ IsLegalRecord terms entries = (length entries ≤ most_entries) × ((t : State) 
 -- the entry may follow: with it the match is legal so far
 abbrev pub IsNext : Terms → List Entry → Entry → Type 0
 IsNext terms entries e = IsLegalRecord terms (entries ++ e ∷ [])
+
+-- the entry of this number, from 1, is the first that does not follow the ones before it
+pub record IsFirstIllegal (terms : Terms) (entries : List Entry) (n : ℕ) : Type 0 where
+  pub first : 1 ≤ n
+  pub last : n ≤ length entries
+  pub before : IsLegalRecord terms (take (n - 1) entries)
+  pub illegal : IsLegalRecord terms (take n entries) → ⊥
 
 -- who acts after the entries
 abbrev pub ActsAfter : Terms → List Entry → Actor → Type 0
@@ -106,3 +115,9 @@ IsRecordFault fault.RecordFull log e = most_entries ≤ length log.entries
 IsRecordFault fault.Memory log e = (log.spare ≡ 0) × IsNext log.terms log.entries e
 IsRecordFault why log e =
     (length log.entries < most_entries) × ((s : State) × StandsAt log.terms log.entries s × IsEntryFault why s e)
+
+-- why a list of entries is refused; want of memory comes last, and only where the room is too small
+abbrev pub IsExtendFault : ExtendFault → Log → List Entry → Type 0
+IsExtendFault (extend_fault.Illegal n) log list = IsFirstIllegal log.terms (log.entries ++ list) n
+IsExtendFault extend_fault.Memory log list =
+    (log.spare < length list) × IsLegalRecord log.terms (log.entries ++ list)

@@ -1,6 +1,6 @@
 //! The words of faults.
 
-use crate::{EntryFault, LengthFault, NoDouble};
+use crate::{EntryFault, ExtendFault, LengthFault, NoDouble};
 use std::fmt;
 
 impl fmt::Display for NoDouble {
@@ -40,6 +40,22 @@ impl fmt::Display for EntryFault {
 }
 
 impl std::error::Error for EntryFault {}
+
+impl fmt::Display for ExtendFault {
+    ghost use Rattle.std.specs.Prelude.{Some};
+    ghost use Rattle.bg_match.specs.FaultWords.{extend_fault_words};
+
+    ghost output = { λ fault. Some (extend_fault_words fault) };
+
+    fn fmt<W: fmt::Write>(&self, f: &mut fmt::Formatter<W>) -> fmt::Result {
+        match self {
+            ExtendFault::Illegal(number) => write!(f, "illegal entry {number}"),
+            ExtendFault::Memory => f.write_str("out of memory"),
+        }
+    }
+}
+
+impl std::error::Error for ExtendFault {}
 
 impl fmt::Display for LengthFault {
     ghost use Rattle.std.specs.Prelude.{Some};

@@ -6,6 +6,7 @@ ghost use Rattle.bg_match.specs.Limits.{IsMatchLength, longest_match, most_entri
 ghost use Rattle.bg_match.specs.Match.{at_number};
 ghost use Rattle.bg_match.specs.Terms.{match_length, rules_of, terms_of};
 
+mod extending;
 mod pushing;
 
 use crate::made::{Made, made_at, make_room};

@@ -1,5 +1,6 @@
 //! Worked matches. The numbers are those of the rules, worked out by hand.
 mod applied;
+mod extended;
 mod games;
 mod growths;
 mod passes;

@@ -1,6 +1,6 @@
 //! Long records, and refused growths.
 use super::{is_copied, record};
-use crate::{Entry, EntryFault, Level, MOST_ENTRIES, Number, Record, Rules};
+use crate::{Entry, EntryFault, ExtendFault, Level, MOST_ENTRIES, Number, Record, Rules};
 use bg_board::Die;
 use std::alloc::Global;
 use std::process::Abort;
@@ -34,6 +34,9 @@ fn longest_record(rt: HostRuntime) -> Result<(), Fail> {
     let answer = Entry::Rejected;
     assert_eq!(rt; record.check(&answer), Err(EntryFault::RecordFull));
     assert_eq!(rt; record.push(answer), Err(EntryFault::RecordFull));
+    let refused = ExtendFault::Illegal(MOST_ENTRIES + 1);
+    assert_eq!(rt; record.extend(&[Entry::Rejected]), Err(refused));
+    assert_eq!(rt; record.extend(&[]), Ok(()));
     check_full_copy(&rt, &record)
 }
 
@@ -80,16 +83,29 @@ fn reserve_again(rt: &impl Abort, record: &mut Record) -> Result<(), Fail> {
     Ok(())
 }
 
+/// Appends a list to a record of twenty entries, again where memory is refused: then nothing has changed.
+fn extend_again(rt: &impl Abort, record: &mut Record) -> Result<(), Fail> {
+    let (before, by) = (record.standing(), record.by(20));
+    let list = [Entry::Rejected, Entry::Resigned(Level::Gammon)];
+    if let Err(why) = record.extend(&list) {
+        assert_eq!(rt; (why, record.len()), (ExtendFault::Memory, 20));
+        assert!(rt; record.standing() == before && record.by(20) == by);
+        record.extend(&list)?;
+    }
+    assert_eq!(rt; record.len(), 22);
+    Ok(())
+}
+
 /// Where memory is refused nothing has changed, and the same call then succeeds. No run of the tests refuses any, but
 /// `tools/refuse_growths` refuses each growth in turn.
 #[test]
 fn refused_growths(rt: HostRuntime) -> Result<(), Fail> {
     let mut record = grown(&rt)?;
     reserve_again(&rt, &mut record)?;
-    let copy = match record.copy() {
+    let mut copy = match record.copy() {
         Ok(copy) => copy,
         Err(_) => record.copy()?,
     };
     assert!(rt; copy.len() == 20 && copy.standing() == record.standing());
-    Ok(())
+    extend_again(&rt, &mut copy)
 }

@@ -1,5 +1,5 @@
 //! What faults print.
-use crate::{EntryFault, LengthFault, NoDouble};
+use crate::{EntryFault, ExtendFault, LengthFault, NoDouble};
 use bg_turns::TurnFault;
 use std::test::Fail;
 
@@ -35,5 +35,16 @@ fn faults_of_lengths_printed(rt: HostRuntime) -> Result<(), Fail> {
     let fault = LengthFault::LengthOutOfRange;
     let text = format!(in rt.alloc(); "{fault}")?;
     assert_eq!(rt; text.as_str(), "length out of range");
+    Ok(())
+}
+
+#[test]
+fn faults_of_lists_printed(rt: HostRuntime) -> Result<(), Fail> {
+    for (fault, text) in [
+        (ExtendFault::Illegal(1_000_001), "illegal entry 1000001"),
+        (ExtendFault::Memory, "out of memory"),
+    ] {
+        assert_eq!(rt; format!(in rt.alloc(); "{fault}")?.as_str(), text);
+    }
     Ok(())
 }

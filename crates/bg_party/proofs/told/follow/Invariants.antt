@@ -1,6 +1,0 @@
-use Rattle.std.proofs.Common.{take, ◌++◌}
-use Rattle.bg_match.specs.Match.{StandsAt}
-use Rattle.bg_party.proofs.told.follow.Given as goal
-
-abbrev pub invariant-loop-index : goal.invariant-loop-index
-invariant-loop-index l = StandsAt l.log.terms (l.log.entries ++ take l.index l.new) l.standing
