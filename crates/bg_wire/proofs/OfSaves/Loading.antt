@@ -1,14 +1,14 @@
 -- What loading a saved text answers.
-use Rattle.std.proofs.Common.{◌≡◌, ◌≢◌, ℕ, ◌+◌, ◌-◌, ◌<◌, ◌≤◌, Bool, true, false, cond, List, [], ◌∷◌, ◌++◌, length, take, drop, Result, Ok, Err, refl, sym, ap, subst, ◌∙◌, append_assoc, arith, inl, inr}
+use Rattle.std.proofs.Common.{◌≡◌, ◌≢◌, ℕ, ◌-◌, ◌<◌, ◌≤◌, Bool, true, false, cond, List, [], ◌++◌, length, take, Result, Ok, Err, refl, sym, ap, subst, ◌∙◌, arith, inl, inr}
 use Rattle.std.specs.Prelude.{◌==◌, is_err, IsOk, IfOk, IfErr, OnOk, OnErr, ◌↔◌}
 use Rattle.std.proofs.lemmas.Bool.{cases_lt}
-use Rattle.std.proofs.lemmas.List.{length-append, take_at, take-take, take-append-drop}
+use Rattle.std.proofs.lemmas.List.{take-take}
 use Rattle.bg_match.specs.Terms.{Terms}
-use Rattle.bg_match.specs.Match.{Log, IsLegalRecord, IsRecordFault, IsNext}
+use Rattle.bg_match.specs.Match.{Log, IsLegalRecord, IsFirstIllegal, IsRecordFault}
 use Rattle.bg_match.specs.declared.entries.Entry.{Entry}
 use Rattle.bg_match.specs.declared.entries.EntryFault.{EntryFault}
 use Rattle.bg_match.specs.declared.entries.EntryFault.TheVariants as entry_fault
-use Rattle.bg_match.proofs.Legal.{legal_fronts}
+use Rattle.bg_match.proofs.Extending.{legal_take, not_legal}
 use Rattle.bg_wire.specs.declared.faults.LoadFault.{LoadFault}
 use Rattle.bg_wire.specs.declared.faults.LoadFault.TheVariants as fault
 use Rattle.bg_wire.specs.declared.entries.reader.ReadFault.{ReadFault}
@@ -16,7 +16,7 @@ use Rattle.bg_wire.specs.declared.entries.reader.ReadFault.TheVariants as read_f
 use Rattle.bg_wire.specs.declared.saves.Saved.{Saved}
 use Rattle.bg_wire.specs.Texts.{HasMore}
 use Rattle.bg_wire.specs.Entries.Reading.{Read, whole_of}
-use Rattle.bg_wire.specs.Saved.SavedText.{SavedParts, IsSavable, IsLayoutOf, IsSavedText, IsFirstIllegal, IsIllegalAt, HasEntries, parts_of}
+use Rattle.bg_wire.specs.Saved.SavedText.{SavedParts, IsSavable, IsLayoutOf, IsSavedText, IsIllegalAt, HasEntries, parts_of}
 use Rattle.bg_wire.specs.Faults.{IsLoadFault}
 use Rattle.bg_wire.specs.Saved.SavedReading.{load_fault, saved_at, layout_of, fields_of, Replays, Loads}
 use Rattle.bg_wire.specs.declared.saves.layouts.Front.{Front}
@@ -25,13 +25,6 @@ use Rattle.bg_wire.proofs.OfSaves.SavedClaims.{claim_may}
 use Rattle.bg_wire.proofs.OfSaves.SavedLaws.{saved_law, says_field, not_extra}
 
 -- ---- the first entry that does not follow
-
--- a front of a legal record is legal, by its length
-legal_take : (m : Terms) (n : ℕ) (entries : List Entry) → IsLegalRecord m entries → IsLegalRecord m (take n entries)
-legal_take m n entries h = legal_fronts m (take n entries) (drop n entries) (subst (IsLegalRecord m) (sym (take-append-drop n entries)) h)
-
-pub not_legal : (m : Terms) (n : ℕ) (entries : List Entry) → IsFirstIllegal m entries n → IsLegalRecord m entries → ⊥
-not_legal m n entries first legal = first.illegal (legal_take m n entries legal)
 
 not_before : (m : Terms) (n k : ℕ) (entries : List Entry) → IsFirstIllegal m entries n → IsFirstIllegal m entries k
     → n < k → ⊥
@@ -48,19 +41,6 @@ one_first m n k entries p q = elim (cases_lt n k) [
     | inr ge ↦ omega arith
   ]
 ]
-
-pub is_first_illegal : (m : Terms) (n : ℕ) (front rest all : List Entry) (x : Entry) → n ≡ length front + 1
-    → all ≡ (front ++ x ∷ []) ++ rest → IsLegalRecord m front → (IsNext m front x → ⊥) → IsFirstIllegal m all n
-is_first_illegal m n front rest all x len is legal illegal =
-    let more : length (front ++ x ∷ []) ≡ n = length-append front (x ∷ []) ∙ sym len in
-    let taken : take n all ≡ front ++ x ∷ [] = ap (take n) is ∙ take_at (front ++ x ∷ []) rest n more in
-    let before : take (n - 1) all ≡ front = ap (take (n - 1)) (is ∙ append_assoc front (x ∷ []) rest) ∙ take_at front (x ∷ rest) (n - 1) (omega arith) in
-    record {
-      first = omega arith;
-      last = omega (arith, ap length is, length-append (front ++ x ∷ []) rest, more);
-      before = subst (IsLegalRecord m) (sym before) legal;
-      illegal = λ h. illegal (subst (IsLegalRecord m) taken h);
-    }
 
 -- a refusal where there is room says that the entry does not follow
 pub refused : {A : Type 0} (r : Result A EntryFault) (log : Log) (e : Entry) (L : Type 0) → (IsOk r → ⊥) → IfErr r (λ f. IsRecordFault f log e) → 0 < log.spare → (r ≢ Err entry_fault.Memory → (IsOk r) ↔ L) → L → ⊥

@@ -14,7 +14,7 @@ use Rattle.bg_wire.specs.declared.entries.reader.ReadFault.{ReadFault}
 use Rattle.bg_wire.specs.declared.saves.layouts.Front.{Front}
 use Rattle.bg_wire.specs.Saved.SavedReading.{load_fault, entries_of, fields_of, append_fault, Passes, Replays, Loads}
 use Rattle.bg_wire.proofs.Many.{with_front, many_len, passed_of, passed_list, passed_not}
-use Rattle.bg_wire.proofs.OfSaves.Loading.{is_first_illegal}
+use Rattle.bg_match.proofs.Extending.{is_first_illegal}
 
 abbrev pub whole : Read (List Entry) → Result (List Entry) LoadFault
 whole = whole_of load_fault fault.Extra

@@ -7,7 +7,8 @@ use Rattle.bg_wire.specs.Entries.EntryText.{entries_bytes}
 use Rattle.bg_wire.specs.declared.faults.LoadFault.{LoadFault}
 use Rattle.bg_wire.specs.declared.faults.LoadFault.TheVariants as fault
 use Rattle.bg_wire.specs.declared.entries.reader.ReadFault.TheVariants as read_fault
-use Rattle.bg_wire.specs.Saved.SavedText.{SavedParts, IsLayoutOf, IsSavedText, IsIllegalAt, IsFirstIllegal, saved_width}
+use Rattle.bg_match.specs.Match.{IsFirstIllegal}
+use Rattle.bg_wire.specs.Saved.SavedText.{SavedParts, IsLayoutOf, IsSavedText, IsIllegalAt, saved_width}
 use Rattle.bg_wire.specs.Saved.SavedLayouts.{saved_fields}
 use Rattle.bg_wire.specs.Saved.SavedReading.{saved_at, load_fault, front_of, text_of_front}
 use Rattle.bg_wire.specs.Faults.{IsLoadFault}
@@ -16,7 +17,8 @@ use Rattle.bg_wire.specs.Texts.{ArePrefixFree}
 use Rattle.bg_wire.proofs.Laws.{prefix_free, one_value}
 use Rattle.bg_wire.proofs.OfSaves.SavedFrontTexts.{front_all}
 use Rattle.bg_wire.proofs.OfSaves.SavedLaws.{saved_law}
-use Rattle.bg_wire.proofs.OfSaves.Loading.{one_first, not_legal}
+use Rattle.bg_match.proofs.Extending.{not_legal}
+use Rattle.bg_wire.proofs.OfSaves.Loading.{one_first}
 use Rattle.bg_wire.proofs.Widths.{HasAll, has_all, fits_of, inside_of}
 use Rattle.bg_wire.proofs.OneFault.{Sorted, same_fault, no_fault}
 

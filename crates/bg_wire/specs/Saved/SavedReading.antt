@@ -12,8 +12,8 @@ use Rattle.bg_wire.specs.Entries.Codes.{first_number, referee, seat_of_o, magic_
 use Rattle.bg_wire.specs.Entries.Reading.{◌>>=◌, Cursor, Read, u8_at, u16_at, u32_at, u64_at, many_at, whole_of}
 use Rattle.bg_wire.specs.Entries.EntryReading.{action_at, entry_at}
 use Rattle.bg_wire.specs.Entries.RulesReading.{rules_at}
-use Rattle.bg_match.specs.Match.{Log, IsLegalRecord}
-use Rattle.bg_wire.specs.Saved.SavedText.{SavedParts, parts_of, IsFirstIllegal}
+use Rattle.bg_match.specs.Match.{Log, IsLegalRecord, IsFirstIllegal}
+use Rattle.bg_wire.specs.Saved.SavedText.{SavedParts, parts_of}
 use Rattle.bg_wire.specs.declared.saves.Saved.{Saved}
 use Rattle.bg_wire.specs.declared.faults.LoadFault.{LoadFault}
 use Rattle.bg_wire.specs.declared.faults.LoadFault.TheVariants as fault

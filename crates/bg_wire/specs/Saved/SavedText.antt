@@ -1,9 +1,9 @@
 -- What a party saves, and its texts: one in each layout, of which one is written.
-use Rattle.std.specs.Prelude.{◌≡◌, ◌≢◌, ℕ, ◌-◌, ◌<◌, ◌≤◌, ◌^◌, List, [], ◌++◌, length, take, Option, Some, None}
+use Rattle.std.specs.Prelude.{◌≡◌, ◌≢◌, ℕ, ◌<◌, ◌≤◌, ◌^◌, List, [], ◌++◌, length, Option, Some, None}
 use Rattle.std.specs.List.{AllByRecursion}
 use Rattle.bg_match.specs.Terms.{Terms, match_length, rules_of}
 use Rattle.bg_match.specs.Entry.{IsAction}
-use Rattle.bg_match.specs.Match.{Log, IsLegalRecord}
+use Rattle.bg_match.specs.Match.{Log, IsLegalRecord, IsFirstIllegal}
 use Rattle.bg_match.specs.declared.actions.Action.{Action}
 use Rattle.bg_match.specs.declared.entries.Entry.{Entry}
 use Rattle.bg_match.specs.Limits.{shortest_match, longest_match}
@@ -105,13 +105,6 @@ pub record IsSavedText (p : SavedParts) (bytes : List ℕ) : Type 0 where
 pub record IsWrittenText (p : SavedParts) (bytes : List ℕ) : Type 0 where
   pub layout : IsInLayoutOf Two p bytes
   pub legal : IsLegalRecord p.terms p.entries
-
--- the entry of this number, from 1, is the first that does not follow the ones before it
-pub record IsFirstIllegal (terms : Terms) (entries : List Entry) (n : ℕ) : Type 0 where
-  pub first : 1 ≤ n
-  pub last : n ≤ length entries
-  pub before : IsLegalRecord terms (take (n - 1) entries)
-  pub illegal : IsLegalRecord terms (take n entries) → ⊥
 
 -- the layout holds, and the entry of this number is the first that does not follow
 abbrev pub IsIllegalAt : ℕ → List ℕ → Type 0
