@@ -1,12 +1,12 @@
 -- A follower whose record grows.
-use Rattle.std.proofs.Common.{◌≡◌, ℕ, ◌+◌, ◌-◌, ◌≤◌, nat_lt, Bool, Option, Some, None, List, [], ◌∷◌, ◌++◌, length}
+use Rattle.std.proofs.Common.{◌≡◌, ℕ, ◌+◌, ◌-◌, ◌≤◌, nat_lt, Bool, false, Option, Some, None, List, [], ◌∷◌, ◌++◌, length}
 use Rattle.std.proofs.Common.{take, drop, if◌then◌else◌, refl, sym, ◌∙◌, ap, subst, arith, append_assoc, length-append}
 use Rattle.std.proofs.Math.Seq.{take-append-add}
-use Rattle.std.proofs.lemmas.List.{length-drop}
+use Rattle.std.proofs.lemmas.List.{append-nil, length-drop, take_all}
 use Rattle.std.proofs.lemmas.Bool.Decides.{nat_tests}
 use Rattle.bg_match.specs.Limits.{most_entries}
 use Rattle.bg_match.specs.declared.entries.Entry.{Entry}
-use Rattle.bg_match.specs.Match.{Log, IsLegalRecord}
+use Rattle.bg_match.specs.Match.{Log, IsLegalRecord, IsFirstIllegal}
 use Rattle.bg_match.specs.Terms.{Terms, rules_of}
 use Rattle.bg_wire.specs.declared.packets.Packet.TheVariants as packet
 use Rattle.bg_party.specs.declared.outcomes.Learned.{Learned}
@@ -14,8 +14,8 @@ use Rattle.bg_party.specs.declared.outcomes.Learned.TheVariants as learned
 use Rattle.bg_party.specs.Retry.{at_once}
 use Rattle.bg_party.specs.Views.{FollowerView}
 use Rattle.bg_party.specs.Window.{unbroken, early_behind}
-use Rattle.bg_party.specs.Learns.{FollowsFor, Extends, GrowsBy, Teaches, coming, new_entries}
-use Rattle.bg_party.specs.Takes.{IsAfter, Appends, grown_with}
+use Rattle.bg_party.specs.Learns.{FollowsFor, Joins, Extends, GrowsBy, Teaches, coming, new_entries}
+use Rattle.bg_party.specs.Takes.{IsAfter, Appends, LearnsNew, grown_with}
 
 unbroken_short : (early : List (Option Entry)) → length (unbroken early) ≤ length early
 unbroken_short [] = omega arith
@@ -111,6 +111,67 @@ appends_all f start list new early count l after same_new same_early extends fol
     by_cases (learned.Conflict n) all grows h = absurd h
     by_cases learned.Gap all grows h = absurd h
     by_cases (learned.Illegal n) all grows h = absurd h
+
+-- new entries are appended alone, where no early one comes behind them
+pub appends_alone : (f : FollowerView) (new early : List Entry) (k : ℕ) (log : Log) (places : List (Option Entry))
+    → early ≡ [] → k ≡ length new → log ≡ record (f.log) { entries = f.log.entries ++ new; spare = log.spare }
+    → (length new ≤ f.log.spare → log.spare + length new ≡ f.log.spare) → places ≡ drop (length new) f.early
+    → Appends f new early 0 (learned.Grew k) (record { log = log; early = places; retry = at_once })
+appends_alone f new early k log places none many is room left =
+    let list : new ++ early ≡ new = ap (λ (l : List Entry). new ++ l) none ∙ append-nil new in
+    let taken : take k (new ++ early) ≡ new = ap (take k) list ∙ take_all k new (omega arith) in
+    let test : nat_lt k (length (new ++ early)) ≡ false = ap (λ (l : List Entry). nat_lt k (length l)) list ∙ not_less k (length new) many in (
+      omega arith,
+      ap (λ (l : Log). record { log = l; early = places; retry = at_once })
+          (is ∙ ap (λ (l : List Entry). record (f.log) { entries = f.log.entries ++ l; spare = log.spare }) (sym taken))
+          ∙ ap (λ (p : List (Option Entry)). record {
+            log = record (f.log) { entries = f.log.entries ++ take k (new ++ early); spare = log.spare };
+            early = p;
+            retry = at_once;
+          })
+          (left ∙ ap (λ (n : ℕ). drop n f.early) (sym many)
+          ∙ ap (λ (t : Bool). if t then [] else drop k f.early) (sym test)),
+      λ enough. omega (arith, room (omega arith)),
+    )
+  where
+    not_less : (a b : ℕ) → a ≡ b → nat_lt a b ≡ false
+    not_less a b h = grind (arith, nat_tests)
+
+pub follows_none : (terms : Terms) (entries early : List Entry) → early ≡ [] → IsLegalRecord terms entries
+    → FollowsFor terms entries early 0
+follows_none terms entries early none legal = record {
+  within = omega arith;
+  legal = subst (IsLegalRecord terms) (sym (append-nil entries)) legal;
+  no_more = λ left. absurd (omega (arith, ap length none));
+}
+
+-- new entries that join what is held, and follow
+extends_by : (f : FollowerView) (start : ℕ) (list new : List Entry) → new ≡ new_entries f.log.entries start list
+    → Joins f.log.entries start list → (new ≡ [] → ⊥) → IsLegalRecord f.log.terms (f.log.entries ++ new)
+    → Extends f.log.terms f.log.entries start list
+extends_by f start list new same joins some legal = (
+  joins,
+  λ none. some (same ∙ none),
+  subst (λ (x : List Entry). IsLegalRecord f.log.terms (f.log.entries ++ x)) same legal,
+)
+
+-- what new entries that join what is held teach is what the list teaches
+pub list_teaches : (f : FollowerView) (start : ℕ) (list new : List Entry) (l : Learned) (after : FollowerView)
+    → new ≡ new_entries f.log.entries start list → Joins f.log.entries start list → (new ≡ [] → ⊥)
+    → LearnsNew f new l after
+    → Teaches f start list l × IsAfter f (packet.Entries f.log.id (rules_of f.log.terms) start list) l after
+list_teaches f start list new learned.OtherMatch after same joins some h = absurd h.3
+list_teaches f start list new learned.Nothing after same joins some h = absurd h.3
+list_teaches f start list new (learned.Conflict n) after same joins some h = absurd h.3
+list_teaches f start list new learned.Gap after same joins some h = absurd h.3
+list_teaches f start list new (learned.Illegal n) after same joins some h =
+    ((joins, subst (λ (x : List Entry). IsFirstIllegal f.log.terms (f.log.entries ++ x) n) same h.0), h.1)
+list_teaches f start list new learned.Memory after same joins some h =
+    appends_all f start list new (early_behind f.early (length new)) h.0 learned.Memory after same refl
+    (extends_by f start list new same joins some h.1) h.2 h.3
+list_teaches f start list new (learned.Grew k) after same joins some h =
+    appends_all f start list new (early_behind f.early (length new)) h.0 (learned.Grew k) after same refl
+    (extends_by f start list new same joins some h.1) h.2 h.3
 
 -- the new entries of a list have numbers
 pub new_fits : (entries : List Entry) (start : ℕ) (list : List Entry) → 1 ≤ start → start ≤ length entries + 1

@@ -4,9 +4,8 @@ use Rattle.std.proofs.Common.{take, drop, refl, sym, ◌∙◌, ap, subst, arith
 use Rattle.std.proofs.lemmas.List.{append-nil, take-append-drop}
 use Rattle.bg_match.specs.Terms.{Terms, rules_of}
 use Rattle.bg_match.specs.declared.entries.Entry.{Entry}
-use Rattle.bg_match.specs.Match.{IsLegalRecord, at_number}
+use Rattle.bg_match.specs.Match.{IsLegalRecord, IsFirstIllegal, at_number}
 use Rattle.bg_match.proofs.Legal.{legal_fronts}
-use Rattle.bg_wire.specs.Saved.SavedText.{IsFirstIllegal}
 use Rattle.bg_wire.specs.Packets.PacketText.{IsOfMatch}
 use Rattle.bg_wire.specs.declared.packets.Packet.{Packet}
 use Rattle.bg_wire.specs.declared.packets.Packet.TheVariants as packet

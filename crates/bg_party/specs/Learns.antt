@@ -2,9 +2,8 @@
 use Rattle.std.specs.Prelude.{◌≡◌, ◌≢◌, ℕ, ◌+◌, ◌-◌, ◌<◌, ◌≤◌, Some, List, [], ◌++◌, length, take, drop, slice_get}
 use Rattle.bg_match.specs.Terms.{Terms, rules_of}
 use Rattle.bg_match.specs.declared.entries.Entry.{Entry}
-use Rattle.bg_match.specs.Match.{IsLegalRecord, at_number}
+use Rattle.bg_match.specs.Match.{IsLegalRecord, IsFirstIllegal, at_number}
 use Rattle.bg_wire.specs.Packets.PacketText.{IsOfMatch}
-use Rattle.bg_wire.specs.Saved.SavedText.{IsFirstIllegal}
 use Rattle.bg_wire.specs.declared.packets.Packet.{Packet}
 use Rattle.bg_wire.specs.declared.packets.Packet.TheVariants as packet
 use Rattle.bg_party.specs.Views.{FollowerView}

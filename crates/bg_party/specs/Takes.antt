@@ -4,16 +4,16 @@ use Rattle.std.specs.Prelude.{slice_get}
 use Rattle.std.specs.Prelude.{if◌then◌else◌}
 use Rattle.bg_match.specs.Terms.{Terms, rules_of}
 use Rattle.bg_match.specs.declared.entries.Entry.{Entry}
-use Rattle.bg_match.specs.Match.{Log, IsLegalRecord, at_number}
+use Rattle.bg_match.specs.Match.{Log, IsLegalRecord, IsFirstIllegal, at_number}
 use Rattle.bg_wire.specs.Runs.{IsRun}
 use Rattle.bg_wire.specs.declared.packets.Packet.{Packet}
 use Rattle.bg_wire.specs.declared.packets.Packet.TheVariants as packet
 use Rattle.bg_party.specs.declared.outcomes.Learned.{Learned}
 use Rattle.bg_party.specs.declared.outcomes.Learned.TheVariants as learned
-use Rattle.bg_party.specs.Learns.{Joins, Learns, coming, new_entries}
+use Rattle.bg_party.specs.Learns.{Joins, Learns, FollowsFor, coming, new_entries}
 use Rattle.bg_party.specs.Retry.{at_once}
 use Rattle.bg_party.specs.Views.{FollowerView, IsEarly}
-use Rattle.bg_party.specs.Window.{KeepsFrom}
+use Rattle.bg_party.specs.Window.{KeepsFrom, early_behind}
 
 -- after a gap the list is kept, as far as there are places for it
 abbrev pub Stores : FollowerView → ℕ → List Entry → FollowerView → Type 0
@@ -59,6 +59,16 @@ Appends old new early count (learned.Grew k) after =
     (k ≡ length new + count) × (after ≡ grown_with old (new ++ early) k after.log.spare)
     × TakesRoom old.log.spare k after.log.spare
 Appends old new early count _ after = ⊥
+
+-- what is learned from new entries that join what is held, and what the follower has then: the first that does not
+-- follow is named, and where they follow they are appended with the early ones behind them, so many as follow
+abbrev pub LearnsNew : FollowerView → List Entry → Learned → FollowerView → Type 0
+LearnsNew old new (learned.Illegal n) after =
+    IsFirstIllegal old.log.terms (old.log.entries ++ new) n × (after ≡ old)
+LearnsNew old new l after =
+    (count : ℕ) × IsLegalRecord old.log.terms (old.log.entries ++ new)
+    × FollowsFor old.log.terms (old.log.entries ++ new) (early_behind old.early (length new)) count
+    × Appends old new (early_behind old.early (length new)) count l after
 
 -- entries of this match that join what is held, and follow where they are new
 abbrev pub Continues : ℕ → Terms → List Entry → Packet → Type 0

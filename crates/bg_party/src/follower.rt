@@ -1,5 +1,5 @@
 //! What seats and watchers have in common: a record that grows by what the referee tells.
-ghost use Rattle.std.specs.Prelude.{◌≡◌, ◌≤◌, ◌+◌, ◌↔◌, ◌++◌, length, IsOk, IfOk};
+ghost use Rattle.std.specs.Prelude.{◌≡◌, ◌≤◌, ◌+◌, ◌↔◌, ◌++◌, [], length, IsOk, IfOk};
 ghost use Rattle.bg_party.specs.Retry.{at_once, is_due};
 ghost use Rattle.bg_party.specs.Window.{early_behind, window_size};
 ghost use Rattle.bg_match.specs.Limits.{IsMatchLength, most_entries};
@@ -10,9 +10,9 @@ ghost use Rattle.bg_wire.specs.Packets.PacketText.{IsPacket};
 
 use crate::Learned;
 use crate::retry::Retry;
-use crate::told::{append, count_that_follow, first_conflict, follow, not_held};
+use crate::told::{append, count_that_follow, first_conflict, not_held};
 use crate::window::Window;
-use bg_match::{Entry, LengthFault, Number, Record, Rules};
+use bg_match::{Entry, ExtendFault, LengthFault, Number, Record, Rules};
 use bg_wire::Packet;
 use std::alloc::Global;
 use std::marker::Model;
@@ -40,7 +40,7 @@ impl Model for Follower {
 impl Follower {
     ghost use Rattle.bg_party.specs.Views.{IsFollower, fresh_follower, starting_follower};
     ghost use Rattle.bg_party.specs.Learns.{Learns, Teaches, FollowsFor};
-    ghost use Rattle.bg_party.specs.Takes.{IsAfter, Appends, FollowerTakes};
+    ghost use Rattle.bg_party.specs.Takes.{IsAfter, Appends, LearnsNew, FollowerTakes};
     ghost use Rattle.bg_party.specs.Claims.{want_of, ticked};
 
     /// Of a match with no entry.
@@ -152,7 +152,38 @@ impl Follower {
         if new.is_empty() {
             return Learned::Nothing;
         }
-        let standing = match follow(&self.log, new) {
+        if self.window.is_empty_behind(new.len()) {
+            self.learn_alone(new)
+        } else {
+            self.learn_with_early(new)
+        }
+    }
+
+    /// Learns from new entries, right behind which no early one is kept.
+    fn learn_alone(&mut self, new: &[Entry]) -> Learned
+        requires few { length new.now ≤ most_in_packet }
+        requires alone { early_behind self.old.early (length new.now) ≡ [] }
+        ensures learns { LearnsNew self.old new.now result self.new }
+        ensures follower { IsFollower self.new }
+    {
+        match self.log.extend(new) {
+            Ok(()) => {
+                self.window.pass(new.len(), false);
+                self.retry = Retry::at_once();
+                Learned::Grew(new.len() as u8)
+            }
+            Err(ExtendFault::Illegal(number)) => Learned::Illegal(number),
+            Err(ExtendFault::Memory) => Learned::Memory,
+        }
+    }
+
+    /// Learns from new entries, and from the early ones that are kept right behind them.
+    fn learn_with_early(&mut self, new: &[Entry]) -> Learned
+        requires few { length new.now ≤ most_in_packet }
+        ensures learns { LearnsNew self.old new.now result self.new }
+        ensures follower { IsFollower self.new }
+    {
+        let standing = match self.log.after_all(new) {
             Ok(standing) => standing,
             Err(number) => return Learned::Illegal(number),
         };

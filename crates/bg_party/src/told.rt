@@ -1,8 +1,7 @@
 //! Entries that a packet tells, beside a record: whether they agree with it, and whether they follow.
-ghost use Rattle.std.specs.Prelude.{◌≡◌, ◌≤◌, ◌<◌, ◌+◌, ◌++◌, length, MatchOption, MatchResult};
+ghost use Rattle.std.specs.Prelude.{◌≡◌, ◌≤◌, ◌<◌, ◌+◌, ◌++◌, length, MatchOption};
 ghost use Rattle.bg_match.specs.Limits.{most_entries};
 ghost use Rattle.bg_match.specs.Match.{IsLegalRecord, StandsAt};
-ghost use Rattle.bg_wire.specs.Saved.SavedText.{IsFirstIllegal};
 ghost use Rattle.bg_party.specs.Learns.{Agrees, IsConflict, FollowsFor, new_entries};
 
 use bg_match::{Entry, Number, Record, Standing};
@@ -37,23 +36,6 @@ pub(crate) fn not_held<'a>(log: &Record, start: Number, list: &'a [Entry]) -> Op
     Some(&list[held.min(list.len())..])
 }
 
-/// Where new entries lead, or the number of the first that does not follow those before it.
-pub(crate) fn follow(log: &Record, new: &[Entry]) -> Result<Standing, Number>
-    requires few { length log.now.entries + length new.now ≤ most_entries }
-    ensures { MatchResult result
-        (λ s. StandsAt log.now.terms (log.now.entries ++ new.now) s)
-        (λ n. IsFirstIllegal log.now.terms (log.now.entries ++ new.now) n) }
-{
-    let mut standing = log.standing();
-    for (index, entry) in new.iter().enumerate() {
-        match standing.next(entry) {
-            Ok(after) => standing = after,
-            Err(_) => return Err(log.len() + index as Number + 1),
-        }
-    }
-    Ok(standing)
-}
-
 /// How many entries of the list follow behind those of the record and the new ones, which lead to this standing.
 pub(crate) fn count_that_follow(
     log: &Record,
@@ -66,9 +48,8 @@ pub(crate) fn count_that_follow(
     ensures { FollowsFor log.now.terms (log.now.entries ++ new.now) list.now result }
 {
     for (index, entry) in list.iter().enumerate() {
-        match standing.next(entry) {
-            Ok(after) => standing = after,
-            Err(_) => return index,
+        if standing.apply(entry).is_err() {
+            return index;
         }
     }
     list.len()
@@ -81,7 +62,5 @@ pub(crate) fn append(log: &mut Record, new: &[Entry])
     ensures same { log.new ≡ record log.old { entries = log.old.entries ++ new.now; spare = log.new.spare } }
     ensures room { log.new.spare + length new.now ≡ log.old.spare }
 {
-    for entry in new {
-        log.push(entry.copy()).unwrap();
-    }
+    log.extend(new).unwrap();
 }

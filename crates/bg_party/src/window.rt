@@ -1,5 +1,5 @@
 //! Early entries, which are kept until those before them come.
-ghost use Rattle.std.specs.Prelude.{◌≡◌, ◌≢◌, ◌+◌, ◌<◌, ◌≤◌, ◌^◌, ℕ, Some, [], length, drop, max, if◌then◌else◌};
+ghost use Rattle.std.specs.Prelude.{◌≡◌, ◌≢◌, ◌+◌, ◌<◌, ◌≤◌, ◌↔◌, ◌^◌, ℕ, Some, [], length, drop, max, IsTrue, if◌then◌else◌};
 ghost use Rattle.bg_party.specs.Window.{at_place, early_behind, window_size, KeepsFrom};
 
 use arrayvec::ArrayVec;
@@ -84,6 +84,13 @@ impl Window {
             entries.push(entry.copy());
         }
         entries
+    }
+
+    /// Whether no entry is kept right behind the first places, so many.
+    pub(crate) fn is_empty_behind(&self, count: usize) -> bool
+        ensures { IsTrue result ↔ (early_behind self.now count ≡ []) }
+    {
+        !matches!(self.places.as_slice().get(count), Some(Some(_)))
     }
 
     /// The first places leave, so many; where the entry behind them does not follow, all that is kept is dropped.
