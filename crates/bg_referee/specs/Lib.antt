@@ -4,5 +4,6 @@ pub mod Dues
 pub mod Owning
 pub mod Claims
 pub mod Takes
+pub mod Rulings
 pub mod Ticks
 pub mod FaultWords

@@ -22,6 +22,7 @@ mod answers;
 mod fault_words;
 mod outcomes;
 mod referee;
+mod rulings;
 mod saves;
 mod sessions;
 #[cfg(test)]

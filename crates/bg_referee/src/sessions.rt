@@ -1,11 +1,11 @@
 //! What the parties are known to have, so that the referee can send them what they lack without having been asked.
-ghost use Rattle.std.specs.Prelude.{◌≡◌, ◌≤◌, ◌<◌, ◌+◌, ◌++◌, ◌∷◌, [], All, take};
-ghost use Rattle.bg_wire.specs.Packets.PacketText.{IsPacket};
-ghost use Rattle.bg_referee.specs.Sessions.{IsSessions, no_sessions, tell, hear, hear_sender, hear_answer, behind};
+ghost use Rattle.std.specs.Prelude.{◌≡◌, ◌≤◌, ◌<◌, ◌+◌, ◌++◌, ◌∷◌, [], All, take, min};
+ghost use Rattle.bg_wire.specs.Entries.Codes.{most_in_packet};
+ghost use Rattle.bg_referee.specs.Sessions.{IsSessions, no_sessions, tell, hear_sender, behind};
 ghost use Rattle.bg_referee.specs.Sessions.{pushed, party_after, after_pushes, last_party, most_pushes};
-ghost use Rattle.bg_referee.specs.Takes.{AnswerFits};
+ghost use Rattle.bg_referee.specs.Rulings.{IsShowable, hear_ruling};
 
-use crate::TakeOutcome;
+use crate::rulings::Ruling;
 use arrayvec::ArrayVec;
 use bg_match::Number;
 use bg_wire::{LAST_WATCHER, MOST_ENTRIES_IN_PACKET, Packet, SEAT_OF_X};
@@ -55,14 +55,14 @@ impl Sessions {
         }
     }
 
-    /// Learns from the answer to a packet, while so many entries are saved.
-    pub(crate) fn hear(&mut self, saved: Number, packet: &Packet, outcome: &TakeOutcome)
-        requires { AnswerFits outcome.now }
-        ensures { self.new ≡ hear self.old saved packet.now outcome.now }
+    /// Learns from the ruling on a packet, while so many entries are saved.
+    pub(crate) fn hear(&mut self, saved: Number, packet: &Packet, ruling: Ruling)
+        requires { IsShowable saved ruling }
+        ensures { self.new ≡ hear_ruling self.old saved packet.now ruling }
     {
-        match outcome {
-            TakeOutcome::Answer(party, answer) => self.hear_answer(*party, answer),
-            TakeOutcome::Nothing | TakeOutcome::Accepted(_) => self.hear_sender(saved, packet),
+        match ruling {
+            Ruling::Shows(party, start) => self.tell_next(party, start - 1, saved),
+            Ruling::Nothing | Ruling::Accepted(_) => self.hear_sender(saved, packet),
             _ => {}
         }
     }
@@ -77,14 +77,13 @@ impl Sessions {
         }
     }
 
-    /// A party that is sent entries has them.
-    fn hear_answer(&mut self, party: u8, answer: &Packet)
-        requires { IsPacket answer.now }
-        ensures { self.new ≡ hear_answer self.old party answer.now }
+    /// A party is sent the saved entries behind this number, eight at most, and has them.
+    fn tell_next(&mut self, party: u8, number: Number, saved: Number)
+        requires { number < saved }
+        ensures { self.new ≡ tell self.old party (min saved (number + most_in_packet)) }
     {
-        if let Packet::Entries { start, list, .. } = answer {
-            self.tell(party, *start + (list.entries.len() as Number - 1));
-        }
+        let count = (saved - number).min(Number::from(MOST_ENTRIES_IN_PACKET));
+        self.tell(party, number + count);
     }
 
     /// From now on a party is known to have the entries up to this number.
@@ -136,8 +135,7 @@ impl Sessions {
         ensures { self.new ≡ after_pushes self.old saved some.now }
     {
         for (party, number) in some {
-            let count = (saved - *number).min(Number::from(MOST_ENTRIES_IN_PACKET));
-            self.tell(*party, *number + count);
+            self.tell_next(*party, *number, saved);
             self.cursor = party_after(*party);
         }
     }

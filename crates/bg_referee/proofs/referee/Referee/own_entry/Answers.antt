@@ -1,4 +1,4 @@
-use Rattle.std.proofs.Common.{refl, sym, ◌∙◌, ap, inr}
+use Rattle.std.proofs.Common.{refl, ◌∙◌, ap, inr}
 use Rattle.bg_match.proofs.Legal.{one_standing}
 use Rattle.bg_match.specs.State.{State}
 use Rattle.bg_referee.proofs.referee.Referee.own_entry.Goals as goal
