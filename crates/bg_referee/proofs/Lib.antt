@@ -9,3 +9,4 @@ pub mod DueEntries
 pub mod DueRefusals
 pub mod Rounds
 pub mod Hearing
+pub mod Taking

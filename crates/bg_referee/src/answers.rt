@@ -14,8 +14,7 @@ use bg_wire::{EntryList, MOST_ENTRIES_IN_PACKET, Packet};
 
 impl Referee {
     ghost use Rattle.bg_referee.specs.Referee.{IsShown};
-    ghost use Rattle.bg_referee.specs.Takes.{RefereeTakes, AnswerFits, TellsSaved};
-    ghost use Rattle.bg_referee.specs.Rulings.{ComesTo, IsShowable};
+    ghost use Rattle.bg_referee.specs.Takes.{RefereeTakes, TellsSaved};
 
     /// Takes a packet (docs/PROTOCOL.md, "What the referee answers"). The word gives the dice where a roll is
     /// claimed. Only `Accepted` changes the record. The packet is one that has a text, as each that `decode` gives.
@@ -25,15 +24,6 @@ impl Referee {
     {
         let ruling = self.rule(packet, word);
         self.sessions.hear(self.saved, packet, ruling);
-        self.outcome(ruling)
-    }
-
-    /// The outcome that a ruling comes to.
-    fn outcome(&self, ruling: Ruling) -> TakeOutcome
-        requires { IsShowable self.now.saved ruling }
-        ensures comes { ComesTo self.now ruling result }
-        ensures fits { AnswerFits result }
-    {
         match ruling {
             Ruling::OtherMatch => TakeOutcome::OtherMatch,
             Ruling::Nothing => TakeOutcome::Nothing,

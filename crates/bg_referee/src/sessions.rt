@@ -1,5 +1,5 @@
 //! What the parties are known to have, so that the referee can send them what they lack without having been asked.
-ghost use Rattle.std.specs.Prelude.{◌≡◌, ◌≤◌, ◌<◌, ◌+◌, ◌++◌, ◌∷◌, [], All, take, min};
+ghost use Rattle.std.specs.Prelude.{◌≡◌, ◌<◌, ◌+◌, ◌++◌, ◌∷◌, [], All, take, min};
 ghost use Rattle.bg_wire.specs.Entries.Codes.{most_in_packet};
 ghost use Rattle.bg_referee.specs.Sessions.{IsSessions, no_sessions, tell, hear_sender, behind};
 ghost use Rattle.bg_referee.specs.Sessions.{pushed, party_after, after_pushes, last_party, most_pushes};
