@@ -13,6 +13,9 @@ pub(crate) struct Made {
     pub(crate) seat: Option<Player>,
 }
 
+// A record holds up to a million of these.
+const _: () = prove!(size_of::<Made>() == 12);
+
 /// The entry of this number, from 1.
 pub(crate) fn made_at(made: &[Made], number: Number) -> Option<&Made>
     ensures { option_copied result ≡ at_number made.now number }
