@@ -25,8 +25,9 @@ fn check_same(rt: &impl Abort, record: &Record, other: &Record) {
 
 #[test]
 fn lists_appended(rt: HostRuntime) -> Result<(), Fail> {
-    let list = entries()?;
-    let pushed = record(rt.alloc(), 5, &list)?;
+    let entries = entries()?;
+    let list = entries.as_slice();
+    let pushed = record(rt.alloc(), 5, list)?;
     for held in 0..=4 {
         for room in [0, 4] {
             let mut record = record(rt.alloc(), 5, &list[..held])?;
@@ -42,9 +43,10 @@ fn lists_appended(rt: HostRuntime) -> Result<(), Fail> {
 /// A refused list leaves the record as it was, so that another one is appended as if there had been none.
 #[test]
 fn refused_lists(rt: HostRuntime) -> Result<(), Fail> {
-    let list = entries()?;
+    let entries = entries()?;
+    let list = entries.as_slice();
     let opening = record(rt.alloc(), 5, &list[..1])?;
-    let pushed = record(rt.alloc(), 5, &list)?;
+    let pushed = record(rt.alloc(), 5, list)?;
     let refused = [
         list[1].copy(),
         Entry::Resigned(Level::Normal),
