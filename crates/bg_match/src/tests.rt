@@ -22,7 +22,7 @@ fn dice(first: Die, second: Die) -> Dice {
 fn turn(steps: &[(u8, u8)]) -> Result<Turn, Fail> {
     let mut turn = Turn::new();
     for &(from, to) in steps {
-        if turn.is_full() {
+        if turn.steps().len() >= 4 {
             return Err(Fail::from("long"));
         }
         turn.push(Step::new(from, to).ok_or("step")?);

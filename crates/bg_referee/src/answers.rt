@@ -38,6 +38,7 @@ impl Referee {
     }
 
     /// The packet that tells the saved entries from a number on.
+    #[inline(never)]
     pub(crate) fn packet_from(&self, start: Number) -> Packet
         requires first { 1 ≤ start }
         requires last { start ≤ self.now.saved }

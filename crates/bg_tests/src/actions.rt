@@ -18,8 +18,10 @@ const TURNS: [[(u8, u8); 2]; 8] = [
 fn turn_of(steps: &[(u8, u8)]) -> Turn {
     let mut turn = Turn::new();
     for &(from, to) in steps {
-        if let (Some(step), false) = (Step::new(from, to), turn.is_full()) {
-            turn.push(step);
+        if let Some(step) = Step::new(from, to) {
+            if turn.steps().len() < 4 {
+                turn.push(step);
+            }
         }
     }
     turn

@@ -22,7 +22,7 @@ fn turn(rt: &impl Abort, steps: &[(u8, u8)]) -> Turn {
     let mut turn = Turn::new();
     for &(from, to) in steps {
         let step = Step::new(from, to).expect(rt, "a step");
-        assert!(rt; !turn.is_full());
+        assert!(rt; turn.steps().len() < 4);
         turn.push(step);
     }
     turn

@@ -28,7 +28,7 @@ pub(crate) fn turn(rt: &impl Abort, pairs: &[(u8, u8)]) -> Entry {
     let mut turn = Turn::new();
     for (from, to) in pairs {
         let step = Step::new(*from, *to).expect(rt, "a step");
-        assert!(rt; !turn.is_full());
+        assert!(rt; turn.steps().len() < 4);
         turn.push(step);
     }
     Entry::Moved(turn)

@@ -140,8 +140,10 @@ pub(crate) fn events_of(alloc: Global, rows: &[Row]) -> Result<Vec<Event>, Alloc
 }
 
 fn push_step(turn: &mut Turn, step: (u8, u8)) {
-    if let (Some(step), false) = (Step::new(step.0, step.1), turn.is_full()) {
-        turn.push(step);
+    if let Some(step) = Step::new(step.0, step.1) {
+        if turn.steps().len() < 4 {
+            turn.push(step);
+        }
     }
 }
 
