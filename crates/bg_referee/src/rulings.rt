@@ -30,7 +30,8 @@ pub(crate) enum Ruling {
 }
 
 impl Referee {
-    ghost use Rattle.bg_referee.specs.Rulings.{RulesOn, RulesOnClaim, Rules, TellsTurn, Tries, IsShowable, IsUnchanged};
+    ghost use Rattle.bg_referee.specs.Rulings.{RulesOn, RulesOnClaim, Rules, TellsTurn, Tries};
+    ghost use Rattle.bg_referee.specs.Rulings.{IsShowable, IsUnchanged};
     ghost use Rattle.bg_referee.specs.Referee.{IsReferee};
     ghost use Rattle.bg_referee.specs.Takes.{reply_to_want};
     ghost use Rattle.bg_turns.specs.Dice.{dice_of};
