@@ -28,9 +28,11 @@ fn steps(reader: &mut Reader<'_>, count: u8) -> Result<Turn, ReadFault>
     ensures { Reads result reader.new (many_at step_at count reader.old) }
 {
     let mut turn = Turn::new();
+    let mut rest = reader.copy();
     for _ in 0..count {
-        turn.push(step(reader)?);
+        turn.push(step(&mut rest)?);
     }
+    *reader = rest;
     Ok(turn)
 }
 

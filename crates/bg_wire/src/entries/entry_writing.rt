@@ -1,8 +1,10 @@
 //! Entries and actions as bytes (docs/FORMATS.md, "Entries and actions in bytes").
 ghost use Rattle.std.specs.Prelude.{◌≡◌, ◌+◌, ◌≤◌, ◌∷◌, ◌++◌, length};
+ghost use Rattle.std.specs.List.{flat_map};
 ghost use Rattle.arrayvec.specs.ArrayVec.{array_vec_len};
 ghost use Rattle.bg_match.specs.Entry.{IsEntry, IsAction};
-ghost use Rattle.bg_wire.specs.Entries.EntryText.{turn_bytes, level_code, dice_bytes, action_bytes, entry_bytes};
+ghost use Rattle.bg_wire.specs.Entries.Codes.{moved_code};
+ghost use Rattle.bg_wire.specs.Entries.EntryText.{step_bytes, turn_bytes, level_code, dice_bytes, action_bytes, entry_bytes};
 
 use crate::MOST_DATAGRAM_BYTES;
 use crate::entries::codes::{
@@ -10,25 +12,45 @@ use crate::entries::codes::{
     REJECTED, RESIGNED, ROLLED, TAKEN,
 };
 use arrayvec::ArrayVec;
-use bg_board::Die;
+use bg_board::{Die, Step};
 use bg_match::{Action, Entry, Level};
 use bg_turns::Turn;
 
 /// Room for the text of any packet.
 pub(crate) type Bytes = ArrayVec<u8, MOST_DATAGRAM_BYTES>;
 
-fn put_turn<const N: usize>(out: &mut ArrayVec<u8, N>, turn: &Turn)
+/// A move: its code, how many steps it has, and each step. The text of four steps is put there, and cut behind the
+/// last step that there is.
+fn put_move<const N: usize>(out: &mut ArrayVec<u8, N>, turn: &Turn)
     requires few { length turn.now ≤ MOST_STEPS }
-    requires room { array_vec_len out.old + 9 ≤ N }
-    ensures text { out.new.items ≡ out.old.items ++ turn_bytes turn.now }
-    ensures len { array_vec_len out.new ≤ array_vec_len out.old + 9 }
+    requires room { array_vec_len out.old + 10 ≤ N }
+    ensures text { out.new.items ≡ out.old.items ++ moved_code ∷ turn_bytes turn.now }
+    ensures len { array_vec_len out.new ≤ array_vec_len out.old + 10 }
 {
-    let steps = turn.steps();
-    out.push(steps.len() as u8);
-    for step in steps {
-        out.push(step.from());
-        out.push(step.to());
-    }
+    let end = out.len() + 2 + 2 * turn.steps().len();
+    put_four(out, turn.steps().len() as u8, turn.padded());
+    out.truncate(end);
+}
+
+/// The code of a move, a count of steps, and four steps.
+fn put_four<const N: usize>(out: &mut ArrayVec<u8, N>, count: u8, steps: [Step; 4])
+    requires { array_vec_len out.old + 10 ≤ N }
+    ensures { out.new.items ≡ out.old.items ++ moved_code ∷ count ∷ flat_map step_bytes steps }
+{
+    let [first, second, third, fourth] = steps;
+    out.try_extend_from_slice(&[
+        MOVED,
+        count,
+        first.from(),
+        first.to(),
+        second.from(),
+        second.to(),
+        third.from(),
+        third.to(),
+        fourth.from(),
+        fourth.to(),
+    ])
+    .unwrap()
 }
 
 fn level_code(level: Level) -> u8
@@ -47,9 +69,8 @@ fn put_dice<const N: usize>(out: &mut ArrayVec<u8, N>, code: u8, first: Die, sec
     ensures text { out.new.items ≡ out.old.items ++ code ∷ dice_bytes first second }
     ensures len { array_vec_len out.new ≤ array_vec_len out.old + 3 }
 {
-    out.push(code);
-    out.push(first.pips());
-    out.push(second.pips());
+    out.try_extend_from_slice(&[code, first.pips(), second.pips()])
+        .unwrap()
 }
 
 /// The text of an action.
@@ -64,14 +85,10 @@ pub(crate) fn put_action<const N: usize>(out: &mut ArrayVec<u8, N>, action: &Act
         Action::Double => out.push(DOUBLED),
         Action::Take => out.push(TAKEN),
         Action::Drop => out.push(DROPPED),
-        Action::Move(turn) => {
-            out.push(MOVED);
-            put_turn(out, turn);
-        }
-        Action::Resign(level) => {
-            out.push(RESIGNED);
-            out.push(level_code(*level));
-        }
+        Action::Move(turn) => put_move(out, turn),
+        Action::Resign(level) => out
+            .try_extend_from_slice(&[RESIGNED, level_code(*level)])
+            .unwrap(),
         Action::Accept => out.push(ACCEPTED),
         Action::Reject => out.push(REJECTED),
     }
@@ -90,14 +107,10 @@ pub(crate) fn put_entry<const N: usize>(out: &mut ArrayVec<u8, N>, entry: &Entry
         Entry::Doubled => out.push(DOUBLED),
         Entry::Taken => out.push(TAKEN),
         Entry::Dropped => out.push(DROPPED),
-        Entry::Moved(turn) => {
-            out.push(MOVED);
-            put_turn(out, turn);
-        }
-        Entry::Resigned(level) => {
-            out.push(RESIGNED);
-            out.push(level_code(*level));
-        }
+        Entry::Moved(turn) => put_move(out, turn),
+        Entry::Resigned(level) => out
+            .try_extend_from_slice(&[RESIGNED, level_code(*level)])
+            .unwrap(),
         Entry::Accepted => out.push(ACCEPTED),
         Entry::Rejected => out.push(REJECTED),
         Entry::Passed => out.push(PASSED),
