@@ -2,7 +2,7 @@ pub mod Many
 pub mod Laws
 pub mod Fields
 pub mod Lengths
-pub mod PaddedTurns
+pub mod Written
 pub mod EntryLaws
 pub mod ToldEntries
 pub mod RulesLaws

@@ -1,46 +1,33 @@
 //! Entries and actions as bytes (docs/FORMATS.md, "Entries and actions in bytes").
 ghost use Rattle.std.specs.Prelude.{◌≡◌, ◌+◌, ◌≤◌, ◌∷◌, ◌++◌, length};
-ghost use Rattle.std.specs.List.{flat_map};
-ghost use Rattle.arrayvec.specs.ArrayVec.{array_vec_len};
 ghost use Rattle.bg_match.specs.Entry.{IsEntry, IsAction};
 ghost use Rattle.bg_wire.specs.Entries.Codes.{moved_code};
-ghost use Rattle.bg_wire.specs.Entries.EntryText.{step_bytes, turn_bytes, level_code, dice_bytes, action_bytes, entry_bytes};
+ghost use Rattle.bg_wire.specs.Entries.EntryText.{turn_bytes, level_code, dice_bytes, action_bytes, entry_bytes};
 
-use crate::MOST_DATAGRAM_BYTES;
 use crate::entries::codes::{
     ACCEPTED, BACKGAMMON, DOUBLED, DROPPED, GAMMON, MOST_STEPS, MOVED, NORMAL, OPENING, PASSED,
     REJECTED, RESIGNED, ROLLED, TAKEN,
 };
-use arrayvec::ArrayVec;
-use bg_board::{Die, Step};
+use crate::entries::writer::Writer;
+use bg_board::Die;
 use bg_match::{Action, Entry, Level};
 use bg_turns::Turn;
 
-/// Room for the text of any packet.
-pub(crate) type Bytes = ArrayVec<u8, MOST_DATAGRAM_BYTES>;
+/// The most bytes of an entry's or an action's text, those of a move of four steps.
+pub(crate) const LONGEST_ENTRY: usize = 10;
 
-/// A move: its code, how many steps it has, and each step. The text of four steps is put there, and cut behind the
-/// last step that there is.
-fn put_move<const N: usize>(out: &mut ArrayVec<u8, N>, turn: &Turn)
+/// The code of a move, how many steps it has, and each step.
+fn put_move<const ROOM: usize>(out: &mut Writer<ROOM>, turn: &Turn)
     requires few { length turn.now ≤ MOST_STEPS }
-    requires room { array_vec_len out.old + 10 ≤ N }
-    ensures text { out.new.items ≡ out.old.items ++ moved_code ∷ turn_bytes turn.now }
-    ensures len { array_vec_len out.new ≤ array_vec_len out.old + 10 }
+    requires room { length out.old + 10 ≤ ROOM }
+    ensures text { out.new ≡ out.old ++ moved_code ∷ turn_bytes turn.now }
+    ensures len { length out.new ≤ length out.old + 10 }
 {
-    let end = out.len() + 2 + 2 * turn.steps().len();
-    put_four(out, turn.steps().len() as u8, turn.padded());
-    out.truncate(end);
-}
-
-/// The code of a move, a count of steps, and four steps.
-fn put_four<const N: usize>(out: &mut ArrayVec<u8, N>, count: u8, steps: [Step; 4])
-    requires { array_vec_len out.old + 10 ≤ N }
-    ensures { out.new.items ≡ out.old.items ++ moved_code ∷ count ∷ flat_map step_bytes steps }
-{
-    let [first, second, third, fourth] = steps;
-    out.try_extend_from_slice(&[
+    let count = turn.steps().len();
+    let [first, second, third, fourth] = turn.padded();
+    let text = [
         MOVED,
-        count,
+        count as u8,
         first.from(),
         first.to(),
         second.from(),
@@ -49,8 +36,8 @@ fn put_four<const N: usize>(out: &mut ArrayVec<u8, N>, count: u8, steps: [Step; 
         third.to(),
         fourth.from(),
         fourth.to(),
-    ])
-    .unwrap()
+    ];
+    out.put_first(&text, 2 + 2 * count);
 }
 
 fn level_code(level: Level) -> u8
@@ -64,55 +51,50 @@ fn level_code(level: Level) -> u8
 }
 
 /// A code, and two dice.
-fn put_dice<const N: usize>(out: &mut ArrayVec<u8, N>, code: u8, first: Die, second: Die)
-    requires { array_vec_len out.old + 3 ≤ N }
-    ensures text { out.new.items ≡ out.old.items ++ code ∷ dice_bytes first second }
-    ensures len { array_vec_len out.new ≤ array_vec_len out.old + 3 }
+fn put_dice<const ROOM: usize>(out: &mut Writer<ROOM>, code: u8, first: Die, second: Die)
+    requires { length out.old + 3 ≤ ROOM }
+    ensures text { out.new ≡ out.old ++ code ∷ dice_bytes first second }
+    ensures len { length out.new ≤ length out.old + 3 }
 {
-    out.try_extend_from_slice(&[code, first.pips(), second.pips()])
-        .unwrap()
+    out.put(&[code, first.pips(), second.pips()]);
 }
 
 /// The text of an action.
-pub(crate) fn put_action<const N: usize>(out: &mut ArrayVec<u8, N>, action: &Action)
+pub(crate) fn put_action<const ROOM: usize>(out: &mut Writer<ROOM>, action: &Action)
     requires in_range { IsAction action.now }
-    requires room { array_vec_len out.old + 10 ≤ N }
-    ensures text { out.new.items ≡ out.old.items ++ action_bytes action.now }
-    ensures len { array_vec_len out.new ≤ array_vec_len out.old + 10 }
+    requires room { length out.old + 10 ≤ ROOM }
+    ensures text { out.new ≡ out.old ++ action_bytes action.now }
+    ensures len { length out.new ≤ length out.old + 10 }
 {
     match action {
-        Action::Roll => out.push(ROLLED),
-        Action::Double => out.push(DOUBLED),
-        Action::Take => out.push(TAKEN),
-        Action::Drop => out.push(DROPPED),
+        Action::Roll => out.put(&[ROLLED]),
+        Action::Double => out.put(&[DOUBLED]),
+        Action::Take => out.put(&[TAKEN]),
+        Action::Drop => out.put(&[DROPPED]),
         Action::Move(turn) => put_move(out, turn),
-        Action::Resign(level) => out
-            .try_extend_from_slice(&[RESIGNED, level_code(*level)])
-            .unwrap(),
-        Action::Accept => out.push(ACCEPTED),
-        Action::Reject => out.push(REJECTED),
+        Action::Resign(level) => out.put(&[RESIGNED, level_code(*level)]),
+        Action::Accept => out.put(&[ACCEPTED]),
+        Action::Reject => out.put(&[REJECTED]),
     }
 }
 
 /// The text of an entry.
-pub(crate) fn put_entry<const N: usize>(out: &mut ArrayVec<u8, N>, entry: &Entry)
+pub(crate) fn put_entry<const ROOM: usize>(out: &mut Writer<ROOM>, entry: &Entry)
     requires in_range { IsEntry entry.now }
-    requires room { array_vec_len out.old + 10 ≤ N }
-    ensures text { out.new.items ≡ out.old.items ++ entry_bytes entry.now }
-    ensures len { array_vec_len out.new ≤ array_vec_len out.old + 10 }
+    requires room { length out.old + 10 ≤ ROOM }
+    ensures text { out.new ≡ out.old ++ entry_bytes entry.now }
+    ensures len { length out.new ≤ length out.old + 10 }
 {
     match entry {
         Entry::Opening(x, o) => put_dice(out, OPENING, *x, *o),
         Entry::Rolled(dice) => put_dice(out, ROLLED, dice.first, dice.second),
-        Entry::Doubled => out.push(DOUBLED),
-        Entry::Taken => out.push(TAKEN),
-        Entry::Dropped => out.push(DROPPED),
+        Entry::Doubled => out.put(&[DOUBLED]),
+        Entry::Taken => out.put(&[TAKEN]),
+        Entry::Dropped => out.put(&[DROPPED]),
         Entry::Moved(turn) => put_move(out, turn),
-        Entry::Resigned(level) => out
-            .try_extend_from_slice(&[RESIGNED, level_code(*level)])
-            .unwrap(),
-        Entry::Accepted => out.push(ACCEPTED),
-        Entry::Rejected => out.push(REJECTED),
-        Entry::Passed => out.push(PASSED),
+        Entry::Resigned(level) => out.put(&[RESIGNED, level_code(*level)]),
+        Entry::Accepted => out.put(&[ACCEPTED]),
+        Entry::Rejected => out.put(&[REJECTED]),
+        Entry::Passed => out.put(&[PASSED]),
     }
 }

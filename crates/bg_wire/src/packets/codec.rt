@@ -9,6 +9,7 @@ ghost use Rattle.bg_wire.specs.Faults.{IsWireFault};
 ghost use Rattle.bg_wire.specs.Packets.PacketReading.{packet_of};
 
 use crate::entries::reader::Reader;
+use crate::entries::writer::Writer;
 use crate::packets::{layout, writing};
 use crate::{MOST_DATAGRAM_BYTES, Packet, WireFault};
 use arrayvec::ArrayVec;
@@ -19,7 +20,11 @@ pub fn encode(packet: &Packet) -> ArrayVec<u8, MOST_DATAGRAM_BYTES>
     ensures text { IsText packet.now result.items }
     ensures longest { array_vec_len result ≤ longest_packet }
 {
-    writing::text(packet)
+    let mut text = Writer::new();
+    writing::put_packet(&mut text, packet);
+    let mut bytes = ArrayVec::new();
+    bytes.try_extend_from_slice(text.as_slice()).unwrap();
+    bytes
 }
 
 /// The packet whose text is all of the bytes (docs/FORMATS.md, "Packets").

@@ -1,54 +1,56 @@
 //! Packets as bytes (docs/FORMATS.md, "Packets").
-ghost use Rattle.std.specs.Prelude.{◌≡◌, ◌≤◌, ◌+◌, ◌++◌, length};
+ghost use Rattle.std.specs.Prelude.{◌≡◌, ◌≤◌, ◌+◌, ◌++◌, [], length};
 ghost use Rattle.std.specs.Int.{w32, to_be_bytes};
 ghost use Rattle.std.specs.List.{AllByRecursion};
-ghost use Rattle.arrayvec.specs.ArrayVec.{array_vec_len};
 ghost use Rattle.bg_match.specs.Entry.{IsEntry};
 ghost use Rattle.bg_wire.specs.Packets.PacketText.{IsPacket, header_text, list_text, packet_text};
 
-use crate::entries::entry_writing::{Bytes, put_action, put_entry};
+use crate::entries::entry_writing::{put_action, put_entry};
 use crate::entries::rules_bytes::rules_code;
+use crate::entries::writer::Writer;
 use crate::packets::layout::{CLAIM, ENTRIES, MAGIC, VERSION, WANT};
 use crate::{EntryList, MOST_DATAGRAM_BYTES, MOST_ENTRIES_IN_PACKET, Packet};
-use arrayvec::ArrayVec;
 use bg_match::{Number, Rules};
 
-fn put_number(out: &mut Bytes, number: Number)
-    requires { array_vec_len out.old + 4 ≤ MOST_DATAGRAM_BYTES }
-    ensures { out.new.items ≡ out.old.items ++ to_be_bytes w32 number }
+/// Room for the text of any packet.
+pub(crate) type PacketWriter = Writer<MOST_DATAGRAM_BYTES>;
+
+fn put_number(out: &mut PacketWriter, number: Number)
+    requires { length out.old + 4 ≤ MOST_DATAGRAM_BYTES }
+    ensures { out.new ≡ out.old ++ to_be_bytes w32 number }
 {
-    out.try_extend_from_slice(&number.to_be_bytes()).unwrap()
+    out.put(&number.to_be_bytes());
 }
 
-fn put_list(out: &mut Bytes, list: &EntryList)
+fn put_list(out: &mut PacketWriter, list: &EntryList)
     requires few { length list.now ≤ MOST_ENTRIES_IN_PACKET }
     requires in_range { AllByRecursion IsEntry list.now }
-    requires room { array_vec_len out.old + 81 ≤ MOST_DATAGRAM_BYTES }
-    ensures { out.new.items ≡ out.old.items ++ list_text list.now }
+    requires room { length out.old + 81 ≤ MOST_DATAGRAM_BYTES }
+    ensures { out.new ≡ out.old ++ list_text list.now }
 {
     let entries = list.entries.as_slice();
-    out.push(entries.len() as u8);
+    out.put(&[entries.len() as u8]);
     for entry in entries {
         put_entry(out, entry);
     }
 }
 
-fn header(kind: u8, id: u64, rules: Rules) -> Bytes
-    ensures { result.items ≡ header_text kind id rules }
+/// What each packet begins with.
+fn put_header(out: &mut PacketWriter, kind: u8, id: u64, rules: Rules)
+    requires { out.old ≡ [] }
+    ensures { out.new ≡ header_text kind id rules }
 {
-    let mut out = ArrayVec::new();
-    out.try_extend_from_slice(&MAGIC.to_be_bytes()).unwrap();
-    out.push(VERSION);
-    out.push(kind);
-    out.try_extend_from_slice(&id.to_be_bytes()).unwrap();
-    out.push(rules_code(rules));
-    out
+    out.put(&MAGIC.to_be_bytes());
+    out.put(&[VERSION, kind]);
+    out.put(&id.to_be_bytes());
+    out.put(&[rules_code(rules)]);
 }
 
-/// The text of a packet.
-pub(crate) fn text(packet: &Packet) -> Bytes
-    requires { IsPacket packet.now }
-    ensures { result.items ≡ packet_text packet.now }
+/// The text of a packet, where nothing stands before it.
+pub(crate) fn put_packet(out: &mut PacketWriter, packet: &Packet)
+    requires empty { out.old ≡ [] }
+    requires in_range { IsPacket packet.now }
+    ensures { out.new ≡ packet_text packet.now }
 {
     match packet {
         Packet::Want {
@@ -57,10 +59,9 @@ pub(crate) fn text(packet: &Packet) -> Bytes
             sender,
             held,
         } => {
-            let mut out = header(WANT, *id, *rules);
-            out.push(*sender);
-            put_number(&mut out, *held);
-            out
+            put_header(out, WANT, *id, *rules);
+            out.put(&[*sender]);
+            put_number(out, *held);
         }
         Packet::Claim {
             id,
@@ -69,11 +70,10 @@ pub(crate) fn text(packet: &Packet) -> Bytes
             number,
             action,
         } => {
-            let mut out = header(CLAIM, *id, *rules);
-            out.push(*sender);
-            put_number(&mut out, *number);
-            put_action(&mut out, action);
-            out
+            put_header(out, CLAIM, *id, *rules);
+            out.put(&[*sender]);
+            put_number(out, *number);
+            put_action(out, action);
         }
         Packet::Entries {
             id,
@@ -81,10 +81,9 @@ pub(crate) fn text(packet: &Packet) -> Bytes
             start,
             list,
         } => {
-            let mut out = header(ENTRIES, *id, *rules);
-            put_number(&mut out, *start);
-            put_list(&mut out, list);
-            out
+            put_header(out, ENTRIES, *id, *rules);
+            put_number(out, *start);
+            put_list(out, list);
         }
     }
 }

@@ -1,7 +1,6 @@
 //! Saved texts, written and read.
 ghost use Rattle.std.specs.Prelude.{◌≡◌, ◌≢◌, ◌↔◌, ◌<◌, ◌≤◌, ◌+◌, ◌++◌, [], List, ℕ, length, IsOk, IfOk, IfErr, vec_len, vec_capacity};
 ghost use Rattle.std.specs.List.{AllByRecursion};
-ghost use Rattle.arrayvec.specs.ArrayVec.{array_vec_len};
 ghost use Rattle.bg_match.specs.Limits.{most_entries};
 ghost use Rattle.bg_match.specs.Entry.{IsEntry};
 ghost use Rattle.bg_match.specs.Match.{IsLegalRecord};
@@ -14,12 +13,12 @@ ghost use Rattle.bg_wire.specs.Saved.Saves.{IsNextSave};
 ghost use Rattle.bg_wire.specs.Saved.SavedReading.{layout_of, entries_of, append_fault, Loads, Replays};
 
 use crate::entries::entry_reading::entry;
-use crate::entries::entry_writing::put_entry;
+use crate::entries::entry_writing::{LONGEST_ENTRY, put_entry};
 use crate::entries::reader::Reader;
+use crate::entries::writer::Writer;
 use crate::saves::layouts::{Layout, end, pass_entries, split_front};
 use crate::saves::writing::front_text;
 use crate::{LoadFault, SaveRefusal, Saved, Slot};
-use arrayvec::ArrayVec;
 use bg_match::{Action, EntryFault, MOST_ENTRIES, Number, Record};
 use std::alloc::{AllocError, Global};
 
@@ -61,9 +60,6 @@ pub fn next_save(
     }
 }
 
-/// The most bytes of an entry's text.
-const LONGEST_ENTRY: usize = 10;
-
 /// The saved text of these parts. Room is made once, for entries of the longest texts: so nothing asks for the length
 /// of each before it is written.
 fn text_of(
@@ -79,8 +75,9 @@ fn text_of(
     ensures longest { IfOk result (λ text. vec_len text ≤ longest_saved_text) }
 {
     let front = front_text(party, save, claim, log);
+    let front = front.as_slice();
     let mut text = Vec::with_capacity(alloc, front.len() + LONGEST_ENTRY * log.len() as usize)?;
-    append(&mut text, front.as_slice());
+    append(&mut text, front);
     push_entries(&mut text, log);
     Ok(text)
 }
@@ -92,7 +89,7 @@ pub fn saved_texts_are_prefix_free()
 {}
 
 /// Room for the texts of some hundred entries.
-type Chunk = ArrayVec<u8, 1024>;
+type Chunk = Writer<1024>;
 
 /// Appends the texts of all entries, for which there is room, some hundred at a time.
 fn push_entries(text: &mut Vec<u8>, log: &Record)
@@ -120,9 +117,9 @@ fn append(text: &mut Vec<u8>, bytes: &[u8])
 fn put_index(chunk: &mut Chunk, log: &Record, index: Number)
     requires below { index < most_entries }
     requires in_range { AllByRecursion IsEntry log.now.entries }
-    requires room { array_vec_len chunk.old + 10 ≤ 1024 }
-    ensures text { chunk.new.items ≡ chunk.old.items ++ bytes_at log.now.entries index }
-    ensures len { array_vec_len chunk.new ≤ array_vec_len chunk.old + 10 }
+    requires room { length chunk.old + 10 ≤ 1024 }
+    ensures text { chunk.new ≡ chunk.old ++ bytes_at log.now.entries index }
+    ensures len { length chunk.new ≤ length chunk.old + 10 }
 {
     if let Some(entry) = log.entry(index + 1) {
         put_entry(chunk, entry);
@@ -131,12 +128,12 @@ fn put_index(chunk: &mut Chunk, log: &Record, index: Number)
 
 /// Appends a chunk that has no room for a further entry, and empties it. The text has room for it.
 fn append_full(text: &mut Vec<u8>, chunk: &mut Chunk)
-    requires { length (text.old.items ++ chunk.old.items) ≤ vec_capacity text.old }
-    ensures same { text.new.items ++ chunk.new.items ≡ text.old.items ++ chunk.old.items }
-    ensures room { array_vec_len chunk.new + 10 ≤ 1024 }
+    requires { length (text.old.items ++ chunk.old) ≤ vec_capacity text.old }
+    ensures same { text.new.items ++ chunk.new ≡ text.old.items ++ chunk.old }
+    ensures room { length chunk.new + 10 ≤ 1024 }
     ensures capacity { vec_capacity text.old ≤ vec_capacity text.new }
 {
-    if chunk.remaining_capacity() < LONGEST_ENTRY {
+    if !chunk.has_room(LONGEST_ENTRY) {
         append(text, chunk.as_slice());
         chunk.clear();
     }

@@ -1,16 +1,20 @@
 //! What stands before the entries of a saved text, as bytes of the second layout (docs/FORMATS.md, "Saved files").
 ghost use Rattle.std.specs.Prelude.{◌≡◌, ◌≤◌, ◌+◌, ◌++◌, length};
-ghost use Rattle.arrayvec.specs.ArrayVec.{array_vec_len};
 ghost use Rattle.bg_match.specs.Match.{IsLegalRecord};
 ghost use Rattle.bg_wire.specs.Saved.SavedLayouts.{claim_text, front_text};
 ghost use Rattle.bg_wire.specs.Saved.SavedText.{IsSavable, IsKeptClaim, IsInLayout, parts_with};
 
-use crate::MOST_DATAGRAM_BYTES;
-use crate::entries::entry_writing::{Bytes, put_action};
+use crate::entries::entry_writing::put_action;
 use crate::entries::rules_bytes::rules_code;
+use crate::entries::writer::Writer;
 use crate::saves::layouts::{KEPT_CLAIM, Layout, NO_CLAIM, SECOND_MAGIC};
-use arrayvec::ArrayVec;
 use bg_match::{Action, Number, Record};
+
+/// The most bytes of what stands before the entries.
+const LONGEST_FRONT: usize = 38;
+
+/// Room for what stands before the entries.
+type FrontWriter = Writer<LONGEST_FRONT>;
 
 /// The text of what stands before the entries.
 pub(crate) fn front_text(
@@ -18,37 +22,36 @@ pub(crate) fn front_text(
     save: u32,
     claim: &Option<(Number, Action)>,
     log: &Record,
-) -> Bytes
+) -> FrontWriter
     requires { IsSavable (parts_with party save claim.now log.now) }
-    ensures text { result.items ≡ front_text Layout.Two party log.now.id log.now.terms save claim.now
+    ensures text { result ≡ front_text Layout.Two party log.now.id log.now.terms save claim.now
         (length log.now.entries) }
     ensures in_layout { IsInLayout Layout.Two (parts_with party save claim.now log.now) }
     ensures legal { IsLegalRecord log.now.terms log.now.entries }
 {
-    let mut out = ArrayVec::new();
-    out.try_extend_from_slice(&SECOND_MAGIC.to_be_bytes())
-        .unwrap();
-    out.push(party);
-    out.try_extend_from_slice(&log.id().to_be_bytes()).unwrap();
-    out.push(log.length());
-    out.push(rules_code(log.rules()));
-    out.try_extend_from_slice(&save.to_be_bytes()).unwrap();
+    let mut out = Writer::new();
+    out.put(&SECOND_MAGIC.to_be_bytes());
+    out.put(&[party]);
+    out.put(&log.id().to_be_bytes());
+    out.put(&[log.length()]);
+    out.put(&[rules_code(log.rules())]);
+    out.put(&save.to_be_bytes());
     put_claim(&mut out, claim);
-    out.try_extend_from_slice(&log.len().to_be_bytes()).unwrap();
+    out.put(&log.len().to_be_bytes());
     out
 }
 
-fn put_claim(out: &mut Bytes, claim: &Option<(Number, Action)>)
+fn put_claim(out: &mut FrontWriter, claim: &Option<(Number, Action)>)
     requires kept { IsKeptClaim claim.now }
-    requires room { array_vec_len out.old + 15 ≤ MOST_DATAGRAM_BYTES }
-    ensures text { out.new.items ≡ out.old.items ++ claim_text Layout.Two claim.now }
-    ensures len { array_vec_len out.new ≤ array_vec_len out.old + 15 }
+    requires room { length out.old + 15 ≤ LONGEST_FRONT }
+    ensures text { out.new ≡ out.old ++ claim_text Layout.Two claim.now }
+    ensures len { length out.new ≤ length out.old + 15 }
 {
     match claim {
-        None => out.push(NO_CLAIM),
+        None => out.put(&[NO_CLAIM]),
         Some((number, action)) => {
-            out.push(KEPT_CLAIM);
-            out.try_extend_from_slice(&number.to_be_bytes()).unwrap();
+            out.put(&[KEPT_CLAIM]);
+            out.put(&number.to_be_bytes());
             put_action(out, action);
         }
     }

@@ -8,8 +8,8 @@ append_full-requires c =
     let entries = c.args.log.now.entries in
     let start = c.args.text.now.items in
     let text = c.loop-index.text.items in
-    let chunk = c.loop-index.chunk.items in
-    let new = text ++ c.put_index.new.chunk.items in
+    let chunk = c.loop-index.chunk in
+    let new = text ++ c.put_index.new.chunk in
     let added = bytes_at entries c.loop-index.index in
     let grown : new ≡ (text ++ chunk) ++ added =
     ap (λ (r : List ℕ). text ++ r) c.put_index.ensures.text ∙ sym (append_assoc text chunk added) in
@@ -21,7 +21,7 @@ append_full-requires c =
 pub append-requires : goal.append-requires
 append-requires c =
     let text = c.loop-index.text.items in
-    let chunk = c.loop-index.chunk.items in
+    let chunk = c.loop-index.chunk in
     let fits = written_fits c.args.log.now.entries c.loop-index.index c.args.text.now.items (text ++ chunk) _
     c.loop-index.invariant.text c.requires.room in
     let both = length-append text chunk in
@@ -31,11 +31,11 @@ append-requires c =
 pub loop-index-preserved : goal.loop-index-preserved
 loop-index-preserved c =
     let text = c.loop-index.text.items in
-    let chunk = c.loop-index.chunk.items in
+    let chunk = c.loop-index.chunk in
     let added = bytes_at c.args.log.now.entries c.loop-index.index in
     record {
       text = written_next c.args.log.now.entries c.loop-index.index c.args.text.now.items (text ++ chunk)
-          (c.append_full.new.text.items ++ c.append_full.new.chunk.items) added c.loop-index.invariant.text
+          (c.append_full.new.text.items ++ c.append_full.new.chunk) added c.loop-index.invariant.text
           (c.append_full.ensures.same ∙ ap (λ (r : List ℕ). text ++ r) c.put_index.ensures.text
           ∙ sym (append_assoc text chunk added)) refl;
       room = c.append_full.ensures.room;

@@ -6,4 +6,4 @@ use Rattle.bg_wire.proofs.saves.saving.put_index.Goals as goal
 pub returns-in-Some-clause-text : goal.returns-in-Some-clause-text
 returns-in-Some-clause-text c =
     let found = sym (at_next c.args.log.now.entries c.args.index) ∙ sym c.in-Some.ensures in
-    c.put_entry.ensures.text ∙ ap (λ (r : List ℕ). c.args.chunk.now.items ++ r) (sym (ap bytes_of found))
+    c.put_entry.ensures.text ∙ ap (λ (r : List ℕ). c.args.chunk.now ++ r) (sym (ap bytes_of found))

@@ -6,18 +6,17 @@ use Rattle.bg_wire.proofs.saves.saving.text_of.Goals as goal
 
 pub push_entries-requires : goal.push_entries-requires
 push_entries-requires c =
-    let front = c.front_text-front.result.items in
     let made = c.in_ok-text.ensures in
-    let begun = ap length (c.append.ensures.items ∙ ap (λ (r : List ℕ). r ++ c.as_slice.result.now) made.items ∙ c.as_slice.ensures.value) in
-    let entries = length-entries_text c.args.log.now.entries c.len-2.ensures.in_range in
-    omega (arith, begun, entries, made.capacity, c.append.ensures.capacity, c.len.ensures.value, c.len-2.ensures.value)
+    let begun = ap length (c.append.ensures.items ∙ ap (λ (r : List ℕ). r ++ c.as_slice-front.result.now) made.items ∙ c.as_slice-front.ensures.value) in
+    let entries = length-entries_text c.args.log.now.entries c.len.ensures.in_range in
+    omega (arith, begun, entries, made.capacity, ap length c.as_slice-front.ensures.value, c.append.ensures.capacity, c.len.ensures.value)
 
 pub returns-clause-text : goal.returns-clause-text
 returns-clause-text c =
     let front = c.front_text-front.ensures in
     let made = c.in_ok-text.ensures.items in
-    let begun = c.append.ensures.items ∙ ap (λ (r : List ℕ). r ++ c.as_slice.result.now) made
-    ∙ c.as_slice.ensures.value ∙ front.text in
+    let begun = c.append.ensures.items ∙ ap (λ (r : List ℕ). r ++ c.as_slice-front.result.now) made
+    ∙ c.as_slice-front.ensures.value ∙ front.text in
     record {
       layout = record {
         in_layout = front.in_layout;
