@@ -1,5 +1,5 @@
 -- Lemmas of devices.
-pub mod SentPlaces
+pub mod Inboxes
 pub mod Arrivals
 pub mod KeptTexts
 pub mod Unplanned

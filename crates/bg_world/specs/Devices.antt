@@ -2,8 +2,8 @@
 pub mod Honesty
 pub mod Handed
 pub mod Plan
-pub mod Places
-pub mod Kept
+pub mod Inboxes
+pub mod SentCodes
 pub mod MemoryDevices
 pub mod DeviceCalls
 pub mod LinkCalls

@@ -11,12 +11,13 @@ ghost use Rattle.bg_world.specs.declared.devices.DeviceFault.TheVariants.{Memory
 ghost use Rattle.bg_world.specs.declared.devices.plans.FailSend.{FailSend};
 
 pub(crate) mod copies;
-pub(crate) mod kept_datagrams;
+pub(crate) mod inboxes;
 pub(crate) mod memory_keeper;
 pub(crate) mod memory_net;
 pub(crate) mod notes;
 pub(crate) mod plans;
 pub(crate) mod sent_datagrams;
+pub(crate) mod sent_histories;
 pub(crate) mod slot_texts;
 
 use arrayvec::ArrayVec;

@@ -92,8 +92,8 @@ fn hand_over(sent: &SentDatagrams, party: u8, pick: u32) -> Option<ArrayVec<u8, 
         bytes.push(0);
         return Some(bytes);
     }
-    let kept = sent.get(party, pick)?;
-    bytes.try_extend_from_slice(kept.bytes()).unwrap();
+    let text = sent.get(party, pick)?;
+    bytes.try_extend_from_slice(text).unwrap();
     Some(bytes)
 }
 

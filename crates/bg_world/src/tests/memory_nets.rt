@@ -22,7 +22,7 @@ fn datagrams_are_handed_over(rt: HostRuntime) -> Result<(), Fail> {
     Ok(())
 }
 
-/// Texts of each length are handed over as they were sent, the short ones, which are kept in place, and longer ones.
+/// Texts of each length are handed over as they were sent, though they are kept one behind the other.
 #[test]
 fn texts_of_each_length(rt: HostRuntime) -> Result<(), Fail> {
     let mut net = net(rt.alloc(), &[])?;
