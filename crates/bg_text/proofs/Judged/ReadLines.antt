@@ -1,6 +1,6 @@
 -- The lines of entries that follow one another.
 use Rattle.std.proofs.Common.{◌≡◌, ◌≢◌, ℕ, ◌<◌, List, [], ◌∷◌, ◌++◌, length, Option, Some, None, Result, Ok, Err, refl, sym, ◌∙◌, ap, subst, arith, length-append}
-use Rattle.std.specs.Prelude.{IsSome, IsOk, ◌↔◌, is_ok, true}
+use Rattle.std.specs.Prelude.{Bool, IsSome, IsOk, IsTrue, IfOk, ◌↔◌, is_ok, true, false}
 use Rattle.bg_board.specs.declared.players.Player.{Player}
 use Rattle.bg_board.specs.declared.players.Player.TheVariants.{X, O}
 use Rattle.bg_match.specs.Actor.{actor_in, actor_of, seat_of}
@@ -20,7 +20,7 @@ use Rattle.bg_match.proofs.Passing.{not_passed, by_phase, by_pass, seat_acts as 
 use Rattle.bg_match.proofs.Runs.{Follows-same, Leads-push, Leads-last}
 use Rattle.bg_text.specs.Entries.EntryText.{entry_text, IsSeatOf}
 use Rattle.bg_text.specs.Boards.Transcript.{AreLinesOf}
-use Rattle.bg_text.specs.Judge.Judging.{IsRefusal}
+use Rattle.bg_text.specs.Judge.Judging.{IsRefusal, IsWrongSeat}
 use Rattle.bg_text.specs.Judge.Reading.{IsReadAs, IsLineAt, AddsLine, RefusesLine, fault_of_push}
 use Rattle.bg_text.specs.declared.judging.reading.AddFault.TheVariants.{Refused}
 use Rattle.bg_text.specs.declared.faults.LineFault.{LineFault}
@@ -114,6 +114,20 @@ read_of_line s line r only e at = only (seat_of (actor_of s)) e (seat_acts s e a
 pub same_found : (r : Result (Option Player × Entry) TextFault) (found : Option Player × Entry) (seat : Option Player) (e : Entry)
     → r ≡ Ok found → r ≡ Ok (seat, e) → found.1 ≡ e
 same_found r found seat e is read = cc
+
+-- what a line says, where the test finds that it names no wrong seat
+pub read_as : (s : State) (line : List ℕ) (r : Result (Option Player × Entry) TextFault) (seat : Option Player) (e : Entry) (wrong : Bool)
+    → r ≡ Ok (seat, e) → IfOk r (λ found. IsSeatOf found.0 found.1 × IsEntry found.1 × (line ≡ entry_text found.0 found.1))
+    → IsTrue wrong ↔ IsWrongSeat seat s → wrong ≡ false → IsReadAs s line e
+read_as s line r seat e wrong is found tests right =
+    let of = rw is at found in
+    (seat, of.0, of.1, of.2, λ named. let wrongly : wrong ≡ true = tests.1 named in absurd (cc (wrongly, right)))
+
+-- a line says one entry that may follow
+pub read_alone : (s : State) (line : List ℕ) (r : Result (Option Player × Entry) TextFault) (seat : Option Player) (e : Entry)
+    → r ≡ Ok (seat, e) → ((seat : Option Player) (e : Entry) → IsSeatOf seat e → IsEntry e → line ≡ entry_text seat e → r ≡ Ok (seat, e))
+    → (f : Entry) → IsLineAt s line f → e ≡ f
+read_alone s line r seat e is only f at = same_found r (seat, e) (seat_of (actor_of s)) f is (read_of_line s line r only f at)
 
 -- two seats of players, neither of which is wrong beside the other
 same_players : (p q : Player) → (p ≢ q → ⊥) → p ≡ q

@@ -1,18 +1,20 @@
 -- The numbers of two dice.
-use Rattle.std.specs.Prelude.{◌≡◌, ℕ, ◌<◌, ◌≤◌, List, [], ◌∷◌, Result, Ok, Err}
+use Rattle.std.specs.Prelude.{◌≡◌, ◌≢◌, ℕ, ◌+◌, ◌<◌, ◌≤◌, List, [], ◌∷◌, Result, Ok, Err}
+use Rattle.std.specs.List.{All}
 use Rattle.std.specs.Fmt.{decimal}
-use Rattle.std.proofs.Common.{sym, subst, ◌∙◌, arith, true, false}
-use Rattle.std.proofs.lemmas.Fmt.{decimal_injective}
+use Rattle.std.proofs.Common.{refl, sym, subst, ◌∙◌, arith, true, false}
+use Rattle.std.proofs.lemmas.Fmt.{decimal_digit, decimal_injective}
 use Rattle.bg_board.specs.Die.{pips}
 use Rattle.bg_board.specs.declared.dice.Die.{Die}
 use Rattle.bg_board.specs.declared.dice.Die.TheVariants.{One, Two, Three, Four, Five, Six}
+use Rattle.bg_text.specs.Entries.Words.{words_of}
 use Rattle.bg_text.specs.Entries.EntryText.{dice_words}
 use Rattle.bg_text.specs.Entries.EntryShape.{IsNumeral}
 use Rattle.bg_text.specs.Entries.Pairs.{both_of, IsNumber, IsNumberOf, IsDiceFault}
 use Rattle.bg_text.specs.declared.faults.TextFault.{TextFault}
 use Rattle.bg_text.specs.declared.faults.TextFault.TheVariants.{NotALine, BadNumber, TooManySteps}
-use Rattle.bg_text.proofs.Spelling.PairTexts.{numeral_decimal}
-use Rattle.bg_text.proofs.Spelling.Splits.{same_first, same_second}
+use Rattle.bg_text.proofs.Spelling.PairTexts.{numeral_decimal, numeral_lacks}
+use Rattle.bg_text.proofs.Spelling.Splits.{same_first, same_second, two_pieces}
 use Rattle.bg_text.proofs.Spelling.TwoWords.{BothSay, both_say}
 
 abbrev NumbersSay : List ℕ → List ℕ → Result (ℕ × ℕ) TextFault → Type 0
@@ -46,6 +48,17 @@ of_die : (n : ℕ) (die : Die) → n < 100 → decimal n ≡ decimal (pips die) 
 of_die n die below e =
     let high = most die in
     decimal_injective n (pips die) (omega arith) (omega arith) e
+
+-- a die is written by one digit
+one_digit : (die : Die) → decimal (pips die) ≡ (48 + pips die) ∷ []
+one_digit die = let high = most die in decimal_digit (pips die) (omega arith)
+
+-- two digits name dice
+pub digits_of_dice : (x o : Die) → words_of ((48 + pips x) ∷ 32 ∷ (48 + pips o) ∷ []) ≡ dice_words x o
+digits_of_dice x o =
+    let lacks : (die : Die) → All (λ byte. byte ≢ 32) (decimal (pips die)) =
+    λ die. numeral_lacks 32 (decimal (pips die)) (omega arith) (numeral_decimal (pips die) (number_of_die die).1) in
+    two_pieces 32 ((48 + pips x) ∷ 32 ∷ (48 + pips o) ∷ []) (decimal (pips x)) (decimal (pips o)) (lacks x) (lacks o) (rw (one_digit x, one_digit o) refl)
 
 pub no_dice : false ≡ true → ⊥
 no_dice e = absurd cc

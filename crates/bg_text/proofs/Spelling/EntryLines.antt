@@ -1,6 +1,7 @@
 -- What a line says, or has wrong, as the line of an entry.
 use Rattle.std.specs.Prelude.{◌≡◌, ℕ, List, [], ◌∷◌, ◌++◌, map, Option, Some, None, Result, Ok, Err, codes}
 use Rattle.std.proofs.Common.{refl, sym, ◌∙◌, ap, arith, inl, inr}
+use Rattle.std.proofs.lemmas.List.Elements.{All-from_recursion, All-contains}
 use Rattle.std.specs.Fmt.{decimal}
 use Rattle.bg_board.specs.Die.{pips}
 use Rattle.bg_board.specs.declared.dice.Die.{Die}
@@ -15,7 +16,7 @@ use Rattle.bg_match.specs.declared.entries.Entry.TheVariants as entry
 use Rattle.bg_match.specs.declared.levels.Level.TheVariants.{Normal, Gammon, Backgammon}
 use Rattle.bg_text.specs.Entries.Words.{words_of, spaced}
 use Rattle.bg_text.specs.Entries.EntryText.{letter, step_text, dice_words, seat_words, entry_words, entry_text, action_words, IsSeatOf}
-use Rattle.bg_text.specs.Entries.EntryShape.{IsDiceShape, IsSeatShape, IsOwnShape, IsEntryShape, IsActionShape, HasDownwardSteps, IsEntryTextFault, IsActionTextFault}
+use Rattle.bg_text.specs.Entries.EntryShape.{plain_words, IsDiceShape, IsSeatShape, IsOwnShape, IsEntryShape, IsActionShape, HasDownwardSteps, IsEntryTextFault, IsActionTextFault}
 use Rattle.bg_text.specs.Entries.Pairs.{IsDiceFault, AreNumerals}
 use Rattle.bg_text.specs.Entries.Lines.{IsFixed, IsSeatEntry, IsSeatFault, IsEntryOf}
 use Rattle.bg_text.specs.declared.faults.TextFault.{TextFault}
@@ -102,6 +103,33 @@ seat_fault line BadNumber no_roll h = (shape h.0, text)
     text entry.Accepted seat down e = h.1 action.Accept tt e
     text entry.Rejected seat down e = h.1 action.Reject tt e
 seat_fault line TooManySteps no_roll h = h
+
+-- a roll without dice is no entry
+pub roll_alone : (line : List ℕ) → line ≡ codes "roll" → IsSeatShape (words_of line) → ⊥
+roll_alone line e shape = none (rw e at shape)
+  where
+    none : IsSeatShape (codes "roll" ∷ []) → ⊥
+    none (inl dice) = absurd (cc dice.spelled)
+    none (inr (inl move)) = omega (arith, ap first_sum move.spelled)
+    none (inr (inr plain)) =
+        All-contains (λ words. words ≡ codes "roll" ∷ [] → ⊥) plain_words (codes "roll" ∷ [])
+        (All-from_recursion (λ words. words ≡ codes "roll" ∷ [] → ⊥) plain_words (
+          λ e. omega (arith, ap first_sum e),
+          (
+            λ e. omega (arith, ap first_sum e),
+            (
+              λ e. omega (arith, ap first_sum e),
+              (
+                λ e. omega (arith, ap first_sum e),
+                (
+                  λ e. omega (arith, ap first_sum e),
+                  (λ e. omega (arith, ap first_sum e), (λ e. omega (arith, ap first_sum e), (λ e. omega (arith, ap first_sum e), tt))),
+                ),
+              ),
+            ),
+          ),
+        ))
+        plain refl
 
 letter_not_open : (player : Player) (words rest : List (List ℕ)) → codes "open" ∷ words ≡ letter player ∷ rest → ⊥
 letter_not_open X words rest e = omega (arith, ap first_sum e)

@@ -1,12 +1,12 @@
 -- The pairs of a move, and their turn.
-use Rattle.std.specs.Prelude.{◌≡◌, ℕ, List, [], ◌∷◌, ◌++◌, length, map, Result, Ok, Err}
+use Rattle.std.specs.Prelude.{◌≡◌, ℕ, List, [], ◌∷◌, ◌++◌, length, map, Option, Some, None, IsSome, is_some, false, Result, Ok, Err}
 use Rattle.std.specs.List.{AllByRecursion}
 use Rattle.std.proofs.Common.{refl, sym, ◌∙◌, ap, arith, length-append, append_assoc}
 use Rattle.bg_board.specs.FromTo.{FromTo}
 use Rattle.bg_turns.specs.Turn.{IsDownward}
 use Rattle.bg_text.specs.Entries.EntryText.{step_text}
 use Rattle.bg_text.specs.Entries.EntryShape.{IsPairShape}
-use Rattle.bg_text.specs.Entries.Pairs.{IsPairOf, IsTurnOf}
+use Rattle.bg_text.specs.Entries.Pairs.{turn_or, IsPairOf, IsTurnOf}
 use Rattle.bg_text.specs.declared.faults.TextFault.{TextFault}
 use Rattle.bg_text.specs.declared.faults.TextFault.TheVariants.{NotALine, BadNumber, TooManySteps}
 use Rattle.bg_text.proofs.Spelling.PairTexts.{step_shape}
@@ -73,6 +73,16 @@ still_wrong pairs pair TooManySteps step shapes (steps, text, down, many) right 
   each_push IsDownward steps step down right.0,
   omega (arith, length-append steps (step ∷ [])),
 )
+
+-- what is wrong stays so behind a further pair
+pub wrong_stays : (pairs : List (List ℕ)) (pair : List ℕ) (fault : Option TextFault) (steps : List FromTo) (step : FromTo) → IsSome fault → AllByRecursion IsPairShape pairs → IsTurnOf pairs (turn_or fault steps) → IsPairOf pair (Ok step) → IsTurnOf (pairs ++ pair ∷ []) (turn_or fault steps)
+wrong_stays pairs pair None steps step some shapes wrong right = absurd cc
+wrong_stays pairs pair (Some fault) steps step some shapes wrong right = still_wrong pairs pair fault step shapes wrong right
+
+-- the turn, where nothing is wrong
+pub none_wrong : (pairs : List (List ℕ)) (fault : Option TextFault) (steps : List FromTo) → is_some fault ≡ false → IsTurnOf pairs (turn_or fault steps) → IsTurnOf pairs (Ok steps)
+none_wrong pairs None steps none turn = turn
+none_wrong pairs (Some fault) steps none turn = absurd cc
 
 pub too_many : (pairs : List (List ℕ)) (pair : List ℕ) (steps : List FromTo) (step : FromTo) → IsTurnOf pairs (Ok steps) → IsPairOf pair (Ok step) → length steps ≡ 4 → IsTurnOf (pairs ++ pair ∷ []) (Err TooManySteps)
 too_many pairs pair steps step turn right full = (

@@ -47,11 +47,6 @@ IsSeatFault TooManySteps line =
     (steps : List FromTo) × (line ≡ spaced (entry_words (entry.Moved steps)))
     × AllByRecursion IsDownward steps × (4 < length steps)
 
--- the entry of a line behind the player's letter
-abbrev pub IsSeatEntryOf : List ℕ → Result Entry TextFault → Type 0
-IsSeatEntryOf line (Ok e) = IsSeatEntry e × IsEntry e × (line ≡ spaced (entry_words e))
-IsSeatEntryOf line (Err fault) = IsSeatFault fault line
-
 -- the entry of a line, and its seat
 abbrev pub IsEntryOf : List ℕ → Result (Option Player × Entry) TextFault → Type 0
 IsEntryOf line (Ok found) = IsSeatOf found.0 found.1 × IsEntry found.1 × (line ≡ entry_text found.0 found.1)

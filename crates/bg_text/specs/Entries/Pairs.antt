@@ -1,5 +1,5 @@
 -- What the words of a move say: numerals, ends of steps, pairs.
-use Rattle.std.specs.Prelude.{◌≡◌, ◌⊎◌, ℕ, ◌<◌, ◌≤◌, List, [], ◌∷◌, map, length, Result, Ok, Err, codes}
+use Rattle.std.specs.Prelude.{◌≡◌, ◌⊎◌, ℕ, ◌<◌, ◌≤◌, List, [], ◌∷◌, map, length, Option, Some, None, Result, Ok, Err, codes}
 use Rattle.std.specs.List.{AllByRecursion}
 use Rattle.std.specs.Fmt.{decimal}
 use Rattle.bg_board.specs.FromTo.{FromTo}
@@ -75,6 +75,11 @@ IsPairsFault TooManySteps pairs =
 abbrev pub IsTurnOf : List (List ℕ) → Result (List FromTo) TextFault → Type 0
 IsTurnOf pairs (Ok steps) = IsTurn steps × (pairs ≡ map step_text steps)
 IsTurnOf pairs (Err fault) = IsPairsFault fault pairs
+
+-- the turn of some pairs, unless there is something wrong with them
+abbrev pub turn_or : Option TextFault → List FromTo → Result (List FromTo) TextFault
+turn_or None steps = Ok steps
+turn_or (Some fault) steps = Err fault
 
 -- two numerals
 abbrev pub AreNumerals : List (List ℕ) → Type 0

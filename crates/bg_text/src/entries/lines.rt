@@ -7,12 +7,12 @@ ghost use Rattle.bg_match.specs.declared.entries.Entry.{Entry};
 ghost use Rattle.bg_match.specs.declared.levels.Level.{Level};
 ghost use Rattle.bg_text.specs.Entries.EntryText.{letter, entry_text, action_text, level_word, IsSeatOf};
 ghost use Rattle.bg_text.specs.Entries.EntryShape.{IsEntryTextFault, IsActionTextFault};
-ghost use Rattle.bg_text.specs.Entries.Lines.{IsFixed, IsReply, IsActionOf, IsSeatEntryOf, IsEntryOf};
+ghost use Rattle.bg_text.specs.Entries.Lines.{IsFixed, IsReply, IsActionOf, IsEntryOf};
 
 use crate::TextFault;
 use crate::entries::pairs::{read_dice, read_turn};
 use bg_board::Player;
-use bg_match::{Action, Entry, Level, entry_of};
+use bg_match::{Action, Entry, Level};
 use bg_turns::{Dice, Turn};
 
 /// What follows the start of a line.
@@ -79,16 +79,32 @@ fn read_action(line: &[u8]) -> Result<Action, TextFault>
     }
 }
 
-/// The entry of a line behind a player's letter, or what is wrong with it.
-fn read_seat_entry(line: &[u8]) -> Result<Entry, TextFault>
-    ensures { IsSeatEntryOf line.now result }
+/// The entry of a line behind this player's letter, with the player, or what is wrong with the line. Each is made where
+/// it is answered, so that no entry is moved.
+fn read_seat_entry(player: Player, line: &[u8]) -> Result<(Option<Player>, Entry), TextFault>
+    ensures { IsEntryOf (letter player ++ 32 ∷ line.now) result }
 {
+    let seat = Some(player);
     if let Some(numbers) = rest_after(line, b"roll ") {
         let (first, second) = read_dice(numbers)?;
-        return Ok(Entry::Rolled(Dice { first, second }));
+        return Ok((seat, Entry::Rolled(Dice { first, second })));
     }
-    // `roll` without dice is an action, and no entry
-    entry_of(read_action(line)?, None).ok_or(TextFault::NotALine)
+    if let Some(pairs) = rest_after(line, b"move ") {
+        return Ok((seat, Entry::Moved(read_turn(pairs)?)));
+    }
+    match read_fixed(line) {
+        Some(Action::Double) => Ok((seat, Entry::Doubled)),
+        Some(Action::Take) => Ok((seat, Entry::Taken)),
+        Some(Action::Drop) => Ok((seat, Entry::Dropped)),
+        // without a pair
+        Some(Action::Move(_)) => Ok((seat, Entry::Moved(Turn::new()))),
+        Some(Action::Resign(level)) => Ok((seat, Entry::Resigned(level))),
+        Some(Action::Accept) => Ok((seat, Entry::Accepted)),
+        Some(Action::Reject) => Ok((seat, Entry::Rejected)),
+        // a roll without dice is an action, and no entry
+        Some(Action::Roll) => Err(TextFault::NotALine),
+        None => Err(TextFault::NotALine),
+    }
 }
 
 /// The player whose letter a line begins with, and what follows the letter and its space (docs/FORMATS.md, "Entry
@@ -123,11 +139,10 @@ fn read_entry(line: &[u8]) -> Result<(Option<Player>, Entry), TextFault>
     if is_pass(line) {
         return Ok((None, Entry::Passed));
     }
-    let Some((player, rest)) = split_player(line) else {
-        return Err(TextFault::NotALine);
-    };
-    let entry = read_seat_entry(rest)?;
-    Ok((Some(player), entry))
+    match split_player(line) {
+        Some((player, rest)) => read_seat_entry(player, rest),
+        None => Err(TextFault::NotALine),
+    }
 }
 
 /// Reads the text of an action: an entry's line without the player's letter and its space, where `roll` stands

@@ -1,11 +1,13 @@
 //! The pairs of a move, and the numbers of two dice.
-ghost use Rattle.std.specs.Prelude.{◌≡◌, ℕ, Ok, List, [], ◌∷◌, ◌++◌, MatchResult};
+ghost use Rattle.std.specs.Prelude.{◌≡◌, ◌≤◌, ◌+◌, ℕ, Ok, List, [], ◌∷◌, ◌++◌, length, IfSome};
+ghost use Rattle.std.specs.Prelude.{MatchResult};
 ghost use Rattle.std.specs.List.{AllByRecursion};
+ghost use Rattle.bg_board.specs.Die.{pips};
 ghost use Rattle.bg_text.specs.Entries.Words.{words_of};
 ghost use Rattle.bg_text.specs.Entries.EntryText.{dice_words};
 ghost use Rattle.bg_text.specs.Entries.EntryShape.{IsPairShape};
-ghost use Rattle.bg_text.specs.Entries.Pairs.{both_of, IsNumberOf, IsPointOf, IsSourceOf, IsTargetOf, IsPairOf, IsTurnOf};
-ghost use Rattle.bg_text.specs.Entries.Pairs.{IsDiceFault};
+ghost use Rattle.bg_text.specs.Entries.Pairs.{both_of, turn_or, IsNumberOf, IsPointOf, IsSourceOf, IsTargetOf, IsPairOf};
+ghost use Rattle.bg_text.specs.Entries.Pairs.{IsTurnOf, IsDiceFault};
 
 use crate::TextFault;
 use crate::entries::words::{Pieces, halves};
@@ -17,30 +19,40 @@ pub(crate) fn read_turn(pairs: &[u8]) -> Result<Turn, TextFault>
     ensures { IsTurnOf (words_of pairs.now) result }
 {
     let mut words = Pieces::new(pairs, b' ');
-    let mut turn = Ok(Turn::new());
+    let mut turn = Turn::new();
+    let mut fault = None;
     while let Some(word) = words.next_piece() {
         match read_pair(word) {
-            Ok(step) => turn = with_step(turn, step),
+            Ok(step) => fault = add_step(&mut turn, fault, step),
             Err(TextFault::NotALine) => return Err(TextFault::NotALine),
-            Err(TextFault::BadNumber) => turn = Err(TextFault::BadNumber),
+            Err(TextFault::BadNumber) => fault = Some(TextFault::BadNumber),
             // no pair alone is too many
-            Err(TextFault::TooManySteps) => turn = Err(TextFault::TooManySteps),
+            Err(TextFault::TooManySteps) => fault = Some(TextFault::TooManySteps),
         }
     }
-    turn
+    match fault {
+        Some(why) => Err(why),
+        None => Ok(turn),
+    }
 }
 
-/// The turn of some pairs, with one more pair's step behind it.
-fn with_step(turn: Result<Turn, TextFault>, step: Step) -> Result<Turn, TextFault>
-    ensures { (pairs : List (List ℕ)) (pair : List ℕ) → AllByRecursion IsPairShape pairs → IsTurnOf pairs turn
-        → IsPairOf pair (Ok step) → IsTurnOf (pairs ++ pair ∷ []) result }
+/// Adds one more pair's step to the turn of some pairs, unless there is something wrong with these already. Says what is
+/// wrong with all of them.
+fn add_step(turn: &mut Turn, fault: Option<TextFault>, step: Step) -> Option<TextFault>
+    requires { length turn.old ≤ 4 }
+    ensures turn { (pairs : List (List ℕ)) (pair : List ℕ) → AllByRecursion IsPairShape pairs
+        → IsTurnOf pairs (turn_or fault turn.old) → IsPairOf pair (Ok step)
+        → IsTurnOf (pairs ++ pair ∷ []) (turn_or result turn.new) }
+    ensures few { length turn.new ≤ 4 }
 {
-    let mut turn = turn?;
+    if fault.is_some() {
+        return fault;
+    }
     if turn.is_full() {
-        return Err(TextFault::TooManySteps);
+        return Some(TextFault::TooManySteps);
     }
     turn.push(step);
-    Ok(turn)
+    None
 }
 
 /// The step of a pair.
@@ -99,11 +111,31 @@ fn both(first: Result<u8, TextFault>, second: Result<u8, TextFault>) -> Result<(
     }
 }
 
+/// The die that a digit names.
+fn die_of(digit: u8) -> Option<Die>
+    ensures { IfSome result (λ die. digit ≡ 48 + pips die) }
+{
+    Die::new(digit.checked_sub(b'0')?)
+}
+
+/// The dice that two digits name, one space between them.
+fn read_digits(numbers: &[u8]) -> Option<(Die, Die)>
+    ensures { IfSome result (λ dice. words_of numbers.now ≡ dice_words dice.0 dice.1) }
+{
+    match numbers {
+        [first, b' ', second] => Some((die_of(*first)?, die_of(*second)?)),
+        _ => None,
+    }
+}
+
 /// The dice that two numbers write, one space between them.
 pub(crate) fn read_dice(numbers: &[u8]) -> Result<(Die, Die), TextFault>
     ensures { MatchResult result (λ dice. words_of numbers.now ≡ dice_words dice.0 dice.1)
         (λ fault. IsDiceFault fault (words_of numbers.now)) }
 {
+    if let Some(dice) = read_digits(numbers) {
+        return Ok(dice);
+    }
     let Some((first, second)) = halves(numbers, b' ') else {
         return Err(TextFault::NotALine);
     };

@@ -3,10 +3,11 @@ ghost use Rattle.std.specs.Prelude.{◌≡◌, ℕ, List, [], ◌∷◌, ◌++�
 ghost use Rattle.bg_text.specs.Judge.Hearing.{AreAll, Continues, IsHeardAs, Keeps, Stops};
 ghost use Rattle.bg_text.specs.Judge.Judging.{IsAnswerTo, IsLengthFault};
 
+use crate::entries::lines::parse_entry;
 use crate::faults::LineFault;
 use crate::judging::judgements::{Judgement, fine, refused, refused_at_once};
 use crate::judging::length_lines::read_terms;
-use crate::judging::reading::read_line;
+use crate::judging::reading::is_wrong_seat;
 use bg_match::{EntryFault, MOST_ENTRIES, Number, Standing, Terms};
 use std::alloc::{AllocError, Global};
 
@@ -24,11 +25,18 @@ impl Course {
         ensures refused { IfErr result (λ why. Stops why self.old line.now) }
         ensures same { OnErr result (self.new ≡ self.old) }
     {
-        let entry = read_line(&self.standing, line)?;
+        let read = parse_entry(line);
+        let (seat, entry) = match &read {
+            Ok((seat, entry)) => (*seat, entry),
+            Err(fault) => return Err(LineFault::Text(*fault)),
+        };
+        if is_wrong_seat(seat, &self.standing) {
+            return Err(LineFault::WrongPlayer);
+        }
         if self.entries >= MOST_ENTRIES {
             return Err(LineFault::Entry(EntryFault::RecordFull));
         }
-        self.standing.apply(&entry)?;
+        self.standing.apply(entry)?;
         self.entries += 1;
         Ok(())
     }

@@ -16,7 +16,7 @@ use bg_match::{Entry, EntryFault, Record, Standing, Terms};
 use std::alloc::{AllocError, Global};
 
 /// Whether a line names a seat where the other seat must act.
-fn is_wrong_seat(seat: Option<Player>, standing: &Standing) -> bool
+pub(crate) fn is_wrong_seat(seat: Option<Player>, standing: &Standing) -> bool
     ensures { IsTrue result ↔ IsWrongSeat seat standing.now }
 {
     match (seat, standing.actor().seat()) {
@@ -26,7 +26,7 @@ fn is_wrong_seat(seat: Option<Player>, standing: &Standing) -> bool
 }
 
 /// The entry of a line, unless it names the wrong seat.
-pub(crate) fn read_line(standing: &Standing, line: &[u8]) -> Result<Entry, LineFault>
+fn read_line(standing: &Standing, line: &[u8]) -> Result<Entry, LineFault>
     ensures found { IfOk result (IsReadAs standing.now line.now) }
     ensures only { (entry : Entry) → IsLineAt standing.now line.now entry → result ≡ Ok entry }
     ensures fault { IfErr result (λ why. (entries : ℕ) → IsLineFault why entries standing.now line.now) }
