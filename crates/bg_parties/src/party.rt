@@ -2,7 +2,8 @@
 ghost use Rattle.std.specs.Prelude.{◌≡◌, ◌↔◌, Ok, Err, Some, None, IsOk, IfOk, IfErr, is_ok};
 ghost use Rattle.bg_wire.specs.Packets.PacketText.{IsPacket};
 ghost use Rattle.bg_parties.specs.Party.{IsUnderWay, Opens};
-ghost use Rattle.bg_parties.specs.Calls.{PartyChooses, PartyDues, PartySaves, PartyTakes, PartyTicks, begun_save, claim_of, kept_save, log_of, saved_of};
+ghost use Rattle.bg_parties.specs.Calls.{PartyChooses, PartyDues, PartySaves, PartyTakes, PartyTicks};
+ghost use Rattle.bg_parties.specs.Calls.{begun_save, claim_of, kept_save, log_of, saved_of};
 
 use crate::cores::Core;
 use crate::{NotUnderWay, OpenFault, RoleFault, SaveFault};
@@ -157,7 +158,8 @@ impl Party {
     }
 
     /// What is to be sent without having been asked for, each packet beside the party that it goes to
-    /// (docs/PROTOCOL.md, "What the referee sends unasked", "When a follower sends"). A save that is under way stays so.
+    /// (docs/PROTOCOL.md, "What the referee sends unasked", "When a follower sends"). A save that is under way stays
+    /// so.
     pub fn tick(&mut self) -> ArrayVec<(u8, Packet), MOST_SENT>
         ensures ticks { PartyTicks self.old.core result.items self.new.core }
         ensures save { self.new.under_way ≡ self.old.under_way }

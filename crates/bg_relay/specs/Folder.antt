@@ -40,8 +40,8 @@ own party None = None
 own party (Some saved) = if saved.party == party then Some saved else None
 
 -- what the two files of a party hold, and what each loads as
-pub record AreHeldIn (slot0 slot1 : List ℕ) (zero one : Result SavedParts LoadFault) (loaded0 loaded1 : Option SavedParts)
-    : Type 0 where
+pub record AreHeldIn (slot0 slot1 : List ℕ) (zero one : Result SavedParts LoadFault)
+    (loaded0 loaded1 : Option SavedParts) : Type 0 where
   pub first : IsHeld slot0 zero
   pub second : IsHeld slot1 one
   pub first_loads : LoadsAs slot0 loaded0

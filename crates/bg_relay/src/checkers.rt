@@ -41,8 +41,8 @@ impl<'a, R> Checker<'a, R>
 where
     R: Input + Files<File = File> + Clock + Print + Eprint + AllocGlobal,
 {
-    /// Of which none was judged yet. The standard output has so many columns, if it is a screen; a quiet one passes over
-    /// good files in silence.
+    /// Of which none was judged yet. The standard output has so many columns, if it is a screen; a quiet one passes
+    /// over good files in silence.
     pub(crate) fn new(
         rt: &'a R,
         columns: Option<usize>,

@@ -117,7 +117,8 @@ impl HeldSlots {
 
 /// Of two saves the one with more entries, and the first where they have as many.
 fn further<'a>(a: Option<&'a Saved>, b: Option<&'a Saved>) -> Option<&'a Saved>
-    ensures { parts_in (option_copied result) ≡ further_of (parts_in (option_copied a.entry)) (parts_in (option_copied b.entry)) }
+    ensures { parts_in (option_copied result)
+        ≡ further_of (parts_in (option_copied a.entry)) (parts_in (option_copied b.entry)) }
 {
     match (a, b) {
         (Some(one), Some(other)) if one.log.len() < other.log.len() => b,

@@ -95,8 +95,8 @@ fn lengths(rt: HostRuntime) -> Result<(), Fail> {
     Ok(())
 }
 
-/// Whether a seat learns an offer to resign under this number, and its rejection, which may have come before it. Entries
-/// that lack memory are told again.
+/// Whether a seat learns an offer to resign under this number, and its rejection, which may have come before it.
+/// Entries that lack memory are told again.
 fn learns_an_offer(seat: &mut Seat, number: u8, rejection_first: bool) -> bool {
     let mut rejection = REJECTED.as_slice();
     if rejection_first {

@@ -40,8 +40,8 @@ fn an_early_entry_that_does_not_follow(rt: HostRuntime) -> Result<(), Fail> {
     Ok(())
 }
 
-/// An early entry that does not follow the opening, 8-5 6-4 after 3 1, is not appended with it, nor kept: the entry that
-/// follows is then taken in its place.
+/// An early entry that does not follow the opening, 8-5 6-4 after 3 1, is not appended with it, nor kept: the entry
+/// that follows is then taken in its place.
 #[test]
 fn one_early_entry_that_does_not_follow(rt: HostRuntime) -> Result<(), Fail> {
     let mut watcher = Watcher::fresh(rt.alloc(), FIRST_WATCHER, 1, 1, Rules::One)?;

@@ -6,8 +6,8 @@ ghost use Rattle.bg_board.specs.Die.{pips};
 ghost use Rattle.bg_text.specs.Entries.Words.{words_of};
 ghost use Rattle.bg_text.specs.Entries.EntryText.{dice_words};
 ghost use Rattle.bg_text.specs.Entries.EntryShape.{IsPairShape};
-ghost use Rattle.bg_text.specs.Entries.Pairs.{both_of, turn_or, IsNumberOf, IsPointOf, IsSourceOf, IsTargetOf, IsPairOf};
-ghost use Rattle.bg_text.specs.Entries.Pairs.{IsTurnOf, IsDiceFault};
+ghost use Rattle.bg_text.specs.Entries.Pairs.{both_of, turn_or, IsNumberOf, IsPointOf, IsSourceOf, IsTargetOf};
+ghost use Rattle.bg_text.specs.Entries.Pairs.{IsPairOf, IsTurnOf, IsDiceFault};
 
 use crate::TextFault;
 use crate::entries::words::{Pieces, halves};
@@ -36,8 +36,8 @@ pub(crate) fn read_turn(pairs: &[u8]) -> Result<Turn, TextFault>
     }
 }
 
-/// Adds one more pair's step to the turn of some pairs, unless there is something wrong with these already. Says what is
-/// wrong with all of them.
+/// Adds one more pair's step to the turn of some pairs, unless there is something wrong with these already. Says what
+/// is wrong with all of them.
 fn add_step(turn: &mut Turn, fault: Option<TextFault>, step: Step) -> Option<TextFault>
     requires { length turn.old ≤ 4 }
     ensures turn { (pairs : List (List ℕ)) (pair : List ℕ) → AllByRecursion IsPairShape pairs

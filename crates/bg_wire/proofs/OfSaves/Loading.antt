@@ -56,11 +56,11 @@ refused (Err entry_fault.Memory) log e L bad why room ok legal = absurd (omega (
 -- ---- what the layout gives
 
 module _ (bytes : List ℕ) where
-  laid : (p : SavedParts) → IsLayoutOf p bytes → layout_of bytes ≡ Ok p
+  pub laid : (p : SavedParts) → IsLayoutOf p bytes → layout_of bytes ≡ Ok p
   unfolding layout_of
   laid p h = is_read saved_at saved_law load_fault fault.Extra bytes p h
 
-  is_layout : (p : SavedParts) → IsBytes bytes → layout_of bytes ≡ Ok p → IsLayoutOf p bytes
+  pub is_layout : (p : SavedParts) → IsBytes bytes → layout_of bytes ≡ Ok p → IsLayoutOf p bytes
   unfolding layout_of
   is_layout p fits e = is_found saved_at saved_law load_fault fault.Extra bytes p fits e
 

@@ -1,17 +1,19 @@
 //! What the two slots of a party restore.
 ghost use Rattle.std.specs.Prelude.{◌≡◌, ◌↔◌, IsTrue, IfOk};
 ghost use Rattle.bg_match.specs.Terms.{terms_of};
-ghost use Rattle.bg_wire.specs.Saved.SavedText.{parts_of};
-ghost use Rattle.bg_wire.specs.Saved.Restoring.{Restores, IsSavedBy, IsSavableIn, newer as newer_of, parts_in};
-ghost use Rattle.bg_wire.specs.Saved.SlotReading.{ReadsSlot};
+ghost use Rattle.bg_wire.specs.Saved.SavedText.{SavedParts, IsSavedText, parts_of};
+ghost use Rattle.bg_wire.specs.Saved.Restoring.{Restores, IsSavedBy, IsSavableIn};
+ghost use Rattle.bg_wire.specs.Saved.SlotReading.{ReadsSlot, ReadsFirst, ReadsSlots};
 
+use crate::saves::layouts::split_front;
 use crate::{LoadFault, RestoreRefusal, Saved, load};
 use bg_match::Rules;
 use std::alloc::Global;
 
 /// What a party of a match comes back with, by the bytes of its two slots: of the saved texts among them the one
 /// whose save has the greater number, and that of slot 0 where they are equal; `None` where neither slot has a
-/// saved text and slot 0 is empty (docs/FORMATS.md, "Saved files").
+/// saved text and slot 0 is empty (docs/FORMATS.md, "Saved files"). It loads the text whose front tells the greater
+/// number, and the other one only where that is none.
 ///
 /// # Errors
 /// `Damaged` where neither slot has a saved text and slot 0 is not empty; `WrongMatch` where the party, the id, the
@@ -29,13 +31,46 @@ pub fn restore(
     ensures restores { Restores slot0.now slot1.now party id (terms_of length rules) result }
     ensures savable { IfOk result IsSavableIn }
 {
-    let first = read_slot(alloc, slot0)?;
-    let second = read_slot(alloc, slot1)?;
-    match newer(first, second) {
+    match read_newer(alloc, slot0, slot1)? {
         Some(saved) if is_saved_by(&saved, party, id, length, rules) => Ok(Some(saved)),
         Some(_) => Err(RestoreRefusal::WrongMatch),
         None if slot0.is_empty() => Ok(None),
         None => Err(RestoreRefusal::Damaged),
+    }
+}
+
+/// The newer of the saved matches of both slots, and that of slot 0 where they are equally new.
+fn read_newer(alloc: Global, slot0: &[u8], slot1: &[u8]) -> Result<Option<Saved>, RestoreRefusal>
+    ensures reads { ReadsSlots slot0.now slot1.now result }
+    ensures savable { IfOk result IsSavableIn }
+{
+    if told_save(slot0) < told_save(slot1) {
+        read_first(alloc, slot1, slot0)
+    } else {
+        read_first(alloc, slot0, slot1)
+    }
+}
+
+/// The number of the save that a slot's text tells in front of its entries, whether they are legal or not; 0 where the
+/// slot has no such front.
+fn told_save(bytes: &[u8]) -> u32
+    ensures { (p : SavedParts) → IsSavedText p bytes.now → result ≡ p.save }
+{
+    match split_front(bytes) {
+        Ok((front, _)) => front.save,
+        Err(_) => 0,
+    }
+}
+
+/// The saved match of the first of two slots, and that of the other one where the first has none. So the entries of
+/// one slot alone are judged, unless the text that should be the newer one is torn.
+fn read_first(alloc: Global, first: &[u8], other: &[u8]) -> Result<Option<Saved>, RestoreRefusal>
+    ensures reads { ReadsFirst first.now other.now result }
+    ensures savable { IfOk result IsSavableIn }
+{
+    match read_slot(alloc, first)? {
+        Some(saved) => Ok(Some(saved)),
+        None => read_slot(alloc, other),
     }
 }
 
@@ -48,20 +83,6 @@ fn read_slot(alloc: Global, bytes: &[u8]) -> Result<Option<Saved>, RestoreRefusa
         Ok(saved) => Ok(Some(saved)),
         Err(LoadFault::Memory) => Err(RestoreRefusal::Memory),
         Err(_) => Ok(None),
-    }
-}
-
-/// The one whose save has the greater number, and the first where they are equal.
-fn newer(first: Option<Saved>, second: Option<Saved>) -> Option<Saved>
-    requires first { IsSavableIn first }
-    requires second { IsSavableIn second }
-    ensures parts { parts_in result ≡ newer_of (parts_in first) (parts_in second) }
-    ensures savable { IsSavableIn result }
-{
-    match (first, second) {
-        (Some(first), Some(second)) if first.save < second.save => Some(second),
-        (Some(first), _) => Some(first),
-        (None, second) => second,
     }
 }
 
