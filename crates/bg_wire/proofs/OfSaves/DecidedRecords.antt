@@ -67,13 +67,25 @@ module _ (s : State) where
   opening x o (phase.Resigned p level back) e = inr (λ h. let same = h.1.0 in cc)
   opening x o (phase.Over p) e = inr (λ h. let same = h.1.0 in cc)
 
-  rolled : (dice : _) (ph : Phase) → s.phase ≡ ph → Next s (entry.Rolled dice)
-  rolled dice (phase.ToAct p) e = inl (_, (p, e, refl))
-  rolled dice phase.Opening e = inr (λ h. let same = h.1.1 in cc)
-  rolled dice (phase.Doubled p) e = inr (λ h. let same = h.1.1 in cc)
-  rolled dice (phase.ToMove p other) e = inr (λ h. let same = h.1.1 in cc)
-  rolled dice (phase.Resigned p level back) e = inr (λ h. let same = h.1.1 in cc)
-  rolled dice (phase.Over p) e = inr (λ h. let same = h.1.1 in cc)
+  -- which phase it is
+  to_act : (ph : Phase) → s.phase ≡ ph → Decided ((p : Player) × (s.phase ≡ phase.ToAct p))
+  to_act (phase.ToAct p) e = inl (p, e)
+  to_act phase.Opening e = inr (λ h. let same = h.1 in cc)
+  to_act (phase.Doubled p) e = inr (λ h. let same = h.1 in cc)
+  to_act (phase.ToMove p dice) e = inr (λ h. let same = h.1 in cc)
+  to_act (phase.Resigned p level back) e = inr (λ h. let same = h.1 in cc)
+  to_act (phase.Over p) e = inr (λ h. let same = h.1 in cc)
+
+  to_answer : (ph : Phase) → s.phase ≡ ph → Decided ((q : Player) × (s.phase ≡ phase.Doubled q))
+  to_answer (phase.Doubled q) e = inl (q, e)
+  to_answer phase.Opening e = inr (λ h. let same = h.1 in cc)
+  to_answer (phase.ToAct p) e = inr (λ h. let same = h.1 in cc)
+  to_answer (phase.ToMove p dice) e = inr (λ h. let same = h.1 in cc)
+  to_answer (phase.Resigned p level back) e = inr (λ h. let same = h.1 in cc)
+  to_answer (phase.Over p) e = inr (λ h. let same = h.1 in cc)
+
+  rolled : (dice : _) → Next s (entry.Rolled dice)
+  rolled dice = decided_by (λ h. (_, (h.0, h.1, refl))) (λ h. (h.1.0, h.1.1)) (to_act s.phase refl)
 
   doubled : (ph : Phase) → s.phase ≡ ph → Next s entry.Doubled
   doubled (phase.ToAct p) e = of (decided_double s p)
@@ -87,21 +99,11 @@ module _ (s : State) where
   doubled (phase.Resigned p level back) e = inr (λ h. let same = h.1.1 in cc)
   doubled (phase.Over p) e = inr (λ h. let same = h.1.1 in cc)
 
-  taken : (ph : Phase) → s.phase ≡ ph → Next s entry.Taken
-  taken (phase.Doubled q) e = inl (_, (q, e, refl))
-  taken phase.Opening e = inr (λ h. let same = h.1.1 in cc)
-  taken (phase.ToAct p) e = inr (λ h. let same = h.1.1 in cc)
-  taken (phase.ToMove p dice) e = inr (λ h. let same = h.1.1 in cc)
-  taken (phase.Resigned p level back) e = inr (λ h. let same = h.1.1 in cc)
-  taken (phase.Over p) e = inr (λ h. let same = h.1.1 in cc)
+  taken : Next s entry.Taken
+  taken = decided_by (λ h. (_, (h.0, h.1, refl))) (λ h. (h.1.0, h.1.1)) (to_answer s.phase refl)
 
-  dropped : (ph : Phase) → s.phase ≡ ph → Next s entry.Dropped
-  dropped (phase.Doubled q) e = inl (_, (q, e, refl))
-  dropped phase.Opening e = inr (λ h. let same = h.1.1 in cc)
-  dropped (phase.ToAct p) e = inr (λ h. let same = h.1.1 in cc)
-  dropped (phase.ToMove p dice) e = inr (λ h. let same = h.1.1 in cc)
-  dropped (phase.Resigned p level back) e = inr (λ h. let same = h.1.1 in cc)
-  dropped (phase.Over p) e = inr (λ h. let same = h.1.1 in cc)
+  dropped : Next s entry.Dropped
+  dropped = decided_by (λ h. (_, (h.0, h.1, refl))) (λ h. (h.1.0, h.1.1)) (to_answer s.phase refl)
 
   moved : (turn : _) (ph : Phase) → s.phase ≡ ph → Next s (entry.Moved turn)
   moved turn (phase.ToMove p dice) e = of (both (decided_bool (passes s) false) (decided_turn s.board p dice turn))
@@ -151,21 +153,19 @@ module _ (s : State) where
       no_phase_back p None same = absurd cc
       no_phase_back p (Some dice) same = absurd cc
 
-  accepted : (ph : Phase) → s.phase ≡ ph → Next s entry.Accepted
-  accepted (phase.Resigned p level back) e = inl (_, (p, level, back, e, refl))
-  accepted phase.Opening e = inr (λ h. let same = h.1.3 in cc)
-  accepted (phase.ToAct p) e = inr (λ h. let same = h.1.3 in cc)
-  accepted (phase.Doubled p) e = inr (λ h. let same = h.1.3 in cc)
-  accepted (phase.ToMove p dice) e = inr (λ h. let same = h.1.3 in cc)
-  accepted (phase.Over p) e = inr (λ h. let same = h.1.3 in cc)
+  offered : (ph : Phase) → s.phase ≡ ph → Decided ((p : Player) × (level : _) × (back : _) × (s.phase ≡ phase.Resigned p level back))
+  offered (phase.Resigned p level back) e = inl (p, level, back, e)
+  offered phase.Opening e = inr (λ h. let same = h.3 in cc)
+  offered (phase.ToAct p) e = inr (λ h. let same = h.3 in cc)
+  offered (phase.Doubled p) e = inr (λ h. let same = h.3 in cc)
+  offered (phase.ToMove p dice) e = inr (λ h. let same = h.3 in cc)
+  offered (phase.Over p) e = inr (λ h. let same = h.3 in cc)
 
-  rejected : (ph : Phase) → s.phase ≡ ph → Next s entry.Rejected
-  rejected (phase.Resigned p level back) e = inl (_, (p, level, back, e, refl))
-  rejected phase.Opening e = inr (λ h. let same = h.1.3 in cc)
-  rejected (phase.ToAct p) e = inr (λ h. let same = h.1.3 in cc)
-  rejected (phase.Doubled p) e = inr (λ h. let same = h.1.3 in cc)
-  rejected (phase.ToMove p dice) e = inr (λ h. let same = h.1.3 in cc)
-  rejected (phase.Over p) e = inr (λ h. let same = h.1.3 in cc)
+  accepted : Next s entry.Accepted
+  accepted = decided_by (λ h. (_, (h.0, h.1, h.2, h.3, refl))) (λ h. (h.1.0, h.1.1, h.1.2, h.1.3)) (offered s.phase refl)
+
+  rejected : Next s entry.Rejected
+  rejected = decided_by (λ h. (_, (h.0, h.1, h.2, h.3, refl))) (λ h. (h.1.0, h.1.1, h.1.2, h.1.3)) (offered s.phase refl)
 
   passed : (ph : Phase) → s.phase ≡ ph → Next s entry.Passed
   passed (phase.ToMove p dice) e = of (decided_bool (passes s) true)
@@ -181,14 +181,14 @@ module _ (s : State) where
 
   next : (e : Entry) → Next s e
   next (entry.Opening x o) = opening x o s.phase refl
-  next (entry.Rolled dice) = rolled dice s.phase refl
+  next (entry.Rolled dice) = rolled dice
   next entry.Doubled = doubled s.phase refl
-  next entry.Taken = taken s.phase refl
-  next entry.Dropped = dropped s.phase refl
+  next entry.Taken = taken
+  next entry.Dropped = dropped
   next (entry.Moved turn) = moved turn s.phase refl
   next (entry.Resigned level) = resigned level s.phase refl
-  next entry.Accepted = accepted s.phase refl
-  next entry.Rejected = rejected s.phase refl
+  next entry.Accepted = accepted
+  next entry.Rejected = rejected
   next entry.Passed = passed s.phase refl
 
 -- where entries lead, or that they lead nowhere
