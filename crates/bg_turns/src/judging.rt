@@ -1,7 +1,7 @@
 //! The judge of a turn, who plays it as far as it goes.
-ghost use Rattle.std.specs.Prelude.{◌≡◌, ◌≤◌, ◌↔◌, IsOk, IfOk, IfErr, IsTrue, length, map};
+ghost use Rattle.std.specs.Prelude.{◌≡◌, ◌≤◌, ◌↔◌, IsOk, IfOk, IfErr, OnOk, OnErr, IsTrue, length, map};
 ghost use Rattle.bg_board.specs.Die.{pips};
-ghost use Rattle.bg_board.specs.Position.{Position};
+ghost use Rattle.bg_board.specs.Position.{Position, HasAllOff};
 ghost use Rattle.bg_board.specs.declared.players.Player.{Player as SeenPlayer};
 ghost use Rattle.bg_turns.specs.Dice.{dice_list};
 ghost use Rattle.bg_turns.specs.InOrder.{IsPartInOrder, AreLegalSteps};
@@ -35,37 +35,62 @@ pub fn judge_turn(
     ensures after { IfOk result (λ after. after ≡ after_steps board.now player turn.now) }
     ensures fault { IfErr result (λ fault. IsTurnFault fault board.now player dice turn.now) }
 {
-    judge_steps(board, player, dice, turn.steps())
+    let mut after = *board;
+    play_turn(&mut after, player, dice, turn)?;
+    Ok(after)
+}
+
+/// Plays a turn of the player with the dice on a board, which a refusal leaves as it was: for a caller who keeps no
+/// board before the turn (docs/RULES.md, "A turn").
+///
+/// # Errors
+///
+/// As [`judge_turn`].
+pub fn play_turn(
+    board: &mut Board,
+    player: Player,
+    dice: Dice,
+    turn: &Turn,
+) -> Result<(), TurnFault>
+    ensures ok { IsOk result ↔ IsLegalTurn board.old player dice turn.now }
+    ensures after { OnOk result (board.new ≡ after_steps board.old player turn.now) }
+    ensures err { OnErr result (board.new ≡ board.old) }
+    ensures fault { IfErr result (λ fault. IsTurnFault fault board.old player dice turn.now) }
+{
+    let steps = turn.steps();
+    judge_steps(board, player, dice, steps)?;
+    play_all(board, player, steps);
+    Ok(())
 }
 
 /// Judges the steps of a turn.
-fn judge_steps(
-    board: &Board,
-    player: Player,
-    dice: Dice,
-    steps: &[Step],
-) -> Result<Board, TurnFault>
+fn judge_steps(board: &Board, player: Player, dice: Dice, steps: &[Step]) -> Result<(), TurnFault>
     requires { length steps.now ≤ 4 }
     ensures ok { IsOk result ↔ IsLegalTurn board.now player dice steps.now }
-    ensures after { IfOk result (λ after. after ≡ after_steps board.now player steps.now) }
+    ensures legal { OnOk result (AreLegalSteps board.now player steps.now) }
     ensures fault { IfErr result (λ fault. IsTurnFault fault board.now player dice steps.now) }
 {
     let played = longest_part(board, player, dice, steps);
     if played < steps.len() {
         return Err(TurnFault::StepIllegal(played as u8));
     }
-    let mut after = *board;
-    play_all(&mut after, player, steps);
-    if after.has_all_off(player) {
-        return Ok(after);
-    }
-    if can_play_more(board, player, dice, steps.len()) {
+    if can_play_more(board, player, dice, steps.len()) && !bears_all_off(board, player, steps) {
         return Err(TurnFault::MoreCanBePlayed);
     }
-    if !uses_larger(board, player, dice, steps) {
+    if !uses_larger(board, player, dice, steps) && !bears_all_off(board, player, steps) {
         return Err(TurnFault::LargerMustBePlayed);
     }
-    Ok(after)
+    Ok(())
+}
+
+/// Whether steps that can be played bear off the last of the player's checkers.
+fn bears_all_off(board: &Board, player: Player, steps: &[Step]) -> bool
+    requires { AreLegalSteps board.now player steps.now }
+    ensures { IsTrue result ↔ HasAllOff (after_steps board.now player steps.now) player }
+{
+    let mut after = *board;
+    play_all(&mut after, player, steps);
+    after.has_all_off(player)
 }
 
 /// Whether a single step with two different dice is one by the larger die, if there is one.

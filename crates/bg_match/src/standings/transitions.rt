@@ -6,7 +6,7 @@ ghost use Rattle.bg_match.specs.Follows.{phase_back as back_phase, opener as ope
 
 use crate::{Entry, EntryFault, GREATEST_CUBE, NoDouble, Phase, Standing, level_of};
 use bg_board::{Die, Player};
-use bg_turns::{Dice, Turn, judge_turn};
+use bg_turns::{Dice, Turn, play_turn};
 
 impl Standing {
     ghost use Rattle.bg_match.specs.State.{IsState};
@@ -155,7 +155,7 @@ impl Standing {
         ensures err { OnErr result (self.new ≡ self.old) }
         ensures fault { IfErr result (λ fault. MovedFault fault self.old player dice turn.now) }
     {
-        self.board = judge_turn(&self.board, player, dice, turn).map_err(EntryFault::Turn)?;
+        play_turn(&mut self.board, player, dice, turn).map_err(EntryFault::Turn)?;
         match level_of(&self.board, player) {
             None => Ok(self.enter(Phase::ToAct(player.opponent()))),
             Some(level) => Ok(self.win(player, self.worth(level))),
