@@ -10,12 +10,12 @@ use Rattle.bg_match.specs.declared.levels.Level.{Level}
 use Rattle.bg_match.specs.declared.limits.Rules.{Rules}
 use Rattle.bg_match.specs.declared.entries.Entry.{Entry}
 use Rattle.bg_match.specs.declared.entries.Entry.TheVariants as entry
-use Rattle.bg_mat.specs.Cells.{TellsRow}
-use Rattle.bg_mat.specs.Headings.{IsFiller, IsGameLine, IsLengthLine, IsScoresLine}
+use Rattle.bg_mat.specs.Rows.Cells.{TellsRow}
+use Rattle.bg_mat.specs.Rows.Headings.{IsFiller, IsGameLine, IsLengthLine, IsScoresLine}
 use Rattle.bg_text.specs.Judge.Judging.{lines_of}
 use Rattle.bg_mat.specs.Telling.{Item, Game, Scores, Does, Told, Place, AreTold, deed_of}
-use Rattle.bg_mat.specs.declared.cells.Cell.{Cell}
-use Rattle.bg_mat.specs.declared.cells.Cell.TheVariants as cell
+use Rattle.bg_mat.specs.declared.rows.cells.Cell.{Cell}
+use Rattle.bg_mat.specs.declared.rows.cells.Cell.TheVariants as cell
 use Rattle.bg_mat.specs.declared.rows.Row.{Row}
 use Rattle.bg_mat.specs.declared.importing.Awaited.{Awaited}
 use Rattle.bg_mat.specs.declared.importing.Awaited.TheVariants as awaited

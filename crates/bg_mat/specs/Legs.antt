@@ -1,7 +1,7 @@
 -- What the words of a movement tell.
 use Rattle.std.specs.Prelude.{◌≡◌, ◌≢◌, ◌⊎◌, ℕ, zero, suc, ◌+◌, ◌≤◌, Bool, true, false, List, [], ◌∷◌, ◌++◌, codes}
-use Rattle.bg_mat.specs.Numbers.{IsNumber}
-use Rattle.bg_mat.specs.declared.legs.Leg.{Leg}
+use Rattle.bg_mat.specs.Rows.Numbers.{IsNumber}
+use Rattle.bg_mat.specs.declared.movements.legs.Leg.{Leg}
 
 -- the word names the point, which is 25 for the bar and 0 for off
 abbrev pub IsPointText : List ℕ → ℕ → Type 0

@@ -1,8 +1,4 @@
-pub mod Words
-pub mod Numbers
-pub mod Headings
 pub mod Legs
-pub mod Cells
 pub mod Turns
 pub mod Telling
 pub mod Replaying
@@ -11,6 +7,5 @@ pub mod Files
 pub mod Reading
 pub mod Tellings
 pub mod Retelling
-pub mod CellTexts
-pub mod RowTexts
 pub mod Refusals
+pub mod Rows

@@ -1,6 +1,6 @@
 -- Which files are refused, and at which line.
 use Rattle.std.specs.Prelude.{◌≡◌, ◌⊎◌, ℕ, ◌+◌, ◌<◌, ◌≤◌, Some, List, [], ◌∷◌, ◌++◌, length}
-use Rattle.bg_mat.specs.Headings.{IsFiller, IsLengthLine}
+use Rattle.bg_mat.specs.Rows.Headings.{IsFiller, IsLengthLine}
 use Rattle.bg_mat.specs.declared.faults.ImportFault.{ImportFault}
 use Rattle.bg_mat.specs.declared.faults.ImportFault.TheVariants as import_fault
 use Rattle.bg_mat.specs.declared.faults.MatFault.{MatFault}

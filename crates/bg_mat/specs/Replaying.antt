@@ -10,7 +10,7 @@ use Rattle.bg_match.specs.State.{start_of}
 use Rattle.bg_match.specs.declared.levels.Level.{Level}
 use Rattle.bg_match.specs.declared.entries.Entry.TheVariants as entry
 use Rattle.bg_match.specs.declared.entries.Entry.{Entry}
-use Rattle.bg_mat.specs.Headings.{IsScoresLine}
+use Rattle.bg_mat.specs.Rows.Headings.{IsScoresLine}
 use Rattle.bg_mat.specs.Telling.{Deed, Turn, Does, Scores, Told, Place, Tells, AreTold, BringsDice, GoesOn, MayResign}
 use Rattle.bg_mat.specs.Telling.{MovesBy}
 use Rattle.bg_mat.specs.declared.playing.PendingTurn.{PendingTurn}

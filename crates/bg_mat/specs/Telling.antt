@@ -13,9 +13,9 @@ use Rattle.bg_match.specs.declared.phases.Phase.TheVariants as phase
 use Rattle.bg_match.specs.declared.entries.Entry.{Entry}
 use Rattle.bg_match.specs.declared.entries.Entry.TheVariants as entry
 use Rattle.bg_mat.specs.Turns.{TellsTurn}
-use Rattle.bg_mat.specs.declared.legs.Leg.{Leg}
-use Rattle.bg_mat.specs.declared.cells.Cell.{Cell}
-use Rattle.bg_mat.specs.declared.cells.Cell.TheVariants as cell
+use Rattle.bg_mat.specs.declared.movements.legs.Leg.{Leg}
+use Rattle.bg_mat.specs.declared.rows.cells.Cell.{Cell}
+use Rattle.bg_mat.specs.declared.rows.cells.Cell.TheVariants as cell
 
 -- what a player does, by a cell: he brings dice and moves, doubles to so much, takes, drops, or wins so many points,
 -- which may be said to end the match

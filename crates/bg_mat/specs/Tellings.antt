@@ -13,12 +13,12 @@ use Rattle.bg_match.specs.declared.entries.Entry.{Entry}
 use Rattle.bg_match.specs.declared.entries.Entry.TheVariants as entry
 use Rattle.bg_mat.specs.Telling.{Item, Game, Scores, Does, Place, Tells, deed_of, IsOverMatch}
 use Rattle.bg_mat.specs.Turns.{HasHits, is_reached, steps_of}
-use Rattle.bg_mat.specs.declared.cells.Cell.{Cell}
-use Rattle.bg_mat.specs.declared.cells.Cell.TheVariants as cell
-use Rattle.bg_mat.specs.declared.cells.Win.{Win}
+use Rattle.bg_mat.specs.declared.rows.cells.Cell.{Cell}
+use Rattle.bg_mat.specs.declared.rows.cells.Cell.TheVariants as cell
+use Rattle.bg_mat.specs.declared.rows.cells.Win.{Win}
 use Rattle.bg_mat.specs.declared.importing.Awaited.{Awaited}
 use Rattle.bg_mat.specs.declared.importing.Awaited.TheVariants as awaited
-use Rattle.bg_mat.specs.declared.legs.Leg.{Leg}
+use Rattle.bg_mat.specs.declared.movements.legs.Leg.{Leg}
 use Rattle.bg_mat.specs.declared.tellings.GameStart.{GameStart}
 use Rattle.bg_mat.specs.declared.tellings.Telling.{Telling}
 use Rattle.bg_mat.specs.declared.tellings.Telling.TheVariants as telling

@@ -7,7 +7,7 @@ use Rattle.bg_board.specs.declared.players.Player.{Player}
 use Rattle.bg_turns.specs.Turn.{IsLegalTurn}
 use Rattle.bg_turns.specs.TurnOrder.{IsGreater}
 use Rattle.bg_turns.specs.declared.throws.Dice.{Dice}
-use Rattle.bg_mat.specs.declared.legs.Leg.{Leg}
+use Rattle.bg_mat.specs.declared.movements.legs.Leg.{Leg}
 
 -- the legs as steps
 abbrev pub steps_of : List Leg → List FromTo

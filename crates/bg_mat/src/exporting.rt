@@ -1,13 +1,13 @@
 //! A record written as a match file.
 ghost use Rattle.std.specs.Prelude.{◌≡◌, ◌<◌, ◌≤◌, ◌++◌, ◌∷◌, length, IfOk, OnOk, MatchOption, List};
 ghost use Rattle.bg_mat.specs.Files.{Exports};
-ghost use Rattle.bg_mat.specs.RowTexts.{Both, Alone, WritesRow, grouped, length_text, lines_text};
-ghost use Rattle.bg_mat.specs.RowTexts.{next_row as next_row_number};
+ghost use Rattle.bg_mat.specs.Rows.RowTexts.{Both, Alone, WritesRow, grouped, length_text, lines_text};
+ghost use Rattle.bg_mat.specs.Rows.RowTexts.{next_row as next_row_number};
 ghost use Rattle.bg_mat.specs.declared.tellings.Telling.{Telling as Told};
 
-use crate::cells::Cell;
-use crate::retelling::tellings_of;
-use crate::row_texts::{put_alone, put_both, put_game};
+use crate::rows::cells::Cell;
+use crate::tellings::retelling::tellings_of;
+use crate::rows::row_texts::{put_alone, put_both, put_game};
 use crate::tellings::Telling;
 use bg_board::Player;
 use bg_match::Record;

@@ -3,16 +3,16 @@ ghost use Rattle.std.specs.Prelude.{◌≡◌, ◌+◌, ◌<◌, ◌≤◌, ◌�
 ghost use Rattle.bg_match.specs.Match.{IsLog, empty_log};
 ghost use Rattle.bg_match.specs.Terms.{terms_of};
 ghost use Rattle.bg_mat.specs.Files.{Imports, after_row, is_win as is_win_cell, item_of, items_of, numbered};
-ghost use Rattle.bg_mat.specs.Headings.{IsGameLine, IsLengthLine};
+ghost use Rattle.bg_mat.specs.Rows.Headings.{IsGameLine, IsLengthLine};
 ghost use Rattle.bg_text.specs.Judge.Judging.{lines_of};
 ghost use Rattle.bg_text.specs.Limits.{most_bytes};
 ghost use Rattle.bg_mat.specs.Replaying.{Begins, GoesOnBy, IsReplay};
 ghost use Rattle.bg_mat.specs.Reading.{AddsLine, ReadsGames};
 ghost use Rattle.bg_mat.specs.Refusals.{IsAtLineOf, IsAtToldLine, IsBeginFault, IsReadFault, IsRefusal};
 
-use crate::cells::Cell;
+use crate::rows::cells::Cell;
 use crate::faults::{ReadFault, refused};
-use crate::headings::{is_filler, read_game, read_length};
+use crate::rows::headings::{is_filler, read_game, read_length};
 use crate::playing::Replay;
 use crate::rows::{Row, read_row};
 use crate::{ImportFault, MatFault};

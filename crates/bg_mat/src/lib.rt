@@ -11,29 +11,19 @@
 //! ```
 #![tactic(auto)]
 
-mod cell_texts;
-mod cells;
 mod exporting;
 mod fault_words;
 mod faults;
-mod headings;
 mod importing;
-mod legs;
 mod movements;
-mod numbers;
 mod playing;
-mod retelling;
-mod row_texts;
 mod rows;
-mod telling_apart;
 mod tellings;
 #[cfg(test)]
 mod tests;
-mod turns;
-mod words;
 mod writing;
 
 pub use exporting::export_mat;
 pub use faults::{ImportFault, MatFault};
 pub use importing::{Imported, import_mat};
-pub use telling_apart::is_match_file;
+pub use tellings::telling_apart::is_match_file;

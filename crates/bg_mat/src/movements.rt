@@ -3,7 +3,10 @@ ghost use Rattle.std.specs.Prelude.{◌≡◌, ◌+◌, ◌≤◌, ◌↔◌, le
 ghost use Rattle.bg_mat.specs.Turns.{HasHits, SameMovement, coming, is_hit as is_hit_by_rule};
 ghost use Rattle.bg_mat.specs.Turns.{is_marked as is_marked_point, is_reached as is_reached_point, leaving, steps_of};
 
-use crate::legs::Leg;
+pub(crate) mod legs;
+pub(crate) mod turns;
+
+use crate::movements::legs::Leg;
 use bg_board::{BAR, Board, OFF, Player, Step};
 use bg_turns::Turn;
 

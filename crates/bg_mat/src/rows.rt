@@ -1,12 +1,19 @@
 //! A row of a game: what X does, in the left column, and what O does, in the right one.
 ghost use Rattle.std.specs.Prelude.{ℕ, List, IfOk};
-ghost use Rattle.bg_mat.specs.Cells.{SkipsNumber, TellsCell, TellsCells, TellsRow};
-ghost use Rattle.bg_mat.specs.Words.{IsBlankText};
+ghost use Rattle.bg_mat.specs.Rows.Cells.{SkipsNumber, TellsCell, TellsCells, TellsRow};
+ghost use Rattle.bg_mat.specs.Rows.Words.{IsBlankText};
+
+pub(crate) mod cell_texts;
+pub(crate) mod cells;
+pub(crate) mod headings;
+pub(crate) mod numbers;
+pub(crate) mod row_texts;
+pub(crate) mod words;
 
 use crate::MatFault;
-use crate::cells::{Cell, split_cell};
-use crate::numbers::read_number;
-use crate::words::{count_blanks, is_blank_text, split_word};
+use crate::rows::cells::{Cell, split_cell};
+use crate::rows::numbers::read_number;
+use crate::rows::words::{count_blanks, is_blank_text, split_word};
 
 /// So many blanks before the first cell of a row, or more, stand for an empty left column.
 const LEFT_COLUMN: usize = 16;

@@ -4,8 +4,11 @@ ghost use Rattle.bg_mat.specs.Turns.{HasHits, steps_of};
 ghost use Rattle.bg_mat.specs.Tellings.{HasGameNumbers, IsDeedIn, IsWinOf, TellsDice, TellsEntry, TellsMove};
 ghost use Rattle.bg_mat.specs.Tellings.{TellsWin, is_new_hit};
 
-use crate::cells::{Cell, Win};
-use crate::legs::{Leg, Legs};
+pub(crate) mod retelling;
+pub(crate) mod telling_apart;
+
+use crate::rows::cells::{Cell, Win};
+use crate::movements::legs::{Leg, Legs};
 use crate::movements::is_reached;
 use arrayvec::ArrayVec;
 use bg_board::{BAR, Board, OFF, Player, Step};

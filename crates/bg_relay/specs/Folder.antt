@@ -9,8 +9,8 @@ use Rattle.bg_wire.specs.Saved.Restoring.{LoadsAs, SlotsRestore}
 use Rattle.bg_wire.specs.Saved.SavedText.{SavedParts}
 use Rattle.bg_wire.specs.declared.faults.LoadFault.{LoadFault}
 use Rattle.bg_relay.specs.Show.{IsHeld, IsBoardOf, held_part}
-use Rattle.bg_relay.specs.declared.comparing.Compared.{Compared}
-use Rattle.bg_relay.specs.declared.comparing.Compared.TheVariants.{OtherMatch, Differs, Behind}
+use Rattle.bg_relay.specs.declared.folders.comparing.Compared.{Compared}
+use Rattle.bg_relay.specs.declared.folders.comparing.Compared.TheVariants.{OtherMatch, Differs, Behind}
 
 -- two saved matches are of one match
 abbrev pub IsSameMatch : SavedParts → SavedParts → Type 0

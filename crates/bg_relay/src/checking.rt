@@ -5,6 +5,9 @@ ghost use Rattle.bg_mat.specs.FaultWords.{import_fault_words};
 ghost use Rattle.bg_relay.specs.Check.{IsCheckText, IsMatchFileText, IsMatchFileVerdict, IsTranscriptText};
 ghost use Rattle.bg_relay.specs.Check.{last_line as last_of, printed_line, refused_in, refused_part, room_in};
 
+pub(crate) mod checkers;
+pub(crate) mod tallies;
+
 use crate::harmless::harmless;
 use bg_mat::{ImportFault, import_mat, is_match_file};
 use bg_match::{Number, Rules};

@@ -1,22 +1,17 @@
 //! The commands: each has its options, its help and what it does in a file of its own, and a line in each list of this
-//! one.
+//! one. Those that read a transcript, or a match file of another program, have a folder of their own.
 
 mod act;
 mod auto;
-mod check;
-mod export;
-mod import;
-mod judge;
 mod new_match;
 mod options;
-mod page;
-mod picture;
 mod play;
 mod play_loop;
 mod referee;
 mod script;
 mod show;
 pub(crate) mod sim;
+mod transcripts;
 mod watch;
 
 use crate::endings::Ending;
@@ -41,13 +36,13 @@ pub(crate) fn command_line<'a>(alloc: Global) -> Result<Command<'a>, Error> {
             .version(VERSION)
             .subcommand_required(true)
             .arg_required_else_help(true)
-            .subcommand(judge::command(alloc)?)?
-            .subcommand(check::command(alloc)?)?
-            .subcommand(import::command(alloc)?)?
-            .subcommand(export::command(alloc)?)?
+            .subcommand(transcripts::judge::command(alloc)?)?
+            .subcommand(transcripts::check::command(alloc)?)?
+            .subcommand(transcripts::import::command(alloc)?)?
+            .subcommand(transcripts::export::command(alloc)?)?
             .subcommand(show::command(alloc)?)?
-            .subcommand(page::command(alloc)?)?
-            .subcommand(picture::command(alloc)?)?
+            .subcommand(transcripts::page::command(alloc)?)?
+            .subcommand(transcripts::picture::command(alloc)?)?
             .subcommand(script::command(alloc)?)?
             .subcommand(sim::command(alloc)?)?
             .subcommand(play_loop::command(alloc)?)?
@@ -72,15 +67,15 @@ where
     R: Input + Files<File = File> + Net + Clock + RandomSource + Print + Eprint + AllocGlobal,
 {
     match matches.subcommand() {
-        Some(("judge", options)) => judge::run(rt, options),
+        Some(("judge", options)) => transcripts::judge::run(rt, options),
         Some(("check", options)) => {
-            check::run(rt, options, columns, Progress::start(rt, is_watched))
+            transcripts::check::run(rt, options, columns, Progress::start(rt, is_watched))
         }
-        Some(("import", options)) => import::run(rt, options),
-        Some(("export", options)) => export::run(rt, options),
+        Some(("import", options)) => transcripts::import::run(rt, options),
+        Some(("export", options)) => transcripts::export::run(rt, options),
         Some(("show", options)) => show::run(rt, options),
-        Some(("page", options)) => page::run(rt, options),
-        Some(("picture", options)) => picture::run(rt, options),
+        Some(("page", options)) => transcripts::page::run(rt, options),
+        Some(("picture", options)) => transcripts::picture::run(rt, options),
         Some(("script", options)) => script::run(rt, options),
         Some(("sim", options)) => sim::run(rt, options, Progress::start(rt, is_watched)),
         Some(("loop", options)) => play_loop::run(rt, options, Progress::start(rt, is_watched)),

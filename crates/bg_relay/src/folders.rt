@@ -9,8 +9,11 @@ ghost use Rattle.bg_relay.specs.Folder.{AreHeldIn, IsFolderText, IsHolding, IsPa
 ghost use Rattle.bg_relay.specs.Folder.{further as further_of, slot_line as line_of_slot, slot_lines};
 ghost use Rattle.bg_relay.specs.Show.{IsBoardOf, held_of, loaded_of};
 
-use crate::comparing::{Compared, compare};
-use crate::restored::newer_of;
+pub(crate) mod comparing;
+pub(crate) mod restored;
+
+use crate::folders::comparing::{Compared, compare};
+use crate::folders::restored::newer_of;
 use crate::showing::{Held, hold, put_board_of, put_held, put_numbered};
 use bg_match::Number;
 use bg_text::{put_number, put_text};

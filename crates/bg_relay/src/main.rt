@@ -2,27 +2,21 @@
 //! memory or over sockets and files.
 #![tactic(auto)]
 
-mod answers;
 mod beginnings;
-mod checkers;
 mod checking;
 mod commands;
-mod comparing;
 mod endings;
 mod folders;
 mod harmless;
 mod inputs;
 mod messages;
 mod published;
-mod restored;
 mod screens;
 mod seats;
 mod showing;
-mod tallies;
 mod tellings;
 #[cfg(test)]
 mod tests;
-mod typed_lines;
 
 pub use bg_auto::{
     DiceAttempts, LoopFault, MemoryWorld, Simulation, auto_action, dice_word, event_of,

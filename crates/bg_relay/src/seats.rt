@@ -1,5 +1,8 @@
 //! The process of a seat, for the commands that play.
 
+pub(crate) mod answers;
+pub(crate) mod typed_lines;
+
 use crate::beginnings::{match_of, own_folder, socket_of, stopped, unwaited, waiting_for};
 use crate::endings::Ending;
 use crate::messages::says::say_failures;

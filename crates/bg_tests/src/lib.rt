@@ -11,13 +11,7 @@ mod fronts;
 #[cfg(test)]
 mod host_tests;
 #[cfg(test)]
-mod lone_followers;
-#[cfg(test)]
-mod lone_referee;
-#[cfg(test)]
-mod lone_table;
-#[cfg(test)]
-mod lone_tests;
+mod lone;
 #[cfg(test)]
 mod match_files;
 #[cfg(test)]

@@ -1,6 +1,6 @@
 //! What is shown of the saved files of a folder, and the transcripts of what files restore.
 use crate::folders::{SlotBytes, folder_text};
-use crate::restored::restored_transcript;
+use crate::folders::restored::restored_transcript;
 use crate::tests::{
     AFTER_THE_MOVE, AFTER_THE_OPENING, OPENING, REFEREE, REFEREE_OF_OLD, SEAT,
     check_no_growth_is_left,

@@ -1,5 +1,5 @@
 use Rattle.std.proofs.Common.{arith}
-use Rattle.bg_mat.proofs.WrittenFiles.{record_written}
+use Rattle.bg_mat.proofs.OfWriting.WrittenFiles.{record_written}
 use Rattle.bg_mat.proofs.exporting.export_mat.Goals as goal
 
 pub returns : goal.returns

@@ -1,5 +1,5 @@
 use Rattle.std.proofs.Common.{◌≡◌, ◌++◌, length}
-use Rattle.bg_mat.specs.RowTexts.{grouped, lines_text}
+use Rattle.bg_mat.specs.Rows.RowTexts.{grouped, lines_text}
 use Rattle.bg_mat.proofs.exporting.put_tellings.Given as goal
 
 abbrev pub invariant-loop-first : goal.invariant-loop-first

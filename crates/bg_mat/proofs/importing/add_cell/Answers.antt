@@ -1,8 +1,8 @@
 use Rattle.std.proofs.Common.{Option, sym, subst}
 use Rattle.bg_mat.specs.Files.{item_of, numbered}
 use Rattle.bg_mat.specs.Replaying.{GoesOnBy}
-use Rattle.bg_mat.specs.declared.cells.Cell.{Cell}
-use Rattle.bg_mat.proofs.Replays.{stays}
+use Rattle.bg_mat.specs.declared.rows.cells.Cell.{Cell}
+use Rattle.bg_mat.proofs.OfReading.Replays.{stays}
 use Rattle.bg_mat.proofs.importing.add_cell.Goals as goal
 
 pub returns-in-None-clause-done : goal.returns-in-None-clause-done

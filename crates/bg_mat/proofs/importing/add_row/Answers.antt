@@ -1,4 +1,4 @@
-use Rattle.bg_mat.proofs.Readings.{both_cells}
+use Rattle.bg_mat.proofs.OfReading.Readings.{both_cells}
 use Rattle.bg_mat.proofs.importing.add_row.Goals as goal
 
 pub returns-clause-done : goal.returns-clause-done

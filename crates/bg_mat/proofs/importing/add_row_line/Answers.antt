@@ -1,6 +1,6 @@
 use Rattle.std.proofs.Common.{refl, inr}
 use Rattle.bg_mat.specs.Files.{items_of}
-use Rattle.bg_mat.proofs.LegLemmas.{if_ok}
+use Rattle.bg_mat.proofs.OfReading.LegLemmas.{if_ok}
 use Rattle.bg_mat.proofs.importing.add_row_line.Goals as goal
 
 pub returns-in-Ok-clause-done : goal.returns-in-Ok-clause-done

@@ -2,9 +2,9 @@ use Rattle.std.proofs.Common.{◌≡◌, [], refl, arith, rules}
 use Rattle.bg_text.specs.Judge.Judging.{lines_of}
 use Rattle.bg_mat.specs.Refusals.{IsReadFault}
 use Rattle.std.proofs.lemmas.Grind.{common_steps}
-use Rattle.bg_mat.proofs.ImportedFiles.{file_imported}
-use Rattle.bg_mat.proofs.LegLemmas.{if_ok}
-use Rattle.bg_mat.proofs.Refusing.{begin_refused, games_refused, if_err}
+use Rattle.bg_mat.proofs.OfReading.ImportedFiles.{file_imported}
+use Rattle.bg_mat.proofs.OfReading.LegLemmas.{if_ok}
+use Rattle.bg_mat.proofs.OfReading.Refusing.{begin_refused, games_refused, if_err}
 use Rattle.bg_mat.proofs.importing.read_file.Goals as goal
 
 pub returns-in_err-record-clause-fault : goal.returns-in_err-record-clause-fault

@@ -2,7 +2,7 @@ use Rattle.std.proofs.Common.{ℕ, ◌+◌, ◌≤◌, List, length}
 use Rattle.bg_mat.specs.Files.{TellsFile}
 use Rattle.bg_text.specs.Judge.Judging.{lines_of}
 use Rattle.bg_mat.specs.Telling.{Told}
-use Rattle.bg_mat.proofs.Refusing.{RefusesFrom}
+use Rattle.bg_mat.proofs.OfReading.Refusing.{RefusesFrom}
 use Rattle.bg_mat.proofs.importing.read_file.Given as goal
 
 abbrev pub invariant-loop-line : goal.invariant-loop-line

@@ -2,8 +2,8 @@ use Rattle.std.proofs.Common.{◌≡◌, [], arith, rules}
 use Rattle.std.proofs.lemmas.Grind.{common_steps}
 use Rattle.bg_text.specs.Judge.Judging.{lines_of}
 use Rattle.bg_mat.specs.Refusals.{IsAtToldLine, IsToldLine}
-use Rattle.bg_mat.proofs.Readings.{all_read, filler_read, line_read, reading_begins}
-use Rattle.bg_mat.proofs.Refusing.{at_told, at_told_line, cut_more, not_cut, pending_on, told_here}
+use Rattle.bg_mat.proofs.OfReading.Readings.{all_read, filler_read, line_read, reading_begins}
+use Rattle.bg_mat.proofs.OfReading.Refusing.{at_told, at_told_line, cut_more, not_cut, pending_on, told_here}
 use Rattle.bg_mat.proofs.importing.read_games.Goals as goal
 use Rattle.bg_mat.proofs.importing.read_games.Goals.{then-not-is_filler+in_ok-awaited, else-not-is_filler}
 

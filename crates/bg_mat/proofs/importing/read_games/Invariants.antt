@@ -2,8 +2,8 @@ use Rattle.std.proofs.Common.{◌+◌, ◌≤◌, length}
 use Rattle.bg_text.specs.Judge.Judging.{lines_of}
 use Rattle.bg_mat.specs.Refusals.{IsToldLine}
 use Rattle.bg_mat.specs.Replaying.{pending_items}
-use Rattle.bg_mat.proofs.Readings.{IsReadUpTo}
-use Rattle.bg_mat.proofs.Refusing.{AreOn, IsCut}
+use Rattle.bg_mat.proofs.OfReading.Readings.{IsReadUpTo}
+use Rattle.bg_mat.proofs.OfReading.Refusing.{AreOn, IsCut}
 use Rattle.bg_mat.proofs.importing.read_games.Given as goal
 
 abbrev pub invariant-loop-line : goal.invariant-loop-line

@@ -1,8 +1,8 @@
 use Rattle.std.proofs.Common.{◌≡◌, ◌+◌, ◌++◌, length-append, [], ◌∷◌, take, sym, ap, ◌∙◌, arith}
 use Rattle.std.proofs.lemmas.List.{take_more}
 use Rattle.bg_board.specs.FromTo.{FromTo}
-use Rattle.bg_mat.specs.declared.legs.Leg.{Leg}
-use Rattle.bg_mat.proofs.Hits.{leg_more}
+use Rattle.bg_mat.specs.declared.movements.legs.Leg.{Leg}
+use Rattle.bg_mat.proofs.OfReading.Hits.{leg_more}
 use Rattle.bg_mat.proofs.tellings.legs_of.Goals as goal
 
 pub loop-index-preserved : goal.loop-index-preserved

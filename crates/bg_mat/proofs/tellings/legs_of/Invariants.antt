@@ -1,5 +1,5 @@
 use Rattle.std.proofs.Common.{◌≡◌, take, length}
-use Rattle.bg_mat.proofs.Hits.{AreLegsUpTo}
+use Rattle.bg_mat.proofs.OfReading.Hits.{AreLegsUpTo}
 use Rattle.bg_mat.proofs.tellings.legs_of.Given as goal
 
 abbrev pub invariant-loop-index : goal.invariant-loop-index

@@ -1,4 +1,4 @@
-use Rattle.bg_mat.proofs.Parts.{blank_more}
+use Rattle.bg_mat.proofs.OfReading.Parts.{blank_more}
 use Rattle.bg_mat.proofs.writing.put_blanks.Goals as goal
 
 pub loop-written-preserved : goal.loop-written-preserved

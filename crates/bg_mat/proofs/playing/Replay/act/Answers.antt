@@ -1,7 +1,7 @@
 use Rattle.std.proofs.Common.{ap}
 use Rattle.bg_mat.specs.Telling.{deed_of}
-use Rattle.bg_mat.proofs.LegLemmas.{on_ok}
-use Rattle.bg_mat.proofs.Replays.{item_of_cell}
+use Rattle.bg_mat.proofs.OfReading.LegLemmas.{on_ok}
+use Rattle.bg_mat.proofs.OfReading.Replays.{item_of_cell}
 use Rattle.bg_mat.proofs.playing.Replay.act.Goals as goal
 
 pub returns-in-Turn-2-clause-done : goal.returns-in-Turn-2-clause-done

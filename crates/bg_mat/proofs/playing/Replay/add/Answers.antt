@@ -1,6 +1,6 @@
 use Rattle.std.proofs.Common.{refl, arith}
 use Rattle.std.proofs.lemmas.Grind.{common_steps}
-use Rattle.bg_mat.proofs.Replays.{added}
+use Rattle.bg_mat.proofs.OfReading.Replays.{added}
 use Rattle.bg_mat.proofs.playing.Replay.add.Goals as goal
 
 pub returns-in-Ok-clause-done : goal.returns-in-Ok-clause-done

@@ -1,6 +1,6 @@
 use Rattle.std.proofs.Common.{◌∙◌}
-use Rattle.bg_mat.proofs.LegLemmas.{on_ok}
-use Rattle.bg_mat.proofs.Replays as replays
+use Rattle.bg_mat.proofs.OfReading.LegLemmas.{on_ok}
+use Rattle.bg_mat.proofs.OfReading.Replays as replays
 use Rattle.bg_mat.proofs.playing.Replay.add_pending.Goals as goal
 
 pub returns-then-stays-clause-done : goal.returns-then-stays-clause-done

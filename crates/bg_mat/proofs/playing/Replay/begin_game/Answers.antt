@@ -1,6 +1,6 @@
 use Rattle.std.proofs.Common.{◌≡◌, ◌≢◌, arith, [], ◌∷◌}
 use Rattle.bg_mat.specs.Telling.{Game}
-use Rattle.bg_mat.proofs.Replays.{begun, goes_on_twice}
+use Rattle.bg_mat.proofs.OfReading.Replays.{begun, goes_on_twice}
 use Rattle.bg_mat.proofs.playing.Replay.begin_game.Goals as goal
 
 pub returns-clause-done : goal.returns-clause-done

@@ -1,6 +1,6 @@
 use Rattle.std.proofs.Common.{◌≡◌, Some}
-use Rattle.bg_mat.proofs.LegLemmas.{on_ok}
-use Rattle.bg_mat.proofs.Replays.{closed_by}
+use Rattle.bg_mat.proofs.OfReading.LegLemmas.{on_ok}
+use Rattle.bg_mat.proofs.OfReading.Replays.{closed_by}
 use Rattle.bg_mat.proofs.playing.Replay.close.Goals as goal
 
 pub returns-in-Some-clause-done : goal.returns-in-Some-clause-done

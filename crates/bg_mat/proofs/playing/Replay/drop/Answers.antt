@@ -1,8 +1,8 @@
 use Rattle.std.proofs.Common.{refl}
 use Rattle.bg_match.specs.declared.entries.Entry.TheVariants as entry
 use Rattle.bg_mat.specs.Telling as telling
-use Rattle.bg_mat.proofs.LegLemmas.{on_ok}
-use Rattle.bg_mat.proofs.Replays as replays
+use Rattle.bg_mat.proofs.OfReading.LegLemmas.{on_ok}
+use Rattle.bg_mat.proofs.OfReading.Replays as replays
 use Rattle.bg_mat.proofs.playing.Replay.drop.Goals as goal
 
 pub returns-clause-done : goal.returns-clause-done

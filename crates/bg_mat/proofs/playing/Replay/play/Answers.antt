@@ -1,7 +1,7 @@
 use Rattle.std.proofs.Common.{[], ◌∷◌}
 use Rattle.bg_mat.specs.Telling.{Does, deed_of}
-use Rattle.bg_mat.proofs.LegLemmas.{on_ok}
-use Rattle.bg_mat.proofs.Replays.{goes_on_twice}
+use Rattle.bg_mat.proofs.OfReading.LegLemmas.{on_ok}
+use Rattle.bg_mat.proofs.OfReading.Replays.{goes_on_twice}
 use Rattle.bg_mat.proofs.playing.Replay.play.Goals as goal
 
 pub returns-clause-done : goal.returns-clause-done

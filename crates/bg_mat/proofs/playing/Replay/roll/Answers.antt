@@ -1,4 +1,4 @@
-use Rattle.bg_mat.proofs.LegLemmas.{on_ok}
+use Rattle.bg_mat.proofs.OfReading.LegLemmas.{on_ok}
 use Rattle.bg_mat.proofs.playing.Replay.roll.Goals as goal
 
 pub returns-in-Ok-clause-done : goal.returns-in-Ok-clause-done

@@ -1,6 +1,6 @@
 use Rattle.std.proofs.Common.{ℕ, [], ◌∷◌, ap}
 use Rattle.bg_mat.specs.Telling.{Scores}
-use Rattle.bg_mat.proofs.Replays.{goes_on_twice, scored}
+use Rattle.bg_mat.proofs.OfReading.Replays.{goes_on_twice, scored}
 use Rattle.bg_mat.proofs.playing.Replay.tell_scores.Goals as goal
 
 pub returns-clause-done : goal.returns-clause-done

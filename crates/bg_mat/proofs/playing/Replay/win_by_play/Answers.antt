@@ -1,5 +1,5 @@
-use Rattle.bg_mat.proofs.LegLemmas.{on_ok}
-use Rattle.bg_mat.proofs.Replays as replays
+use Rattle.bg_mat.proofs.OfReading.LegLemmas.{on_ok}
+use Rattle.bg_mat.proofs.OfReading.Replays as replays
 use Rattle.bg_mat.proofs.playing.Replay.win_by_play.Goals as goal
 
 pub returns-clause-done : goal.returns-clause-done

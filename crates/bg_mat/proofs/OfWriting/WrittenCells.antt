@@ -1,0 +1,268 @@
+-- What the texts of cells tell.
+use Rattle.std.specs.Prelude.{◌≡◌, ◌==◌, ℕ, ◌+◌, ◌<◌, ◌≤◌, Bool, true, false, List, [], ◌∷◌, ◌++◌, length, codes, if◌then◌else◌}
+use Rattle.std.proofs.Common.{append_assoc, append-nil, refl, sym, ap, subst, inl, inr, arith, length-append}
+use Rattle.std.specs.Fmt.{decimal}
+use Rattle.std.specs.List.{AllByRecursion}
+use Rattle.std.proofs.lemmas.Fmt.{decimal_digit, decimal_nonempty}
+use Rattle.bg_board.specs.Die.{pips}
+use Rattle.bg_board.specs.declared.dice.Die.{Die}
+use Rattle.bg_board.specs.declared.dice.Die.TheVariants as die
+use Rattle.bg_turns.specs.Dice.{first_pips, second_pips}
+use Rattle.bg_turns.specs.declared.throws.Dice.{Dice}
+use Rattle.bg_mat.specs.Rows.Cells.{IsDiceWord, TellsCell, TellsDouble, TellsLegsAt, TellsWin, ending}
+use Rattle.bg_mat.specs.Rows.CellTexts.{cell_text, dice_text, ending_text, leg_text, legs_text, points_text, win_text}
+use Rattle.bg_mat.specs.Rows.Headings.{IsPoints}
+use Rattle.bg_mat.specs.Legs.{TellsWord, mark}
+use Rattle.bg_mat.specs.Tellings.{HasNumbers, IsOnBoard}
+use Rattle.bg_mat.specs.Rows.Words.{leading_blanks, BeginsWith, EndsWord, IsBlankText, IsFirstWord}
+use Rattle.bg_mat.specs.declared.rows.cells.Cell.{Cell}
+use Rattle.bg_mat.specs.declared.rows.cells.Cell.TheVariants as cell
+use Rattle.bg_mat.specs.declared.rows.cells.Win.{Win}
+use Rattle.bg_mat.specs.declared.movements.legs.Leg.{Leg}
+use Rattle.bg_mat.proofs.OfWriting.PlainTexts.{IsOfLine, IsPlain, decimal_plain, no_blanks, number_is, of_line_both, of_line_by, one_blank, plain_both, plain_by, plain_leading, plain_of_line, word_behind, word_first}
+
+-- the word of a leg
+abbrev pub leg_word : Leg → List ℕ
+leg_word leg = decimal leg.step.from ++ codes "/" ++ decimal leg.step.to ++ mark leg.hits
+
+leg_text_is : (leg : Leg) → leg_text leg ≡ codes " " ++ leg_word leg
+leg_text_is leg = simp append_assoc
+
+mark_plain : (hits : Bool) → IsPlain (mark hits)
+mark_plain true = ((refl, refl), tt)
+mark_plain false = tt
+
+leg_plain : (leg : Leg) → IsOnBoard leg → IsPlain (leg_word leg)
+leg_plain leg (from, to) =
+    plain_both (decimal leg.step.from ++ codes "/" ++ decimal leg.step.to) (mark leg.hits)
+    (plain_both (decimal leg.step.from ++ codes "/") (decimal leg.step.to)
+    (plain_both (decimal leg.step.from) (codes "/") (decimal_plain leg.step.from (omega arith)) ((refl, refl), tt))
+    (decimal_plain leg.step.to (omega arith)))
+    (mark_plain leg.hits)
+
+leg_some : (leg : Leg) → IsOnBoard leg → 0 < length (leg_word leg)
+leg_some leg (from, to) =
+    let some : 0 < length (decimal leg.step.from) = decimal_nonempty leg.step.from (omega arith) in
+    simp length-append (omega arith)
+
+leg_tells : (leg : Leg) → IsOnBoard leg → TellsWord (leg_word leg) (leg ∷ [])
+leg_tells leg (from, to) = (
+  leg_word leg,
+  1,
+  leg ∷ [],
+  inl (refl, refl),
+  (
+    leg.step.from,
+    decimal leg.step.from,
+    codes "/" ++ (decimal leg.step.to ++ mark leg.hits),
+    simp append_assoc,
+    inr (inr (number_is leg.step.from (omega arith))),
+    (
+      decimal leg.step.to ++ mark leg.hits,
+      [],
+      ap (λ (t : List ℕ). codes "/" ++ t) (sym (append-nil (decimal leg.step.to ++ mark leg.hits))),
+      record {
+        point = decimal leg.step.to;
+        starts = refl;
+        ends = inr (inr (number_is leg.step.to (omega arith)));
+        marked = refl;
+      },
+      refl,
+    ),
+    λ e. absurd (cc (e)),
+  ),
+  refl,
+)
+
+-- behind a word comes a blank, or what follows the movement
+legs_end : (legs : List Leg) (rest : List ℕ) → EndsWord rest → EndsWord (legs_text legs ++ rest)
+legs_end [] rest h = h
+legs_end (leg ∷ legs) rest h = refl
+
+pub legs_tell : (legs : List Leg) (rest : List ℕ) → AllByRecursion IsOnBoard legs → EndsWord rest
+    → TellsLegsAt (legs_text legs ++ rest) rest legs
+legs_tell [] rest low ends = ([], refl, refl)
+legs_tell (leg ∷ legs) rest low ends =
+    let (words, begins, tells) = legs_tell legs rest low.1 ends in
+    let text : legs_text (leg ∷ legs) ++ rest ≡ codes " " ++ (leg_word leg ++ (legs_text legs ++ rest)) = simp append_assoc in
+    let first : IsFirstWord (legs_text (leg ∷ legs) ++ rest) (leg_word leg) (legs_text legs ++ rest) =
+    rw text (word_first (codes " ") (leg_word leg) (legs_text legs ++ rest) one_blank (leg_plain leg low.0) (leg_some leg low.0)
+    (legs_end legs rest ends)) in
+    (leg_word leg ∷ words, (legs_text legs ++ rest, first, begins), (leg ∷ [], legs, leg_tells leg low.0, tells, refl))
+
+legs_of_line : (legs : List Leg) → AllByRecursion IsOnBoard legs → IsOfLine (legs_text legs)
+legs_of_line [] h = tt
+legs_of_line (leg ∷ legs) h =
+    let word : IsOfLine (codes " " ++ leg_word leg) = (refl, plain_of_line (leg_word leg) (leg_plain leg h.0)) in
+    of_line_both (leg_text leg) (legs_text legs) (subst (λ (t : List ℕ). IsOfLine t) (sym (leg_text_is leg)) word)
+    (legs_of_line legs h.1)
+
+-- a die is one digit
+die_text : (d : Die) → decimal (pips d) ≡ (48 + pips d) ∷ []
+die_text die.One = decimal_digit 1 (omega arith)
+die_text die.Two = decimal_digit 2 (omega arith)
+die_text die.Three = decimal_digit 3 (omega arith)
+die_text die.Four = decimal_digit 4 (omega arith)
+die_text die.Five = decimal_digit 5 (omega arith)
+die_text die.Six = decimal_digit 6 (omega arith)
+
+die_few : (d : Die) → pips d ≤ 6
+die_few die.One = omega arith
+die_few die.Two = omega arith
+die_few die.Three = omega arith
+die_few die.Four = omega arith
+die_few die.Five = omega arith
+die_few die.Six = omega arith
+
+dice_is : (dice : Dice) → IsDiceWord (dice_text dice) dice
+dice_is dice = rw (die_text dice.first, die_text dice.second) refl
+
+dice_plain : (dice : Dice) → IsPlain (dice_text dice)
+dice_plain dice =
+    plain_both (decimal (first_pips dice) ++ decimal (second_pips dice)) (codes ":")
+    (plain_both (decimal (first_pips dice)) (decimal (second_pips dice))
+    (decimal_plain (first_pips dice) (omega (arith, die_few dice.first)))
+    (decimal_plain (second_pips dice) (omega (arith, die_few dice.second))))
+    ((refl, refl), tt)
+
+dice_some : (dice : Dice) → 0 < length (dice_text dice)
+dice_some dice = rw (dice_is dice) (omega arith)
+
+-- what the text of a cell is
+pub record IsCellText (text : List ℕ) (c : Cell) : Type 0 where
+  pub tells : (rest : List ℕ) → EndsWord rest → TellsCell (text ++ rest) c rest
+  pub few : (rest : List ℕ) → leading_blanks (text ++ rest) ≤ 1
+  pub of_line : IsOfLine text
+
+turn_is : (dice : Dice) (legs : List Leg) (rest : List ℕ) → AllByRecursion IsOnBoard legs → EndsWord rest
+    → (word after : List ℕ) × IsFirstWord ((dice_text dice ++ legs_text legs) ++ rest) word after
+    × IsDiceWord word dice × TellsLegsAt after rest legs
+turn_is dice legs rest low ends =
+    let first : IsFirstWord (dice_text dice ++ (legs_text legs ++ rest)) (dice_text dice) (legs_text legs ++ rest) =
+    word_first [] (dice_text dice) (legs_text legs ++ rest) no_blanks (dice_plain dice) (dice_some dice) (legs_end legs rest ends) in (
+      dice_text dice,
+      legs_text legs ++ rest,
+      rw (append_assoc (dice_text dice) (legs_text legs) rest) first,
+      dice_is dice,
+      legs_tell legs rest low ends,
+    )
+
+double_is : (n : ℕ) (rest : List ℕ) → n ≤ 9999 → EndsWord rest
+    → TellsDouble ((codes " Doubles => " ++ decimal n) ++ rest) n rest
+double_is n rest few ends =
+    let third : IsFirstWord (codes " " ++ (decimal n ++ rest)) (decimal n) rest =
+    word_first (codes " ") (decimal n) rest one_blank (decimal_plain n (omega arith)) (decimal_nonempty n (omega arith)) ends in
+    let second : IsFirstWord (codes " => " ++ (decimal n ++ rest)) (codes "=>") (codes " " ++ (decimal n ++ rest)) =
+    word_first (codes " ") (codes "=>") (codes " " ++ (decimal n ++ rest)) one_blank (plain_by (codes "=>") refl) (omega arith) refl in
+    let first : IsFirstWord (codes " Doubles => " ++ (decimal n ++ rest)) (codes "Doubles") (codes " => " ++ (decimal n ++ rest)) =
+    word_first (codes " ") (codes "Doubles") (codes " => " ++ (decimal n ++ rest)) one_blank (plain_by (codes "Doubles") refl) (omega arith) refl in (
+      decimal n,
+      (codes " => " ++ (decimal n ++ rest), first, (codes " " ++ (decimal n ++ rest), second, (rest, third, refl))),
+      number_is n few,
+    )
+
+points_tell : (b : Bool) (rest : List ℕ) → EndsWord rest
+    → (word : List ℕ) × IsFirstWord ((if b then codes " point" else codes " points") ++ rest) word rest × IsPoints word
+points_tell true rest ends =
+    (codes "point", word_first (codes " ") (codes "point") rest one_blank (plain_by (codes "point") refl) (omega arith) ends, inl refl)
+points_tell false rest ends =
+    (codes "points", word_first (codes " ") (codes "points") rest one_blank (plain_by (codes "points") refl) (omega arith) ends, inr refl)
+
+points_end : (b : Bool) (rest : List ℕ) → EndsWord ((if b then codes " point" else codes " points") ++ rest)
+points_end true rest = refl
+points_end false rest = refl
+
+ending_end : (b : Bool) (rest : List ℕ) → EndsWord rest → EndsWord (ending_text b ++ rest)
+ending_end true rest ends = refl
+ending_end false rest ends = ends
+
+ending_tells : (b : Bool) (rest : List ℕ) → EndsWord rest → BeginsWith (ending_text b ++ rest) (ending b) rest
+ending_tells false rest ends = refl
+ending_tells true rest ends = (
+  codes " the match" ++ rest,
+  word_first (codes " ") (codes "and") (codes " the match" ++ rest) one_blank (plain_by (codes "and") refl) (omega arith) refl,
+  (
+    codes " match" ++ rest,
+    word_first (codes " ") (codes "the") (codes " match" ++ rest) one_blank (plain_by (codes "the") refl) (omega arith) refl,
+    (rest, word_first (codes " ") (codes "match") rest one_blank (plain_by (codes "match") refl) (omega arith) ends, refl),
+  ),
+)
+
+win_parts : (win : Win) (rest : List ℕ)
+    → win_text win ++ rest ≡ codes "Wins " ++ (decimal win.points ++ (points_text win.points ++ (ending_text win.ends_match ++ rest)))
+win_parts win rest = simp append_assoc
+
+win_is : (win : Win) (rest : List ℕ) → win.points ≤ 9999 → EndsWord rest → TellsWin (win_text win ++ rest) win rest
+win_is win rest few ends =
+    let behind = ending_text win.ends_match ++ rest in
+    let ended = ending_end win.ends_match rest ends in
+    let points = points_text win.points ++ behind in
+    let (word, third, is_points) = points_tell (win.points == 1) behind ended in
+    let second : IsFirstWord (codes " " ++ (decimal win.points ++ points)) (decimal win.points) points =
+    word_first (codes " ") (decimal win.points) points one_blank (decimal_plain win.points (omega arith))
+    (decimal_nonempty win.points (omega arith)) (points_end (win.points == 1) behind) in
+    let first : IsFirstWord (codes "Wins " ++ (decimal win.points ++ points)) (codes "Wins") (codes " " ++ (decimal win.points ++ points)) =
+    word_first [] (codes "Wins") (codes " " ++ (decimal win.points ++ points)) no_blanks (plain_by (codes "Wins") refl) (omega arith) refl in (
+      codes " " ++ (decimal win.points ++ points),
+      behind,
+      subst (λ (t : List ℕ). IsFirstWord t (codes "Wins") (codes " " ++ (decimal win.points ++ points))) (sym (win_parts win rest)) first,
+      (decimal win.points, word, (points, second, (behind, third, refl)), number_is win.points few, is_points),
+      ending_tells win.ends_match rest ends,
+    )
+
+points_of_line : (b : Bool) → IsOfLine (if b then codes " point" else codes " points")
+points_of_line true = of_line_by (codes " point") refl
+points_of_line false = of_line_by (codes " points") refl
+
+ending_of_line : (b : Bool) → IsOfLine (ending_text b)
+ending_of_line true = of_line_by (codes " and the match") refl
+ending_of_line false = tt
+
+-- the text of each cell
+pub cell_is : (c : Cell) → HasNumbers c → IsCellText (cell_text c) c
+cell_is (cell.Turn dice legs) low = record {
+  tells = λ rest ends. turn_is dice legs.items rest low ends;
+  few = λ rest.
+      let none : leading_blanks (dice_text dice ++ (legs_text legs.items ++ rest)) ≡ 0 =
+      plain_leading (dice_text dice) (legs_text legs.items ++ rest) (dice_plain dice) (dice_some dice) in
+      rw (append_assoc (dice_text dice) (legs_text legs.items) rest, none) (omega arith);
+  of_line = of_line_both (dice_text dice) (legs_text legs.items) (plain_of_line (dice_text dice) (dice_plain dice))
+      (legs_of_line legs.items low);
+}
+cell_is (cell.Doubles n) low = record {
+  tells = λ rest ends. double_is n rest low ends;
+  few = λ rest. omega arith;
+  of_line = of_line_both (codes " Doubles => ") (decimal n) (of_line_by (codes " Doubles => ") refl)
+      (plain_of_line (decimal n) (decimal_plain n (omega arith)));
+}
+cell_is cell.Takes low = record {
+  tells = λ rest ends. word_first (codes " ") (codes "Takes") rest one_blank (plain_by (codes "Takes") refl) (omega arith) ends;
+  few = λ rest. omega arith;
+  of_line = of_line_by (codes " Takes") refl;
+}
+cell_is cell.Drops low = record {
+  tells = λ rest ends. word_first (codes " ") (codes "Drops") rest one_blank (plain_by (codes "Drops") refl) (omega arith) ends;
+  few = λ rest. omega arith;
+  of_line = of_line_by (codes " Drops") refl;
+}
+cell_is (cell.Wins win) low = record {
+  tells = λ rest ends. win_is win rest low ends;
+  few = λ rest. subst (λ (t : List ℕ). leading_blanks t ≤ 1) (sym (win_parts win rest)) (omega arith);
+  of_line = of_line_both (codes "Wins " ++ decimal win.points ++ points_text win.points) (ending_text win.ends_match)
+      (of_line_both (codes "Wins " ++ decimal win.points) (points_text win.points)
+      (of_line_both (codes "Wins ") (decimal win.points) (of_line_by (codes "Wins ") refl)
+      (plain_of_line (decimal win.points) (decimal_plain win.points (omega arith))))
+      (points_of_line (win.points == 1)))
+      (ending_of_line win.ends_match);
+}
+
+-- the same cell behind blanks
+pub cell_behind : (gap text rest : List ℕ) (c : Cell) → IsBlankText gap → TellsCell text c rest → TellsCell (gap ++ text) c rest
+cell_behind gap text rest (cell.Turn dice legs) blank (word, after, first, is, more) =
+    (word, after, word_behind gap text word after blank first, is, more)
+cell_behind gap text rest (cell.Doubles n) blank (number, (after, first, more), is) =
+    (number, (after, word_behind gap text (codes "Doubles") after blank first, more), is)
+cell_behind gap text rest cell.Takes blank first = word_behind gap text (codes "Takes") rest blank first
+cell_behind gap text rest cell.Drops blank first = word_behind gap text (codes "Drops") rest blank first
+cell_behind gap text rest (cell.Wins win) blank (after, behind, first, points, ends) =
+    (after, behind, word_behind gap text (codes "Wins") after blank first, points, ends)

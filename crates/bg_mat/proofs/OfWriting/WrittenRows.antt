@@ -1,0 +1,261 @@
+-- What the texts of rows, and of the lines that head a game, tell.
+use Rattle.std.specs.Prelude.{◌≡◌, ℕ, zero, suc, ◌+◌, ◌-◌, ◌<◌, ◌≤◌, max, nat_lt, Bool, true, false, Some, None, List, [], ◌∷◌, ◌++◌, length, replicate, codes, if◌then◌else◌}
+use Rattle.std.proofs.Common.{append_assoc, append-nil, refl, sym, ◌∙◌, ap, subst, inl, inr, arith, length-append}
+use Rattle.std.specs.Fmt.{decimal}
+use Rattle.std.proofs.lemmas.Bool.Decides.{nat_tests}
+use Rattle.std.proofs.lemmas.Fmt.{decimal_nonempty}
+use Rattle.std.proofs.lemmas.List.{length-replicate}
+use Rattle.bg_board.specs.declared.players.Player.{Player}
+use Rattle.bg_board.specs.declared.players.Player.TheVariants.{X, O}
+use Rattle.bg_mat.specs.Rows.Cells.{SkipsNumber, TellsCell, TellsRow}
+use Rattle.bg_mat.specs.Rows.CellTexts.{cell_text}
+use Rattle.bg_mat.specs.Rows.Headings.{IsGameLine, IsLengthLine, IsScoresLine}
+use Rattle.bg_mat.specs.Rows.RowTexts.{alone_text, blanks_before, both_text, padded, row_number, row_start, score_text}
+use Rattle.bg_mat.specs.Tellings.{HasNumbers}
+use Rattle.bg_mat.specs.Rows.Words.{leading_blanks, EndsWord, IsBlankText, IsFirstWord}
+use Rattle.bg_mat.specs.declared.rows.cells.Cell.{Cell}
+use Rattle.bg_mat.specs.declared.rows.cells.Cell.TheVariants as cell
+use Rattle.bg_mat.specs.declared.rows.Row.{Row}
+use Rattle.bg_mat.proofs.OfWriting.PlainTexts.{IsOfLine, IsPlain, blanks, blanks_of_line, decimal_plain, leading_both, no_blanks, number_is, of_line_both, of_line_by, one_blank, plain_both, plain_by, plain_of_line, word_first}
+use Rattle.bg_mat.proofs.OfWriting.WrittenCells.{cell_behind, cell_is}
+
+-- what a row begins with
+pub record IsRowStart (text : List ℕ) : Type 0 where
+  pub gap : List ℕ
+  pub blank : IsBlankText gap
+  pub few : length gap ≤ 6
+  pub skips : (cells : List ℕ) → SkipsNumber (text ++ cells) (gap ++ cells)
+  pub of_line : IsOfLine text
+
+blanks_start : (n : ℕ) → n ≤ 6 → IsRowStart (replicate n 32)
+blanks_start n few = record {
+  gap = replicate n 32;
+  blank = blanks n;
+  few = rw length-replicate few;
+  skips = λ cells. inl refl;
+  of_line = blanks_of_line n;
+}
+
+number_start : (row : ℕ) → row ≤ 9999 → IsRowStart (replicate (blanks_before row) 32 ++ decimal row ++ codes ") ")
+number_start row few =
+    let k = blanks_before row in
+    let plain : IsPlain (decimal row ++ codes ")") =
+    plain_both (decimal row) (codes ")") (decimal_plain row (omega arith)) ((refl, refl), tt) in
+    let digits : 0 < length (decimal row) = decimal_nonempty row (omega arith) in
+    let some : 0 < length (decimal row ++ codes ")") = simp length-append (omega arith) in
+    record {
+      gap = codes " ";
+      blank = one_blank;
+      few = omega arith;
+      skips = λ cells.
+          let text : (replicate k 32 ++ decimal row ++ codes ") ") ++ cells
+          ≡ replicate k 32 ++ ((decimal row ++ codes ")") ++ (codes " " ++ cells)) = simp append_assoc in
+          inr (
+            decimal row,
+            row,
+            subst (λ (t : List ℕ). IsFirstWord t (decimal row ++ codes ")") (codes " " ++ cells)) (sym text)
+                (word_first (replicate k 32) (decimal row ++ codes ")") (codes " " ++ cells) (blanks k) plain some refl),
+            number_is row few,
+          );
+      of_line = of_line_both (replicate k 32 ++ decimal row) (codes ") ")
+          (of_line_both (replicate k 32) (decimal row) (blanks_of_line k) (plain_of_line (decimal row) (decimal_plain row (omega arith))))
+          (of_line_by (codes ") ") refl);
+    }
+
+row_start_by : (row : ℕ) (b : Bool) → nat_lt 9999 row ≡ b
+    → IsRowStart (if b then replicate 5 32 else replicate (blanks_before row) 32 ++ decimal row ++ codes ") ")
+row_start_by row true h = blanks_start 5 (omega arith)
+row_start_by row false h = number_start row (grind (arith, nat_tests, h))
+
+row_number_is : (row : ℕ) → IsRowStart (row_number row)
+row_number_is row = row_start_by row (nat_lt 9999 row) refl
+
+row_start_is : (row : ℕ) (c : Cell) → IsRowStart (row_start row c)
+row_start_is row (cell.Wins win) = blanks_start 6 (omega arith)
+row_start_is row (cell.Turn dice legs) = row_number_is row
+row_start_is row (cell.Doubles n) = row_number_is row
+row_start_is row cell.Takes = row_number_is row
+row_start_is row cell.Drops = row_number_is row
+
+-- a line that is written
+pub record WritesLine (text : List ℕ) (Tells : List ℕ → Type 0) : Type 0 where
+  pub line : List ℕ
+  pub spelled : text ≡ line ++ codes "\n"
+  pub of_line : IsOfLine line
+  pub tells : Tells line
+
+some_blanks : (n : ℕ) (rest : List ℕ) → 1 ≤ n → EndsWord (replicate n 32 ++ rest)
+some_blanks zero rest h = absurd (omega arith)
+some_blanks (suc n) rest h = refl
+
+-- a cell that nothing follows
+last_cell : (c : Cell) → HasNumbers c → TellsCell (cell_text c) c []
+last_cell c low =
+    subst (λ (t : List ℕ). TellsCell t c []) (append-nil (cell_text c)) ((cell_is c low).tells [] tt)
+
+pub both_written : (row : ℕ) (l r : Cell) → HasNumbers l → HasNumbers r
+    → WritesLine (both_text row l r) (λ line. TellsRow line (record { left = Some l; right = Some r }))
+both_written row l r low high =
+    let start = row_number_is row in
+    let left = cell_is l low in
+    let right = cell_is r high in
+    let m = max 1 (28 - length (cell_text l)) in
+    let middle = replicate m 32 ++ cell_text r in
+    let cells = cell_text l ++ middle in
+    let line = row_number row ++ padded 28 (cell_text l) ++ cell_text r in
+    let is : line ≡ row_number row ++ cells = simp append_assoc in
+    let few : leading_blanks (start.gap ++ cells) < 16 =
+    (let lead = leading_both start.gap cells start.blank in let one = left.few middle in let gap = start.few in omega arith) in
+    record {
+      line = line;
+      spelled = refl;
+      of_line = of_line_both (row_number row ++ padded 28 (cell_text l)) (cell_text r)
+          (of_line_both (row_number row) (padded 28 (cell_text l)) start.of_line
+          (of_line_both (cell_text l) (replicate m 32) left.of_line (blanks_of_line m))) right.of_line;
+      tells = (
+        start.gap ++ cells,
+        subst (λ (t : List ℕ). SkipsNumber t (start.gap ++ cells)) (sym is) (start.skips cells),
+        (
+          few,
+          middle,
+          [],
+          cell_behind start.gap cells middle l start.blank (left.tells middle (some_blanks m (cell_text r) (omega arith))),
+          cell_behind (replicate m 32) (cell_text r) [] r (blanks m) (last_cell r high),
+          no_blanks,
+        ),
+      );
+    }
+
+left_written : (row : ℕ) (c : Cell) → HasNumbers c
+    → WritesLine (alone_text row X c) (λ line. TellsRow line (record { left = Some c; right = None }))
+left_written row c low =
+    let start = row_start_is row c in
+    let own = cell_is c low in
+    let line = row_start row c ++ [] ++ cell_text c in
+    let is : line ≡ row_start row c ++ cell_text c = ap (λ (t : List ℕ). t ++ cell_text c) (append-nil (row_start row c)) in
+    let few : leading_blanks (start.gap ++ cell_text c) < 16 =
+    (let lead = leading_both start.gap (cell_text c) start.blank in
+    let one : leading_blanks (cell_text c) ≤ 1 = subst (λ (t : List ℕ). leading_blanks t ≤ 1) (append-nil (cell_text c)) (own.few []) in
+    let gap = start.few in omega arith) in
+    record {
+      line = line;
+      spelled = refl;
+      of_line = subst (λ (t : List ℕ). IsOfLine t) (sym is) (of_line_both (row_start row c) (cell_text c) start.of_line own.of_line);
+      tells = (
+        start.gap ++ cell_text c,
+        subst (λ (t : List ℕ). SkipsNumber t (start.gap ++ cell_text c)) (sym is) (start.skips (cell_text c)),
+        (few, [], cell_behind start.gap (cell_text c) [] c start.blank (last_cell c low), no_blanks),
+      );
+    }
+
+right_written : (row : ℕ) (c : Cell) → HasNumbers c
+    → WritesLine (alone_text row O c) (λ line. TellsRow line (record { left = None; right = Some c }))
+right_written row c low =
+    let start = row_start_is row c in
+    let own = cell_is c low in
+    let line = row_start row c ++ replicate 28 32 ++ cell_text c in
+    let cells = replicate 28 32 ++ cell_text c in
+    let is : line ≡ row_start row c ++ cells = append_assoc (row_start row c) (replicate 28 32) (cell_text c) in
+    let many : 16 ≤ leading_blanks (start.gap ++ cells) =
+    (let lead = leading_both start.gap cells start.blank in
+    let more : leading_blanks cells ≡ 28 + leading_blanks (cell_text c) = leading_both (replicate 28 32) (cell_text c) (blanks 28) in
+    omega arith) in
+    record {
+      line = line;
+      spelled = refl;
+      of_line = of_line_both (row_start row c ++ replicate 28 32) (cell_text c)
+          (of_line_both (row_start row c) (replicate 28 32) start.of_line (blanks_of_line 28)) own.of_line;
+      tells = (
+        start.gap ++ cells,
+        subst (λ (t : List ℕ). SkipsNumber t (start.gap ++ cells)) (sym is) (start.skips cells),
+        (
+          many,
+          [],
+          cell_behind start.gap cells [] c start.blank
+              (cell_behind (replicate 28 32) (cell_text c) [] c (blanks 28) (last_cell c low)),
+          no_blanks,
+        ),
+      );
+    }
+
+-- the cell of one player
+abbrev pub row_of : Player → Cell → Row
+row_of X c = record { left = Some c; right = None }
+row_of O c = record { left = None; right = Some c }
+
+pub alone_written : (row : ℕ) (player : Player) (c : Cell) → HasNumbers c
+    → WritesLine (alone_text row player c) (λ line. TellsRow line (row_of player c))
+alone_written row X c low = left_written row c low
+alone_written row O c low = right_written row c low
+
+-- the line of the length of a match
+pub length_line : (n : ℕ) → n ≤ 9999 → IsLengthLine (codes " " ++ decimal n ++ codes " point match") n
+length_line n few =
+    let third : IsFirstWord (codes " match") (codes "match") [] =
+    word_first (codes " ") (codes "match") [] one_blank (plain_by (codes "match") refl) (omega arith) tt in
+    let second : IsFirstWord (codes " point match") (codes "point") (codes " match") =
+    word_first (codes " ") (codes "point") (codes " match") one_blank (plain_by (codes "point") refl) (omega arith) refl in
+    let first : IsFirstWord (codes " " ++ (decimal n ++ codes " point match")) (decimal n) (codes " point match") =
+    word_first (codes " ") (decimal n) (codes " point match") one_blank (decimal_plain n (omega arith)) (decimal_nonempty n (omega arith)) refl in (
+      decimal n,
+      codes " point match",
+      first,
+      number_is n few,
+      (codes "point", codes " match", [], second, inl refl, third, no_blanks),
+    )
+
+-- the line of the number of a game
+pub game_line : (n : ℕ) → n ≤ 9999 → IsGameLine (codes " Game " ++ decimal n) n
+game_line n few =
+    let second : IsFirstWord (codes " " ++ (decimal n ++ [])) (decimal n) [] =
+    word_first (codes " ") (decimal n) [] one_blank (decimal_plain n (omega arith)) (decimal_nonempty n (omega arith)) tt in
+    let second_is : IsFirstWord (codes " " ++ decimal n) (decimal n) [] =
+    subst (λ (t : List ℕ). IsFirstWord (codes " " ++ t) (decimal n) []) (append-nil (decimal n)) second in
+    let first : IsFirstWord (codes " Game " ++ decimal n) (codes "Game") (codes " " ++ decimal n) =
+    word_first (codes " ") (codes "Game") (codes " " ++ decimal n) one_blank (plain_by (codes "Game") refl) (omega arith) refl in
+    (decimal n, [], (codes " " ++ decimal n, first, ([], second_is, refl)), no_blanks, number_is n few)
+
+scored_end : (front score : List ℕ) → front ++ (codes ": " ++ score) ≡ front ++ codes ":" ++ codes " " ++ score ++ []
+scored_end [] score = sym (append-nil (codes ": " ++ score))
+scored_end (x ∷ front) score = ap (λ (t : List ℕ). x ∷ t) (scored_end front score)
+
+scores_spelled : (x o m : ℕ)
+    → codes " " ++ (score_text (codes "X") x ++ replicate m 32) ++ score_text (codes "O") o
+    ≡ (codes " X : " ++ (decimal x ++ (replicate m 32 ++ codes "O "))) ++ codes ":" ++ codes " " ++ decimal o ++ []
+scores_spelled x o m =
+    let whole : codes " X : " ++ (decimal x ++ replicate m 32 ++ (codes "O : " ++ decimal o))
+    ≡ codes " X : " ++ (decimal x ++ (replicate m 32 ++ (codes "O : " ++ decimal o))) =
+    ap (λ (t : List ℕ). codes " X : " ++ t) (append_assoc (decimal x) (replicate m 32) (codes "O : " ++ decimal o)) in
+    let front : (decimal x ++ (replicate m 32 ++ codes "O ")) ++ (codes ": " ++ decimal o)
+    ≡ decimal x ++ (replicate m 32 ++ (codes "O : " ++ decimal o)) =
+    append_assoc (decimal x) (replicate m 32 ++ codes "O ") (codes ": " ++ decimal o)
+    ∙ ap (λ (t : List ℕ). decimal x ++ t) (append_assoc (replicate m 32) (codes "O ") (codes ": " ++ decimal o)) in
+    let end = ap (λ (t : List ℕ). codes " X : " ++ t) (scored_end (decimal x ++ (replicate m 32 ++ codes "O ")) (decimal o)) in
+    whole ∙ (ap (λ (t : List ℕ). codes " X : " ++ t) (sym front) ∙ end)
+
+-- the line of the scores
+pub scores_line : (x o : ℕ) → IsScoresLine (codes " " ++ padded 31 (score_text (codes "X") x) ++ score_text (codes "O") o) x o
+scores_line x o =
+    let m = max 1 (31 - length (score_text (codes "X") x)) in
+    record {
+      front = codes " X : " ++ (decimal x ++ (replicate m 32 ++ codes "O "));
+      ends = record {
+        gap = codes " ";
+        end = [];
+        spelled = scores_spelled x o m;
+        gap_blank = one_blank;
+        end_blank = no_blanks;
+      };
+      begins = record {
+        before = codes " X ";
+        after = codes " " ++ (decimal x ++ (replicate m 32 ++ codes "O "));
+        spelled = refl;
+        scored = record {
+          gap = codes " ";
+          rest = replicate m 32 ++ codes "O ";
+          spelled = refl;
+          blank = one_blank;
+          apart = some_blanks m (codes "O ") (omega arith);
+        };
+      };
+    }

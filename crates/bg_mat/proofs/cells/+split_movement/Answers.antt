@@ -1,8 +1,0 @@
-use Rattle.bg_mat.proofs.LegLemmas.{if_ok, more_movement}
-use Rattle.bg_mat.proofs.cells.+split_movement.Goals as goal
-
-pub returns-in-Ok : goal.returns-in-Ok
-returns-in-Ok t c =
-    if_ok c.split_movement.result
-    (λ rest. more_movement _ _ _ _ _ _ _ c.in-Some.ensures c.in-Ok.ensures.added)
-    c.split_movement.ensures

@@ -1,9 +1,0 @@
-use Rattle.std.proofs.Common.{◌∙◌}
-use Rattle.bg_mat.proofs.ScoreLemmas.{begins_score}
-use Rattle.bg_mat.proofs.headings.begins_with_score.Goals as goal
-
-pub returns-in-Some : goal.returns-in-Some
-returns-in-Some c =
-    let parts = c.split_blanks-parts.ensures in
-    begins_score c.ends_word.result c.args.text.now _ _ c.in-Some.rest.now c.as_bytes.result.now c.args.score parts.0 parts.1
-    c.in-Some.ensures (c.as_bytes.ensures.value ∙ c.format.ensures.text) c.ends_word.ensures

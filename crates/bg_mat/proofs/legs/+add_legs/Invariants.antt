@@ -1,5 +1,0 @@
-use Rattle.std.proofs.Common.{length}
-use Rattle.bg_mat.proofs.legs.+add_legs.Given as goal
-
-abbrev pub decreases-add_legs : goal.decreases-add_legs
-decreases-add_legs l = length l.text.now

@@ -1,4 +1,0 @@
-use Rattle.bg_mat.proofs.legs.+add_times.Given as goal
-
-abbrev pub decreases-add_times : goal.decreases-add_times
-decreases-add_times l = l.count

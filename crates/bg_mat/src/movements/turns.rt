@@ -1,0 +1,83 @@
+//! Which turn a movement tells.
+ghost use Rattle.std.specs.Prelude.{◌≤◌, ◌↔◌, List, IsTrue, IfOk, MatchOption, length};
+ghost use Rattle.bg_board.specs.FromTo.{FromTo};
+ghost use Rattle.bg_turns.specs.Turn.{IsLegalTurn};
+ghost use Rattle.bg_mat.specs.Turns.{HasHits, HasMovement, SameMovement, TellsTurn};
+
+use crate::MatFault;
+use crate::movements::legs::Leg;
+use crate::movements::{as_turn, same_hits, same_movement};
+use bg_board::{Board, Player};
+use bg_turns::{Dice, Turn, judge_turn, legal_turns};
+use std::alloc::{AllocError, Global};
+
+/// Whether a turn is legal, and hits where the legs say so.
+fn has_hits(board: &Board, player: Player, dice: Dice, legs: &[Leg], turn: &Turn) -> bool
+    ensures { IsTrue result ↔ (IsLegalTurn board.now player dice turn.now
+        × HasHits board.now player legs.now turn.now) }
+{
+    match judge_turn(board, player, dice, turn) {
+        Ok(_) => same_hits(board, player, legs, turn.steps()),
+        Err(_) => false,
+    }
+}
+
+/// Whether a turn has the movement that is written, and hits where the legs say so.
+fn fits(board: &Board, player: Player, legs: &[Leg], written: &Turn, turn: &Turn) -> bool
+    ensures { IsTrue result ↔ (SameMovement written.now turn.now × HasHits board.now player legs.now turn.now) }
+{
+    let steps = turn.steps();
+    if same_movement(written.steps(), steps) {
+        same_hits(board, player, legs, steps)
+    } else {
+        false
+    }
+}
+
+/// The turn that a movement tells: the legs as steps, where these are a legal turn with these hits; else the greatest
+/// legal turn of this movement and these hits. `None` where there is none.
+pub(crate) fn find_turn(
+    alloc: Global,
+    board: &Board,
+    player: Player,
+    dice: Dice,
+    legs: &[Leg],
+) -> Result<Option<Turn>, AllocError>
+    requires { length legs.now ≤ 4 }
+    ensures { IfOk result (λ found. MatchOption found
+        ((turn : List FromTo) → HasMovement board.now player dice legs.now turn → ⊥)
+        (λ turn. TellsTurn board.now player dice legs.now turn)) }
+{
+    let written = as_turn(legs);
+    if has_hits(board, player, dice, legs, &written) {
+        return Ok(Some(written));
+    }
+    let turns = legal_turns(alloc, board, player, dice)?;
+    for turn in &turns {
+        if fits(board, player, legs, &written, turn) {
+            return Ok(Some(turn.copy()));
+        }
+    }
+    Ok(None)
+}
+
+/// Why a movement that tells no turn tells none: there is a legal turn of this movement, with other hits, or there is
+/// none.
+pub(crate) fn turn_fault(
+    alloc: Global,
+    board: &Board,
+    player: Player,
+    dice: Dice,
+    legs: &[Leg],
+) -> Result<MatFault, AllocError>
+    requires { length legs.now ≤ 4 }
+{
+    let written = as_turn(legs);
+    let turns = legal_turns(alloc, board, player, dice)?;
+    for turn in &turns {
+        if same_movement(written.steps(), turn.steps()) {
+            return Ok(MatFault::WrongHits);
+        }
+    }
+    Ok(MatFault::NoSuchTurn)
+}

@@ -1,0 +1,145 @@
+//! A cell of a row: what one player does.
+ghost use Rattle.std.specs.Prelude.{◌≡◌, IfSome, IfOk, IsTrue};
+ghost use Rattle.bg_mat.specs.Rows.Cells.{AddsMovement, IsDiceWord, TellsCell, TellsDouble, TellsPoints, TellsWin};
+
+use crate::MatFault;
+use crate::movements::legs::{LegFault, Legs, add_word};
+use crate::rows::numbers::read_number;
+use crate::rows::words::{is_points, skip_word, split_word};
+use arrayvec::ArrayVec;
+use bg_board::Die;
+use bg_turns::Dice;
+
+/// What one player does.
+#[derive(Debug, PartialEq, Eq, Drop)]
+pub(crate) enum Cell {
+    /// He rolls these dice, and moves.
+    Turn(Dice, Legs),
+    /// He turns the cube, which then shows so much.
+    Doubles(u16),
+    /// He takes the cube.
+    Takes,
+    /// He drops the game.
+    Drops,
+    /// He wins so many points.
+    Wins(Win),
+}
+
+/// A win.
+#[derive(Clone, Copy, Debug, PartialEq, Eq)]
+pub(crate) struct Win {
+    pub(crate) points: u16,
+    /// The win ends the match, as the file says. It need not say so.
+    pub(crate) ends_match: bool,
+}
+
+/// The dice that a word names, as `31:`.
+fn read_dice(word: &[u8]) -> Option<Dice>
+    ensures { IfSome result (IsDiceWord word.now) }
+{
+    match word {
+        [first @ b'1'..=b'6', second @ b'1'..=b'6', b':'] => Some(Dice {
+            first: Die::new(first - b'0')?,
+            second: Die::new(second - b'0')?,
+        }),
+        _ => None,
+    }
+}
+
+/// Adds the movement that a text begins with, all its words up to another one, and gives what follows.
+fn split_movement<'a>(legs: &mut Legs, text: &'a [u8]) -> Result<&'a [u8], MatFault>
+    ensures { IfOk result (λ rest. AddsMovement text.now rest.now legs.old.items legs.new.items) }
+{
+    let Some((word, rest)) = split_word(text) else {
+        return Ok(text);
+    };
+    match add_word(legs, word) {
+        Ok(()) => split_movement(legs, rest),
+        Err(LegFault::NotAMovement) => Ok(text),
+        Err(LegFault::TooMany) => Err(MatFault::TooManySteps),
+    }
+}
+
+/// The points that a text begins with, and what follows.
+fn split_points(text: &[u8]) -> Option<(u16, &[u8])>
+    ensures { IfSome result (λ found. TellsPoints text.now found.0 found.1.now) }
+{
+    let (number, rest) = split_word(text)?;
+    let points = read_number(number)?;
+    let (word, rest) = split_word(rest)?;
+    if is_points(word) {
+        Some((points, rest))
+    } else {
+        None
+    }
+}
+
+/// The win that a text begins with, and what follows.
+fn split_win(text: &[u8]) -> Option<(Win, &[u8])>
+    ensures { IfSome result (λ found. TellsWin text.now found.0 found.1.now) }
+{
+    let (points, rest) = split_points(skip_word(text, b"Wins")?)?;
+    let Some(end) = skip_word(rest, b"and") else {
+        let ends_match = false;
+        return Some((Win { points, ends_match }, rest));
+    };
+    let end = skip_word(skip_word(end, b"the")?, b"match")?;
+    let ends_match = true;
+    Some((Win { points, ends_match }, end))
+}
+
+/// What the cube shows by the double that a text begins with, and what follows.
+fn split_double(text: &[u8]) -> Option<(u16, &[u8])>
+    ensures { IfSome result (λ found. TellsDouble text.now found.0 found.1.now) }
+{
+    let (number, rest) = split_word(skip_word(skip_word(text, b"Doubles")?, b"=>")?)?;
+    Some((read_number(number)?, rest))
+}
+
+/// The turn that a text begins with, and what follows. None where it begins with no dice.
+fn split_turn(text: &[u8]) -> Result<Option<(Cell, &[u8])>, MatFault>
+    ensures { IfOk result (λ found. IfSome found (λ parts. TellsCell text.now parts.0 parts.1.now)) }
+{
+    let Some((word, rest)) = split_word(text) else {
+        return Ok(None);
+    };
+    let Some(dice) = read_dice(word) else {
+        return Ok(None);
+    };
+    let mut legs = ArrayVec::new();
+    let rest = split_movement(&mut legs, rest)?;
+    Ok(Some((Cell::Turn(dice, legs), rest)))
+}
+
+/// Whether a text begins with the double of a double, which the match rules do not have.
+fn begins_with_beaver(text: &[u8]) -> bool {
+    match split_word(text) {
+        Some((word, _)) => matches!(word, b"Beavers" | b"Raccoons"),
+        None => false,
+    }
+}
+
+/// The cell that a text begins with, and what follows it.
+pub(crate) fn split_cell(text: &[u8]) -> Result<(Cell, &[u8]), MatFault>
+    ensures { IfOk result (λ parts. TellsCell text.now parts.0 parts.1.now) }
+{
+    if let Some(parts) = split_turn(text)? {
+        return Ok(parts);
+    }
+    if let Some((shows, rest)) = split_double(text) {
+        return Ok((Cell::Doubles(shows), rest));
+    }
+    if let Some((win, rest)) = split_win(text) {
+        return Ok((Cell::Wins(win), rest));
+    }
+    if let Some(rest) = skip_word(text, b"Takes") {
+        return Ok((Cell::Takes, rest));
+    }
+    if let Some(rest) = skip_word(text, b"Drops") {
+        return Ok((Cell::Drops, rest));
+    }
+    if begins_with_beaver(text) {
+        return Err(MatFault::Beaver);
+    }
+    Err(MatFault::NotALine)
+}

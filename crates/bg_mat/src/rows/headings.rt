@@ -1,0 +1,161 @@
+//! The lines that head a match and its games.
+ghost use Rattle.std.specs.Prelude.{◌≡◌, ◌++◌, ◌↔◌, ℕ, IsTrue, IfSome, MatchOption};
+ghost use Rattle.std.specs.Bool.{OnTrue};
+ghost use Rattle.bg_mat.specs.Rows.Headings.{BeginsWithScore, EndsLength, EndsWithScore, HasScore, IsComment, IsFiller};
+ghost use Rattle.bg_mat.specs.Rows.Headings.{IsGameLine, IsLengthLine, IsScoresLine};
+ghost use Rattle.bg_mat.specs.Rows.Words.{EndsWord, IsBlankText};
+
+use crate::rows::numbers::read_number;
+use crate::rows::words::{is_blank, is_blank_text, is_points, skip_word, split_blanks, split_word};
+use itoa::Buffer;
+
+/// Whether a line tells nothing: it is blank, or a comment.
+pub(crate) fn is_filler(line: &[u8]) -> bool
+    ensures { IsTrue result ↔ IsFiller line.now }
+{
+    match split_word(line) {
+        Some((word, _)) => is_comment(word),
+        None => true,
+    }
+}
+
+/// Whether a word begins a comment.
+fn is_comment(word: &[u8]) -> bool
+    ensures { IsTrue result ↔ IsComment word.now }
+{
+    match word.split_first() {
+        Some((first, _)) => *first == b';',
+        None => false,
+    }
+}
+
+/// The length of a match, by the line `N point match`.
+pub(crate) fn read_length(line: &[u8]) -> Option<u16>
+    ensures { MatchOption result ((n : ℕ) → IsLengthLine line.now n → ⊥) (IsLengthLine line.now) }
+{
+    let Some((number, rest)) = split_word(line) else {
+        return None;
+    };
+    let Some(length) = read_number(number) else {
+        return None;
+    };
+    if ends_length(rest) {
+        Some(length)
+    } else {
+        None
+    }
+}
+
+/// Whether a text is what follows the number of a length line: `point match`.
+fn ends_length(text: &[u8]) -> bool
+    ensures { IsTrue result ↔ EndsLength text.now }
+{
+    let Some((word, rest)) = split_word(text) else {
+        return false;
+    };
+    match skip_word(rest, b"match") {
+        Some(end) => is_points(word) && is_blank_text(end),
+        None => false,
+    }
+}
+
+/// Whether a line tells the length of a match.
+pub(crate) fn tells_length(line: &[u8]) -> bool
+    ensures { IsTrue result ↔ ((n : ℕ) × IsLengthLine line.now n) }
+{
+    read_length(line).is_some()
+}
+
+/// The number of a game, by the line `Game N`.
+pub(crate) fn read_game(line: &[u8]) -> Option<u16>
+    ensures { IfSome result (IsGameLine line.now) }
+{
+    let (number, rest) = split_word(skip_word(line, b"Game")?)?;
+    let game = read_number(number)?;
+    if is_blank_text(rest) {
+        Some(game)
+    } else {
+        None
+    }
+}
+
+/// A text without the blanks at its end, and these.
+fn trim_end(text: &[u8]) -> (&[u8], &[u8])
+    ensures { (text.now ≡ result.0.now ++ result.1.now) × IsBlankText result.1.now }
+{
+    match text.iter().rposition(|byte| !is_blank(*byte)) {
+        Some(last) => (&text[..last + 1], &text[last + 1..]),
+        None => (&[], text),
+    }
+}
+
+/// What stands before the end of a text where that is this one.
+fn front_before<'a>(text: &'a [u8], end: &[u8]) -> Option<&'a [u8]>
+    ensures { IfSome result (λ front. text.now ≡ front.now ++ end.now) }
+{
+    text.strip_suffix(end)
+}
+
+/// What follows the start of a text where that is this one.
+fn rest_behind<'a>(text: &'a [u8], start: &[u8]) -> Option<&'a [u8]>
+    ensures { IfSome result (λ rest. text.now ≡ start.now ++ rest.now) }
+{
+    text.strip_prefix(start)
+}
+
+/// What stands before a colon and this score at the end of a text.
+fn before_score(text: &[u8], score: u16) -> Option<&[u8]>
+    ensures { IfSome result (λ front. EndsWithScore text.now score front.now) }
+{
+    let mut digits = Buffer::new();
+    let scored = trim_end(text);
+    let front = front_before(scored.0, digits.format(score).as_bytes())?;
+    let named = trim_end(front);
+    front_before(named.0, b":")
+}
+
+/// Whether a text begins with this score, behind any blanks, and a blank or the end follows.
+fn begins_with_score(text: &[u8], score: u16) -> bool
+    ensures { OnTrue result (BeginsWithScore text.now score) }
+{
+    let mut digits = Buffer::new();
+    let parts = split_blanks(text);
+    match rest_behind(parts.1, digits.format(score).as_bytes()) {
+        Some(rest) => ends_word(rest),
+        None => false,
+    }
+}
+
+/// Whether a word ends where a text begins: it is empty, or begins with a blank.
+fn ends_word(text: &[u8]) -> bool
+    ensures { IsTrue result ↔ EndsWord text.now }
+{
+    match text {
+        [] => true,
+        [next, ..] => is_blank(*next),
+    }
+}
+
+/// Whether a text has a colon and this score somewhere.
+fn has_score(text: &[u8], score: u16) -> bool
+    ensures { OnTrue result (HasScore text.now score) }
+{
+    let mut rest = text;
+    while let Some((first, after)) = rest.split_first() {
+        if *first == b':' && begins_with_score(after, score) {
+            return true;
+        }
+        rest = after;
+    }
+    false
+}
+
+/// Whether a line names both players, each with this score, X's first.
+pub(crate) fn has_scores(line: &[u8], x: u16, o: u16) -> bool
+    ensures { OnTrue result (IsScoresLine line.now x o) }
+{
+    match before_score(line, o) {
+        Some(front) => has_score(front, x),
+        None => false,
+    }
+}

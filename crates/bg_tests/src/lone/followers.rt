@@ -1,0 +1,119 @@
+//! A seat and one who watches, each in a process of its own, over a link and files of its own.
+ghost use Rattle.std.specs.Prelude.{◌≤◌};
+ghost use Rattle.bg_wire.specs.Entries.Codes.{first_watcher};
+
+use crate::lone::referee::{MOST_PARTIES, ProcessFault, check_restart};
+use crate::own_devices::FileKeeper;
+use crate::post_link::PostLink;
+use bg_board::Player;
+use bg_match::{Action, Record, Terms};
+use bg_wire::party_of;
+use bg_world::{Outcome, SeatNode, WatcherNode};
+use std::alloc::Global;
+use std::fs::File;
+use std::rt::Files;
+
+/// The seat of a player, alone in its process.
+#[derive(Drop)]
+pub(crate) struct LoneSeat<'a, R> {
+    node: SeatNode<FileKeeper<'a, R>>,
+    pub(crate) link: PostLink,
+    /// Whether it has a claim that is not saved yet.
+    unsaved: bool,
+}
+
+impl<'a, R: Files<File = File> + AllocGlobal> LoneSeat<'a, R> {
+    /// Goes on with the match that the folder has, or begins it.
+    pub(crate) fn begin(
+        rt: &'a R,
+        folder: &str,
+        player: Player,
+        id: u64,
+        terms: Terms,
+    ) -> Result<LoneSeat<'a, R>, ProcessFault> {
+        let keeper = FileKeeper::new(rt, folder, party_of(player))?;
+        let (node, outcome) = SeatNode::begin(rt.alloc(), player, id, terms, keeper)?;
+        check_restart(outcome)?;
+        Ok(LoneSeat {
+            node,
+            link: PostLink::new(rt.alloc()),
+            unsaved: false,
+        })
+    }
+
+    /// Its record.
+    pub(crate) fn held(&self) -> Option<&Record> {
+        self.node.held()
+    }
+
+    /// Claims what its player chooses, and says what that came to. The next turn saves the claim and sends it.
+    pub(crate) fn choose(&mut self, action: Action) -> Outcome {
+        let outcome = self.node.choose(action);
+        if matches!(outcome, Outcome::Chose(Ok(_))) {
+            self.unsaved = true;
+        }
+        outcome
+    }
+
+    /// Takes what has come, saves a new claim, and sends the claim, or asks for what it lacks.
+    pub(crate) fn turn(&mut self) -> Result<(), ProcessFault> {
+        for _ in 0..self.link.waiting() {
+            self.node.take(&mut self.link, 0);
+        }
+        if self.unsaved {
+            self.save()?;
+        }
+        self.node.tick(&mut self.link, MOST_PARTIES);
+        Ok(())
+    }
+
+    fn save(&mut self) -> Result<(), ProcessFault> {
+        match self.node.save() {
+            Outcome::Saved(_) => {}
+            // It is tried again in the next turn.
+            Outcome::Memory => return Ok(()),
+            // The write failed and the party is down. Where its files lack the claim, the player may choose again.
+            Outcome::SaveFault => check_restart(self.node.restart())?,
+            outcome => return Err(ProcessFault::Stopped(outcome)),
+        }
+        self.unsaved = false;
+        Ok(())
+    }
+}
+
+/// One who watches a match, alone in a process. It saves nothing.
+#[derive(Drop)]
+pub(crate) struct LoneWatcher {
+    node: WatcherNode,
+    pub(crate) link: PostLink,
+}
+
+impl LoneWatcher {
+    /// A watcher who holds no entry. `party` is its number, from 3.
+    pub(crate) fn begin(
+        alloc: Global,
+        party: u8,
+        id: u64,
+        terms: Terms,
+    ) -> Result<LoneWatcher, ProcessFault>
+        requires { first_watcher ≤ party }
+    {
+        Ok(LoneWatcher {
+            node: WatcherNode::fresh(alloc, party, id, terms)?,
+            link: PostLink::new(alloc),
+        })
+    }
+
+    /// Its record.
+    pub(crate) fn held(&self) -> &Record {
+        self.node.held()
+    }
+
+    /// Takes what has come, and asks for what it lacks.
+    pub(crate) fn turn(&mut self) {
+        for _ in 0..self.link.waiting() {
+            self.node.take(&mut self.link, 0);
+        }
+        self.node.tick(&mut self.link, MOST_PARTIES);
+    }
+}
