@@ -17,8 +17,8 @@ use Rattle.bg_mat.specs.Telling.{Item, Game, Scores, Does, Told, Place, AreTold,
 use Rattle.bg_mat.specs.declared.rows.cells.Cell.{Cell}
 use Rattle.bg_mat.specs.declared.rows.cells.Cell.TheVariants as cell
 use Rattle.bg_mat.specs.declared.rows.Row.{Row}
-use Rattle.bg_mat.specs.declared.importing.Awaited.{Awaited}
-use Rattle.bg_mat.specs.declared.importing.Awaited.TheVariants as awaited
+use Rattle.bg_mat.specs.declared.awaiting.Awaited.{Awaited}
+use Rattle.bg_mat.specs.declared.awaiting.Awaited.TheVariants as awaited
 
 -- what a cell tells, if it is there
 abbrev pub item_of : Player → Option Cell → List Item

@@ -5,8 +5,8 @@ use Rattle.bg_match.specs.declared.entries.Entry.{Entry}
 use Rattle.bg_mat.specs.Files.{TellsAwaited, TellsLines, numbered}
 use Rattle.bg_mat.specs.Replaying.{GoesOnBy, pending_items, place_of}
 use Rattle.bg_mat.specs.Telling.{AreTold, Item, Place, Told}
-use Rattle.bg_mat.specs.declared.importing.Awaited.{Awaited}
-use Rattle.bg_mat.specs.declared.importing.Awaited.TheVariants as awaited
+use Rattle.bg_mat.specs.declared.awaiting.Awaited.{Awaited}
+use Rattle.bg_mat.specs.declared.awaiting.Awaited.TheVariants as awaited
 use Rattle.bg_mat.specs.declared.playing.Replay.{Replay}
 
 -- a line of this number adds what it tells where this is awaited, and what may follow it

@@ -6,8 +6,8 @@ use Rattle.bg_match.specs.declared.entries.Entry.{Entry}
 use Rattle.bg_mat.specs.Files.{kept_entries, start_place}
 use Rattle.bg_mat.specs.Telling.{Place}
 use Rattle.bg_mat.specs.Tellings.{AreOfItems, IsInOrder, TellsEntry, TellsWin, items_of_tellings, with_telling}
-use Rattle.bg_mat.specs.declared.importing.Awaited.{Awaited}
-use Rattle.bg_mat.specs.declared.importing.Awaited.TheVariants as awaited
+use Rattle.bg_mat.specs.declared.awaiting.Awaited.{Awaited}
+use Rattle.bg_mat.specs.declared.awaiting.Awaited.TheVariants as awaited
 use Rattle.bg_mat.specs.declared.tellings.Telling.{Telling}
 
 -- an entry that leads from s to t adds what it tells, and the win that it leads to

@@ -16,8 +16,8 @@ use Rattle.bg_mat.specs.Turns.{HasHits, is_reached, steps_of}
 use Rattle.bg_mat.specs.declared.rows.cells.Cell.{Cell}
 use Rattle.bg_mat.specs.declared.rows.cells.Cell.TheVariants as cell
 use Rattle.bg_mat.specs.declared.rows.cells.Win.{Win}
-use Rattle.bg_mat.specs.declared.importing.Awaited.{Awaited}
-use Rattle.bg_mat.specs.declared.importing.Awaited.TheVariants as awaited
+use Rattle.bg_mat.specs.declared.awaiting.Awaited.{Awaited}
+use Rattle.bg_mat.specs.declared.awaiting.Awaited.TheVariants as awaited
 use Rattle.bg_mat.specs.declared.movements.legs.Leg.{Leg}
 use Rattle.bg_mat.specs.declared.tellings.GameStart.{GameStart}
 use Rattle.bg_mat.specs.declared.tellings.Telling.{Telling}

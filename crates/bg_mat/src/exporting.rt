@@ -6,9 +6,9 @@ ghost use Rattle.bg_mat.specs.Rows.RowTexts.{next_row as next_row_number};
 ghost use Rattle.bg_mat.specs.declared.tellings.Telling.{Telling as Told};
 
 use crate::rows::cells::Cell;
-use crate::tellings::retelling::tellings_of;
 use crate::rows::row_texts::{put_alone, put_both, put_game};
 use crate::tellings::Telling;
+use crate::tellings::retelling::tellings_of;
 use bg_board::Player;
 use bg_match::Record;
 use bg_text::{put_number, put_text};

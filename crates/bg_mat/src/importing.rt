@@ -2,7 +2,7 @@
 ghost use Rattle.std.specs.Prelude.{◌≡◌, ◌+◌, ◌<◌, ◌≤◌, ◌↔◌, ℕ, List, None, Err, IfOk, IfErr, OnOk, length};
 ghost use Rattle.bg_match.specs.Match.{IsLog, empty_log};
 ghost use Rattle.bg_match.specs.Terms.{terms_of};
-ghost use Rattle.bg_mat.specs.Files.{Imports, after_row, is_win as is_win_cell, item_of, items_of, numbered};
+ghost use Rattle.bg_mat.specs.Files.{Imports, after_row, item_of, items_of, numbered};
 ghost use Rattle.bg_mat.specs.Rows.Headings.{IsGameLine, IsLengthLine};
 ghost use Rattle.bg_text.specs.Judge.Judging.{lines_of};
 ghost use Rattle.bg_text.specs.Limits.{most_bytes};
@@ -10,10 +10,11 @@ ghost use Rattle.bg_mat.specs.Replaying.{Begins, GoesOnBy, IsReplay};
 ghost use Rattle.bg_mat.specs.Reading.{AddsLine, ReadsGames};
 ghost use Rattle.bg_mat.specs.Refusals.{IsAtLineOf, IsAtToldLine, IsBeginFault, IsReadFault, IsRefusal};
 
-use crate::rows::cells::Cell;
+use crate::awaiting::{Awaited, awaited_behind};
 use crate::faults::{ReadFault, refused};
-use crate::rows::headings::{is_filler, read_game, read_length};
 use crate::playing::Replay;
+use crate::rows::cells::Cell;
+use crate::rows::headings::{is_filler, read_game, read_length};
 use crate::rows::{Row, read_row};
 use crate::{ImportFault, MatFault};
 use bg_board::Player;
@@ -28,17 +29,6 @@ pub struct Imported {
     pub record: Record,
     /// For each entry, in order, the line of the file that tells it, from 1.
     pub lines: Vec<u32>,
-}
-
-/// What may stand on the next line that tells something.
-#[derive(Clone, Copy, Debug, PartialEq, Eq)]
-pub(crate) enum Awaited {
-    /// The number of a game.
-    Game,
-    /// The scores before the game.
-    Scores,
-    /// A row of the game, or the number of the next game.
-    Row,
 }
 
 /// The record of a match file, as the match of this number, by these rules; X has the left column (docs/FORMATS.md,
@@ -206,17 +196,6 @@ fn read_line(
     }
 }
 
-/// What may follow a row.
-fn awaited_behind(row: &Row) -> Awaited
-    ensures { result ≡ after_row row.now }
-{
-    if is_win(&row.left) || is_win(&row.right) {
-        Awaited::Game
-    } else {
-        Awaited::Row
-    }
-}
-
 /// Adds what a cell tells, if it is there.
 fn add_cell(
     replay: &mut Replay,
@@ -246,10 +225,4 @@ fn add_row(replay: &mut Replay, row: Row, number: u32) -> Result<Awaited, ReadFa
     add_cell(replay, Player::X, left, number)?;
     add_cell(replay, Player::O, right, number)?;
     Ok(next)
-}
-
-fn is_win(cell: &Option<Cell>) -> bool
-    ensures { result ≡ is_win_cell cell.now }
-{
-    matches!(cell, Some(Cell::Wins(_)))
 }

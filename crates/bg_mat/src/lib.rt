@@ -11,6 +11,7 @@
 //! ```
 #![tactic(auto)]
 
+mod awaiting;
 mod exporting;
 mod fault_words;
 mod faults;

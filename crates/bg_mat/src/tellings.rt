@@ -7,9 +7,9 @@ ghost use Rattle.bg_mat.specs.Tellings.{TellsWin, is_new_hit};
 pub(crate) mod retelling;
 pub(crate) mod telling_apart;
 
-use crate::rows::cells::{Cell, Win};
-use crate::movements::legs::{Leg, Legs};
 use crate::movements::is_reached;
+use crate::movements::legs::{Leg, Legs};
+use crate::rows::cells::{Cell, Win};
 use arrayvec::ArrayVec;
 use bg_board::{BAR, Board, OFF, Player, Step};
 use bg_match::{Entry, Phase, Standing};

@@ -3,6 +3,7 @@ mod checking;
 mod folders;
 mod kept_output;
 mod operators;
+mod restored;
 mod rules;
 mod shown_folders;
 mod sim;

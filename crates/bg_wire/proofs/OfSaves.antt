@@ -9,6 +9,4 @@ pub mod Loading
 pub mod Replaying
 pub mod SlotTurns
 pub mod OneText
-pub mod DecidedTurns
-pub mod DecidedRecords
 pub mod DecidedSlots

@@ -7,8 +7,8 @@ use Rattle.bg_text.specs.Judge.Judging.{lines_of}
 use Rattle.bg_mat.specs.Replaying.{Closes, GoesOnBy, IsReplay, pending_items, place_of}
 use Rattle.bg_mat.specs.Reading.{ReadsGames}
 use Rattle.bg_mat.specs.Telling.{AreTold, Item, Told}
-use Rattle.bg_mat.specs.declared.importing.Awaited.{Awaited}
-use Rattle.bg_mat.specs.declared.importing.Awaited.TheVariants as awaited
+use Rattle.bg_mat.specs.declared.awaiting.Awaited.{Awaited}
+use Rattle.bg_mat.specs.declared.awaiting.Awaited.TheVariants as awaited
 use Rattle.bg_mat.specs.declared.playing.Replay.{Replay}
 use Rattle.bg_mat.proofs.OfReading.Replays.{goes_on_twice, nothing_more, stays}
 

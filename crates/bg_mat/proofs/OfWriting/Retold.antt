@@ -12,8 +12,8 @@ use Rattle.bg_mat.specs.Files.{start_place}
 use Rattle.bg_mat.specs.Telling.{BringsDice, GoesOn, Item, Place, Tells}
 use Rattle.bg_mat.specs.Tellings.{AreOfItems, IsInOrder, items_of_telling, items_of_tellings}
 use Rattle.bg_mat.specs.declared.rows.cells.Cell.TheVariants as cell
-use Rattle.bg_mat.specs.declared.importing.Awaited.{Awaited}
-use Rattle.bg_mat.specs.declared.importing.Awaited.TheVariants as awaited
+use Rattle.bg_mat.specs.declared.awaiting.Awaited.{Awaited}
+use Rattle.bg_mat.specs.declared.awaiting.Awaited.TheVariants as awaited
 use Rattle.bg_mat.specs.declared.tellings.Telling.{Telling}
 use Rattle.bg_mat.specs.declared.tellings.Telling.TheVariants as telling
 

@@ -22,7 +22,7 @@ use Rattle.bg_mat.specs.Telling.{MovesBy}
 use Rattle.bg_mat.specs.Tellings.{IsOnBoard, IsDeedIn, TellsDice, TellsEntry, TellsMove, TellsWin, with_telling}
 use Rattle.bg_mat.specs.Turns.{steps_of}
 use Rattle.bg_mat.specs.declared.rows.cells.Cell.TheVariants as cell
-use Rattle.bg_mat.specs.declared.importing.Awaited.{Awaited}
+use Rattle.bg_mat.specs.declared.awaiting.Awaited.{Awaited}
 use Rattle.bg_mat.specs.declared.movements.legs.Leg.{Leg}
 use Rattle.bg_mat.specs.declared.tellings.Telling.{Telling}
 use Rattle.bg_mat.specs.declared.tellings.Telling.TheVariants as telling

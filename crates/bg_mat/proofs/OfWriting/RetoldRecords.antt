@@ -24,8 +24,8 @@ use Rattle.bg_mat.specs.Files.{kept_behind, kept_entries}
 use Rattle.bg_mat.specs.Retelling.{AddsEntry, TellsRecord}
 use Rattle.bg_mat.specs.Telling.{Place}
 use Rattle.bg_mat.specs.Tellings.{TellsDice, with_telling}
-use Rattle.bg_mat.specs.declared.importing.Awaited.{Awaited}
-use Rattle.bg_mat.specs.declared.importing.Awaited.TheVariants as awaited
+use Rattle.bg_mat.specs.declared.awaiting.Awaited.{Awaited}
+use Rattle.bg_mat.specs.declared.awaiting.Awaited.TheVariants as awaited
 use Rattle.bg_mat.specs.declared.tellings.Telling.{Telling}
 use Rattle.bg_mat.proofs.OfWriting.Retold.{IsTold, Retold, nothing_told}
 use Rattle.bg_mat.proofs.OfWriting.RetoldWins.{is_won_state, won_state}

@@ -20,8 +20,8 @@ use Rattle.bg_mat.specs.Telling.{AreOf, Does, Game, Scores, GoesOn, MovesBy, Pla
 use Rattle.bg_mat.specs.Tellings.{IsInOrder, IsOnBoard, HasGameNumbers}
 use Rattle.bg_mat.specs.declared.rows.cells.Cell.{Cell}
 use Rattle.bg_mat.specs.declared.rows.cells.Cell.TheVariants as cell
-use Rattle.bg_mat.specs.declared.importing.Awaited.{Awaited}
-use Rattle.bg_mat.specs.declared.importing.Awaited.TheVariants as awaited
+use Rattle.bg_mat.specs.declared.awaiting.Awaited.{Awaited}
+use Rattle.bg_mat.specs.declared.awaiting.Awaited.TheVariants as awaited
 use Rattle.bg_mat.specs.declared.tellings.Telling.{Telling}
 use Rattle.bg_mat.specs.declared.tellings.Telling.TheVariants as telling
 use Rattle.bg_mat.proofs.OfReading.Replays.{rolled_board}

@@ -17,8 +17,8 @@ use Rattle.bg_mat.specs.Telling.{Does, GoesOn, IsOver, MayResign, Place, Tells, 
 use Rattle.bg_mat.specs.Tellings.{IsWinBetween, TellsWin, with_telling}
 use Rattle.bg_mat.specs.declared.rows.cells.Cell.TheVariants as cell
 use Rattle.bg_mat.specs.declared.rows.cells.Win.{Win}
-use Rattle.bg_mat.specs.declared.importing.Awaited.{Awaited}
-use Rattle.bg_mat.specs.declared.importing.Awaited.TheVariants as awaited
+use Rattle.bg_mat.specs.declared.awaiting.Awaited.{Awaited}
+use Rattle.bg_mat.specs.declared.awaiting.Awaited.TheVariants as awaited
 use Rattle.bg_mat.specs.declared.tellings.Telling.{Telling}
 use Rattle.bg_mat.specs.declared.tellings.Telling.TheVariants as telling
 use Rattle.bg_mat.proofs.OfWriting.Retold.{told_more, one_item, InGame, calm_phase, calm, IsAt, IsOffer, MayStand, IsTold, IsSettled}

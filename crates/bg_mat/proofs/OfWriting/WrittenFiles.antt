@@ -16,8 +16,8 @@ use Rattle.bg_mat.specs.Telling.{AreTold, Does, Game, Item, Place, Scores, Told,
 use Rattle.bg_mat.specs.Tellings.{AreOfItems, HasGameNumbers, HasNumbers, IsInOrder, after_cell, items_of_tellings}
 use Rattle.bg_mat.specs.declared.rows.cells.Cell.{Cell}
 use Rattle.bg_mat.specs.declared.rows.cells.Cell.TheVariants as cell
-use Rattle.bg_mat.specs.declared.importing.Awaited.{Awaited}
-use Rattle.bg_mat.specs.declared.importing.Awaited.TheVariants as awaited
+use Rattle.bg_mat.specs.declared.awaiting.Awaited.{Awaited}
+use Rattle.bg_mat.specs.declared.awaiting.Awaited.TheVariants as awaited
 use Rattle.bg_mat.specs.declared.tellings.GameStart.{GameStart}
 use Rattle.bg_mat.specs.declared.tellings.Telling.{Telling}
 use Rattle.bg_mat.specs.declared.tellings.Telling.TheVariants as telling

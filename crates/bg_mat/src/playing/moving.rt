@@ -15,11 +15,11 @@ ghost use Rattle.std.specs.Prelude.{IfErr};
 
 use super::{PendingTurn, Replay};
 use crate::MatFault;
-use crate::rows::cells::{Cell, Win};
 use crate::faults::{ReadFault, refused};
-use crate::rows::headings::has_scores;
 use crate::movements::legs::Legs;
 use crate::movements::turns::{find_turn, turn_fault};
+use crate::rows::cells::{Cell, Win};
+use crate::rows::headings::has_scores;
 use arrayvec::ArrayVec;
 use bg_board::Player;
 use bg_match::{Actor, Entry, EntryFault, Level, Phase, Record, Standing};

@@ -3,8 +3,8 @@ ghost use Rattle.std.specs.Prelude.{◌≡◌, ◌++◌, OnOk};
 ghost use Rattle.bg_mat.specs.Rows.CellTexts.{cell_text, dice_text, ending_text, leg_text, legs_text, points_text, win_text};
 ghost use Rattle.bg_mat.specs.Legs.{mark};
 
-use crate::rows::cells::{Cell, Win};
 use crate::movements::legs::Leg;
+use crate::rows::cells::{Cell, Win};
 use bg_text::{put_number, put_text};
 use bg_turns::Dice;
 use std::alloc::AllocError;

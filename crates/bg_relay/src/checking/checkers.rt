@@ -1,5 +1,6 @@
 //! How many files are judged, one after the other.
 
+use crate::checking::tallies::Tally;
 use crate::checking::{MOST_SHOWN, check_text};
 use crate::endings::Ending;
 use crate::harmless::harmless;
@@ -7,7 +8,6 @@ use crate::inputs::read_input;
 use crate::messages::progress::Progress;
 use crate::messages::says::say;
 use crate::messages::{failed, no_memory, unwritten};
-use crate::checking::tallies::Tally;
 use crate::tellings::write_out;
 use bg_processes::Printable;
 use bg_text::Verdict;

@@ -1,6 +1,5 @@
 //! The command of one action, for scripts.
 
-use crate::seats::answers::ending_of;
 use crate::commands::options::{
     THREE_TERMINALS, folder_option, match_option, player_in, player_option,
 };
@@ -8,8 +7,9 @@ use crate::endings::Ending;
 use crate::messages::says::say;
 use crate::messages::{failed, no_memory, option_missing, unwritten, wrong};
 use crate::seats::Seat;
-use crate::tellings::{print_board, put_entries, tell_word, write_out};
+use crate::seats::answers::ending_of;
 use crate::seats::typed_lines::joined;
+use crate::tellings::{print_board, put_entries, tell_word, write_out};
 use bg_match::{Action, MOST_ENTRIES, Number};
 use bg_processes::{Failures, Going};
 use bg_text::parse_action;

@@ -5,9 +5,9 @@ use crate::commands::options::{
 };
 use crate::endings::Ending;
 use crate::messages::{no_memory, option_missing, unread, unwritten};
+use crate::seats::typed_lines::TypedLines;
 use crate::seats::{Round, Seat};
 use crate::tellings::{print_board, put_entries, write_out};
-use crate::seats::typed_lines::TypedLines;
 use bg_board::Player;
 use bg_match::{Actor, Entry, Number, Phase, Record};
 use bg_processes::{Failures, Going};

@@ -1,10 +1,10 @@
 //! The command that shows saved files.
 
 use crate::endings::Ending;
+use crate::folders::restored::restored_transcript;
 use crate::folders::{SlotBytes, folder_text};
 use crate::messages::says::say;
 use crate::messages::{failed, no_memory, unwritten, wrong};
-use crate::folders::restored::restored_transcript;
 use crate::showing::show_text;
 use crate::tellings::write_out;
 use bg_processes::{Printable, SlotName, read_saved};

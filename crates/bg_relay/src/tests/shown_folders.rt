@@ -1,16 +1,15 @@
-//! What is shown of the saved files of a folder, and the transcripts of what files restore.
-use crate::folders::{SlotBytes, folder_text};
+//! What is shown of the saved files of a folder.
 use crate::folders::restored::restored_transcript;
+use crate::folders::{SlotBytes, folder_text};
 use crate::tests::{
-    AFTER_THE_MOVE, AFTER_THE_OPENING, OPENING, REFEREE, REFEREE_OF_OLD, SEAT,
-    check_no_growth_is_left,
+    AFTER_THE_MOVE, AFTER_THE_OPENING, OPENING, REFEREE, SEAT, check_no_growth_is_left,
 };
 use std::alloc::{AllocError, Global};
 use std::process::Abort;
 use std::test::Fail;
 
 /// The referee's save 2 as it would be of this party, with another byte at an offset.
-fn saved_by(party: u8, offset: usize, byte: u8) -> [u8; 33] {
+pub(crate) fn saved_by(party: u8, offset: usize, byte: u8) -> [u8; 33] {
     let mut bytes = REFEREE;
     bytes[4] = party;
     if let Some(place) = bytes.get_mut(offset) {
@@ -199,38 +198,6 @@ party 1: no save
 party 2: no save
 ";
     check_folder(&rt, [b"B", b"", b"", b"", b"BGS0", b""], lines, "", false)
-}
-
-/// The transcript of what two files restore.
-fn check_transcript(
-    rt: &(impl AllocGlobal + Abort),
-    file0: &[u8],
-    file1: &[u8],
-    transcript: Option<&str>,
-) -> Result<(), Fail> {
-    let text = restored_transcript(rt.alloc(), file0, file1)?;
-    assert!(rt; text.as_deref() == transcript.map(str::as_bytes));
-    Ok(())
-}
-
-#[test]
-fn transcripts_of_saved_files(rt: HostRuntime) -> Result<(), Fail> {
-    let opening = "length 1\nopen 3 1\n";
-    let moved = "length 1\nopen 3 1\nX move 8-5 6-5\n";
-    check_transcript(&rt, &REFEREE, b"", Some(moved))?;
-    check_transcript(&rt, b"BGS0", &REFEREE_OF_OLD, Some(moved))?;
-    check_transcript(&rt, &REFEREE, &OPENING, Some(opening))?;
-    check_transcript(&rt, &OPENING, &REFEREE, Some(opening))?;
-    // Of two saves of one number that of file 0 counts.
-    let mut later = [0; 27];
-    later.copy_from_slice(&OPENING);
-    later[18] = 2;
-    check_transcript(&rt, &REFEREE, &later, Some(moved))?;
-    check_transcript(&rt, &later, &REFEREE, Some(opening))?;
-    let rules = "length 1 rules 2\nopen 3 1\nX move 8-5 6-5\n";
-    check_transcript(&rt, &saved_by(0, 14, 2), b"", Some(rules))?;
-    check_transcript(&rt, b"", b"", None)?;
-    check_transcript(&rt, b"BGS2", b"rubbish", None)
 }
 
 /// Want of memory is answered and harms nothing: asked again, the answer is the same. No run of the tests refuses any,

@@ -15,8 +15,8 @@ use Rattle.bg_wire.specs.declared.faults.RestoreRefusal.TheVariants.{Damaged, Wr
 use Rattle.bg_wire.specs.declared.saves.Saved.{Saved}
 use Rattle.bg_wire.specs.declared.saves.layouts.Front.{Front}
 use Rattle.bg_wire.proofs.Laws.{IsBytes}
-use Rattle.bg_wire.proofs.OfSaves.DecidedTurns.{Decided}
-use Rattle.bg_wire.proofs.OfSaves.DecidedRecords.{decided_record}
+use Rattle.bg_turns.proofs.DecidedTurns.{Decided}
+use Rattle.bg_match.proofs.DecidedRecords.{decided_record}
 use Rattle.bg_wire.proofs.OfSaves.Loading.{laid, is_layout}
 
 loads : (bytes : List ℕ) → IsBytes bytes → (found : Option SavedParts) × LoadsAs bytes found

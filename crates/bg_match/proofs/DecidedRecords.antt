@@ -17,7 +17,7 @@ use Rattle.bg_match.specs.declared.entries.Entry.TheVariants as entry
 use Rattle.bg_match.specs.declared.phases.Phase.{Phase}
 use Rattle.bg_match.specs.declared.phases.Phase.TheVariants as phase
 use Rattle.bg_match.proofs.Runs.{Follows-same}
-use Rattle.bg_wire.proofs.OfSaves.DecidedTurns.{Decided, both, decided_by, decided_turn}
+use Rattle.bg_turns.proofs.DecidedTurns.{Decided, both, decided_by, decided_turn}
 
 -- where an entry leads, or that it follows nowhere
 abbrev pub Next : State → Entry → Type 0
