@@ -192,7 +192,7 @@ fn longer_file_does_not_load(rt: HostRuntime) -> Result<(), Fail> {
     )
 }
 
-/// Fails where the growth that comes next is refused: so `tools/refuse_growths` learns how many came before.
+/// Fails where the growth that comes next is refused: so `tools/checks/refuse_growths` learns how many came before.
 pub(crate) fn check_no_growth_is_left(alloc: Global) -> Result<(), Fail> {
     match Vec::<u8>::with_capacity(alloc, 1) {
         Ok(_) => Ok(()),
@@ -201,7 +201,7 @@ pub(crate) fn check_no_growth_is_left(alloc: Global) -> Result<(), Fail> {
 }
 
 /// Want of memory is answered and harms nothing: asked again, the answer is the same. No run of the tests refuses any,
-/// but `tools/refuse_growths` refuses each growth in turn.
+/// but `tools/checks/refuse_growths` refuses each growth in turn.
 #[test]
 fn refused_growths(rt: HostRuntime) -> Result<(), Fail> {
     for _ in 0..2 {

@@ -1,4 +1,4 @@
-//! The lines of use that stand in each library's documentation, run (`tools/check_uses` compares them).
+//! The lines of use that stand in each library's documentation, run (`tools/checks/check_uses` compares them).
 use crate::host_tests::new_folder;
 use bg_auto::{NoOnlooker, auto_action, dice_word, sim_text};
 use bg_board::{Board, Die, Player, Step};

@@ -129,7 +129,7 @@ fn entries_by_the_second_rules(rt: HostRuntime) -> Result<(), Fail> {
     Ok(())
 }
 
-/// Fails where the growth that comes next is refused: so `tools/refuse_growths` learns how many came before.
+/// Fails where the growth that comes next is refused: so `tools/checks/refuse_growths` learns how many came before.
 fn check_no_growth_is_left(alloc: Global) -> Result<(), Fail> {
     match Vec::<u8>::with_capacity(alloc, 1) {
         Ok(_) => Ok(()),
@@ -152,8 +152,8 @@ fn sim_text_at_last(rt: &(impl AllocGlobal + Abort), steps: u32) -> Result<Vec<u
     }
 }
 
-/// Want of memory ends an automatic match of 24 events. No run of the tests refuses any, but `tools/refuse_growths`
-/// refuses each growth in turn.
+/// Want of memory ends an automatic match of 24 events. No run of the tests refuses any, but
+/// `tools/checks/refuse_growths` refuses each growth in turn.
 #[test]
 fn refused_growths_of_a_match(rt: HostRuntime) -> Result<(), Fail> {
     let text = sim_text_at_last(&rt, 24)?;

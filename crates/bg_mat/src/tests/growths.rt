@@ -7,7 +7,7 @@ use std::test::Fail;
 
 const MATCH: &str = " 1 point match\n Game 1\n X : 0 O : 0\n  1) 64: 24/14\n      Wins 1 point\n";
 
-/// Fails where the growth that comes next is refused: so `tools/refuse_growths` learns how many came before.
+/// Fails where the growth that comes next is refused: so `tools/checks/refuse_growths` learns how many came before.
 fn check_no_growth_is_left(alloc: Global) -> Result<(), Fail> {
     match Vec::<u8>::with_capacity(alloc, 1) {
         Ok(_) => Ok(()),
@@ -23,8 +23,8 @@ fn read(alloc: Global) -> Result<Imported, Fail> {
     }
 }
 
-/// Where memory is refused the same call then succeeds. No run of the tests refuses any, but `tools/refuse_growths`
-/// refuses each growth in turn.
+/// Where memory is refused the same call then succeeds. No run of the tests refuses any, but
+/// `tools/checks/refuse_growths` refuses each growth in turn.
 #[test]
 fn refused_growths_of_imports(rt: HostRuntime) -> Result<(), Fail> {
     let imported = read(rt.alloc())?;

@@ -1,4 +1,4 @@
-//! The lines of use that stand in the library's documentation, run (`tools/check_uses` compares them).
+//! The lines of use that stand in the library's documentation, run (`tools/checks/check_uses` compares them).
 use crate::{export_mat, import_mat};
 use bg_match::Rules;
 use std::test::Fail;

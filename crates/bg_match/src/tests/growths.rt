@@ -97,7 +97,7 @@ fn extend_again(rt: &impl Abort, record: &mut Record) -> Result<(), Fail> {
 }
 
 /// Where memory is refused nothing has changed, and the same call then succeeds. No run of the tests refuses any, but
-/// `tools/refuse_growths` refuses each growth in turn.
+/// `tools/checks/refuse_growths` refuses each growth in turn.
 #[test]
 fn refused_growths(rt: HostRuntime) -> Result<(), Fail> {
     let mut record = grown(&rt)?;

@@ -47,7 +47,7 @@ fn resumed(alloc: Global, text: &[u8]) -> Result<Party, Fail> {
     }
 }
 
-/// Fails where the growth that comes next is refused: so `tools/refuse_growths` learns how many came before.
+/// Fails where the growth that comes next is refused: so `tools/checks/refuse_growths` learns how many came before.
 fn check_no_growth_is_left(alloc: Global) -> Result<(), Fail> {
     match Vec::<u8>::with_capacity(alloc, 1) {
         Ok(_) => Ok(()),
@@ -56,7 +56,7 @@ fn check_no_growth_is_left(alloc: Global) -> Result<(), Fail> {
 }
 
 /// Where memory is refused nothing has changed, and the same call then succeeds. No run of the tests refuses any, but
-/// `tools/refuse_growths` refuses each growth in turn.
+/// `tools/checks/refuse_growths` refuses each growth in turn.
 #[test]
 fn refused_growths(rt: HostRuntime) -> Result<(), Fail> {
     let alloc = rt.alloc();

@@ -125,7 +125,7 @@ fn learns_eleven_offers(seat: &mut Seat) -> bool {
 }
 
 /// Where memory is refused nothing has changed, and the same call then succeeds. No run of the tests refuses any, but
-/// `tools/refuse_growths` refuses each growth in turn.
+/// `tools/checks/refuse_growths` refuses each growth in turn.
 #[test]
 fn refused_growths(rt: HostRuntime) -> Result<(), Fail> {
     let mut seat = after_the_opening(rt.alloc(), Player::X)?;

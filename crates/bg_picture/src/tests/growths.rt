@@ -5,7 +5,7 @@ use std::alloc::{AllocError, Global};
 use std::process::Abort;
 use std::test::Fail;
 
-/// Fails where the growth that comes next is refused: so `tools/refuse_growths` learns how many came before.
+/// Fails where the growth that comes next is refused: so `tools/checks/refuse_growths` learns how many came before.
 fn check_no_growth_is_left(alloc: Global) -> Result<(), Fail> {
     match Vec::<u8>::with_capacity(alloc, 1) {
         Ok(_) => Ok(()),
@@ -13,8 +13,8 @@ fn check_no_growth_is_left(alloc: Global) -> Result<(), Fail> {
     }
 }
 
-/// Where memory is refused the same call then succeeds. No run of the tests refuses any, but `tools/refuse_growths`
-/// refuses each growth in turn.
+/// Where memory is refused the same call then succeeds. No run of the tests refuses any, but
+/// `tools/checks/refuse_growths` refuses each growth in turn.
 #[test]
 fn refused_growths_of_pictures(rt: HostRuntime) -> Result<(), Fail> {
     let standing = record_of(rt.alloc(), "length 3\nopen 3 1\n")?.standing();

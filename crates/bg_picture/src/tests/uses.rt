@@ -1,4 +1,4 @@
-//! The lines of use that stand in the library's documentation, run (`tools/check_uses` compares them).
+//! The lines of use that stand in the library's documentation, run (`tools/checks/check_uses` compares them).
 use crate::{Numbering, page_text, picture_text};
 use bg_match::{Record, Rules};
 use std::test::Fail;

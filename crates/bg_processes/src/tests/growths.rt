@@ -1,4 +1,4 @@
-//! Want of memory: no run of the tests refuses a growth, but `tools/refuse_growths` refuses each in turn.
+//! Want of memory: no run of the tests refuses a growth, but `tools/checks/refuse_growths` refuses each in turn.
 use super::failing_calls::is_sound;
 use super::loops::{SEED, played};
 use crate::tests::helpers::failing_devices::Calls;
@@ -13,7 +13,7 @@ use std::io::ErrorKind;
 use std::test::Fail;
 use std::{fs, io};
 
-/// Fails where the growth that comes next is refused: so `tools/refuse_growths` learns how many came before.
+/// Fails where the growth that comes next is refused: so `tools/checks/refuse_growths` learns how many came before.
 fn check_no_growth_is_left(alloc: Global) -> Result<(), Fail> {
     match Vec::<u8>::with_capacity(alloc, 1) {
         Ok(_) => Ok(()),
@@ -101,7 +101,7 @@ fn lacked_memory(fault: &LoopFault) -> bool {
 }
 
 /// A round that lacked memory loses nothing: over the same folder the match goes on. No run of the tests refuses any,
-/// but `tools/refuse_growths` refuses each growth in turn.
+/// but `tools/checks/refuse_growths` refuses each growth in turn.
 #[test]
 fn refused_growths_of_a_round(rt: HostRuntime) -> Result<(), Fail> {
     let folder = match new_folder(&rt, "growths") {

@@ -15,7 +15,7 @@ fn opens(referee: &mut Referee) -> bool {
 }
 
 /// Where memory is refused nothing has changed, and the same call then succeeds. No run of the tests refuses any, but
-/// `tools/refuse_growths` refuses each growth in turn.
+/// `tools/checks/refuse_growths` refuses each growth in turn.
 #[test]
 fn refused_growths(rt: HostRuntime) -> Result<(), Fail> {
     let mut referee = fresh(rt.alloc())?;

@@ -182,7 +182,7 @@ fn arguments_of_check(rt: HostRuntime) -> Result<(), Fail> {
 }
 
 /// Want of memory is answered and harms nothing: asked again, the answer is the same. No run of the tests refuses any,
-/// but `tools/refuse_growths` refuses each growth in turn.
+/// but `tools/checks/refuse_growths` refuses each growth in turn.
 #[test]
 fn refused_growths_of_checks(rt: HostRuntime) -> Result<(), Fail> {
     let bytes = b"length 1\nopen 3 1\nX move 8-5\n";

@@ -201,7 +201,7 @@ party 2: no save
 }
 
 /// Want of memory is answered and harms nothing: asked again, the answer is the same. No run of the tests refuses any,
-/// but `tools/refuse_growths` refuses each growth in turn.
+/// but `tools/checks/refuse_growths` refuses each growth in turn.
 #[test]
 fn refused_growths_of_folders(rt: HostRuntime) -> Result<(), Fail> {
     let alloc = rt.alloc();

@@ -4,7 +4,7 @@ use crate::{EngineFault, Reading, read_input};
 use std::alloc::{AllocError, Global};
 use std::test::Fail;
 
-/// Fails where the growth that comes next is refused: so `tools/refuse_growths` learns how many came before.
+/// Fails where the growth that comes next is refused: so `tools/checks/refuse_growths` learns how many came before.
 fn check_no_growth_is_left(alloc: Global) -> Result<(), Fail> {
     match Vec::<u8>::with_capacity(alloc, 1) {
         Ok(_) => Ok(()),
@@ -18,8 +18,8 @@ fn read_some(alloc: Global) -> Result<Vec<u8>, EngineFault> {
     read_input(alloc, &mut Reading::new(Fed::new(&bytes, 3000)), 20000)
 }
 
-/// Where memory is refused the same call then succeeds. No run of the tests refuses any, but `tools/refuse_growths`
-/// refuses each growth in turn.
+/// Where memory is refused the same call then succeeds. No run of the tests refuses any, but
+/// `tools/checks/refuse_growths` refuses each growth in turn.
 #[test]
 fn refused_growths_of_inputs(rt: HostRuntime) -> Result<(), Fail> {
     let input = match read_some(rt.alloc()) {

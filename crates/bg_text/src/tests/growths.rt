@@ -8,7 +8,7 @@ use bg_streams::EngineFault;
 use std::alloc::{AllocError, Global};
 use std::test::Fail;
 
-/// Fails where the growth that comes next is refused: so `tools/refuse_growths` learns how many came before.
+/// Fails where the growth that comes next is refused: so `tools/checks/refuse_growths` learns how many came before.
 fn check_no_growth_is_left(alloc: Global) -> Result<(), Fail> {
     match Vec::<u8>::with_capacity(alloc, 1) {
         Ok(_) => Ok(()),
@@ -16,8 +16,8 @@ fn check_no_growth_is_left(alloc: Global) -> Result<(), Fail> {
     }
 }
 
-/// Where memory is refused the same call then succeeds. No run of the tests refuses any, but `tools/refuse_growths`
-/// refuses each growth in turn.
+/// Where memory is refused the same call then succeeds. No run of the tests refuses any, but
+/// `tools/checks/refuse_growths` refuses each growth in turn.
 #[test]
 fn refused_growths_of_boards(rt: HostRuntime) -> Result<(), Fail> {
     let standing = record(&rt)?.standing();

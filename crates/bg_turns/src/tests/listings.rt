@@ -60,7 +60,7 @@ fn turns_where_none_is_played(rt: HostRuntime) -> Result<(), Fail> {
     check_turns(&rt, &shut_out()?, dice(Die::Six, Die::Six), &expected)
 }
 
-/// Fails where the growth that comes next is refused: so `tools/refuse_growths` learns how many came before.
+/// Fails where the growth that comes next is refused: so `tools/checks/refuse_growths` learns how many came before.
 fn check_no_growth_is_left(alloc: Global) -> Result<(), Fail> {
     match Vec::<u8>::with_capacity(alloc, 1) {
         Ok(_) => Ok(()),
@@ -69,7 +69,7 @@ fn check_no_growth_is_left(alloc: Global) -> Result<(), Fail> {
 }
 
 /// Where memory is refused the same call then succeeds. No run of the tests refuses any, but
-/// `tools/refuse_growths` refuses each growth in turn.
+/// `tools/checks/refuse_growths` refuses each growth in turn.
 #[test]
 fn refused_growths(rt: HostRuntime) -> Result<(), Fail> {
     let start = Board::start();

@@ -188,8 +188,8 @@ fn check_growths(rt: &(impl AllocGlobal + Abort), bytes: &[u8], text: &[u8]) -> 
     Ok(())
 }
 
-/// Where memory is refused the same call then succeeds. No run of the tests refuses any, but `tools/refuse_growths`
-/// refuses each growth in turn.
+/// Where memory is refused the same call then succeeds. No run of the tests refuses any, but
+/// `tools/checks/refuse_growths` refuses each growth in turn.
 #[test]
 fn refused_growths(rt: HostRuntime) -> Result<(), Fail> {
     check_growths(&rt, &REFEREE_SAVE, &REFEREE_SAVE)?;

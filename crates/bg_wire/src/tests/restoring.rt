@@ -130,8 +130,8 @@ fn other_matches(rt: HostRuntime) {
     check_restored(&rt, &other, &THIRD, Err(RestoreRefusal::WrongMatch));
 }
 
-/// Where memory is refused the same call then succeeds. No run of the tests refuses any, but `tools/refuse_growths`
-/// refuses each growth in turn.
+/// Where memory is refused the same call then succeeds. No run of the tests refuses any, but
+/// `tools/checks/refuse_growths` refuses each growth in turn.
 #[test]
 fn refused_growths_of_slots(rt: HostRuntime) {
     let mut found = restored(rt.alloc(), &FOURTH, &THIRD);

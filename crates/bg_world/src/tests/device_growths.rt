@@ -35,7 +35,7 @@ fn net_at_last(alloc: Global, failing: &[FailSend]) -> Result<MemoryNet, AllocEr
 }
 
 /// Where memory is refused nothing changes and the same send then succeeds. No run of the tests refuses any, but
-/// `tools/refuse_growths` refuses each growth in turn.
+/// `tools/checks/refuse_growths` refuses each growth in turn.
 #[test]
 fn refused_growths_of_sends(rt: HostRuntime) -> Result<(), Fail> {
     let mut net = net_at_last(rt.alloc(), &[])?;

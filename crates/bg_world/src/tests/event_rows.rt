@@ -219,7 +219,7 @@ pub(crate) fn held(world: &MemoryWorld, party: u8) -> Option<Number> {
     Some(world.held(party)?.len())
 }
 
-/// Fails where the growth that comes next is refused: so `tools/refuse_growths` learns how many came before.
+/// Fails where the growth that comes next is refused: so `tools/checks/refuse_growths` learns how many came before.
 pub(crate) fn check_no_growth_is_left(alloc: Global) -> Result<(), Fail> {
     match Vec::<u8>::with_capacity(alloc, 1) {
         Ok(_) => Ok(()),

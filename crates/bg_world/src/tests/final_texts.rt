@@ -117,7 +117,7 @@ party 4: 0 entries
 }
 
 /// Want of memory is answered and harms nothing: asked again, the answer is the same. No run of the tests refuses any,
-/// but `tools/refuse_growths` refuses each growth in turn.
+/// but `tools/checks/refuse_growths` refuses each growth in turn.
 #[test]
 fn refused_growths_of_final_texts(rt: HostRuntime) -> Result<(), Fail> {
     let world = match world(rt.alloc(), 3, 0, NO_FAILURE) {

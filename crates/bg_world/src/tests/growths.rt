@@ -1,5 +1,5 @@
-//! Runs in which memory is refused. No run of the tests refuses any, but `tools/refuse_growths` refuses each growth in
-//! turn.
+//! Runs in which memory is refused. No run of the tests refuses any, but `tools/checks/refuse_growths` refuses each
+//! growth in turn.
 use crate::WorldFault;
 use crate::tests::event_rows::{
     MemoryWorld, NO_FAILURE, Row, TO_THE_CHOICE, TO_THE_CLAIM, check_no_growth_is_left, event, is,

@@ -224,8 +224,8 @@ fn a_claim_over_two_processes(rt: HostRuntime) -> Result<(), Fail> {
     Ok(())
 }
 
-/// No run of the tests refuses any growth, but `tools/refuse_growths` refuses each in turn: then what a party holds is
-/// still a front of what the referee does.
+/// No run of the tests refuses any growth, but `tools/checks/refuse_growths` refuses each in turn: then what a party
+/// holds is still a front of what the referee does.
 #[test]
 fn refused_growths_of_nodes(rt: HostRuntime) -> Result<(), Fail> {
     let alloc = rt.alloc();

@@ -203,7 +203,7 @@ fn check_lacking(rt: &impl Abort, answer: Result<Verdict, ScriptFault>, written:
 }
 
 /// A script without a final line end. Where memory is refused the same script then comes to its text. No run of the
-/// tests refuses any, but `tools/refuse_growths` refuses each growth in turn.
+/// tests refuses any, but `tools/checks/refuse_growths` refuses each growth in turn.
 #[test]
 fn refused_growths_of_scripts(rt: HostRuntime) -> Result<(), Fail> {
     let input = A_TURN.as_bytes();

@@ -3,7 +3,7 @@ lines, and public items with their contracts."""
 import pathlib
 import re
 
-TOP = pathlib.Path(__file__).resolve().parent.parent
+TOP = pathlib.Path(__file__).resolve().parents[2]
 CRATES = re.findall(r"^bg_\w+", (TOP / "crates.txt").read_text(), re.M)
 IMPORT = re.compile(r"\buse Rattle\.(bg_\w+)\.specs\.([\w.]+)\.\{([^}]*)\}")
 DEFINITION = re.compile(r" *(?:pub )?(?:abbrev|unfoldable|record|data) (?:pub )?([^\W\d]\w*|◌\S+)(?!\S)")
