@@ -28,31 +28,54 @@ use std::time::Clock;
 /// The version that `--version` prints.
 const VERSION: &str = "0.1.0";
 
-/// The command line of the program, with its help.
-pub(crate) fn command_line<'a>(alloc: Global) -> Result<Command<'a>, Error> {
-    Ok(
-        Command::new(alloc, "bg_relay")
-            .about("A backgammon match relay, proved")
-            .version(VERSION)
-            .subcommand_required(true)
-            .arg_required_else_help(true)
-            .subcommand(transcripts::judge::command(alloc)?)?
-            .subcommand(transcripts::check::command(alloc)?)?
-            .subcommand(transcripts::import::command(alloc)?)?
-            .subcommand(transcripts::export::command(alloc)?)?
-            .subcommand(show::command(alloc)?)?
-            .subcommand(transcripts::page::command(alloc)?)?
-            .subcommand(transcripts::picture::command(alloc)?)?
-            .subcommand(script::command(alloc)?)?
-            .subcommand(sim::command(alloc)?)?
-            .subcommand(play_loop::command(alloc)?)?
-            .subcommand(new_match::command(alloc)?)?
-            .subcommand(referee::command(alloc)?)?
-            .subcommand(play::command(alloc)?)?
-            .subcommand(act::command(alloc)?)?
-            .subcommand(auto::command(alloc)?)?
-            .subcommand(watch::command(alloc)?)?,
-    )
+/// The names of the commands, in the order in which help lists them.
+pub(crate) const NAMES: [&str; 16] = [
+    "judge", "check", "import", "export", "show", "page", "picture", "script", "sim", "loop",
+    "new", "referee", "play", "act", "auto", "watch",
+];
+
+/// The command line of the program, with its help. Where the first argument names a command it has that one alone, as
+/// nothing is said of the others then, and making all of them takes longer than what most of them do.
+pub(crate) fn command_line<'a>(alloc: Global, first: Option<&str>) -> Result<Command<'a>, Error> {
+    let mut program = Command::new(alloc, "bg_relay")
+        .about("A backgammon match relay, proved")
+        .version(VERSION)
+        .subcommand_required(true)
+        .arg_required_else_help(true);
+    if let Some(name) = first {
+        if let Some(command) = command_of(alloc, name)? {
+            return Ok(program.subcommand(command)?);
+        }
+    }
+    for name in NAMES {
+        if let Some(command) = command_of(alloc, name)? {
+            program = program.subcommand(command)?;
+        }
+    }
+    Ok(program)
+}
+
+/// The command of this name, if there is one.
+fn command_of<'a>(alloc: Global, name: &str) -> Result<Option<Command<'a>>, Error> {
+    Ok(Some(match name {
+        "judge" => transcripts::judge::command(alloc)?,
+        "check" => transcripts::check::command(alloc)?,
+        "import" => transcripts::import::command(alloc)?,
+        "export" => transcripts::export::command(alloc)?,
+        "show" => show::command(alloc)?,
+        "page" => transcripts::page::command(alloc)?,
+        "picture" => transcripts::picture::command(alloc)?,
+        "script" => script::command(alloc)?,
+        "sim" => sim::command(alloc)?,
+        "loop" => play_loop::command(alloc)?,
+        "new" => new_match::command(alloc)?,
+        "referee" => referee::command(alloc)?,
+        "play" => play::command(alloc)?,
+        "act" => act::command(alloc)?,
+        "auto" => auto::command(alloc)?,
+        "watch" => watch::command(alloc)?,
+        _ => return Ok(None),
+    }))
 }
 
 /// Runs the command that the arguments name; somebody may watch the standard error, and the standard output may be a

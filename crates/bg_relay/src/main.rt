@@ -48,7 +48,8 @@ fn run(rt: &HostRuntime) -> Ending {
         }
         Err(error) => return failed(rt, error),
     };
-    let Ok(command) = command_line(rt.alloc()) else {
+    let first = words.get(1).map(|word| word.as_str());
+    let Ok(command) = command_line(rt.alloc(), first) else {
         return no_memory(rt);
     };
     match command.try_get_matches_from(words.as_slice()) {

@@ -8,7 +8,7 @@ mod rules;
 mod shown_folders;
 mod sim;
 
-use crate::commands::command_line;
+use crate::commands::{NAMES, command_line};
 use crate::showing::show_text;
 use clap::error::ErrorKind;
 use std::alloc::{AllocError, Global};
@@ -17,7 +17,8 @@ use std::test::Fail;
 
 #[test]
 fn judge_is_a_command(rt: HostRuntime) -> Result<(), Fail> {
-    let matches = command_line(rt.alloc())?.try_get_matches_from(["bg_relay", "judge"].as_slice())?;
+    let words = ["bg_relay", "judge"];
+    let matches = command_line(rt.alloc(), Some("judge"))?.try_get_matches_from(words.as_slice())?;
     assert!(rt; matches.subcommand_name() == Some("judge"));
     Ok(())
 }
@@ -29,7 +30,7 @@ pub(crate) fn check_refused(
     kind: ErrorKind,
     on_stderr: bool,
 ) -> Result<(), Fail> {
-    match command_line(rt.alloc())?.try_get_matches_from(words) {
+    match command_line(rt.alloc(), words.get(1).copied())?.try_get_matches_from(words) {
         Ok(_) => Err(Fail::from("accepted")),
         Err(error) => {
             assert!(rt; error.kind() == kind);
@@ -37,6 +38,20 @@ pub(crate) fn check_refused(
             Ok(())
         }
     }
+}
+
+/// Each command has its name, by itself and among all of them.
+#[test]
+fn each_name_has_its_command(rt: HostRuntime) -> Result<(), Fail> {
+    for name in NAMES {
+        let words = ["bg_relay", name, "--help"];
+        check_refused(&rt, &words, ErrorKind::DisplayHelp, false)?;
+        match command_line(rt.alloc(), None)?.try_get_matches_from(words.as_slice()) {
+            Ok(_) => return Err(Fail::from("accepted")),
+            Err(error) => assert!(rt; error.kind() == ErrorKind::DisplayHelp, "{name}"),
+        }
+    }
+    Ok(())
 }
 
 #[test]

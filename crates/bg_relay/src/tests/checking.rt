@@ -159,7 +159,7 @@ fn endless_lines_are_cut(rt: HostRuntime) -> Result<(), Fail> {
 #[test]
 fn arguments_of_check(rt: HostRuntime) -> Result<(), Fail> {
     let words = ["bg_relay", "check", "--quiet", "a", "-", "b"];
-    let matches = command_line(rt.alloc())?.try_get_matches_from(words.as_slice())?;
+    let matches = command_line(rt.alloc(), Some("check"))?.try_get_matches_from(words.as_slice())?;
     let Some(("check", options)) = matches.subcommand() else {
         return Err(Fail::from("another command"));
     };
@@ -167,7 +167,7 @@ fn arguments_of_check(rt: HostRuntime) -> Result<(), Fail> {
     assert!(rt; options.get_strs("FILE") == Some(["a", "-", "b"].as_slice()));
     assert!(rt; options.get_str("files-from").is_none());
     let words = ["bg_relay", "check", "--files-from", "-"];
-    let matches = command_line(rt.alloc())?.try_get_matches_from(words.as_slice())?;
+    let matches = command_line(rt.alloc(), Some("check"))?.try_get_matches_from(words.as_slice())?;
     let Some(("check", options)) = matches.subcommand() else {
         return Err(Fail::from("another command"));
     };
