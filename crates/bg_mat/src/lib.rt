@@ -20,8 +20,6 @@ mod movements;
 mod playing;
 mod rows;
 mod tellings;
-#[cfg(test)]
-mod tests;
 mod writing;
 
 pub use exporting::export_mat;

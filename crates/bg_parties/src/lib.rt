@@ -29,8 +29,6 @@
 mod cores;
 mod faults;
 mod party;
-#[cfg(test)]
-mod tests;
 
 pub use faults::{NotUnderWay, OpenFault, RoleFault, SaveFault};
 pub use party::{MOST_SENT, Party, Taken};

@@ -24,8 +24,6 @@ mod outcomes;
 mod parties;
 mod retry;
 mod seat;
-#[cfg(test)]
-mod tests;
 mod told;
 mod watcher;
 mod window;

@@ -21,8 +21,6 @@ mod places;
 mod shapes;
 mod stacks;
 mod tables;
-#[cfg(test)]
-mod tests;
 
 pub use numberings::Numbering;
 pub use pages::page_text;

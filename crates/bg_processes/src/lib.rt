@@ -1,5 +1,5 @@
-//! The parties of a match on one machine: their sockets and files, how they wait, and what a process of one party does.
-//! For hosts that carry a match over the loopback address and keep it in a folder.
+//! The parties of a match on one machine: their sockets and files as devices, and what a process of one party does. For
+//! hosts that carry a match over the loopback address and keep it in a folder.
 //!
 //! ```
 //! // What all processes of a match agree on is a line; this is one of a match to 3 points.
@@ -20,31 +20,22 @@
 //! ```
 #![tactic(auto)]
 
-mod failures;
+mod answers;
 mod files;
 mod loops;
-mod printable;
 mod processes;
 mod sockets;
-#[cfg(test)]
-mod tests;
 
-pub use failures::device_failures::{DeviceFailure, FailedCall, FailureText};
-pub use failures::{DrainedFailures, Failures};
+pub use bg_system::{
+    DeviceFailure, DrainedFailures, FailedCall, FailureText, Failures, FolderLock, HIGHEST_PORT,
+    LOWEST_PORT, MatchFile, Printable, PrintableLines, Ready, SlotName, Ticking, Waiting,
+    make_secret, publish, read_saved, read_secret,
+};
 pub use files::file_keepers::FileKeeper;
-pub use files::folder_locks::FolderLock;
-pub use files::match_files::{HIGHEST_PORT, LOWEST_PORT, MatchFile};
-pub use files::read_saved;
-pub use files::secrets::{make_secret, read_secret};
-pub use files::slot_names::SlotName;
-pub use files::whole_files::publish;
 pub use loops::{play_loop, run_loop};
-pub use printable::{Printable, PrintableLines};
 pub use processes::referee::RefereeProcess;
 pub use processes::rounds::{Going, MOST_PARTIES};
 pub use processes::seat::SeatProcess;
-pub use processes::ticking::Ticking;
-pub use processes::waiting::{Ready, Waiting};
 pub use processes::watcher::WatcherProcess;
 pub use sockets::hearing::{Hearing, Word};
 pub use sockets::party_sockets::PartySocket;

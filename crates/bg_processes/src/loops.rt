@@ -2,12 +2,12 @@
 ghost use Rattle.bg_auto.specs.RoundResults.{setup_of};
 ghost use Rattle.bg_processes.specs.LoopResults.{IsLoopResult};
 
-use crate::failures::Failures;
 use crate::files::file_keepers::FileKeeper;
 use crate::sockets::udp_links::UdpLink;
 use bg_auto::{LoopFault, NoOnlooker, Onlooker, PARTIES, play_rounds};
 use bg_match::Rules;
 use bg_streams::Sink;
+use bg_system::Failures;
 use bg_wire::{REFEREE, SEAT_OF_O, SEAT_OF_X};
 use bg_world::Keepers;
 use std::fs::File;

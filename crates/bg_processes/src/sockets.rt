@@ -1,6 +1,5 @@
-//! The UDP sockets of parties.
+//! The UDP sockets of parties, as links.
 
 pub(crate) mod hearing;
-pub(crate) mod own_sockets;
 pub(crate) mod party_sockets;
 pub(crate) mod udp_links;

@@ -25,8 +25,6 @@ mod referee;
 mod rulings;
 mod saves;
 mod sessions;
-#[cfg(test)]
-mod tests;
 mod ticks;
 
 pub use outcomes::{DueFault, TakeOutcome};

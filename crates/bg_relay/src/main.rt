@@ -2,32 +2,15 @@
 //! memory or over sockets and files.
 #![tactic(auto)]
 
-mod beginnings;
-mod checking;
-mod commands;
-mod endings;
-mod folders;
-mod harmless;
-mod inputs;
-mod messages;
-mod published;
-mod screens;
-mod seats;
-mod showing;
-mod tellings;
-#[cfg(test)]
-mod tests;
-
 pub use bg_auto::{
     DiceAttempts, LoopFault, MemoryWorld, Simulation, auto_action, dice_word, event_of,
     event_words, run_rounds, sim_text,
 };
+use bg_commands::{columns, command_line, failed, no_memory, unwritten, wrong};
 use bg_processes::PrintableLines;
 pub use bg_processes::{FileKeeper, UdpLink, run_loop};
+use bg_reports::Ending;
 use clap::error::ErrorKind;
-use commands::command_line;
-use endings::Ending;
-use messages::{failed, no_memory, unwritten, wrong};
 use std::io;
 use std::io::IsTerminal;
 use std::process::ExitCode;
@@ -55,7 +38,7 @@ fn run(rt: &HostRuntime) -> Ending {
     match command.try_get_matches_from(words.as_slice()) {
         Ok(matches) => {
             let is_watched = rt.stderr().is_terminal();
-            match commands::run(rt, &matches, is_watched, screens::columns(rt)) {
+            match bg_commands::run(rt, &matches, is_watched, columns(rt)) {
                 Ok(ending) | Err(ending) => ending,
             }
         }

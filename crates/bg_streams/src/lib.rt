@@ -14,8 +14,6 @@ mod devices;
 mod fault_words;
 mod faults;
 mod histories;
-#[cfg(test)]
-mod tests;
 mod transfers;
 
 pub use devices::{Reading, Sink, Source, Writing};

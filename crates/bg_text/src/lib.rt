@@ -17,8 +17,6 @@ mod inputs;
 mod judging;
 mod printing;
 mod terms_texts;
-#[cfg(test)]
-mod tests;
 mod transcripts;
 
 pub use board_texts::{board_text, put_phase};

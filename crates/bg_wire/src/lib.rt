@@ -19,8 +19,6 @@ mod faults;
 mod packets;
 mod parties;
 mod saves;
-#[cfg(test)]
-mod tests;
 
 pub use faults::{LoadFault, RestoreRefusal, SaveRefusal, WireFault};
 pub use packets::codec::{decode, encode, packet_texts_are_prefix_free};

@@ -1,4 +1,5 @@
 //! The roles of parties, and copies of events.
+mod beginnings;
 mod device_growths;
 mod event_lines;
 mod event_rows;
@@ -22,11 +23,15 @@ use std::test::Fail;
 
 #[test]
 fn parts_of_parties(rt: HostRuntime) -> Result<(), Fail> {
-    assert!(rt; Role::of(0) == Role::Referee);
-    assert!(rt; Role::of(1) == Role::Seat(Player::X));
-    assert!(rt; Role::of(2) == Role::Seat(Player::O));
-    assert!(rt; Role::of(3) == Role::Watcher(0));
-    assert!(rt; Role::of(255) == Role::Watcher(252));
+    for (party, role) in [
+        (0, Role::Referee),
+        (1, Role::Seat(Player::X)),
+        (2, Role::Seat(Player::O)),
+        (3, Role::Watcher(0)),
+        (255, Role::Watcher(252)),
+    ] {
+        assert!(rt; Role::of(party) == role, "party {party}");
+    }
     Ok(())
 }
 

@@ -1,7 +1,8 @@
 //! The devices in memory where memory is refused.
 use super::event_rows::check_no_growth_is_left;
 use super::memory_devices::{
-    FAILED, FAILING_SENDS, OLD, TEXT, check_read, check_send, check_take, datagram, keeper, net,
+    FAILED, FAILING_SENDS, KeeperRow, NetRow, OLD, TEXT, check_keeper, check_net, datagram, keeper,
+    net,
 };
 use crate::{DeviceFault, FailRead, FailSend, Keeper, Link, MemoryKeeper, MemoryNet, Tear};
 use bg_wire::Slot;
@@ -34,6 +35,13 @@ fn net_at_last(alloc: Global, failing: &[FailSend]) -> Result<MemoryNet, AllocEr
     }
 }
 
+const SENT_AT_LAST: [NetRow; 4] = [
+    NetRow::Take(2, 5, &[5]),
+    NetRow::Take(0, 0, &[0, 0]),
+    NetRow::Take(0, 5, &[5, 5]),
+    NetRow::Take(1, 5, &[5; 30]),
+];
+
 /// Where memory is refused nothing changes and the same send then succeeds. No run of the tests refuses any, but
 /// `tools/checks/refuse_growths` refuses each growth in turn.
 #[test]
@@ -44,19 +52,17 @@ fn refused_growths_of_sends(rt: HostRuntime) -> Result<(), Fail> {
         assert!(rt; send_at_last(&rt, &mut net, 0, &[byte, byte]) == Ok(()));
         assert!(rt; send_at_last(&rt, &mut net, 1, &[byte; 30]) == Ok(()));
     }
-    check_take(&rt, &mut net, 2, 5, &[5]);
-    check_take(&rt, &mut net, 0, 0, &[0, 0]);
-    check_take(&rt, &mut net, 0, 5, &[5, 5]);
-    check_take(&rt, &mut net, 1, 5, &[5; 30]);
+    check_net(&rt, &mut net, &SENT_AT_LAST);
     check_no_growth_is_left(rt.alloc())
 }
 
 /// A send that fails and goes nowhere wants no memory.
+const NO_SEND: [NetRow; 2] = [NetRow::Send(2, &[1], FAILED), NetRow::Count(2, 0)];
+
 #[test]
 fn refused_growths_of_no_send(rt: HostRuntime) -> Result<(), Fail> {
     let mut net = net_at_last(rt.alloc(), &FAILING_SENDS)?;
-    check_send(&rt, &mut net, 2, &[1], FAILED);
-    assert!(rt; net.sent_to(2) == 0);
+    check_net(&rt, &mut net, &NO_SEND);
     check_no_growth_is_left(rt.alloc())
 }
 
@@ -76,10 +82,15 @@ fn write_at_last(keeper: &mut MemoryKeeper, bytes: &[u8]) -> Result<(), DeviceFa
     }
 }
 
-fn read_at_last(keeper: &mut MemoryKeeper) -> Result<Vec<u8>, DeviceFault> {
-    match keeper.read(Slot::One) {
+/// Whether the slot has these bytes.
+fn reads_at_last(keeper: &mut MemoryKeeper, expected: &[u8]) -> bool {
+    let read = match keeper.read(Slot::One) {
         Err(DeviceFault::Memory) => keeper.read(Slot::One),
         other => other,
+    };
+    match read {
+        Ok(bytes) => bytes.as_slice() == expected,
+        Err(_) => false,
     }
 }
 
@@ -89,30 +100,34 @@ fn refused_growths_of_keepers(rt: HostRuntime) -> Result<(), Fail> {
     let mut keeper = keeper_at_last(rt.alloc(), &[], &[])?;
     assert!(rt; write_at_last(&mut keeper, &OLD) == Ok(()));
     assert!(rt; write_at_last(&mut keeper, &TEXT) == Ok(()));
-    let bytes = read_at_last(&mut keeper).expect(&rt, "a read");
-    assert_eq!(rt; bytes.as_slice(), TEXT.as_slice());
+    assert!(rt; reads_at_last(&mut keeper, &TEXT));
     check_no_growth_is_left(rt.alloc())
 }
 
+const TEARS: [Tear; 2] = [
+    Tear {
+        party: 1,
+        nth: 1,
+        cut: None,
+    },
+    Tear {
+        party: 1,
+        nth: 2,
+        cut: Some(0),
+    },
+];
+
 /// A write that is torn and leaves no bytes, and a read that fails or finds none, want no memory.
+const NO_BYTES: [KeeperRow; 4] = [
+    KeeperRow::Write(Slot::One, &TEXT, FAILED),
+    KeeperRow::Write(Slot::One, &TEXT, FAILED),
+    KeeperRow::FailedRead(Slot::One),
+    KeeperRow::Read(Slot::One, &[]),
+];
+
 #[test]
 fn refused_growths_of_no_bytes(rt: HostRuntime) -> Result<(), Fail> {
-    let tears = [
-        Tear {
-            party: 1,
-            nth: 1,
-            cut: None,
-        },
-        Tear {
-            party: 1,
-            nth: 2,
-            cut: Some(0),
-        },
-    ];
-    let mut keeper = keeper_at_last(rt.alloc(), &tears, &[FailRead { party: 1, nth: 1 }])?;
-    assert!(rt; keeper.write(Slot::One, &TEXT) == FAILED);
-    assert!(rt; keeper.write(Slot::One, &TEXT) == FAILED);
-    assert!(rt; keeper.read(Slot::One).err() == Some(DeviceFault::Failed));
-    check_read(&rt, &mut keeper, Slot::One, &[]);
+    let mut keeper = keeper_at_last(rt.alloc(), &TEARS, &[FailRead { party: 1, nth: 1 }])?;
+    check_keeper(&rt, &mut keeper, &NO_BYTES);
     check_no_growth_is_left(rt.alloc())
 }

@@ -17,12 +17,21 @@ fn check_choice(rt: &impl Abort, line: &str, seat: Player, action: Action) {
     check_event(rt, line, Event::Choose { seat, action });
 }
 
+/// Adds a step to a turn; whether it is one, and has room.
+fn push_step(turn: &mut Turn, step: (u8, u8)) -> bool {
+    match Step::new(step.0, step.1) {
+        Some(step) if turn.steps().len() < 4 => {
+            turn.push(step);
+            true
+        }
+        _ => false,
+    }
+}
+
 fn move_of(rt: &impl Abort, steps: &[(u8, u8)]) -> Action {
     let mut turn = Turn::new();
-    for &(from, to) in steps {
-        let step = Step::new(from, to).expect(rt, "a step");
-        assert!(rt; turn.steps().len() < 4);
-        turn.push(step);
+    for step in steps {
+        assert!(rt; push_step(&mut turn, *step));
     }
     Action::Move(turn)
 }

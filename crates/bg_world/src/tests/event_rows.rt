@@ -219,6 +219,13 @@ pub(crate) fn held(world: &MemoryWorld, party: u8) -> Option<Number> {
     Some(world.held(party)?.len())
 }
 
+/// The parties hold so many entries, from party 0 on.
+pub(crate) fn check_held(rt: &impl Abort, world: &MemoryWorld, expected: &[Option<Number>]) {
+    for (party, count) in (0..=255).zip(expected) {
+        assert!(rt; held(world, party) == *count, "party {party}");
+    }
+}
+
 /// Fails where the growth that comes next is refused: so `tools/checks/refuse_growths` learns how many came before.
 pub(crate) fn check_no_growth_is_left(alloc: Global) -> Result<(), Fail> {
     match Vec::<u8>::with_capacity(alloc, 1) {

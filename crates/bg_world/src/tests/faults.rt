@@ -212,11 +212,16 @@ fn refusal(alloc: Global, length: u8, watchers: u8) -> Option<WorldFault> {
 
 #[test]
 fn setups_at_their_limits(rt: HostRuntime) -> Result<(), Fail> {
-    assert!(rt; refusal(rt.alloc(), 1, 253).is_none());
-    assert!(rt; refusal(rt.alloc(), 99, 0).is_none());
-    assert!(rt; refusal(rt.alloc(), 0, 254) == Some(WorldFault::TooManyWatchers));
-    assert!(rt; refusal(rt.alloc(), 0, 253) == Some(WorldFault::LengthOutOfRange));
-    assert!(rt; refusal(rt.alloc(), 100, 0) == Some(WorldFault::LengthOutOfRange));
+    for (length, watchers, expected) in [
+        (1, 253, None),
+        (99, 0, None),
+        (0, 254, Some(WorldFault::TooManyWatchers)),
+        (0, 253, Some(WorldFault::LengthOutOfRange)),
+        (100, 0, Some(WorldFault::LengthOutOfRange)),
+    ] {
+        let refusal = refusal(rt.alloc(), length, watchers);
+        assert!(rt; refusal == expected, "length {length}, {watchers} watchers");
+    }
     Ok(())
 }
 

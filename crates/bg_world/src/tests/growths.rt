@@ -1,12 +1,11 @@
 //! Runs in which memory is refused. No run of the tests refuses any, but `tools/checks/refuse_growths` refuses each
 //! growth in turn.
-use crate::WorldFault;
 use crate::tests::event_rows::{
     MemoryWorld, NO_FAILURE, Row, TO_THE_CHOICE, TO_THE_CLAIM, check_no_growth_is_left, event, is,
     world,
 };
 use crate::tests::worked_matches::{THE_CLAIM_KEPT, THE_ROLL_LOST, TO_THE_ROLL, WITH_A_WATCHER};
-use crate::worlds::runs::is_fault;
+use crate::{Outcome, WorldFault};
 use bg_match::Record;
 use std::alloc::Global;
 use std::process::Abort;
@@ -34,6 +33,14 @@ fn check_fronts(rt: &impl Abort, world: &MemoryWorld) {
             }
         }
     }
+}
+
+/// Whether a device failed, or slots restore nothing for their party.
+fn is_fault(outcome: &Outcome) -> bool {
+    matches!(
+        outcome,
+        Outcome::LinkFault | Outcome::SaveFault | Outcome::RestoreFault(_)
+    )
 }
 
 /// The events of these rows, one after the other. They come to what the rows say as long as no memory was wanted and

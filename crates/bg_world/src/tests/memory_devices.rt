@@ -65,6 +65,17 @@ fn send_over<L: Link>(link: &mut L, datagram: &Datagram) -> Result<(), DeviceFau
     link.send(datagram)
 }
 
+/// Whether a send gives this.
+fn sends(
+    rt: &impl Abort,
+    net: &mut MemoryNet,
+    to: u8,
+    bytes: &[u8],
+    expected: Result<(), DeviceFault>,
+) -> bool {
+    send_over(net, &datagram(rt, to, bytes)) == expected
+}
+
 pub(crate) fn check_send(
     rt: &impl Abort,
     net: &mut MemoryNet,
@@ -72,10 +83,7 @@ pub(crate) fn check_send(
     bytes: &[u8],
     expected: Result<(), DeviceFault>,
 ) {
-    assert!(rt;
-        send_over(net, &datagram(rt, to, bytes)) == expected,
-        "{to} {bytes:?}"
-    );
+    assert!(rt; sends(rt, net, to, bytes, expected), "{to} {bytes:?}");
 }
 
 /// Who knows nothing of a link but what every link promises is handed what the pick names, where there is a plan.
@@ -85,6 +93,22 @@ fn take_over<L: Link>(link: &mut L, party: u8, pick: u32) -> Taken
     link.take(party, pick)
 }
 
+/// Whether a party is handed these bytes by a pick.
+fn is_handed(net: &mut MemoryNet, party: u8, pick: u32, expected: &[u8]) -> bool {
+    match take_over(net, party, pick) {
+        Ok(Some(bytes)) => bytes.as_slice() == expected,
+        Ok(None) | Err(_) => false,
+    }
+}
+
+/// Whether a pick names nothing.
+fn is_handed_nothing(net: &mut MemoryNet, party: u8, pick: u32) -> bool {
+    match take_over(net, party, pick) {
+        Ok(None) => true,
+        Ok(Some(_)) | Err(_) => false,
+    }
+}
+
 pub(crate) fn check_take(
     rt: &impl Abort,
     net: &mut MemoryNet,
@@ -92,17 +116,72 @@ pub(crate) fn check_take(
     pick: u32,
     expected: &[u8],
 ) {
-    let taken = take_over(net, party, pick).expect(rt, "a take");
-    let bytes = taken.expect(rt, "a datagram");
-    assert_eq!(rt; bytes.as_slice(), expected);
+    assert!(rt;
+        is_handed(net, party, pick, expected),
+        "{party} {pick}: {expected:?}"
+    );
 }
 
-pub(crate) fn check_nothing(rt: &impl Abort, net: &mut MemoryNet, party: u8, pick: u32) {
-    let taken = take_over(net, party, pick).expect(rt, "a take");
-    assert!(rt; taken.is_none(), "{party} {pick}");
+/// A call of a net with what it gives, or what the net then counts.
+#[derive(Clone, Copy)]
+pub(crate) enum NetRow {
+    /// To a party these bytes are sent.
+    Send(u8, &'static [u8], Result<(), DeviceFault>),
+    /// A party is handed these bytes by a pick.
+    Take(u8, u32, &'static [u8]),
+    /// By this pick a party is handed nothing.
+    Nothing(u8, u32),
+    /// So many datagrams were sent to a party.
+    Count(u8, u32),
 }
 
-pub(crate) fn check_read(rt: &impl Abort, keeper: &mut MemoryKeeper, slot: Slot, expected: &[u8]) {
-    let bytes = keeper.read(slot).expect(rt, "a read");
-    assert_eq!(rt; bytes.as_slice(), expected);
+/// Whether the call gives what the row says.
+fn net_gives(rt: &impl Abort, net: &mut MemoryNet, row: NetRow) -> bool {
+    match row {
+        NetRow::Send(to, bytes, expected) => sends(rt, net, to, bytes, expected),
+        NetRow::Take(party, pick, expected) => is_handed(net, party, pick, expected),
+        NetRow::Nothing(party, pick) => is_handed_nothing(net, party, pick),
+        NetRow::Count(party, count) => net.sent_to(party) == count,
+    }
+}
+
+/// Every call gives what its row says.
+pub(crate) fn check_net(rt: &impl Abort, net: &mut MemoryNet, rows: &[NetRow]) {
+    for (i, row) in rows.iter().enumerate() {
+        assert!(rt; net_gives(rt, net, *row), "row {i}");
+    }
+}
+
+/// A call of a keeper with what it gives.
+#[derive(Clone, Copy)]
+pub(crate) enum KeeperRow {
+    /// To a slot these bytes are written.
+    Write(Slot, &'static [u8], Result<(), DeviceFault>),
+    /// A slot has these bytes.
+    Read(Slot, &'static [u8]),
+    /// The read of a slot fails.
+    FailedRead(Slot),
+}
+
+fn reads(keeper: &mut MemoryKeeper, slot: Slot, expected: &[u8]) -> bool {
+    match keeper.read(slot) {
+        Ok(bytes) => bytes.as_slice() == expected,
+        Err(_) => false,
+    }
+}
+
+/// Whether the call gives what the row says.
+fn keeper_gives(keeper: &mut MemoryKeeper, row: KeeperRow) -> bool {
+    match row {
+        KeeperRow::Write(slot, bytes, expected) => keeper.write(slot, bytes) == expected,
+        KeeperRow::Read(slot, expected) => reads(keeper, slot, expected),
+        KeeperRow::FailedRead(slot) => keeper.read(slot).err() == Some(DeviceFault::Failed),
+    }
+}
+
+/// Every call gives what its row says.
+pub(crate) fn check_keeper(rt: &impl Abort, keeper: &mut MemoryKeeper, rows: &[KeeperRow]) {
+    for (i, row) in rows.iter().enumerate() {
+        assert!(rt; keeper_gives(keeper, *row), "row {i}");
+    }
 }

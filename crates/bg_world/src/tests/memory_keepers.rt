@@ -1,39 +1,54 @@
 //! Keepers in memory: what their slots keep, which writes are torn, and which reads fail.
-use super::memory_devices::{FAILED, LAST, OLD, TEXT, check_read, keeper};
-use crate::{DeviceFault, FailRead, Keeper, Tear};
+use super::memory_devices::{FAILED, KeeperRow, LAST, OLD, TEXT, check_keeper, keeper};
+use crate::{FailRead, Tear};
 use bg_wire::Slot;
 use std::process::Abort;
 use std::test::Fail;
 
 /// A slot has what was last written to it, and the other one stays.
+const KEPT: [KeeperRow; 8] = [
+    KeeperRow::Read(Slot::Zero, &[]),
+    KeeperRow::Write(Slot::One, &OLD, Ok(())),
+    KeeperRow::Write(Slot::Zero, &TEXT, Ok(())),
+    KeeperRow::Read(Slot::One, &OLD),
+    KeeperRow::Read(Slot::Zero, &TEXT),
+    KeeperRow::Write(Slot::One, &[], Ok(())),
+    KeeperRow::Read(Slot::One, &[]),
+    KeeperRow::Read(Slot::Zero, &TEXT),
+];
+
 #[test]
 fn slots_are_kept(rt: HostRuntime) -> Result<(), Fail> {
-    let mut keeper = keeper(rt.alloc(), &[], &[])?;
-    check_read(&rt, &mut keeper, Slot::Zero, &[]);
-    assert!(rt; keeper.write(Slot::One, &OLD) == Ok(()));
-    assert!(rt; keeper.write(Slot::Zero, &TEXT) == Ok(()));
-    check_read(&rt, &mut keeper, Slot::One, &OLD);
-    check_read(&rt, &mut keeper, Slot::Zero, &TEXT);
-    assert!(rt; keeper.write(Slot::One, &[]) == Ok(()));
-    check_read(&rt, &mut keeper, Slot::One, &[]);
-    check_read(&rt, &mut keeper, Slot::Zero, &TEXT);
+    check_keeper(&rt, &mut keeper(rt.alloc(), &[], &[])?, &KEPT);
     Ok(())
 }
 
+const TO_THE_TORN_WRITE: [KeeperRow; 2] = [
+    KeeperRow::Write(Slot::Zero, &OLD, Ok(())),
+    KeeperRow::Write(Slot::Zero, &TEXT, FAILED),
+];
+
+const BEHIND_THE_TORN_WRITE: [KeeperRow; 3] = [
+    KeeperRow::Read(Slot::One, &[]),
+    KeeperRow::Write(Slot::Zero, &TEXT, Ok(())),
+    KeeperRow::Read(Slot::Zero, &TEXT),
+];
+
 /// The second write is torn, and leaves this in its slot. The writes before and after it are whole.
-fn check_torn(rt: &(impl AllocGlobal + Abort), cut: Option<u32>, left: &[u8]) -> Result<(), Fail> {
+fn check_torn(
+    rt: &(impl AllocGlobal + Abort),
+    cut: Option<u32>,
+    left: &'static [u8],
+) -> Result<(), Fail> {
     let tear = Tear {
         party: 1,
         nth: 2,
         cut,
     };
     let mut keeper = keeper(rt.alloc(), &[tear], &[])?;
-    assert!(rt; keeper.write(Slot::Zero, &OLD) == Ok(()));
-    assert!(rt; keeper.write(Slot::Zero, &TEXT) == FAILED);
-    check_read(rt, &mut keeper, Slot::Zero, left);
-    check_read(rt, &mut keeper, Slot::One, &[]);
-    assert!(rt; keeper.write(Slot::Zero, &TEXT) == Ok(()));
-    check_read(rt, &mut keeper, Slot::Zero, &TEXT);
+    check_keeper(rt, &mut keeper, &TO_THE_TORN_WRITE);
+    check_keeper(rt, &mut keeper, &[KeeperRow::Read(Slot::Zero, left)]);
+    check_keeper(rt, &mut keeper, &BEHIND_THE_TORN_WRITE);
     Ok(())
 }
 
@@ -51,59 +66,71 @@ fn torn_writes(rt: HostRuntime) -> Result<(), Fail> {
 }
 
 /// Entries of another party, and of no call, tear nothing. Of two entries for one write the first counts.
+const TEARS: [Tear; 5] = [
+    Tear {
+        party: 2,
+        nth: 1,
+        cut: None,
+    },
+    Tear {
+        party: 1,
+        nth: 0,
+        cut: None,
+    },
+    Tear {
+        party: 1,
+        nth: LAST,
+        cut: None,
+    },
+    Tear {
+        party: 1,
+        nth: 2,
+        cut: Some(1),
+    },
+    Tear {
+        party: 1,
+        nth: 2,
+        cut: None,
+    },
+];
+
+const TORN_ONCE: [KeeperRow; 4] = [
+    KeeperRow::Write(Slot::Zero, &OLD, Ok(())),
+    KeeperRow::Write(Slot::One, &TEXT, FAILED),
+    KeeperRow::Read(Slot::Zero, &OLD),
+    KeeperRow::Read(Slot::One, &[1]),
+];
+
 #[test]
 fn tears_of_others(rt: HostRuntime) -> Result<(), Fail> {
-    let tears = [
-        Tear {
-            party: 2,
-            nth: 1,
-            cut: None,
-        },
-        Tear {
-            party: 1,
-            nth: 0,
-            cut: None,
-        },
-        Tear {
-            party: 1,
-            nth: LAST,
-            cut: None,
-        },
-        Tear {
-            party: 1,
-            nth: 2,
-            cut: Some(1),
-        },
-        Tear {
-            party: 1,
-            nth: 2,
-            cut: None,
-        },
-    ];
-    let mut keeper = keeper(rt.alloc(), &tears, &[])?;
-    assert!(rt; keeper.write(Slot::Zero, &OLD) == Ok(()));
-    assert!(rt; keeper.write(Slot::One, &TEXT) == FAILED);
-    check_read(&rt, &mut keeper, Slot::Zero, &OLD);
-    check_read(&rt, &mut keeper, Slot::One, &[1]);
+    check_keeper(&rt, &mut keeper(rt.alloc(), &TEARS, &[])?, &TORN_ONCE);
     Ok(())
 }
 
+const FAILING_READS: [FailRead; 3] = [
+    FailRead { party: 1, nth: 2 },
+    FailRead { party: 0, nth: 1 },
+    FailRead {
+        party: 1,
+        nth: LAST,
+    },
+];
+
 /// Reads are counted by themselves, those that failed included.
+const FAILED_ONCE: [KeeperRow; 5] = [
+    KeeperRow::Write(Slot::One, &TEXT, Ok(())),
+    KeeperRow::Write(Slot::Zero, &OLD, Ok(())),
+    KeeperRow::Read(Slot::One, &TEXT),
+    KeeperRow::FailedRead(Slot::One),
+    KeeperRow::Read(Slot::One, &TEXT),
+];
+
 #[test]
 fn failing_reads(rt: HostRuntime) -> Result<(), Fail> {
-    let reads = [
-        FailRead { party: 1, nth: 2 },
-        FailRead { party: 0, nth: 1 },
-        FailRead {
-            party: 1,
-            nth: LAST,
-        },
-    ];
-    let mut keeper = keeper(rt.alloc(), &[], &reads)?;
-    assert!(rt; keeper.write(Slot::One, &TEXT) == Ok(()));
-    assert!(rt; keeper.write(Slot::Zero, &OLD) == Ok(()));
-    check_read(&rt, &mut keeper, Slot::One, &TEXT);
-    assert!(rt; keeper.read(Slot::One).err() == Some(DeviceFault::Failed));
-    check_read(&rt, &mut keeper, Slot::One, &TEXT);
+    check_keeper(
+        &rt,
+        &mut keeper(rt.alloc(), &[], &FAILING_READS)?,
+        &FAILED_ONCE,
+    );
     Ok(())
 }

@@ -1,19 +1,15 @@
-//! Parties that are nodes of their own: rows of the worked matches, the same events through a world and through nodes,
-//! and how processes begin.
+//! Parties that are nodes of their own: rows of the worked matches, and the same events through a world and through
+//! nodes.
 ghost use Rattle.std.specs.Prelude.{◌<◌, ◌≤◌};
 
 use crate::tests::event_rows::{
     Failing, Happens, MemoryWorld, NO_FAILURE, TO_THE_CHOICE, TO_THE_CLAIM, event,
 };
-use crate::tests::parties::{ID, Parties, TERMS, failing, keeper, same_world};
+use crate::tests::parties::{Parties, failing, same_world};
 use crate::tests::worked_matches::{THE_CLAIM_KEPT, THE_ROLL_LOST, TO_THE_ROLL, WITH_A_WATCHER};
-use crate::{
-    Event, Keeper, MemoryKeeper, Outcome, RefereeNode, RestoreCause, SeatNode, WatcherNode,
-};
+use crate::{Event, Link, MemoryNet, Outcome};
 use bg_board::Player;
-use bg_match::{Action, LengthFault, Rules, Terms};
-use bg_referee::Referee;
-use bg_wire::Slot;
+use bg_match::Action;
 use std::alloc::Global;
 use std::process::Abort;
 use std::test::Fail;
@@ -117,110 +113,36 @@ fn nodes_and_a_world(rt: HostRuntime) -> Result<(), Fail> {
     Ok(())
 }
 
-/// A keeper of this party whose slots have these bytes.
-fn filled(
-    rt: &impl Abort,
-    alloc: Global,
-    party: u8,
-    zero: &[u8],
-    one: &[u8],
-) -> Result<MemoryKeeper, Fail> {
-    let mut keeper = keeper(alloc, party, NO_FAILURE)?;
-    assert!(rt; keeper.write(Slot::Zero, zero).is_ok());
-    assert!(rt; keeper.write(Slot::One, one).is_ok());
-    Ok(keeper)
+/// Whether the last claim of X is a move as entry 2.
+fn claims_a_move(parties: &Parties) -> bool {
+    matches!(parties.claim(Player::X), Some((2, Action::Move(_))))
 }
 
-/// What it comes to that a referee begins over these slots, and how many entries it holds then.
-fn referee_over(
-    rt: &impl Abort,
-    alloc: Global,
-    zero: &[u8],
-    one: &[u8],
-) -> Result<(Outcome, Option<u32>), Fail> {
-    let keeper = filled(rt, alloc, 0, zero, one)?;
-    let (node, outcome) = RefereeNode::begin(alloc, ID, TERMS, keeper).expect(
-        rt,
-        "a length from 1 to 99",
-    );
-    let entries = match node.held() {
-        None => None,
-        Some(record) => Some(record.len()),
-    };
-    Ok((outcome, entries))
-}
+/// The claim of the move in match 1.
+const CLAIM: [u8; 24] = [
+    0x42, 0x47, 0x02, 0x02, 0x00, 0x00, 0x00, 0x00, 0x00, 0x00, 0x00, 0x01, 0x01, 0x01, 0x00, 0x00,
+    0x00, 0x02, 0x06, 0x02, 0x08, 0x05, 0x06, 0x05,
+];
 
-/// The first text that a referee of this match and these rules saves, of one entry.
-fn text_of(rt: &impl Abort, alloc: Global, id: u64, rules: Rules) -> Vec<u8> {
-    let mut core = Referee::fresh(alloc, id, TERMS.length, rules).expect(
-        rt,
-        "a length from 1 to 99",
-    );
-    assert!(rt; core.due(12).is_ok());
-    let (_, save, text) = core.to_save().expect(rt, "a text");
-    assert!(rt; save == 1);
-    text
-}
-
-#[test]
-fn processes_begin(rt: HostRuntime) -> Result<(), Fail> {
-    let alloc = rt.alloc();
-    let text = text_of(&rt, alloc, ID, Rules::One);
-    let another = text_of(&rt, alloc, ID + 1, Rules::One);
-    let other_rules = text_of(&rt, alloc, ID, Rules::Two);
-    let torn = text.get(..20).expect(&rt, "a text of 33 bytes");
-    assert!(rt; referee_over(&rt, alloc, &[], &[])? == (Outcome::Restarted, Some(0)));
-    assert!(rt; referee_over(&rt, alloc, &[], &text)? == (Outcome::Restarted, Some(1)));
-    assert!(rt; referee_over(&rt, alloc, torn, &text)? == (Outcome::Restarted, Some(1)));
-    assert!(rt; referee_over(&rt, alloc, &[], torn)? == (Outcome::Restarted, Some(0)));
-    let damaged = Outcome::RestoreFault(RestoreCause::Damaged);
-    assert!(rt; referee_over(&rt, alloc, torn, torn)? == (damaged, None));
-    let damaged = Outcome::RestoreFault(RestoreCause::Damaged);
-    assert!(rt; referee_over(&rt, alloc, torn, &[])? == (damaged, None));
-    for foreign in [&another, &other_rules] {
-        let wrong = Outcome::RestoreFault(RestoreCause::WrongMatch);
-        assert!(rt; referee_over(&rt, alloc, &[], foreign)? == (wrong, None));
+/// Whether the third datagram to the referee is this one.
+fn is_third(net: &mut MemoryNet, expected: &[u8]) -> bool {
+    match net.take(0, 2) {
+        Ok(Some(bytes)) => bytes.as_slice() == expected,
+        Ok(None) | Err(_) => false,
     }
-    // A seat doesn't sit down on what the referee saved.
-    let (seat, outcome) = SeatNode::begin(
-        alloc,
-        Player::X,
-        ID,
-        TERMS,
-        filled(&rt, alloc, 1, &[], &text)?,
-    )
-    .expect(&rt, "a length from 1 to 99");
-    assert!(rt; outcome == Outcome::RestoreFault(RestoreCause::WrongMatch));
-    assert!(rt; seat.held().is_none() && seat.claim().is_none());
-    Ok(())
 }
 
-#[test]
-fn lengths_of_nodes(rt: HostRuntime) -> Result<(), Fail> {
-    let alloc = rt.alloc();
-    for length in [0, 100] {
-        let terms = Terms { length, ..TERMS };
-        let refused = LengthFault::LengthOutOfRange;
-        let referee = RefereeNode::begin(alloc, ID, terms, keeper(alloc, 0, NO_FAILURE)?);
-        assert!(rt; matches!(referee, Err(LengthFault::LengthOutOfRange)));
-        let seat = SeatNode::begin(alloc, Player::O, ID, terms, keeper(alloc, 2, NO_FAILURE)?);
-        assert!(rt; matches!(seat, Err(LengthFault::LengthOutOfRange)));
-        let watcher = WatcherNode::fresh(alloc, 3, ID, terms);
-        assert!(rt; matches!(watcher, Err(fault) if fault == refused));
-    }
-    Ok(())
-}
-
-/// A seat's claim is kept over the end of its process, and told by the next one.
+/// A seat's claim is kept over the end of its process, and told by the next one, byte for byte.
 #[test]
 fn a_claim_over_two_processes(rt: HostRuntime) -> Result<(), Fail> {
     let mut parties = Parties::begin(&rt, rt.alloc(), NO_FAILURE)?;
     parties.check_rows(&rt, rt.alloc(), &TO_THE_CHOICE);
-    assert!(rt; matches!(parties.claim(Player::X), Some((2, Action::Move(_)))));
+    assert!(rt; claims_a_move(&parties));
     assert!(rt; parties.claim(Player::O).is_none());
     parties.check_rows(&rt, rt.alloc(), &TO_THE_CLAIM);
     parties.check_rows(&rt, rt.alloc(), &THE_CLAIM_KEPT);
-    assert!(rt; matches!(parties.claim(Player::X), Some((2, Action::Move(_)))));
+    assert!(rt; claims_a_move(&parties));
+    assert!(rt; is_third(&mut parties.net, &CLAIM));
     Ok(())
 }
 

@@ -10,10 +10,14 @@ use bg_wire::{EntryList, Packet, WireFault};
 use std::process::Abort;
 use std::test::Fail;
 
+/// Whether the outcome has this line.
+fn has_line(outcome: &Outcome, line: &str) -> bool {
+    outcome_text(outcome).as_str() == line
+}
+
 /// The outcome has this line.
 fn check(rt: &impl Abort, outcome: Outcome, line: &str) {
-    let text = outcome_text(&outcome);
-    assert_eq!(rt; text.as_str(), line);
+    assert!(rt; has_line(&outcome, line), "{outcome:?}: {line}");
 }
 
 #[test]

@@ -6,7 +6,7 @@ use crate::{
 };
 use bg_board::Player;
 use bg_match::{Action, Number, Record, Rules, Terms};
-use bg_wire::FIRST_WATCHER;
+use bg_wire::{FIRST_WATCHER, party_of};
 use std::alloc::{AllocError, Global};
 use std::process::Abort;
 
@@ -46,6 +46,33 @@ pub(crate) fn keeper(
     Ok(MemoryKeeper::new(alloc, party, plan.tears, plan.reads))
 }
 
+/// A referee of the match that begins over empty slots.
+fn referee(rt: &impl Abort, alloc: Global, failing: Failing) -> Result<MemoryReferee, AllocError> {
+    let keeper = keeper(alloc, 0, failing)?;
+    let (referee, begun) = RefereeNode::begin(alloc, ID, TERMS, keeper).expect(
+        rt,
+        "a length from 1 to 99",
+    );
+    assert!(rt; begun == Outcome::Restarted);
+    Ok(referee)
+}
+
+/// A seat of the match that begins over empty slots.
+fn seat(
+    rt: &impl Abort,
+    alloc: Global,
+    player: Player,
+    failing: Failing,
+) -> Result<MemorySeat, AllocError> {
+    let keeper = keeper(alloc, party_of(player), failing)?;
+    let (seat, begun) = SeatNode::begin(alloc, player, ID, TERMS, keeper).expect(
+        rt,
+        "a length from 1 to 99",
+    );
+    assert!(rt; begun == Outcome::Restarted);
+    Ok(seat)
+}
+
 /// A watcher of the match.
 fn watcher(rt: &impl Abort, alloc: Global, party: u8) -> WatcherNode {
     assert!(rt; party >= FIRST_WATCHER);
@@ -59,36 +86,11 @@ impl Parties {
         alloc: Global,
         failing: Failing,
     ) -> Result<Parties, AllocError> {
-        let sends = plan(alloc, failing)?.sends;
-        let in_range = "a length from 1 to 99";
-        let (referee, begun) = RefereeNode::begin(
-            alloc,
-            ID,
-            TERMS,
-            keeper(alloc, 0, failing)?,
-        ).expect(rt, in_range);
-        assert!(rt; begun == Outcome::Restarted);
-        let (x, begun) = SeatNode::begin(
-            alloc,
-            Player::X,
-            ID,
-            TERMS,
-            keeper(alloc, 1, failing)?,
-        ).expect(rt, in_range);
-        assert!(rt; begun == Outcome::Restarted);
-        let (o, begun) = SeatNode::begin(
-            alloc,
-            Player::O,
-            ID,
-            TERMS,
-            keeper(alloc, 2, failing)?,
-        ).expect(rt, in_range);
-        assert!(rt; begun == Outcome::Restarted);
         Ok(Parties {
-            net: MemoryNet::new(alloc, sends),
-            referee,
-            x,
-            o,
+            net: MemoryNet::new(alloc, plan(alloc, failing)?.sends),
+            referee: referee(rt, alloc, failing)?,
+            x: seat(rt, alloc, Player::X, failing)?,
+            o: seat(rt, alloc, Player::O, failing)?,
             watchers: [watcher(rt, alloc, 3), watcher(rt, alloc, 4)],
         })
     }

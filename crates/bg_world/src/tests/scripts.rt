@@ -96,6 +96,14 @@ fn play(
     )
 }
 
+/// Whether the bytes are these texts, one behind the other.
+fn is_made_of(written: &[u8], texts: [&str; 2]) -> bool {
+    let [first, second] = texts;
+    written.len() == first.len().saturating_add(second.len())
+        && written.starts_with(first.as_bytes())
+        && written.ends_with(second.as_bytes())
+}
+
 /// A script of a match of length 1 has this verdict, and writes these texts, one behind the other.
 fn check_script(
     rt: &(impl AllocGlobal + Abort),
@@ -107,9 +115,7 @@ fn check_script(
     let mut written = Vec::new(rt.alloc());
     let answer = play(rt.alloc(), input, 1, watchers, &mut written);
     assert!(rt; answer == Ok(verdict), "{answer:?}");
-    let [first, second] = texts;
-    assert!(rt; written.len() == first.len().saturating_add(second.len()));
-    assert!(rt; written.starts_with(first.as_bytes()) && written.ends_with(second.as_bytes()));
+    assert!(rt; is_made_of(&written, texts), "{written:?}");
     Ok(())
 }
 

@@ -1,7 +1,7 @@
 //! Whole runs from the start, whose saves are torn at each byte.
 use crate::tests::event_rows::{
-    ComesTo, Failing, Happens, MemoryWorld, NO_FAILURE, Row, X_MOVES, check_rows, events_of, held,
-    plan, setup,
+    ComesTo, Failing, Happens, MemoryWorld, NO_FAILURE, Row, X_MOVES, check_held, check_rows,
+    events_of, held, plan, setup,
 };
 use crate::tests::worked_matches::WITH_A_WATCHER;
 use crate::{RunReport, Tear, WorldFault, simulate};
@@ -31,13 +31,7 @@ fn a_run_without_failures(rt: HostRuntime) -> Result<(), Fail> {
         faults: 0,
     };
     assert!(rt; report == expected);
-    let counts = [
-        held(&world, 0),
-        held(&world, 1),
-        held(&world, 2),
-        held(&world, 3),
-    ];
-    assert!(rt; counts == [Some(2), Some(1), Some(0), Some(2)]);
+    check_held(&rt, &world, &[Some(2), Some(1), Some(0), Some(2)]);
     Ok(())
 }
 

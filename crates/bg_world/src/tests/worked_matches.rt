@@ -1,11 +1,11 @@
 //! Matches of length 1, event by event: what each comes to.
-use crate::Link;
 use crate::tests::event_rows::{
     ComesTo, Happens, MemoryWorld, NO_FAILURE, Row, TO_THE_CHOICE, TO_THE_CLAIM, X_MOVES,
-    check_rows, held, world,
+    check_held, check_rows, event, world,
 };
-use bg_board::Die;
-use bg_match::Entry;
+use crate::{Event, Link};
+use bg_board::{Die, Player};
+use bg_match::{Action, Entry};
 use bg_turns::Dice;
 use std::process::Abort;
 use std::test::Fail;
@@ -112,18 +112,16 @@ const CLAIM: [u8; 24] = [
     0x00, 0x02, 0x06, 0x02, 0x08, 0x05, 0x06, 0x05,
 ];
 
+/// How many datagrams were sent to the referee.
+fn sent_to_the_referee(world: &MemoryWorld) -> u32 {
+    world.link().sent_to(0)
+}
+
 #[test]
 fn a_turn_with_a_watcher(rt: HostRuntime) -> Result<(), Fail> {
     let mut world = world(rt.alloc(), 1, 1, NO_FAILURE)?;
     check_rows(&rt, &mut world, &WITH_A_WATCHER);
-    let counts = [
-        held(&world, 0),
-        held(&world, 1),
-        held(&world, 2),
-        held(&world, 3),
-    ];
-    assert!(rt; counts == [Some(2), Some(1), Some(0), Some(2)]);
-    assert!(rt; held(&world, 4).is_none());
+    check_held(&rt, &world, &[Some(2), Some(1), Some(0), Some(2), None]);
     check_rows(&rt, &mut world, &AN_EARLIER_LIFE);
     Ok(())
 }
@@ -132,7 +130,7 @@ fn a_turn_with_a_watcher(rt: HostRuntime) -> Result<(), Fail> {
 fn a_watcher_alone(rt: HostRuntime) -> Result<(), Fail> {
     let mut world = world(rt.alloc(), 1, 1, NO_FAILURE)?;
     check_rows(&rt, &mut world, &A_WATCHER_ALONE);
-    assert!(rt; world.link().sent_to(0) == 4);
+    assert!(rt; sent_to_the_referee(&world) == 4);
     Ok(())
 }
 
@@ -151,7 +149,7 @@ fn ticks_of_parties_that_are_alone(rt: HostRuntime) -> Result<(), Fail> {
     let mut world = world(rt.alloc(), 1, 2, NO_FAILURE)?;
     for (party, sent) in [(1, 9), (2, 18), (3, 27), (4, 36)] {
         check_gaps(&rt, &mut world, party);
-        assert!(rt; world.link().sent_to(0) == sent);
+        assert!(rt; sent_to_the_referee(&world) == sent, "party {party}");
     }
     for _ in 0..128 {
         check_rows(&rt, &mut world, &[(Happens::Tick(0), ComesTo::Sent(0))]);
@@ -172,7 +170,7 @@ fn a_move_is_pushed(rt: HostRuntime) -> Result<(), Fail> {
     check_rows(&rt, &mut world, &TO_THE_CHOICE);
     check_rows(&rt, &mut world, &TO_THE_CLAIM);
     check_rows(&rt, &mut world, &THE_MOVE_PUSHED);
-    assert!(rt; [held(&world, 0), held(&world, 1)] == [Some(2), Some(2)]);
+    check_held(&rt, &world, &[Some(2), Some(2)]);
     Ok(())
 }
 
@@ -211,11 +209,29 @@ fn a_roll_is_lost(rt: HostRuntime) -> Result<(), Fail> {
     Ok(())
 }
 
-/// The third datagram to the referee.
-fn check_third(rt: &impl Abort, world: &mut MemoryWorld, expected: &[u8]) {
-    let taken = world.link.take(0, 2).expect(rt, "a take");
-    let bytes = taken.expect(rt, "a datagram");
-    assert_eq!(rt; bytes.as_slice(), expected);
+/// The third datagram to the referee is the claim, which counts.
+const THE_CLAIM_TAKEN: [Row; 1] = [(Happens::Take(0, 2, 0), ComesTo::Accepted(2))];
+
+/// Whether entry 2 of a party is the move 8-5 6-5, by X.
+fn holds_the_move(world: &MemoryWorld, party: u8) -> bool {
+    match (world.held(party), event(X_MOVES)) {
+        (
+            Some(record),
+            Event::Choose {
+                seat: _,
+                action: Action::Move(turn),
+            },
+        ) => record.entry(2) == Some(&Entry::Moved(turn)) && record.by(2) == Some(Player::X),
+        _ => false,
+    }
+}
+
+/// Whether the third datagram to the referee has these bytes.
+fn is_third(world: &mut MemoryWorld, bytes: &[u8]) -> bool {
+    match world.link.take(0, 2) {
+        Ok(Some(taken)) => taken.as_slice() == bytes,
+        _ => false,
+    }
 }
 
 /// A claim that was sent is sent again after a restart, byte for byte.
@@ -225,8 +241,10 @@ fn a_claim_is_kept(rt: HostRuntime) -> Result<(), Fail> {
     check_rows(&rt, &mut world, &TO_THE_CHOICE);
     check_rows(&rt, &mut world, &TO_THE_CLAIM);
     check_rows(&rt, &mut world, &THE_CLAIM_KEPT);
-    assert!(rt; world.link().sent_to(0) == 3);
-    check_third(&rt, &mut world, &CLAIM);
+    assert!(rt; sent_to_the_referee(&world) == 3);
+    assert!(rt; is_third(&mut world, &CLAIM));
+    check_rows(&rt, &mut world, &THE_CLAIM_TAKEN);
+    assert!(rt; holds_the_move(&world, 0));
     Ok(())
 }
 

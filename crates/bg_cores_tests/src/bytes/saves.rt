@@ -1,0 +1,209 @@
+//! Worked saved texts of both layouts, byte by byte, and long ones.
+ghost use Rattle.std.specs.Prelude.{IfOk};
+ghost use Rattle.bg_wire.specs.Saved.SavedText.{IsSavable, parts_of};
+
+use crate::bytes::bytes::{joined, turn, with_bytes};
+use bg_board::Die;
+use bg_match::{Action, Entry, Level, MOST_ENTRIES, Number, Record, Rules};
+use bg_wire::{
+    LONGEST_SAVED_TEXT, LoadFault, MOST_DATAGRAM_BYTES, SaveRefusal, Saved, Slot, load, next_save,
+    save_text,
+};
+use std::alloc::{AllocError, Global};
+use std::process::Abort;
+use std::test::Fail;
+
+/// The referee's save 2 of match 1, of length 1, with the opening 3 1 and 8-5 6-5.
+pub(crate) const REFEREE_SAVE: [u8; 33] = [
+    0x42, 0x47, 0x53, 0x32, 0, 0, 0, 0, 0, 0, 0, 0, 0x01, 0x01, 0x01, 0, 0, 0, 0x02, 0, 0, 0, 0,
+    0x02, 0x01, 0x03, 0x01, 0x06, 0x02, 0x08, 0x05, 0x06, 0x05,
+];
+
+/// The same in the first layout.
+pub(crate) const OLD_REFEREE_SAVE: [u8; 30] = [
+    0x42, 0x47, 0x53, 0x31, 0, 0, 0, 0, 0, 0, 0, 0, 0x01, 0x01, 0, 0, 0, 0x02, 0, 0, 0x02, 0x01,
+    0x03, 0x01, 0x06, 0x02, 0x08, 0x05, 0x06, 0x05,
+];
+
+/// The first save of the seat of X in that match, with the opening alone, and the claim of 8-5 6-5 as entry 2.
+pub(crate) const SEAT_SAVE: [u8; 37] = [
+    0x42, 0x47, 0x53, 0x32, 0x01, 0, 0, 0, 0, 0, 0, 0, 0x01, 0x01, 0x01, 0, 0, 0, 0x01, 0x01, 0, 0,
+    0, 0x02, 0x06, 0x02, 0x08, 0x05, 0x06, 0x05, 0, 0, 0, 0x01, 0x01, 0x03, 0x01,
+];
+
+/// The same in the first layout.
+pub(crate) const OLD_SEAT_SAVE: [u8; 32] = [
+    0x42, 0x47, 0x53, 0x31, 0x01, 0, 0, 0, 0, 0, 0, 0, 0x01, 0x01, 0, 0, 0, 0x01, 0x01, 0, 0x02,
+    0x06, 0x02, 0x08, 0x05, 0x06, 0x05, 0, 0x01, 0x01, 0x03, 0x01,
+];
+
+/// Loads a saved text. Of what is loaded the tests need to know that it can be saved.
+pub(crate) fn loaded(alloc: Global, bytes: &[u8]) -> Result<Saved, LoadFault>
+    ensures { IfOk result (λ saved. IsSavable (parts_of saved)) }
+{
+    load(alloc, bytes)
+}
+
+/// The text of what is saved is this one.
+pub(crate) fn check_text(
+    rt: &(impl AllocGlobal + Abort),
+    saved: &Saved,
+    bytes: &[u8],
+) -> Result<(), AllocError>
+    requires { IsSavable (parts_of saved.now) }
+{
+    let text = save_text(rt.alloc(), saved)?;
+    assert!(rt; text.as_slice() == bytes, "{text:?}");
+    Ok(())
+}
+
+/// Whether it is a record of match 1, of length 1, by the first rules, with so many entries. The first is the opening
+/// 3 1.
+fn is_log(log: &Record, count: Number) -> bool {
+    (log.id(), log.length(), log.len()) == (1, 1, count)
+        && log.rules() == Rules::One
+        && log.entry(1) == Some(&Entry::Opening(Die::Three, Die::One))
+}
+
+/// Whether this is what the referee saved.
+fn is_save_of_the_referee(rt: &impl Abort, saved: &Saved) -> bool {
+    let moved = Entry::Moved(turn(rt, &[(8, 5), (6, 5)]));
+    (saved.party, saved.save) == (0, 2)
+        && saved.claim.is_none()
+        && is_log(&saved.log, 2)
+        && saved.log.entry(2) == Some(&moved)
+}
+
+/// A text of either layout is loaded, and what was loaded is saved in the second one.
+#[test]
+fn worked_save_of_the_referee(rt: HostRuntime) -> Result<(), Fail> {
+    for bytes in [REFEREE_SAVE.as_slice(), &OLD_REFEREE_SAVE] {
+        let saved = loaded(rt.alloc(), bytes)?;
+        check_text(&rt, &saved, &REFEREE_SAVE)?;
+        assert!(rt; is_save_of_the_referee(&rt, &saved), "{bytes:?}");
+    }
+    Ok(())
+}
+
+/// Whether this is what the seat of X saved.
+fn is_save_of_the_seat(rt: &impl Abort, saved: &Saved) -> bool {
+    let claim = (2, Action::Move(turn(rt, &[(8, 5), (6, 5)])));
+    (saved.party, saved.save) == (1, 1) && saved.claim == Some(claim) && is_log(&saved.log, 1)
+}
+
+#[test]
+fn worked_save_of_a_seat(rt: HostRuntime) -> Result<(), Fail> {
+    for bytes in [SEAT_SAVE.as_slice(), &OLD_SEAT_SAVE] {
+        let saved = loaded(rt.alloc(), bytes)?;
+        check_text(&rt, &saved, &SEAT_SAVE)?;
+        assert!(rt; is_save_of_the_seat(&rt, &saved), "{bytes:?}");
+    }
+    Ok(())
+}
+
+/// The number of the claim in a saved text.
+fn claimed(alloc: Global, bytes: &[u8]) -> Result<Option<Number>, LoadFault> {
+    let saved = load(alloc, bytes)?;
+    Ok(saved.claim.map(|(number, _action)| number))
+}
+
+/// A claim has the greatest number of its layout.
+#[test]
+fn last_claims(rt: HostRuntime) {
+    let old = with_bytes(&rt, &OLD_SEAT_SAVE, 19, &[0xff, 0xff]);
+    assert!(rt; claimed(rt.alloc(), old.as_slice()) == Ok(Some(65535)));
+    let new = with_bytes(&rt, &SEAT_SAVE, 20, &[0, 0x0f, 0x42, 0x40]);
+    assert!(rt; claimed(rt.alloc(), new.as_slice()) == Ok(Some(1000000)));
+}
+
+/// A record with so many pairs of entries behind an opening.
+fn long_record(alloc: Global, pairs: Number) -> Result<Record, Fail> {
+    let mut log = Record::new(alloc, 1, 1, Rules::One)?;
+    log.push(Entry::Opening(Die::Three, Die::One))?;
+    for _ in 0..pairs {
+        log.push(Entry::Resigned(Level::Normal))?;
+        log.push(Entry::Rejected)?;
+    }
+    Ok(log)
+}
+
+/// The records have the same entries.
+pub(crate) fn check_entries(rt: &impl Abort, log: &Record, expected: &Record) {
+    assert!(rt; log.len() == expected.len());
+    for number in 1..=expected.len() {
+        assert!(rt; log.entry(number) == expected.entry(number), "at {number}");
+    }
+}
+
+/// The referee's text of the first layout with 65535 entries, which are those of this text of the second.
+fn old_text(alloc: Global, text: &[u8]) -> Result<Vec<u8>, Fail> {
+    let mut old = Vec::new(alloc);
+    old.extend_from_slice(&OLD_REFEREE_SAVE[..19])?;
+    old.extend_from_slice(&[0xff, 0xff])?;
+    old.extend_from_slice(text.get(24..).ok_or("no entries")?)?;
+    Ok(old)
+}
+
+/// A text of the first layout tells up to 65535 entries.
+#[test]
+fn longest_old_record(rt: HostRuntime) -> Result<(), Fail> {
+    let saved = Saved {
+        party: 0,
+        save: 2,
+        claim: None,
+        log: long_record(rt.alloc(), 32767)?,
+    };
+    assert!(rt; saved.log.len() == 65535);
+    let text = save_text(rt.alloc(), &saved)?;
+    let old = old_text(rt.alloc(), &text)?;
+    check_entries(&rt, &loaded(rt.alloc(), &old)?.log, &saved.log);
+    Ok(())
+}
+
+/// A text of the second layout tells more.
+#[test]
+fn longer_record(rt: HostRuntime) -> Result<(), Fail> {
+    let saved = Saved {
+        party: 2,
+        save: 4294967295,
+        claim: None,
+        log: long_record(rt.alloc(), 32768)?,
+    };
+    assert!(rt; saved.log.len() == 65537);
+    let text = save_text(rt.alloc(), &saved)?;
+    assert!(rt; text.len() == 24 + 3 + 32768 * 3);
+    let again = loaded(rt.alloc(), &text)?;
+    assert!(rt; (again.party, again.save) == (2, 4294967295));
+    check_entries(&rt, &again.log, &saved.log);
+    Ok(())
+}
+
+/// What stands before the entries has at most 38 bytes, with the claim of a turn of four steps; an entry has at
+/// most ten.
+#[test]
+fn longest_texts(rt: HostRuntime) {
+    assert!(rt; MOST_ENTRIES == 1000000);
+    assert!(rt; LONGEST_SAVED_TEXT == 38 + 1000000 * 10);
+    assert!(rt; MOST_DATAGRAM_BYTES == 128);
+}
+
+/// The slot and the number of the save that follows one of the referee's, who holds nothing.
+fn slot_after(alloc: Global, last: u32) -> Result<(Slot, u32), SaveRefusal> {
+    let Ok(log) = Record::new(alloc, 1, 1, Rules::One) else {
+        return Err(SaveRefusal::Memory);
+    };
+    let (slot, save, _text) = next_save(alloc, last, 0, &None, &log)?;
+    Ok((slot, save))
+}
+
+#[test]
+fn first_and_last_saves(rt: HostRuntime) {
+    for (last, expected) in [
+        (0, Ok((Slot::One, 1))),
+        (1, Ok((Slot::Zero, 2))),
+        (4294967294, Ok((Slot::One, 4294967295))),
+        (4294967295, Err(SaveRefusal::SavesSpent)),
+    ] {
+        assert!(rt; slot_after(rt.alloc(), last) == expected, "after {last}");
+    }
+}

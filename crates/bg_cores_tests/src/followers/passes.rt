@@ -1,0 +1,148 @@
+//! Seats and watchers of a match by the second rules, in which X is hit, and rolls double sixes with which he can't
+//! enter.
+ghost use Rattle.std.specs.Prelude.{IfSome};
+ghost use Rattle.bg_wire.specs.Packets.PacketText.{IsPacket};
+
+use super::want;
+use arrayvec::ArrayVec;
+use bg_board::Player;
+use bg_match::{Action, Actor, Entry, Level, Number, Rules};
+use bg_party::{ChooseFault, Learned, Seat, Watcher};
+use bg_turns::Turn;
+use bg_wire::{FIRST_WATCHER, Packet, decode};
+use std::process::Abort;
+use std::test::Fail;
+
+/// Five entries of match 1: the opening 2 1, X's 13-11 6-5, O's roll 4 3 and 24-20 13-10, and X's roll 6 6.
+const FIVE: [u8; 21] = [
+    1, 2, 1, 6, 2, 13, 11, 6, 5, 2, 4, 3, 6, 2, 24, 20, 13, 10, 2, 6, 6,
+];
+
+/// A call of a seat and what it gives, or what the seat then has.
+#[derive(Clone, Copy)]
+enum Row {
+    /// It is told the five entries in a match by the rules of this number.
+    TheFive(u8, Learned),
+    /// It is told a pass behind them.
+    ThePass(u8, Learned),
+    /// It claims an empty move.
+    NoStep(Result<Number, ChooseFault>),
+    /// It offers to resign.
+    Resign(Result<Number, ChooseFault>),
+    /// It claims to roll.
+    Roll(Result<Number, ChooseFault>),
+    /// It holds so many entries, and this one acts.
+    Held(Number, Actor),
+    /// Its entry 6 is a pass.
+    Passed,
+    /// Its tick sends what a party wants that holds nothing of a match by the first rules.
+    Asks,
+}
+
+/// So many entries of match 1 from a number on, by these rules.
+fn entries(rules: u8, start: u8, count: u8, entries: &[u8]) -> Option<Packet>
+    ensures { IfSome result IsPacket }
+{
+    let mut bytes: ArrayVec<u8, 128> = ArrayVec::new();
+    for part in [
+        &[
+            0x42, 0x47, 2, 3, 0, 0, 0, 0, 0, 0, 0, 1, rules, 0, 0, 0, start, count,
+        ],
+        entries,
+    ] {
+        bytes.try_extend_from_slice(part).ok()?;
+    }
+    decode(bytes.as_slice()).ok()
+}
+
+/// What a seat learns of the five entries, in a match by these rules.
+fn taught(seat: &mut Seat, rules: u8) -> Option<Learned> {
+    let packet = entries(rules, 1, 5, &FIVE)?;
+    Some(seat.take(&packet))
+}
+
+/// What a seat learns of a pass behind them.
+fn passed(seat: &mut Seat, rules: u8) -> Option<Learned> {
+    let packet = entries(rules, 6, 1, &[10])?;
+    Some(seat.take(&packet))
+}
+
+/// Whether the call gives what the row says.
+fn gives(seat: &mut Seat, row: Row) -> bool {
+    match row {
+        Row::TheFive(rules, learned) => taught(seat, rules) == Some(learned),
+        Row::ThePass(rules, learned) => passed(seat, rules) == Some(learned),
+        Row::NoStep(expected) => seat.choose(Action::Move(Turn::new())) == expected,
+        Row::Resign(expected) => seat.choose(Action::Resign(Level::Normal)) == expected,
+        Row::Roll(expected) => seat.choose(Action::Roll) == expected,
+        Row::Held(count, actor) => seat.held().len() == count && seat.held().actor() == actor,
+        Row::Passed => seat.held().entry(6) == Some(&Entry::Passed),
+        Row::Asks => seat.tick() == Some(want(2, 0)),
+    }
+}
+
+/// Every call gives what its row says.
+fn check_rows(rt: &impl Abort, seat: &mut Seat, rows: &[Row]) {
+    for (i, row) in rows.iter().enumerate() {
+        assert!(rt; gives(seat, *row), "row {i}");
+    }
+}
+
+const TO_THE_PASS: [Row; 6] = [
+    Row::TheFive(2, Learned::Grew(5)),
+    Row::Held(5, Actor::Referee),
+    Row::NoStep(Err(ChooseFault::NotYourTurn)),
+    Row::Resign(Err(ChooseFault::NotYourTurn)),
+    Row::ThePass(2, Learned::Grew(1)),
+    Row::Passed,
+];
+
+#[test]
+fn nobody_claims_where_a_turn_is_to_be_passed(rt: HostRuntime) -> Result<(), Fail> {
+    for (player, roll) in [
+        (Player::X, Err(ChooseFault::NotYourTurn)),
+        (Player::O, Ok(7)),
+    ] {
+        let mut seat = Seat::fresh(rt.alloc(), player, 1, 1, Rules::Two)?;
+        check_rows(&rt, &mut seat, &TO_THE_PASS);
+        check_rows(&rt, &mut seat, &[Row::Roll(roll)]);
+    }
+    Ok(())
+}
+
+const NO_PASS: [Row; 4] = [
+    Row::TheFive(1, Learned::Grew(5)),
+    Row::ThePass(1, Learned::Illegal(6)),
+    Row::Held(5, Actor::Seat(Player::X)),
+    Row::NoStep(Ok(6)),
+];
+
+#[test]
+fn first_rules_have_no_pass(rt: HostRuntime) -> Result<(), Fail> {
+    let mut seat = Seat::fresh(rt.alloc(), Player::X, 1, 1, Rules::One)?;
+    check_rows(&rt, &mut seat, &NO_PASS);
+    Ok(())
+}
+
+/// What a watcher learns of the five entries, in a match by these rules, and how many entries it then holds.
+fn shown(watcher: &mut Watcher, rules: u8) -> Option<(Learned, Number)> {
+    let packet = entries(rules, 1, 5, &FIVE)?;
+    let learned = watcher.take(&packet);
+    Some((learned, watcher.held().len()))
+}
+
+const OTHER_RULES: [Row; 2] = [Row::TheFive(2, Learned::OtherMatch), Row::Asks];
+
+#[test]
+fn other_rules_are_another_match(rt: HostRuntime) -> Result<(), Fail> {
+    let mut watcher = Watcher::fresh(rt.alloc(), FIRST_WATCHER, 1, 1, Rules::Two)?;
+    for (rules, learned, count) in [(1, Learned::OtherMatch, 0), (2, Learned::Grew(5), 5)] {
+        assert!(rt;
+            shown(&mut watcher, rules) == Some((learned, count)),
+            "rules {rules}"
+        );
+    }
+    let mut seat = Seat::fresh(rt.alloc(), Player::O, 1, 1, Rules::One)?;
+    check_rows(&rt, &mut seat, &OTHER_RULES);
+    Ok(())
+}

@@ -1,0 +1,25 @@
+//! Tests of the devices of parties and of matches between processes, by what is public of bg_processes.
+#![tactic(auto)]
+
+#[cfg(test)]
+mod failing_calls;
+#[cfg(test)]
+mod file_keepers;
+#[cfg(test)]
+mod growths;
+#[cfg(test)]
+mod helpers;
+#[cfg(test)]
+mod killed_processes;
+#[cfg(test)]
+mod loops;
+#[cfg(test)]
+mod party_sockets;
+#[cfg(test)]
+mod rules;
+#[cfg(test)]
+mod slot_files;
+#[cfg(test)]
+mod udp;
+#[cfg(test)]
+mod udp_links;

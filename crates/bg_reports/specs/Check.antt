@@ -1,0 +1,85 @@
+-- What `check` prints of a file.
+use Rattle.std.specs.Prelude.{◌≡◌, ◌⊎◌, ◌==◌, ◌<◌, ℕ, ◌-◌, List, [], ◌∷◌, ◌++◌, length, slice_index_or, Option, None, Some}
+use Rattle.std.specs.Prelude.{codes, if◌then◌else◌}
+use Rattle.bg_match.specs.Match.{Log}
+use Rattle.bg_match.specs.declared.limits.Rules.TheVariants as rules
+use Rattle.bg_text.specs.Boards.BoardText.{line_text}
+use Rattle.bg_text.specs.Judge.Judging.{IsJudgement, fine_line, lines_of}
+use Rattle.bg_text.specs.Limits.{most_bytes}
+use Rattle.bg_text.specs.declared.judging.verdicts.Verdict.{Verdict}
+use Rattle.bg_text.specs.declared.judging.verdicts.Verdict.TheVariants.{Fine, Refused, TooLong}
+use Rattle.bg_mat.specs.FaultWords.{import_fault_words}
+use Rattle.bg_mat.specs.Files.{BeginAsMatchFile, Imports}
+use Rattle.bg_mat.specs.Refusals.{IsRefusal}
+use Rattle.bg_mat.specs.declared.faults.ImportFault.TheVariants as import_fault
+use Rattle.bg_mat.specs.declared.faults.MatFault.{MatFault}
+use Rattle.bg_reports.specs.Harmless.{shown, cut}
+
+-- so many columns of a refused line are shown where there is no screen
+abbrev pub most_shown : ℕ
+most_shown = 1000
+
+-- the columns that are left of a screen behind so many
+abbrev pub room_in : Option ℕ → ℕ → ℕ
+room_in None taken = most_shown
+room_in (Some columns) taken = columns - taken
+
+-- the last line, or another where there is none
+abbrev pub last_line : List ℕ → List (List ℕ) → List ℕ
+last_line other [] = other
+last_line other (line ∷ lines) = last_line line lines
+
+-- the line that is refused, and nothing where none is
+abbrev pub refused_in : Verdict → List (List ℕ) → List ℕ
+refused_in (Refused number) lines = slice_index_or lines (number - 1) []
+refused_in verdict lines = []
+
+-- a refused line behind its verdict, in so many columns; nothing where nothing of it can be seen
+abbrev pub refused_part : ℕ → List ℕ → List ℕ
+refused_part room line =
+    let part = cut (room - 2) (shown line) in if length part == 0 then [] else codes ": " ++ part
+
+-- a file's name, its verdict, and the line that is refused, on a screen of so many columns
+abbrev pub check_line : List ℕ → List ℕ → List ℕ → Option ℕ → List ℕ
+check_line name words line columns =
+    let front = name ++ codes ": " ++ words in front ++ refused_part (room_in columns (length front)) line
+
+-- what is said of a transcript: the last line that the judge says of it
+pub record IsTranscriptVerdict (bytes words : List ℕ) (verdict : Verdict) : Type 0 where
+  pub judgement : List ℕ
+  pub judged : IsJudgement bytes judgement verdict
+  pub last : words ≡ last_line [] (lines_of judgement)
+
+-- what is said of a match file, which is read by the first rules: how many entries its match has, or why it has none
+abbrev pub IsMatchFileVerdict : List ℕ → List ℕ → Verdict → Type 0
+IsMatchFileVerdict bytes words (Fine n) =
+    (log : Log) × (lines : List ℕ) × Imports 0 rules.One bytes log lines × (n ≡ length log.entries)
+    × (words ≡ fine_line n)
+IsMatchFileVerdict bytes words (Refused n) =
+    (why : MatFault) × IsRefusal (lines_of bytes) (import_fault.Refused n why)
+    × (words ≡ import_fault_words (import_fault.Refused n why))
+IsMatchFileVerdict bytes words TooLong =
+    (most_bytes < length bytes) × (words ≡ import_fault_words import_fault.TooLong)
+
+-- what is printed of a file of this name, of which these words are said, on a screen of so many columns
+abbrev pub printed_line : List ℕ → List ℕ → Verdict → List ℕ → Option ℕ → List ℕ
+printed_line name words verdict bytes columns =
+    line_text (check_line name words (refused_in verdict (lines_of bytes)) columns)
+
+-- what is printed of a transcript
+abbrev pub IsTranscriptText : List ℕ → List ℕ → Option ℕ → List ℕ → Verdict → Type 0
+IsTranscriptText name bytes columns text verdict =
+    (words : List ℕ) × IsTranscriptVerdict bytes words verdict
+    × (text ≡ printed_line name words verdict bytes columns)
+
+-- what is printed of a match file
+abbrev pub IsMatchFileText : List ℕ → List ℕ → Option ℕ → List ℕ → Verdict → Type 0
+IsMatchFileText name bytes columns text verdict =
+    (words : List ℕ) × IsMatchFileVerdict bytes words verdict
+    × (text ≡ printed_line name words verdict bytes columns)
+
+-- what is printed of a file: it is a match file where its first line that tells something is the length of a match
+abbrev pub IsCheckText : List ℕ → List ℕ → Option ℕ → List ℕ → Verdict → Type 0
+IsCheckText name bytes columns text verdict =
+    (BeginAsMatchFile (lines_of bytes) × IsMatchFileText name bytes columns text verdict)
+    ⊎ ((BeginAsMatchFile (lines_of bytes) → ⊥) × IsTranscriptText name bytes columns text verdict)

@@ -1,0 +1,198 @@
+//! What is said of a file that was judged.
+ghost use Rattle.std.specs.Prelude.{◌≡◌, ◌++◌, [], IfOk, OnOk, slice_index_or};
+ghost use Rattle.bg_text.specs.Judge.Judging.{fine_line, lines_of};
+ghost use Rattle.bg_mat.specs.FaultWords.{import_fault_words};
+ghost use Rattle.bg_reports.specs.Check.{IsCheckText, IsMatchFileText, IsMatchFileVerdict, IsTranscriptText};
+ghost use Rattle.bg_reports.specs.Check.{last_line as last_of, printed_line, refused_in, refused_part, room_in};
+
+pub(crate) mod tallies;
+
+use crate::escapes::harmless;
+use bg_mat::{ImportFault, import_mat, is_match_file};
+use bg_match::{Number, Rules};
+use bg_text::{Verdict, judge_text, put_number, put_text, split_line};
+use std::alloc::{AllocError, Global};
+
+/// The number of a match that is checked, which no file says.
+const NO_NUMBER: u64 = 0;
+
+/// So many columns of a refused line are shown where there is no screen.
+pub const MOST_SHOWN: usize = 1000;
+
+/// What is printed of a file of this name, which can't break a terminal, on a screen of so many columns, if there is
+/// one (docs/FORMATS.md, "Checking files"): its verdict, and the line that is refused. And the verdict. Files are told
+/// apart by what they hold: a match file of another program, or else a transcript.
+///
+/// # Errors
+/// `AllocError` where memory runs out.
+pub fn check_text(
+    alloc: Global,
+    name: &str,
+    bytes: &[u8],
+    columns: Option<usize>,
+) -> Result<(Vec<u8>, Verdict), AllocError>
+    ensures { IfOk result (λ checked. IsCheckText name.now bytes.now columns checked.0.items checked.1) }
+{
+    if is_match_file(bytes) {
+        said_of_match_file(alloc, name, bytes, columns)
+    } else {
+        said_of_transcript(alloc, name, bytes, columns)
+    }
+}
+
+/// The same of a file that is a transcript.
+///
+/// # Errors
+/// `AllocError` where memory runs out.
+pub fn said_of_transcript(
+    alloc: Global,
+    name: &str,
+    bytes: &[u8],
+    columns: Option<usize>,
+) -> Result<(Vec<u8>, Verdict), AllocError>
+    ensures { IfOk result (λ checked. IsTranscriptText name.now bytes.now columns checked.0.items checked.1) }
+{
+    let judgement = judge_text(alloc, bytes)?;
+    let verdict = judgement.verdict;
+    let text = said(
+        alloc,
+        name,
+        last_line(&judgement.text),
+        bytes,
+        verdict,
+        columns,
+    )?;
+    Ok((text, verdict))
+}
+
+/// The same of a file that is a match file of another program.
+///
+/// # Errors
+/// `AllocError` where memory runs out.
+pub fn said_of_match_file(
+    alloc: Global,
+    name: &str,
+    bytes: &[u8],
+    columns: Option<usize>,
+) -> Result<(Vec<u8>, Verdict), AllocError>
+    ensures { IfOk result (λ checked. IsMatchFileText name.now bytes.now columns checked.0.items checked.1) }
+{
+    let (words, verdict) = verdict_on_match_file(alloc, bytes)?;
+    let text = said(alloc, name, &words, bytes, verdict, columns)?;
+    Ok((text, verdict))
+}
+
+/// The verdict on a match file, in words and as such. It is read by the first rules, as no file says by which.
+fn verdict_on_match_file(alloc: Global, bytes: &[u8]) -> Result<(Vec<u8>, Verdict), AllocError>
+    ensures { IfOk result (λ told. IsMatchFileVerdict bytes.now told.0.items told.1) }
+{
+    match import_mat(alloc, NO_NUMBER, Rules::One, bytes) {
+        Ok(imported) => {
+            let entries = imported.record.len();
+            Ok((fine_words(alloc, entries)?, Verdict::Fine(entries)))
+        }
+        Err(ImportFault::Memory) => Err(AllocError),
+        Err(fault @ ImportFault::TooLong) => Ok((fault_words(alloc, fault)?, Verdict::TooLong)),
+        Err(fault @ ImportFault::Refused { line, .. }) => {
+            Ok((fault_words(alloc, fault)?, Verdict::Refused(line)))
+        }
+    }
+}
+
+/// What is said of a match of so many entries.
+fn fine_words(alloc: Global, entries: Number) -> Result<Vec<u8>, AllocError>
+    ensures { IfOk result (λ words. words.items ≡ fine_line entries) }
+{
+    let mut words = Vec::from_slice(alloc, b"ok ")?;
+    put_number(&mut words, entries.into())?;
+    Ok(words)
+}
+
+/// What is said of a match file that is refused.
+fn fault_words(alloc: Global, fault: ImportFault) -> Result<Vec<u8>, AllocError>
+    ensures { IfOk result (λ words. words.items ≡ import_fault_words fault) }
+{
+    Ok(format!(in alloc; "{fault}")?.into_bytes())
+}
+
+/// What is printed of a file of this name with a verdict in these words.
+fn said(
+    alloc: Global,
+    name: &str,
+    words: &[u8],
+    bytes: &[u8],
+    verdict: Verdict,
+    columns: Option<usize>,
+) -> Result<Vec<u8>, AllocError>
+    ensures { IfOk result (λ text. text.items ≡ printed_line name.now words.now verdict bytes.now columns) }
+{
+    let mut text = Vec::from_slice(alloc, name.as_bytes())?;
+    put_text(&mut text, ": ")?;
+    text.extend_from_slice(words)?;
+    let room = room_behind(columns, text.len());
+    put_refused(alloc, &mut text, refused_line(bytes, verdict), room)?;
+    put_text(&mut text, "\n")?;
+    Ok(text)
+}
+
+/// The last line of a text, without its line feed; nothing where it has none.
+fn last_line(text: &[u8]) -> &[u8]
+    ensures { result.now ≡ last_of [] (lines_of text.now) }
+{
+    let mut last: &[u8] = &[];
+    let mut rest = text;
+    while let Some((line, after)) = split_line(rest) {
+        last = line;
+        rest = after;
+    }
+    last
+}
+
+/// The line of a file that its verdict refuses, nothing where it refuses none.
+fn refused_line(bytes: &[u8], verdict: Verdict) -> &[u8]
+    ensures { result.now ≡ refused_in verdict (lines_of bytes.now) }
+{
+    match verdict {
+        Verdict::Refused(number) => line_at(bytes, number.saturating_sub(1)),
+        Verdict::Fine(_) | Verdict::TooLong => &[],
+    }
+}
+
+/// The line of this index, from 0; nothing where there are fewer.
+fn line_at(text: &[u8], index: u32) -> &[u8]
+    ensures { result.now ≡ slice_index_or (lines_of text.now) index [] }
+{
+    let mut rest = text;
+    for _before in 0..index {
+        match split_line(rest) {
+            Some((_, after)) => rest = after,
+            None => return &[],
+        }
+    }
+    match split_line(rest) {
+        Some((line, _)) => line,
+        None => &[],
+    }
+}
+
+/// How many columns are left of a screen behind so many.
+fn room_behind(columns: Option<usize>, taken: usize) -> usize
+    ensures { result ≡ room_in columns taken }
+{
+    match columns {
+        Some(columns) => columns.saturating_sub(taken),
+        None => MOST_SHOWN,
+    }
+}
+
+/// Adds a refused line behind its verdict.
+fn put_refused(alloc: Global, out: &mut Vec<u8>, line: &[u8], room: usize) -> Result<(), AllocError>
+    ensures { OnOk result (out.new.items ≡ out.old.items ++ refused_part room line.now) }
+{
+    let part = harmless(alloc, line, room.saturating_sub(2))?;
+    if part.is_empty() {
+        return Ok(());
+    }
+    put_text(out, ": ")?;
+    out.extend_from_slice(&part)
+}

@@ -1,0 +1,242 @@
+//! What the saved files of a folder hold, and who is behind whom.
+ghost use Rattle.std.specs.Prelude.{◌≡◌, ◌++◌, ◌||◌, ℕ, List, is_ok, IfOk, OnOk};
+ghost use Rattle.std.specs.Fmt.{decimal};
+ghost use Rattle.std.specs.Option.{option_copied};
+ghost use Rattle.bg_text.specs.Boards.BoardText.{line_text};
+ghost use Rattle.bg_wire.specs.Saved.Restoring.{newer, parts_in};
+ghost use Rattle.bg_wire.specs.Saved.SavedText.{parts_of};
+ghost use Rattle.bg_reports.specs.Folder.{AreHeldIn, IsFolderText, IsHolding, IsPartyLine, compared_words, own};
+ghost use Rattle.bg_reports.specs.Folder.{further as further_of, slot_line as line_of_slot, slot_lines};
+ghost use Rattle.bg_reports.specs.Show.{IsBoardOf, held_of, loaded_of};
+
+pub(crate) mod comparing;
+pub(crate) mod restored;
+
+use crate::folders::comparing::{Compared, compare};
+use crate::folders::restored::newer_of;
+use crate::showing::{Held, hold, put_board_of, put_held, put_numbered};
+use bg_match::Number;
+use bg_text::{put_number, put_text};
+use bg_wire::{REFEREE, SEAT_OF_O, SEAT_OF_X, Saved};
+use std::alloc::{AllocError, Global};
+
+/// The bytes of the two files of a party.
+#[derive(Drop)]
+pub struct SlotBytes {
+    /// Those of the even saves.
+    pub zero: Vec<u8>,
+    /// Those of the odd saves.
+    pub one: Vec<u8>,
+}
+
+/// What the two files of a party hold.
+#[derive(Drop)]
+struct HeldSlots {
+    zero: Held,
+    one: Held,
+}
+
+/// A line for each of the six saved files of a folder, one for each party, which says how far it is behind the one that
+/// holds most, and the board of that one; and whether a file loads (docs/FORMATS.md, "Showing saved files").
+///
+/// # Errors
+/// `AllocError` where memory runs out.
+pub fn folder_text(
+    alloc: Global,
+    referee: &SlotBytes,
+    x: &SlotBytes,
+    o: &SlotBytes,
+) -> Result<(Vec<u8>, bool), AllocError>
+    ensures { IfOk result (λ shown. IsFolderText referee.now.zero.items referee.now.one.items x.now.zero.items
+        x.now.one.items o.now.zero.items o.now.one.items shown.0.items shown.1) }
+{
+    let held0 = hold_slots(alloc, referee)?;
+    let held1 = hold_slots(alloc, x)?;
+    let held2 = hold_slots(alloc, o)?;
+    let mut text = Vec::new(alloc);
+    put_slots(&mut text, REFEREE, referee, &held0)?;
+    put_slots(&mut text, SEAT_OF_X, x, &held1)?;
+    put_slots(&mut text, SEAT_OF_O, o, &held2)?;
+    let saved0 = held0.own_save(REFEREE);
+    let saved1 = held1.own_save(SEAT_OF_X);
+    let saved2 = held2.own_save(SEAT_OF_O);
+    let leader = further(further(saved0, saved1), saved2);
+    put_party(&mut text, REFEREE, saved0, leader)?;
+    put_party(&mut text, SEAT_OF_X, saved1, leader)?;
+    put_party(&mut text, SEAT_OF_O, saved2, leader)?;
+    put_leader(alloc, &mut text, leader)?;
+    Ok((text, one_loads(&held0, &held1, &held2)))
+}
+
+/// Whether one of the files loads.
+fn one_loads(held0: &HeldSlots, held1: &HeldSlots, held2: &HeldSlots) -> bool
+    ensures { result ≡ is_ok (held_of held0.now.zero) || is_ok (held_of held0.now.one) || is_ok (held_of held1.now.zero)
+        || is_ok (held_of held1.now.one) || is_ok (held_of held2.now.zero) || is_ok (held_of held2.now.one) }
+{
+    held0.loads() || held1.loads() || held2.loads()
+}
+
+/// Adds the board of the party that holds most, if there is one.
+fn put_leader(alloc: Global, out: &mut Vec<u8>, leader: Option<&Saved>) -> Result<(), AllocError>
+    ensures { OnOk result ((board : List ℕ) × IsBoardOf (parts_in (option_copied leader.entry)) board
+        × (out.new.items ≡ out.old.items ++ board)) }
+{
+    match leader {
+        Some(leader) => put_board_of(alloc, out, leader),
+        None => Ok(()),
+    }
+}
+
+/// What the two files of a party hold.
+fn hold_slots(alloc: Global, slots: &SlotBytes) -> Result<HeldSlots, AllocError>
+    ensures { IfOk result (λ held. AreHeldIn slots.now.zero.items slots.now.one.items
+        (held_of held.zero) (held_of held.one) (loaded_of held.zero) (loaded_of held.one)) }
+{
+    Ok(HeldSlots {
+        zero: hold(alloc, &slots.zero)?,
+        one: hold(alloc, &slots.one)?,
+    })
+}
+
+impl HeldSlots {
+    /// Whether one of the files loads.
+    fn loads(&self) -> bool
+        ensures { result ≡ is_ok (held_of self.now.zero) || is_ok (held_of self.now.one) }
+    {
+        self.zero.is_ok() || self.one.is_ok()
+    }
+
+    /// What the files restore, if it is a save of this party.
+    fn own_save(&self, party: u8) -> Option<&Saved>
+        ensures { parts_in (option_copied result) ≡ own party
+            (newer (loaded_of self.now.zero) (loaded_of self.now.one)) }
+    {
+        match newer_of(&self.zero, &self.one) {
+            Some(saved) if saved.party == party => Some(saved),
+            _ => None,
+        }
+    }
+}
+
+/// Of two saves the one with more entries, and the first where they have as many.
+fn further<'a>(a: Option<&'a Saved>, b: Option<&'a Saved>) -> Option<&'a Saved>
+    ensures { parts_in (option_copied result)
+        ≡ further_of (parts_in (option_copied a.entry)) (parts_in (option_copied b.entry)) }
+{
+    match (a, b) {
+        (Some(one), Some(other)) if one.log.len() < other.log.len() => b,
+        (Some(_), _) => a,
+        (None, _) => b,
+    }
+}
+
+/// Adds the lines of the two files of a party.
+fn put_slots(
+    out: &mut Vec<u8>,
+    party: u8,
+    slots: &SlotBytes,
+    held: &HeldSlots,
+) -> Result<(), AllocError>
+    ensures { OnOk result (out.new.items ≡ out.old.items ++ slot_lines party slots.now.zero.items slots.now.one.items
+        (held_of held.now.zero) (held_of held.now.one)) }
+{
+    put_slot(out, party, 0, &slots.zero, &held.zero)?;
+    put_slot(out, party, 1, &slots.one, &held.one)
+}
+
+/// Adds the line of a file.
+fn put_slot(
+    out: &mut Vec<u8>,
+    party: u8,
+    slot: u8,
+    bytes: &[u8],
+    held: &Held,
+) -> Result<(), AllocError>
+    ensures { OnOk result (out.new.items
+        ≡ out.old.items ++ line_text (line_of_slot party slot bytes.now (held_of held.now))) }
+{
+    put_text(out, "party-")?;
+    put_number(out, party.into())?;
+    put_text(out, ".")?;
+    put_number(out, slot.into())?;
+    put_text(out, ": ")?;
+    if bytes.is_empty() {
+        put_text(out, "empty")?;
+    } else {
+        put_held(out, held)?;
+    }
+    put_text(out, "\n")
+}
+
+/// Adds the line of a party with this save of its own, beside the one who holds most.
+fn put_party(
+    out: &mut Vec<u8>,
+    party: u8,
+    saved: Option<&Saved>,
+    leader: Option<&Saved>,
+) -> Result<(), AllocError>
+    ensures { OnOk result ((line : List ℕ)
+        × IsPartyLine party (parts_in (option_copied saved.entry)) (parts_in (option_copied leader.entry)) line
+        × (out.new.items ≡ out.old.items ++ line_text line)) }
+{
+    put_text(out, "party ")?;
+    put_number(out, party.into())?;
+    put_text(out, ": ")?;
+    match saved {
+        None => put_text(out, "no save")?,
+        Some(saved) => put_entries(out, saved, leader)?,
+    }
+    put_text(out, "\n")
+}
+
+/// Adds how many entries a save has, and how it goes on beside the one of the party who holds most.
+fn put_entries(out: &mut Vec<u8>, saved: &Saved, leader: Option<&Saved>) -> Result<(), AllocError>
+    ensures { OnOk result ((line : List ℕ) × IsHolding (parts_of saved.now) (parts_in (option_copied leader.entry)) line
+        × (out.new.items ≡ out.old.items ++ line)) }
+{
+    put_number(out, saved.log.len().into())?;
+    put_text(out, " entries")?;
+    match leader {
+        None => Ok(()),
+        Some(leader) => put_compared(out, compare(saved, leader), leader.party),
+    }
+}
+
+/// Adds how a match goes on beside that of another party.
+fn put_compared(out: &mut Vec<u8>, compared: Compared, other: u8) -> Result<(), AllocError>
+    ensures { OnOk result (out.new.items ≡ out.old.items ++ compared_words compared other) }
+{
+    match compared {
+        Compared::OtherMatch => {
+            put_numbered(out, " of another match than party ", Some(other.into()))
+        }
+        Compared::Differs(number) => {
+            put_beside(
+                out,
+                ", entry ",
+                number,
+                " is another than that of party ",
+                other,
+            )
+        }
+        Compared::Behind(0) => Ok(()),
+        Compared::Behind(entries) => put_beside(out, ", ", entries, " behind party ", other),
+    }
+}
+
+/// Adds words with a number behind them, and words with a party behind them.
+fn put_beside(
+    out: &mut Vec<u8>,
+    words: &str,
+    number: Number,
+    others: &str,
+    party: u8,
+) -> Result<(), AllocError>
+    ensures { OnOk result (out.new.items
+        ≡ out.old.items ++ words.now ++ decimal number ++ others.now ++ decimal party) }
+{
+    put_text(out, words)?;
+    put_number(out, number.into())?;
+    put_text(out, others)?;
+    put_number(out, party.into())
+}

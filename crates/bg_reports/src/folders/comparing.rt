@@ -1,0 +1,68 @@
+//! How one saved match goes on beside another.
+ghost use Rattle.std.specs.Prelude.{◌≡◌, ◌≤◌, ◌↔◌, IsTrue, MatchOption, length};
+ghost use Rattle.bg_match.specs.Match.{at_number};
+ghost use Rattle.bg_wire.specs.Saved.SavedText.{parts_of};
+ghost use Rattle.bg_reports.specs.Folder.{Agree, IsCompared, IsFirstDifference, IsSameMatch};
+
+use bg_match::{Number, Record};
+use bg_wire::Saved;
+
+/// How a saved match goes on beside another.
+#[derive(Clone, Copy, Debug, PartialEq, Eq)]
+pub enum Compared {
+    /// They are of different matches.
+    OtherMatch,
+    /// The entries of this number are the first that differ.
+    Differs(Number),
+    /// They agree as far as both go, and the other has so many entries more.
+    Behind(Number),
+}
+
+/// How a saved match goes on beside another.
+pub(crate) fn compare(saved: &Saved, other: &Saved) -> Compared
+    ensures { IsCompared result (parts_of saved.now) (parts_of other.now) }
+{
+    if !is_same_match(saved, other) {
+        return Compared::OtherMatch;
+    }
+    let (log, others) = (&saved.log, &other.log);
+    match first_difference(log, others) {
+        Some(number) => Compared::Differs(number),
+        None => Compared::Behind(others.len().saturating_sub(log.len())),
+    }
+}
+
+/// Whether two saved matches have one number, one length and the same rules.
+fn is_same_match(saved: &Saved, other: &Saved) -> bool
+    ensures { IsTrue result ↔ IsSameMatch (parts_of saved.now) (parts_of other.now) }
+{
+    saved.log.id() == other.log.id()
+        && saved.log.length() == other.log.length()
+        && saved.log.rules() == other.log.rules()
+}
+
+/// The least number whose entries differ, of those that both hold.
+fn first_difference(log: &Record, others: &Record) -> Option<Number>
+    ensures { MatchOption result
+        (Agree log.now.entries others.now.entries)
+        (λ n. IsFirstDifference n log.now.entries others.now.entries) }
+{
+    for before in 0..log.len().min(others.len()) {
+        if !is_same_at(log, others, before + 1) {
+            return Some(before + 1);
+        }
+    }
+    None
+}
+
+/// Whether the entries of this number are the same.
+fn is_same_at(log: &Record, others: &Record, number: Number) -> bool
+    requires first { 1 ≤ number }
+    requires held { number ≤ length log.now.entries }
+    requires held_there { number ≤ length others.now.entries }
+    ensures { IsTrue result ↔ (at_number log.now.entries number ≡ at_number others.now.entries number) }
+{
+    let entry = log.entry(number).unwrap();
+    let other = others.entry(number).unwrap();
+    entry == other
+}

@@ -1,0 +1,28 @@
+//! What the program reports: what it prints of files that were judged and of saved files, and what a command came to,
+//! with the exit status that says so. For whoever shows the same elsewhere.
+//!
+//! ```
+//! let (text, verdict) = check_text(alloc, "a.txt", b"length 1\nopen 3 1\n", None)?;
+//! assert!(rt; text.as_slice() == b"a.txt: ok 1\n".as_slice());
+//! assert!(rt; Ending::Judged(verdict).status() == DONE);
+//! let (text, loads) = show_text(alloc, b"", b"BGS0")?;
+//! assert!(rt; text.as_slice() == b"file 0: short\nfile 1: bad magic\n".as_slice());
+//! assert!(rt; Ending::Shown { loads }.status() == REFUSED);
+//! ```
+#![tactic(auto)]
+
+mod answers;
+mod checking;
+mod endings;
+mod escapes;
+mod folders;
+mod showing;
+
+pub use answers::ending_of;
+pub use checking::tallies::Tally;
+pub use checking::{MOST_SHOWN, check_text, said_of_match_file, said_of_transcript};
+pub use endings::{DONE, Ending, FAILED, Found, REFUSED};
+pub use escapes::harmless;
+pub use folders::restored::restored_transcript;
+pub use folders::{SlotBytes, folder_text};
+pub use showing::show_text;

@@ -1,0 +1,13 @@
+//! Tests of the rules, by what is public of their crates: boards, turns, matches, and bytes in and out.
+#![tactic(auto)]
+
+#[cfg(test)]
+mod boards;
+#[cfg(test)]
+mod checks;
+#[cfg(test)]
+mod matches;
+#[cfg(test)]
+mod streams;
+#[cfg(test)]
+mod turns;

@@ -1,0 +1,46 @@
+//! What the parties of a match have of the system: sockets on the loopback address, files in a folder, ways to wait, and
+//! notes of why a call of these failed. For whoever carries a match between processes of one machine.
+//!
+//! ```
+//! // A socket that hears itself alone, as a party's in a match of one process.
+//! let socket = OwnSocket::open(&rt)?;
+//! socket.send(b"datagram")?;
+//! let heard = socket.receive()?.expect(&rt, "what it sent");
+//! assert!(rt; heard.as_slice() == b"datagram".as_slice());
+//! // A file that others read at any moment: whole as it was, or as it is now.
+//! let path = format!(in alloc; "{folder}/board")?;
+//! publish(&rt, path.as_str(), b"board")?;
+//! // Why a call failed is noted, and of failures that follow each other the first alone.
+//! let failures = Failures::new();
+//! let mut reads = FirstFailures::new(&failures);
+//! for _ in 0..2 {
+//!     let answer = reads.after(FailedCall::Sync, read_saved(&rt, folder));
+//!     assert!(rt; answer.is_err());
+//! }
+//! assert!(rt; failures.drain().count() == 1);
+//! ```
+#![tactic(auto)]
+
+mod failures;
+mod files;
+mod printable;
+mod sockets;
+mod ticking;
+mod waiting;
+
+pub use failures::device_failures::{DeviceFailure, FailedCall, FailureText};
+pub use failures::first_failures::FirstFailures;
+pub use failures::{DrainedFailures, Failures};
+pub use files::folder_locks::FolderLock;
+pub use files::match_files::{HIGHEST_PORT, LOWEST_PORT, MatchFile};
+pub use files::party_files::PartyFiles;
+pub use files::read_saved;
+pub use files::secrets::{make_secret, read_secret};
+pub use files::slot_names::SlotName;
+pub use files::whole_files::publish;
+pub use printable::{Printable, PrintableLines};
+pub use sockets::all_parties::OwnSockets;
+pub use sockets::own_sockets::{OwnSocket, Received};
+pub use sockets::party_ends::PartyEnd;
+pub use ticking::Ticking;
+pub use waiting::{Ready, Waiting};

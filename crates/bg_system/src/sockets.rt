@@ -1,0 +1,5 @@
+//! UDP sockets.
+
+pub(crate) mod all_parties;
+pub(crate) mod own_sockets;
+pub(crate) mod party_ends;

@@ -1,0 +1,17 @@
+//! Tests of sockets, files and what is noted of them, by what is public of bg_system.
+#![tactic(auto)]
+
+#[cfg(test)]
+mod failures;
+#[cfg(test)]
+mod folder_locks;
+#[cfg(test)]
+mod helpers;
+#[cfg(test)]
+mod match_files;
+#[cfg(test)]
+mod own_sockets;
+#[cfg(test)]
+mod printable;
+#[cfg(test)]
+mod uses;

@@ -1,0 +1,14 @@
+//! Tests of texts, by what is public of their crates: lines and the judge, pictures and pages, match files of other
+//! programs, and what is reported of files.
+#![tactic(auto)]
+
+#[cfg(test)]
+mod checks;
+#[cfg(test)]
+mod match_files;
+#[cfg(test)]
+mod pictures;
+#[cfg(test)]
+mod reports;
+#[cfg(test)]
+mod texts;

@@ -1,0 +1,57 @@
+//! Saved files of a match of length 1, and the boards of what they restore.
+
+/// Save 2 of the referee of match 1, length 1: an opening and its move.
+pub(super) const REFEREE: [u8; 33] = [
+    0x42, 0x47, 0x53, 0x32, 0, 0, 0, 0, 0, 0, 0, 0, 1, 1, 1, 0, 0, 0, 2, 0, 0, 0, 0, 2, 1, 3, 1, 6,
+    2, 8, 5, 6, 5,
+];
+
+/// The same in the layout that is read, and no longer written.
+pub(super) const REFEREE_OF_OLD: [u8; 30] = [
+    0x42, 0x47, 0x53, 0x31, 0, 0, 0, 0, 0, 0, 0, 0, 1, 1, 0, 0, 0, 2, 0, 0, 2, 1, 3, 1, 6, 2, 8, 5,
+    6, 5,
+];
+
+/// Save 3 of the referee of the same match, which has the opening alone.
+pub(super) const OPENING: [u8; 27] = [
+    0x42, 0x47, 0x53, 0x32, 0, 0, 0, 0, 0, 0, 0, 0, 1, 1, 1, 0, 0, 0, 3, 0, 0, 0, 0, 1, 1, 3, 1,
+];
+
+/// Save 1 of the seat of X, which has the opening and claims its move as entry 2, in the layout that is no longer
+/// written.
+pub(super) const SEAT: [u8; 32] = [
+    0x42, 0x47, 0x53, 0x31, 1, 0, 0, 0, 0, 0, 0, 0, 1, 1, 0, 0, 0, 1, 1, 0, 2, 6, 2, 8, 5, 6, 5, 0,
+    1, 1, 3, 1,
+];
+
+pub(super) const AFTER_THE_MOVE: &str = "length 1 game 1 score 0-0 cube 1 middle crawford
+  13  14  15  16  17  18  19  20  21  22  23  24
+  X5   .   .   .  O3   .  O5   .   .   .   .  X2
+  O5   .   .   .  X2   .  X4  X2   .   .   .  O2
+  12  11  10   9   8   7   6   5   4   3   2   1
+bar X 0 O 0 off X 0 O 0
+O to roll
+";
+
+pub(super) const AFTER_THE_OPENING: &str = "length 1 game 1 score 0-0 cube 1 middle crawford
+  13  14  15  16  17  18  19  20  21  22  23  24
+  X5   .   .   .  O3   .  O5   .   .   .   .  X2
+  O5   .   .   .  X3   .  X5   .   .   .   .  O2
+  12  11  10   9   8   7   6   5   4   3   2   1
+bar X 0 O 0 off X 0 O 0
+X to move 3 1
+";
+
+/// A saved file with another byte at an offset.
+pub(super) fn with_byte<const N: usize>(bytes: [u8; N], offset: usize, byte: u8) -> [u8; N] {
+    let mut bytes = bytes;
+    if let Some(place) = bytes.get_mut(offset) {
+        *place = byte;
+    }
+    bytes
+}
+
+/// The referee's save 2 as it would be of this party.
+pub(super) fn saved_by(party: u8) -> [u8; 33] {
+    with_byte(REFEREE, 4, party)
+}
