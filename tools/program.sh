@@ -1,6 +1,7 @@
 # Where the program stands, and whether it was built of the sources as they are. To be sourced; it sets top and program.
+# Where the environment has BG_RELAY, that is the program, whatever it was built of.
 top=$(cd "$(dirname "$(readlink -f "${BASH_SOURCE[0]}")")/.." && pwd)
-program=$top/crates/bg_relay/out/bg_relay
+program=${BG_RELAY:-$top/crates/bg_relay/out/bg_relay}
 
 # crates_of CRATE (it and the crates of the repository that it stands on, by crates.txt, each behind those it stands on)
 crates_of() {
@@ -26,9 +27,9 @@ is_current() {
     [ -z "$(find "${folders[@]}" -newer "$1" -print -quit 2> /dev/null)" ]
 }
 
-# is_built (whether the proved program stands; rt ci leaves it there too)
+# is_built (whether the program stands that is to run: the proved one, which rt ci leaves there too, or BG_RELAY)
 is_built() {
-    is_current "$program" bg_relay
+    if [ -n "${BG_RELAY-}" ]; then [ -x "$program" ]; else is_current "$program" bg_relay; fi
 }
 
 # needs_rt (ends the script where the toolchain's command is missing)

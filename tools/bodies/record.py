@@ -1,0 +1,115 @@
+"""docs/WRONG_BODIES.md: what each wrong body came to when it was last tried, and of which sources that was."""
+import collections
+import datetime
+import hashlib
+import re
+import subprocess
+
+from bodies import places
+from bodies.verdicts import ACCEPTED, BROKEN, NOT_JUDGED, REFUSED
+
+KINDS = (REFUSED, NOT_JUDGED, ACCEPTED, BROKEN)
+PAGE = "docs/WRONG_BODIES.md"
+HEAD = """# Wrong bodies
+
+A wrong body is a change of the code that the check must refuse: else a contract lets it through. The gate itself tries
+few (`crates/NAME/must-fail`), and holds these, which stand in `crates/NAME/wrong_bodies`, to their form. This page has
+what each came to when it was last tried, and `tools/each_wrong_body --write` writes it.
+
+A section's sum is one of all that its verdicts rest on: the crate's files below src, specs, proofs and wrong_bodies,
+its line of crates.txt, and of each crate below it the specs, and the sources without the bodies of functions. Comments
+in sources count for nothing. Where it differs from that of the files, the crate is to be tried again:
+`tools/each_wrong_body --changed` tells and does so.
+
+A row names the function whose proof fails and the goals that are open there, or the answer that is written by hand and
+fits no longer. "Not judged" is a wrong body that fails the check for another reason, as where only a proof misses a
+name, so it says little of a contract.
+"""
+SECTION = re.compile(r"^## (\w+)\n(.*?)(?=^## |\Z)", re.M | re.S)
+
+
+def without_comments(text):
+    """Returns a source file without the lines that are a comment or empty."""
+    return "\n".join(line for line in text.split("\n") if not re.match(r" *(//|$)", line))
+
+
+def outside_bodies(text):
+    """Returns what a caller may rest on: the lines of a source file but for those in the bodies of functions."""
+    lines, kept, until = without_comments(text).split("\n"), [], None
+    for number, line in enumerate(lines):
+        if until is not None:
+            if line.startswith(until):
+                until = None
+            continue
+        kept.append(line)
+        if line.rstrip().endswith("{") and is_body_start(lines, number):
+            until = " " * places.indent(line) + "}"
+    return "\n".join(kept)
+
+
+def is_body_start(lines, number):
+    head = next(places.headers(lines, number))
+    return places.FUNCTION.match(lines[head]) is not None
+
+
+def sum_of(checkout, name):
+    """Returns the sum of all that the verdicts on a crate's wrong bodies rest on."""
+    total = hashlib.sha256(repr((name, checkout.uses[name])).encode())
+    for part in ("src", "specs", "proofs", "wrong_bodies"):
+        add_files(total, checkout.folder(name), part, without_comments if part == "src" else str)
+    for dep in checkout.below(name):
+        total.update(dep.encode())
+        add_files(total, checkout.folder(dep), "specs")
+        add_files(total, checkout.folder(dep), "src", outside_bodies)
+    return total.hexdigest()[:20]
+
+
+def add_files(total, folder, part, seen_as=str):
+    for path in sorted(folder.glob(f"{part}/**/*.*")):
+        file = path.relative_to(folder).as_posix()
+        if not places.is_test(file):
+            total.update(f"{file}\0{seen_as(path.read_text(encoding='utf-8'))}\0".encode())
+
+
+class Record:
+    """The sections of the page, by crate."""
+
+    def __init__(self, top):
+        self.top, self.path = top, top / PAGE
+        text = self.path.read_text(encoding="utf-8") if self.path.is_file() else ""
+        self.sections = {name: body.strip() for name, body in SECTION.findall(text)}
+
+    def sum_of(self, name):
+        found = re.search(r"^Sum: `(\w+)`", self.sections.get(name, ""), re.M)
+        return found and found[1]
+
+    def failed(self, name):
+        """Returns the wrong bodies of a crate that the page has as accepted or broken, each with its verdict."""
+        rows = re.findall(r"^\| (.*?) \| (.*) \|$", self.sections.get(name, ""), re.M)
+        return {body: verdict for body, verdict in rows if verdict.startswith((ACCEPTED, BROKEN))}
+
+    def note(self, name, total, verdicts):
+        """Replaces the section of a crate, given each wrong body with its verdict, in their order."""
+        counts = collections.Counter(kind for _, (kind, _) in verdicts)
+        counted = ", ".join(f"{counts[kind]} {kind}" for kind in KINDS if counts[kind])
+        when = datetime.datetime.now(datetime.timezone.utc).strftime("%Y-%m-%d")
+        lines = [f"{len(verdicts)} wrong bodies: {counted}."]
+        lines += [f"Tried at {self.revision()} on {when}.", "", f"Sum: `{total}`", ""]
+        lines += ["| Wrong body | Verdict |", "|---|---|"]
+        for body, (kind, words) in verdicts:
+            lines.append(f"| {cell(body.name)} | {kind}: {cell(words)} |")
+        self.sections[name] = "\n".join(lines)
+
+    def revision(self):
+        words = ["git", "rev-parse", "--short", "HEAD"]
+        return subprocess.run(words, cwd=self.top, capture_output=True, text=True).stdout.strip() or "no revision"
+
+    def write(self, order):
+        """Writes the page, with the crates in this order."""
+        names = [name for name in order if name in self.sections]
+        parts = [HEAD, *(f"## {name}\n\n{self.sections[name]}\n" for name in names)]
+        self.path.write_text("\n".join(parts), encoding="utf-8")
+
+
+def cell(text):
+    return " ".join(text.split()).replace("|", "\\|")
