@@ -169,7 +169,10 @@ O to roll
 fn saves_that_differ(rt: HostRuntime) -> Result<(), Fail> {
     let (x, o) = (saved_by(1), saved_by(2));
     let mut turn = x;
-    turn[29..].copy_from_slice(&[24, 21, 24, 23]);
+    turn[29] = 24;
+    turn[30] = 21;
+    turn[31] = 24;
+    turn[32] = 23;
     let opening = with_byte(with_byte(OPENING, 4, 2), 25, 4);
     let (number, rules) = (with_byte(x, 12, 2), with_byte(o, 14, 2));
     let length = with_byte(x, 13, 3);
