@@ -6,10 +6,15 @@ pub use bg_auto::{
     DiceAttempts, LoopFault, MemoryWorld, Simulation, auto_action, dice_word, event_of,
     event_words, run_rounds, sim_text,
 };
-use bg_commands::{columns, command_line, failed, no_memory, unwritten, wrong};
+use bg_console::{Progress, columns, failed, no_memory, unwritten, wrong};
+use bg_file_commands::{check, export, import, judge, new_match, page, picture, show};
+use bg_match_commands::{play_loop, referee, script, sim, watch};
+use bg_options::{Request, command_line};
 use bg_processes::PrintableLines;
 pub use bg_processes::{FileKeeper, UdpLink, run_loop};
 use bg_reports::Ending;
+use bg_seat_commands::{act, auto, play};
+use clap::ArgMatches;
 use clap::error::ErrorKind;
 use std::io;
 use std::io::IsTerminal;
@@ -36,13 +41,42 @@ fn run(rt: &HostRuntime) -> Ending {
         return no_memory(rt);
     };
     match command.try_get_matches_from(words.as_slice()) {
-        Ok(matches) => {
-            let is_watched = rt.stderr().is_terminal();
-            match bg_commands::run(rt, &matches, is_watched, columns(rt)) {
-                Ok(ending) | Err(ending) => ending,
-            }
-        }
+        Ok(matches) => obey_matches(rt, &matches),
         Err(error) => answer(rt, &error),
+    }
+}
+
+/// Does what the parsed arguments ask for, if they do.
+fn obey_matches(rt: &HostRuntime, matches: &ArgMatches<'_>) -> Ending {
+    match Request::read(matches) {
+        Ok(request) => match obey(rt, request) {
+            Ok(ending) | Err(ending) => ending,
+        },
+        Err(fault) => wrong(rt, fault),
+    }
+}
+
+/// Does what the arguments ask for. Where a command ended early, it is said already why.
+fn obey(rt: &HostRuntime, request: Request<'_, '_>) -> Result<Ending, Ending> {
+    let is_watched = rt.stderr().is_terminal();
+    let progress = Progress::start(rt, is_watched);
+    match request {
+        Request::Judge => judge::run(rt),
+        Request::Check(options) => check::run(rt, options, columns(rt), progress),
+        Request::Import { rules } => import::run(rt, rules),
+        Request::Export => export::run(rt),
+        Request::Show(options) => show::run(rt, options),
+        Request::Page { title, numbering } => page::run(rt, title, numbering),
+        Request::Picture { numbering } => picture::run(rt, numbering),
+        Request::Script(options) => script::run(rt, options),
+        Request::Sim(options) => sim::run(rt, options, progress),
+        Request::Loop(options) => play_loop::run(rt, options, progress),
+        Request::New(options) => new_match::run(rt, options),
+        Request::Referee { folder } => referee::run(rt, folder, progress),
+        Request::Play(options) => play::run(rt, options),
+        Request::Act(options) => act::run(rt, options, is_watched),
+        Request::Auto(options) => auto::run(rt, options, is_watched),
+        Request::Watch(options) => watch::run(rt, options, is_watched),
     }
 }
 

@@ -7,8 +7,6 @@ mod actions;
 #[cfg(test)]
 mod altered_bytes;
 #[cfg(test)]
-mod commands;
-#[cfg(test)]
 mod fronts;
 #[cfg(test)]
 mod host_tests;

@@ -1,20 +1,15 @@
 //! The lines of use that stand in each library's documentation, run (`tools/checks/check_uses` compares them).
-use crate::host_tests::new_folder;
-use bg_auto::{NoOnlooker, auto_action, dice_word, sim_text};
+use bg_auto::{auto_action, dice_word, sim_text};
 use bg_board::{Board, Die, Player, Step};
 use bg_match::{Action, Actor, Entry, Level, Record, Rules, Terms};
 use bg_parties::Party;
 use bg_party::{Learned, Seat};
-use bg_processes::{
-    Failures, FileKeeper, Going, MatchFile, PartySocket, RefereeProcess, read_saved,
-};
 use bg_referee::{Referee, TakeOutcome};
 use bg_streams::{Reading, Writing, read_input, write_text};
 use bg_text::{Verdict, entry_text, judge_text, parse_entry};
 use bg_turns::{dice_of, judge_turn, legal_turns, most};
-use bg_wire::{Packet, REFEREE, decode, encode};
+use bg_wire::{Packet, decode, encode};
 use bg_world::{Event, Outcome, Plan, Setup, outcome_text, parse_event, simulate};
-use std::fs;
 use std::test::Fail;
 
 #[test]
@@ -213,31 +208,5 @@ fn automatic_players(rt: HostRuntime) -> Result<(), Fail> {
     assert!(rt; matches!(action, Some(Action::Move(_))));
     assert!(rt; auto_action(alloc, &record, Player::O)?.is_none());
     // end
-    Ok(())
-}
-
-#[test]
-fn processes(rt: HostRuntime) -> Result<(), Fail> {
-    let alloc = rt.alloc();
-    let made = new_folder(&rt, "uses")?;
-    let folder = made.as_str();
-    // bg_processes
-    // What all processes of a match agree on is a line; this is one of a match to 3 points.
-    let file = MatchFile::parse("match 7 length 3 rules 1 port 4000").expect(&rt, "a good line");
-    assert!(rt; file.terms.length == 3);
-    // The referee's process, over its own socket and a folder, with a secret that its dice go by. Why a call of the
-    // socket or of the files failed is noted.
-    let failures = Failures::new();
-    let link = PartySocket::bind(&rt, file.port, REFEREE, &failures)?;
-    let keeper = FileKeeper::new(&rt, folder, REFEREE, &failures)?;
-    let begun = RefereeProcess::begin(alloc, file.id, file.terms, [7; 32], link, keeper)?;
-    let (mut referee, outcome) = begun;
-    assert!(rt; outcome == Outcome::Restarted);
-    // A round opens the game, and saves that. Between two of them a process waits (`Waiting`, `Ticking`).
-    assert!(rt; referee.round(true, &mut NoOnlooker) == Ok(Going::On));
-    assert!(rt; !read_saved(&rt, format!(in alloc; "{folder}/party-0.1")?.as_str())?.is_empty());
-    assert!(rt; failures.drain().next().is_none());
-    // end
-    fs::remove_dir_all(&rt, folder)?;
     Ok(())
 }

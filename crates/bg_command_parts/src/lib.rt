@@ -1,0 +1,21 @@
+//! What the commands of one party share: its socket, who looks on and says why devices fail, and what is said where the
+//! party can't go on. For the commands of a program.
+//!
+//! ```
+//! // A party that can't save is down, and why is said on the standard error.
+//! assert!(rt; stopped(&rt, &Outcome::SavesSpent) == Ending::Failed);
+//! // Where nothing has failed, a witness has nothing to say.
+//! let failures = Failures::new();
+//! Witness::new(&rt, &failures, folder).say_failures();
+//! ```
+#![tactic(auto)]
+
+mod operators;
+mod sockets;
+mod witnesses;
+mod words;
+
+pub use operators::Operator;
+pub use sockets::{no_socket, socket_of};
+pub use witnesses::Witness;
+pub use words::{stopped, tell_word};

@@ -1,0 +1,37 @@
+//! The sockets of parties, and why there is none.
+
+use bg_console::failed;
+use bg_processes::{Failures, PartySocket};
+use bg_reports::Ending;
+use std::io;
+use std::io::ErrorKind;
+use std::net::Net;
+
+/// Opens the socket of a party of the match that has this port; why it fails later is noted there. Ends with `Failed`
+/// where the port is taken, or there is no socket.
+pub fn socket_of<'a>(
+    rt: &(impl Net + Eprint),
+    port: u16,
+    party: u8,
+    failures: &'a Failures,
+) -> Result<PartySocket<'a>, Ending> {
+    match PartySocket::bind(rt, port, party, failures) {
+        Ok(socket) => Ok(socket),
+        Err(error) if error.kind() == ErrorKind::AddrInUse => {
+            let own = u32::from(port) + u32::from(party);
+            Err(failed(
+                rt,
+                format_args!("port {own} is taken: is party {party} running already?"),
+            ))
+        }
+        Err(error) => Err(no_socket(rt, party, &error)),
+    }
+}
+
+/// Says that the system gives a party no socket, and why.
+pub fn no_socket(rt: &impl Eprint, party: u8, error: &io::Error) -> Ending {
+    failed(
+        rt,
+        format_args!("no socket for party {party} on 127.0.0.1: {error}"),
+    )
+}

@@ -1,0 +1,72 @@
+//! What is said while the process of one party runs.
+
+use bg_auto::{Onlooker, party_at};
+use bg_console::{say, say_failures};
+use bg_match::Number;
+use bg_party::Learned;
+use bg_processes::Failures;
+use bg_referee::TakeOutcome;
+use bg_world::{Event, Outcome, outcome_text};
+use std::fmt::Display;
+
+/// Looks on, and says on the standard error why devices fail; and once that the parties can't go on together, and by
+/// what that was seen (docs/OPERATING.md, "Messages").
+#[derive(Drop)]
+pub struct Witness<'a, R> {
+    rt: &'a R,
+    /// What the devices note.
+    failures: &'a Failures,
+    /// Where their files lie.
+    folder: &'a str,
+    warned: bool,
+}
+
+impl<'a, R: Eprint> Witness<'a, R> {
+    /// Makes a witness who has seen nothing yet; the devices note their failures there, and their files lie in this
+    /// folder.
+    pub fn new(rt: &'a R, failures: &'a Failures, folder: &'a str) -> Witness<'a, R> {
+        Witness {
+            rt,
+            failures,
+            folder,
+            warned: false,
+        }
+    }
+
+    /// Says why devices failed since the last call.
+    pub fn say_failures(&self) {
+        say_failures(self.rt, self.failures, self.folder);
+    }
+
+    /// Says that the files of the parties are not of one age, and by what that was seen, unless that was said.
+    pub fn warn<D: Display + Drop>(&mut self, sign: D) {
+        if !self.warned {
+            say(
+                self.rt,
+                format_args!("the files of the parties do not belong together: {sign}"),
+            );
+        }
+        self.warned = true;
+    }
+}
+
+impl<'a, R: Eprint> Onlooker for Witness<'a, R> {
+    fn happened(&mut self, event: &Event, outcome: &Outcome, _held: Option<Number>) {
+        self.say_failures();
+        if is_out_of_step(outcome) {
+            let line = outcome_text(outcome);
+            self.warn(format_args!("at party {}: {}", party_at(event), line.as_str()));
+        }
+    }
+
+    fn played(&mut self, _done: u32) {}
+}
+
+/// Whether a packet was refused that no party sends whose slots have what was last written to them.
+fn is_out_of_step(outcome: &Outcome) -> bool {
+    matches!(
+        outcome,
+        Outcome::Took(TakeOutcome::Ahead | TakeOutcome::NotYourTurn | TakeOutcome::Illegal(_))
+            | Outcome::Learned(Learned::Conflict(_) | Learned::Illegal(_))
+    )
+}

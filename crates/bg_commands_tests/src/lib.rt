@@ -1,0 +1,18 @@
+//! Tests of the commands: the words that name them, what they say of devices and parties, and the lines of use of their
+//! libraries.
+#![tactic(auto)]
+
+#[cfg(test)]
+mod arguments;
+#[cfg(test)]
+mod command_lines;
+#[cfg(test)]
+mod folders;
+#[cfg(test)]
+mod kept_output;
+#[cfg(test)]
+mod operators;
+#[cfg(test)]
+mod sim;
+#[cfg(test)]
+mod uses;

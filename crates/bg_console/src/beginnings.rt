@@ -1,0 +1,90 @@
+//! What the commands of one party begin with, and why they don't begin or end early.
+
+use crate::messages::{failed, failed_at, failed_for, wrong_at, wrong_for};
+use bg_reports::Ending;
+use bg_system::{FolderLock, MatchFile, Printable, Ticking, Waiting};
+use std::fs::{File, TryLockError};
+use std::io::ErrorKind;
+use std::net::Net;
+use std::os::fd::RawFd;
+use std::rt::Files;
+use std::time::Clock;
+use std::{fs, io};
+
+/// Locks a folder, and returns the lock. Ends with `Failed` where another process plays over it, or it can't be locked.
+pub fn lock_of(
+    rt: &(impl Files<File = File> + Eprint),
+    folder: &str,
+) -> Result<FolderLock, Ending> {
+    match FolderLock::take(rt, folder) {
+        Ok(lock) => Ok(lock),
+        Err(TryLockError::WouldBlock) => {
+            let shown = Printable(folder);
+            Err(failed(rt, format_args!("another process plays over {shown}")))
+        }
+        Err(TryLockError::Error(error)) => {
+            Err(failed_at(rt, folder, " could not be locked", &error))
+        }
+    }
+}
+
+/// Makes a folder where there is none, locks it, and returns the lock. Ends with `WrongArguments` where there is none and
+/// none can be made, and else as [`lock_of`].
+pub fn own_folder(
+    rt: &(impl Files<File = File> + Eprint),
+    folder: &str,
+) -> Result<FolderLock, Ending> {
+    match fs::create_dir(rt, folder) {
+        Ok(()) => {}
+        Err(error) if error.kind() == ErrorKind::AlreadyExists => {
+            check_folder(rt, folder, " is no folder")?;
+        }
+        Err(error) => return Err(wrong_for(rt, folder, " can't be made", &error)),
+    }
+    lock_of(rt, folder)
+}
+
+/// Refuses what is no folder, with these words: ends with `WrongArguments`, also where nobody can look at it.
+pub fn check_folder(
+    rt: &(impl Files<File = File> + Eprint),
+    folder: &str,
+    words: &str,
+) -> Result<(), Ending> {
+    match fs::metadata(rt, folder) {
+        Ok(found) if found.is_dir() => Ok(()),
+        Ok(_) => Err(wrong_at(rt, folder, words)),
+        Err(error) => Err(wrong_for(rt, folder, " can't be used", &error)),
+    }
+}
+
+/// Returns what the match file at a path says. Ends with `WrongArguments` where it is none, and with `Failed` where it
+/// can't be read.
+pub fn match_of(
+    rt: &(impl Files<File = File> + Eprint + AllocGlobal),
+    path: &str,
+) -> Result<MatchFile, Ending> {
+    match MatchFile::read(rt, path) {
+        Ok(Some(file)) => Ok(file),
+        Ok(None) => Err(wrong_at(rt, path, " is no match file")),
+        Err(error) => Err(failed_at(rt, path, " could not be read", &error)),
+    }
+}
+
+/// Returns how a party waits for its socket, and for standard input if that is wanted, and when it ticks.
+pub fn waiting_for(
+    rt: &(impl Net + Clock + Eprint + AllocGlobal),
+    socket: RawFd,
+    with_input: bool,
+) -> Result<(Waiting, Ticking), Ending> {
+    let waiting = waited(rt, Waiting::new(rt, socket, with_input))?;
+    let ticking = waited(rt, Ticking::new(rt))?;
+    Ok((waiting, ticking))
+}
+
+/// Returns what waiting came to; says where the socket can't be waited for.
+pub fn waited<T>(rt: &impl Eprint, attempt: io::Result<T>) -> Result<T, Ending> {
+    match attempt {
+        Ok(next) => Ok(next),
+        Err(error) => Err(failed_for(rt, "the socket can't be waited for", &error)),
+    }
+}

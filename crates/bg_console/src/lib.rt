@@ -1,0 +1,33 @@
+//! What the commands of the program share: how they say on the standard error what is wrong and how far they are, what
+//! they print of a record while it grows, the files that they keep for others, and what they begin with. For a program,
+//! whose commands end early with an [`Ending`](bg_reports::Ending) where it is said already why.
+//!
+//! ```
+//! // A record is printed as a transcript, entry by entry.
+//! let mut record = Record::new(alloc, 0, 1, Rules::One)?;
+//! let mut telling = Telling::new();
+//! assert!(rt; telling.go_on(&rt, &record) == Ok(false));
+//! record.push(Entry::Opening(Die::Three, Die::One))?;
+//! assert!(rt; telling.go_on(&rt, &record) == Ok(true));
+//! // What a command ends with where a folder can't be used, which is said on the standard error.
+//! let refused = check_folder(&rt, "no such folder", " is no folder");
+//! assert!(rt; refused == Err(Ending::WrongArguments));
+//! ```
+#![tactic(auto)]
+
+mod beginnings;
+mod messages;
+mod published;
+mod screens;
+mod tellings;
+
+pub use beginnings::{check_folder, lock_of, match_of, own_folder, waited, waiting_for};
+pub use messages::progress::Progress;
+pub use messages::says::{say, say_failures, say_number, say_of, say_why};
+pub use messages::{
+    allocated, engine_failed, failed, failed_at, failed_barely, failed_for, no_memory, unread,
+    unwritten, written, wrong, wrong_at, wrong_for,
+};
+pub use published::Published;
+pub use screens::columns;
+pub use tellings::{Telling, print_board, print_text, put_entries, write_out};

@@ -1,0 +1,86 @@
+//! What is printed of a record while it grows.
+ghost use Rattle.std.specs.Prelude.{◌≤◌, length};
+ghost use Rattle.bg_match.specs.Match.{IsLegalRecord};
+
+use crate::messages::written;
+use bg_match::{Number, Record};
+use bg_reports::Ending;
+use bg_text::{board_text, entry_text, put_terms};
+use std::io;
+use std::io::Write;
+
+/// Prints a record as a transcript, entry by entry.
+#[derive(Drop)]
+pub struct Telling {
+    /// How many entries were printed, if the first line was.
+    told: Option<Number>,
+}
+
+impl Telling {
+    /// Begins, with nothing printed yet.
+    pub fn new() -> Telling {
+        Telling { told: None }
+    }
+
+    /// Prints the entries that were not printed yet, and the first line before the first of them, and returns whether
+    /// there were any. Where they can't be printed, it says why.
+    pub fn go_on<R>(&mut self, rt: &R, record: &Record) -> Result<bool, Ending>
+    where
+        R: Print + Eprint + AllocGlobal,
+    {
+        written(rt, self.print_news(rt, record))
+    }
+
+    fn print_news<R: Print + AllocGlobal>(&mut self, rt: &R, record: &Record) -> io::Result<bool> {
+        let mut text = Vec::new(rt.alloc());
+        let told = match self.told {
+            Some(told) => told,
+            None => {
+                put_terms(&mut text, record.length(), record.rules())?;
+                text.push(b'\n')?;
+                0
+            }
+        };
+        put_entries(&mut text, record, told)?;
+        self.told = Some(record.len());
+        write_out(rt, &text)?;
+        Ok(record.len() > told)
+    }
+}
+
+/// Adds the lines of the entries behind so many to a text.
+pub fn put_entries(text: &mut Vec<u8>, log: &Record, behind: Number) -> io::Result<()> {
+    for before in behind..log.len() {
+        put_line(text, log, before + 1)?;
+    }
+    Ok(())
+}
+
+/// Adds the line of an entry.
+fn put_line(text: &mut Vec<u8>, log: &Record, number: Number) -> io::Result<()>
+    requires first { 1 ≤ number }
+    requires last { number ≤ length log.now.entries }
+    requires legal { IsLegalRecord log.now.terms log.now.entries }
+{
+    let entry = log.entry(number).unwrap();
+    text.extend_from_slice(entry_text(log.by(number), entry).as_str().as_bytes())?;
+    Ok(text.push(b'\n')?)
+}
+
+/// Prints the board of a record.
+pub fn print_board<R: Print + AllocGlobal>(rt: &R, record: &Record) -> io::Result<()> {
+    let text = board_text(rt.alloc(), &record.standing())?;
+    write_out(rt, &text)
+}
+
+/// Prints a text; where it can't, it says why.
+pub fn print_text(rt: &(impl Print + Eprint), text: &[u8]) -> Result<(), Ending> {
+    written(rt, write_out(rt, text))
+}
+
+/// Prints bytes, at once.
+pub fn write_out<R: Print>(rt: &R, text: &[u8]) -> io::Result<()> {
+    let mut output = io::writer(rt);
+    output.write_all(text)?;
+    output.flush()
+}

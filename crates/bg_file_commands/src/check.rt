@@ -1,0 +1,57 @@
+//! The command that judges many files.
+
+use crate::checkers::{Checker, STANDARD_INPUT, unread_list};
+use bg_console::{Progress, wrong};
+use bg_options::CheckOptions;
+use bg_reports::Ending;
+use std::fs::File;
+use std::rt::Files;
+use std::time::Clock;
+
+/// Judges the files that the options name. The standard output has so many columns, if it is a screen.
+pub fn run<R>(
+    rt: &R,
+    options: CheckOptions<'_, '_>,
+    columns: Option<usize>,
+    progress: Progress,
+) -> Result<Ending, Ending>
+where
+    R: Input + Files<File = File> + Clock + Print + Eprint + AllocGlobal,
+{
+    let CheckOptions {
+        files,
+        list,
+        is_quiet,
+    } = options;
+    check_names(rt, files, list)?;
+    let mut checker = Checker::new(rt, columns, is_quiet, progress);
+    for name in files {
+        checker.check(name)?;
+    }
+    match list {
+        Some(STANDARD_INPUT) => checker.check_list(rt.reader())?,
+        Some(path) => match File::open(rt, path) {
+            Ok(file) => checker.check_list(file)?,
+            Err(error) => return Err(unread_list(rt, &error)),
+        },
+        None => {}
+    }
+    Ok(checker.end())
+}
+
+/// Refuses an empty name, and two uses of the standard input.
+fn check_names(rt: &impl Eprint, files: &[&str], list: Option<&str>) -> Result<(), Ending> {
+    let mut inputs: usize = 0;
+    for name in files.iter().copied().chain(list) {
+        if name.is_empty() {
+            return Err(wrong(rt, "the name of a file is empty"));
+        }
+        if name == STANDARD_INPUT {
+            inputs = inputs.saturating_add(1);
+        }
+    }
+    if inputs > 1 {
+        return Err(wrong(rt, "the standard input can be read only once"));
+    }
+    Ok(())
+}

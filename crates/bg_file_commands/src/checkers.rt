@@ -1,0 +1,188 @@
+//! How many files are judged, one after the other.
+
+use crate::inputs::read_input;
+use bg_console::{
+    Progress, allocated, failed_for, no_memory, print_text, say, say_number, say_of, say_why,
+};
+use bg_reports::{Ending, MOST_SHOWN, Tally, check_text, harmless};
+use bg_system::Printable;
+use bg_text::Verdict;
+use std::alloc::{AllocError, Global};
+use std::fs::File;
+use std::io;
+use std::io::{BufRead, BufReader, Read};
+use std::rt::Files;
+use std::time::Clock;
+
+/// The name of the standard input.
+pub(crate) const STANDARD_INPUT: &str = "-";
+
+/// The most bytes of a line in a list of files: more than the name of any file has.
+const MOST_NAME_BYTES: u64 = 65_536;
+
+/// Goes through many files, prints what comes of each, and counts them.
+#[derive(Drop)]
+pub(crate) struct Checker<'a, R> {
+    rt: &'a R,
+    /// The columns of the screen that the standard output is, if it is one.
+    columns: Option<usize>,
+    /// Whether good files are passed over in silence.
+    is_quiet: bool,
+    progress: Progress,
+    tally: Tally,
+}
+
+impl<'a, R> Checker<'a, R>
+where
+    R: Input + Files<File = File> + Clock + Print + Eprint + AllocGlobal,
+{
+    /// Of which none was judged yet. The standard output has so many columns, if it is a screen; a quiet one passes
+    /// over good files in silence.
+    pub(crate) fn new(
+        rt: &'a R,
+        columns: Option<usize>,
+        is_quiet: bool,
+        progress: Progress,
+    ) -> Checker<'a, R> {
+        Checker {
+            rt,
+            columns,
+            is_quiet,
+            progress,
+            tally: Tally::default(),
+        }
+    }
+
+    /// Judges the file of this name, or the standard input.
+    pub(crate) fn check(&mut self, name: &str) -> Result<(), Ending> {
+        if name == STANDARD_INPUT {
+            let bytes = read_input(self.rt.alloc(), self.rt.reader());
+            return self.tell(name, bytes);
+        }
+        self.check_file(name)
+    }
+
+    /// Judges the file of this name.
+    fn check_file(&mut self, name: &str) -> Result<(), Ending> {
+        let bytes = match File::open(self.rt, name) {
+            Ok(file) => read_input(self.rt.alloc(), file),
+            Err(error) => Err(error),
+        };
+        self.tell(name, bytes)
+    }
+
+    /// Judges the files of a list, which has the name of one in each line.
+    pub(crate) fn check_list(&mut self, list: impl Read + Drop) -> Result<(), Ending> {
+        let mut list = match BufReader::new(self.rt.alloc(), list) {
+            Ok(list) => list,
+            Err(_) => return Err(no_memory(self.rt)),
+        };
+        let mut name = Vec::new(self.rt.alloc());
+        for _ in 0..u64::MAX {
+            name.clear();
+            match (&mut list)
+                .take(MOST_NAME_BYTES)
+                .read_until(b'\n', &mut name)
+            {
+                Ok(0) => break,
+                Ok(_) => self.check_listed(&name)?,
+                Err(error) => return Err(unread_list(self.rt, &error)),
+            }
+        }
+        Ok(())
+    }
+
+    /// Judges the file that a line of a list names, with its line feed if it has one.
+    fn check_listed(&mut self, line: &[u8]) -> Result<(), Ending> {
+        let name = match line.strip_suffix(b"\n") {
+            Some(name) => name,
+            None if (line.len() as u64) < MOST_NAME_BYTES => line,
+            None => {
+                let why = "the list of files has a line of more than ";
+                say_number(self.rt, why, MOST_NAME_BYTES, " bytes");
+                return Err(Ending::Failed);
+            }
+        };
+        match str::from_utf8(name) {
+            Ok("") => {
+                say(self.rt, "a file of the list has an empty name");
+                self.pass_over();
+            }
+            Ok(name) => return self.check_file(name),
+            Err(_) => self.pass_over_bytes(name)?,
+        }
+        Ok(())
+    }
+
+    /// Says that a file is not judged whose name is no text, and counts it.
+    fn pass_over_bytes(&mut self, name: &[u8]) -> Result<(), Ending> {
+        let shown = allocated(self.rt, harmless(self.rt.alloc(), name, MOST_SHOWN))?;
+        let shown = str::from_utf8(&shown).unwrap_or_default();
+        say(
+            self.rt,
+            format_args!("{shown} could not be read: its name is not valid UTF-8"),
+        );
+        self.pass_over();
+        Ok(())
+    }
+
+    /// Prints what comes of a file with these bytes, or says why it could not be read.
+    fn tell(&mut self, name: &str, bytes: io::Result<Vec<u8>>) -> Result<(), Ending> {
+        match bytes {
+            Ok(bytes) => self.judge(name, &bytes)?,
+            Err(error) => {
+                say_why(self.rt, name, " could not be read", &error);
+                self.pass_over();
+            }
+        }
+        let files = self.tally.files();
+        self.progress
+            .tell_of(self.rt, format_args!("{files} files are done"));
+        Ok(())
+    }
+
+    /// Judges a file with these bytes, and prints what comes of it.
+    fn judge(&mut self, name: &str, bytes: &[u8]) -> Result<(), Ending> {
+        let Ok((text, verdict)) = checked(self.rt.alloc(), name, bytes, self.columns) else {
+            say_of(self.rt, name, " could not be judged: out of memory");
+            self.pass_over();
+            return Ok(());
+        };
+        if let Verdict::Fine(_) = verdict {
+            self.tally.good = self.tally.good.saturating_add(1);
+            if self.is_quiet {
+                return Ok(());
+            }
+        } else {
+            self.tally.refused = self.tally.refused.saturating_add(1);
+        }
+        print_text(self.rt, &text)
+    }
+
+    /// Counts a file that is not judged; it was said why.
+    fn pass_over(&mut self) {
+        self.tally.unjudged = self.tally.unjudged.saturating_add(1);
+    }
+
+    /// Says how many files were good and how many were not.
+    pub(crate) fn end(self) -> Ending {
+        say(self.rt, self.tally);
+        Ending::Checked(self.tally.worst())
+    }
+}
+
+/// What is printed of a file of this name, and its verdict.
+fn checked(
+    alloc: Global,
+    name: &str,
+    bytes: &[u8],
+    columns: Option<usize>,
+) -> Result<(Vec<u8>, Verdict), AllocError> {
+    let name = format!(in alloc; "{}", Printable(name))?;
+    check_text(alloc, name.as_str(), bytes, columns)
+}
+
+/// The list of files could not be read.
+pub(crate) fn unread_list(rt: &impl Eprint, error: &io::Error) -> Ending {
+    failed_for(rt, "the list of files could not be read", error)
+}

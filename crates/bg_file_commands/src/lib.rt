@@ -1,0 +1,24 @@
+//! The commands that need no other party: those that judge, show, draw and convert what files hold, and the one that
+//! makes a match. Each prints what it comes to, says on the standard error what is wrong, and gives what it came to, as
+//! an error where it ended early. For a program, which ends with the status of that.
+//!
+//! ```
+//! let saved = ShowOptions {
+//!     path0: "no such folder",
+//!     path1: None,
+//!     wants_transcript: false,
+//! };
+//! assert!(rt; show::run(&rt, saved) == Err(Ending::WrongArguments));
+//! ```
+#![tactic(auto)]
+
+pub mod check;
+mod checkers;
+pub mod export;
+pub mod import;
+mod inputs;
+pub mod judge;
+pub mod new_match;
+pub mod page;
+pub mod picture;
+pub mod show;

@@ -1,0 +1,111 @@
+//! The command that shows saved files.
+
+use bg_console::{allocated, check_folder, failed_at, no_memory, print_text, say, wrong};
+use bg_options::ShowOptions;
+use bg_reports::{Ending, SlotBytes, folder_text, restored_transcript, show_text};
+use bg_system::{SlotName, read_saved};
+use bg_wire::{REFEREE, SEAT_OF_O, SEAT_OF_X, Slot};
+use std::fs::File;
+use std::rt::Files;
+
+/// What is said behind the name of a file that is shown alone.
+const NO_FOLDER: &str = " is no folder: name the two files of a party, or a folder";
+
+/// Shows the saved files that the options name.
+pub fn run<R>(rt: &R, options: ShowOptions<'_>) -> Result<Ending, Ending>
+where
+    R: Files<File = File> + Print + Eprint + AllocGlobal,
+{
+    let ShowOptions {
+        path0,
+        path1,
+        wants_transcript,
+    } = options;
+    if path0.is_empty() || path1 == Some("") {
+        return Err(wrong(rt, "the name of a file is empty"));
+    }
+    match path1 {
+        Some(path1) if wants_transcript => print_transcript(rt, path0, path1),
+        Some(path1) => show_files(rt, path0, path1),
+        None => show_folder(rt, path0),
+    }
+}
+
+/// Shows the two files of a party.
+fn show_files<R>(rt: &R, path0: &str, path1: &str) -> Result<Ending, Ending>
+where
+    R: Files<File = File> + Print + Eprint + AllocGlobal,
+{
+    let file0 = bytes_of(rt, path0)?;
+    let file1 = bytes_of(rt, path1)?;
+    let (text, loads) = allocated(rt, show_text(rt.alloc(), &file0, &file1))?;
+    print_text(rt, &text)?;
+    Ok(Ending::Shown { loads })
+}
+
+/// Prints the transcript of what the two files of a party restore; where that is nothing, it says what they hold.
+fn print_transcript<R>(rt: &R, path0: &str, path1: &str) -> Result<Ending, Ending>
+where
+    R: Files<File = File> + Print + Eprint + AllocGlobal,
+{
+    let file0 = bytes_of(rt, path0)?;
+    let file1 = bytes_of(rt, path1)?;
+    let transcript = allocated(rt, restored_transcript(rt.alloc(), &file0, &file1))?;
+    if let Some(text) = transcript {
+        print_text(rt, &text)?;
+        return Ok(Ending::Shown { loads: true });
+    }
+    let (text, _) = allocated(rt, show_text(rt.alloc(), &file0, &file1))?;
+    for line in str::from_utf8(&text).unwrap_or_default().lines() {
+        say(rt, line);
+    }
+    Ok(Ending::Shown { loads: false })
+}
+
+/// Shows the files of the parties in a folder.
+fn show_folder<R>(rt: &R, folder: &str) -> Result<Ending, Ending>
+where
+    R: Files<File = File> + Print + Eprint + AllocGlobal,
+{
+    check_folder(rt, folder, NO_FOLDER)?;
+    let referee = slots_of(rt, folder, REFEREE)?;
+    let x = slots_of(rt, folder, SEAT_OF_X)?;
+    let o = slots_of(rt, folder, SEAT_OF_O)?;
+    let (text, loads) = allocated(rt, folder_text(rt.alloc(), &referee, &x, &o))?;
+    print_text(rt, &text)?;
+    Ok(Ending::Shown { loads })
+}
+
+/// The bytes of the two files of a party in a folder.
+fn slots_of<R>(rt: &R, folder: &str, party: u8) -> Result<SlotBytes, Ending>
+where
+    R: Files<File = File> + Eprint + AllocGlobal,
+{
+    Ok(SlotBytes {
+        zero: slot_of(rt, folder, party, Slot::Zero)?,
+        one: slot_of(rt, folder, party, Slot::One)?,
+    })
+}
+
+/// The bytes of a file of a party in a folder.
+fn slot_of<R>(rt: &R, folder: &str, party: u8, slot: Slot) -> Result<Vec<u8>, Ending>
+where
+    R: Files<File = File> + Eprint + AllocGlobal,
+{
+    let name = SlotName { party, slot };
+    match format!(in rt.alloc(); "{folder}/{name}") {
+        Ok(path) => bytes_of(rt, path.as_str()),
+        Err(_) => Err(no_memory(rt)),
+    }
+}
+
+/// The bytes of a saved file.
+fn bytes_of<R>(rt: &R, path: &str) -> Result<Vec<u8>, Ending>
+where
+    R: Files<File = File> + Eprint + AllocGlobal,
+{
+    match read_saved(rt, path) {
+        Ok(bytes) => Ok(bytes),
+        Err(error) => Err(failed_at(rt, path, " could not be read", &error)),
+    }
+}

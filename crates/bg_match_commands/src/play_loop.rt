@@ -1,0 +1,64 @@
+//! The command that plays a match over sockets and files.
+
+use bg_auto::LoopFault;
+use bg_command_parts::Operator;
+use bg_console::{Progress, check_folder, failed, failed_barely, lock_of, unwritten};
+use bg_options::LoopOptions;
+use bg_processes::{Failures, play_loop};
+use bg_reports::Ending;
+use bg_streams::Writing;
+use bg_world::WorldFault;
+use std::fs::File;
+use std::io;
+use std::net::Net;
+use std::rt::Files;
+use std::time::Clock;
+
+/// Plays the match that the options name.
+pub fn run<R>(rt: &R, options: LoopOptions<'_>, progress: Progress) -> Result<Ending, Ending>
+where
+    R: Net + Files<File = File> + Clock + Print + Eprint + AllocGlobal,
+{
+    let LoopOptions {
+        seed,
+        length,
+        rules,
+        rounds,
+        folder,
+    } = options;
+    check_folder(rt, folder, " is no folder")?;
+    let _lock = lock_of(rt, folder)?;
+    let mut output = Writing::new(io::writer(rt));
+    let failures = Failures::new();
+    let mut operator = Operator::new(rt, &failures, folder, progress, rounds);
+    let result = play_loop(
+        rt,
+        seed,
+        length,
+        rules,
+        rounds,
+        folder,
+        &failures,
+        &mut output,
+        &mut operator,
+    );
+    operator.end();
+    match result {
+        Ok(()) => Ok(Ending::Simulated),
+        Err(fault) => Err(loop_failed(rt, fault, output.error())),
+    }
+}
+
+/// The match ended with a fault; writing failed for this reason, if it did.
+fn loop_failed(rt: &impl Eprint, fault: LoopFault, reason: Option<&io::Error>) -> Ending {
+    match (fault, reason) {
+        (LoopFault::Write, Some(error)) => unwritten(rt, error),
+        (
+            fault @ (LoopFault::Stopped(_)
+            | LoopFault::Memory
+            | LoopFault::World(WorldFault::Memory)),
+            _,
+        ) => failed_barely(rt, fault),
+        (fault, _) => failed(rt, fault),
+    }
+}

@@ -1,0 +1,98 @@
+//! The command that runs the referee of a match.
+
+use bg_command_parts::{Witness, socket_of, stopped};
+use bg_console::{
+    Progress, failed_at, lock_of, match_of, no_memory, say_failures, waited, waiting_for, wrong,
+};
+use bg_match::Number;
+use bg_processes::{
+    Failures, FileKeeper, Going, PartySocket, RefereeProcess, Ticking, Waiting, read_secret,
+};
+use bg_reports::Ending;
+use bg_wire::REFEREE;
+use bg_world::Outcome;
+use std::fs::File;
+use std::net::Net;
+use std::rt::Files;
+use std::time::Clock;
+
+type Referee<'a, R> = RefereeProcess<PartySocket<'a>, FileKeeper<'a, R>>;
+
+/// Runs the referee of the match in this folder, until the match is over.
+pub fn run<R>(rt: &R, folder: &str, progress: Progress) -> Result<Ending, Ending>
+where
+    R: Net + Files<File = File> + Clock + Print + Eprint + AllocGlobal,
+{
+    let _lock = lock_of(rt, folder)?;
+    let failures = Failures::new();
+    let (process, waiting, ticking) = begin(rt, folder, &failures)?;
+    let witness = Witness::new(rt, &failures, folder);
+    serve(rt, process, waiting, ticking, witness, progress)
+}
+
+/// The referee of the match in a folder, and how it waits; its devices note their failures there.
+fn begin<'a, R>(
+    rt: &'a R,
+    folder: &str,
+    failures: &'a Failures,
+) -> Result<(Referee<'a, R>, Waiting, Ticking), Ending>
+where
+    R: Net + Files<File = File> + Clock + Eprint + AllocGlobal,
+{
+    let Ok(path) = format!(in rt.alloc(); "{folder}/match") else {
+        return Err(no_memory(rt));
+    };
+    let file = match_of(rt, path.as_str())?;
+    let key = match read_secret(rt, folder) {
+        Ok(key) => key,
+        Err(error) => return Err(failed_at(rt, folder, "/secret could not be read", &error)),
+    };
+    let link = socket_of(rt, file.port, REFEREE, failures)?;
+    let (waiting, ticking) = waiting_for(rt, link.descriptor(), false)?;
+    let Ok(keeper) = FileKeeper::new(rt, folder, REFEREE, failures) else {
+        return Err(no_memory(rt));
+    };
+    let begun = RefereeProcess::begin(rt.alloc(), file.id, file.terms, key, link, keeper);
+    say_failures(rt, failures, folder);
+    let Ok((process, outcome)) = begun else {
+        return Err(wrong(rt, "length out of range"));
+    };
+    if outcome != Outcome::Restarted {
+        return Err(stopped(rt, &outcome));
+    }
+    Ok((process, waiting, ticking))
+}
+
+/// Rounds until the match is over.
+fn serve<R>(
+    rt: &R,
+    process: Referee<'_, R>,
+    waiting: Waiting,
+    ticking: Ticking,
+    witness: Witness<'_, R>,
+    progress: Progress,
+) -> Result<Ending, Ending>
+where
+    R: Net + Files<File = File> + Clock + Eprint + AllocGlobal,
+{
+    let (mut process, mut waiting, mut ticking) = (process, waiting, ticking);
+    let (mut witness, mut progress) = (witness, progress);
+    let mut told: Number = 0;
+    for _ in 0..u64::MAX {
+        let (_, tick) = waited(rt, ticking.next_round(rt, &mut waiting))?;
+        match process.round(tick, &mut witness) {
+            Ok(Going::On) => {}
+            Ok(Going::Over) => return Ok(Ending::Served),
+            Err(outcome) => return Err(stopped(rt, &outcome)),
+        }
+        let held = match process.held() {
+            Some(record) => record.len(),
+            None => 0,
+        };
+        if held != told {
+            progress.tell_of(rt, format_args!("the referee has {held} entries"));
+            told = held;
+        }
+    }
+    Ok(Ending::Failed)
+}

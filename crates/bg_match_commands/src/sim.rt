@@ -1,0 +1,57 @@
+//! The command that plays an automatic match in memory.
+
+use bg_auto::{Onlooker, play_sim};
+use bg_console::{Progress, failed, print_text};
+use bg_match::Number;
+use bg_options::SimOptions;
+use bg_reports::Ending;
+use bg_world::{Event, Outcome};
+use std::time::Clock;
+
+/// After how many events of an automatic match the clock is looked at.
+const BATCH: u32 = 1000;
+
+/// The operator, who is told on the standard error how far an automatic match is.
+#[derive(Drop)]
+struct Operator<'a, R> {
+    rt: &'a R,
+    progress: Progress,
+    /// How many events there are in all.
+    steps: u32,
+}
+
+impl<'a, R: Clock + Eprint> Onlooker for Operator<'a, R> {
+    fn happened(&mut self, _event: &Event, _outcome: &Outcome, _held: Option<Number>) {}
+
+    fn played(&mut self, done: u32) {
+        if done % BATCH == 0 {
+            self.progress.tell(self.rt, "events", done, self.steps);
+        }
+    }
+}
+
+/// Plays the automatic match that the options name, and prints what [`sim_text`](bg_auto::sim_text) gives of it. Says
+/// on the standard error how far it is.
+pub fn run<R>(rt: &R, options: SimOptions, progress: Progress) -> Result<Ending, Ending>
+where
+    R: Clock + Print + Eprint + AllocGlobal,
+{
+    let SimOptions {
+        seed,
+        length,
+        rules,
+        watchers,
+        steps,
+    } = options;
+    let mut operator = Operator {
+        rt,
+        progress,
+        steps,
+    };
+    let alloc = rt.alloc();
+    match play_sim(alloc, seed, length, rules, watchers, steps, &mut operator) {
+        Ok(text) => print_text(rt, &text)?,
+        Err(fault) => return Err(failed(rt, fault)),
+    }
+    Ok(Ending::Simulated)
+}

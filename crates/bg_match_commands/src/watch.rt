@@ -1,0 +1,113 @@
+//! The command that watches a match.
+ghost use Rattle.std.specs.Prelude.{◌≤◌};
+ghost use Rattle.bg_wire.specs.Entries.Codes.{first_watcher};
+
+use bg_command_parts::{Witness, no_socket, tell_word};
+use bg_console::{Published, Telling, failed, match_of, waited, waiting_for, wrong};
+use bg_options::WatchOptions;
+use bg_processes::{
+    Failures, Going, Hearing, MatchFile, PartySocket, Ticking, Waiting, WatcherProcess,
+};
+use bg_reports::Ending;
+use bg_wire::{FIRST_WATCHER, LAST_WATCHER};
+use std::fs::File;
+use std::io::ErrorKind;
+use std::net::Net;
+use std::rt::Files;
+use std::time::Clock;
+
+/// Watches the match that the options name, prints its transcript, and keeps the files that were asked for.
+pub fn run<R>(rt: &R, options: WatchOptions<'_>, is_watched: bool) -> Result<Ending, Ending>
+where
+    R: Net + Files<File = File> + Clock + Print + Eprint + AllocGlobal,
+{
+    let WatchOptions {
+        match_path,
+        board,
+        transcript,
+        page,
+        title,
+        numbering,
+    } = options;
+    let published = Published::new(board, transcript, page, title, numbering);
+    let failures = Failures::new();
+    let (process, waiting, ticking) = begin(rt, match_path, &failures)?;
+    // No file is a device of a watcher, so there is no folder to name.
+    let witness = Witness::new(rt, &failures, "");
+    watch(
+        rt, process, waiting, ticking, witness, published, is_watched,
+    )?;
+    Ok(Ending::Served)
+}
+
+type Watcher<'a> = WatcherProcess<PartySocket<'a>>;
+
+/// A watcher under the first number whose port is free; its socket notes its failures there.
+fn begin<'a, R>(
+    rt: &R,
+    path: &str,
+    failures: &'a Failures,
+) -> Result<(Watcher<'a>, Waiting, Ticking), Ending>
+where
+    R: Net + Files<File = File> + Clock + Eprint + AllocGlobal,
+{
+    let file = match_of(rt, path)?;
+    for party in FIRST_WATCHER..=LAST_WATCHER {
+        match PartySocket::bind(rt, file.port, party, failures) {
+            Ok(link) => return sit_down(rt, file, party, link),
+            Err(error) if error.kind() == ErrorKind::AddrInUse => {}
+            Err(error) => return Err(no_socket(rt, party, &error)),
+        }
+    }
+    Err(failed(rt, "no port of a watcher is free"))
+}
+
+fn sit_down<'a, R>(
+    rt: &R,
+    file: MatchFile,
+    party: u8,
+    link: PartySocket<'a>,
+) -> Result<(Watcher<'a>, Waiting, Ticking), Ending>
+where
+    R: Net + Clock + Eprint + AllocGlobal,
+    requires { first_watcher ≤ party }
+{
+    let (waiting, ticking) = waiting_for(rt, link.descriptor(), false)?;
+    match WatcherProcess::begin(rt.alloc(), party, file.id, file.terms, link) {
+        Ok(process) => Ok((process, waiting, ticking)),
+        Err(_) => Err(wrong(rt, "length out of range")),
+    }
+}
+
+fn watch<R>(
+    rt: &R,
+    process: Watcher<'_>,
+    waiting: Waiting,
+    ticking: Ticking,
+    witness: Witness<'_, R>,
+    published: Published<'_>,
+    is_watched: bool,
+) -> Result<(), Ending>
+where
+    R: Net + Files<File = File> + Clock + Print + Eprint + AllocGlobal,
+{
+    let (mut process, mut waiting, mut ticking) = (process, waiting, ticking);
+    let (mut witness, mut published) = (witness, published);
+    let mut hearing = Hearing::new(rt);
+    let mut telling = Telling::new();
+    for _ in 0..u64::MAX {
+        let (_, tick) = waited(rt, ticking.next_round(rt, &mut waiting))?;
+        let going = process.round(tick, &mut witness);
+        tell_word(
+            rt,
+            hearing.after_round(rt, process.link(), tick),
+            is_watched,
+        );
+        let news = telling.go_on(rt, process.held())?;
+        published.after_round(rt, process.held(), news, tick)?;
+        if going == Going::Over {
+            return published.write(rt, process.held());
+        }
+    }
+    Ok(())
+}

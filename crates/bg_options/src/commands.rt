@@ -1,0 +1,18 @@
+//! The options and help of each command, in a file of its own.
+
+pub(crate) mod act;
+pub(crate) mod auto;
+pub(crate) mod check;
+pub(crate) mod export;
+pub(crate) mod import;
+pub(crate) mod judge;
+pub(crate) mod new_match;
+pub(crate) mod page;
+pub(crate) mod picture;
+pub(crate) mod play;
+pub(crate) mod play_loop;
+pub(crate) mod referee;
+pub(crate) mod script;
+pub(crate) mod show;
+pub(crate) mod sim;
+pub(crate) mod watch;

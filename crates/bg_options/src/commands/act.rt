@@ -1,0 +1,65 @@
+//! The options and help of the command of one action, for scripts.
+
+use crate::commands::play::SeatOptions;
+use crate::shared::{
+    THREE_TERMINALS, described, folder_option, match_option, number_in, number_option,
+    player_option, with,
+};
+use bg_match::{MOST_ENTRIES, Number};
+use clap::{Arg, ArgMatches, Command, Error};
+use std::alloc::Global;
+
+/// What `act` does.
+const ABOUT_ACT: &str =
+    "Make one action when it is the player's turn, and wait for its entry; with no ACTION wait for\n\
+             the turn. Prints the entries since the call before, and the board.\n\
+             \n\
+             A call that finds a claim of an earlier one follows that first. Ends with status 0 where the entry\n\
+             answers the action; with 2 where it is refused, and nothing is claimed, or the entry is another;\n\
+             with 1 where the time is over, or as `play`.";
+
+/// The most seconds that one action may have.
+const MOST_SECONDS: u32 = 1_000_000;
+
+/// The one action that is to be made.
+#[derive(Clone, Copy)]
+pub struct ActOptions<'m, 'a> {
+    pub seat: SeatOptions<'a>,
+    /// The words of the action; with none it is waited for the player's turn.
+    pub words: &'m [&'a str],
+    /// The entry, from 1 to 1000000, that the action is to be claimed as.
+    pub entry: Option<Number>,
+    /// How long it may take, from 1 to 1000000.
+    pub seconds: u32,
+}
+
+impl<'m, 'a> ActOptions<'m, 'a> {
+    pub(crate) fn read(options: &'m ArgMatches<'a>) -> Option<ActOptions<'m, 'a>> {
+        Some(ActOptions {
+            seat: SeatOptions::read(options)?,
+            words: options.get_strs("ACTION").unwrap_or_default(),
+            entry: number_in(options, "entry"),
+            seconds: number_in(options, "seconds")?,
+        })
+    }
+}
+
+/// Its options and help.
+pub(crate) fn command<'a>(alloc: Global) -> Result<Command<'a>, Error> {
+    let about = "How long it may take: 1 to 1000000";
+    let seconds = number_option(alloc, "seconds", 1, MOST_SECONDS, about).required(true);
+    let about = "The entry that the action is claimed as, so that two calls act once: 1 to 1000000";
+    let entry = number_option(alloc, "entry", 1, MOST_ENTRIES, about);
+    let action = Arg::new(alloc, "ACTION").num_args(0..).help(
+        "The action, as in transcripts: roll, double, take, drop, move 8-5 6-5, resign normal, ..",
+    );
+    let command = described(alloc, "act", "Make one action, for scripts", ABOUT_ACT).after_help(
+        THREE_TERMINALS,
+    );
+    let command = with(command, player_option(alloc)?)?;
+    let command = with(command, match_option(alloc))?;
+    let command = with(command, folder_option(alloc))?;
+    let command = with(command, seconds)?;
+    let command = with(command, entry)?;
+    with(command, action)
+}

@@ -1,0 +1,62 @@
+//! The options and help of the command that judges many files.
+
+use crate::shared::{described, flag, text_option, with};
+use clap::{Arg, ArgMatches, Command, Error};
+use std::alloc::Global;
+
+/// What `check` does, with an example.
+const ABOUT_CHECK: &str =
+    "Judge many files, transcripts as `judge` reads them and match files as `import` does: a line for
+each, in the order given.
+
+    $ bg_relay check good.txt bad.txt other.mat
+    good.txt: ok 2
+    bad.txt: refused at line 3: more can be played: X move 8-5
+    other.mat: ok 10
+    bg_relay: 2 ok, 1 refused
+
+A file is taken for a match file of another program, by the first rules, where its first line that is
+neither blank nor a comment says how long the match is, as `7 point match` does; its name says
+nothing.
+
+Behind the reason stands the line itself, cut to the width of the screen where the standard output is
+one (COLUMNS says how wide it is, and else it is taken for 80 columns), and to 1000 columns elsewhere.
+What can't be printed is shown as an escape. A file that can't be read is named on the standard error,
+and the others are judged all the same. Where the standard error is a terminal, it says there each
+second how far it is. Ends with status 0 where all are good, 2 where one is refused, and 1 where one
+can't be read, also where another is refused, or writing failed.";
+
+/// The files that are to be judged.
+#[derive(Clone, Copy)]
+pub struct CheckOptions<'m, 'a> {
+    pub files: &'m [&'a str],
+    /// A file with the names of further files.
+    pub list: Option<&'a str>,
+    /// Whether good files are passed over in silence.
+    pub is_quiet: bool,
+}
+
+impl<'m, 'a> CheckOptions<'m, 'a> {
+    pub(crate) fn read(options: &'m ArgMatches<'a>) -> CheckOptions<'m, 'a> {
+        CheckOptions {
+            files: options.get_strs("FILE").unwrap_or_default(),
+            list: options.get_str("files-from"),
+            is_quiet: options.get_flag("quiet"),
+        }
+    }
+}
+
+/// Its options and help.
+pub(crate) fn command<'a>(alloc: Global) -> Result<Command<'a>, Error> {
+    let quiet = flag(alloc, "quiet", "Print only what is refused");
+    let about = "A file with the names of further files, one in each line; - is the standard input";
+    let list = text_option(alloc, "files-from", "LIST", about);
+    let files = Arg::new(alloc, "FILE")
+        .num_args(1..)
+        .required_unless_present("files-from")?
+        .help("The files; - is the standard input");
+    let command = described(alloc, "check", "Judge many files", ABOUT_CHECK);
+    let command = with(command, quiet)?;
+    let command = with(command, list)?;
+    with(command, files)
+}

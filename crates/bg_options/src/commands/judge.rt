@@ -1,0 +1,41 @@
+//! The options and help of the command that judges a transcript.
+
+use crate::shared::{described, misplaced_file, with};
+use clap::{Command, Error};
+use std::alloc::Global;
+
+/// What `judge` does, with a transcript and what it prints of it.
+const ABOUT_JUDGE: &str = "Judge the transcript of a match on standard input: bg_relay judge < FILE
+
+A transcript has a line with the length of the match, and then one for each entry:
+
+    length 1
+    open 3 1
+    X move 8-5 6-5
+
+Prints the board after the good lines, and then `ok N` with the number of entries, or
+`refused at line L: REASON`. For these three lines:
+
+    length 1 game 1 score 0-0 cube 1 middle crawford
+      13  14  15  16  17  18  19  20  21  22  23  24
+      X5   .   .   .  O3   .  O5   .   .   .   .  X2
+      O5   .   .   .  X2   .  X4  X2   .   .   .  O2
+      12  11  10   9   8   7   6   5   4   3   2   1
+    bar X 0 O 0 off X 0 O 0
+    O to roll
+    ok 2
+
+Where line 1 is refused it prints that line alone, and for an input of more than 41943040 bytes
+`refused: input too long`. Ends with status 0 where the transcript is good, 2 where it is refused,
+and 1 where reading, writing or memory failed.";
+
+/// Its options and help.
+pub(crate) fn command<'a>(alloc: Global) -> Result<Command<'a>, Error> {
+    let command = described(
+        alloc,
+        "judge",
+        "Judge the transcript of a match on standard input",
+        ABOUT_JUDGE,
+    );
+    with(command, misplaced_file(alloc))
+}

@@ -1,0 +1,56 @@
+//! The options and help of the command that makes a match between processes.
+
+use crate::shared::{
+    THREE_TERMINALS, byte_in, described, folder_option, length_option, number_in, number_option,
+    rules_in, rules_option, with,
+};
+use bg_match::Terms;
+use bg_system::{HIGHEST_PORT, LOWEST_PORT};
+use clap::{ArgMatches, Command, Error};
+use std::alloc::Global;
+
+/// What `new` does.
+const ABOUT_NEW: &str = "Make a match between processes.\n\
+             \n\
+             Writes the files `match` and `secret` into DIR, which is made where it is missing, and prints the\n\
+             line of `match`. Hand that file to the players and to who may watch: its number is the key of the\n\
+             match. The dice go by the secret, which stays with the referee. Ends with status 0; with 2 where\n\
+             DIR has a match already; with 1 where reading, writing or memory failed.";
+
+/// What a match between processes is to be, and where its files are to be made.
+#[derive(Clone, Copy)]
+pub struct NewOptions<'a> {
+    pub terms: Terms,
+    /// The referee's port, from 1024 to 65280.
+    pub port: u16,
+    pub folder: &'a str,
+}
+
+impl<'a> NewOptions<'a> {
+    pub(crate) fn read(options: &ArgMatches<'a>) -> Option<NewOptions<'a>> {
+        Some(NewOptions {
+            terms: Terms {
+                length: byte_in(options, "length")?,
+                rules: rules_in(options)?,
+            },
+            port: u16::try_from(number_in(options, "port")?).ok()?,
+            folder: options.get_str("dir")?,
+        })
+    }
+}
+
+/// Its options and help.
+pub(crate) fn command<'a>(alloc: Global) -> Result<Command<'a>, Error> {
+    let about = "The port of the referee on 127.0.0.1, below those of all others: 1024 to 65280";
+    let (least, most) = (u32::from(LOWEST_PORT), u32::from(HIGHEST_PORT));
+    let port = number_option(alloc, "port", least, most, about)
+        .value_name("P")
+        .required(true);
+    let command = described(alloc, "new", "Make a match between processes", ABOUT_NEW).after_help(
+        THREE_TERMINALS,
+    );
+    let command = with(command, length_option(alloc))?;
+    let command = with(command, rules_option(alloc))?;
+    let command = with(command, port)?;
+    with(command, folder_option(alloc))
+}

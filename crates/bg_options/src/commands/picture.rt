@@ -1,0 +1,24 @@
+//! The options and help of the command that draws where a match stands.
+
+use crate::shared::{described, misplaced_file, numbering_option, with};
+use clap::{Command, Error};
+use std::alloc::Global;
+
+/// What `picture` does, with an example.
+const ABOUT_PICTURE: &str =
+    "Draw where the match stands whose transcript is on the standard input, as an SVG file.
+
+    $ bg_relay picture < transcript.txt > board.svg
+    $ head -n 10 transcript.txt | bg_relay picture > after-9-entries.svg
+
+The picture shows the points and their numbers, the checkers, the cube, the dice of the turn, the
+score, and what is to happen next. A transcript that is refused is named on the standard error as
+`check` names it, and nothing is printed. Ends with status 0; with 2 where the transcript is refused,
+and 1 where reading, writing or memory failed.";
+
+/// Its options and help.
+pub(crate) fn command<'a>(alloc: Global) -> Result<Command<'a>, Error> {
+    let command = described(alloc, "picture", "Draw where a match stands", ABOUT_PICTURE);
+    let command = with(command, numbering_option(alloc))?;
+    with(command, misplaced_file(alloc))
+}

@@ -1,0 +1,54 @@
+//! The options and help of the command that plays a script.
+
+use crate::shared::{
+    byte_in, described, length_option, misplaced_file, rules_in, rules_option, watchers_option,
+    with,
+};
+use bg_match::Terms;
+use clap::{ArgMatches, Command, Error};
+use std::alloc::Global;
+
+/// What `script` does.
+const ABOUT_SCRIPT: &str = "Let the events on standard input happen to a match in memory.\n\
+             \n\
+             Each line is one event: `due WORD`, `take PARTY PICK WORD`, `choose PLAYER ACTION`,\n\
+             `save PARTY`, `tick PARTY` or `restart PARTY`. Party 0 is the referee, 1 and 2 are the seats of\n\
+             X and O, and watchers follow from 3. Prints a line for what each event came to, then how many\n\
+             entries each party holds, and the board. Nothing happens unless all lines are good: else it\n\
+             prints `refused at line L: REASON`, and for an input of more than 41943040 bytes\n\
+             `refused: input too long`. Ends with status 0 where the script is good, 2 where it is refused,\n\
+             and 1 where reading, writing or memory failed.";
+
+/// The match that a script happens to.
+#[derive(Clone, Copy)]
+pub struct ScriptOptions {
+    pub terms: Terms,
+    /// At most 253.
+    pub watchers: u8,
+}
+
+impl ScriptOptions {
+    pub(crate) fn read(options: &ArgMatches<'_>) -> Option<ScriptOptions> {
+        Some(ScriptOptions {
+            terms: Terms {
+                length: byte_in(options, "length")?,
+                rules: rules_in(options)?,
+            },
+            watchers: byte_in(options, "watchers")?,
+        })
+    }
+}
+
+/// Its options and help.
+pub(crate) fn command<'a>(alloc: Global) -> Result<Command<'a>, Error> {
+    let command = described(
+        alloc,
+        "script",
+        "Let the events on standard input happen to a match in memory",
+        ABOUT_SCRIPT,
+    );
+    let command = with(command, length_option(alloc))?;
+    let command = with(command, rules_option(alloc))?;
+    let command = with(command, watchers_option(alloc))?;
+    with(command, misplaced_file(alloc))
+}

@@ -1,0 +1,58 @@
+//! The options and help of the command that shows saved files.
+
+use crate::shared::{described, flag, with};
+use clap::{Arg, ArgMatches, Command, Error};
+use std::alloc::Global;
+
+/// What `show` does.
+const ABOUT_SHOW: &str = "Show what saved files hold: the two of a party, or the six of a folder.
+
+A party saves its match in two files by turns: saves with even numbers in the one, with odd
+numbers in the other, so that a save that is cut short leaves the one before it. Prints a line
+for each file, and the board of the newer one that loads. A missing file counts as empty.
+
+Of a folder it shows the files party-P.S of the referee, 0, and of the seats of X and O, 1 and 2:
+a line for each, then for each party how many entries it holds, and how many it is behind the
+one that holds most, and the board of that one.
+
+With --transcript it prints the transcript of what the two files restore, and nothing else:
+
+    bg_relay show --transcript DIR/party-0.0 DIR/party-0.1 > transcript.txt
+
+Ends with status 0 where a file loads, 2 where none does, and 1 where reading, writing or memory
+failed.";
+
+/// The saved files that are to be shown.
+#[derive(Clone, Copy)]
+pub struct ShowOptions<'a> {
+    /// The file of the even saves, or a folder.
+    pub path0: &'a str,
+    /// The file of the odd saves.
+    pub path1: Option<&'a str>,
+    /// Whether the transcript of what they restore is wanted.
+    pub wants_transcript: bool,
+}
+
+impl<'a> ShowOptions<'a> {
+    pub(crate) fn read(options: &ArgMatches<'a>) -> ShowOptions<'a> {
+        ShowOptions {
+            path0: options.get_str("FILE0").unwrap_or_default(),
+            path1: options.get_str("FILE1"),
+            wants_transcript: options.get_flag("transcript"),
+        }
+    }
+}
+
+/// Its options and help.
+pub(crate) fn command<'a>(alloc: Global) -> Result<Command<'a>, Error> {
+    let about = "Print the transcript of what the two files restore";
+    let transcript = flag(alloc, "transcript", about).requires_arg("FILE1")?;
+    let file0 = Arg::new(alloc, "FILE0")
+        .required(true)
+        .help("The file of the even saves, or a folder");
+    let file1 = Arg::new(alloc, "FILE1").help("The file of the odd saves");
+    let command = described(alloc, "show", "Show what saved files hold", ABOUT_SHOW);
+    let command = with(command, transcript)?;
+    let command = with(command, file0)?;
+    with(command, file1)
+}

@@ -1,0 +1,60 @@
+//! The options and help of the command that plays an automatic match in memory.
+
+use crate::shared::{
+    byte_in, described, length_option, number_in, number_option, rules_in, rules_option, seed_in,
+    seed_option, watchers_option, with,
+};
+use bg_match::Rules;
+use clap::{ArgMatches, Command, Error};
+use std::alloc::Global;
+
+/// What `sim` does.
+const ABOUT_SIM: &str = "Play an automatic match in memory.\n\
+             \n\
+             Random events happen to a referee, two seats and watchers, over a network that loses, repeats\n\
+             and reorders: packets are sent and taken, players choose, parties save and restart. Prints the\n\
+             transcript of the referee's record, then how many entries each party holds, and the board.\n\
+             Seed, length and rules alone decide what the entries are, and the rest how many there are. Says\n\
+             each second how far it is, where the standard error is a terminal. Ends with status 0, and 1\n\
+             where writing or memory failed.";
+
+/// The most events that an automatic match may have.
+const MOST_STEPS: u32 = 1_000_000;
+
+/// What an automatic match in memory is to be.
+#[derive(Clone, Copy)]
+pub struct SimOptions {
+    /// What the random words go by, and the number of the match.
+    pub seed: u64,
+    /// In points, from 1 to 99.
+    pub length: u8,
+    pub rules: Rules,
+    /// At most 253.
+    pub watchers: u8,
+    /// How many events happen: at most 1000000.
+    pub steps: u32,
+}
+
+impl SimOptions {
+    pub(crate) fn read(options: &ArgMatches<'_>) -> Option<SimOptions> {
+        Some(SimOptions {
+            seed: seed_in(options, "seed")?,
+            length: byte_in(options, "length")?,
+            rules: rules_in(options)?,
+            watchers: byte_in(options, "watchers")?,
+            steps: number_in(options, "steps")?,
+        })
+    }
+}
+
+/// Its options and help.
+pub(crate) fn command<'a>(alloc: Global) -> Result<Command<'a>, Error> {
+    let about = "How many events happen: 0 to 1000000";
+    let steps = number_option(alloc, "steps", 0, MOST_STEPS, about).required(true);
+    let command = described(alloc, "sim", "Play an automatic match in memory", ABOUT_SIM);
+    let command = with(command, seed_option(alloc))?;
+    let command = with(command, length_option(alloc))?;
+    let command = with(command, rules_option(alloc))?;
+    let command = with(command, watchers_option(alloc))?;
+    with(command, steps)
+}

@@ -1,0 +1,63 @@
+//! The options and help of the command that watches a match.
+
+use crate::shared::{
+    THREE_TERMINALS, described, match_option, numbering_in, numbering_option, text_option,
+    title_in, title_option, with,
+};
+use bg_picture::Numbering;
+use clap::{ArgMatches, Command, Error};
+use std::alloc::Global;
+
+/// What `watch` does.
+const ABOUT_WATCH: &str =
+    "Watch a match until it is over, and print its transcript, entry by entry.\n\
+             \n\
+             Takes the first number of a watcher, from 3, whose port is free. Ends with status 0; with 1 where\n\
+             no port is free, or reading, writing or memory failed; with 2 where the match file is none.";
+
+/// The match that is watched, and the files that are kept of it.
+#[derive(Clone, Copy)]
+pub struct WatchOptions<'a> {
+    /// The name of the match file.
+    pub match_path: &'a str,
+    pub board: Option<&'a str>,
+    pub transcript: Option<&'a str>,
+    pub page: Option<&'a str>,
+    /// The title of the page.
+    pub title: &'a str,
+    /// In whose numbers its points are.
+    pub numbering: Numbering,
+}
+
+impl<'a> WatchOptions<'a> {
+    pub(crate) fn read(options: &ArgMatches<'a>) -> Option<WatchOptions<'a>> {
+        Some(WatchOptions {
+            match_path: options.get_str("match")?,
+            board: options.get_str("board"),
+            transcript: options.get_str("transcript"),
+            page: options.get_str("page"),
+            title: title_in(options),
+            numbering: numbering_in(options),
+        })
+    }
+}
+
+/// Its options and help.
+pub(crate) fn command<'a>(alloc: Global) -> Result<Command<'a>, Error> {
+    let about = "A file that has the board, always whole";
+    let board = text_option(alloc, "board", "FILE", about);
+    let about = "A file that has the transcript, always whole";
+    let transcript = text_option(alloc, "transcript", "FILE", about);
+    let about =
+        "A file that has a page for browsers, always whole; they show it anew by themselves";
+    let page = text_option(alloc, "page", "FILE", about);
+    let command = described(alloc, "watch", "Watch a match", ABOUT_WATCH).after_help(
+        THREE_TERMINALS,
+    );
+    let command = with(command, match_option(alloc))?;
+    let command = with(command, board)?;
+    let command = with(command, transcript)?;
+    let command = with(command, page)?;
+    let command = with(command, title_option(alloc))?;
+    with(command, numbering_option(alloc))
+}

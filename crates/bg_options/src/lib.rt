@@ -1,0 +1,30 @@
+//! The command line of the program: its commands, the options of each with their help, and what arguments ask for. For
+//! a program, which does it.
+//!
+//! ```
+//! // The command line has the command that its first argument names, and its help all of them.
+//! let words = ["bg_relay", "page", "--title", "Anna against Otto"];
+//! let matches = command_line(alloc, Some("page"))?.try_get_matches_from(words.as_slice())?;
+//! let Ok(Request::Page { title, numbering }) = Request::read(&matches) else {
+//!     return Err(Fail::from("another request"));
+//! };
+//! assert!(rt; title == "Anna against Otto" && numbering == Numbering::Mover);
+//! ```
+#![tactic(auto)]
+
+mod commands;
+mod requests;
+mod shared;
+mod tasks;
+
+pub use commands::act::ActOptions;
+pub use commands::check::CheckOptions;
+pub use commands::new_match::NewOptions;
+pub use commands::play::SeatOptions;
+pub use commands::play_loop::LoopOptions;
+pub use commands::script::ScriptOptions;
+pub use commands::show::ShowOptions;
+pub use commands::sim::SimOptions;
+pub use commands::watch::WatchOptions;
+pub use requests::{Request, RequestFault};
+pub use tasks::{TASKS, Task, command_line};

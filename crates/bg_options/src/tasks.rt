@@ -1,0 +1,120 @@
+//! What the program can be asked to do.
+
+use crate::commands::{
+    act, auto, check, export, import, judge, new_match, page, picture, play, play_loop, referee,
+    script, show, sim, watch,
+};
+use clap::{Command, Error};
+use std::alloc::Global;
+
+/// The version that `--version` prints.
+const VERSION: &str = "0.1.0";
+
+/// What a command of the program does.
+#[derive(Clone, Copy, Debug, PartialEq, Eq)]
+pub enum Task {
+    Judge,
+    Check,
+    Import,
+    Export,
+    Show,
+    Page,
+    Picture,
+    Script,
+    Sim,
+    Loop,
+    New,
+    Referee,
+    Play,
+    Act,
+    Auto,
+    Watch,
+}
+
+/// The commands by their names, in the order in which help lists them.
+pub const TASKS: [(&str, Task); 16] = [
+    ("judge", Task::Judge),
+    ("check", Task::Check),
+    ("import", Task::Import),
+    ("export", Task::Export),
+    ("show", Task::Show),
+    ("page", Task::Page),
+    ("picture", Task::Picture),
+    ("script", Task::Script),
+    ("sim", Task::Sim),
+    ("loop", Task::Loop),
+    ("new", Task::New),
+    ("referee", Task::Referee),
+    ("play", Task::Play),
+    ("act", Task::Act),
+    ("auto", Task::Auto),
+    ("watch", Task::Watch),
+];
+
+impl Task {
+    /// Returns the task of the command of this name, if there is one.
+    pub fn named(name: &str) -> Option<Task> {
+        for (other, task) in TASKS {
+            if other == name {
+                return Some(task);
+            }
+        }
+        None
+    }
+
+    /// Returns, where it reads the standard input alone, its command with the options that it needs.
+    pub(crate) fn reading(self) -> Option<&'static str> {
+        match self {
+            Task::Judge => Some("judge"),
+            Task::Import => Some("import"),
+            Task::Export => Some("export"),
+            Task::Page => Some("page"),
+            Task::Picture => Some("picture"),
+            Task::Script => Some("script --length N --watchers N"),
+            _ => None,
+        }
+    }
+
+    /// Returns its options and help.
+    fn command<'a>(self, alloc: Global) -> Result<Command<'a>, Error> {
+        match self {
+            Task::Judge => judge::command(alloc),
+            Task::Check => check::command(alloc),
+            Task::Import => import::command(alloc),
+            Task::Export => export::command(alloc),
+            Task::Show => show::command(alloc),
+            Task::Page => page::command(alloc),
+            Task::Picture => picture::command(alloc),
+            Task::Script => script::command(alloc),
+            Task::Sim => sim::command(alloc),
+            Task::Loop => play_loop::command(alloc),
+            Task::New => new_match::command(alloc),
+            Task::Referee => referee::command(alloc),
+            Task::Play => play::command(alloc),
+            Task::Act => act::command(alloc),
+            Task::Auto => auto::command(alloc),
+            Task::Watch => watch::command(alloc),
+        }
+    }
+}
+
+/// Returns the command line of the program, with its help. Where the first argument names a command it
+/// has that one alone, as nothing is said of the others then, and making all of them takes longer than
+/// what most of them do.
+///
+/// # Errors
+/// Fails where memory is refused.
+pub fn command_line<'a>(alloc: Global, first: Option<&str>) -> Result<Command<'a>, Error> {
+    let mut program = Command::new(alloc, "bg_relay")
+        .about("A backgammon match relay, proved")
+        .version(VERSION)
+        .subcommand_required(true)
+        .arg_required_else_help(true);
+    if let Some(task) = first.and_then(Task::named) {
+        return Ok(program.subcommand(task.command(alloc)?)?);
+    }
+    for (_, task) in TASKS {
+        program = program.subcommand(task.command(alloc)?)?;
+    }
+    Ok(program)
+}

@@ -1,0 +1,201 @@
+//! The command of one action, for scripts.
+
+use crate::seats::Seat;
+use crate::typed_lines::joined;
+use bg_command_parts::tell_word;
+use bg_console::{
+    allocated, failed, print_board, put_entries, say, say_number, write_out, written, wrong,
+};
+use bg_match::{Action, Number, Record};
+use bg_options::ActOptions;
+use bg_processes::{Failures, Going};
+use bg_reports::{Ending, ending_of};
+use bg_text::parse_action;
+use bg_world::{Outcome, outcome_text};
+use std::fs::File;
+use std::io;
+use std::net::Net;
+use std::rt::Files;
+use std::time::Clock;
+
+/// So many ticks pass before the seat claims, in which the referee may tell what this life of it does not know.
+const TICKS_TO_LISTEN: u32 = 2;
+
+/// In one second there are so many ticks.
+const TICKS_A_SECOND: u32 = 10;
+
+/// What the call is to do.
+#[derive(Drop)]
+struct Wanted {
+    /// The action; with none it is waited for the player's turn.
+    action: Option<Action>,
+    /// The entry, from 1, that the action is to be claimed as.
+    entry: Option<Number>,
+    /// How many ticks there are for it.
+    ticks: u32,
+}
+
+impl Wanted {
+    /// Whether the entry that the action is to be claimed as is there already, among so many.
+    fn is_there(&self, held: Number) -> bool {
+        match self.entry {
+            Some(entry) => entry <= held,
+            None => false,
+        }
+    }
+}
+
+/// Where the call is.
+#[derive(Clone, Copy, PartialEq, Eq)]
+enum Stage {
+    /// It waits for its turn.
+    Listening,
+    /// It waits for the answer to a claim of its own.
+    Claimed(Number),
+}
+
+/// Makes the one action that the options name, or waits for the player's turn.
+pub fn run<R>(rt: &R, options: ActOptions<'_, '_>, is_watched: bool) -> Result<Ending, Ending>
+where
+    R: Net + Files<File = File> + Clock + Print + Eprint + AllocGlobal,
+{
+    let wanted = Wanted {
+        action: action_of(rt, options.words)?,
+        entry: options.entry,
+        ticks: options.seconds.saturating_mul(TICKS_A_SECOND),
+    };
+    let failures = Failures::new();
+    let seat = Seat::open(rt, &failures, options.seat, false)?;
+    act(rt, seat, &wanted, is_watched)
+}
+
+/// The action that some words say; none where there is no word.
+fn action_of<R: Eprint + AllocGlobal>(rt: &R, words: &[&str]) -> Result<Option<Action>, Ending> {
+    let line = allocated(rt, joined(rt.alloc(), words))?;
+    match parse_action(&line) {
+        Ok(action) => Ok(Some(action)),
+        Err(_) if line.is_empty() => Ok(None),
+        Err(fault) => Err(wrong(rt, fault.reason())),
+    }
+}
+
+fn act<R>(rt: &R, seat: Seat<'_, R>, wanted: &Wanted, is_watched: bool) -> Result<Ending, Ending>
+where
+    R: Net + Files<File = File> + Clock + Print + Eprint + AllocGlobal,
+{
+    let mut seat = seat;
+    let from = seat.held();
+    let mut stage = Stage::Listening;
+    if let Some((number, _)) = seat.process.open_claim() {
+        let first = " is still claimed by an earlier call, which comes first";
+        say_number(rt, "entry ", number.into(), first);
+    }
+    let mut ticks = 0u32;
+    for _ in 0..u64::MAX {
+        let round = seat.next_round()?;
+        tell_word(rt, round.word, is_watched);
+        if round.tick {
+            ticks = ticks.saturating_add(1);
+        }
+        let over = round.going == Going::Over;
+        match stage {
+            Stage::Claimed(number) if seat.held() >= number => {
+                return finish(rt, &seat, wanted, from, Some(number));
+            }
+            Stage::Listening
+                if over
+                    || (ticks >= TICKS_TO_LISTEN
+                        && (wanted.is_there(seat.held()) || seat.process.acts())) => {
+                match claim(rt, &mut seat, wanted)? {
+                    Some(number) => stage = Stage::Claimed(number),
+                    None => return finish(rt, &seat, wanted, from, wanted.entry),
+                }
+            }
+            _ => {}
+        }
+        if ticks >= wanted.ticks {
+            return Err(out_of_time(rt, &seat));
+        }
+    }
+    Ok(Ending::Failed)
+}
+
+/// Claims the action; the number of its entry, or none where there is nothing to claim.
+fn claim<R>(rt: &R, seat: &mut Seat<'_, R>, wanted: &Wanted) -> Result<Option<Number>, Ending>
+where
+    R: Net + Files<File = File> + Clock + Print + Eprint + AllocGlobal,
+{
+    let Some(action) = &wanted.action else {
+        return Ok(None);
+    };
+    if let Some(entry) = wanted.entry {
+        if wanted.is_there(seat.held()) {
+            return Ok(None);
+        }
+        if entry > seat.held().saturating_add(1) {
+            say_number(rt, "entry ", entry.into(), " is not the next one");
+            return Err(Ending::ActionRefused);
+        }
+    }
+    match seat.choose(action.copy())? {
+        Outcome::Chose(Ok(number)) => Ok(Some(number)),
+        outcome @ Outcome::Chose(_) => {
+            say(rt, outcome_text(&outcome).as_str());
+            Err(Ending::ActionRefused)
+        }
+        outcome => Err(failed(rt, outcome_text(&outcome).as_str())),
+    }
+}
+
+/// The time is over; what is claimed and saved goes out with the next call.
+fn out_of_time<R>(rt: &R, seat: &Seat<'_, R>) -> Ending
+where
+    R: Net + Files<File = File> + Clock + Eprint + AllocGlobal,
+{
+    match seat.process.open_claim() {
+        Some((number, _)) => {
+            let over = "the time is over: the claim of entry ";
+            say_number(
+                rt,
+                over,
+                number.into(),
+                " is kept, and goes out with the next call",
+            );
+            Ending::Failed
+        }
+        None => failed(rt, "the time is over"),
+    }
+}
+
+/// Prints the entries since the beginning and the board; and says whether the entry of this number answers the action.
+fn finish<R>(
+    rt: &R,
+    seat: &Seat<'_, R>,
+    wanted: &Wanted,
+    from: Number,
+    number: Option<Number>,
+) -> Result<Ending, Ending>
+where
+    R: Net + Files<File = File> + Clock + Print + Eprint + AllocGlobal,
+{
+    let Some(record) = seat.process.held() else {
+        return Ok(Ending::Failed);
+    };
+    written(rt, print_news(rt, record, from))?;
+    let (Some(action), Some(number)) = (&wanted.action, number) else {
+        return Ok(Ending::Served);
+    };
+    let ending = ending_of(record, action, number);
+    if ending == Ending::ActionRefused {
+        say_number(rt, "entry ", number.into(), " is another");
+    }
+    Ok(ending)
+}
+
+/// Prints the entries of a record behind so many, and its board.
+fn print_news<R: Print + AllocGlobal>(rt: &R, record: &Record, from: Number) -> io::Result<()> {
+    let mut text = Vec::new(rt.alloc());
+    put_entries(&mut text, record, from)?;
+    write_out(rt, &text)?;
+    print_board(rt, record)
+}
