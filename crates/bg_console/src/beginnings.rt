@@ -28,13 +28,13 @@ pub fn lock_of(
     }
 }
 
-/// Makes a folder where there is none, locks it, and returns the lock. Ends with `WrongArguments` where there is none and
-/// none can be made, and else as [`lock_of`].
+/// Makes a folder where there is none, and those above it, locks it, and returns the lock. Ends with `WrongArguments`
+/// where there is none and none can be made, and else as [`lock_of`].
 pub fn own_folder(
     rt: &(impl Files<File = File> + Eprint),
     folder: &str,
 ) -> Result<FolderLock, Ending> {
-    match fs::create_dir(rt, folder) {
+    match fs::create_dir_all(rt, folder) {
         Ok(()) => {}
         Err(error) if error.kind() == ErrorKind::AlreadyExists => {
             check_folder(rt, folder, " is no folder")?;

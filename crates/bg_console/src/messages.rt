@@ -9,6 +9,7 @@ use bg_streams::EngineFault;
 use std::alloc::AllocError;
 use std::fmt::Display;
 use std::io;
+use std::io::ErrorKind;
 
 /// The message where there is no memory.
 const NO_MEMORY: &str = "out of memory";
@@ -67,8 +68,12 @@ pub fn failed_at(rt: &impl Eprint, path: &str, words: &str, reason: &io::Error) 
     Ending::Failed
 }
 
-/// Says that the output could not be written, and why.
+/// Says that the output could not be written, and why. Where nobody reads it any more, as behind `head`, nothing is
+/// said.
 pub fn unwritten(rt: &impl Eprint, error: &io::Error) -> Ending {
+    if error.kind() == ErrorKind::BrokenPipe {
+        return Ending::Failed;
+    }
     failed_for(rt, "the output could not be written", error)
 }
 

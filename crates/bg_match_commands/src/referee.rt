@@ -2,7 +2,8 @@
 
 use bg_command_parts::{Witness, socket_of, stopped};
 use bg_console::{
-    Progress, failed_at, lock_of, match_of, no_memory, say_failures, waited, waiting_for, wrong,
+    Progress, check_folder, failed_at, lock_of, match_of, no_memory, say_failures, waited,
+    waiting_for, wrong,
 };
 use bg_match::Number;
 use bg_processes::{
@@ -23,6 +24,7 @@ pub fn run<R>(rt: &R, folder: &str, progress: Progress) -> Result<Ending, Ending
 where
     R: Net + Files<File = File> + Clock + Print + Eprint + AllocGlobal,
 {
+    check_folder(rt, folder, " is no folder")?;
     let _lock = lock_of(rt, folder)?;
     let failures = Failures::new();
     let (process, waiting, ticking) = begin(rt, folder, &failures)?;

@@ -3,7 +3,7 @@ ghost use Rattle.std.specs.Prelude.{◌≤◌};
 ghost use Rattle.bg_wire.specs.Entries.Codes.{first_watcher};
 
 use bg_command_parts::{Witness, no_socket, tell_word};
-use bg_console::{Published, Telling, failed, match_of, waited, waiting_for, wrong};
+use bg_console::{Published, Telling, failed, match_of, waited, waiting_for, wrong, wrong_at};
 use bg_options::WatchOptions;
 use bg_processes::{
     Failures, Going, Hearing, MatchFile, PartySocket, Ticking, Waiting, WatcherProcess,
@@ -29,6 +29,7 @@ where
         title,
         numbering,
     } = options;
+    check_outputs(rt, board, transcript, page)?;
     let published = Published::new(board, transcript, page, title, numbering);
     let failures = Failures::new();
     let (process, waiting, ticking) = begin(rt, match_path, &failures)?;
@@ -38,6 +39,27 @@ where
         rt, process, waiting, ticking, witness, published, is_watched,
     )?;
     Ok(Ending::Served)
+}
+
+/// Refuses one file for two of the outputs, where each would replace the other.
+fn check_outputs(
+    rt: &impl Eprint,
+    board: Option<&str>,
+    transcript: Option<&str>,
+    page: Option<&str>,
+) -> Result<(), Ending> {
+    for (one, other) in [(board, transcript), (board, page), (transcript, page)] {
+        if let Some(path) = one {
+            if one == other {
+                return Err(wrong_at(
+                    rt,
+                    path,
+                    " is named for two outputs: each needs a file of its own",
+                ));
+            }
+        }
+    }
+    Ok(())
 }
 
 type Watcher<'a> = WatcherProcess<PartySocket<'a>>;

@@ -113,12 +113,23 @@ where
 
     /// Shows where the match stands as far as the seat knows it.
     fn greet(&mut self) -> io::Result<()> {
+        let rt = self.rt;
+        let claimed = self.claimed();
         if let Some(record) = self.seat.process.held() {
             self.shown = record.len();
-            print_board(self.rt, record)?;
-            prompt(self.rt, self.player, record)?;
+            print_board(rt, record)?;
+            match claimed {
+                Some(number) => tell_claim(rt, number)?,
+                None => prompt(rt, self.player, record)?,
+            }
         }
         Ok(())
+    }
+
+    /// The number of the entry that is chosen and not answered yet.
+    fn claimed(&self) -> Option<Number> {
+        let (number, _) = self.seat.process.open_claim()?;
+        Some(number)
     }
 
     /// Shows the entries that came, the board where they matter to the player, and whether the referee is silent.
@@ -175,6 +186,11 @@ where
         };
         written(rt, told)
     }
+}
+
+/// Says that a choice of before waits for the referee's answer.
+fn tell_claim(rt: &impl Print, number: Number) -> io::Result<()> {
+    println!(rt; "your choice for entry {number} is kept, and waits for the referee")
 }
 
 /// Says whose turn it is, and what may be typed.

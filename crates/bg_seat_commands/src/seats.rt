@@ -46,7 +46,8 @@ impl<'a, R> Seat<'a, R>
 where
     R: Net + Files<File = File> + Clock + Eprint + AllocGlobal,
 {
-    /// The seat that the options name, over a folder of its own; its devices note their failures there. Standard input is waited for too if that is wanted.
+    /// The seat that the options name, over a folder of its own; its devices note their failures there. Standard input
+    /// is waited for too if that is wanted.
     pub(crate) fn open(
         rt: &'a R,
         failures: &'a Failures,

@@ -1,0 +1,181 @@
+//! What the rows of words ask for.
+use bg_board::Player;
+use bg_match::{Rules, Terms};
+use bg_options::{
+    ActOptions, CheckOptions, LoopOptions, NewOptions, Request, ScriptOptions, SeatOptions,
+    ShowOptions, SimOptions, WatchOptions,
+};
+use bg_picture::Numbering;
+
+const X_IN_M: SeatOptions<'static> = SeatOptions {
+    player: Player::X,
+    match_path: "m",
+    folder: "d",
+};
+
+fn is_seat(seat: &SeatOptions<'_>, player: Player) -> bool {
+    seat.player == player && seat.match_path == X_IN_M.match_path && seat.folder == X_IN_M.folder
+}
+
+/// Whether the words of this row ask for what a file's command does with these options.
+pub(crate) fn is_of_files(row: usize, request: &Request<'_, '_>) -> bool {
+    match (row, request) {
+        (0, Request::Judge) | (5, Request::Export) => true,
+        (
+            1,
+            Request::Check(
+                CheckOptions {
+                    files,
+                    list,
+                    is_quiet,
+                },
+            ),
+        ) => { *files == ["a", "-", "b"].as_slice() && list.is_none() && *is_quiet }
+        (
+            2,
+            Request::Check(
+                CheckOptions {
+                    files,
+                    list,
+                    is_quiet,
+                },
+            ),
+        ) => { files.is_empty() && *list == Some("-") && !*is_quiet }
+        (3, Request::Import { rules }) => *rules == Rules::One,
+        (4, Request::Import { rules }) => *rules == Rules::Two,
+        _ => false,
+    }
+}
+
+/// The same of what shows files, or a transcript.
+pub(crate) fn is_shown(row: usize, request: &Request<'_, '_>) -> bool {
+    match (row, request) {
+        (
+            6,
+            Request::Show(
+                ShowOptions {
+                    path0,
+                    path1,
+                    wants_transcript,
+                },
+            ),
+        ) => { *path0 == "a" && path1.is_none() && !*wants_transcript }
+        (
+            7,
+            Request::Show(
+                ShowOptions {
+                    path0,
+                    path1,
+                    wants_transcript,
+                },
+            ),
+        ) => { *path0 == "a" && *path1 == Some("b") && *wants_transcript }
+        (8, Request::Page { title, numbering }) => {
+            *title == "A & B" && *numbering == Numbering::X
+        }
+        (9, Request::Page { title, numbering }) => {
+            *title == "Backgammon match" && *numbering == Numbering::Mover
+        }
+        (10, Request::Picture { numbering }) => *numbering == Numbering::X,
+        _ => false,
+    }
+}
+
+/// The same of matches in one process.
+pub(crate) fn is_in_one_process(row: usize, request: &Request<'_, '_>) -> bool {
+    match (row, request) {
+        (11, Request::Script(ScriptOptions { terms, watchers })) => {
+            *terms
+                == Terms {
+                    length: 99,
+                    rules: Rules::Two,
+                }
+                && *watchers == 253
+        }
+        (
+            12,
+            Request::Sim(
+                SimOptions {
+                    seed,
+                    length,
+                    rules,
+                    watchers,
+                    steps,
+                },
+            ),
+        ) => {
+            (*seed, *length, *rules) == (u64::MAX, 3, Rules::One) && (*watchers, *steps) == (2, 9)
+        }
+        (
+            13,
+            Request::Loop(
+                LoopOptions {
+                    seed,
+                    length,
+                    rules,
+                    rounds,
+                    folder,
+                },
+            ),
+        ) => {
+            (*seed, *length, *rules) == (0, 1, Rules::Two) && (*rounds, *folder) == (1_000_000, "d")
+        }
+        _ => false,
+    }
+}
+
+/// The same of matches between processes.
+pub(crate) fn is_between_processes(row: usize, request: &Request<'_, '_>) -> bool {
+    match (row, request) {
+        (
+            14,
+            Request::New(
+                NewOptions {
+                    terms,
+                    port,
+                    folder,
+                },
+            ),
+        ) => {
+            *terms
+                == Terms {
+                    length: 5,
+                    rules: Rules::One,
+                }
+                && (*port, *folder) == (65280, "d")
+        }
+        (15, Request::Referee { folder }) => *folder == "d",
+        (16, Request::Play(seat)) => is_seat(seat, Player::X),
+        (
+            17,
+            Request::Act(
+                ActOptions {
+                    seat,
+                    words,
+                    entry,
+                    seconds,
+                },
+            ),
+        ) => {
+            is_seat(seat, Player::O)
+                && *words == ["move", "8-5"].as_slice()
+                && (*entry, *seconds) == (Some(3), 7)
+        }
+        (18, Request::Auto(seat)) => is_seat(seat, Player::O),
+        (
+            19,
+            Request::Watch(
+                WatchOptions {
+                    match_path,
+                    board,
+                    transcript,
+                    page,
+                    ..
+                },
+            ),
+        ) => {
+            *match_path == "m" && (*board, *transcript, *page) == (Some("b"), Some("t"), Some("p"))
+        }
+        _ => false,
+    }
+}
