@@ -6,10 +6,10 @@ table=()
 output=$(mktemp)
 trap 'rm -f "$output"' EXIT
 
-# processor_seconds (what the children that ended have taken of processors, whole seconds)
+# processor_seconds (what the children of this shell that ended have taken of processors, whole seconds: the 16th and
+# 17th field of its stat, in ticks. The call itself runs in a copy of the shell, whose children `times` would tell of)
 processor_seconds() {
-    times | awk 'NR == 2 { gsub(/s/, ""); for (at = 1; at <= 2; at++) { split($at, part, "m"); sum += 60 * part[1] + part[2] } }
-        END { printf "%d\n", sum }'
+    awk -v ticks="$(getconf CLK_TCK)" '{ sub(/.*\) /, ""); printf "%d\n", ($14 + $15) / ticks }' "/proc/$$/stat"
 }
 
 # row NAME WALL-SECONDS PROCESSOR-SECONDS (a line of the table of minutes)
