@@ -26,8 +26,6 @@ mod rounds;
 mod schedule;
 mod simulating;
 mod simulation;
-#[cfg(test)]
-mod tests;
 mod words;
 
 pub use auto_actions::auto_action;

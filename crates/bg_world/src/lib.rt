@@ -26,8 +26,6 @@ mod events;
 mod fault_words;
 mod nodes;
 mod roles;
-#[cfg(test)]
-mod tests;
 mod texts;
 mod worlds;
 

@@ -1,0 +1,144 @@
+//! Keepers in memory that record what they are asked.
+ghost use Rattle.std.specs.Prelude.{None, length};
+ghost use Rattle.bg_world.specs.Devices.Honesty.{CountsFailed, HasCause};
+ghost use Rattle.bg_world.specs.Protocol.Slots.{empty_slots};
+
+use super::{Call, Recorder};
+use bg_match::Number;
+use bg_streams::History;
+use bg_wire::{Slot, load};
+use bg_world::{DeviceFault, Keeper, count_failed};
+use std::alloc::{AllocError, Global};
+
+/// The number of the save that a text has, that of the entry which it claims, 0 for none, and how many entries it has.
+fn told_by(alloc: Global, bytes: &[u8]) -> Result<(u32, Number, Number), DeviceFault> {
+    let Ok(saved) = load(alloc, bytes) else {
+        return Err(DeviceFault::Failed);
+    };
+    let claimed = match &saved.claim {
+        Some((number, _)) => *number,
+        None => 0,
+    };
+    Ok((saved.save, claimed, saved.log.len()))
+}
+
+/// What was last written to the slots of a party, and how often it was asked.
+#[derive(Drop)]
+struct Written<'a> {
+    recorder: &'a Recorder,
+    party: u8,
+    writes: u32,
+    reads: u32,
+    zero: Vec<u8>,
+    one: Vec<u8>,
+}
+
+impl<'a> Written<'a> {
+    /// A slot has these bytes.
+    fn keep(&mut self, slot: Slot, bytes: &[u8]) -> Result<(), DeviceFault> {
+        let kept = bytes.to_vec(self.recorder.alloc)?;
+        match slot {
+            Slot::Zero => self.zero = kept,
+            Slot::One => self.one = kept,
+        }
+        Ok(())
+    }
+
+    fn put(&mut self, slot: Slot, bytes: &[u8]) -> Result<(), DeviceFault> {
+        let (save, claimed, held) = told_by(self.recorder.alloc, bytes)?;
+        self.writes = self.writes.saturating_add(1);
+        match self.recorder.tear(self.party, self.writes) {
+            None => {
+                self.recorder
+                    .record(Call::Write(self.party, slot, save, claimed, held))?;
+                self.keep(slot, bytes)
+            }
+            Some(tear) => {
+                self.recorder
+                    .record(Call::FailedWrite(self.party, slot, save, claimed, held))?;
+                if let Some(cut) = tear.cut {
+                    self.keep(slot, &bytes[..(cut as usize).min(bytes.len())])?;
+                }
+                Err(DeviceFault::Failed)
+            }
+        }
+    }
+
+    fn get(&mut self, slot: Slot) -> Result<Vec<u8>, DeviceFault> {
+        self.recorder.record(Call::Read(self.party, slot))?;
+        self.reads = self.reads.saturating_add(1);
+        if self.recorder.fails_read(self.party, self.reads) {
+            return Err(DeviceFault::Failed);
+        }
+        let bytes = match slot {
+            Slot::Zero => &self.zero,
+            Slot::One => &self.one,
+        };
+        Ok(bytes.to_vec(self.recorder.alloc)?)
+    }
+}
+
+/// The keeper of a party, which has what was last written to its slots.
+#[derive(Drop)]
+pub(crate) struct OwnKeeper<'a> {
+    slots: Written<'a>,
+    writes: History,
+    reads: History,
+    faults: History,
+    written: Result<(), DeviceFault>,
+}
+
+impl<'a> OwnKeeper<'a> {
+    /// The keeper of a party whose slots have these bytes.
+    pub(crate) fn over(
+        recorder: &'a Recorder,
+        party: u8,
+        zero: &[u8],
+        one: &[u8],
+    ) -> Result<OwnKeeper<'a>, AllocError> {
+        Ok(OwnKeeper {
+            slots: Written {
+                recorder,
+                party,
+                writes: 0,
+                reads: 0,
+                zero: zero.to_vec(recorder.alloc)?,
+                one: one.to_vec(recorder.alloc)?,
+            },
+            writes: History::new(),
+            reads: History::new(),
+            faults: History::new(),
+            written: Ok(()),
+        })
+    }
+}
+
+impl<'a> Keeper for OwnKeeper<'a> {
+    ghost is_honest = { ⊥ };
+
+    ghost plan = { λ _. None };
+
+    ghost slots = { λ _. empty_slots };
+
+    ghost faults = { λ keeper. length keeper.faults.bytes };
+
+    ghost writes = { λ keeper. length keeper.writes.bytes };
+
+    ghost reads = { λ keeper. length keeper.reads.bytes };
+
+    ghost written = { λ keeper. keeper.written };
+
+    fn write(&mut self, slot: Slot, bytes: &[u8]) -> Result<(), DeviceFault> {
+        self.writes = self.writes.marked();
+        self.written = self.slots.put(slot, bytes);
+        self.faults = count_failed(&self.faults, &self.written);
+        self.written
+    }
+
+    fn read(&mut self, slot: Slot) -> Result<Vec<u8>, DeviceFault> {
+        self.reads = self.reads.marked();
+        let result = self.slots.get(slot);
+        self.faults = count_failed(&self.faults, &result);
+        result
+    }
+}

@@ -1,0 +1,12 @@
+//! Tests of worlds, of their parties by themselves, and of automatic players and their matches, by what is public of
+//! bg_world and bg_auto.
+#![tactic(auto)]
+
+#[cfg(test)]
+mod checks;
+#[cfg(test)]
+mod devices;
+#[cfg(test)]
+mod players;
+#[cfg(test)]
+mod worlds;

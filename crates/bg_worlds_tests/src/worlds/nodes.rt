@@ -1,0 +1,233 @@
+//! Parties that are nodes of their own: rows of the worked matches, and the same events through a world and through
+//! nodes.
+ghost use Rattle.std.specs.Prelude.{◌≡◌, ◌<◌, ◌≤◌, [], IfSome, Ok, Some};
+ghost use Rattle.bg_world.specs.Devices.Handed.{handed};
+
+use crate::checks::{check_no_growth_is_left, check_outcome, check_party};
+use crate::devices::links::OwnLink;
+use crate::devices::{NO_FAILURE, Recorder};
+use crate::worlds::event_rows::{ComesTo, Happens, Row, TO_THE_CHOICE, TO_THE_CLAIM, event};
+use crate::worlds::growths::is_front;
+use crate::worlds::memory_worlds::{MemoryWorld, record_of, step, world};
+use crate::worlds::parties::{Parties, WATCHERS, failing};
+use crate::worlds::worked_matches::{THE_CLAIM_KEPT, THE_ROLL_LOST, TO_THE_ROLL, WITH_A_WATCHER};
+use arrayvec::ArrayVec;
+use bg_board::Player;
+use bg_match::Action;
+use bg_wire::{Datagram, PacketBytes, REFEREE};
+use bg_world::{DeviceFault, Event, Link, Outcome, Taken, WorldFault};
+use std::alloc::Global;
+use std::process::Abort;
+use std::test::Fail;
+
+/// Five parties, whose events come to what these parts say, one part after the other.
+fn played<'a>(
+    rt: &impl Abort,
+    recorder: &'a Recorder,
+    parts: &[&[Row]],
+) -> Result<Parties<'a>, Fail> {
+    let mut parties = Parties::begin(rt, recorder)?;
+    for rows in parts {
+        parties.check_rows(rt, rows);
+    }
+    Ok(parties)
+}
+
+#[test]
+fn worked_matches_of_nodes(rt: HostRuntime) -> Result<(), Fail> {
+    let recorder = Recorder::new(rt.alloc(), NO_FAILURE);
+    played(&rt, &recorder, &[&WITH_A_WATCHER])?;
+    let parts: [&[Row]; 5] = [
+        &TO_THE_CHOICE,
+        &TO_THE_CLAIM,
+        &TO_THE_ROLL,
+        &THE_ROLL_LOST,
+        &THE_CLAIM_KEPT,
+    ];
+    played(&rt, &recorder, &parts)?;
+    Ok(())
+}
+
+/// The number after this one, in a row of numbers that looks like chance.
+fn next(seed: &mut u32) -> u32 {
+    *seed = seed.wrapping_mul(1_664_525).wrapping_add(1_013_904_223);
+    *seed >> 8
+}
+
+/// One of the first so many numbers.
+fn below(seed: &mut u32, count: u32) -> u32
+    requires { 1 ≤ count }
+    ensures { result < count }
+{
+    next(seed) % count
+}
+
+/// Any event, of six parties of which five exist.
+fn any_event(seed: &mut u32) -> Event {
+    let party = below(seed, 6) as u8;
+    match below(seed, 16) {
+        0 => Event::Due { word: next(seed) },
+        1 => Event::Choose {
+            seat: Player::X,
+            action: Action::Double,
+        },
+        2 => Event::Choose {
+            seat: Player::O,
+            action: Action::Roll,
+        },
+        3 => event(Happens::Move((8, 5), (6, 5))),
+        4 => Event::Restart { party },
+        5 | 6 => Event::Save { party },
+        7..=10 => Event::Tick { party },
+        _ => Event::Take {
+            party,
+            pick: below(seed, 40),
+            word: next(seed),
+        },
+    }
+}
+
+/// Every party holds as many entries here as there, and the same ones.
+fn check_same(rt: &impl Abort, parties: &Parties<'_>, world: &MemoryWorld) {
+    for party in 0..6 {
+        let same = match (parties.held(party), record_of(world, party)) {
+            (None, None) => true,
+            (Some(here), Some(there)) => here.len() == there.len() && is_front(here, there),
+            _ => false,
+        };
+        check_party(rt, party, same);
+    }
+}
+
+/// The same events through a world and through nodes come to the same, over devices that fail alike. A process that
+/// begins reads both slots, which a new world does not.
+fn check_events(rt: &impl Abort, alloc: Global, seed: u32, fails: bool) -> Result<(), Fail> {
+    let mut seed = seed;
+    let (with_nodes, with_world) = match fails {
+        false => (NO_FAILURE, NO_FAILURE),
+        true => (failing(5), failing(3)),
+    };
+    let recorder = Recorder::new(alloc, with_nodes);
+    let mut parties = Parties::begin(rt, &recorder)?;
+    let mut world = world(alloc, 1, WATCHERS, with_world)?;
+    for i in 0..400 {
+        let event = any_event(&mut seed);
+        let here = parties.step(rt, event.copy());
+        let there = step(&mut world, event);
+        check_outcome(rt, i, &here, here == there);
+        check_same(rt, &parties, &world);
+    }
+    Ok(())
+}
+
+#[test]
+fn nodes_and_a_world(rt: HostRuntime) -> Result<(), Fail> {
+    for seed in 0..12 {
+        check_events(&rt, rt.alloc(), seed, seed % 2 == 1)?;
+    }
+    Ok(())
+}
+
+/// Whether the last claim of X is a move as entry 2.
+fn claims_a_move(parties: &Parties<'_>) -> bool {
+    matches!(parties.claim(Player::X), Some((2, Action::Move(_))))
+}
+
+/// The claim of the move in match 1.
+const CLAIM: [u8; 24] = [
+    0x42, 0x47, 0x02, 0x02, 0x00, 0x00, 0x00, 0x00, 0x00, 0x00, 0x00, 0x01, 0x01, 0x01, 0x00, 0x00,
+    0x00, 0x02, 0x06, 0x02, 0x08, 0x05, 0x06, 0x05,
+];
+
+/// Who knows nothing of a link but what every link promises is handed what the pick names, where there is a plan.
+fn take_over<L: Link>(link: &mut L, party: u8, pick: u32) -> Taken
+    ensures { IfSome (L.plan link.old) (λ _. result ≡ Ok (handed (L.sent link.old) party pick)) }
+{
+    link.take(party, pick)
+}
+
+/// Whether the third datagram to the referee has these bytes.
+fn is_third(link: &mut OwnLink<'_>, bytes: &[u8]) -> bool {
+    match take_over(link, REFEREE, 2) {
+        Ok(Some(taken)) => taken.as_slice() == bytes,
+        Ok(None) | Err(_) => false,
+    }
+}
+
+/// Who knows nothing of a link but what every link promises knows that it does not fail by itself where its plan is
+/// empty.
+fn send_over<L: Link>(link: &mut L, datagram: &Datagram) -> Result<(), DeviceFault>
+    ensures { L.plan link.old ≡ Some [] → L.faults link.new ≡ L.faults link.old }
+{
+    link.send(datagram)
+}
+
+/// Whether a stranger can send these bytes to the referee.
+fn sends(link: &mut OwnLink<'_>, bytes: &[u8]) -> bool {
+    let mut sent = ArrayVec::new();
+    if sent.try_extend_from_slice(bytes).is_err() {
+        return false;
+    }
+    let datagram = Datagram {
+        to: REFEREE,
+        bytes: PacketBytes { bytes: sent },
+    };
+    send_over(link, &datagram).is_ok()
+}
+
+/// The claim counts once, also where somebody else repeats it.
+const THE_CLAIM_REPEATED: [Row; 2] = [
+    (Happens::Take(0, 3, 0), ComesTo::Accepted(2)),
+    (Happens::Take(0, 2, 0), ComesTo::Nothing),
+];
+
+/// A seat's claim is kept over the end of its process, and told by the next one, byte for byte.
+#[test]
+fn a_claim_over_two_processes(rt: HostRuntime) -> Result<(), Fail> {
+    let recorder = Recorder::new(rt.alloc(), NO_FAILURE);
+    let mut parties = played(&rt, &recorder, &[&TO_THE_CHOICE])?;
+    assert!(rt; claims_a_move(&parties));
+    assert!(rt; parties.claim(Player::O).is_none());
+    parties.check_rows(&rt, &TO_THE_CLAIM);
+    parties.check_rows(&rt, &THE_CLAIM_KEPT);
+    assert!(rt; claims_a_move(&parties));
+    assert!(rt; is_third(&mut parties.link, &CLAIM));
+    assert!(rt; sends(&mut parties.link, &CLAIM));
+    parties.check_rows(&rt, &THE_CLAIM_REPEATED);
+    Ok(())
+}
+
+/// Five parties, whose first try may lack memory.
+fn begin_at_last<'a>(rt: &impl Abort, recorder: &'a Recorder) -> Result<Parties<'a>, WorldFault> {
+    match Parties::begin(rt, recorder) {
+        Ok(parties) => Ok(parties),
+        Err(_) => Parties::begin(rt, recorder),
+    }
+}
+
+/// What each party holds that is up is a front of what the referee does. One that could not save, or come back, is
+/// down.
+fn check_fronts(rt: &impl Abort, parties: &Parties<'_>) {
+    let Some(whole) = parties.held(0) else {
+        return;
+    };
+    for party in 1..4 {
+        if let Some(record) = parties.held(party) {
+            check_party(rt, party, is_front(record, whole));
+        }
+    }
+}
+
+/// No run of the tests refuses any growth, but `tools/checks/refuse_growths` refuses each in turn: then what a party
+/// holds is still a front of what the referee does.
+#[test]
+fn refused_growths_of_nodes(rt: HostRuntime) -> Result<(), Fail> {
+    let recorder = Recorder::new(rt.alloc(), NO_FAILURE);
+    let mut parties = begin_at_last(&rt, &recorder)?;
+    for row in &WITH_A_WATCHER {
+        let outcome = parties.step(&rt, event(row.0));
+        assert!(rt; !matches!(outcome, Outcome::NoSuchParty));
+        check_fronts(&rt, &parties);
+    }
+    check_no_growth_is_left(rt.alloc())
+}
