@@ -15,15 +15,19 @@ const TURNS: [[(u8, u8); 2]; 8] = [
     [(13, 8), (13, 9)],
 ];
 
-fn turn_of(steps: &[(u8, u8)]) -> Turn {
-    let mut turn = Turn::new();
-    for &(from, to) in steps {
-        if let Some(step) = Step::new(from, to) {
-            if turn.steps().len() < 4 {
-                turn.push(step);
-            }
+/// Adds a step, where the turn has room for it.
+fn push_step(turn: &mut Turn, (from, to): (u8, u8)) {
+    if let Some(step) = Step::new(from, to) {
+        if turn.steps().len() < 4 {
+            turn.push(step);
         }
     }
+}
+
+fn turn_of([first, second]: [(u8, u8); 2]) -> Turn {
+    let mut turn = Turn::new();
+    push_step(&mut turn, first);
+    push_step(&mut turn, second);
     turn
 }
 
@@ -37,7 +41,7 @@ fn any_action(word: u32) -> Action {
         4 => Action::Resign(Level::Backgammon),
         5 => Action::Accept,
         6 => Action::Reject,
-        _ => Action::Move(turn_of(&TURNS[(word / 8 % 8) as usize])),
+        _ => Action::Move(turn_of(TURNS[(word / 8 % 8) as usize])),
     }
 }
 
@@ -50,7 +54,7 @@ pub(crate) fn action_of(phase: Phase, word: u32) -> Action {
         (Phase::Doubled(_), 1) => Action::Drop,
         (Phase::Doubled(_), _) => Action::Take,
         (Phase::ToMove(..), 1) => Action::Resign(Level::Normal),
-        (Phase::ToMove(..), _) => Action::Move(turn_of(&TURNS[(word / 4 % 8) as usize])),
+        (Phase::ToMove(..), _) => Action::Move(turn_of(TURNS[(word / 4 % 8) as usize])),
         (Phase::Resigned(..), 1) => Action::Accept,
         (Phase::Resigned(..), _) => Action::Reject,
         (Phase::Opening | Phase::Over(_), _) => any_action(word / 4),

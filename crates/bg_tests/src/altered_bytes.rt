@@ -1,7 +1,7 @@
 //! Packets and saved texts in which each byte was changed to every other value, given to the calls that take bytes.
 ghost use Rattle.bg_wire.specs.Saved.SavedText.{IsSavable, parts_of};
 
-use crate::fronts::is_front;
+use crate::fronts::{is_front, push};
 use bg_board::Player;
 use bg_match::{Record, Rules};
 use bg_party::{Seat, Watcher};
@@ -50,7 +50,7 @@ const SEAT_SAVE_OF_OLD: [u8; 32] = [
 fn check_legal(rt: &impl Abort, alloc: Global, record: &Record) -> Result<(), Fail> {
     let mut again = Record::new(alloc, record.id(), record.length(), record.rules())?;
     for number in 1..=record.len() {
-        again.push(record.entry(number).expect(rt, "an entry").copy())?;
+        push(&mut again, record.entry(number).expect(rt, "an entry"))?;
     }
     Ok(())
 }

@@ -2,9 +2,9 @@
 ghost use Rattle.std.specs.Prelude.{IfSome};
 ghost use Rattle.bg_wire.specs.Packets.PacketText.{IsPacket};
 
-use crate::own_devices::{BeginFault, world_over};
-use crate::referee_host::{HostFault, RefereeHost};
 use bg_board::Player;
+use bg_examples::own_devices::{BeginFault, world_over};
+use bg_examples::referee_host::{HostFault, RefereeHost};
 use bg_match::{Action, Actor, Level, Rules};
 use bg_party::{Learned, Seat};
 use bg_wire::{Packet, RestoreRefusal, decode, encode};
@@ -107,6 +107,18 @@ fn hosts_answer(rt: HostRuntime) -> Result<(), Fail> {
     Ok(())
 }
 
+/// Whether the seat may claim this action now, and then does.
+fn chooses(seat: &mut Seat, action: Action) -> bool {
+    seat.choose(action).is_ok()
+}
+
+/// The seat's claim counts as saved.
+fn save(seat: &mut Seat) -> Result<(), Fail> {
+    let (_slot, save, _text) = seat.to_save()?;
+    seat.mark_saved(save);
+    Ok(())
+}
+
 /// One round of a seat: it sends what its core gives, the host has a turn, the core takes what came, and the player
 /// gives the match up as soon as he may, or accepts that the other one does.
 fn play(
@@ -121,9 +133,8 @@ fn play(
     if let Some(packet) = received(socket) {
         seat.take(&packet);
     }
-    if seat.choose(Action::Accept).is_ok() || seat.choose(Action::Resign(Level::Normal)).is_ok() {
-        let (_slot, save, _text) = seat.to_save()?;
-        seat.mark_saved(save);
+    if chooses(seat, Action::Accept) || chooses(seat, Action::Resign(Level::Normal)) {
+        save(seat)?;
     }
     Ok(())
 }

@@ -1,5 +1,5 @@
-//! Tests that cross crates: whole worlds under random events and failing devices, bytes that nobody sent, and the uses
-//! that the documents show.
+//! Tests that cross crates: whole worlds under random events and failing devices, bytes that nobody sent, and the hosts
+//! and devices that the documents show.
 #![tactic(auto)]
 
 #[cfg(test)]
@@ -15,14 +15,6 @@ mod lone;
 #[cfg(test)]
 mod match_files;
 #[cfg(test)]
-mod own_devices;
-#[cfg(test)]
-mod post_link;
-#[cfg(test)]
 mod random_runs;
-#[cfg(test)]
-mod referee_host;
-#[cfg(test)]
-mod slot_files;
 #[cfg(test)]
 mod uses;

@@ -1,6 +1,4 @@
-//! A core alone, beside what the protocol says of it.
+//! Cores alone, beside what the protocol says of them.
 
-pub(crate) mod followers;
-pub(crate) mod referee;
 pub(crate) mod table;
 pub(crate) mod tests;

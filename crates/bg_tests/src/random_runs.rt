@@ -1,6 +1,6 @@
 //! Worlds under random events of all kinds, whose devices fail now and then.
 use crate::actions::action_of;
-use crate::fronts::{MemoryWorld, check_fronts};
+use crate::fronts::{MemoryWorld, check_fronts, push};
 use bg_board::Player;
 use bg_match::{Action, Entry, Number, Phase, Record, Rules, entry_of};
 use bg_party::Learned;
@@ -148,7 +148,7 @@ fn check_record(
         if let Some(seat) = record.by(number) {
             assert!(rt; is_claimed(claims, seat, number, entry), "entry {number}");
         }
-        again.push(entry.copy())?;
+        push(&mut again, entry)?;
     }
     Ok(())
 }

@@ -1,7 +1,7 @@
 //! A match between parties that run each in a process of its own: processes end at random, and begin again.
 use crate::fronts::is_front;
-use crate::lone::followers::{LoneSeat, LoneWatcher};
-use crate::lone::referee::LoneReferee;
+use bg_examples::lone::followers::{LoneSeat, LoneWatcher};
+use bg_examples::lone::referee::LoneReferee;
 use bg_auto::auto_action;
 use bg_board::Player;
 use bg_match::{Actor, Number, Record, Rules, Terms};

@@ -55,7 +55,7 @@ impl Mail {
 
 /// The link. What clauses read of it stands beside the mail boxes, so that no call of theirs can change it.
 #[derive(Drop)]
-pub(crate) struct MailLink {
+pub struct MailLink {
     mail: Mail,
     takes: History,
     sends: History,
@@ -64,7 +64,7 @@ pub(crate) struct MailLink {
 }
 
 impl MailLink {
-    pub(crate) fn new(alloc: Global, parties: usize) -> Result<MailLink, AllocError> {
+    pub fn new(alloc: Global, parties: usize) -> Result<MailLink, AllocError> {
         Ok(MailLink {
             mail: Mail::new(alloc, parties)?,
             takes: History::new(),
@@ -108,7 +108,7 @@ impl Link for MailLink {
 
 /// A keeper: the files of a party, and beside them what clauses read.
 #[derive(Drop)]
-pub(crate) struct FileKeeper<'a, R> {
+pub struct FileKeeper<'a, R> {
     files: SlotFiles<'a, R>,
     writes: History,
     reads: History,
@@ -117,7 +117,7 @@ pub(crate) struct FileKeeper<'a, R> {
 }
 
 impl<'a, R: Files<File = File> + AllocGlobal> FileKeeper<'a, R> {
-    pub(crate) fn new(rt: &'a R, folder: &str, party: u8) -> io::Result<FileKeeper<'a, R>> {
+    pub fn new(rt: &'a R, folder: &str, party: u8) -> io::Result<FileKeeper<'a, R>> {
         Ok(FileKeeper {
             files: SlotFiles::open(rt, folder, party)?,
             writes: History::new(),
@@ -168,7 +168,7 @@ impl<'a, R: Files<File = File> + AllocGlobal> Keeper for FileKeeper<'a, R> {
 
 /// Why there is no world over a folder.
 #[derive(Debug, Drop, Error)]
-pub(crate) enum BeginFault {
+pub enum BeginFault {
     #[error(transparent)]
     World(#[from] WorldFault),
     #[error(transparent)]
@@ -179,7 +179,7 @@ pub(crate) enum BeginFault {
 
 /// A world over the files of a folder. Those that save begin again from their files: so a later process goes on with
 /// the match, and the first one begins it.
-pub(crate) fn world_over<'a, R: Files<File = File> + AllocGlobal>(
+pub fn world_over<'a, R: Files<File = File> + AllocGlobal>(
     rt: &'a R,
     folder: &str,
     setup: Setup,
@@ -193,9 +193,9 @@ pub(crate) fn world_over<'a, R: Files<File = File> + AllocGlobal>(
     let link = MailLink::new(rt.alloc(), parties).map_err(WorldFault::from)?;
     let mut world = World::new(rt.alloc(), setup, link, keepers)?;
     for party in [REFEREE, SEAT_OF_X, SEAT_OF_O] {
-        let outcome = world.step(Event::Restart { party });
-        if outcome != Outcome::Restarted {
-            return Err(BeginFault::Restart(party, outcome));
+        match world.step(Event::Restart { party }) {
+            Outcome::Restarted => {}
+            outcome => return Err(BeginFault::Restart(party, outcome)),
         }
     }
     Ok(world)

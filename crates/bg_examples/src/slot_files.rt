@@ -1,5 +1,6 @@
 //! Two files that keep the saved texts of a party.
 use bg_wire::Slot;
+use std::alloc::{AllocError, Global};
 use std::fs::File;
 use std::io::{ErrorKind, Write};
 use std::rt::Files;
@@ -7,7 +8,7 @@ use std::{fs, io};
 
 /// The two files of a party in a folder, and a third by whose lock no other process writes to them.
 #[derive(Drop)]
-pub(crate) struct SlotFiles<'a, R> {
+pub struct SlotFiles<'a, R> {
     rt: &'a R,
     folder: String,
     zero: String,
@@ -15,17 +16,22 @@ pub(crate) struct SlotFiles<'a, R> {
     _lock: File,
 }
 
+/// The name of a file of the party in the folder.
+fn name_of(alloc: Global, folder: &str, party: u8, ending: &str) -> Result<String, AllocError> {
+    format!(in alloc; "{folder}/party-{party}.{ending}")
+}
+
 impl<'a, R: Files<File = File> + AllocGlobal> SlotFiles<'a, R> {
     /// The files `party-P.0` and `party-P.1` of the folder. An error where another process has them.
-    pub(crate) fn open(rt: &'a R, folder: &str, party: u8) -> io::Result<SlotFiles<'a, R>> {
+    pub fn open(rt: &'a R, folder: &str, party: u8) -> io::Result<SlotFiles<'a, R>> {
         let alloc = rt.alloc();
-        let lock = File::create(rt, &format!(in alloc; "{folder}/party-{party}.lock")?)?;
+        let lock = File::create(rt, &name_of(alloc, folder, party, "lock")?)?;
         lock.try_lock()?;
         Ok(SlotFiles {
             rt,
             folder: format!(in alloc; "{folder}")?,
-            zero: format!(in alloc; "{folder}/party-{party}.0")?,
-            one: format!(in alloc; "{folder}/party-{party}.1")?,
+            zero: name_of(alloc, folder, party, "0")?,
+            one: name_of(alloc, folder, party, "1")?,
             _lock: lock,
         })
     }
@@ -38,7 +44,7 @@ impl<'a, R: Files<File = File> + AllocGlobal> SlotFiles<'a, R> {
     }
 
     /// What the slot has: nothing where its file is missing.
-    pub(crate) fn read(&self, slot: Slot) -> io::Result<Vec<u8>> {
+    pub fn read(&self, slot: Slot) -> io::Result<Vec<u8>> {
         match fs::read(self.rt, self.path(slot)) {
             Err(error) if error.kind() == ErrorKind::NotFound => Ok(Vec::new(self.rt.alloc())),
             result => result,
@@ -46,7 +52,7 @@ impl<'a, R: Files<File = File> + AllocGlobal> SlotFiles<'a, R> {
     }
 
     /// Puts a text in the place of what the slot has, through to the disk.
-    pub(crate) fn write(&self, slot: Slot, text: &[u8]) -> io::Result<()> {
+    pub fn write(&self, slot: Slot, text: &[u8]) -> io::Result<()> {
         let mut file = File::create(self.rt, self.path(slot))?;
         file.write_all(text)?;
         file.sync_all()?;

@@ -13,7 +13,7 @@ use std::mem;
 
 /// An inbox of bytes and an outbox of datagrams, and beside them what clauses read.
 #[derive(Drop)]
-pub(crate) struct PostLink {
+pub struct PostLink {
     alloc: Global,
     inbox: VecDeque<ArrayVec<u8, 256>>,
     outbox: VecDeque<Datagram>,
@@ -24,7 +24,7 @@ pub(crate) struct PostLink {
 }
 
 impl PostLink {
-    pub(crate) fn new(alloc: Global) -> PostLink {
+    pub fn new(alloc: Global) -> PostLink {
         PostLink {
             alloc,
             inbox: VecDeque::new(alloc),
@@ -38,7 +38,7 @@ impl PostLink {
 
     /// Lays the bytes of a datagram that has come into the inbox. What is longer than any packet is lost, and so is
     /// what there is no memory for.
-    pub(crate) fn receive(&mut self, bytes: &[u8]) {
+    pub fn receive(&mut self, bytes: &[u8]) {
         let mut datagram = ArrayVec::new();
         if datagram.try_extend_from_slice(bytes).is_ok() {
             let _ = self.inbox.push_back(datagram);
@@ -46,12 +46,12 @@ impl PostLink {
     }
 
     /// How many datagrams wait in the inbox.
-    pub(crate) fn waiting(&self) -> usize {
+    pub fn waiting(&self) -> usize {
         self.inbox.len()
     }
 
     /// Empties the outbox: what is to be sent, the oldest first.
-    pub(crate) fn outgoing(&mut self) -> VecDeque<Datagram> {
+    pub fn outgoing(&mut self) -> VecDeque<Datagram> {
         mem::replace(&mut self.outbox, VecDeque::new(self.alloc))
     }
 }

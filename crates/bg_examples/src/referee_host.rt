@@ -16,7 +16,7 @@ use thiserror::Error;
 
 /// Why a host ends. The next one over the same folder goes on from what was saved.
 #[derive(Debug, Drop, Error)]
-pub(crate) enum HostFault {
+pub enum HostFault {
     #[error(transparent)]
     System(#[from] io::Error),
     #[error("the files can't be restored: {0}")]
@@ -31,7 +31,7 @@ pub(crate) enum HostFault {
 
 /// A referee, its files, its socket, and where each party was heard from last.
 #[derive(Drop)]
-pub(crate) struct RefereeHost<'a, R> {
+pub struct RefereeHost<'a, R> {
     rt: &'a R,
     files: SlotFiles<'a, R>,
     socket: UdpSocket,
@@ -57,7 +57,7 @@ fn restored<R: Files<File = File> + AllocGlobal>(
 
 impl<'a, R: Net + Files<File = File> + RandomSource + AllocGlobal> RefereeHost<'a, R> {
     /// Goes on with the match that the folder has, or begins it, at a port of 127.0.0.1 (0: one that is free).
-    pub(crate) fn open(
+    pub fn open(
         rt: &'a R,
         folder: &str,
         port: u16,
@@ -80,12 +80,12 @@ impl<'a, R: Net + Files<File = File> + RandomSource + AllocGlobal> RefereeHost<'
     }
 
     /// Where the parties reach it.
-    pub(crate) fn address(&self) -> io::Result<SocketAddr> {
+    pub fn address(&self) -> io::Result<SocketAddr> {
         self.socket.local_addr()
     }
 
     /// Serves the match for so many turns, or until something fails.
-    pub(crate) fn serve(mut self, turns: u64) -> Result<(), HostFault> {
+    pub fn serve(mut self, turns: u64) -> Result<(), HostFault> {
         for _ in 0..turns {
             self.turn()?;
         }
@@ -94,7 +94,7 @@ impl<'a, R: Net + Files<File = File> + RandomSource + AllocGlobal> RefereeHost<'
 
     /// Answers a datagram, opens a game or passes a turn where that is due, saves what is new, and pushes what is
     /// saved. After an error the host is dropped: what its files then have is what holds.
-    pub(crate) fn turn(&mut self) -> Result<(), HostFault> {
+    pub fn turn(&mut self) -> Result<(), HostFault> {
         let mut buffer = [0; 256];
         match self.socket.recv_from(&mut buffer) {
             Ok((count, from)) => self.hear(&buffer[..count], from)?,

@@ -15,16 +15,16 @@ use std::rt::Files;
 
 /// The seat of a player, alone in its process.
 #[derive(Drop)]
-pub(crate) struct LoneSeat<'a, R> {
+pub struct LoneSeat<'a, R> {
     node: SeatNode<FileKeeper<'a, R>>,
-    pub(crate) link: PostLink,
+    pub link: PostLink,
     /// Whether it has a claim that is not saved yet.
     unsaved: bool,
 }
 
 impl<'a, R: Files<File = File> + AllocGlobal> LoneSeat<'a, R> {
     /// Goes on with the match that the folder has, or begins it.
-    pub(crate) fn begin(
+    pub fn begin(
         rt: &'a R,
         folder: &str,
         player: Player,
@@ -42,12 +42,12 @@ impl<'a, R: Files<File = File> + AllocGlobal> LoneSeat<'a, R> {
     }
 
     /// Its record.
-    pub(crate) fn held(&self) -> Option<&Record> {
+    pub fn held(&self) -> Option<&Record> {
         self.node.held()
     }
 
     /// Claims what its player chooses, and says what that came to. The next turn saves the claim and sends it.
-    pub(crate) fn choose(&mut self, action: Action) -> Outcome {
+    pub fn choose(&mut self, action: Action) -> Outcome {
         let outcome = self.node.choose(action);
         if matches!(outcome, Outcome::Chose(Ok(_))) {
             self.unsaved = true;
@@ -56,7 +56,7 @@ impl<'a, R: Files<File = File> + AllocGlobal> LoneSeat<'a, R> {
     }
 
     /// Takes what has come, saves a new claim, and sends the claim, or asks for what it lacks.
-    pub(crate) fn turn(&mut self) -> Result<(), ProcessFault> {
+    pub fn turn(&mut self) -> Result<(), ProcessFault> {
         for _ in 0..self.link.waiting() {
             self.node.take(&mut self.link, 0);
         }
@@ -83,14 +83,14 @@ impl<'a, R: Files<File = File> + AllocGlobal> LoneSeat<'a, R> {
 
 /// One who watches a match, alone in a process. It saves nothing.
 #[derive(Drop)]
-pub(crate) struct LoneWatcher {
+pub struct LoneWatcher {
     node: WatcherNode,
-    pub(crate) link: PostLink,
+    pub link: PostLink,
 }
 
 impl LoneWatcher {
     /// A watcher who holds no entry. `party` is its number, from 3.
-    pub(crate) fn begin(
+    pub fn begin(
         alloc: Global,
         party: u8,
         id: u64,
@@ -105,12 +105,12 @@ impl LoneWatcher {
     }
 
     /// Its record.
-    pub(crate) fn held(&self) -> &Record {
+    pub fn held(&self) -> &Record {
         self.node.held()
     }
 
     /// Takes what has come, and asks for what it lacks.
-    pub(crate) fn turn(&mut self) {
+    pub fn turn(&mut self) {
         for _ in 0..self.link.waiting() {
             self.node.take(&mut self.link, 0);
         }

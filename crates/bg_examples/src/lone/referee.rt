@@ -13,11 +13,11 @@ use std::rt::Files;
 use thiserror::Error;
 
 /// So many parties can be sent to: the referee, two seats, and all who may watch.
-pub(crate) const MOST_PARTIES: usize = 256;
+pub const MOST_PARTIES: usize = 256;
 
 /// Why a process ends. The next one over the same files goes on from what was saved.
 #[derive(Debug, Drop, Error)]
-pub(crate) enum ProcessFault {
+pub enum ProcessFault {
     #[error(transparent)]
     System(#[from] io::Error),
     #[error(transparent)]
@@ -27,7 +27,7 @@ pub(crate) enum ProcessFault {
 }
 
 /// A party goes on where its restart came to this.
-pub(crate) fn check_restart(outcome: Outcome) -> Result<(), ProcessFault> {
+pub fn check_restart(outcome: Outcome) -> Result<(), ProcessFault> {
     match outcome {
         Outcome::Restarted => Ok(()),
         _ => Err(ProcessFault::Stopped(outcome)),
@@ -36,9 +36,9 @@ pub(crate) fn check_restart(outcome: Outcome) -> Result<(), ProcessFault> {
 
 /// The referee of a match, alone in its process.
 #[derive(Drop)]
-pub(crate) struct LoneReferee<'a, R> {
+pub struct LoneReferee<'a, R> {
     node: RefereeNode<FileKeeper<'a, R>>,
-    pub(crate) link: PostLink,
+    pub link: PostLink,
     words: ChaCha20Rng,
     /// How many entries its last save has.
     saved: Number,
@@ -47,7 +47,7 @@ pub(crate) struct LoneReferee<'a, R> {
 impl<'a, R: Files<File = File> + AllocGlobal> LoneReferee<'a, R> {
     /// Goes on with the match that the folder has, or begins it. The dice come from these random words: each process
     /// needs others, as no word may be handed in twice.
-    pub(crate) fn begin(
+    pub fn begin(
         rt: &'a R,
         folder: &str,
         id: u64,
@@ -68,7 +68,7 @@ impl<'a, R: Files<File = File> + AllocGlobal> LoneReferee<'a, R> {
     }
 
     /// Its record.
-    pub(crate) fn held(&self) -> Option<&Record> {
+    pub fn held(&self) -> Option<&Record> {
         self.node.held()
     }
 
@@ -81,7 +81,7 @@ impl<'a, R: Files<File = File> + AllocGlobal> LoneReferee<'a, R> {
 
     /// Takes what has come and answers it, opens a game or passes a turn where that is due, saves what is new, and
     /// tells it.
-    pub(crate) fn turn(&mut self) -> Result<(), ProcessFault> {
+    pub fn turn(&mut self) -> Result<(), ProcessFault> {
         for _ in 0..self.link.waiting() {
             let word = self.words.next_word();
             self.node.take(&mut self.link, MOST_PARTIES, 0, word);
