@@ -6,7 +6,7 @@ mod saved_matches;
 use crate::helpers::failing_devices::{Calls, Failing};
 use bg_auto::{NoOnlooker, auto_action};
 use bg_board::Player;
-use bg_match::{Number, Rules, Terms};
+use bg_match::{Action, Number, Rules, Terms};
 use bg_processes::{
     Failures, FileKeeper, Going, PartySocket, RefereeProcess, SeatProcess, WatcherProcess,
 };
@@ -29,6 +29,10 @@ type Socket<'a> = Failing<'a, PartySocket<'a>>;
 
 type Files<'a> = Failing<'a, FileKeeper<'a, HostRuntime>>;
 
+type Referee<'a> = RefereeProcess<Socket<'a>, Files<'a>>;
+
+type Seat<'a> = SeatProcess<Socket<'a>, Files<'a>>;
+
 /// A match between processes: those that run.
 #[derive(Drop)]
 pub(crate) struct Table<'a> {
@@ -37,24 +41,54 @@ pub(crate) struct Table<'a> {
     port: u16,
     folder: &'a str,
     terms: Terms,
-    referee: Option<RefereeProcess<Socket<'a>, Files<'a>>>,
-    x: Option<SeatProcess<Socket<'a>, Files<'a>>>,
-    o: Option<SeatProcess<Socket<'a>, Files<'a>>>,
+    referee: Option<Referee<'a>>,
+    x: Option<Seat<'a>>,
+    o: Option<Seat<'a>>,
     watcher: Option<WatcherProcess<Socket<'a>>>,
+}
+
+/// Whether the port of a party is free.
+fn is_free(rt: &HostRuntime, port: u16, party: u8) -> bool {
+    let failures = Failures::new();
+    PartySocket::bind(rt, port, party, &failures).is_ok()
+}
+
+/// Whether those of five parties are free.
+fn are_free(rt: &HostRuntime, port: u16) -> bool {
+    for party in 0..5 {
+        if !is_free(rt, port, party) {
+            return false;
+        }
+    }
+    true
 }
 
 /// A port such that those of five parties are free.
 fn free_port(rt: &HostRuntime) -> u16 {
-    let failures = Failures::new();
     let mut port = 20_000 + (std::process::id(rt.process()) % 500) as u16 * 20;
     for _ in 0..500 {
-        let free = (0..5).all(|party| PartySocket::bind(rt, port, party, &failures).is_ok());
-        if free {
+        if are_free(rt, port) {
             return port;
         }
         port = if port < 60_000 { port + 10 } else { 20_000 };
     }
     port
+}
+
+/// What the automatic player of a seat does now, if it is his turn.
+fn action_of(rt: &HostRuntime, process: &Seat<'_>, player: Player) -> Option<Action> {
+    if !process.acts() {
+        return None;
+    }
+    auto_action(rt.alloc(), process.held()?, player).ok()?
+}
+
+/// The automatic player of a seat claims what he does. Whether the process goes on.
+fn plays(rt: &HostRuntime, process: &mut Seat<'_>, player: Player) -> bool {
+    match action_of(rt, process, player) {
+        Some(action) => process.choose(action, &mut NoOnlooker).is_ok(),
+        None => true,
+    }
 }
 
 impl<'a> Table<'a> {
@@ -88,23 +122,26 @@ impl<'a> Table<'a> {
         Ok(Failing::new(keeper, self.calls))
     }
 
+    /// The referee's process, begun, unless it can't begin now.
+    fn begun_referee(&self) -> Result<Option<Referee<'a>>, Fail> {
+        let (Ok(socket), Ok(keeper)) = (self.socket(REFEREE), self.keeper(REFEREE)) else {
+            return Ok(None);
+        };
+        let alloc = self.rt.alloc();
+        let (process, outcome) = RefereeProcess::begin(
+            alloc, ID, self.terms, KEY, socket, keeper,
+        )?;
+        Ok(if outcome == Outcome::Restarted { Some(process) } else { None })
+    }
+
     /// A round of the referee, which begins first where it does not run.
     fn referee_round(&mut self) -> Result<Going, Fail> {
-        let mut process = match self.referee.take() {
-            Some(process) => process,
-            None => {
-                let (Ok(socket), Ok(keeper)) = (self.socket(REFEREE), self.keeper(REFEREE)) else {
-                    return Ok(Going::On);
-                };
-                let alloc = self.rt.alloc();
-                let (process, outcome) = RefereeProcess::begin(
-                    alloc, ID, self.terms, KEY, socket, keeper,
-                )?;
-                if outcome != Outcome::Restarted {
-                    return Ok(Going::On);
-                }
-                process
-            }
+        let running = match self.referee.take() {
+            Some(process) => Some(process),
+            None => self.begun_referee()?,
+        };
+        let Some(mut process) = running else {
+            return Ok(Going::On);
         };
         let Ok(going) = process.round(true, &mut NoOnlooker) else {
             return Ok(Going::On);
@@ -113,40 +150,41 @@ impl<'a> Table<'a> {
         Ok(going)
     }
 
-    /// A round of a seat, which begins first where it does not run, and plays by itself.
-    fn seat_round(&mut self, player: Player) -> Result<Going, Fail> {
+    /// The process of a seat, begun, unless it can't begin now.
+    fn begun_seat(&self, player: Player) -> Result<Option<Seat<'a>>, Fail> {
+        let party = party_of(player);
+        let (Ok(socket), Ok(keeper)) = (self.socket(party), self.keeper(party)) else {
+            return Ok(None);
+        };
+        let alloc = self.rt.alloc();
+        let (process, outcome) = SeatProcess::begin(
+            alloc, player, ID, self.terms, socket, keeper,
+        )?;
+        Ok(if outcome == Outcome::Restarted { Some(process) } else { None })
+    }
+
+    /// The process of a seat, which begins first where it does not run.
+    fn seat(&mut self, player: Player) -> Result<Option<Seat<'a>>, Fail> {
         let running = match player {
             Player::X => self.x.take(),
             Player::O => self.o.take(),
         };
-        let mut process = match running {
-            Some(process) => process,
-            None => {
-                let party = party_of(player);
-                let (Ok(socket), Ok(keeper)) = (self.socket(party), self.keeper(party)) else {
-                    return Ok(Going::On);
-                };
-                let alloc = self.rt.alloc();
-                let (process, outcome) = SeatProcess::begin(
-                    alloc, player, ID, self.terms, socket, keeper,
-                )?;
-                if outcome != Outcome::Restarted {
-                    return Ok(Going::On);
-                }
-                process
-            }
+        match running {
+            Some(process) => Ok(Some(process)),
+            None => self.begun_seat(player),
+        }
+    }
+
+    /// A round of a seat, which plays by itself.
+    fn seat_round(&mut self, player: Player) -> Result<Going, Fail> {
+        let Some(mut process) = self.seat(player)? else {
+            return Ok(Going::On);
         };
         let Ok(going) = process.round(true, &mut NoOnlooker) else {
             return Ok(Going::On);
         };
-        if process.acts() {
-            if let Some(record) = process.held() {
-                if let Ok(Some(action)) = auto_action(self.rt.alloc(), record, player) {
-                    if process.choose(action, &mut NoOnlooker).is_err() {
-                        return Ok(Going::On);
-                    }
-                }
-            }
+        if !plays(self.rt, &mut process, player) {
+            return Ok(Going::On);
         }
         match player {
             Player::X => self.x = Some(process),
