@@ -12,6 +12,7 @@
 //! ```
 #![tactic(auto)]
 
+mod arguments;
 mod commands;
 mod requests;
 mod shared;

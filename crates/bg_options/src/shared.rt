@@ -1,20 +1,15 @@
 //! The options that several commands have, and what they say.
 
+use crate::arguments::{Argument, Kind, Need};
 use bg_board::Player;
 use bg_match::{LONGEST_MATCH, Rules, SHORTEST_MATCH};
 use bg_picture::Numbering;
 use bg_wire::{FIRST_WATCHER, LAST_WATCHER};
-use clap::{Arg, ArgAction, ArgMatches, Command, Error, value_parser};
+use clap::{Arg, ArgMatches};
 use std::alloc::Global;
 
 /// The most watchers that a match has.
 const MOST_WATCHERS: u8 = LAST_WATCHER - FIRST_WATCHER + 1;
-
-/// The names of the players.
-const PLAYERS: [&str; 2] = ["X", "O"];
-
-/// In whose numbers points may be named.
-const NUMBERINGS: [&str; 2] = ["mover", "X"];
 
 /// The title of a page that is given none.
 const USUAL_TITLE: &str = "Backgammon match";
@@ -35,50 +30,6 @@ pub(crate) const THREE_TERMINALS: &str =
 The first two go into one terminal. Anybody who has the match file may watch:
 bg_relay watch --match table/match. Each process may be ended and started again at any moment.";
 
-/// A command with its help, and no arguments yet.
-pub(crate) fn described<'a>(
-    alloc: Global,
-    name: &'a str,
-    about: &'a str,
-    long_about: &'a str,
-) -> Command<'a> {
-    Command::new(alloc, name)
-        .about(about)
-        .long_about(long_about)
-}
-
-/// The command with one argument more. What a call of the library promises grows with each call in one function, and so
-/// does what the check takes; so each argument comes by a call of its own.
-pub(crate) fn with<'a>(command: Command<'a>, argument: Arg<'a>) -> Result<Command<'a>, Error> {
-    Ok(command.arg(argument)?)
-}
-
-/// An option whose value is a text. All others are made of it, and numbers are read as of one type, since the check
-/// takes long for each type and each call of the library that it meets for the first time.
-pub(crate) fn text_option<'a>(
-    alloc: Global,
-    name: &'a str,
-    value_name: &'a str,
-    about: &'a str,
-) -> Arg<'a> {
-    Arg::new(alloc, name)
-        .long(name)
-        .value_name(value_name)
-        .help(about)
-}
-
-/// An option whose value is a number within these limits.
-pub(crate) fn number_option<'a>(
-    alloc: Global,
-    name: &'a str,
-    least: u32,
-    most: u32,
-    about: &'a str,
-) -> Arg<'a> {
-    let limits = i64::from(least)..=i64::from(most);
-    text_option(alloc, name, "N", about).value_parser(value_parser!(u64).range(limits))
-}
-
 /// The number that an option says, if it is there.
 pub(crate) fn number_in(options: &ArgMatches<'_>, name: &str) -> Option<u32> {
     u32::try_from(seed_in(options, name)?).ok()
@@ -87,14 +38,6 @@ pub(crate) fn number_in(options: &ArgMatches<'_>, name: &str) -> Option<u32> {
 /// The same of an option whose number is at most 255.
 pub(crate) fn byte_in(options: &ArgMatches<'_>, name: &str) -> Option<u8> {
     u8::try_from(number_in(options, name)?).ok()
-}
-
-/// An option that has no value.
-pub(crate) fn flag<'a>(alloc: Global, name: &'a str, about: &'a str) -> Arg<'a> {
-    Arg::new(alloc, name)
-        .long(name)
-        .action(ArgAction::SetTrue)
-        .help(about)
 }
 
 pub(crate) fn misplaced_file<'a>(alloc: Global) -> Arg<'a> {
@@ -106,29 +49,31 @@ pub(crate) fn has_misplaced_file(options: &ArgMatches<'_>) -> bool {
     options.contains_id(MISPLACED_FILE)
 }
 
-pub(crate) fn seed_option<'a>(alloc: Global) -> Arg<'a> {
-    let about =
-        "What the random words go by, and the number of the match: 0 to 18446744073709551615";
-    text_option(alloc, "seed", "N", about)
-        .value_parser(value_parser!(u64))
-        .required(true)
-}
+pub(crate) const SEED: Argument = Argument {
+    name: "seed",
+    kind: Kind::LongNumber("N"),
+    need: Need::Required,
+    about: "What the random words go by, and the number of the match: 0 to 18446744073709551615",
+};
 
 /// The number of 64 bits that an option says, if it is there.
 pub(crate) fn seed_in(options: &ArgMatches<'_>, name: &str) -> Option<u64> {
     options.get_one(name)
 }
 
-pub(crate) fn length_option<'a>(alloc: Global) -> Arg<'a> {
-    let about = "The length of the match, in points: 1 to 99";
-    let (least, most) = (u32::from(SHORTEST_MATCH), u32::from(LONGEST_MATCH));
-    number_option(alloc, "length", least, most, about).required(true)
-}
+pub(crate) const LENGTH: Argument = Argument {
+    name: "length",
+    kind: Kind::Number("N", SHORTEST_MATCH as u32, LONGEST_MATCH as u32),
+    need: Need::Required,
+    about: "The length of the match, in points: 1 to 99",
+};
 
-pub(crate) fn rules_option<'a>(alloc: Global) -> Arg<'a> {
-    let about = "The rules: 1, or 2, by which the referee passes a turn that has no step";
-    number_option(alloc, "rules", 1, 2, about).default_value("1")
-}
+pub(crate) const RULES: Argument = Argument {
+    name: "rules",
+    kind: Kind::Number("N", 1, 2),
+    need: Need::Usually("1"),
+    about: "The rules: 1, or 2, by which the referee passes a turn that has no step",
+};
 
 /// The rules that the options name.
 pub(crate) fn rules_in(options: &ArgMatches<'_>) -> Option<Rules> {
@@ -139,18 +84,19 @@ pub(crate) fn rules_in(options: &ArgMatches<'_>) -> Option<Rules> {
     }
 }
 
-pub(crate) fn watchers_option<'a>(alloc: Global) -> Arg<'a> {
-    let about = "How many watch it: 0 to 253";
-    number_option(alloc, "watchers", 0, u32::from(MOST_WATCHERS), about).required(true)
-}
+pub(crate) const WATCHERS: Argument = Argument {
+    name: "watchers",
+    kind: Kind::Number("N", 0, MOST_WATCHERS as u32),
+    need: Need::Required,
+    about: "How many watch it: 0 to 253",
+};
 
-pub(crate) fn player_option<'a>(alloc: Global) -> Result<Arg<'a>, Error> {
-    Ok(
-        text_option(alloc, "player", "P", "The player: X or O")
-            .value_parser(PLAYERS.as_slice())
-            .required(true),
-    )
-}
+pub(crate) const PLAYER: Argument = Argument {
+    name: "player",
+    kind: Kind::OneOf("P", &["X", "O"]),
+    need: Need::Required,
+    about: "The player: X or O",
+};
 
 /// The player that the options name.
 pub(crate) fn player_in(options: &ArgMatches<'_>) -> Option<Player> {
@@ -161,13 +107,12 @@ pub(crate) fn player_in(options: &ArgMatches<'_>) -> Option<Player> {
     }
 }
 
-pub(crate) fn numbering_option<'a>(alloc: Global) -> Arg<'a> {
-    let about =
-        "In whose numbers the points are: those of the player who moves, or always those of X";
-    text_option(alloc, "numbering", "WHOSE", about)
-        .value_parser(NUMBERINGS.as_slice())
-        .default_value("mover")
-}
+pub(crate) const NUMBERING: Argument = Argument {
+    name: "numbering",
+    kind: Kind::OneOf("WHOSE", &["mover", "X"]),
+    need: Need::Usually("mover"),
+    about: "In whose numbers the points are: those of the player who moves, or always those of X",
+};
 
 /// In whose numbers the points are, by the options.
 pub(crate) fn numbering_in(options: &ArgMatches<'_>) -> Numbering {
@@ -177,22 +122,28 @@ pub(crate) fn numbering_in(options: &ArgMatches<'_>) -> Numbering {
     }
 }
 
-pub(crate) fn title_option<'a>(alloc: Global) -> Arg<'a> {
-    text_option(alloc, "title", "TITLE", "The title of the page, any text").default_value(
-        USUAL_TITLE,
-    )
-}
+pub(crate) const TITLE: Argument = Argument {
+    name: "title",
+    kind: Kind::Text("TITLE"),
+    need: Need::Usually(USUAL_TITLE),
+    about: "The title of the page, any text",
+};
 
 /// The title of a page, by the options.
 pub(crate) fn title_in<'a>(options: &ArgMatches<'a>) -> &'a str {
     options.get_str("title").unwrap_or(USUAL_TITLE)
 }
 
-pub(crate) fn match_option<'a>(alloc: Global) -> Arg<'a> {
-    text_option(alloc, "match", "FILE", "The match file that `new` made").required(true)
-}
+pub(crate) const MATCH: Argument = Argument {
+    name: "match",
+    kind: Kind::Text("FILE"),
+    need: Need::Required,
+    about: "The match file that `new` made",
+};
 
-pub(crate) fn folder_option<'a>(alloc: Global) -> Arg<'a> {
-    let about = "The folder of the saved files, which no other process uses";
-    text_option(alloc, "dir", "DIR", about).required(true)
-}
+pub(crate) const FOLDER: Argument = Argument {
+    name: "dir",
+    kind: Kind::Text("DIR"),
+    need: Need::Required,
+    about: "The folder of the saved files, which no other process uses",
+};

@@ -1,12 +1,10 @@
 //! The options and help of the command of one action, for scripts.
 
 use crate::commands::play::SeatOptions;
-use crate::shared::{
-    THREE_TERMINALS, described, folder_option, match_option, number_in, number_option,
-    player_option, with,
-};
+use crate::arguments::{Argument, Kind, Need, described, with_all};
+use crate::shared::{FOLDER, MATCH, PLAYER, THREE_TERMINALS, number_in};
 use bg_match::{MOST_ENTRIES, Number};
-use clap::{Arg, ArgMatches, Command, Error};
+use clap::{ArgMatches, Command, Error};
 use std::alloc::Global;
 
 /// What `act` does.
@@ -44,22 +42,30 @@ impl<'m, 'a> ActOptions<'m, 'a> {
     }
 }
 
+const SECONDS: Argument = Argument {
+    name: "seconds",
+    kind: Kind::Number("N", 1, MOST_SECONDS),
+    need: Need::Required,
+    about: "How long it may take: 1 to 1000000",
+};
+
+const ENTRY: Argument = Argument {
+    name: "entry",
+    kind: Kind::Number("N", 1, MOST_ENTRIES),
+    need: Need::Optional,
+    about: "The entry that the action is claimed as, so that two calls act once: 1 to 1000000",
+};
+
+const ACTION: Argument = Argument {
+    name: "ACTION",
+    kind: Kind::Words,
+    need: Need::Optional,
+    about: "The action, as in transcripts: roll, double, take, drop, move 8-5 6-5, resign normal, ..",
+};
+
 /// Its options and help.
 pub(crate) fn command<'a>(alloc: Global) -> Result<Command<'a>, Error> {
-    let about = "How long it may take: 1 to 1000000";
-    let seconds = number_option(alloc, "seconds", 1, MOST_SECONDS, about).required(true);
-    let about = "The entry that the action is claimed as, so that two calls act once: 1 to 1000000";
-    let entry = number_option(alloc, "entry", 1, MOST_ENTRIES, about);
-    let action = Arg::new(alloc, "ACTION").num_args(0..).help(
-        "The action, as in transcripts: roll, double, take, drop, move 8-5 6-5, resign normal, ..",
-    );
-    let command = described(alloc, "act", "Make one action, for scripts", ABOUT_ACT).after_help(
-        THREE_TERMINALS,
-    );
-    let command = with(command, player_option(alloc)?)?;
-    let command = with(command, match_option(alloc))?;
-    let command = with(command, folder_option(alloc))?;
-    let command = with(command, seconds)?;
-    let command = with(command, entry)?;
-    with(command, action)
+    let command = described(alloc, "act", "Make one action, for scripts", ABOUT_ACT);
+    let arguments = [PLAYER, MATCH, FOLDER, SECONDS, ENTRY, ACTION];
+    with_all(alloc, command.after_help(THREE_TERMINALS), &arguments)
 }

@@ -1,6 +1,7 @@
 //! The options and help of the command that plays for a player until the match is over.
 
-use crate::shared::{THREE_TERMINALS, described, folder_option, match_option, player_option, with};
+use crate::arguments::{described, with_all};
+use crate::shared::{FOLDER, MATCH, PLAYER, THREE_TERMINALS};
 use clap::{Command, Error};
 use std::alloc::Global;
 
@@ -18,9 +19,6 @@ pub(crate) fn command<'a>(alloc: Global) -> Result<Command<'a>, Error> {
         "auto",
         "Let an automatic player play a match",
         ABOUT_AUTO,
-    )
-    .after_help(THREE_TERMINALS);
-    let command = with(command, player_option(alloc)?)?;
-    let command = with(command, match_option(alloc))?;
-    with(command, folder_option(alloc))
+    );
+    with_all(alloc, command.after_help(THREE_TERMINALS), &[PLAYER, MATCH, FOLDER])
 }

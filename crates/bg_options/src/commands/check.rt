@@ -1,6 +1,6 @@
 //! The options and help of the command that judges many files.
 
-use crate::shared::{described, flag, text_option, with};
+use crate::arguments::{Argument, Kind, Need, described, with, with_all};
 use clap::{Arg, ArgMatches, Command, Error};
 use std::alloc::Global;
 
@@ -46,17 +46,26 @@ impl<'m, 'a> CheckOptions<'m, 'a> {
     }
 }
 
+const QUIET: Argument = Argument {
+    name: "quiet",
+    kind: Kind::Flag,
+    need: Need::Optional,
+    about: "Print only what is refused",
+};
+
+const LIST: Argument = Argument {
+    name: "files-from",
+    kind: Kind::Text("LIST"),
+    need: Need::Optional,
+    about: "A file with the names of further files, one in each line; - is the standard input",
+};
+
 /// Its options and help.
 pub(crate) fn command<'a>(alloc: Global) -> Result<Command<'a>, Error> {
-    let quiet = flag(alloc, "quiet", "Print only what is refused");
-    let about = "A file with the names of further files, one in each line; - is the standard input";
-    let list = text_option(alloc, "files-from", "LIST", about);
     let files = Arg::new(alloc, "FILE")
         .num_args(1..)
-        .required_unless_present("files-from")?
+        .required_unless_present(LIST.name)?
         .help("The files; - is the standard input");
     let command = described(alloc, "check", "Judge many files", ABOUT_CHECK);
-    let command = with(command, quiet)?;
-    let command = with(command, list)?;
-    with(command, files)
+    with(with_all(alloc, command, &[QUIET, LIST])?, files)
 }

@@ -1,6 +1,7 @@
 //! The options and help of the command that takes over a match file of another program.
 
-use crate::shared::{described, misplaced_file, rules_option, with};
+use crate::arguments::{described, with, with_all};
+use crate::shared::{RULES, misplaced_file};
 use clap::{Command, Error};
 use std::alloc::Global;
 
@@ -34,6 +35,5 @@ pub(crate) fn command<'a>(alloc: Global) -> Result<Command<'a>, Error> {
         "Take over a match file of another program",
         ABOUT_IMPORT,
     );
-    let command = with(command, rules_option(alloc))?;
-    with(command, misplaced_file(alloc))
+    with(with_all(alloc, command, &[RULES])?, misplaced_file(alloc))
 }

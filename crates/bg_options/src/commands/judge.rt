@@ -1,6 +1,7 @@
 //! The options and help of the command that judges a transcript.
 
-use crate::shared::{described, misplaced_file, with};
+use crate::arguments::{described, with};
+use crate::shared::misplaced_file;
 use clap::{Command, Error};
 use std::alloc::Global;
 

@@ -1,9 +1,7 @@
 //! The options and help of the command that makes a match between processes.
 
-use crate::shared::{
-    THREE_TERMINALS, byte_in, described, folder_option, length_option, number_in, number_option,
-    rules_in, rules_option, with,
-};
+use crate::arguments::{Argument, Kind, Need, described, with_all};
+use crate::shared::{FOLDER, LENGTH, RULES, THREE_TERMINALS, byte_in, number_in, rules_in};
 use bg_match::Terms;
 use bg_system::{HIGHEST_PORT, LOWEST_PORT};
 use clap::{ArgMatches, Command, Error};
@@ -39,18 +37,16 @@ impl<'a> NewOptions<'a> {
     }
 }
 
+const PORT: Argument = Argument {
+    name: "port",
+    kind: Kind::Number("P", LOWEST_PORT as u32, HIGHEST_PORT as u32),
+    need: Need::Required,
+    about: "The port of the referee on 127.0.0.1, below those of all others: 1024 to 65280",
+};
+
 /// Its options and help.
 pub(crate) fn command<'a>(alloc: Global) -> Result<Command<'a>, Error> {
-    let about = "The port of the referee on 127.0.0.1, below those of all others: 1024 to 65280";
-    let (least, most) = (u32::from(LOWEST_PORT), u32::from(HIGHEST_PORT));
-    let port = number_option(alloc, "port", least, most, about)
-        .value_name("P")
-        .required(true);
-    let command = described(alloc, "new", "Make a match between processes", ABOUT_NEW).after_help(
-        THREE_TERMINALS,
-    );
-    let command = with(command, length_option(alloc))?;
-    let command = with(command, rules_option(alloc))?;
-    let command = with(command, port)?;
-    with(command, folder_option(alloc))
+    let command = described(alloc, "new", "Make a match between processes", ABOUT_NEW);
+    let arguments = [LENGTH, RULES, PORT, FOLDER];
+    with_all(alloc, command.after_help(THREE_TERMINALS), &arguments)
 }

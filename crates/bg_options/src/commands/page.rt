@@ -1,6 +1,7 @@
 //! The options and help of the command that makes a page of a transcript.
 
-use crate::shared::{described, misplaced_file, numbering_option, title_option, with};
+use crate::arguments::{described, with, with_all};
+use crate::shared::{NUMBERING, TITLE, misplaced_file};
 use clap::{Command, Error};
 use std::alloc::Global;
 
@@ -23,7 +24,5 @@ pub(crate) fn command<'a>(alloc: Global) -> Result<Command<'a>, Error> {
         "Make a page for browsers of a transcript",
         ABOUT_PAGE,
     );
-    let command = with(command, title_option(alloc))?;
-    let command = with(command, numbering_option(alloc))?;
-    with(command, misplaced_file(alloc))
+    with(with_all(alloc, command, &[TITLE, NUMBERING])?, misplaced_file(alloc))
 }

@@ -1,6 +1,7 @@
 //! The options and help of the command that draws where a match stands.
 
-use crate::shared::{described, misplaced_file, numbering_option, with};
+use crate::arguments::{described, with, with_all};
+use crate::shared::{NUMBERING, misplaced_file};
 use clap::{Command, Error};
 use std::alloc::Global;
 
@@ -19,6 +20,5 @@ and 1 where reading, writing or memory failed.";
 /// Its options and help.
 pub(crate) fn command<'a>(alloc: Global) -> Result<Command<'a>, Error> {
     let command = described(alloc, "picture", "Draw where a match stands", ABOUT_PICTURE);
-    let command = with(command, numbering_option(alloc))?;
-    with(command, misplaced_file(alloc))
+    with(with_all(alloc, command, &[NUMBERING])?, misplaced_file(alloc))
 }

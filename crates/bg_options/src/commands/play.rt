@@ -1,8 +1,7 @@
 //! The options and help of the command of a person who plays at a terminal.
 
-use crate::shared::{
-    THREE_TERMINALS, described, folder_option, match_option, player_in, player_option, with,
-};
+use crate::arguments::{described, with_all};
+use crate::shared::{FOLDER, MATCH, PLAYER, THREE_TERMINALS, player_in};
 use bg_board::Player;
 use clap::{ArgMatches, Command, Error};
 use std::alloc::Global;
@@ -37,10 +36,6 @@ impl<'a> SeatOptions<'a> {
 
 /// Its options and help.
 pub(crate) fn command<'a>(alloc: Global) -> Result<Command<'a>, Error> {
-    let command = described(alloc, "play", "Play a match at this terminal", ABOUT_PLAY).after_help(
-        THREE_TERMINALS,
-    );
-    let command = with(command, player_option(alloc)?)?;
-    let command = with(command, match_option(alloc))?;
-    with(command, folder_option(alloc))
+    let command = described(alloc, "play", "Play a match at this terminal", ABOUT_PLAY);
+    with_all(alloc, command.after_help(THREE_TERMINALS), &[PLAYER, MATCH, FOLDER])
 }

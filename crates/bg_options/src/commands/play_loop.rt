@@ -1,9 +1,7 @@
 //! The options and help of the command that plays a match over sockets and files.
 
-use crate::shared::{
-    byte_in, described, length_option, number_in, number_option, rules_in, rules_option, seed_in,
-    seed_option, text_option, with,
-};
+use crate::arguments::{Argument, Kind, Need, described, with_all};
+use crate::shared::{LENGTH, RULES, SEED, byte_in, number_in, rules_in, seed_in};
 use bg_match::Rules;
 use clap::{ArgMatches, Command, Error};
 use std::alloc::Global;
@@ -47,21 +45,27 @@ impl<'a> LoopOptions<'a> {
     }
 }
 
+const ROUNDS: Argument = Argument {
+    name: "rounds",
+    kind: Kind::Number("N", 0, MOST_ROUNDS),
+    need: Need::Required,
+    about: "How many rounds are played: 0 to 1000000",
+};
+
+const FOLDER: Argument = Argument {
+    name: "dir",
+    kind: Kind::Text("DIR"),
+    need: Need::Required,
+    about: "The folder of the saved files, which must exist",
+};
+
 /// Its options and help.
 pub(crate) fn command<'a>(alloc: Global) -> Result<Command<'a>, Error> {
-    let about = "How many rounds are played: 0 to 1000000";
-    let rounds = number_option(alloc, "rounds", 0, MOST_ROUNDS, about).required(true);
-    let about = "The folder of the saved files, which must exist";
-    let folder = text_option(alloc, "dir", "DIR", about).required(true);
     let command = described(
         alloc,
         "loop",
         "Play an automatic match over UDP sockets and files",
         ABOUT_LOOP,
     );
-    let command = with(command, seed_option(alloc))?;
-    let command = with(command, length_option(alloc))?;
-    let command = with(command, rules_option(alloc))?;
-    let command = with(command, rounds)?;
-    with(command, folder)
+    with_all(alloc, command, &[SEED, LENGTH, RULES, ROUNDS, FOLDER])
 }

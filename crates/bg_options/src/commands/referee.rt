@@ -1,6 +1,7 @@
 //! The options and help of the command that runs the referee of a match.
 
-use crate::shared::{THREE_TERMINALS, described, folder_option, with};
+use crate::arguments::{described, with_all};
+use crate::shared::{FOLDER, THREE_TERMINALS};
 use clap::{Command, Error};
 use std::alloc::Global;
 
@@ -18,7 +19,6 @@ pub(crate) fn command<'a>(alloc: Global) -> Result<Command<'a>, Error> {
         "referee",
         "Run the referee of a match until it is over",
         ABOUT_REFEREE,
-    )
-    .after_help(THREE_TERMINALS);
-    with(command, folder_option(alloc))
+    );
+    with_all(alloc, command.after_help(THREE_TERMINALS), &[FOLDER])
 }

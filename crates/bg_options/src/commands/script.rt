@@ -1,9 +1,7 @@
 //! The options and help of the command that plays a script.
 
-use crate::shared::{
-    byte_in, described, length_option, misplaced_file, rules_in, rules_option, watchers_option,
-    with,
-};
+use crate::arguments::{described, with, with_all};
+use crate::shared::{LENGTH, RULES, WATCHERS, byte_in, misplaced_file, rules_in};
 use bg_match::Terms;
 use clap::{ArgMatches, Command, Error};
 use std::alloc::Global;
@@ -47,8 +45,5 @@ pub(crate) fn command<'a>(alloc: Global) -> Result<Command<'a>, Error> {
         "Let the events on standard input happen to a match in memory",
         ABOUT_SCRIPT,
     );
-    let command = with(command, length_option(alloc))?;
-    let command = with(command, rules_option(alloc))?;
-    let command = with(command, watchers_option(alloc))?;
-    with(command, misplaced_file(alloc))
+    with(with_all(alloc, command, &[LENGTH, RULES, WATCHERS])?, misplaced_file(alloc))
 }

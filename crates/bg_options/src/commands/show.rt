@@ -1,7 +1,7 @@
 //! The options and help of the command that shows saved files.
 
-use crate::shared::{described, flag, with};
-use clap::{Arg, ArgMatches, Command, Error};
+use crate::arguments::{Argument, Kind, Need, described, with, with_all};
+use clap::{ArgMatches, Command, Error};
 use std::alloc::Global;
 
 /// What `show` does.
@@ -43,16 +43,30 @@ impl<'a> ShowOptions<'a> {
     }
 }
 
+const TRANSCRIPT: Argument = Argument {
+    name: "transcript",
+    kind: Kind::Flag,
+    need: Need::Optional,
+    about: "Print the transcript of what the two files restore",
+};
+
+const FILE0: Argument = Argument {
+    name: "FILE0",
+    kind: Kind::File,
+    need: Need::Required,
+    about: "The file of the even saves, or a folder",
+};
+
+const FILE1: Argument = Argument {
+    name: "FILE1",
+    kind: Kind::File,
+    need: Need::Optional,
+    about: "The file of the odd saves",
+};
+
 /// Its options and help.
 pub(crate) fn command<'a>(alloc: Global) -> Result<Command<'a>, Error> {
-    let about = "Print the transcript of what the two files restore";
-    let transcript = flag(alloc, "transcript", about).requires_arg("FILE1")?;
-    let file0 = Arg::new(alloc, "FILE0")
-        .required(true)
-        .help("The file of the even saves, or a folder");
-    let file1 = Arg::new(alloc, "FILE1").help("The file of the odd saves");
+    let transcript = TRANSCRIPT.described(alloc).requires_arg(FILE1.name)?;
     let command = described(alloc, "show", "Show what saved files hold", ABOUT_SHOW);
-    let command = with(command, transcript)?;
-    let command = with(command, file0)?;
-    with(command, file1)
+    with_all(alloc, with(command, transcript)?, &[FILE0, FILE1])
 }

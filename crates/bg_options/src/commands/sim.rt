@@ -1,9 +1,7 @@
 //! The options and help of the command that plays an automatic match in memory.
 
-use crate::shared::{
-    byte_in, described, length_option, number_in, number_option, rules_in, rules_option, seed_in,
-    seed_option, watchers_option, with,
-};
+use crate::arguments::{Argument, Kind, Need, described, with_all};
+use crate::shared::{LENGTH, RULES, SEED, WATCHERS, byte_in, number_in, rules_in, seed_in};
 use bg_match::Rules;
 use clap::{ArgMatches, Command, Error};
 use std::alloc::Global;
@@ -47,14 +45,15 @@ impl SimOptions {
     }
 }
 
+const STEPS: Argument = Argument {
+    name: "steps",
+    kind: Kind::Number("N", 0, MOST_STEPS),
+    need: Need::Required,
+    about: "How many events happen: 0 to 1000000",
+};
+
 /// Its options and help.
 pub(crate) fn command<'a>(alloc: Global) -> Result<Command<'a>, Error> {
-    let about = "How many events happen: 0 to 1000000";
-    let steps = number_option(alloc, "steps", 0, MOST_STEPS, about).required(true);
     let command = described(alloc, "sim", "Play an automatic match in memory", ABOUT_SIM);
-    let command = with(command, seed_option(alloc))?;
-    let command = with(command, length_option(alloc))?;
-    let command = with(command, rules_option(alloc))?;
-    let command = with(command, watchers_option(alloc))?;
-    with(command, steps)
+    with_all(alloc, command, &[SEED, LENGTH, RULES, WATCHERS, STEPS])
 }

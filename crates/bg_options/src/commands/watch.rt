@@ -1,9 +1,7 @@
 //! The options and help of the command that watches a match.
 
-use crate::shared::{
-    THREE_TERMINALS, described, match_option, numbering_in, numbering_option, text_option,
-    title_in, title_option, with,
-};
+use crate::arguments::{Argument, Kind, Need, described, with_all};
+use crate::shared::{MATCH, NUMBERING, THREE_TERMINALS, TITLE, numbering_in, title_in};
 use bg_picture::Numbering;
 use clap::{ArgMatches, Command, Error};
 use std::alloc::Global;
@@ -42,22 +40,25 @@ impl<'a> WatchOptions<'a> {
     }
 }
 
+/// An option that names a file which is kept of the match.
+const fn kept(name: &'static str, about: &'static str) -> Argument {
+    Argument {
+        name,
+        kind: Kind::Text("FILE"),
+        need: Need::Optional,
+        about,
+    }
+}
+
 /// Its options and help.
 pub(crate) fn command<'a>(alloc: Global) -> Result<Command<'a>, Error> {
-    let about = "A file that has the board, always whole";
-    let board = text_option(alloc, "board", "FILE", about);
-    let about = "A file that has the transcript, always whole";
-    let transcript = text_option(alloc, "transcript", "FILE", about);
-    let about =
-        "A file that has a page for browsers, always whole; they show it anew by themselves";
-    let page = text_option(alloc, "page", "FILE", about);
-    let command = described(alloc, "watch", "Watch a match", ABOUT_WATCH).after_help(
-        THREE_TERMINALS,
+    let board = kept("board", "A file that has the board, always whole");
+    let transcript = kept("transcript", "A file that has the transcript, always whole");
+    let page = kept(
+        "page",
+        "A file that has a page for browsers, always whole; they show it anew by themselves",
     );
-    let command = with(command, match_option(alloc))?;
-    let command = with(command, board)?;
-    let command = with(command, transcript)?;
-    let command = with(command, page)?;
-    let command = with(command, title_option(alloc))?;
-    with(command, numbering_option(alloc))
+    let command = described(alloc, "watch", "Watch a match", ABOUT_WATCH);
+    let arguments = [MATCH, board, transcript, page, TITLE, NUMBERING];
+    with_all(alloc, command.after_help(THREE_TERMINALS), &arguments)
 }
