@@ -6,7 +6,8 @@ import re
 TOP = pathlib.Path(__file__).resolve().parents[2]
 CRATES = re.findall(r"^bg_\w+", (TOP / "crates.txt").read_text(), re.M)
 IMPORT = re.compile(r"\buse Rattle\.(bg_\w+)\.specs\.([\w.]+)\.\{([^}]*)\}")
-DEFINITION = re.compile(r" *(?:pub )?(?:abbrev|unfoldable|record|data) (?:pub )?([^\W\d]\w*|◌\S+)(?!\S)")
+# A definition stands at the margin, or two blanks behind it, where several share their parameters.
+DEFINITION = re.compile(r"(?:  )?(?:pub )?(?:abbrev|unfoldable|record|data) (?:pub )?([^\W\d]\w*|◌\S+)(?!\S)")
 
 
 def imported(text):
