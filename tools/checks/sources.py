@@ -6,6 +6,8 @@ import re
 TOP = pathlib.Path(__file__).resolve().parents[2]
 CRATES = re.findall(r"^bg_\w+", (TOP / "crates.txt").read_text(), re.M)
 IMPORT = re.compile(r"\buse Rattle\.(bg_\w+)\.specs\.([\w.]+)\.\{([^}]*)\}")
+# A type of the code by another name, as `packet` in `packet.Want`.
+RENAMED = re.compile(r"^use Rattle\.(bg_\w+)\.specs\.(declared\.[\w.]+) as (\w+)$", re.M)
 # A definition stands at the margin, or two blanks behind it, where several share their parameters.
 DEFINITION = re.compile(r"(?:  )?(?:pub )?(?:abbrev|unfoldable|record|data) (?:pub )?([^\W\d]\w*|◌\S+)(?!\S)")
 
@@ -32,6 +34,8 @@ class Definitions:
     def read(self, file, text):
         definition, comments = None, []
         here = self.words[file] = dict(imported(text))
+        for crate, module, name in RENAMED.findall(text):
+            here[name] = f"{crate}/{module.replace('.', '/')}/{name}"
         for line in text.splitlines():
             if line.lstrip().startswith("--"):
                 comments.append(line)
@@ -44,16 +48,31 @@ class Definitions:
                 self.lines[definition] += [*comments, line]
             comments = []
 
+    def named(self, definition):
+        """What the words of this definition stand for."""
+        here = self.words[definition.rsplit("/", 1)[0]]
+        body = "\n".join(line for line in self.lines[definition] if not line.lstrip().startswith("--"))
+        return [here[word] for word in re.findall(r"\w+", body) if word in here]
+
     def reach(self, definition, reached):
         """Adds this definition to those that are reached, behind those that it rests on."""
         if definition in reached or definition not in self.lines:
             return
         reached.setdefault(definition)
-        here = self.words[definition.rsplit("/", 1)[0]]
-        body = "\n".join(line for line in self.lines[definition] if not line.lstrip().startswith("--"))
-        for word in re.findall(r"\w+", body):
-            self.reach(here.get(word), reached)
+        for other in self.named(definition):
+            self.reach(other, reached)
         reached[definition] = reached.pop(definition)
+
+
+def declared(name):
+    """A type of the code that definitions name so: its file, and its declaration with the comments
+    above it. Nothing for any other name."""
+    if kind := re.match(r"(bg_\w+)/declared/([a-z_/\d]+)/([A-Z]\w*)/", name):
+        file = f"{kind[1]}/src/{kind[2]}.rt"
+        text = (TOP / "crates" / file).read_text()
+        head = rf"(?:///.*\n|#\[.*\n)*pub(?:\(crate\))? (?:struct|enum|trait) {kind[3]}\b"
+        if item := re.search(rf"^{head}(?:.*;|(?:.*\n)+?\}})", text, re.M):
+            return file, re.sub(r"^#\[.*\n", "", item[0], flags=re.M)
 
 
 def exported(crate):
