@@ -6,7 +6,7 @@ import re
 TOP = pathlib.Path(__file__).resolve().parents[2]
 CRATES = re.findall(r"^bg_\w+", (TOP / "crates.txt").read_text(), re.M)
 IMPORT = re.compile(r"\buse Rattle\.(bg_\w+)\.specs\.([\w.]+)\.\{([^}]*)\}")
-# A type of the code by another name, as `packet` in `packet.Want`.
+# A type of the code by another name, which stands before a dot, as `packet` in `packet.Want`.
 RENAMED = re.compile(r"^use Rattle\.(bg_\w+)\.specs\.(declared\.[\w.]+) as (\w+)$", re.M)
 # A definition stands at the margin, or two blanks behind it, where several share their parameters.
 DEFINITION = re.compile(r"(?:  )?(?:pub )?(?:abbrev|unfoldable|record|data) (?:pub )?([^\W\d]\w*|◌\S+)(?!\S)")
@@ -35,7 +35,7 @@ class Definitions:
         definition, comments = None, []
         here = self.words[file] = dict(imported(text))
         for crate, module, name in RENAMED.findall(text):
-            here[name] = f"{crate}/{module.replace('.', '/')}/{name}"
+            here[f"{name}."] = f"{crate}/{module.replace('.', '/')}/{name}"
         for line in text.splitlines():
             if line.lstrip().startswith("--"):
                 comments.append(line)
@@ -52,15 +52,17 @@ class Definitions:
         """What the words of this definition stand for."""
         here = self.words[definition.rsplit("/", 1)[0]]
         body = "\n".join(line for line in self.lines[definition] if not line.lstrip().startswith("--"))
-        return [here[word] for word in re.findall(r"\w+", body) if word in here]
+        words = re.findall(r"\w+(?:\.(?=\w))?", body)
+        return [here[one] for word in words for one in dict.fromkeys((word, word.rstrip("."))) if one in here]
 
-    def reach(self, definition, reached):
-        """Adds this definition to those that are reached, behind those that it rests on."""
-        if definition in reached or definition not in self.lines:
+    def reach(self, definition, reached, closed=()):
+        """Adds this definition to those that are reached, behind those that it rests on; but none of
+        the closed ones, and what only these rest on."""
+        if definition in reached or definition not in self.lines or definition in closed:
             return
         reached.setdefault(definition)
         for other in self.named(definition):
-            self.reach(other, reached)
+            self.reach(other, reached, closed)
         reached[definition] = reached.pop(definition)
 
 
