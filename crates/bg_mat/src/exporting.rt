@@ -2,7 +2,7 @@
 ghost use Rattle.std.specs.Prelude.{◌≡◌, ◌<◌, ◌≤◌, ◌++◌, ◌∷◌, length, IfOk, OnOk, MatchOption, List};
 ghost use Rattle.bg_mat.specs.Files.{Exports};
 ghost use Rattle.bg_mat.specs.Rows.RowTexts.{Both, Alone, WritesRow, grouped, length_text, lines_text};
-ghost use Rattle.bg_mat.specs.Rows.RowTexts.{next_row as next_row_number};
+ghost use Rattle.bg_mat.specs.Rows.RowTexts.{next_row as next_row_number, share_row as cells_share_row};
 ghost use Rattle.bg_mat.specs.declared.tellings.Telling.{Telling as Told};
 
 use crate::rows::cells::Cell;
@@ -39,16 +39,26 @@ fn put_length(out: &mut Vec<u8>, length: u8) -> Result<(), AllocError>
     put_text(out, " point match\n")
 }
 
-/// The cell of O that stands in the row of a cell of X: the next one, unless one of both is a win.
+/// Whether a cell of X shares its row with the cell of O behind it: a win shares one with a drop alone.
+fn share_row(left: &Cell, right: &Cell) -> bool
+    ensures { result ≡ cells_share_row left.now right.now }
+{
+    match (left, right) {
+        (Cell::Drops, _) => true,
+        (Cell::Wins(_), _) | (_, Cell::Wins(_)) => false,
+        _ => true,
+    }
+}
+
+/// The cell of O that stands in the row of a cell of X: the next one, where these share it.
 fn partner<'a>(player: Player, cell: &Cell, next: &'a [Telling]) -> Option<&'a Cell>
     ensures { MatchOption result
         (grouped (Telling.Does player cell.now ∷ next.now) ≡ Alone player cell.now ∷ grouped next.now)
         (λ right. (more : List Told) × (next.now ≡ Telling.Does Player.O right.now ∷ more)
         × (grouped (Telling.Does player cell.now ∷ next.now) ≡ Both cell.now right.now ∷ grouped more)) }
 {
-    match (player, cell, next.first()) {
-        (_, Cell::Wins(_), _) | (_, _, Some(Telling::Does(_, Cell::Wins(_)))) => None,
-        (Player::X, _, Some(Telling::Does(Player::O, cell))) => Some(cell),
+    match (player, next.first()) {
+        (Player::X, Some(Telling::Does(Player::O, right))) if share_row(cell, right) => Some(right),
         _ => None,
     }
 }

@@ -189,7 +189,7 @@ ending_tells true rest ends = (
 )
 
 win_parts : (win : Win) (rest : List ℕ)
-    → win_text win ++ rest ≡ codes "Wins " ++ (decimal win.points ++ (points_text win.points ++ (ending_text win.ends_match ++ rest)))
+    → win_text win ++ rest ≡ codes " Wins " ++ (decimal win.points ++ (points_text win.points ++ (ending_text win.ends_match ++ rest)))
 win_parts win rest = simp append_assoc
 
 win_is : (win : Win) (rest : List ℕ) → win.points ≤ 9999 → EndsWord rest → TellsWin (win_text win ++ rest) win rest
@@ -201,8 +201,8 @@ win_is win rest few ends =
     let second : IsFirstWord (codes " " ++ (decimal win.points ++ points)) (decimal win.points) points =
     word_first (codes " ") (decimal win.points) points one_blank (decimal_plain win.points (omega arith))
     (decimal_nonempty win.points (omega arith)) (points_end (win.points == 1) behind) in
-    let first : IsFirstWord (codes "Wins " ++ (decimal win.points ++ points)) (codes "Wins") (codes " " ++ (decimal win.points ++ points)) =
-    word_first [] (codes "Wins") (codes " " ++ (decimal win.points ++ points)) no_blanks (plain_by (codes "Wins") refl) (omega arith) refl in (
+    let first : IsFirstWord (codes " Wins " ++ (decimal win.points ++ points)) (codes "Wins") (codes " " ++ (decimal win.points ++ points)) =
+    word_first (codes " ") (codes "Wins") (codes " " ++ (decimal win.points ++ points)) one_blank (plain_by (codes "Wins") refl) (omega arith) refl in (
       codes " " ++ (decimal win.points ++ points),
       behind,
       subst (λ (t : List ℕ). IsFirstWord t (codes "Wins") (codes " " ++ (decimal win.points ++ points))) (sym (win_parts win rest)) first,
@@ -248,9 +248,9 @@ cell_is cell.Drops low = record {
 cell_is (cell.Wins win) low = record {
   tells = λ rest ends. win_is win rest low ends;
   few = λ rest. subst (λ (t : List ℕ). leading_blanks t ≤ 1) (sym (win_parts win rest)) (omega arith);
-  of_line = of_line_both (codes "Wins " ++ decimal win.points ++ points_text win.points) (ending_text win.ends_match)
-      (of_line_both (codes "Wins " ++ decimal win.points) (points_text win.points)
-      (of_line_both (codes "Wins ") (decimal win.points) (of_line_by (codes "Wins ") refl)
+  of_line = of_line_both (codes " Wins " ++ decimal win.points ++ points_text win.points) (ending_text win.ends_match)
+      (of_line_both (codes " Wins " ++ decimal win.points) (points_text win.points)
+      (of_line_both (codes " Wins ") (decimal win.points) (of_line_by (codes " Wins ") refl)
       (plain_of_line (decimal win.points) (decimal_plain win.points (omega arith))))
       (points_of_line (win.points == 1)))
       (ending_of_line win.ends_match);

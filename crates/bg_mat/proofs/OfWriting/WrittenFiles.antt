@@ -1,5 +1,5 @@
 -- What the lines of a written match file tell.
-use Rattle.std.specs.Prelude.{◌≡◌, ◌≢◌, ℕ, ◌+◌, ◌-◌, ◌<◌, ◌≤◌, max, ◌||◌, Bool, true, false, Some, List, [], ◌∷◌, ◌++◌, map, length, replicate, codes, if◌then◌else◌}
+use Rattle.std.specs.Prelude.{◌≡◌, ◌≢◌, ℕ, ◌+◌, ◌-◌, ◌<◌, ◌≤◌, max, Bool, true, false, Some, List, [], ◌∷◌, ◌++◌, map, length, replicate, codes, if◌then◌else◌}
 use Rattle.std.proofs.Common.{refl, sym, ◌∙◌, ap, subst, inl, inr, arith}
 use Rattle.std.specs.Fmt.{decimal}
 use Rattle.bg_board.specs.declared.players.Player.{Player}
@@ -11,7 +11,7 @@ use Rattle.bg_mat.specs.Rows.Cells.{TellsRow}
 use Rattle.bg_mat.specs.Files.{Exports, TellsLine, TellsLines, after_row, is_win, items_of, kept_entries, numbered, start_place}
 use Rattle.bg_text.specs.Judge.Judging.{lines_of}
 use Rattle.bg_mat.specs.Retelling.{TellsRecord}
-use Rattle.bg_mat.specs.Rows.RowTexts.{Line, Heading, Alone, Both, beside, game_text, grouped, length_text, lines_text, next_row, padded, score_text}
+use Rattle.bg_mat.specs.Rows.RowTexts.{Line, Heading, Alone, Both, beside, game_text, grouped, length_text, lines_text, next_row, padded, score_text, share_row}
 use Rattle.bg_mat.specs.Telling.{AreTold, Does, Game, Item, Place, Scores, Told, deed_of}
 use Rattle.bg_mat.specs.Tellings.{AreOfItems, HasGameNumbers, HasNumbers, IsInOrder, after_cell, items_of_tellings}
 use Rattle.bg_mat.specs.declared.rows.cells.Cell.{Cell}
@@ -42,35 +42,33 @@ AreInOrder here (Heading game ∷ lines) there =
 AreInOrder here (Alone player c ∷ lines) there =
     (here ≡ awaited.Row) × HasNumbers c × AreInOrder (after_cell c) lines there
 AreInOrder here (Both l r ∷ lines) there =
-    (here ≡ awaited.Row) × HasNumbers l × HasNumbers r × (is_win (Some l) ≡ false) × (is_win (Some r) ≡ false)
-    × AreInOrder awaited.Row lines there
+    (here ≡ awaited.Row) × HasNumbers l × HasNumbers r × (is_win (Some l) ≡ false) × AreInOrder (after_cell r) lines there
 
-after_no_win : (c : Cell) → is_win (Some c) ≡ false → after_cell c ≡ awaited.Row
-after_no_win (cell.Wins win) h = absurd (cc (h))
-after_no_win (cell.Turn dice legs) h = refl
-after_no_win (cell.Doubles n) h = refl
-after_no_win cell.Takes h = refl
-after_no_win cell.Drops h = refl
+-- a row may follow a cell that is no win
+no_win : (c : Cell) → after_cell c ≡ awaited.Row → is_win (Some c) ≡ false
+no_win (cell.Wins win) h = absurd (cc (h))
+no_win (cell.Turn dice legs) h = refl
+no_win (cell.Doubles n) h = refl
+no_win cell.Takes h = refl
+no_win cell.Drops h = refl
 
 -- a cell of X beside one of O
-beside_by : (l r : Cell) (lines : List Line) (there : Awaited) (a b : Bool) → is_win (Some l) ≡ a → is_win (Some r) ≡ b
+beside_by : (l r : Cell) (lines : List Line) (there : Awaited) (b : Bool)
     → HasNumbers l → AreInOrder (after_cell l) (Alone O r ∷ lines) there
-    → AreInOrder awaited.Row (if a || b then Alone X l ∷ Alone O r ∷ lines else Both l r ∷ lines) there
-beside_by l r lines there true b wa wb low h = (refl, low, h)
-beside_by l r lines there false true wa wb low h = (refl, low, h)
-beside_by l r lines there false false wa wb low (row, high, more) =
-    (refl, low, high, wa, wb, subst (λ (x : Awaited). AreInOrder x lines there) (after_no_win r wb) more)
+    → AreInOrder awaited.Row (if b then Both l r ∷ lines else Alone X l ∷ Alone O r ∷ lines) there
+beside_by l r lines there false low h = (refl, low, h)
+beside_by l r lines there true low (row, high, more) = (refl, low, high, no_win l row, more)
 
 beside_order : (l : Cell) (lines : List Line) (there : Awaited) → HasNumbers l → AreInOrder (after_cell l) lines there
     → AreInOrder awaited.Row (beside l lines) there
 beside_order l [] there low h = (refl, low, h)
 beside_order l (Heading game ∷ lines) there low h = (refl, low, h)
 beside_order l (Alone X c ∷ lines) there low h = (refl, low, h)
-beside_order l (Alone O r ∷ lines) there low h = beside_by l r lines there (is_win (Some l)) (is_win (Some r)) refl refl low h
+beside_order l (Alone O r ∷ lines) there low h = beside_by l r lines there (share_row l r) low h
 beside_order l (Both m r ∷ lines) there low h = (refl, low, h)
 
 beside_items_by : (l r : Cell) (lines : List Line) (b : Bool)
-    → items_of_lines (if b then Alone X l ∷ Alone O r ∷ lines else Both l r ∷ lines)
+    → items_of_lines (if b then Both l r ∷ lines else Alone X l ∷ Alone O r ∷ lines)
     ≡ Does X (deed_of l) ∷ Does O (deed_of r) ∷ items_of_lines lines
 beside_items_by l r lines true = refl
 beside_items_by l r lines false = refl
@@ -79,7 +77,7 @@ beside_items : (l : Cell) (lines : List Line) → items_of_lines (beside l lines
 beside_items l [] = refl
 beside_items l (Heading game ∷ lines) = refl
 beside_items l (Alone X c ∷ lines) = refl
-beside_items l (Alone O r ∷ lines) = beside_items_by l r lines (is_win (Some l) || is_win (Some r))
+beside_items l (Alone O r ∷ lines) = beside_items_by l r lines (share_row l r)
 beside_items l (Both m r ∷ lines) = refl
 
 grouped_order : (here : Awaited) (tellings : List Telling) (there : Awaited) → IsInOrder here tellings there
@@ -144,11 +142,11 @@ alone_line : (player : Player) (c : Cell) (line : List ℕ) → TellsRow line (r
     → TellsLine awaited.Row line (Does player (deed_of c) ∷ []) (after_cell c)
 alone_line player c line tells = inr (inr (row_of player c, tells, row_items player c, sym (row_after player c)))
 
-both_line : (l r : Cell) (line : List ℕ) → is_win (Some l) ≡ false → is_win (Some r) ≡ false
+both_line : (l r : Cell) (line : List ℕ) → is_win (Some l) ≡ false
     → TellsRow line (record { left = Some l; right = Some r })
-    → TellsLine awaited.Row line (Does X (deed_of l) ∷ Does O (deed_of r) ∷ []) awaited.Row
-both_line l r line wl wr tells =
-    inr (inr (record { left = Some l; right = Some r }, tells, refl, rw (wl, wr) refl))
+    → TellsLine awaited.Row line (Does X (deed_of l) ∷ Does O (deed_of r) ∷ []) (after_cell r)
+both_line l r line wl tells =
+    inr (inr (record { left = Some l; right = Some r }, tells, refl, rw (wl, ← row_after O r) refl))
 
 heading_line : (here : Awaited) (n : ℕ) → here ≢ awaited.Scores → n ≤ 9999
     → TellsLine here (codes " Game " ++ decimal n) (Game n ∷ []) awaited.Scores
@@ -215,13 +213,13 @@ lines_tell here there row n (Alone player c ∷ lines) (at, low, h) =
     rw at (subst (λ (t : List ℕ). LinesTell awaited.Row n (t ++ rest) (Does player (deed_of c) ∷ items_of_lines lines) there) (sym w.spelled)
     (line_more awaited.Row (after_cell c) there n w.line rest (Does player (deed_of c) ∷ []) (items_of_lines lines) w.of_line
     (alone_line player c w.line w.tells) more))
-lines_tell here there row n (Both l r ∷ lines) (at, low, high, wl, wr, h) =
+lines_tell here there row n (Both l r ∷ lines) (at, low, high, wl, h) =
     let w = both_written row l r low high in
     let rest = lines_text (next_row row) lines in
-    let more = lines_tell awaited.Row there (next_row row) (n + 1) lines h in
+    let more = lines_tell (after_cell r) there (next_row row) (n + 1) lines h in
     rw at (subst (λ (t : List ℕ). LinesTell awaited.Row n (t ++ rest) (Does X (deed_of l) ∷ Does O (deed_of r) ∷ items_of_lines lines) there) (sym w.spelled)
-    (line_more awaited.Row awaited.Row there n w.line rest (Does X (deed_of l) ∷ Does O (deed_of r) ∷ []) (items_of_lines lines) w.of_line
-    (both_line l r w.line wl wr w.tells) more))
+    (line_more awaited.Row (after_cell r) there n w.line rest (Does X (deed_of l) ∷ Does O (deed_of r) ∷ []) (items_of_lines lines) w.of_line
+    (both_line l r w.line wl w.tells) more))
 
 -- items that lead from a place to another, with the lines that tell them
 told_on_lines : (told : List Told) (p q : Place) (entries : List Entry) → AreOfItems p (items_told told) entries q

@@ -10,7 +10,7 @@ use Rattle.bg_board.specs.declared.players.Player.TheVariants.{X, O}
 use Rattle.bg_mat.specs.Rows.Cells.{SkipsNumber, TellsCell, TellsRow}
 use Rattle.bg_mat.specs.Rows.CellTexts.{cell_text}
 use Rattle.bg_mat.specs.Rows.Headings.{IsGameLine, IsLengthLine, IsScoresLine}
-use Rattle.bg_mat.specs.Rows.RowTexts.{alone_text, blanks_before, both_text, padded, row_number, row_start, score_text}
+use Rattle.bg_mat.specs.Rows.RowTexts.{alone_text, blanks_before, both_text, in_column, padded, row_number, row_start, score_text}
 use Rattle.bg_mat.specs.Tellings.{HasNumbers}
 use Rattle.bg_mat.specs.Rows.Words.{leading_blanks, EndsWord, IsBlankText, IsFirstWord}
 use Rattle.bg_mat.specs.declared.rows.cells.Cell.{Cell}
@@ -71,7 +71,7 @@ row_number_is : (row : ℕ) → IsRowStart (row_number row)
 row_number_is row = row_start_by row (nat_lt 9999 row) refl
 
 row_start_is : (row : ℕ) (c : Cell) → IsRowStart (row_start row c)
-row_start_is row (cell.Wins win) = blanks_start 6 (omega arith)
+row_start_is row (cell.Wins win) = blanks_start 5 (omega arith)
 row_start_is row (cell.Turn dice legs) = row_number_is row
 row_start_is row (cell.Doubles n) = row_number_is row
 row_start_is row cell.Takes = row_number_is row
@@ -126,25 +126,61 @@ both_written row l r low high =
       );
     }
 
+-- a cell that blanks may follow
+record IsLastCell (text : List ℕ) (c : Cell) : Type 0 where
+  rest : List ℕ
+  tells : TellsCell text c rest
+  blank : IsBlankText rest
+  few : leading_blanks text ≤ 1
+  of_line : IsOfLine text
+
+blanks_end : (n : ℕ) → EndsWord (replicate n 32)
+blanks_end zero = tt
+blanks_end (suc n) = refl
+
+bare_cell : (c : Cell) → HasNumbers c → IsLastCell (cell_text c) c
+bare_cell c low = record {
+  rest = [];
+  tells = last_cell c low;
+  blank = no_blanks;
+  few = subst (λ (t : List ℕ). leading_blanks t ≤ 1) (append-nil (cell_text c)) ((cell_is c low).few []);
+  of_line = (cell_is c low).of_line;
+}
+
+filled_cell : (c : Cell) → HasNumbers c → IsLastCell (padded 28 (cell_text c)) c
+filled_cell c low =
+    let m = max 1 (28 - length (cell_text c)) in
+    let own = cell_is c low in
+    record {
+      rest = replicate m 32;
+      tells = own.tells (replicate m 32) (blanks_end m);
+      blank = blanks m;
+      few = own.few (replicate m 32);
+      of_line = of_line_both (cell_text c) (replicate m 32) own.of_line (blanks_of_line m);
+    }
+
+left_cell : (c : Cell) → HasNumbers c → IsLastCell (in_column X c) c
+left_cell (cell.Wins win) low = bare_cell (cell.Wins win) low
+left_cell (cell.Turn dice legs) low = filled_cell (cell.Turn dice legs) low
+left_cell (cell.Doubles n) low = filled_cell (cell.Doubles n) low
+left_cell cell.Takes low = filled_cell cell.Takes low
+left_cell cell.Drops low = filled_cell cell.Drops low
+
 left_written : (row : ℕ) (c : Cell) → HasNumbers c
     → WritesLine (alone_text row X c) (λ line. TellsRow line (record { left = Some c; right = None }))
 left_written row c low =
     let start = row_start_is row c in
-    let own = cell_is c low in
-    let line = row_start row c ++ [] ++ cell_text c in
-    let is : line ≡ row_start row c ++ cell_text c = ap (λ (t : List ℕ). t ++ cell_text c) (append-nil (row_start row c)) in
-    let few : leading_blanks (start.gap ++ cell_text c) < 16 =
-    (let lead = leading_both start.gap (cell_text c) start.blank in
-    let one : leading_blanks (cell_text c) ≤ 1 = subst (λ (t : List ℕ). leading_blanks t ≤ 1) (append-nil (cell_text c)) (own.few []) in
-    let gap = start.few in omega arith) in
+    let own = left_cell c low in
+    let few : leading_blanks (start.gap ++ in_column X c) < 16 =
+    (let lead = leading_both start.gap (in_column X c) start.blank in let one = own.few in let gap = start.few in omega arith) in
     record {
-      line = line;
+      line = row_start row c ++ in_column X c;
       spelled = refl;
-      of_line = subst (λ (t : List ℕ). IsOfLine t) (sym is) (of_line_both (row_start row c) (cell_text c) start.of_line own.of_line);
+      of_line = of_line_both (row_start row c) (in_column X c) start.of_line own.of_line;
       tells = (
-        start.gap ++ cell_text c,
-        subst (λ (t : List ℕ). SkipsNumber t (start.gap ++ cell_text c)) (sym is) (start.skips (cell_text c)),
-        (few, [], cell_behind start.gap (cell_text c) [] c start.blank (last_cell c low), no_blanks),
+        start.gap ++ in_column X c,
+        start.skips (in_column X c),
+        (few, own.rest, cell_behind start.gap (in_column X c) own.rest c start.blank own.tells, own.blank),
       );
     }
 
@@ -153,21 +189,19 @@ right_written : (row : ℕ) (c : Cell) → HasNumbers c
 right_written row c low =
     let start = row_start_is row c in
     let own = cell_is c low in
-    let line = row_start row c ++ replicate 28 32 ++ cell_text c in
-    let cells = replicate 28 32 ++ cell_text c in
-    let is : line ≡ row_start row c ++ cells = append_assoc (row_start row c) (replicate 28 32) (cell_text c) in
+    let cells = in_column O c in
     let many : 16 ≤ leading_blanks (start.gap ++ cells) =
     (let lead = leading_both start.gap cells start.blank in
     let more : leading_blanks cells ≡ 28 + leading_blanks (cell_text c) = leading_both (replicate 28 32) (cell_text c) (blanks 28) in
     omega arith) in
     record {
-      line = line;
+      line = row_start row c ++ cells;
       spelled = refl;
-      of_line = of_line_both (row_start row c ++ replicate 28 32) (cell_text c)
-          (of_line_both (row_start row c) (replicate 28 32) start.of_line (blanks_of_line 28)) own.of_line;
+      of_line = of_line_both (row_start row c) cells start.of_line
+          (of_line_both (replicate 28 32) (cell_text c) (blanks_of_line 28) own.of_line);
       tells = (
         start.gap ++ cells,
-        subst (λ (t : List ℕ). SkipsNumber t (start.gap ++ cells)) (sym is) (start.skips cells),
+        start.skips cells,
         (
           many,
           [],

@@ -28,7 +28,7 @@ ending_text true = codes " and the match"
 ending_text false = []
 
 abbrev pub win_text : Win → List ℕ
-win_text win = codes "Wins " ++ decimal win.points ++ points_text win.points ++ ending_text win.ends_match
+win_text win = codes " Wins " ++ decimal win.points ++ points_text win.points ++ ending_text win.ends_match
 
 abbrev pub cell_text : Cell → List ℕ
 cell_text (Turn dice legs) = dice_text dice ++ legs_text legs.items

@@ -1,6 +1,6 @@
 -- The texts of lines.
-use Rattle.std.specs.Prelude.{◌≡◌, ℕ, ◌+◌, ◌-◌, max, nat_lt, ◌||◌, Some, List, [], ◌∷◌, ◌++◌, length, replicate}
-use Rattle.std.specs.Prelude.{codes, if◌then◌else◌}
+use Rattle.std.specs.Prelude.{◌≡◌, ℕ, ◌+◌, ◌-◌, max, nat_lt, Bool, true, not, ◌||◌, Some, List, [], ◌∷◌, ◌++◌, length}
+use Rattle.std.specs.Prelude.{replicate, codes, if◌then◌else◌}
 use Rattle.std.specs.Fmt.{decimal}
 use Rattle.bg_board.specs.declared.players.Player.{Player}
 use Rattle.bg_board.specs.declared.players.Player.TheVariants.{X, O}
@@ -31,16 +31,18 @@ both_text row left right = row_number row ++ padded 28 (cell_text left) ++ cell_
 
 -- what a row of one cell begins with: the row of a win has no number
 abbrev pub row_start : ℕ → Cell → List ℕ
-row_start row (cell.Wins win) = replicate 6 32
+row_start row (cell.Wins win) = replicate 5 32
 row_start row _ = row_number row
 
-abbrev pub column : Player → List ℕ
-column X = []
-column O = replicate 28 32
+-- a cell that is alone in its row, in the player's column. Behind a cell of X, but for a win, the column is filled
+abbrev pub in_column : Player → Cell → List ℕ
+in_column X (cell.Wins win) = cell_text (cell.Wins win)
+in_column X cell = padded 28 (cell_text cell)
+in_column O cell = replicate 28 32 ++ cell_text cell
 
 -- a row of one cell
 abbrev pub alone_text : ℕ → Player → Cell → List ℕ
-alone_text row player cell = row_start row cell ++ column player ++ cell_text cell ++ codes "\n"
+alone_text row player cell = row_start row cell ++ in_column player cell ++ codes "\n"
 
 abbrev pub score_text : List ℕ → ℕ → List ℕ
 score_text name score = name ++ codes " : " ++ decimal score
@@ -57,11 +59,15 @@ pub data Line : Type 0 where
   Alone : Player → Cell → Line
   Both : Cell → Cell → Line
 
--- a cell of X shares its row with the cell of O behind it, unless one of both is a win
+-- a cell of X shares its row with the cell of O behind it. A win shares one with a drop alone, which it follows
+abbrev pub share_row : Cell → Cell → Bool
+share_row cell.Drops right = true
+share_row left right = not (is_win (Some left) || is_win (Some right))
+
+-- a cell of X before lines, the first of which may be the cell of O behind it
 abbrev pub beside : Cell → List Line → List Line
 beside left (Alone O right ∷ lines) =
-    if is_win (Some left) || is_win (Some right) then Alone X left ∷ Alone O right ∷ lines
-    else Both left right ∷ lines
+    if share_row left right then Both left right ∷ lines else Alone X left ∷ Alone O right ∷ lines
 beside left lines = Alone X left ∷ lines
 
 -- what is told, in lines

@@ -73,7 +73,7 @@ fn put_ending(out: &mut Vec<u8>, ends_match: bool) -> Result<(), AllocError>
 fn put_win(out: &mut Vec<u8>, win: Win) -> Result<(), AllocError>
     ensures { OnOk result (out.new.items ≡ out.old.items ++ win_text win) }
 {
-    put_text(out, "Wins ")?;
+    put_text(out, " Wins ")?;
     put_number(out, win.points.into())?;
     put_points(out, win.points)?;
     put_ending(out, win.ends_match)

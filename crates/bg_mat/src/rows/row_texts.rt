@@ -1,7 +1,7 @@
 //! The texts of rows, and of the lines that head a game.
 ghost use Rattle.std.specs.Prelude.{◌≡◌, ◌++◌, replicate, OnOk, codes};
-ghost use Rattle.bg_mat.specs.Rows.RowTexts.{alone_text, blanks_before as blanks_before_number, both_text, column};
-ghost use Rattle.bg_mat.specs.Rows.RowTexts.{game_text, padded, row_number, row_start, score_text};
+ghost use Rattle.bg_mat.specs.Rows.RowTexts.{alone_text, blanks_before as blanks_before_number, both_text};
+ghost use Rattle.bg_mat.specs.Rows.RowTexts.{game_text, in_column, padded, row_number, row_start, score_text};
 ghost use Rattle.bg_mat.specs.Rows.CellTexts.{cell_text};
 ghost use Rattle.std.specs.Fmt.{decimal};
 
@@ -85,18 +85,23 @@ fn put_start(out: &mut Vec<u8>, row: u16, cell: &Cell) -> Result<(), AllocError>
     ensures { OnOk result (out.new.items ≡ out.old.items ++ row_start row cell.now) }
 {
     match cell {
-        Cell::Wins(_) => put_blanks(out, 6),
+        Cell::Wins(_) => put_blanks(out, 5),
         _ => put_row_number(out, row),
     }
 }
 
-/// Adds blanks up to the player's column.
-fn put_column(out: &mut Vec<u8>, player: Player) -> Result<(), AllocError>
-    ensures { OnOk result (out.new.items ≡ out.old.items ++ column player) }
+/// Adds a cell that is alone in its row, in the player's column. Behind one of X, but for a win, blanks
+/// fill it.
+fn put_in_column(out: &mut Vec<u8>, player: Player, cell: &Cell) -> Result<(), AllocError>
+    ensures { OnOk result (out.new.items ≡ out.old.items ++ in_column player cell.now) }
 {
-    match player {
-        Player::X => Ok(()),
-        Player::O => put_blanks(out, LEFT_WIDTH),
+    match (player, cell) {
+        (Player::X, Cell::Wins(_)) => put_cell(out, cell),
+        (Player::X, _) => put_left(out, cell),
+        (Player::O, _) => {
+            put_blanks(out, LEFT_WIDTH)?;
+            put_cell(out, cell)
+        }
     }
 }
 
@@ -110,8 +115,7 @@ pub(crate) fn put_alone(
     ensures { OnOk result (out.new.items ≡ out.old.items ++ alone_text row player cell.now) }
 {
     put_start(out, row, cell)?;
-    put_column(out, player)?;
-    put_cell(out, cell)?;
+    put_in_column(out, player, cell)?;
     put_text(out, "\n")
 }
 

@@ -26,6 +26,19 @@ const TWO_GAMES: &str = " 3 point match
       Wins 1 point and the match
 ";
 
+/// A drop of X, with the win beside it, and a row of X alone.
+const DROP_OF_X: &str = " 3 point match
+
+ Game 1
+ X : 0                          O : 0
+  1) 31: 8/5 6/5                  Doubles => 2
+  2)  Drops                       Wins 1 point
+
+ Game 2
+ X : 0                          O : 1
+  1) 61: 13/7 8/7                 Doubles => 2
+  2)  Takes                      \n";
+
 fn export(alloc: Global, record: &Record) -> Result<Vec<u8>, Fail> {
     Ok(export_mat(alloc, record)?)
 }
@@ -42,12 +55,14 @@ fn check_end(alloc: Global, record: &Record, end: &str) -> Result<(), Fail> {
 
 /// What is written of a record is what was read of such a text.
 #[test]
-fn two_games(rt: HostRuntime) -> Result<(), Fail> {
-    let imported = read(rt.alloc(), TWO_GAMES)?;
-    check_len(&imported.record, 15)?;
-    let written = export(rt.alloc(), &imported.record)?;
-    let text = text_of(&written);
-    assert!(rt; text == TWO_GAMES, "{text}");
+fn games_as_they_are_written(rt: HostRuntime) -> Result<(), Fail> {
+    for (file, entries) in [(TWO_GAMES, 15), (DROP_OF_X, 8)] {
+        let imported = read(rt.alloc(), file)?;
+        check_len(&imported.record, entries)?;
+        let written = export(rt.alloc(), &imported.record)?;
+        let text = text_of(&written);
+        assert!(rt; text == file, "{text}");
+    }
     Ok(())
 }
 
@@ -61,7 +76,7 @@ fn marks_and_points(rt: HostRuntime) -> Result<(), Fail> {
         ),
         (
             "  1) 31: 24/23 13/10   65: 8/2* 6/1*\n  2) 21: bar/23* bar/24*\n",
-            "  2) 21: 25/23* 25/24*\n",
+            "  2) 21: 25/23* 25/24*           \n",
         ),
     ] {
         let imported = read_rows(rt.alloc(), THREE_POINTS, rows)?;
