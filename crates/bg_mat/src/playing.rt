@@ -17,6 +17,7 @@ use crate::MatFault;
 use crate::faults::{ReadFault, refused};
 use crate::movements::legs::Legs;
 use crate::movements::turns::{find_turn, turn_fault};
+use crate::playing::moving::entry_of_dice;
 use crate::rows::cells::{Cell, Win};
 use crate::rows::headings::has_scores;
 use arrayvec::ArrayVec;
@@ -120,12 +121,12 @@ impl Replay {
         ensures fault { IfErr result (IsAtLineOf self.old line) }
     {
         self.close(false)?;
-        if !self.is_opening() {
-            return Err(refused(line, self.game_fault()));
+        if number != u16::from(self.game) + 1 {
+            return Err(refused(line, MatFault::WrongGame));
         }
         let game = self.standing.game();
-        if number != u16::from(game) || game == self.game {
-            return Err(refused(line, MatFault::WrongGame));
+        if number != u16::from(game) || !self.is_opening() {
+            return Err(refused(line, self.game_fault()));
         }
         self.game = game;
         self.before = self.standing.score();
@@ -170,6 +171,9 @@ impl Replay {
     {
         match cell {
             Cell::Turn(dice, legs) if legs.is_empty() => {
+                if let Err(why) = entry_of_dice(player, dice, &self.standing) {
+                    return Err(refused(line, why));
+                }
                 self.pending = Some(PendingTurn { line, player, dice });
                 Ok(())
             }

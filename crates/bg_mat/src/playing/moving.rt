@@ -43,7 +43,11 @@ fn opening_of(player: Player, dice: Dice) -> Entry
 }
 
 /// The entry by which a player brings dice: he opens the game, or rolls.
-fn entry_of_dice(player: Player, dice: Dice, standing: &Standing) -> Result<Entry, MatFault>
+pub(super) fn entry_of_dice(
+    player: Player,
+    dice: Dice,
+    standing: &Standing,
+) -> Result<Entry, MatFault>
     ensures { IfOk result (BringsDice standing.now player dice) }
 {
     match standing.phase() {

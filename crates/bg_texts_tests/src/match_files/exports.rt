@@ -6,6 +6,7 @@ use crate::checks::text_of;
 use bg_board::Die;
 use bg_mat::{export_mat, import_mat};
 use bg_match::{Entry, Level, Record, Rules};
+use bg_text::split_line;
 use std::alloc::Global;
 use std::test::Fail;
 
@@ -62,6 +63,25 @@ fn games_as_they_are_written(rt: HostRuntime) -> Result<(), Fail> {
         let written = export(rt.alloc(), &imported.record)?;
         let text = text_of(&written);
         assert!(rt; text == file, "{text}");
+    }
+    Ok(())
+}
+
+/// A file that breaks off within a game, behind a win, or with dice that are not moved comes back as it was.
+#[test]
+fn files_that_break_off(rt: HostRuntime) -> Result<(), Fail> {
+    let mut front = Vec::new(rt.alloc());
+    let mut rest = TWO_GAMES.as_bytes();
+    for number in 1..=13 {
+        let (line, after) = split_line(rest).ok_or("no line")?;
+        front.extend_from_slice(line)?;
+        front.push(b'\n')?;
+        rest = after;
+        if matches!(number, 1 | 5 | 6 | 8 | 12 | 13) {
+            let imported = import_mat(rt.alloc(), 1, Rules::One, &front)?;
+            let written = export(rt.alloc(), &imported.record)?;
+            assert!(rt; written == front, "{number} lines");
+        }
     }
     Ok(())
 }

@@ -155,6 +155,82 @@ fn faults_of_games(rt: HostRuntime) -> Result<(), Fail> {
     Ok(())
 }
 
+/// Of several faults the first one is named: of a line its shape comes first, from left to right, and then what it
+/// tells.
+#[test]
+fn first_of_several_faults(rt: HostRuntime) -> Result<(), Fail> {
+    let cases = [
+        ("31: 8/5 6/5\n Game 5\n", 6, MatFault::WrongGame),
+        ("31: 8/5 6/5\n Game 1\n", 6, MatFault::WrongGame),
+        ("\n Game 2\n", 6, MatFault::GameGoesOn),
+        (
+            "31: 8/5 6/5\n      Wins 3 points\n Game 3\n",
+            7,
+            MatFault::WrongGame,
+        ),
+        (
+            "31: 24/23 23/22 22/21 21/20 20/19 hello\n",
+            5,
+            MatFault::TooManySteps,
+        ),
+        (
+            "31: 8/5 6/5 hello 24/23 23/22 22/21 21/20 20/19\n",
+            5,
+            MatFault::NotALine,
+        ),
+        ("31: 8/5 6/5  Beavers hello\n", 5, MatFault::Beaver),
+        ("31: 8/5 6/5\n31: 8/5 6/5  hello\n", 6, MatFault::NotALine),
+        (
+            "31: 8/5 6/5\n31: 8/5 6/5  42: 24/23 23/22 22/21 21/20 20/19\n",
+            6,
+            MatFault::TooManySteps,
+        ),
+        ("31: 8/5  31: 8/5*\n", 5, MatFault::NoSuchTurn),
+        ("31: 8/5* 6/5  Takes\n", 5, MatFault::WrongHits),
+        (
+            "31: 8/5 6/5  Drops\n      Wins 9 points\n",
+            5,
+            MatFault::OutOfTurn,
+        ),
+        (
+            "31: 8/5 6/5\n                  Wins 9 points\n",
+            6,
+            MatFault::OutOfTurn,
+        ),
+        (
+            "31: 8/5 6/5\n      Wins 9 points and the match\n",
+            6,
+            MatFault::WrongPoints,
+        ),
+    ];
+    for (rows, line, why) in cases {
+        check_rows(rt.alloc(), THREE_POINTS, rows, line, why)?;
+    }
+    Ok(())
+}
+
+/// Dice alone are refused at once where the player may not bring them; that a step can be played shows behind them.
+#[test]
+fn faults_of_dice_alone(rt: HostRuntime) -> Result<(), Fail> {
+    let equal = MatFault::Entry(EntryFault::EqualOpening);
+    let cases = [
+        ("33:\nhello\n", 5, equal),
+        ("31: 8/5 6/5\n42:\nhello\n", 6, MatFault::OutOfTurn),
+        ("31: 8/5 6/5  42:\nhello\n", 6, MatFault::NotALine),
+        ("31: 8/5 6/5  42:\n31: 8/5 6/5\n", 5, MatFault::NoSuchTurn),
+        (
+            "31: 8/5 6/5  42:\n                Wins 1 point\n",
+            5,
+            MatFault::NoSuchTurn,
+        ),
+        ("31: 8/5 6/5  42:\n Game 2\n", 5, MatFault::NoSuchTurn),
+    ];
+    for (rows, line, why) in cases {
+        check_rows(rt.alloc(), THREE_POINTS, rows, line, why)?;
+    }
+    Ok(())
+}
+
 /// The longest input is read, and one byte more is refused.
 #[test]
 fn longest_input(rt: HostRuntime) -> Result<(), Fail> {
