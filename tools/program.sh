@@ -1,23 +1,101 @@
-# Where the program stands, and whether it was built of the sources as they are. To be sourced; it sets top and program.
-# Where the environment has BG_RELAY, that is the program, whatever it was built of.
+# Where the program stands, and whether it was proved of the sources as they are. To be sourced; it sets
+# top and program. Where the environment has BG_RELAY, that is the program, whatever it was built of.
+#
+# The times of files say nothing of that. Who builds the program notes in FILE.proved, beside it, the sums
+# of the sources and of the program, and the toolchain: where any of them is another now, what runs is
+# said not to be proved.
 top=$(cd "$(dirname "$(readlink -f "${BASH_SOURCE[0]}")")/.." && pwd)
 program=${BG_RELAY:-$top/crates/bg_relay/out/bg_relay}
+if [ -n "${BG_RELAY-}" ] && [ ! -x "$BG_RELAY" ]; then
+    echo "bg_relay: BG_RELAY names no program: $BG_RELAY" >&2
+    exit 1
+fi
 
-# crates_of CRATE (it and the crates of the repository that it stands on, by crates.txt, each behind those it stands on)
-crates_of() {
+# lines_of CRATE (what crates.txt says of it and of the crates of the repository that it stands on, each
+# behind those it stands on)
+lines_of() {
     awk -v wanted="$1" '
         function visit(name,    words, count, at) {
             if (!(name in uses) || seen[name]++) return
             count = split(uses[name], words, " ")
             for (at = 1; at <= count; at++) visit(words[at])
-            print name
+            print heads[name] ":" uses[name]
         }
         { sub(/#.*/, "") }
-        split($0, halves, ":") == 2 { split(halves[1], words, " "); uses[words[1]] = halves[2] }
+        split($0, halves, ":") == 2 {
+            split(halves[1], words, " ")
+            heads[words[1]] = halves[1]
+            uses[words[1]] = halves[2]
+        }
         END { visit(wanted) }' "$top/crates.txt"
 }
 
-# is_current FILE CRATE (whether what was built of a crate stands there, and no source of it or below it is newer)
+# crates_of CRATE (it and the crates of the repository that it stands on, in that order)
+crates_of() {
+    lines_of "$1" | sed 's/[ :].*//'
+}
+
+# sum_of_input (of what the standard input gives)
+sum_of_input() {
+    local line
+    line=$(b2sum -l 256)
+    echo "${line%% *}"
+}
+
+# sum_of_sources CRATE (of all that its proof rests on but the toolchain: the sources of it and of the
+# crates that it stands on, with their names, what crates.txt says of these, and HANDLES)
+sum_of_sources() {
+    local lines crate folders=()
+    mapfile -t lines < <(lines_of "$1")
+    for crate in "${lines[@]%%[ :]*}"; do
+        folders+=("crates/$crate/src" "crates/$crate/specs" "crates/$crate/proofs")
+    done
+    (
+        cd "$top"
+        printf '%s\n' "${lines[@]}"
+        cat HANDLES
+        find "${folders[@]}" -type f -print0 2> /dev/null | LC_ALL=C sort -z | xargs -0 b2sum -l 256
+    ) | sum_of_input
+}
+
+# toolchain (its name, as rt version prints it; nothing where rt is not on the PATH)
+toolchain() {
+    local rt words=
+    if rt=$(readlink -f "$(command -v rt)"); then
+        read -r words 2> /dev/null < "${rt%/*}/../KIT-ID" || true
+    fi
+    echo "$words"
+}
+
+# note_proved FILE CRATE SUM (notes that FILE was proved and built just now, of a crate whose sources had
+# this sum when that began; fails where they have another one now)
+note_proved() {
+    if [ "$(sum_of_sources "$2")" != "$3" ]; then
+        echo "bg_relay: sources changed while $1 was built, so of what it was proved is not known: run this again" >&2
+        return 1
+    fi
+    printf '%s\n' "sources $3" "file $(sum_of_input < "$1")" "toolchain $(toolchain)" > "$1.proved.$$"
+    mv "$1.proved.$$" "$1.proved"
+}
+
+# is_proved FILE CRATE (whether FILE stands as it was proved and built, of a crate whose sources are still
+# the same, by the toolchain that is here; where not, sets why)
+is_proved() {
+    local sources file toolchain here
+    why="no proved program stands here"
+    [ -e "$1" ] || return 1
+    why="nothing says that the program which stands here was proved"
+    { read -r _ sources && read -r _ file && read -r _ toolchain; } 2> /dev/null < "$1.proved" || return 1
+    [ "$file" = "$(sum_of_input < "$1")" ] || return 1
+    why="the sources changed since the program was proved"
+    [ "$sources" = "$(sum_of_sources "$2")" ] || return 1
+    why="the program was proved by another toolchain, $toolchain"
+    here=$(toolchain)
+    [ "$toolchain" = "${here:-$toolchain}" ]
+}
+
+# is_current FILE CRATE (whether what was built of a crate stands there, and no source of it or below it
+# is newer)
 is_current() {
     [ -e "$1" ] || return 1
     local name folders=()
@@ -27,9 +105,13 @@ is_current() {
     [ -z "$(find "${folders[@]}" -newer "$1" -print -quit 2> /dev/null)" ]
 }
 
-# is_built (whether the program stands that is to run: the proved one, which rt ci leaves there too, or BG_RELAY)
+# is_built (whether the program stands that is to run: the proved one, or BG_RELAY; where not, sets why)
 is_built() {
-    if [ -n "${BG_RELAY-}" ]; then [ -x "$program" ]; else is_current "$program" bg_relay; fi
+    if [ -n "${BG_RELAY-}" ] || is_proved "$program" bg_relay; then return 0; fi
+    # What rt ci builds, run by hand, is noted by nobody; but it keeps sums of its own on this machine.
+    local sources
+    sources=$(sum_of_sources bg_relay)
+    [ -e "$program" ] && "$top/tools/proved_by_ci" 2> /dev/null && note_proved "$program" bg_relay "$sources"
 }
 
 # needs_rt (ends the script where the toolchain's command is missing)
