@@ -1,9 +1,9 @@
 //! The bytes that are read of an input.
 
 use bg_console::{no_memory, say, unread};
-use bg_mat::{ImportFault, import_mat};
+use bg_mat::import_mat;
 use bg_match::{Record, Rules};
-use bg_reports::{Ending, said_of_match_file, said_of_transcript};
+use bg_reports::{Ending, said_of_import_fault, said_of_transcript};
 use bg_text::{MOST_BYTES, TranscriptFault, Verdict, read_transcript};
 use std::alloc::{AllocError, Global};
 use std::io;
@@ -56,9 +56,9 @@ where
     let bytes = standard_input(rt)?;
     match import_mat(rt.alloc(), NO_NUMBER, rules, &bytes) {
         Ok(imported) => Ok(imported.record),
-        Err(ImportFault::Memory) => Err(no_memory(rt)),
-        Err(ImportFault::Refused { .. } | ImportFault::TooLong) => {
-            Err(refused(rt, said_of_match_file(rt.alloc(), MATCH_FILE, &bytes, None)))
+        Err(fault) => {
+            let said = said_of_import_fault(rt.alloc(), MATCH_FILE, &bytes, fault, None);
+            Err(refused(rt, said))
         }
     }
 }

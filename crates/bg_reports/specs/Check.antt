@@ -11,6 +11,7 @@ use Rattle.bg_text.specs.declared.judging.verdicts.Verdict.TheVariants.{Fine, Re
 use Rattle.bg_mat.specs.FaultWords.{import_fault_words}
 use Rattle.bg_mat.specs.Files.{BeginAsMatchFile, Imports}
 use Rattle.bg_mat.specs.Refusals.{IsRefusal}
+use Rattle.bg_mat.specs.declared.faults.ImportFault.{ImportFault}
 use Rattle.bg_mat.specs.declared.faults.ImportFault.TheVariants as import_fault
 use Rattle.bg_mat.specs.declared.faults.MatFault.{MatFault}
 use Rattle.bg_reports.specs.Harmless.{shown, cut}
@@ -61,6 +62,12 @@ IsMatchFileVerdict bytes words (Refused n) =
 IsMatchFileVerdict bytes words TooLong =
     (most_bytes < length bytes) × (words ≡ import_fault_words import_fault.TooLong)
 
+-- what the fault of a match file comes to; want of memory is no verdict
+abbrev pub import_verdict : ImportFault → Option Verdict
+import_verdict (import_fault.Refused line why) = Some (Refused line)
+import_verdict import_fault.TooLong = Some TooLong
+import_verdict import_fault.Memory = None
+
 -- what is printed of a file of this name, of which these words are said, on a screen of so many columns
 abbrev pub printed_line : List ℕ → List ℕ → Verdict → List ℕ → Option ℕ → List ℕ
 printed_line name words verdict bytes columns =
@@ -77,6 +84,12 @@ abbrev pub IsMatchFileText : List ℕ → List ℕ → Option ℕ → List ℕ �
 IsMatchFileText name bytes columns text verdict =
     (words : List ℕ) × IsMatchFileVerdict bytes words verdict
     × (text ≡ printed_line name words verdict bytes columns)
+
+-- what is printed of a match file with this fault
+abbrev pub IsImportFaultText : List ℕ → List ℕ → ImportFault → Option ℕ → List ℕ → Verdict → Type 0
+IsImportFaultText name bytes fault columns text verdict =
+    (import_verdict fault ≡ Some verdict)
+    × (text ≡ printed_line name (import_fault_words fault) verdict bytes columns)
 
 -- what is printed of a file: it is a match file where its first line that tells something is the length of a match
 abbrev pub IsCheckText : List ℕ → List ℕ → Option ℕ → List ℕ → Verdict → Type 0

@@ -1,8 +1,9 @@
 //! What is said of a file that was judged.
-ghost use Rattle.std.specs.Prelude.{◌≡◌, ◌++◌, [], IfOk, OnOk, slice_index_or};
+ghost use Rattle.std.specs.Prelude.{◌≡◌, ◌++◌, [], Some, IfOk, OnOk, slice_index_or};
 ghost use Rattle.bg_text.specs.Judge.Judging.{fine_line, lines_of};
 ghost use Rattle.bg_mat.specs.FaultWords.{import_fault_words};
-ghost use Rattle.bg_reports.specs.Check.{IsCheckText, IsMatchFileText, IsMatchFileVerdict, IsTranscriptText};
+ghost use Rattle.bg_reports.specs.Check.{IsCheckText, IsImportFaultText, IsMatchFileText, IsMatchFileVerdict};
+ghost use Rattle.bg_reports.specs.Check.{IsTranscriptText, import_verdict};
 ghost use Rattle.bg_reports.specs.Check.{last_line as last_of, printed_line, refused_in, refused_part, room_in};
 
 pub(crate) mod tallies;
@@ -66,10 +67,7 @@ pub fn said_of_transcript(
 }
 
 /// The same of a file that is a match file of another program.
-///
-/// # Errors
-/// `AllocError` where memory runs out.
-pub fn said_of_match_file(
+fn said_of_match_file(
     alloc: Global,
     name: &str,
     bytes: &[u8],
@@ -91,11 +89,7 @@ fn verdict_on_match_file(alloc: Global, bytes: &[u8]) -> Result<(Vec<u8>, Verdic
             let entries = imported.record.len();
             Ok((fine_words(alloc, entries)?, Verdict::Fine(entries)))
         }
-        Err(ImportFault::Memory) => Err(AllocError),
-        Err(fault @ ImportFault::TooLong) => Ok((fault_words(alloc, fault)?, Verdict::TooLong)),
-        Err(fault @ ImportFault::Refused { line, .. }) => {
-            Ok((fault_words(alloc, fault)?, Verdict::Refused(line)))
-        }
+        Err(fault) => verdict_of_import_fault(alloc, fault),
     }
 }
 
@@ -108,11 +102,40 @@ fn fine_words(alloc: Global, entries: Number) -> Result<Vec<u8>, AllocError>
     Ok(words)
 }
 
-/// What is said of a match file that is refused.
-fn fault_words(alloc: Global, fault: ImportFault) -> Result<Vec<u8>, AllocError>
-    ensures { IfOk result (λ words. words.items ≡ import_fault_words fault) }
+/// What is printed of a match file of this name, with these bytes, that gives no record for this fault: what
+/// [`check_text`] gives where that is the fault by the first rules.
+///
+/// # Errors
+/// `AllocError` where memory runs out, also where that is the fault.
+pub fn said_of_import_fault(
+    alloc: Global,
+    name: &str,
+    bytes: &[u8],
+    fault: ImportFault,
+    columns: Option<usize>,
+) -> Result<(Vec<u8>, Verdict), AllocError>
+    ensures { IfOk result (λ told. IsImportFaultText name.now bytes.now fault columns told.0.items told.1) }
 {
-    Ok(format!(in alloc; "{fault}")?.into_bytes())
+    let (words, verdict) = verdict_of_import_fault(alloc, fault)?;
+    let text = said(alloc, name, &words, bytes, verdict, columns)?;
+    Ok((text, verdict))
+}
+
+/// The verdict on a match file that gives no record for this fault, in words and as such.
+fn verdict_of_import_fault(
+    alloc: Global,
+    fault: ImportFault,
+) -> Result<(Vec<u8>, Verdict), AllocError>
+    ensures { IfOk result (λ told. (told.0.items ≡ import_fault_words fault)
+        × (import_verdict fault ≡ Some told.1)) }
+{
+    let verdict = match fault {
+        ImportFault::Refused { line, .. } => Verdict::Refused(line),
+        ImportFault::TooLong => Verdict::TooLong,
+        ImportFault::Memory => return Err(AllocError),
+    };
+    let words = format!(in alloc; "{fault}")?;
+    Ok((words.into_bytes(), verdict))
 }
 
 /// What is printed of a file of this name with a verdict in these words.

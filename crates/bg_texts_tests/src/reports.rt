@@ -2,6 +2,7 @@
 mod checks;
 mod folders;
 mod growths;
+mod refusals;
 mod restored;
 mod saved_files;
 mod shown;

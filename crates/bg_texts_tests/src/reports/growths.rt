@@ -2,7 +2,11 @@
 //! tests refuses any, but `tools/checks/refuse_growths` refuses each growth in turn.
 use super::folders::slots;
 use super::saved_files::{AFTER_THE_MOVE, AFTER_THE_OPENING, OPENING, REFEREE, SEAT};
-use bg_reports::{SlotBytes, check_text, folder_text, restored_transcript, show_text};
+use bg_mat::{ImportFault, import_mat};
+use bg_match::Rules;
+use bg_reports::{
+    SlotBytes, check_text, folder_text, restored_transcript, said_of_import_fault, show_text,
+};
 use bg_text::Verdict;
 use std::alloc::{AllocError, Global};
 use std::test::Fail;
@@ -46,6 +50,35 @@ fn refused_growths_of_checks(rt: HostRuntime) -> Result<(), Fail> {
         );
     }
     check_no_growth_is_left(rt.alloc())
+}
+
+/// Why a match file is refused, also where memory is refused once.
+fn import_fault(alloc: Global, bytes: &[u8]) -> Option<ImportFault> {
+    match import_mat(alloc, 1, Rules::One, bytes) {
+        Err(ImportFault::Memory) => import_mat(alloc, 1, Rules::One, bytes).err(),
+        result => result.err(),
+    }
+}
+
+#[test]
+fn refused_growths_of_refusals(rt: HostRuntime) -> Result<(), Fail> {
+    let bytes = b" 1 point match\n Game 2\n";
+    let alloc = rt.alloc();
+    for _ in 0..2 {
+        let Some(fault) = import_fault(alloc, bytes) else {
+            return Err(Fail::from("game 2 comes first"));
+        };
+        let (text, verdict) = match said_of_import_fault(alloc, "a", bytes, fault, Some(80)) {
+            Ok(said) => said,
+            Err(AllocError) => said_of_import_fault(alloc, "a", bytes, fault, Some(80))?,
+        };
+        assert!(rt;
+            verdict == Verdict::Refused(2)
+                && text.as_slice()
+                    == b"a: refused at line 2: not the next game:  Game 2\n".as_slice()
+        );
+    }
+    check_no_growth_is_left(alloc)
 }
 
 /// The files of a party, also where memory is refused once.
