@@ -114,7 +114,7 @@ fn processes(rt: HostRuntime) -> Result<(), Fail> {
     let folder = made.as_str();
     // bg_processes
     // What all processes of a match agree on is a line; this is one of a match to 3 points.
-    let file = MatchFile::parse("match 7 length 3 rules 1 port 4000").expect(&rt, "a good line");
+    let file = MatchFile::parse("match 7 length 3 rules 1 port 4000\n").expect(&rt, "a good text");
     assert!(rt; file.terms.length == 3);
     // The referee's process, over its own socket and a folder, with a secret that its dice go by. Why a call of the
     // socket or of the files failed is noted.

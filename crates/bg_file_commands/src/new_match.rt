@@ -13,7 +13,7 @@ use std::rt::Files;
 /// The files that a folder of a match may have from the beginning: what has one of them is no new folder.
 const NAMES: [&str; 4] = ["match", "secret", "party-0.0", "party-0.1"];
 
-/// Makes the match that the options name, and prints its line.
+/// Makes the match that the options name, and prints its file.
 pub fn run<R>(rt: &R, options: NewOptions<'_>) -> Result<Ending, Ending>
 where
     R: Files<File = File> + RandomSource + Print + Eprint + AllocGlobal,
@@ -24,7 +24,7 @@ where
         folder,
     } = options;
     let file = make_match(rt, terms, port, folder)?;
-    written(rt, rt.println(file))?;
+    written(rt, rt.print(file))?;
     Ok(Ending::Served)
 }
 

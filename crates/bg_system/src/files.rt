@@ -2,6 +2,7 @@
 
 pub(crate) mod folder_locks;
 pub(crate) mod match_files;
+pub(crate) mod numbers;
 pub(crate) mod party_files;
 pub(crate) mod secrets;
 pub(crate) mod slot_names;

@@ -16,12 +16,10 @@ const FILE: MatchFile = MatchFile {
     port: HIGHEST_PORT,
 };
 
-const LINE: &str = "match 18446744073709551615 length 99 rules 2 port 65280";
+const TEXT: &str = "match 18446744073709551615 length 99 rules 2 port 65280\n";
 
 #[test]
-fn lines_of_match_files(rt: HostRuntime) -> Result<(), Fail> {
-    let line = format!(in rt.alloc(); "{FILE}")?;
-    assert!(rt; line.as_str() == LINE);
+fn texts_of_match_files(rt: HostRuntime) -> Result<(), Fail> {
     let least = MatchFile {
         id: 0,
         terms: Terms {
@@ -30,39 +28,71 @@ fn lines_of_match_files(rt: HostRuntime) -> Result<(), Fail> {
         },
         port: LOWEST_PORT,
     };
-    for (line, file) in [
-        (LINE, FILE),
-        ("match 0 length 1 rules 1 port 1024\n", least),
+    for (file, text) in [
+        (FILE, TEXT),
+        (least, "match 0 length 1 rules 1 port 1024\n"),
     ] {
-        assert!(rt; MatchFile::parse(line) == Some(file), "{line}");
+        let shown = format!(in rt.alloc(); "{file}")?;
+        assert!(rt; shown.as_str() == text, "{text}");
+        assert!(rt; MatchFile::parse(text) == Some(file), "{text}");
     }
     Ok(())
 }
 
 #[test]
-fn lines_of_no_match_file(rt: HostRuntime) -> Result<(), Fail> {
-    for line in [
+fn texts_of_no_match_file(rt: HostRuntime) {
+    for text in [
         "",
-        "match",
-        "match 1 length 1 rules 1",
-        "match 1 length 1 rules 1 port",
-        "match 1 length 1 rules 1 port 1023",
-        "match 1 length 1 rules 1 port 65281",
-        "match 1 length 0 rules 1 port 4000",
-        "match 1 length 100 rules 1 port 4000",
-        "match 1 length 1 rules 0 port 4000",
-        "match 1 length 1 rules 3 port 4000",
-        "match 18446744073709551616 length 1 rules 1 port 4000",
-        "match -1 length 1 rules 1 port 4000",
-        "match 1 length 1 rules 1 port 4000 ",
-        "match 1 length 1 rules 1 port 4000 more",
-        "match 1  length 1 rules 1 port 4000",
-        "match 1 length 1 port 4000 rules 1",
-        "match 1 length 1 rules 1 port 4000\n\n",
+        "\n",
+        "match\n",
+        "match 1 length 1 rules 1\n",
+        "match 1 length 1 rules 1 port\n",
+        "match 1 length 1 rules 1 port \n",
+        "match 1 length 1 rules 1 port 1023\n",
+        "match 1 length 1 rules 1 port 65281\n",
+        "match 1 length 0 rules 1 port 4000\n",
+        "match 1 length 100 rules 1 port 4000\n",
+        "match 1 length 1 rules 0 port 4000\n",
+        "match 1 length 1 rules 3 port 4000\n",
+        "match 18446744073709551616 length 1 rules 1 port 4000\n",
+        "match 99999999999999999999999 length 1 rules 1 port 4000\n",
+        "match -1 length 1 rules 1 port 4000\n",
+        "match 0x1 length 1 rules 1 port 4000\n",
+        "match 1 length 1 port 4000 rules 1\n",
+        "Match 1 length 1 rules 1 port 4000\n",
     ] {
-        assert!(rt; MatchFile::parse(line).is_none(), "{line}");
+        assert!(rt; MatchFile::parse(text).is_none(), "{text}");
     }
-    Ok(())
+}
+
+/// What says the same as the text of a match file, or more, is none: there is one text for each.
+#[test]
+fn other_texts_of_a_match(rt: HostRuntime) {
+    assert!(rt; MatchFile::parse("match 7 length 3 rules 1 port 4000\n").is_some());
+    for text in [
+        "match 7 length 3 rules 1 port 4000",
+        "match 7 length 3 rules 1 port 4000\n\n",
+        "match 7 length 3 rules 1 port 4000\r\n",
+        "match 7 length 3 rules 1 port 4000 \n",
+        "match 7 length 3 rules 1 port 4000 more\n",
+        "match 7 length 3 rules 1 port 4000\nmore",
+        " match 7 length 3 rules 1 port 4000\n",
+        "match  7 length 3 rules 1 port 4000\n",
+        "match 7  length 3 rules 1 port 4000\n",
+        "match 7 length 3 rules 1  port 4000\n",
+        "match\t7 length 3 rules 1 port 4000\n",
+        "match +7 length 3 rules 1 port 4000\n",
+        "match 07 length 3 rules 1 port 4000\n",
+        "match 7 length 03 rules 1 port 4000\n",
+        "match 7 length +3 rules 1 port 4000\n",
+        "match 7 length 3 rules 01 port 4000\n",
+        "match 7 length 3 rules +1 port 4000\n",
+        "match 7 length 3 rules 1 port 04000\n",
+        "match 7 length 3 rules 1 port +4000\n",
+        "match 7 length 3 port 4000\n",
+    ] {
+        assert!(rt; MatchFile::parse(text).is_none(), "{text}");
+    }
 }
 
 /// Who may read and write a file.
@@ -83,9 +113,11 @@ fn match_files_are_written_and_read(rt: HostRuntime) -> Result<(), Fail> {
     let path = path.as_str();
     assert!(rt; read(&rt, path) == Err(ErrorKind::NotFound));
     FILE.write(&rt, folder)?;
+    assert!(rt; fs::read(&rt, path)?.as_slice() == TEXT.as_bytes());
     assert!(rt; read(&rt, path) == Ok(Some(FILE)));
     assert!(rt; mode_of(&rt, path)? == 0o600);
-    for bytes in [b"match 1".as_slice(), &[0xff, 0xfe]] {
+    let unended = TEXT.trim_end().as_bytes();
+    for bytes in [b"match 1".as_slice(), unended, &[0xff, 0xfe]] {
         fs::write(&rt, path, bytes)?;
         assert!(rt; read(&rt, path) == Ok(None), "{bytes:?}");
     }

@@ -1,12 +1,15 @@
 //! What all processes of a match agree on, and the file that says it.
+ghost use Rattle.std.specs.Prelude.{◌≡◌, ◌↔◌, Some};
+ghost use Rattle.std.specs.Int.{IsInRange};
+ghost use Rattle.bg_system.specs.Numbers.{rules_number};
 
+use crate::files::numbers::split_number;
 use crate::files::whole_files::write_whole;
 use bg_match::{LONGEST_MATCH, Rules, SHORTEST_MATCH, Terms};
 use std::fmt::{Display, Formatter, Write};
 use std::fs::File;
 use std::io::Read;
 use std::rt::Files;
-use std::str::Split;
 use std::{fmt, io};
 
 /// The lowest port that a match may have.
@@ -18,8 +21,8 @@ pub const HIGHEST_PORT: u16 = 65_280;
 /// The most bytes that are read of the file: more than any good one has.
 const MOST_BYTES: u64 = 128;
 
-/// What all processes of a match agree on (docs/FORMATS.md, "Match file"): `match ID length N rules R port P` in one
-/// line.
+/// What all processes of a match agree on (docs/FORMATS.md, "Match file"). It is shown as the text of its file: `match ID
+/// length N rules R port P` in one line, which a line feed ends.
 #[derive(Clone, Copy, Debug, PartialEq, Eq)]
 pub struct MatchFile {
     /// The number of the match.
@@ -31,53 +34,62 @@ pub struct MatchFile {
 }
 
 impl Display for MatchFile {
+    ghost use Rattle.std.specs.Prelude.{Some};
+    ghost use Rattle.bg_system.specs.MatchFiles.{match_text};
+
+    ghost output = { λ file. Some (match_text file) };
+
     fn fmt<W: Write>(&self, f: &mut Formatter<W>) -> fmt::Result {
-        let rules = match self.terms.rules {
-            Rules::One => 1,
-            Rules::Two => 2,
-        };
-        write!(
-            f,
-            "match {} length {} rules {rules} port {}",
-            self.id, self.terms.length, self.port
-        )
+        let MatchFile { id, terms, port } = *self;
+        let Terms { length, rules } = terms;
+        let rules = number_of_rules(rules);
+        writeln!(f, "match {id} length {length} rules {rules} port {port}")
     }
 }
 
-/// The number that follows a word, from one number to another; none where another word or number stands there.
-fn number_after<'a>(words: &mut Split<'a, char>, word: &str, from: u64, to: u64) -> Option<u64> {
-    if words.next()? != word {
-        return None;
+/// By which number rules are named.
+fn number_of_rules(rules: Rules) -> u8
+    ensures { result ≡ rules_number rules }
+{
+    match rules {
+        Rules::One => 1,
+        Rules::Two => 2,
     }
-    match words.next()?.parse::<u64>() {
-        Ok(number) if from <= number && number <= to => Some(number),
-        _ => None,
-    }
+}
+
+/// The rules that a number names, 1 or 2.
+fn rules_of(number: u64) -> Rules
+    requires { IsInRange 1 2 number }
+    ensures { rules_number result ≡ number }
+{
+    if number == 1 { Rules::One } else { Rules::Two }
 }
 
 impl MatchFile {
-    /// What a line says, with or without its line feed; none where it is no such line.
-    pub fn parse(line: &str) -> Option<MatchFile> {
-        let mut words = line.strip_suffix('\n').unwrap_or(line).split(' ');
-        let id = number_after(&mut words, "match", 0, u64::MAX)?;
+    ghost use Rattle.bg_system.specs.MatchFiles.{IsMatchFile, match_text};
+
+    /// What a text says that is that of a match file. None where it is no match file's, as with a sign or a zero before a
+    /// number, with more than a space between two words, without its line feed, or with anything behind that.
+    pub fn parse(text: &str) -> Option<MatchFile>
+        ensures { (file : MatchFile) → (result ≡ Some file) ↔ (IsMatchFile file × (text.now ≡ match_text file)) }
+    {
+        let (id, rest) = split_number(text, "match ", 0, u64::MAX, ' ')?;
         let (shortest, longest) = (u64::from(SHORTEST_MATCH), u64::from(LONGEST_MATCH));
-        let length = number_after(&mut words, "length", shortest, longest)?;
-        let rules = match number_after(&mut words, "rules", 1, 2)? {
-            1 => Rules::One,
-            _ => Rules::Two,
-        };
+        let (length, rest) = split_number(rest, "length ", shortest, longest, ' ')?;
+        let (rules, rest) = split_number(rest, "rules ", 1, 2, ' ')?;
         let (lowest, highest) = (u64::from(LOWEST_PORT), u64::from(HIGHEST_PORT));
-        let port = number_after(&mut words, "port", lowest, highest)?;
-        if words.next().is_some() {
+        let (port, rest) = split_number(rest, "port ", lowest, highest, '\n')?;
+        if !rest.is_empty() {
             return None;
         }
+        let terms = Terms {
+            length: length as u8,
+            rules: rules_of(rules),
+        };
         Some(MatchFile {
             id,
-            terms: Terms {
-                length: u8::try_from(length).ok()?,
-                rules,
-            },
-            port: u16::try_from(port).ok()?,
+            terms,
+            port: port as u16,
         })
     }
 
@@ -94,7 +106,7 @@ impl MatchFile {
             .take(MOST_BYTES)
             .read_to_end(&mut bytes)?;
         match str::from_utf8(&bytes) {
-            Ok(line) => Ok(MatchFile::parse(line)),
+            Ok(text) => Ok(MatchFile::parse(text)),
             Err(_) => Ok(None),
         }
     }
@@ -109,7 +121,7 @@ impl MatchFile {
         rt: &(impl Files<File = File> + AllocGlobal),
         folder: &str,
     ) -> io::Result<()> {
-        let line = format!(in rt.alloc(); "{self}\n")?;
-        write_whole(rt, folder, "match", line.as_bytes())
+        let text = format!(in rt.alloc(); "{self}")?;
+        write_whole(rt, folder, "match", text.as_bytes())
     }
 }

@@ -1,0 +1,2 @@
+pub mod ReadNumbers
+pub mod MatchTexts
