@@ -1,2 +1,3 @@
 pub mod ReadNumbers
 pub mod MatchTexts
+pub mod Secrets

@@ -3,3 +3,4 @@
 pub(crate) mod all_parties;
 pub(crate) mod own_sockets;
 pub(crate) mod party_ends;
+pub(crate) mod senders;

@@ -1,40 +1,67 @@
 //! How a device notes that its calls fail.
+ghost use Rattle.std.specs.Prelude.{◌≡◌, ◌+◌, ◌||◌, false, true, length, if◌then◌else◌, is_err, is_ok};
 
 use crate::failures::Failures;
 use crate::failures::device_failures::FailedCall;
+use bg_streams::History;
 use std::io;
 
 /// Notes why calls of one kind fail at a device: of failures that follow each other the first alone.
+///
+/// Contracts see whether the last call failed, and how many failures it has noted.
 #[derive(Drop)]
 pub struct FirstFailures<'a> {
     failures: &'a Failures,
     /// Whether the last call failed.
     failing: bool,
+    /// A mark for each failure that it has noted.
+    noted: History,
 }
 
 impl<'a> FirstFailures<'a> {
     /// Of calls of which none has failed yet.
-    pub fn new(failures: &'a Failures) -> FirstFailures<'a> {
+    pub fn new(failures: &'a Failures) -> FirstFailures<'a>
+        ensures failing { result.failing ≡ false }
+        ensures noted { length result.noted.bytes ≡ 0 }
+    {
         FirstFailures {
             failures,
             failing: false,
+            noted: History::new(),
         }
     }
 
     /// Gives what the system answered to a call, and notes why the call failed, if it is the first that did.
-    pub fn after<T>(&mut self, call: FailedCall, answer: io::Result<T>) -> io::Result<T> {
+    pub fn after<T>(&mut self, call: FailedCall, answer: io::Result<T>) -> io::Result<T>
+        ensures answer { result ≡ answer }
+        ensures failing { self.new.failing ≡ is_err answer }
+        ensures noted { length self.new.noted.bytes
+            ≡ (if is_ok answer || self.old.failing then length self.old.noted.bytes
+            else length self.old.noted.bytes + 1) }
+    {
         match answer {
             Ok(value) => {
                 self.failing = false;
                 Ok(value)
             }
             Err(error) => {
-                if !self.failing {
-                    self.failures.note(call, error);
-                }
-                self.failing = true;
+                self.note_first(call, error);
                 Err(error)
             }
         }
+    }
+
+    /// A call failed: why is noted where the call before did not.
+    fn note_first(&mut self, call: FailedCall, error: io::Error)
+        ensures failing { self.new.failing ≡ true }
+        ensures noted { length self.new.noted.bytes
+            ≡ (if self.old.failing then length self.old.noted.bytes else length self.old.noted.bytes + 1) }
+    {
+        if self.failing {
+            return;
+        }
+        self.failing = true;
+        self.failures.note(call, error);
+        self.noted = self.noted.marked();
     }
 }

@@ -1,6 +1,9 @@
 //! The secret that the dice of a match go by.
+ghost use Rattle.std.specs.IoError.{error_kind};
+ghost use Rattle.std.specs.Prelude.{◌≡◌, ◌≢◌, length, IfOk, IfSome, MatchResult};
 
 use crate::files::whole_files::write_whole;
+use std::alloc::Global;
 use std::fs::File;
 use std::io;
 use std::io::{ErrorKind, Read};
@@ -9,6 +12,9 @@ use std::rt::Files;
 
 /// The name of its file in the referee's folder.
 const NAME: &str = "secret";
+
+/// The most bytes that are read of the file: one more than a secret has.
+const MOST_BYTES: u64 = 33;
 
 /// Draws a secret of 32 bytes from the system, and writes it into a folder, as the file `secret` that only its owner
 /// reads, before anything goes by it. It is printed nowhere.
@@ -33,17 +39,28 @@ pub fn read_secret(
     folder: &str,
 ) -> io::Result<[u8; 32]> {
     let path = format!(in rt.alloc(); "{folder}/{NAME}")?;
-    let mut file = File::open(rt, path.as_str())?;
-    let mut bytes = [0; 32];
-    match file.read_exact(&mut bytes) {
-        Err(error) if error.kind() == ErrorKind::UnexpectedEof => {
-            return Err(io::Error::from(ErrorKind::InvalidData));
-        }
-        result => result?,
-    }
-    let mut more = [0; 1];
-    match file.read(&mut more)? {
-        0 => Ok(bytes),
-        _ => Err(io::Error::from(ErrorKind::InvalidData)),
+    secret_of(rt.alloc(), File::open(rt, path.as_str())?)
+}
+
+/// The secret that the bytes of a reader are, all of them.
+///
+/// # Errors
+/// Why they could not be read; `InvalidData` where they are not 32.
+pub fn secret_of<R: Read + Drop>(alloc: Global, reader: R) -> io::Result<[u8; 32]>
+    ensures { IfOk result (λ secret. IfSome (R.remaining reader) (λ bytes. secret ≡ bytes)) }
+{
+    let mut bytes = Vec::new(alloc);
+    reader.take(MOST_BYTES).read_to_end(&mut bytes)?;
+    secret_in(&bytes)
+}
+
+/// The secret that these bytes are.
+fn secret_in(bytes: &[u8]) -> io::Result<[u8; 32]>
+    ensures { MatchResult result (λ secret. (secret ≡ bytes.now) × (length bytes.now ≡ 32))
+        (λ error. (length bytes.now ≢ 32) × (error_kind error ≡ ErrorKind.InvalidData)) }
+{
+    match <[u8; 32]>::try_from(bytes) {
+        Ok(secret) => Ok(secret),
+        Err(_) => Err(io::Error::from(ErrorKind::InvalidData)),
     }
 }

@@ -4,11 +4,12 @@ use crate::failures::Failures;
 use crate::failures::device_failures::FailedCall;
 use crate::failures::first_failures::FirstFailures;
 use crate::sockets::own_sockets::{MOST_BYTES, Received};
+use crate::sockets::senders::{address_of, is_at, is_from_sender};
 use arrayvec::ArrayVec;
-use bg_wire::{Datagram, Packet, REFEREE, decode};
+use bg_wire::{Datagram, REFEREE};
 use std::io;
 use std::io::ErrorKind;
-use std::net::{Ipv4Addr, Net, SocketAddr, UdpSocket};
+use std::net::{Net, SocketAddr, UdpSocket};
 use std::os::fd::{AsRawFd, RawFd};
 
 /// So many datagrams from elsewhere are passed over in one take at most, so that a stranger can't hold a round up.
@@ -30,22 +31,6 @@ pub struct PartyEnd<'a> {
     heard: u32,
     sends: FirstFailures<'a>,
     takes: FirstFailures<'a>,
-}
-
-/// The address of a party of the match that has this port.
-fn address_of(port: u16, party: u8) -> io::Result<SocketAddr> {
-    match port.checked_add(u16::from(party)) {
-        Some(own) => Ok(SocketAddr::from((Ipv4Addr::LOCALHOST, own))),
-        None => Err(io::Error::from(ErrorKind::AddrNotAvailable)),
-    }
-}
-
-/// Whether an address is this one.
-fn is_at(from: SocketAddr, wanted: io::Result<SocketAddr>) -> bool {
-    match wanted {
-        Ok(wanted) => wanted == from,
-        Err(_) => false,
-    }
 }
 
 impl<'a> PartyEnd<'a> {
@@ -124,7 +109,7 @@ impl<'a> PartyEnd<'a> {
             match self.socket.recv_from(&mut buffer) {
                 Ok((0, from)) => self.answer(from),
                 Ok((count, from)) => {
-                    if self.is_from_sender(&buffer[..count], from) {
+                    if is_from_sender(self.port, &buffer[..count], from) {
                         self.note_sender(from);
                         let mut bytes = ArrayVec::new();
                         bytes.try_extend_from_slice(&buffer[..count]).unwrap();
@@ -142,7 +127,7 @@ impl<'a> PartyEnd<'a> {
     fn answer(&mut self, from: SocketAddr) {
         if self.party != REFEREE {
             self.note_sender(from);
-        } else if (1..=u8::MAX).any(|party| is_at(from, address_of(self.port, party))) {
+        } else if (1..=u8::MAX).any(|party| is_at(from, self.port, party)) {
             self.send_nothing(Ok(from));
         }
     }
@@ -155,18 +140,8 @@ impl<'a> PartyEnd<'a> {
 
     /// Counts what comes from the referee.
     fn note_sender(&mut self, from: SocketAddr) {
-        if is_at(from, address_of(self.port, REFEREE)) {
+        if is_at(from, self.port, REFEREE) {
             self.heard = self.heard.wrapping_add(1);
         }
-    }
-
-    /// Whether bytes that came from this address are a packet of the party whose address it is.
-    fn is_from_sender(&self, bytes: &[u8], from: SocketAddr) -> bool {
-        let sender = match decode(bytes) {
-            Ok(Packet::Want { sender, .. } | Packet::Claim { sender, .. }) => sender,
-            Ok(Packet::Entries { .. }) => REFEREE,
-            Err(_) => return false,
-        };
-        is_at(from, address_of(self.port, sender))
     }
 }
