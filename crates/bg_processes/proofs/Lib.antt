@@ -1,1 +1,4 @@
 pub mod LoopResults
+pub mod Acting
+pub mod Repeating
+pub mod RoundRuns

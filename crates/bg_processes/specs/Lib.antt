@@ -1,1 +1,6 @@
 pub mod LoopResults
+pub mod Runs
+pub mod Rounds
+pub mod RefereeRounds
+pub mod SeatRounds
+pub mod WatcherRounds

@@ -1,11 +1,28 @@
 //! The referee of a match in a process of its own.
+ghost use Rattle.std.specs.Prelude.{◌≡◌, ◌↔◌, ◌||◌, IsOk, IfOk, Ok, if◌then◌else◌, option_copied};
+ghost use Rattle.bg_match.specs.Limits.{IsMatchLength};
+ghost use Rattle.bg_match.specs.Terms.{match_length};
+ghost use Rattle.bg_wire.specs.Entries.Codes.{referee as referee_party};
+ghost use Rattle.bg_world.specs.Worlds.Views.{keeper_view, link_view};
+ghost use Rattle.bg_processes.specs.RefereeRounds.{EndsRound, IsServed, PlaysRefereeRound, RefereeBegins};
+ghost use Rattle.bg_processes.specs.RefereeRounds.{RefereeHappens, RefereeRepeats, RunsRefereeRound, SavesNews};
+ghost use Rattle.bg_processes.specs.RefereeRounds.{due_at, ends_dues as is_last_due, ends_pushes as is_last_push};
+ghost use Rattle.bg_processes.specs.RefereeRounds.{log_of, most_due, most_pushes, quiet_later as quiet_after, referee_moment};
+ghost use Rattle.bg_processes.specs.RefereeRounds.{take_at, tick_at};
+ghost use Rattle.bg_processes.specs.Rounds.{GoesWhere, ends_takes as is_last_take, most_taken};
+ghost use Rattle.bg_processes.specs.Runs.{Restarts};
 
-use crate::processes::rounds::{Going, MOST_PARTIES, MOST_TAKEN, entries_of, is_over};
+mod events;
+pub(crate) mod notes;
+
+use crate::processes::referee::notes::RefereeNotes;
+use crate::processes::rounds::{
+    Going, MOST_TAKEN, count_of, ends_takes, entries_of, is_over_and_saved,
+};
 use bg_auto::{DiceAttempts, Onlooker};
-use bg_match::{LengthFault, Number, Record, Terms};
-use bg_referee::{DueFault, TakeOutcome};
-use bg_wire::REFEREE;
-use bg_world::{Event, Keeper, Link, Outcome, RefereeNode};
+use bg_match::{LengthFault, Record, Terms};
+use bg_referee::DueFault;
+use bg_world::{Keeper, Link, Outcome, RefereeNode};
 use std::alloc::Global;
 
 /// So many words are tried in a round for an opening that the referee owes.
@@ -26,11 +43,7 @@ pub struct RefereeProcess<L, K> {
     node: RefereeNode<K>,
     link: L,
     key: [u8; 32],
-    dice: DiceAttempts,
-    /// How many entries its last save has.
-    saved: Number,
-    /// For how many ticks nobody was heard of that lacks an entry.
-    quiet: u32,
+    notes: RefereeNotes,
 }
 
 impl<L: Link + Drop, K: Keeper + Drop> RefereeProcess<L, K> {
@@ -46,16 +59,22 @@ impl<L: Link + Drop, K: Keeper + Drop> RefereeProcess<L, K> {
         key: [u8; 32],
         link: L,
         keeper: K,
-    ) -> Result<(RefereeProcess<L, K>, Outcome), LengthFault> {
+    ) -> Result<(RefereeProcess<L, K>, Outcome), LengthFault>
+        ensures ok { IsOk result ↔ IsMatchLength (match_length terms) }
+        ensures begins { IfOk result (λ begun. RefereeBegins K.is_honest id terms key (link_view L.Link link)
+            (keeper_view K.Keeper keeper) begun.1 (referee_moment L.Link K.Keeper begun.0)) }
+    {
         let (node, outcome) = RefereeNode::begin(alloc, id, terms, keeper)?;
-        let held = entries_of(node.held());
+        let notes = RefereeNotes {
+            dice: DiceAttempts::first(entries_of(node.held())),
+            saved: count_of(node.held()),
+            quiet: 0,
+        };
         let process = RefereeProcess {
             node,
             link,
             key,
-            dice: DiceAttempts::first(held),
-            saved: held.unwrap_or_default(),
-            quiet: 0,
+            notes,
         };
         Ok((process, outcome))
     }
@@ -63,12 +82,16 @@ impl<L: Link + Drop, K: Keeper + Drop> RefereeProcess<L, K> {
 
 impl<L: Link, K: Keeper> RefereeProcess<L, K> {
     /// Its record; `None` exactly where it is down.
-    pub fn held(&self) -> Option<&Record> {
+    pub fn held(&self) -> Option<&Record>
+        ensures { option_copied result ≡ log_of (referee_moment L.Link K.Keeper self.now) }
+    {
         self.node.held()
     }
 
     /// Its link, as for waiting.
-    pub fn link(&self) -> &L {
+    pub fn link(&self) -> &L
+        ensures { result.now ≡ self.now.link }
+    {
         &self.link
     }
 
@@ -76,106 +99,145 @@ impl<L: Link, K: Keeper> RefereeProcess<L, K> {
     ///
     /// # Errors
     /// The outcome for which the referee is down for good, or can't save.
-    pub fn round<O: Onlooker>(&mut self, tick: bool, onlooker: &mut O) -> Result<Going, Outcome> {
+    pub fn round<O: Onlooker>(&mut self, tick: bool, onlooker: &mut O) -> Result<Going, Outcome>
+        ensures parts { PlaysRefereeRound L.is_honest K.is_honest (referee_moment L.Link K.Keeper self.old) tick
+            result (referee_moment L.Link K.Keeper self.new) }
+        ensures runs { RunsRefereeRound L.is_honest K.is_honest (referee_moment L.Link K.Keeper self.old)
+            (referee_moment L.Link K.Keeper self.new) }
+    {
+        self.play(tick, onlooker)
+    }
+
+    /// The same, part by part.
+    fn play<O: Onlooker>(&mut self, tick: bool, onlooker: &mut O) -> Result<Going, Outcome>
+        ensures { PlaysRefereeRound L.is_honest K.is_honest (referee_moment L.Link K.Keeper self.old) tick
+            result (referee_moment L.Link K.Keeper self.new) }
+    {
         self.take_all(onlooker);
         self.add_due(onlooker);
-        let news = self.save_news(onlooker)?;
-        if tick || news {
-            self.push_all(onlooker);
+        match self.save_news(onlooker) {
+            Ok(saved) => Ok(self.end_round(tick, saved, onlooker)),
+            Err(outcome) => Err(outcome),
         }
-        if tick {
-            self.quiet = self.quiet.saturating_add(1);
-        }
-        if self.quiet > QUIET_TICKS && is_over(self.node.held()) {
-            return Ok(Going::Over);
-        }
-        Ok(Going::On)
     }
 
-    /// Notes what came of an event: for the dice, and for who looks on.
-    fn note<O: Onlooker>(&mut self, onlooker: &mut O, event: &Event, outcome: &Outcome) {
-        let held = entries_of(self.node.held());
-        let restarted = matches!(event, Event::Restart { .. });
-        self.dice = self.dice.after(restarted, outcome, held);
-        onlooker.happened(event, outcome, held);
-    }
-
-    fn take_all<O: Onlooker>(&mut self, onlooker: &mut O) {
+    fn take_all<O: Onlooker>(&mut self, onlooker: &mut O)
+        ensures { RefereeRepeats L.is_honest K.is_honest take_at is_last_take most_taken
+            (referee_moment L.Link K.Keeper self.old) (referee_moment L.Link K.Keeper self.new) }
+    {
         for _ in 0..MOST_TAKEN {
-            let word = self.dice.keyed_word(&self.key);
-            let outcome = self.node.take(&mut self.link, MOST_PARTIES, 0, word);
-            let event = Event::Take {
-                party: REFEREE,
-                pick: 0,
-                word,
-            };
-            self.note(onlooker, &event, &outcome);
-            match outcome {
-                Outcome::NoDatagram | Outcome::LinkFault | Outcome::Down => return,
-                Outcome::Took(TakeOutcome::Answer(..) | TakeOutcome::Accepted(_)) => self.quiet = 0,
-                _ => {}
+            if ends_takes(&self.take(onlooker)) {
+                return;
             }
         }
     }
 
     /// Opens a game, or passes a turn, where that is due.
-    fn add_due<O: Onlooker>(&mut self, onlooker: &mut O) {
+    fn add_due<O: Onlooker>(&mut self, onlooker: &mut O)
+        ensures { RefereeRepeats L.is_honest K.is_honest due_at is_last_due most_due
+            (referee_moment L.Link K.Keeper self.old) (referee_moment L.Link K.Keeper self.new) }
+    {
         for _ in 0..MOST_DUE {
-            let word = self.dice.keyed_word(&self.key);
-            let outcome = self.node.due(word);
-            let goes_on = matches!(
-                outcome,
-                Outcome::Due(Ok(_) | Err(DueFault::WordRefused | DueFault::EqualOpening))
-            );
-            self.note(onlooker, &Event::Due { word }, &outcome);
-            if !goes_on {
+            if ends_dues(&self.due(onlooker)) {
                 return;
             }
         }
     }
 
     /// Saves where the record has grown, and begins again where the save failed; whether something was saved.
-    fn save_news<O: Onlooker>(&mut self, onlooker: &mut O) -> Result<bool, Outcome> {
-        let held = entries_of(self.node.held()).unwrap_or_default();
-        if held == self.saved {
+    fn save_news<O: Onlooker>(&mut self, onlooker: &mut O) -> Result<bool, Outcome>
+        ensures { SavesNews L.is_honest K.is_honest (referee_moment L.Link K.Keeper self.old) result
+            (referee_moment L.Link K.Keeper self.new) }
+    {
+        if count_of(self.node.held()) == self.notes.saved {
             return Ok(false);
         }
-        let outcome = self.node.save();
-        self.note(onlooker, &Event::Save { party: REFEREE }, &outcome);
-        match outcome {
-            Outcome::Saved(_) => {
-                self.saved = held;
-                Ok(true)
-            }
+        match self.save(onlooker) {
+            Outcome::Saved(_) => Ok(true),
             // It is tried again in the next round.
             Outcome::Memory => Ok(false),
-            Outcome::SaveFault => {
-                self.restart(onlooker)?;
-                Ok(false)
-            }
-            _ => Err(outcome),
+            Outcome::SaveFault => self.begin_again(onlooker),
+            outcome => Err(outcome),
         }
     }
 
-    fn restart<O: Onlooker>(&mut self, onlooker: &mut O) -> Result<(), Outcome> {
-        let outcome = self.node.restart();
-        self.note(onlooker, &Event::Restart { party: REFEREE }, &outcome);
-        self.saved = entries_of(self.node.held()).unwrap_or_default();
-        match outcome {
-            Outcome::Restarted => Ok(()),
-            _ => Err(outcome),
+    fn begin_again<O: Onlooker>(&mut self, onlooker: &mut O) -> Result<bool, Outcome>
+        ensures { Restarts (RefereeHappens L.is_honest K.is_honest) referee_party
+            (referee_moment L.Link K.Keeper self.old) result (referee_moment L.Link K.Keeper self.new) }
+    {
+        match self.restart(onlooker) {
+            Outcome::Restarted => Ok(false),
+            outcome => Err(outcome),
         }
     }
 
-    /// Sends what is to be sent unasked.
-    fn push_all<O: Onlooker>(&mut self, onlooker: &mut O) {
-        for _ in 0..MOST_PUSHES {
-            let outcome = self.node.tick(&mut self.link, MOST_PARTIES);
-            self.note(onlooker, &Event::Tick { party: REFEREE }, &outcome);
-            match outcome {
-                Outcome::Sent(count) if count > 0 => self.quiet = 0,
-                _ => return,
+    /// Sends what is to be sent, where something was saved or a tick is due, and counts the tick.
+    fn end_round<O: Onlooker>(&mut self, tick: bool, saved: bool, onlooker: &mut O) -> Going
+        ensures { EndsRound L.is_honest K.is_honest tick (referee_moment L.Link K.Keeper self.old) saved (Ok result)
+            (referee_moment L.Link K.Keeper self.new) }
+    {
+        self.push_all(pushes(tick, saved), onlooker);
+        self.notes.quiet = quiet_later(self.notes.quiet, tick);
+        self.going()
+    }
+
+    /// Sends what is to be sent unasked, so often at most.
+    fn push_all<O: Onlooker>(&mut self, most: u32, onlooker: &mut O)
+        ensures { RefereeRepeats L.is_honest K.is_honest tick_at is_last_push most
+            (referee_moment L.Link K.Keeper self.old) (referee_moment L.Link K.Keeper self.new) }
+    {
+        for _ in 0..most {
+            if ends_pushes(&self.tick(onlooker)) {
+                return;
             }
         }
     }
+
+    /// It ends where the match is over, all of it is saved, and nobody was heard of for long.
+    fn going(&self) -> Going
+        ensures { GoesWhere (IsServed (referee_moment L.Link K.Keeper self.now)) result }
+    {
+        if self.notes.quiet <= QUIET_TICKS {
+            return Going::On;
+        }
+        if is_over_and_saved(self.node.held(), self.notes.saved) {
+            Going::Over
+        } else {
+            Going::On
+        }
+    }
+}
+
+/// Whether no word is wanted any more.
+fn ends_dues(outcome: &Outcome) -> bool
+    ensures { result ≡ is_last_due outcome.now }
+{
+    !matches!(
+        outcome,
+        Outcome::Due(Ok(_) | Err(DueFault::WordRefused | DueFault::EqualOpening))
+    )
+}
+
+/// Whether nothing more is to be sent.
+fn ends_pushes(outcome: &Outcome) -> bool
+    ensures { result ≡ is_last_push outcome.now }
+{
+    match outcome {
+        Outcome::Sent(count) => *count == 0,
+        _ => true,
+    }
+}
+
+/// How often what a tick sends is sent on in a round, in which a tick is due or not, and something was saved or not.
+fn pushes(tick: bool, saved: bool) -> u32
+    ensures { result ≡ (if tick || saved then most_pushes else 0) }
+{
+    if tick || saved { MOST_PUSHES } else { 0 }
+}
+
+/// A tick more without a word of who lacks an entry, if one was due.
+fn quiet_later(quiet: u32, tick: bool) -> u32
+    ensures { result ≡ quiet_after quiet tick }
+{
+    if tick { quiet.saturating_add(1) } else { quiet }
 }

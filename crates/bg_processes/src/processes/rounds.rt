@@ -1,6 +1,14 @@
 //! What the processes of all parties have in common.
+ghost use Rattle.std.specs.Prelude.{◌≡◌, option_copied};
+ghost use Rattle.bg_auto.specs.Attempts.{held_entries};
+ghost use Rattle.bg_match.specs.Match.{ActsAfter};
+ghost use Rattle.bg_match.specs.declared.phases.Actor.TheVariants as acting;
+ghost use Rattle.bg_processes.specs.Rounds.{IsOver, IsOverAndSaved, Tells, count_of, ends_takes as is_last_take};
+ghost use Rattle.bg_processes.specs.Rounds.{keeps_all as has_all_kept, saved_after as count_after};
 
-use bg_match::{Number, Phase, Record};
+use bg_board::Player;
+use bg_match::{Actor, Number, Record};
+use bg_world::{Event, Outcome};
 
 /// How many parties a match may have: the referee, two seats, and up to 253 that watch.
 pub const MOST_PARTIES: usize = 256;
@@ -18,17 +26,99 @@ pub enum Going {
 }
 
 /// How many entries a party holds that is up.
-pub(crate) fn entries_of(held: Option<&Record>) -> Option<Number> {
+pub(crate) fn entries_of(held: Option<&Record>) -> Option<Number>
+    ensures { result ≡ held_entries (option_copied held.entry) }
+{
     match held {
         None => None,
         Some(record) => Some(record.len()),
     }
 }
 
+/// How many entries a party holds: none where it is down.
+pub(crate) fn count_of(held: Option<&Record>) -> Number
+    ensures { result ≡ count_of (held_entries (option_copied held.entry)) }
+{
+    match held {
+        None => 0,
+        Some(record) => record.len(),
+    }
+}
+
+/// Whether the seat of this player acts after a record.
+pub(crate) fn seat_acts(record: &Record, player: Player) -> bool
+    ensures { Tells result (ActsAfter «record».now.terms «record».now.entries (acting.Seat player)) }
+{
+    match record.actor() {
+        Actor::Seat(seat) if seat == player => true,
+        Actor::Seat(_) => false,
+        Actor::Referee | Actor::Nobody => false,
+    }
+}
+
+/// Whether nobody acts after a record: the match is over.
+fn nobody_acts(record: &Record) -> bool
+    ensures { Tells result (ActsAfter «record».now.terms «record».now.entries acting.Nobody) }
+{
+    match record.actor() {
+        Actor::Nobody => true,
+        Actor::Referee | Actor::Seat(_) => false,
+    }
+}
+
 /// Whether a party knows that the match is over.
-pub(crate) fn is_over(held: Option<&Record>) -> bool {
+pub(crate) fn is_over(held: Option<&Record>) -> bool
+    ensures { Tells result (IsOver (option_copied held.entry)) }
+{
     match held {
         None => false,
-        Some(record) => matches!(record.standing().phase(), Phase::Over(_)),
+        Some(record) => nobody_acts(record),
+    }
+}
+
+/// Whether a party knows that the match is over, and so many entries, which are saved, are all.
+pub(crate) fn is_over_and_saved(held: Option<&Record>, saved: Number) -> bool
+    ensures { Tells result (IsOverAndSaved (option_copied held.entry) saved) }
+{
+    match held {
+        None => false,
+        Some(record) => nobody_acts(record) && record.len() == saved,
+    }
+}
+
+/// Whether a take is the last of its round: nothing has come, or nothing can be taken.
+pub(crate) fn ends_takes(outcome: &Outcome) -> bool
+    ensures { result ≡ is_last_take outcome.now }
+{
+    matches!(
+        outcome,
+        Outcome::NoDatagram | Outcome::LinkFault | Outcome::Down
+    )
+}
+
+/// Whether the slots have what the party holds after an event: it was saved, or given back.
+pub(crate) fn keeps_all(event: &Event, outcome: &Outcome) -> bool
+    ensures { result ≡ has_all_kept event.now outcome.now }
+{
+    match event {
+        Event::Save { party: _ } => matches!(outcome, Outcome::Saved(_)),
+        Event::Restart { party: _ } => true,
+        _ => false,
+    }
+}
+
+/// How many entries are saved after an event, where the party then holds so many.
+pub(crate) fn saved_after(
+    saved: Number,
+    event: &Event,
+    outcome: &Outcome,
+    held: Option<Number>,
+) -> Number
+    ensures { result ≡ count_after saved event.now outcome.now held }
+{
+    if keeps_all(event, outcome) {
+        held.unwrap_or_default()
+    } else {
+        saved
     }
 }

@@ -1,11 +1,26 @@
 //! A seat of a match in a process of its own.
+ghost use Rattle.std.specs.Prelude.{◌≡◌, ◌↔◌, IsOk, IfOk, Ok, option_copied};
+ghost use Rattle.bg_match.specs.Limits.{IsMatchLength};
+ghost use Rattle.bg_match.specs.Terms.{match_length};
+ghost use Rattle.bg_world.specs.Worlds.Views.{keeper_view, link_view};
+ghost use Rattle.bg_processes.specs.Rounds.{IsOverAndSaved, GoesWhere, Tells, ends_takes as is_last_take, most_taken};
+ghost use Rattle.bg_processes.specs.Runs.{Repeats};
+ghost use Rattle.bg_processes.specs.SeatRounds.{IsToAct, PlaysChoice, PlaysSeatRound, RunsSeat, SavesClaim};
+ghost use Rattle.bg_processes.specs.SeatRounds.{SeatBegins, SeatHappens, SendsWhere};
+ghost use Rattle.bg_processes.specs.SeatRounds.{log_of, open_claim_at, seat_moment, take_at, unanswered as not_answered};
 
-use crate::processes::rounds::{Going, MOST_PARTIES, MOST_TAKEN, entries_of, is_over};
+mod events;
+pub(crate) mod notes;
+mod saving;
+
+use crate::processes::rounds::{
+    Going, MOST_TAKEN, count_of, ends_takes, is_over_and_saved, seat_acts,
+};
+use crate::processes::seat::notes::{SeatNotes, is_chosen};
 use bg_auto::Onlooker;
 use bg_board::Player;
-use bg_match::{Action, Actor, LengthFault, Number, Record, Terms};
-use bg_wire::party_of;
-use bg_world::{Event, Keeper, Link, Outcome, SeatNode};
+use bg_match::{Action, LengthFault, Number, Record, Terms};
+use bg_world::{Keeper, Link, Outcome, SeatNode};
 use std::alloc::Global;
 
 /// The seat of a player as a process runs it: over its own link and keeper (docs/PROTOCOL.md, "Parties in processes of
@@ -17,13 +32,9 @@ use std::alloc::Global;
 #[derive(Drop)]
 pub struct SeatProcess<L, K> {
     player: Player,
-    party: u8,
     node: SeatNode<K>,
     link: L,
-    /// How many entries its last save has.
-    saved: Number,
-    /// Whether its last claim is to be saved still, since there was no memory.
-    claim_waits: bool,
+    notes: SeatNotes,
 }
 
 impl<L: Link + Drop, K: Keeper + Drop> SeatProcess<L, K> {
@@ -39,16 +50,21 @@ impl<L: Link + Drop, K: Keeper + Drop> SeatProcess<L, K> {
         terms: Terms,
         link: L,
         keeper: K,
-    ) -> Result<(SeatProcess<L, K>, Outcome), LengthFault> {
+    ) -> Result<(SeatProcess<L, K>, Outcome), LengthFault>
+        ensures ok { IsOk result ↔ IsMatchLength (match_length terms) }
+        ensures begins { IfOk result (λ begun. SeatBegins K.is_honest player id terms (link_view L.Link link)
+            (keeper_view K.Keeper keeper) begun.1 (seat_moment L.Link K.Keeper begun.0)) }
+    {
         let (node, outcome) = SeatNode::begin(alloc, player, id, terms, keeper)?;
-        let saved = entries_of(node.held()).unwrap_or_default();
+        let notes = SeatNotes {
+            saved: count_of(node.held()),
+            claim_waits: false,
+        };
         let process = SeatProcess {
             player,
-            party: party_of(player),
             node,
             link,
-            saved,
-            claim_waits: false,
+            notes,
         };
         Ok((process, outcome))
     }
@@ -56,52 +72,50 @@ impl<L: Link + Drop, K: Keeper + Drop> SeatProcess<L, K> {
 
 impl<L: Link, K: Keeper> SeatProcess<L, K> {
     /// Its record; `None` exactly where it is down.
-    pub fn held(&self) -> Option<&Record> {
+    pub fn held(&self) -> Option<&Record>
+        ensures { option_copied result ≡ log_of (seat_moment L.Link K.Keeper self.now) }
+    {
         self.node.held()
     }
 
     /// Its link, as for waiting.
-    pub fn link(&self) -> &L {
+    pub fn link(&self) -> &L
+        ensures { result.now ≡ self.now.link }
+    {
         &self.link
     }
 
     /// The number, from 1, and the action of a claim that the record does not answer yet.
-    pub fn open_claim(&self) -> Option<(Number, Action)> {
-        let held = entries_of(self.node.held())?;
-        match self.node.claim() {
-            Some((number, action)) if number > held => Some((number, action)),
-            _ => None,
-        }
+    pub fn open_claim(&self) -> Option<(Number, Action)>
+        ensures { result ≡ open_claim_at (seat_moment L.Link K.Keeper self.now) }
+    {
+        unanswered(count_of(self.node.held()), self.node.claim())
     }
 
     /// Whether its player is to act by its record, and has no claim under way.
-    pub fn acts(&self) -> bool {
-        match self.node.held() {
-            None => false,
-            Some(record) => {
-                record.actor() == Actor::Seat(self.player) && self.open_claim().is_none()
-            }
+    pub fn acts(&self) -> bool
+        ensures { Tells result (IsToAct (seat_moment L.Link K.Keeper self.now)) }
+    {
+        let Some(record) = self.node.held() else {
+            return false;
+        };
+        if self.open_claim().is_some() {
+            return false;
         }
+        seat_acts(record, self.player)
     }
 
     /// One round; `tick` says whether a tick is due. What happens is told to the onlooker.
     ///
     /// # Errors
     /// The outcome for which the seat is down for good, or can't save.
-    pub fn round<O: Onlooker>(&mut self, tick: bool, onlooker: &mut O) -> Result<Going, Outcome> {
-        self.take_all(onlooker);
-        let held = entries_of(self.node.held()).unwrap_or_default();
-        let over = is_over(self.node.held());
-        if self.claim_waits || self.is_answered(held) || (over && held != self.saved) {
-            self.save(onlooker)?;
-        }
-        if tick {
-            self.send(onlooker);
-        }
-        if over && held == self.saved {
-            return Ok(Going::Over);
-        }
-        Ok(Going::On)
+    pub fn round<O: Onlooker>(&mut self, tick: bool, onlooker: &mut O) -> Result<Going, Outcome>
+        ensures parts { PlaysSeatRound L.is_honest K.is_honest (seat_moment L.Link K.Keeper self.old) tick
+            result (seat_moment L.Link K.Keeper self.new) }
+        ensures runs { RunsSeat L.is_honest K.is_honest (seat_moment L.Link K.Keeper self.old)
+            (seat_moment L.Link K.Keeper self.new) }
+    {
+        self.play(tick, onlooker)
     }
 
     /// Claims what its player chooses, saves and sends the claim, and says what the choice came to: a save that failed
@@ -113,86 +127,104 @@ impl<L: Link, K: Keeper> SeatProcess<L, K> {
         &mut self,
         action: Action,
         onlooker: &mut O,
-    ) -> Result<Outcome, Outcome> {
-        let event = Event::Choose {
-            seat: self.player,
-            action: action.copy(),
-        };
-        let outcome = self.node.choose(action);
-        self.note(onlooker, &event, &outcome);
-        if !matches!(outcome, Outcome::Chose(Ok(_))) {
+    ) -> Result<Outcome, Outcome>
+        ensures parts { PlaysChoice L.is_honest K.is_honest (seat_moment L.Link K.Keeper self.old) action
+            result (seat_moment L.Link K.Keeper self.new) }
+        ensures runs { RunsSeat L.is_honest K.is_honest (seat_moment L.Link K.Keeper self.old)
+            (seat_moment L.Link K.Keeper self.new) }
+    {
+        self.play_choice(action, onlooker)
+    }
+
+    /// The same as [`round`](Self::round), part by part.
+    fn play<O: Onlooker>(&mut self, tick: bool, onlooker: &mut O) -> Result<Going, Outcome>
+        ensures { PlaysSeatRound L.is_honest K.is_honest (seat_moment L.Link K.Keeper self.old) tick
+            result (seat_moment L.Link K.Keeper self.new) }
+    {
+        self.take_all(onlooker);
+        match self.save_worth(onlooker) {
+            Ok(_) => {
+                self.send(tick, onlooker);
+                Ok(self.going())
+            }
+            Err(outcome) => Err(outcome),
+        }
+    }
+
+    /// The same as [`choose`](Self::choose), part by part.
+    fn play_choice<O: Onlooker>(
+        &mut self,
+        action: Action,
+        onlooker: &mut O,
+    ) -> Result<Outcome, Outcome>
+        ensures { PlaysChoice L.is_honest K.is_honest (seat_moment L.Link K.Keeper self.old) action
+            result (seat_moment L.Link K.Keeper self.new) }
+    {
+        let outcome = self.claim(action, onlooker);
+        if !is_chosen(&outcome) {
             return Ok(outcome);
         }
-        self.claim_waits = true;
-        self.save(onlooker)?;
+        self.save_claim(outcome, onlooker)
+    }
+
+    /// Saves and sends a claim of this outcome.
+    fn save_claim<O: Onlooker>(
+        &mut self,
+        chosen: Outcome,
+        onlooker: &mut O,
+    ) -> Result<Outcome, Outcome>
+        ensures { SavesClaim L.is_honest K.is_honest (seat_moment L.Link K.Keeper self.old) chosen
+            result (seat_moment L.Link K.Keeper self.new) }
+    {
+        if let Err(outcome) = self.save_all(onlooker) {
+            return Err(outcome);
+        }
         if self.open_claim().is_none() {
             return Ok(Outcome::SaveFault);
         }
-        self.send(onlooker);
-        Ok(outcome)
+        self.send(true, onlooker);
+        Ok(chosen)
     }
 
-    fn note<O: Onlooker>(&mut self, onlooker: &mut O, event: &Event, outcome: &Outcome) {
-        onlooker.happened(event, outcome, entries_of(self.node.held()));
-    }
-
-    fn take_all<O: Onlooker>(&mut self, onlooker: &mut O) {
+    fn take_all<O: Onlooker>(&mut self, onlooker: &mut O)
+        ensures { Repeats (SeatHappens L.is_honest K.is_honest) take_at is_last_take most_taken
+            (seat_moment L.Link K.Keeper self.old) (seat_moment L.Link K.Keeper self.new) }
+    {
         for _ in 0..MOST_TAKEN {
-            let outcome = self.node.take(&mut self.link, 0);
-            let event = Event::Take {
-                party: self.party,
-                pick: 0,
-                word: 0,
-            };
-            self.note(onlooker, &event, &outcome);
-            if matches!(
-                outcome,
-                Outcome::NoDatagram | Outcome::LinkFault | Outcome::Down
-            ) {
+            if ends_takes(&self.take(onlooker)) {
                 return;
             }
         }
     }
 
-    /// Whether the record, of so many entries, answers a claim that the last save has open.
-    fn is_answered(&self, held: Number) -> bool {
-        match self.node.claim() {
-            Some((number, _)) => number <= held && number > self.saved,
-            None => false,
+    /// Sends where a tick is due.
+    fn send<O: Onlooker>(&mut self, tick: bool, onlooker: &mut O)
+        ensures { SendsWhere L.is_honest K.is_honest tick (seat_moment L.Link K.Keeper self.old)
+            (seat_moment L.Link K.Keeper self.new) }
+    {
+        if tick {
+            self.tick(onlooker);
         }
     }
 
-    /// Saves, and begins again where that failed.
-    fn save<O: Onlooker>(&mut self, onlooker: &mut O) -> Result<(), Outcome> {
-        let held = entries_of(self.node.held()).unwrap_or_default();
-        let outcome = self.node.save();
-        self.note(onlooker, &Event::Save { party: self.party }, &outcome);
-        match outcome {
-            Outcome::Saved(_) => {
-                self.saved = held;
-                self.claim_waits = false;
-                Ok(())
-            }
-            // It is tried again in the next round.
-            Outcome::Memory => Ok(()),
-            Outcome::SaveFault => self.restart(onlooker),
-            _ => Err(outcome),
+    /// It ends where the match is over, and all of it is saved.
+    fn going(&self) -> Going
+        ensures { GoesWhere (IsOverAndSaved (log_of (seat_moment L.Link K.Keeper self.now)) self.now.notes.saved) result }
+    {
+        if is_over_and_saved(self.node.held(), self.notes.saved) {
+            Going::Over
+        } else {
+            Going::On
         }
     }
+}
 
-    fn restart<O: Onlooker>(&mut self, onlooker: &mut O) -> Result<(), Outcome> {
-        let outcome = self.node.restart();
-        self.note(onlooker, &Event::Restart { party: self.party }, &outcome);
-        self.saved = entries_of(self.node.held()).unwrap_or_default();
-        self.claim_waits = false;
-        match outcome {
-            Outcome::Restarted => Ok(()),
-            _ => Err(outcome),
-        }
-    }
-
-    fn send<O: Onlooker>(&mut self, onlooker: &mut O) {
-        let outcome = self.node.tick(&mut self.link, MOST_PARTIES);
-        self.note(onlooker, &Event::Tick { party: self.party }, &outcome);
+/// A claim that a record of so many entries does not answer.
+fn unanswered(held: Number, claim: Option<(Number, Action)>) -> Option<(Number, Action)>
+    ensures { result ≡ not_answered held claim }
+{
+    match claim {
+        Some((number, action)) if held < number => Some((number, action)),
+        _ => None,
     }
 }

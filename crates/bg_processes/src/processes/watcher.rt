@@ -1,8 +1,15 @@
 //! One who watches a match, in a process of his own.
-ghost use Rattle.std.specs.Prelude.{◌≤◌};
+ghost use Rattle.std.specs.Prelude.{◌≡◌, ◌≤◌, ◌↔◌, IsOk, IfOk};
+ghost use Rattle.bg_match.specs.Limits.{IsMatchLength};
+ghost use Rattle.bg_match.specs.Terms.{match_length};
 ghost use Rattle.bg_wire.specs.Entries.Codes.{first_watcher};
+ghost use Rattle.bg_world.specs.Worlds.Views.{link_view};
+ghost use Rattle.bg_processes.specs.Rounds.{ends_takes as is_last_take, most_taken};
+ghost use Rattle.bg_processes.specs.Runs.{Repeats};
+ghost use Rattle.bg_processes.specs.WatcherRounds.{PlaysWatcherRound, RunsWatcher, SendsWhere, WatcherBegins};
+ghost use Rattle.bg_processes.specs.WatcherRounds.{WatcherHappens, log_of, take_at, tick_at, watcher_moment};
 
-use crate::processes::rounds::{Going, MOST_PARTIES, MOST_TAKEN, is_over};
+use crate::processes::rounds::{Going, MOST_PARTIES, MOST_TAKEN, ends_takes, is_over};
 use bg_auto::Onlooker;
 use bg_match::{LengthFault, Record, Terms};
 use bg_world::{Event, Link, Outcome, WatcherNode};
@@ -30,6 +37,9 @@ impl<L: Link + Drop> WatcherProcess<L> {
         link: L,
     ) -> Result<WatcherProcess<L>, LengthFault>
         requires { first_watcher ≤ party }
+        ensures ok { IsOk result ↔ IsMatchLength (match_length terms) }
+        ensures begins { IfOk result (λ process. WatcherBegins party id terms (link_view L.Link link)
+            (watcher_moment L.Link process)) }
     {
         Ok(WatcherProcess {
             party,
@@ -41,44 +51,82 @@ impl<L: Link + Drop> WatcherProcess<L> {
 
 impl<L: Link> WatcherProcess<L> {
     /// Its record.
-    pub fn held(&self) -> &Record {
+    pub fn held(&self) -> &Record
+        ensures { result.now ≡ log_of (watcher_moment L.Link self.now) }
+    {
         self.node.held()
     }
 
     /// Its link, as for waiting.
-    pub fn link(&self) -> &L {
+    pub fn link(&self) -> &L
+        ensures { result.now ≡ self.now.link }
+    {
         &self.link
     }
 
     /// One round; `tick` says whether a tick is due. What happens is told to the onlooker.
-    pub fn round<O: Onlooker>(&mut self, tick: bool, onlooker: &mut O) -> Going {
+    pub fn round<O: Onlooker>(&mut self, tick: bool, onlooker: &mut O) -> Going
+        ensures parts { PlaysWatcherRound L.is_honest (watcher_moment L.Link self.old) tick result
+            (watcher_moment L.Link self.new) }
+        ensures runs { RunsWatcher L.is_honest (watcher_moment L.Link self.old) (watcher_moment L.Link self.new) }
+    {
+        self.play(tick, onlooker)
+    }
+
+    /// The same, part by part.
+    fn play<O: Onlooker>(&mut self, tick: bool, onlooker: &mut O) -> Going
+        ensures { PlaysWatcherRound L.is_honest (watcher_moment L.Link self.old) tick result
+            (watcher_moment L.Link self.new) }
+    {
         self.take_all(onlooker);
         if is_over(Some(self.node.held())) {
             return Going::Over;
         }
-        if tick {
-            let outcome = self.node.tick(&mut self.link, MOST_PARTIES);
-            self.note(onlooker, &Event::Tick { party: self.party }, &outcome);
-        }
+        self.send(tick, onlooker);
         Going::On
     }
 
-    fn note<O: Onlooker>(&mut self, onlooker: &mut O, event: &Event, outcome: &Outcome) {
-        onlooker.happened(event, outcome, Some(self.node.held().len()));
-    }
-
-    fn take_all<O: Onlooker>(&mut self, onlooker: &mut O) {
+    fn take_all<O: Onlooker>(&mut self, onlooker: &mut O)
+        ensures { Repeats (WatcherHappens L.is_honest) take_at is_last_take most_taken
+            (watcher_moment L.Link self.old) (watcher_moment L.Link self.new) }
+    {
         for _ in 0..MOST_TAKEN {
-            let outcome = self.node.take(&mut self.link, 0);
-            let event = Event::Take {
-                party: self.party,
-                pick: 0,
-                word: 0,
-            };
-            self.note(onlooker, &event, &outcome);
-            if matches!(outcome, Outcome::NoDatagram | Outcome::LinkFault) {
+            if ends_takes(&self.take(onlooker)) {
                 return;
             }
         }
+    }
+
+    /// Sends where a tick is due.
+    fn send<O: Onlooker>(&mut self, tick: bool, onlooker: &mut O)
+        ensures { SendsWhere L.is_honest tick (watcher_moment L.Link self.old) (watcher_moment L.Link self.new) }
+    {
+        if tick {
+            self.tick(onlooker);
+        }
+    }
+
+    fn take<O: Onlooker>(&mut self, onlooker: &mut O) -> Outcome
+        ensures { WatcherHappens L.is_honest (watcher_moment L.Link self.old) (take_at (watcher_moment L.Link self.old))
+            result (watcher_moment L.Link self.new) }
+    {
+        let outcome = self.node.take(&mut self.link, 0);
+        let event = Event::Take {
+            party: self.party,
+            pick: 0,
+            word: 0,
+        };
+        onlooker.happened(&event, &outcome, Some(self.node.held().len()));
+        outcome
+    }
+
+    fn tick<O: Onlooker>(&mut self, onlooker: &mut O) -> Outcome
+        ensures { WatcherHappens L.is_honest (watcher_moment L.Link self.old) (tick_at (watcher_moment L.Link self.old))
+            result (watcher_moment L.Link self.new) }
+    {
+        let outcome = self.node.tick(&mut self.link, MOST_PARTIES);
+        let event = Event::Tick { party: self.party };
+        onlooker.happened(&event, &outcome, Some(self.node.held().len()));
+        outcome
     }
 }

@@ -1,0 +1,64 @@
+//! What the process of a referee notes.
+ghost use Rattle.std.specs.Prelude.{◌≡◌, if◌then◌else◌};
+ghost use Rattle.bg_auto.specs.Attempts.{restarts_referee as is_restart};
+ghost use Rattle.bg_processes.specs.RefereeRounds.{NotesOfReferee, is_heard as is_heard_in};
+
+use crate::processes::rounds::saved_after;
+use bg_auto::{DiceAttempts, Onlooker};
+use bg_match::Number;
+use bg_referee::TakeOutcome;
+use bg_wire::REFEREE;
+use bg_world::{Event, Outcome};
+
+/// What the process of a referee notes of the events at its node.
+#[derive(Drop)]
+pub(crate) struct RefereeNotes {
+    pub(crate) dice: DiceAttempts,
+    /// How many entries are saved.
+    pub(crate) saved: Number,
+    /// For how many ticks nobody was heard of that lacks an entry.
+    pub(crate) quiet: u32,
+}
+
+impl RefereeNotes {
+    /// Notes what came of an event, after which the referee holds so many entries, and tells who looks on.
+    pub(crate) fn note<O: Onlooker>(
+        &mut self,
+        onlooker: &mut O,
+        event: &Event,
+        outcome: &Outcome,
+        held: Option<Number>,
+    )
+        ensures { NotesOfReferee self.old event.now outcome.now held self.new }
+    {
+        self.dice = self.dice.after(restarts_referee(event), outcome, held);
+        self.saved = saved_after(self.saved, event, outcome, held);
+        self.quiet = quiet_after(self.quiet, outcome);
+        onlooker.happened(event, outcome, held);
+    }
+}
+
+/// Whether an event restarts the referee.
+fn restarts_referee(event: &Event) -> bool
+    ensures { result ≡ is_restart event.now }
+{
+    matches!(event, Event::Restart { party: REFEREE })
+}
+
+/// Whether who lacks an entry is heard of, or sent to.
+fn is_heard(outcome: &Outcome) -> bool
+    ensures { result ≡ is_heard_in outcome.now }
+{
+    match outcome {
+        Outcome::Took(TakeOutcome::Answer(..) | TakeOutcome::Accepted(_)) => true,
+        Outcome::Sent(count) => *count > 0,
+        _ => false,
+    }
+}
+
+/// For how many ticks nobody was heard of that lacks an entry, after an outcome.
+fn quiet_after(quiet: u32, outcome: &Outcome) -> u32
+    ensures { result ≡ (if is_heard_in outcome.now then 0 else quiet) }
+{
+    if is_heard(outcome) { 0 } else { quiet }
+}

@@ -1,0 +1,54 @@
+//! What the process of a seat notes.
+ghost use Rattle.std.specs.Prelude.{◌≡◌};
+ghost use Rattle.bg_processes.specs.SeatRounds.{NotesOfSeat, is_chosen as is_claimed, waits_after as waits_then};
+
+use crate::processes::rounds::{keeps_all, saved_after};
+use bg_auto::Onlooker;
+use bg_match::Number;
+use bg_world::{Event, Outcome};
+
+/// What the process of a seat notes of the events at its node.
+#[derive(Drop)]
+pub(crate) struct SeatNotes {
+    /// How many entries are saved.
+    pub(crate) saved: Number,
+    /// Whether its last claim is to be saved still, since there was no memory.
+    pub(crate) claim_waits: bool,
+}
+
+impl SeatNotes {
+    /// Notes what came of an event, after which the seat holds so many entries, and tells who looks on.
+    pub(crate) fn note<O: Onlooker>(
+        &mut self,
+        onlooker: &mut O,
+        event: &Event,
+        outcome: &Outcome,
+        held: Option<Number>,
+    )
+        ensures { NotesOfSeat self.old event.now outcome.now held self.new }
+    {
+        self.saved = saved_after(self.saved, event, outcome, held);
+        self.claim_waits = waits_after(self.claim_waits, event, outcome);
+        onlooker.happened(event, outcome, held);
+    }
+}
+
+/// Whether an action was claimed.
+pub(crate) fn is_chosen(outcome: &Outcome) -> bool
+    ensures { result ≡ is_claimed outcome.now }
+{
+    matches!(outcome, Outcome::Chose(Ok(_)))
+}
+
+/// Whether the last claim is to be saved still, after an event.
+fn waits_after(waits: bool, event: &Event, outcome: &Outcome) -> bool
+    ensures { result ≡ waits_then waits event.now outcome.now }
+{
+    if keeps_all(event, outcome) {
+        false
+    } else if is_chosen(outcome) {
+        true
+    } else {
+        waits
+    }
+}

@@ -1,0 +1,69 @@
+//! When the process of a seat saves.
+ghost use Rattle.std.specs.Prelude.{◌≡◌};
+ghost use Rattle.bg_wire.specs.Parties.{party_of as party_for};
+ghost use Rattle.bg_processes.specs.Runs.{Restarts, Saves};
+ghost use Rattle.bg_processes.specs.SeatRounds.{SavesWorth, SeatHappens, WantsSave, is_answered as is_answered_by};
+ghost use Rattle.bg_processes.specs.SeatRounds.{seat_moment};
+
+use crate::processes::rounds::{count_of, is_over};
+use crate::processes::seat::SeatProcess;
+use bg_auto::Onlooker;
+use bg_match::{Action, Number};
+use bg_world::{Keeper, Link, Outcome};
+
+impl<L: Link, K: Keeper> SeatProcess<L, K> {
+    /// Whether a save is worth it.
+    fn wants_save(&self) -> bool
+        ensures { WantsSave (seat_moment L.Link K.Keeper self.now) result }
+    {
+        let held = count_of(self.node.held());
+        let is_answered = is_answered(held, self.notes.saved, self.node.claim());
+        let is_over = is_over(self.node.held());
+        self.notes.claim_waits || is_answered || (is_over && held != self.notes.saved)
+    }
+
+    /// Saves where that is worth it; whether that was written.
+    pub(crate) fn save_worth<O: Onlooker>(&mut self, onlooker: &mut O) -> Result<bool, Outcome>
+        ensures { SavesWorth L.is_honest K.is_honest (seat_moment L.Link K.Keeper self.old) result
+            (seat_moment L.Link K.Keeper self.new) }
+    {
+        if !self.wants_save() {
+            return Ok(false);
+        }
+        self.save_all(onlooker)
+    }
+
+    /// Saves, and begins again where that failed; whether it was written.
+    pub(crate) fn save_all<O: Onlooker>(&mut self, onlooker: &mut O) -> Result<bool, Outcome>
+        ensures { Saves (SeatHappens L.is_honest K.is_honest) (party_for self.old.player)
+            (seat_moment L.Link K.Keeper self.old) result (seat_moment L.Link K.Keeper self.new) }
+    {
+        match self.save(onlooker) {
+            Outcome::Saved(_) => Ok(true),
+            // It is tried again in the next round.
+            Outcome::Memory => Ok(false),
+            Outcome::SaveFault => self.begin_again(onlooker),
+            outcome => Err(outcome),
+        }
+    }
+
+    fn begin_again<O: Onlooker>(&mut self, onlooker: &mut O) -> Result<bool, Outcome>
+        ensures { Restarts (SeatHappens L.is_honest K.is_honest) (party_for self.old.player)
+            (seat_moment L.Link K.Keeper self.old) result (seat_moment L.Link K.Keeper self.new) }
+    {
+        match self.restart(onlooker) {
+            Outcome::Restarted => Ok(false),
+            outcome => Err(outcome),
+        }
+    }
+}
+
+/// Whether a record of so many entries answers a claim, which the last save, with so many, has as an open one.
+fn is_answered(held: Number, saved: Number, claim: Option<(Number, Action)>) -> bool
+    ensures { result ≡ is_answered_by held saved claim }
+{
+    match claim {
+        Some((number, _)) => number <= held && saved < number,
+        None => false,
+    }
+}
