@@ -4,3 +4,4 @@ pub mod Rounds
 pub mod RefereeRounds
 pub mod SeatRounds
 pub mod WatcherRounds
+pub mod Instances

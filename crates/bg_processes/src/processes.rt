@@ -1,5 +1,6 @@
 //! What the process of one party does.
 
+pub(crate) mod laws;
 pub(crate) mod referee;
 pub(crate) mod rounds;
 pub(crate) mod seat;

@@ -1,0 +1,18 @@
+//! A law of processes: the contract of a function that does nothing.
+ghost use Rattle.std.specs.Prelude.{ℕ, ⊤};
+ghost use Rattle.bg_board.specs.declared.players.Player.{Player as APlayer};
+ghost use Rattle.bg_world.specs.declared.roles.Role.TheVariants as roles;
+ghost use Rattle.bg_processes.specs.Instances.{IsInstance, RunsReferee, RunsSeat, RunsWatcher};
+ghost use Rattle.bg_processes.specs.RefereeRounds.{RefereeHappens};
+ghost use Rattle.bg_processes.specs.SeatRounds.{SeatHappens};
+ghost use Rattle.bg_processes.specs.WatcherRounds.{WatcherHappens};
+
+/// Whatever happens at the process of a party, over an honest network and honest keepers, is calls of processes as
+/// [`processes_agree`](bg_world::processes_agree) speaks of them, in a world of 256 parties whose party it runs; the
+/// others stay as they are (docs/PROTOCOL.md, "Parties in processes of their own"). What happens in a round, and when a
+/// player chooses, the calls of the processes say.
+pub fn processes_are_instances()
+    ensures referee { IsInstance (RefereeHappens ⊤ ⊤) RunsReferee roles.Referee }
+    ensures seat { (player : APlayer) → IsInstance (SeatHappens ⊤ ⊤) (RunsSeat player) (roles.Seat player) }
+    ensures watcher { (index : ℕ) → IsInstance (WatcherHappens ⊤) (RunsWatcher index) (roles.Watcher index) }
+{}
