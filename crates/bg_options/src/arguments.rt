@@ -52,7 +52,9 @@ impl Argument {
     /// Returns it as the parser of the command line has it, without its help.
     fn unsaid<'a>(self, alloc: Global) -> Arg<'a> {
         match self.kind {
-            Kind::Flag => Arg::new(alloc, self.name).long(self.name).action(ArgAction::SetTrue),
+            Kind::Flag => Arg::new(alloc, self.name)
+                .long(self.name)
+                .action(ArgAction::SetTrue),
             Kind::Text(value) => text_option(alloc, self.name, value),
             Kind::Number(value, least, most) => {
                 let limits = i64::from(least)..=i64::from(most);

@@ -1,7 +1,7 @@
 //! The options and help of the command of one action, for scripts.
 
-use crate::commands::play::SeatOptions;
 use crate::arguments::{Argument, Kind, Need, described, with_all};
+use crate::commands::play::SeatOptions;
 use crate::shared::{FOLDER, MATCH, PLAYER, THREE_TERMINALS, number_in};
 use bg_match::{MOST_ENTRIES, Number};
 use clap::{ArgMatches, Command, Error};

@@ -20,5 +20,9 @@ pub(crate) fn command<'a>(alloc: Global) -> Result<Command<'a>, Error> {
         "Let an automatic player play a match",
         ABOUT_AUTO,
     );
-    with_all(alloc, command.after_help(THREE_TERMINALS), &[PLAYER, MATCH, FOLDER])
+    with_all(
+        alloc,
+        command.after_help(THREE_TERMINALS),
+        &[PLAYER, MATCH, FOLDER],
+    )
 }

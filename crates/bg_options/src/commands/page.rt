@@ -24,5 +24,8 @@ pub(crate) fn command<'a>(alloc: Global) -> Result<Command<'a>, Error> {
         "Make a page for browsers of a transcript",
         ABOUT_PAGE,
     );
-    with(with_all(alloc, command, &[TITLE, NUMBERING])?, misplaced_file(alloc))
+    with(
+        with_all(alloc, command, &[TITLE, NUMBERING])?,
+        misplaced_file(alloc),
+    )
 }

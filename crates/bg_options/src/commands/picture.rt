@@ -20,5 +20,8 @@ and 1 where reading, writing or memory failed.";
 /// Its options and help.
 pub(crate) fn command<'a>(alloc: Global) -> Result<Command<'a>, Error> {
     let command = described(alloc, "picture", "Draw where a match stands", ABOUT_PICTURE);
-    with(with_all(alloc, command, &[NUMBERING])?, misplaced_file(alloc))
+    with(
+        with_all(alloc, command, &[NUMBERING])?,
+        misplaced_file(alloc),
+    )
 }

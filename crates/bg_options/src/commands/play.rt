@@ -37,5 +37,9 @@ impl<'a> SeatOptions<'a> {
 /// Its options and help.
 pub(crate) fn command<'a>(alloc: Global) -> Result<Command<'a>, Error> {
     let command = described(alloc, "play", "Play a match at this terminal", ABOUT_PLAY);
-    with_all(alloc, command.after_help(THREE_TERMINALS), &[PLAYER, MATCH, FOLDER])
+    with_all(
+        alloc,
+        command.after_help(THREE_TERMINALS),
+        &[PLAYER, MATCH, FOLDER],
+    )
 }

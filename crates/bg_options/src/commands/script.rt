@@ -45,5 +45,8 @@ pub(crate) fn command<'a>(alloc: Global) -> Result<Command<'a>, Error> {
         "Let the events on standard input happen to a match in memory",
         ABOUT_SCRIPT,
     );
-    with(with_all(alloc, command, &[LENGTH, RULES, WATCHERS])?, misplaced_file(alloc))
+    with(
+        with_all(alloc, command, &[LENGTH, RULES, WATCHERS])?,
+        misplaced_file(alloc),
+    )
 }

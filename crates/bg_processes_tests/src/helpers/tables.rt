@@ -128,10 +128,12 @@ impl<'a> Table<'a> {
             return Ok(None);
         };
         let alloc = self.rt.alloc();
-        let (process, outcome) = RefereeProcess::begin(
-            alloc, ID, self.terms, KEY, socket, keeper,
-        )?;
-        Ok(if outcome == Outcome::Restarted { Some(process) } else { None })
+        let (process, outcome) = RefereeProcess::begin(alloc, ID, self.terms, KEY, socket, keeper)?;
+        Ok(if outcome == Outcome::Restarted {
+            Some(process)
+        } else {
+            None
+        })
     }
 
     /// A round of the referee, which begins first where it does not run.
@@ -157,10 +159,12 @@ impl<'a> Table<'a> {
             return Ok(None);
         };
         let alloc = self.rt.alloc();
-        let (process, outcome) = SeatProcess::begin(
-            alloc, player, ID, self.terms, socket, keeper,
-        )?;
-        Ok(if outcome == Outcome::Restarted { Some(process) } else { None })
+        let (process, outcome) = SeatProcess::begin(alloc, player, ID, self.terms, socket, keeper)?;
+        Ok(if outcome == Outcome::Restarted {
+            Some(process)
+        } else {
+            None
+        })
     }
 
     /// The process of a seat, which begins first where it does not run.

@@ -1,9 +1,9 @@
 //! A match between parties that run each in a process of its own: processes end at random, and begin again.
 use crate::fronts::is_front;
-use bg_examples::lone::followers::{LoneSeat, LoneWatcher};
-use bg_examples::lone::referee::LoneReferee;
 use bg_auto::auto_action;
 use bg_board::Player;
+use bg_examples::lone::followers::{LoneSeat, LoneWatcher};
+use bg_examples::lone::referee::LoneReferee;
 use bg_match::{Actor, Number, Record, Rules, Terms};
 use bg_text::{Verdict, judge_text, transcript_text};
 use bg_wire::{Datagram, FIRST_WATCHER, REFEREE, SEAT_OF_O, SEAT_OF_X};

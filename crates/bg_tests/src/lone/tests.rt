@@ -1,7 +1,7 @@
 //! Parties that run each in a process of its own, as docs/USING.md shows them.
 use crate::host_tests::new_folder;
-use bg_examples::lone::referee::{LoneReferee, ProcessFault};
 use crate::lone::table::{MATCH, Table};
+use bg_examples::lone::referee::{LoneReferee, ProcessFault};
 use bg_match::{Rules, Terms};
 use bg_wire::{FIRST_WATCHER, Packet, encode};
 use bg_world::{Outcome, RestoreCause};
