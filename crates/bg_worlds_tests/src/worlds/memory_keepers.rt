@@ -4,6 +4,7 @@ use crate::worlds::event_rows::{ComesTo, Happens, Row, TO_THE_CHOICE, TO_THE_CLA
 use crate::worlds::memory_nets::LAST;
 use crate::worlds::memory_worlds::{check_held, check_rows, plan_of, played, world_by};
 use bg_world::{FailRead, Tear};
+use std::process::Abort;
 use std::test::Fail;
 
 /// The referee's slots have what was last written to them: nothing, then one entry, then two.
@@ -77,21 +78,21 @@ const THE_WRITE_ITSELF: [Row; 5] = [
     (X_MOVES, ComesTo::AlreadyClaimed),
 ];
 
+/// The second write of the seat of X is torn, and these rows follow.
+fn check_torn(rt: &(impl AllocGlobal + Abort), cut: Option<u32>, then: &[Row]) -> Result<(), Fail> {
+    played(rt, 0, tearing(1, 2, cut), &[&TO_THE_TORN_WRITE, then])?;
+    Ok(())
+}
+
 /// A torn write leaves the first bytes, as many as the cut says, all of them where there are no more, or the slot as it
 /// was. The text has 37: 20, a claim of 10, a count of 4 and the opening of 3.
 #[test]
 fn torn_writes(rt: HostRuntime) -> Result<(), Fail> {
-    for (cut, then) in [
-        (None, THE_WRITE_BEFORE),
-        (Some(0), THE_WRITE_BEFORE),
-        (Some(1), THE_WRITE_BEFORE),
-        (Some(19), THE_WRITE_BEFORE),
-        (Some(36), THE_WRITE_BEFORE),
-        (Some(37), THE_WRITE_ITSELF),
-        (Some(38), THE_WRITE_ITSELF),
-        (Some(LAST), THE_WRITE_ITSELF),
-    ] {
-        played(&rt, 0, tearing(1, 2, cut), &[&TO_THE_TORN_WRITE, &then])?;
+    for cut in [None, Some(0), Some(1), Some(19), Some(36)] {
+        check_torn(&rt, cut, &THE_WRITE_BEFORE)?;
+    }
+    for cut in [Some(37), Some(38), Some(LAST)] {
+        check_torn(&rt, cut, &THE_WRITE_ITSELF)?;
     }
     Ok(())
 }
