@@ -1,6 +1,6 @@
 //! The random words of an automatic match.
 ghost use Rattle.std.specs.Prelude.{◌≡◌, ◌<◌, ◌≤◌, ◌+◌, ◌^◌, ℕ};
-ghost use Rattle.rand_chacha.specs.ChaCha.{ChaCha, key_of};
+ghost use Rattle.rand_chacha.specs.ChaCha.{key_of};
 ghost use Rattle.bg_auto.specs.Words.{dice_word as word_of_dice, event_words as words_of_event, key_bytes};
 ghost use Rattle.bg_auto.specs.Words.{keyed_dice_word, schedule_at};
 

@@ -2,7 +2,8 @@
 ghost use Rattle.std.specs.Prelude.{◌≡◌, ◌≤◌, ◌<◌, ◌↔◌, sum, IsOk, IfOk, IfErr, IsTrue, length, slice_index};
 ghost use Rattle.std.specs.Bool.{OnTrue, OnFalse};
 ghost use Rattle.bg_board.specs.Die.{pips};
-ghost use Rattle.bg_board.specs.Position.{Position, IsPosition, AreApart, SharesPoint, HasAllOff, count, count_above, checkers, position_of, start_position};
+ghost use Rattle.bg_board.specs.Position.{Position, IsPosition, AreApart, SharesPoint, HasAllOff, count, count_above};
+ghost use Rattle.bg_board.specs.Position.{checkers, start_position};
 ghost use Rattle.bg_board.specs.Step.{carried, hit_by};
 
 use crate::{Die, Player, Step, StepFault};

@@ -1,5 +1,5 @@
 //! A party, or none, as C holds it: a pointer.
-ghost use Rattle.std.specs.Prelude.{◌≡◌, Option, Some, None, option_map};
+ghost use Rattle.std.specs.Prelude.{◌≡◌, Some, None, option_map};
 ghost use Rattle.bg_c.specs.Handle.{Kept, handle_owns, kept_coded};
 
 use crate::loose::Loose;

@@ -23,7 +23,7 @@ mod tests;
 mod transcripts;
 mod turns;
 
-ghost use Rattle.std.specs.Prelude.{◌≡◌, ◌≢◌};
+ghost use Rattle.std.specs.Prelude.{◌≡◌};
 ghost use Rattle.bg_c.specs.Rooms.{PutsText};
 ghost use Rattle.bg_c.specs.Status.{status_code, status_text};
 ghost use Rattle.bg_c.specs.declared.statuses.Status.{Status as AStatus};

@@ -1,5 +1,5 @@
 //! What is read of packets, to route them.
-ghost use Rattle.std.specs.Prelude.{◌≡◌, Option, Result};
+ghost use Rattle.std.specs.Prelude.{◌≡◌, Result};
 ghost use Rattle.bg_c.specs.Packets.{ReadsPacket, packet_fields};
 ghost use Rattle.bg_c.specs.Sets.{Sets};
 ghost use Rattle.bg_c.specs.declared.packets.PacketFields.{PacketFields as Fields};

@@ -1,6 +1,5 @@
 //! What the slots of a party restore.
 ghost use Rattle.std.specs.Prelude.{◌≡◌, Result};
-ghost use Rattle.bg_match.specs.Terms.{terms_of};
 ghost use Rattle.bg_c.specs.Packets.{ReadsOfMatch, ReadsSlots, rules_numbered, saved_fields};
 ghost use Rattle.bg_c.specs.Sets.{Sets};
 ghost use Rattle.bg_c.specs.declared.slots.SavedFields.{SavedFields as Fields};

@@ -46,7 +46,6 @@ pub enum Status {
 }
 
 impl Status {
-    ghost use Rattle.std.specs.Prelude.{ℕ};
     ghost use Rattle.bg_c.specs.declared.statuses.Status.{Status as AStatus};
 
     /// Its number, from 0.

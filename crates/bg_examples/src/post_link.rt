@@ -1,6 +1,5 @@
 //! The link of a process that runs one party: an inbox for what has come, and an outbox for what is to be sent.
 ghost use Rattle.std.specs.Prelude.{[], None, length};
-ghost use Rattle.bg_world.specs.Devices.Honesty.{CountsFailed, HasCause};
 ghost use Rattle.bg_world.specs.Devices.Handed.{noted_answer};
 
 use arrayvec::ArrayVec;

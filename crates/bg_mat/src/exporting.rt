@@ -1,5 +1,5 @@
 //! A record written as a match file.
-ghost use Rattle.std.specs.Prelude.{◌≡◌, ◌<◌, ◌≤◌, ◌++◌, ◌∷◌, length, IfOk, OnOk, MatchOption, List};
+ghost use Rattle.std.specs.Prelude.{◌≡◌, ◌≤◌, ◌++◌, ◌∷◌, length, IfOk, OnOk, MatchOption, List};
 ghost use Rattle.bg_mat.specs.Files.{Exports};
 ghost use Rattle.bg_mat.specs.Rows.RowTexts.{Both, Alone, WritesRow, grouped, length_text, lines_text};
 ghost use Rattle.bg_mat.specs.Rows.RowTexts.{next_row as next_row_number, share_row as cells_share_row};

@@ -1,12 +1,12 @@
 //! A match file read as a record.
-ghost use Rattle.std.specs.Prelude.{◌≡◌, ◌+◌, ◌<◌, ◌≤◌, ◌↔◌, ℕ, List, None, Err, IfOk, IfErr, OnOk, length};
+ghost use Rattle.std.specs.Prelude.{◌≡◌, ◌+◌, ◌<◌, ◌≤◌, ◌↔◌, ℕ, None, Err, IfOk, IfErr, OnOk, length};
 ghost use Rattle.bg_match.specs.Match.{IsLog, empty_log};
 ghost use Rattle.bg_match.specs.Terms.{terms_of};
 ghost use Rattle.bg_mat.specs.Files.{Imports, after_row, item_of, items_of, numbered};
 ghost use Rattle.bg_mat.specs.Rows.Headings.{IsGameLine, IsLengthLine};
 ghost use Rattle.bg_text.specs.Judge.Judging.{lines_of};
 ghost use Rattle.bg_text.specs.Limits.{most_bytes};
-ghost use Rattle.bg_mat.specs.Replaying.{Begins, GoesOnBy, IsReplay};
+ghost use Rattle.bg_mat.specs.Replaying.{GoesOnBy, IsReplay};
 ghost use Rattle.bg_mat.specs.Reading.{AddsLine, ReadsGames};
 ghost use Rattle.bg_mat.specs.Refusals.{IsAtLineOf, IsAtToldLine, IsBeginFault, IsReadFault, IsRefusal};
 

@@ -1,5 +1,5 @@
 //! What a movement and a turn have in common: from which points checkers go to which, and what they hit.
-ghost use Rattle.std.specs.Prelude.{◌≡◌, ◌+◌, ◌≤◌, ◌↔◌, length, IsTrue};
+ghost use Rattle.std.specs.Prelude.{◌≡◌, ◌≤◌, ◌↔◌, length, IsTrue};
 ghost use Rattle.bg_mat.specs.Turns.{HasHits, SameMovement, coming, is_hit as is_hit_by_rule};
 ghost use Rattle.bg_mat.specs.Turns.{is_marked as is_marked_point, is_reached as is_reached_point, leaving, steps_of};
 

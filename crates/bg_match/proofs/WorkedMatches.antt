@@ -1,12 +1,12 @@
 -- Worked matches, by the definitions alone.
-use Rattle.std.proofs.Common.{◌≡◌, ℕ, true, false, Some, None, List, [], ◌∷◌, ◌++◌, refl, inr, arith, sym, ◌∙◌, inl, ap}
+use Rattle.std.proofs.Common.{◌≡◌, ℕ, true, false, Some, None, List, [], ◌∷◌, ◌++◌, refl, inr, arith, sym, ap}
 use Rattle.bg_board.specs.Position.{Position, start_position}
 use Rattle.bg_board.specs.declared.players.Player.TheVariants.{X, O}
 use Rattle.bg_board.specs.declared.dice.Die.TheVariants.{One, Three, Five, Six}
 use Rattle.bg_turns.specs.declared.throws.Dice.{Dice}
 use Rattle.bg_match.specs.Limits.{greatest_cube}
 use Rattle.bg_match.specs.declared.levels.Level.TheVariants.{Normal, Gammon, Backgammon}
-use Rattle.bg_match.specs.declared.phases.Actor.TheVariants.{Referee, Nobody, Seat}
+use Rattle.bg_match.specs.declared.phases.Actor.TheVariants.{Referee, Nobody}
 use Rattle.bg_match.specs.declared.phases.Phase.TheVariants as phase
 use Rattle.bg_match.specs.declared.entries.Entry.{Entry}
 use Rattle.bg_match.specs.declared.entries.Entry.TheVariants as entry

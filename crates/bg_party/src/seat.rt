@@ -1,6 +1,5 @@
 //! The seat of a player.
-ghost use Rattle.std.specs.Prelude.{◌≡◌, ◌≤◌, ◌<◌, ◌+◌, ◌↔◌, true, false, [], Some, None, length, IsOk};
-ghost use Rattle.std.specs.Prelude.{IfOk};
+ghost use Rattle.std.specs.Prelude.{◌≡◌, ◌≤◌, ◌↔◌, length, IsOk, IfOk};
 ghost use Rattle.bg_match.specs.Terms.{terms_of};
 ghost use Rattle.bg_match.specs.Limits.{IsMatchLength};
 ghost use Rattle.bg_wire.specs.Packets.PacketText.{IsPacket};
@@ -8,7 +7,6 @@ ghost use Rattle.bg_wire.specs.Parties.{party_of};
 ghost use Rattle.bg_wire.specs.Saved.Saves.{IsNextSave};
 ghost use Rattle.bg_wire.specs.Saved.SavedText.{IsSavable, parts_of, parts_with};
 ghost use Rattle.bg_wire.specs.Entries.Codes.{seat_of_x};
-ghost use Rattle.bg_party.specs.Views.{player_of};
 
 use crate::follower::Follower;
 use crate::parties::player_of;

@@ -1,15 +1,14 @@
 //! A party that only watches.
-ghost use Rattle.std.specs.Prelude.{◌≡◌, ◌≤◌, ◌<◌, ◌↔◌, [], Some, length, IsOk, IfOk};
+ghost use Rattle.std.specs.Prelude.{◌≡◌, ◌≤◌, ◌↔◌, length, IsOk, IfOk};
 ghost use Rattle.bg_wire.specs.Entries.Codes.{first_watcher};
-ghost use Rattle.bg_match.specs.Match.{empty_log};
 ghost use Rattle.bg_match.specs.Terms.{terms_of};
-ghost use Rattle.bg_match.specs.Limits.{shortest_match, longest_match, IsMatchLength};
+ghost use Rattle.bg_match.specs.Limits.{IsMatchLength};
 ghost use Rattle.bg_wire.specs.Packets.PacketText.{IsPacket};
 
 use crate::Learned;
 use crate::follower::Follower;
 use bg_match::{LengthFault, Record, Rules};
-use bg_wire::{FIRST_WATCHER, Packet};
+use bg_wire::Packet;
 use std::alloc::Global;
 use std::marker::Model;
 

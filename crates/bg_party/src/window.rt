@@ -1,5 +1,6 @@
 //! Early entries, which are kept until those before them come.
-ghost use Rattle.std.specs.Prelude.{◌≡◌, ◌≢◌, ◌+◌, ◌<◌, ◌≤◌, ◌↔◌, ◌^◌, ℕ, Some, [], length, drop, max, IsTrue, if◌then◌else◌};
+ghost use Rattle.std.specs.Prelude.{◌≡◌, ◌≢◌, ◌+◌, ◌<◌, ◌≤◌, ◌↔◌, ◌^◌, ℕ, Some, [], length, drop, max, IsTrue};
+ghost use Rattle.std.specs.Prelude.{if◌then◌else◌};
 ghost use Rattle.bg_party.specs.Window.{at_place, early_behind, window_size, KeepsFrom};
 
 use arrayvec::ArrayVec;

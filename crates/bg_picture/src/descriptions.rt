@@ -1,10 +1,11 @@
 //! What a picture shows, in words.
-ghost use Rattle.std.specs.Prelude.{◌≡◌, ◌≤◌, ◌-◌, ◌++◌, OnOk, IsTrue};
+ghost use Rattle.std.specs.Prelude.{◌≡◌, ◌++◌, OnOk, IsTrue};
 ghost use Rattle.std.specs.List.{list_all};
 ghost use Rattle.bg_text.specs.Boards.BoardText.{is_point};
 ghost use Rattle.bg_picture.specs.Descriptions.{crawford_words as crawford_mark, game_words, score_words, cube_words};
 ghost use Rattle.bg_picture.specs.Descriptions.{phase_words, terms_words};
-ghost use Rattle.bg_picture.specs.Descriptions.{owner_words, number_for as number_of, point_words, bar_words, off_words};
+ghost use Rattle.bg_picture.specs.Descriptions.{owner_words, number_for as number_of, point_words, bar_words};
+ghost use Rattle.bg_picture.specs.Descriptions.{off_words};
 ghost use Rattle.bg_picture.specs.Descriptions.{points_words, checkers_words, reader_words, description, titles_text};
 
 use bg_board::{BAR, Board, OFF, Player};

@@ -1,6 +1,5 @@
 //! The entries of a page, each with the picture of the standing after it.
 ghost use Rattle.std.specs.Prelude.{◌≡◌, ◌++◌, OnOk, IfOk};
-ghost use Rattle.bg_match.specs.Actor.{actor_of, seat_of};
 ghost use Rattle.bg_match.specs.Follows.{CanFollow, Follows};
 ghost use Rattle.bg_picture.specs.Items.{entry_item, game_heading, heading, inner_picture, item_start, item_text};
 ghost use Rattle.bg_picture.specs.Items.{list_start};

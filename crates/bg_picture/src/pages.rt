@@ -1,7 +1,8 @@
 //! The page of a match.
 ghost use Rattle.std.specs.Prelude.{◌≡◌, ◌++◌, OnOk, IfOk};
 ghost use Rattle.bg_match.specs.State.{start_of as start_of_terms};
-ghost use Rattle.bg_picture.specs.Pages.{IsPage, PutsEntries, body_text, first_item, head_text, heading_text, live_body};
+ghost use Rattle.bg_picture.specs.Pages.{IsPage, PutsEntries, body_text, first_item, head_text, heading_text};
+ghost use Rattle.bg_picture.specs.Pages.{live_body};
 ghost use Rattle.bg_picture.specs.Pages.{page_end, page_start, refresh_text, shared_shapes, styles_text};
 ghost use Rattle.bg_picture.specs.Pages.{summary_text, title_text};
 

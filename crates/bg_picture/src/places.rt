@@ -1,6 +1,6 @@
 //! Where things stand in a picture, in its units.
-ghost use Rattle.std.specs.Prelude.{◌≡◌, ◌≤◌, ◌<◌};
-ghost use Rattle.bg_picture.specs.Places.{column as column_of, columns, is_far as far, is_above as above_of};
+ghost use Rattle.std.specs.Prelude.{◌≡◌, ◌≤◌};
+ghost use Rattle.bg_picture.specs.Places.{column as column_of, is_above as above_of};
 ghost use Rattle.bg_picture.specs.Places.{number_line as line_of_number, stack_top as top_of};
 ghost use Rattle.bg_picture.specs.Places.{count_line as line_of_count, half as half_of, cube_height as height_of};
 

@@ -1,5 +1,5 @@
 //! The checkers of a picture, and the numbers of the points.
-ghost use Rattle.std.specs.Prelude.{◌≡◌, ◌≤◌, ◌<◌, ◌++◌, OnOk, IsTrue};
+ghost use Rattle.std.specs.Prelude.{◌≡◌, ◌<◌, ◌++◌, OnOk, IsTrue};
 ghost use Rattle.std.specs.List.{list_all};
 ghost use Rattle.bg_picture.specs.Stacks.{checkers_text, class_of, count_text, is_place, stack_text, stacks_text};
 ghost use Rattle.bg_picture.specs.Stacks.{number_marks, numbers_text, numbers_name as name_of_numbers};

@@ -1,5 +1,5 @@
 //! The cube, the dice and the offers of a picture.
-ghost use Rattle.std.specs.Prelude.{◌≡◌, ◌≤◌, ◌<◌, ◌+◌, ◌++◌, OnOk, IsTrue};
+ghost use Rattle.std.specs.Prelude.{◌≡◌, ◌≤◌, ◌++◌, OnOk};
 ghost use Rattle.bg_board.specs.declared.players.Player.{Player};
 ghost use Rattle.bg_turns.specs.declared.throws.Dice.{Dice};
 ghost use Rattle.bg_match.specs.Actor.{passes};

@@ -1,5 +1,4 @@
 //! What the system answers, as devices answer it.
-ghost use Rattle.std.specs.Prelude.{◌≡◌};
 
 use bg_world::DeviceFault;
 use std::io;

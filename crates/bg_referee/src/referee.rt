@@ -1,7 +1,7 @@
 //! The referee's core.
 ghost use Rattle.std.specs.Prelude.{◌≡◌, ◌≢◌, ◌↔◌, IsOk, IfOk, IfErr};
 ghost use Rattle.bg_match.specs.Limits.{IsMatchLength};
-ghost use Rattle.bg_match.specs.Match.{ActsAfter, IsNext};
+ghost use Rattle.bg_match.specs.Match.{ActsAfter};
 ghost use Rattle.bg_match.specs.Terms.{terms_of};
 ghost use Rattle.bg_wire.specs.Entries.Codes.{referee};
 ghost use Rattle.bg_wire.specs.Saved.SavedText.{IsSavable, parts_of};

@@ -1,5 +1,5 @@
 //! What the referee sends without having been asked for.
-ghost use Rattle.std.specs.Prelude.{◌≡◌, ◌≤◌, ◌<◌, All, length};
+ghost use Rattle.std.specs.Prelude.{◌≤◌, ◌<◌, All, length};
 ghost use Rattle.bg_match.specs.Limits.{most_entries};
 ghost use Rattle.bg_wire.specs.Packets.PacketText.{IsPacket};
 ghost use Rattle.bg_referee.specs.Sessions.{most_pushes};

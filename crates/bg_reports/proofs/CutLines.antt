@@ -1,6 +1,6 @@
 -- Lines that are shown, and cut.
-use Rattle.std.proofs.Common.{◌≡◌, ◌∙◌, ◌⊎◌, inl, inr, ℕ, zero, suc, ◌+◌, ◌-◌, ◌<◌, ◌≤◌, List, [], ◌∷◌, ◌++◌, length, take, drop, codes}
-use Rattle.std.proofs.Common.{Bool, true, false, ◌==◌, ◌&&◌, nat_le, if◌then◌else◌, refl, sym, ap, arith, rules, length-append}
+use Rattle.std.proofs.Common.{◌≡◌, ◌∙◌, ◌⊎◌, inl, inr, ℕ, zero, suc, ◌-◌, ◌<◌, ◌≤◌, List, [], ◌∷◌, ◌++◌, length, take, drop}
+use Rattle.std.proofs.Common.{Bool, true, false, ◌==◌, ◌&&◌, nat_le, if◌then◌else◌, refl, sym, ap, arith, length-append}
 use Rattle.std.proofs.lemmas.Bool.Decides.{nat_tests}
 use Rattle.std.proofs.lemmas.List.{take_all, take-append-drop, take-append-le, length-take-le}
 use Rattle.std.proofs.lemmas.List.Concat.{flat_map-append}

@@ -4,9 +4,12 @@ ghost use Rattle.std.specs.List.{list_all};
 ghost use Rattle.std.specs.Fmt.{decimal};
 ghost use Rattle.bg_match.specs.Actor.{passes};
 ghost use Rattle.bg_turns.specs.declared.throws.Dice.{Dice};
-ghost use Rattle.bg_text.specs.Boards.BoardText.{board_text as text_of_board, line_text, header_line, game_part, score_part};
-ghost use Rattle.bg_text.specs.Boards.BoardText.{cube_part, crawford_mark as mark, owner_word, in_four, cell, cells_line};
-ghost use Rattle.bg_text.specs.Boards.BoardText.{numbers_line, counts_part, aside_line, phase_line, turn_words, is_point};
+ghost use Rattle.bg_text.specs.Boards.BoardText.{board_text as text_of_board, line_text, header_line, game_part};
+ghost use Rattle.bg_text.specs.Boards.BoardText.{score_part};
+ghost use Rattle.bg_text.specs.Boards.BoardText.{cube_part, crawford_mark as mark, owner_word, in_four, cell};
+ghost use Rattle.bg_text.specs.Boards.BoardText.{cells_line};
+ghost use Rattle.bg_text.specs.Boards.BoardText.{numbers_line, counts_part, aside_line, phase_line, turn_words};
+ghost use Rattle.bg_text.specs.Boards.BoardText.{is_point};
 
 use crate::entries::names::{letter, level_word};
 use crate::printing::{put_number, put_text};

@@ -1,15 +1,9 @@
 //! The judge of a transcript.
-ghost use Rattle.std.specs.Prelude.{◌≡◌, ◌≢◌, ◌≤◌, ◌↔◌, ◌+◌, ℕ, length, List, Ok, IsTrue, OnOk, OnErr, IfOk, IfErr};
-ghost use Rattle.std.specs.Prelude.{IfSome};
-ghost use Rattle.bg_match.specs.Limits.{IsMatchLength};
-ghost use Rattle.bg_match.specs.Terms.{match_length};
-ghost use Rattle.bg_match.specs.declared.entries.Entry.{Entry};
+ghost use Rattle.std.specs.Prelude.{◌≡◌, ◌≢◌, ◌≤◌, ◌+◌, ℕ, List, IfOk, IfErr, IfSome};
 ghost use Rattle.bg_streams.specs.EngineFault.{SourceFails, SinkFails};
 ghost use Rattle.bg_streams.specs.Transfers.{ReadsInput, WritesText};
-ghost use Rattle.bg_text.specs.Judge.Judging.{lines_of, IsWrongSeat, IsLineFault, IsJudged, IsJudgement};
-ghost use Rattle.bg_text.specs.Judge.Judging.{TranscriptsAreFine, JudgementsAgree};
+ghost use Rattle.bg_text.specs.Judge.Judging.{IsJudgement, TranscriptsAreFine, JudgementsAgree};
 ghost use Rattle.bg_text.specs.Limits.{most_bytes};
-ghost use Rattle.bg_text.specs.Judge.Reading.{IsReadAs, IsLineAt, AddsLine, RefusesLine};
 
 pub(crate) mod courses;
 pub(crate) mod hearing;

@@ -1,5 +1,5 @@
 -- Whether a player has a step: the truth value says what the definition says.
-use Rattle.std.proofs.Common.{◌≡◌, ◌≢◌, ◌⊎◌, ◌↔◌, ℕ, zero, suc, ◌-◌, ◌<◌, ◌≤◌, Bool, true, false, cond, ◌||◌, eqb, List, [], ◌∷◌, length, replicate, refl, sym, ◌∙◌, ap, subst, arith, inl, inr}
+use Rattle.std.proofs.Common.{◌≡◌, ◌⊎◌, ℕ, zero, suc, ◌-◌, ◌<◌, ◌≤◌, Bool, true, false, cond, ◌||◌, eqb, List, [], ◌∷◌, length, replicate, refl, sym, ◌∙◌, ap, subst, arith, inl, inr}
 use Rattle.std.specs.Prelude.{slice_index, nat_lt}
 use Rattle.std.proofs.lemmas.Bool.{cases_eq, eqb-true, or_cases}
 use Rattle.std.proofs.lemmas.Bool.Decides.{nat_tests}
@@ -11,7 +11,7 @@ use Rattle.bg_turns.specs.Dice.{dice_list, first_pips, second_pips}
 use Rattle.bg_turns.specs.HasStep.{is_step, steps_by, has_step, TellsSteps}
 use Rattle.bg_turns.specs.Turn.{CanStep, IsLongest, IsMost, IsPlayable}
 use Rattle.bg_turns.specs.declared.throws.Dice.{Dice}
-use Rattle.bg_turns.proofs.Computed.{numbers_of, step_from, no_step_from}
+use Rattle.bg_turns.proofs.Computed.{step_from, no_step_from}
 
 or_true : (a b : Bool) → b ≡ true → (a || b) ≡ true
 or_true true b h = refl

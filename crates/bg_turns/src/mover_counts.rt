@@ -1,12 +1,12 @@
 //! The mover's side of a position, on which turns are searched: a board that is copied for each step takes most of the
 //! time of a search, and the other player's counts decide nothing within a turn but which points are blocked.
-ghost use Rattle.std.specs.Prelude.{◌≡◌, ◌≤◌, ◌<◌, ◌↔◌, IsTrue, sum, length, slice_index};
+ghost use Rattle.std.specs.Prelude.{◌≡◌, ◌≤◌, ◌<◌, ◌↔◌, IsTrue, slice_index};
 ghost use Rattle.std.specs.Bool.{OnTrue};
 ghost use Rattle.bg_board.specs.Position.{Position, IsPosition, checkers, opponent};
 ghost use Rattle.bg_board.specs.declared.players.Player.{Player as SeenPlayer};
 ghost use Rattle.bg_board.specs.Step.{IsStep};
 ghost use Rattle.bg_turns.specs.declared.mover_counts.MoverCounts.{MoverCounts as SeenCounts};
-ghost use Rattle.bg_turns.specs.MoverCounts.{IsMoverCounts, IsHighest, Stands, can, after, is_off, step_of};
+ghost use Rattle.bg_turns.specs.MoverCounts.{IsMoverCounts, IsHighest, Stands, can, after, is_off};
 
 use bg_board::{BAR, Board, CHECKERS, HOME, OFF, Player, Step};
 

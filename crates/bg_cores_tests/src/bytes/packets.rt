@@ -4,7 +4,7 @@ use arrayvec::ArrayVec;
 use bg_board::Die;
 use bg_match::{Action, Entry, Level, Rules};
 use bg_turns::Dice;
-use bg_wire::{Datagram, LONGEST_PACKET, Packet, PacketBytes, WireFault, decode, encode};
+use bg_wire::{Datagram, LONGEST_PACKET, Packet, PacketBytes, decode, encode};
 use std::process::Abort;
 
 /// Party 3 holds nothing of match 1.

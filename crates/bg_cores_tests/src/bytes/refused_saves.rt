@@ -7,7 +7,7 @@ use crate::bytes::saves::{
     OLD_REFEREE_SAVE, OLD_SEAT_SAVE, REFEREE_SAVE, SEAT_SAVE, check_entries, check_text, loaded,
 };
 use bg_wire::{LoadFault, Saved, load, save_text};
-use std::alloc::{AllocError, Global};
+use std::alloc::Global;
 use std::process::Abort;
 use std::test::Fail;
 

@@ -1,6 +1,4 @@
 //! Saved texts by the second rules, and passes.
-ghost use Rattle.std.specs.Prelude.{IfOk};
-ghost use Rattle.bg_wire.specs.Saved.SavedText.{IsSavable, parts_of};
 
 use crate::bytes::bytes::{joined, turn, with_byte, with_bytes};
 use crate::bytes::refused_saves::check_load_fault;

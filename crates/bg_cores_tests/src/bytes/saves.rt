@@ -2,7 +2,7 @@
 ghost use Rattle.std.specs.Prelude.{IfOk};
 ghost use Rattle.bg_wire.specs.Saved.SavedText.{IsSavable, parts_of};
 
-use crate::bytes::bytes::{joined, turn, with_bytes};
+use crate::bytes::bytes::{turn, with_bytes};
 use bg_board::Die;
 use bg_match::{Action, Entry, Level, MOST_ENTRIES, Number, Record, Rules};
 use bg_wire::{

@@ -132,8 +132,8 @@ fn learns_eleven_offers(seat: &mut Seat) -> bool {
     true
 }
 
-/// What a seat has that holds the opening and eleven offers to resign, each rejected. Of its save what stands before the
-/// entries has 34 bytes, the opening three, each of eleven offers two, each rejection one.
+/// What a seat has that holds the opening and eleven offers to resign, each rejected. Of its save, what stands before
+/// the entries has 34 bytes, the opening three, each of eleven offers two, each rejection one.
 const AFTER_ELEVEN_OFFERS: [Row; 3] = [
     Row::Move(Ok(24)),
     Row::SizeOfSave(Ok((Slot::One, 1, 70))),

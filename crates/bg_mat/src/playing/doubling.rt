@@ -1,30 +1,15 @@
 //! Doubles and their answers.
-ghost use Rattle.std.specs.Prelude.{◌≡◌, ◌≢◌, ◌+◌, ◌*◌, ◌<◌, [], ◌∷◌, true, None, IsTrue, IfOk, IfSome, OnOk};
-ghost use Rattle.std.specs.Bool.{OnTrue, OnFalse};
-ghost use Rattle.bg_match.specs.Level.{points as points_of};
-ghost use Rattle.bg_match.specs.Match.{IsLog};
-ghost use Rattle.bg_match.specs.State.{State, score_of};
-ghost use Rattle.bg_turns.specs.Dice.{first_pips, second_pips};
-ghost use Rattle.bg_mat.specs.Turns.{TellsTurn};
-ghost use Rattle.bg_mat.specs.Telling.{Does, Game, Doubles, Drops, Takes, Turn as Turns, Wins, deed_of, GoesOn};
-ghost use Rattle.bg_mat.specs.Telling.{IsOver, IsOverMatch, BringsDice, MayResign, before_of};
-ghost use Rattle.bg_mat.specs.Replaying.{Adds, AddsMove, Begins, Closes, GoesOnBy, IsReplay, Plays, Resigns, Rolls};
-ghost use Rattle.bg_mat.specs.Replaying.{TellsScores, place_of};
-ghost use Rattle.bg_mat.specs.Refusals.{IsAtLine, IsAtLineOf, IsAtPending};
+ghost use Rattle.std.specs.Prelude.{◌≡◌, ◌*◌, None, IsTrue, OnOk};
+ghost use Rattle.bg_mat.specs.Telling.{Doubles, Drops, Takes, GoesOn};
+ghost use Rattle.bg_mat.specs.Replaying.{IsReplay, Plays, place_of};
+ghost use Rattle.bg_mat.specs.Refusals.{IsAtLine};
 ghost use Rattle.std.specs.Prelude.{IfErr};
 
 use super::Replay;
 use crate::MatFault;
 use crate::faults::{ReadFault, refused};
-use crate::movements::legs::Legs;
-use crate::movements::turns::{find_turn, turn_fault};
-use crate::rows::cells::{Cell, Win};
-use crate::rows::headings::has_scores;
-use arrayvec::ArrayVec;
 use bg_board::Player;
-use bg_match::{Actor, Entry, EntryFault, Level, Phase, Record, Standing};
-use bg_turns::{Dice, Turn, can_step};
-use std::alloc::{AllocError, Global};
+use bg_match::{Entry, Phase};
 
 impl Replay {
     /// Whether the player is to act.

@@ -1,30 +1,18 @@
 //! Wins.
-ghost use Rattle.std.specs.Prelude.{◌≡◌, ◌≢◌, ◌+◌, ◌*◌, ◌<◌, [], ◌∷◌, true, None, IsTrue, IfOk, IfSome, OnOk};
-ghost use Rattle.std.specs.Bool.{OnTrue, OnFalse};
+ghost use Rattle.std.specs.Prelude.{◌≡◌, ◌+◌, ◌*◌, ◌<◌, true, None, IsTrue, IfSome, OnOk};
 ghost use Rattle.bg_match.specs.Level.{points as points_of};
-ghost use Rattle.bg_match.specs.Match.{IsLog};
-ghost use Rattle.bg_match.specs.State.{State, score_of};
-ghost use Rattle.bg_turns.specs.Dice.{first_pips, second_pips};
-ghost use Rattle.bg_mat.specs.Turns.{TellsTurn};
-ghost use Rattle.bg_mat.specs.Telling.{Does, Game, Doubles, Drops, Takes, Turn as Turns, Wins, deed_of, GoesOn};
-ghost use Rattle.bg_mat.specs.Telling.{IsOver, IsOverMatch, BringsDice, MayResign, before_of};
-ghost use Rattle.bg_mat.specs.Replaying.{Adds, AddsMove, Begins, Closes, GoesOnBy, IsReplay, Plays, Resigns, Rolls};
-ghost use Rattle.bg_mat.specs.Replaying.{TellsScores, place_of};
-ghost use Rattle.bg_mat.specs.Refusals.{IsAtLine, IsAtLineOf, IsAtPending};
+ghost use Rattle.bg_match.specs.State.{score_of};
+ghost use Rattle.bg_mat.specs.Telling.{Wins, GoesOn, IsOver, IsOverMatch, MayResign, before_of};
+ghost use Rattle.bg_mat.specs.Replaying.{IsReplay, Plays, Resigns, place_of};
+ghost use Rattle.bg_mat.specs.Refusals.{IsAtLine};
 ghost use Rattle.std.specs.Prelude.{IfErr};
 
 use super::Replay;
 use crate::MatFault;
 use crate::faults::{ReadFault, refused};
-use crate::movements::legs::Legs;
-use crate::movements::turns::{find_turn, turn_fault};
-use crate::rows::cells::{Cell, Win};
-use crate::rows::headings::has_scores;
-use arrayvec::ArrayVec;
+use crate::rows::cells::Win;
 use bg_board::Player;
-use bg_match::{Actor, Entry, EntryFault, Level, Phase, Record, Standing};
-use bg_turns::{Dice, Turn, can_step};
-use std::alloc::{AllocError, Global};
+use bg_match::{Entry, Level, Phase};
 
 /// Whether a score has grown by so many points, at least one.
 fn has_grown(before: u16, after: u16, points: u16) -> bool

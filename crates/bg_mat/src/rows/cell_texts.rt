@@ -1,6 +1,7 @@
 //! The texts of cells.
 ghost use Rattle.std.specs.Prelude.{◌≡◌, ◌++◌, OnOk};
-ghost use Rattle.bg_mat.specs.Rows.CellTexts.{cell_text, dice_text, ending_text, leg_text, legs_text, points_text, win_text};
+ghost use Rattle.bg_mat.specs.Rows.CellTexts.{cell_text, dice_text, ending_text, leg_text, legs_text, points_text};
+ghost use Rattle.bg_mat.specs.Rows.CellTexts.{win_text};
 ghost use Rattle.bg_mat.specs.Legs.{mark};
 
 use crate::movements::legs::Leg;

@@ -1,5 +1,5 @@
 //! A cell of a row: what one player does.
-ghost use Rattle.std.specs.Prelude.{◌≡◌, IfSome, IfOk, IsTrue};
+ghost use Rattle.std.specs.Prelude.{IfSome, IfOk};
 ghost use Rattle.bg_mat.specs.Rows.Cells.{AddsMovement, IsDiceWord, TellsCell, TellsDouble, TellsPoints, TellsWin};
 
 use crate::MatFault;

@@ -1,5 +1,5 @@
 //! Numbers of up to four digits.
-ghost use Rattle.std.specs.Prelude.{◌≡◌, ℕ, MatchOption};
+ghost use Rattle.std.specs.Prelude.{ℕ, MatchOption};
 ghost use Rattle.bg_mat.specs.Rows.Numbers.{IsNumber};
 
 /// The most digits of a number.

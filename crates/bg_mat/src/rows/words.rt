@@ -1,8 +1,7 @@
 //! The words of a line: its longest runs of bytes that are not blank.
-ghost use Rattle.std.specs.Prelude.{◌≡◌, ◌↔◌, ◌⊎◌, ◌∷◌, ◌++◌, [], true, false, ℕ, List, IsTrue, IfSome, MatchOption};
-ghost use Rattle.std.specs.Prelude.{codes};
-ghost use Rattle.std.specs.List.{All};
-ghost use Rattle.bg_mat.specs.Rows.Words.{is_blank as is_blank_byte, leading_blanks, BeginsSolid, EndsWord, IsBlankText};
+ghost use Rattle.std.specs.Prelude.{◌≡◌, ◌↔◌, ◌++◌, ℕ, List, IsTrue, MatchOption};
+ghost use Rattle.bg_mat.specs.Rows.Words.{is_blank as is_blank_byte, leading_blanks, BeginsSolid, EndsWord};
+ghost use Rattle.bg_mat.specs.Rows.Words.{IsBlankText};
 ghost use Rattle.bg_mat.specs.Rows.Words.{IsFirstWord, IsSolid};
 ghost use Rattle.bg_mat.specs.Rows.Headings.{IsPoints};
 

@@ -1,6 +1,5 @@
 //! Lists of entries appended to a record.
-ghost use Rattle.std.specs.Prelude.{◌≡◌, ◌≢◌, ◌≤◌, ◌<◌, ◌+◌, ◌-◌, ◌↔◌, ◌++◌, length, take};
-ghost use Rattle.std.specs.Prelude.{IsOk, OnOk, OnErr, IfOk, IfErr};
+ghost use Rattle.std.specs.Prelude.{◌≡◌, ◌≢◌, ◌≤◌, ◌<◌, ◌+◌, ◌↔◌, ◌++◌, length, take, IsOk, OnOk, OnErr, IfOk, IfErr};
 
 use super::Record;
 use crate::made::make_room;

@@ -1,6 +1,5 @@
 //! Files that keep the saved texts of a party.
 ghost use Rattle.std.specs.Prelude.{None, length};
-ghost use Rattle.bg_world.specs.Devices.Honesty.{CountsFailed, HasCause};
 ghost use Rattle.bg_world.specs.Protocol.Slots.{empty_slots};
 
 use crate::answers::answered;

@@ -1,5 +1,5 @@
 //! A seat of a match in a process of its own.
-ghost use Rattle.std.specs.Prelude.{◌≡◌, ◌↔◌, IsOk, IfOk, Ok, option_copied};
+ghost use Rattle.std.specs.Prelude.{◌≡◌, ◌↔◌, IsOk, IfOk, option_copied};
 ghost use Rattle.bg_match.specs.Limits.{IsMatchLength};
 ghost use Rattle.bg_match.specs.Terms.{match_length};
 ghost use Rattle.bg_world.specs.Worlds.Views.{keeper_view, link_view};
@@ -7,7 +7,8 @@ ghost use Rattle.bg_processes.specs.Rounds.{IsOverAndSaved, GoesWhere, Tells, en
 ghost use Rattle.bg_processes.specs.Runs.{Repeats};
 ghost use Rattle.bg_processes.specs.SeatRounds.{IsToAct, PlaysChoice, PlaysSeatRound, RunsSeat, SavesClaim};
 ghost use Rattle.bg_processes.specs.SeatRounds.{SeatBegins, SeatHappens, SendsWhere};
-ghost use Rattle.bg_processes.specs.SeatRounds.{log_of, open_claim_at, seat_moment, take_at, unanswered as not_answered};
+ghost use Rattle.bg_processes.specs.SeatRounds.{log_of, open_claim_at, seat_moment, take_at};
+ghost use Rattle.bg_processes.specs.SeatRounds.{unanswered as not_answered};
 
 mod events;
 pub(crate) mod notes;

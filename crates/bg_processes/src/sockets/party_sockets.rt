@@ -1,6 +1,5 @@
 //! The UDP socket of one party, which knows the others by their ports.
-ghost use Rattle.std.specs.Prelude.{◌≡◌, [], None, length};
-ghost use Rattle.bg_world.specs.Devices.Honesty.{CountsFailed, HasCause};
+ghost use Rattle.std.specs.Prelude.{length};
 
 use crate::answers::answered;
 use bg_streams::History;

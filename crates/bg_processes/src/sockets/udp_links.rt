@@ -1,6 +1,5 @@
 //! UDP sockets that carry a match over the loopback address.
-ghost use Rattle.std.specs.Prelude.{◌≡◌, ◌⊎◌, [], None, length, IfErr};
-ghost use Rattle.bg_world.specs.Devices.Honesty.{CountsFailed, HasCause};
+ghost use Rattle.std.specs.Prelude.{◌≡◌, ◌⊎◌, length, IfErr};
 
 use crate::answers::answered;
 use bg_auto::LoopFault;

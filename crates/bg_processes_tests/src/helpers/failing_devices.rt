@@ -1,6 +1,5 @@
 //! Devices of which one call fails.
 ghost use Rattle.std.specs.Prelude.{[], None, length};
-ghost use Rattle.bg_world.specs.Devices.Honesty.{CountsFailed, HasCause};
 ghost use Rattle.bg_world.specs.Devices.Handed.{noted_answer};
 ghost use Rattle.bg_world.specs.Protocol.Slots.{empty_slots};
 

@@ -1,5 +1,4 @@
 //! All parties of a match as processes run them, over real sockets and folders.
-ghost use Rattle.std.specs.Prelude.{◌<◌, ◌≤◌};
 
 mod saved_matches;
 

@@ -21,8 +21,8 @@ pub const HIGHEST_PORT: u16 = 65_280;
 /// The most bytes that are read of the file: more than any good one has.
 const MOST_BYTES: u64 = 128;
 
-/// What all processes of a match agree on (docs/FORMATS.md, "Match file"). It is shown as the text of its file: `match ID
-/// length N rules R port P` in one line, which a line feed ends.
+/// What all processes of a match agree on (docs/FORMATS.md, "Match file"). It is shown as the text of its file: `match
+/// ID length N rules R port P` in one line, which a line feed ends.
 #[derive(Clone, Copy, Debug, PartialEq, Eq)]
 pub struct MatchFile {
     /// The number of the match.
@@ -68,8 +68,8 @@ fn rules_of(number: u64) -> Rules
 impl MatchFile {
     ghost use Rattle.bg_system.specs.MatchFiles.{IsMatchFile, match_text};
 
-    /// What a text says that is that of a match file. None where it is no match file's, as with a sign or a zero before a
-    /// number, with more than a space between two words, without its line feed, or with anything behind that.
+    /// Returns what a text says that is that of a match file. None where it is no match file's, as with a sign or a
+    /// zero before a number, with more than a space between two words, without its line feed, or with anything behind.
     pub fn parse(text: &str) -> Option<MatchFile>
         ensures { (file : MatchFile) → (result ≡ Some file) ↔ (IsMatchFile file × (text.now ≡ match_text file)) }
     {

@@ -3,7 +3,8 @@ ghost use Rattle.std.specs.Prelude.{◌≡◌, ◌+◌, ◌≤◌, ◌∷◌, �
 ghost use Rattle.std.specs.Fmt.{decimal};
 ghost use Rattle.arrayvec.specs.ArrayString.{array_string_len};
 ghost use Rattle.bg_text.specs.Entries.Words.{spaced};
-ghost use Rattle.bg_text.specs.Entries.EntryText.{entry_text, entry_words, dice_words, step_text, source_text, target_text};
+ghost use Rattle.bg_text.specs.Entries.EntryText.{entry_text, entry_words, dice_words, step_text, source_text};
+ghost use Rattle.bg_text.specs.Entries.EntryText.{target_text};
 ghost use Rattle.bg_text.specs.Entries.EntryText.{IsSeatOf, EntryTextsDiffer};
 
 use crate::entries::names::level_word;

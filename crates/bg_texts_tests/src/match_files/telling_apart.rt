@@ -1,7 +1,6 @@
 //! Match files told apart from other files.
 use super::records::{ONE_POINT, THREE_POINTS};
 use bg_mat::is_match_file;
-use std::process::Abort;
 use std::test::Fail;
 
 fn is_told(text: &str) -> bool {

@@ -2,7 +2,6 @@
 use super::records::record_of;
 use bg_picture::{Numbering, page_text, picture_text};
 use std::alloc::{AllocError, Global};
-use std::process::Abort;
 use std::test::Fail;
 
 /// Fails where the growth that comes next is refused: so `tools/checks/refuse_growths` learns how many came before.

@@ -1,7 +1,8 @@
 //! Entries and actions at the front of bytes (docs/FORMATS.md, "Entries and actions in bytes").
-ghost use Rattle.std.specs.Prelude.{◌≡◌, ◌≤◌};
+ghost use Rattle.std.specs.Prelude.{◌≤◌};
 ghost use Rattle.bg_wire.specs.Entries.Reading.{Reads, many_at};
-ghost use Rattle.bg_wire.specs.Entries.EntryReading.{step_at, turn_at, level_at, die_at, dice_at, action_of, action_at, entry_of, entry_at};
+ghost use Rattle.bg_wire.specs.Entries.EntryReading.{step_at, turn_at, level_at, die_at, dice_at, action_of, action_at};
+ghost use Rattle.bg_wire.specs.Entries.EntryReading.{entry_of, entry_at};
 
 use crate::entries::codes::{
     ACCEPTED, BACKGAMMON, BAR, DOUBLED, DROPPED, GAMMON, LEAST_PIPS, LOWEST_START, MOST_PIPS,

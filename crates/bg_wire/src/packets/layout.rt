@@ -1,9 +1,10 @@
 //! The layout of packets, version 2 (docs/FORMATS.md, "Packets").
-ghost use Rattle.std.specs.Prelude.{◌≡◌, ◌≤◌, ◌+◌, ◌++◌};
+ghost use Rattle.std.specs.Prelude.{◌≡◌, ◌≤◌};
 ghost use Rattle.bg_match.specs.Limits.{most_entries};
 ghost use Rattle.bg_wire.specs.Entries.Reading.{Reads, many_at};
 ghost use Rattle.bg_wire.specs.Entries.EntryReading.{entry_at};
-ghost use Rattle.bg_wire.specs.Packets.PacketReading.{want_at, claim_at, most_from, list_at, entries_at, behind_kind_at, body_at, packet_at, wire_fault};
+ghost use Rattle.bg_wire.specs.Packets.PacketReading.{want_at, claim_at, most_from, list_at, entries_at};
+ghost use Rattle.bg_wire.specs.Packets.PacketReading.{behind_kind_at, body_at, packet_at, wire_fault};
 
 use crate::entries::codes::FIRST_ENTRY;
 use crate::entries::entry_reading::{action, entry};
@@ -11,8 +12,7 @@ use crate::entries::reader::{ReadFault, Reader};
 use crate::entries::rules_bytes::rules;
 use crate::saves::layouts::Layout;
 use crate::{
-    EntryList, LAST_WATCHER, MOST_DATAGRAM_BYTES, MOST_ENTRIES_IN_PACKET, Packet, SEAT_OF_O,
-    SEAT_OF_X, WireFault,
+    EntryList, LAST_WATCHER, MOST_ENTRIES_IN_PACKET, Packet, SEAT_OF_O, SEAT_OF_X, WireFault,
 };
 use arrayvec::ArrayVec;
 use bg_match::{MOST_ENTRIES, Number, Rules};

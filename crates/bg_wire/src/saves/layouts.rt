@@ -1,11 +1,11 @@
 //! The layouts of saved texts: the first, which is only read, and the second (docs/FORMATS.md, "Saved files").
-ghost use Rattle.std.specs.Prelude.{◌≡◌, ◌≤◌, ◌+◌, ◌++◌, ◌==◌, Ok, Err, if◌then◌else◌, length, IfOk};
+ghost use Rattle.std.specs.Prelude.{◌≡◌, ◌≤◌, ◌==◌, Ok, Err, if◌then◌else◌, length, IfOk};
 ghost use Rattle.bg_match.specs.Limits.{longest_match, shortest_match};
 ghost use Rattle.bg_match.specs.Terms.{match_length};
 ghost use Rattle.bg_wire.specs.Entries.Reading.{Reads};
-ghost use Rattle.bg_wire.specs.declared.faults.LoadFault.{LoadFault as Fault};
 ghost use Rattle.bg_wire.specs.Saved.SavedLayouts.{layout_of_magic, last_code};
-ghost use Rattle.bg_wire.specs.Saved.SavedReading.{most_flag, number_in, kept_claim_in, saved_claim_in, rules_in, front_in, front_at, load_fault, entries_of, ReadsFront, Passes};
+ghost use Rattle.bg_wire.specs.Saved.SavedReading.{most_flag, number_in, kept_claim_in, saved_claim_in, rules_in};
+ghost use Rattle.bg_wire.specs.Saved.SavedReading.{front_in, front_at, load_fault, entries_of, ReadsFront, Passes};
 
 use crate::entries::codes::{FIRST_ENTRY, PASSED, REJECTED};
 use crate::entries::entry_reading::{action, entry};

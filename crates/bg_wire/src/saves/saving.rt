@@ -1,5 +1,6 @@
 //! Saved texts, written and read.
-ghost use Rattle.std.specs.Prelude.{◌≡◌, ◌≢◌, ◌↔◌, ◌<◌, ◌≤◌, ◌+◌, ◌++◌, [], List, ℕ, length, IsOk, IfOk, IfErr, vec_len, vec_capacity};
+ghost use Rattle.std.specs.Prelude.{◌≡◌, ◌≢◌, ◌↔◌, ◌<◌, ◌≤◌, ◌+◌, ◌++◌, [], List, ℕ, length, IsOk, IfOk, IfErr};
+ghost use Rattle.std.specs.Prelude.{vec_len, vec_capacity};
 ghost use Rattle.std.specs.List.{AllByRecursion};
 ghost use Rattle.bg_match.specs.Limits.{most_entries};
 ghost use Rattle.bg_match.specs.Entry.{IsEntry};
@@ -7,7 +8,8 @@ ghost use Rattle.bg_match.specs.Match.{IsLegalRecord};
 ghost use Rattle.bg_wire.specs.Entries.Codes.{longest_saved_text, seat_of_o};
 ghost use Rattle.bg_wire.specs.Texts.{HasMore, ArePrefixFree};
 ghost use Rattle.bg_wire.specs.Entries.EntryText.{entries_bytes, bytes_at};
-ghost use Rattle.bg_wire.specs.Saved.SavedText.{SavedParts, IsSavable, IsLayoutOf, IsSavedText, IsWrittenText, IsIllegalAt, HasEntries, parts_of, parts_with, IsClaimOf};
+ghost use Rattle.bg_wire.specs.Saved.SavedText.{SavedParts, IsSavable, IsLayoutOf, IsSavedText, IsWrittenText};
+ghost use Rattle.bg_wire.specs.Saved.SavedText.{IsIllegalAt, HasEntries, parts_of, parts_with, IsClaimOf};
 ghost use Rattle.bg_wire.specs.Faults.{IsLoadFault};
 ghost use Rattle.bg_wire.specs.Saved.Saves.{IsNextSave};
 ghost use Rattle.bg_wire.specs.Saved.SavedReading.{layout_of, entries_of, append_fault, Loads, Replays};
@@ -19,7 +21,7 @@ use crate::entries::writer::Writer;
 use crate::saves::layouts::{Layout, end, pass_entries, split_front};
 use crate::saves::writing::front_text;
 use crate::{LoadFault, SaveRefusal, Saved, Slot};
-use bg_match::{Action, EntryFault, MOST_ENTRIES, Number, Record};
+use bg_match::{Action, EntryFault, Number, Record};
 use std::alloc::{AllocError, Global};
 
 /// The saved text, in the second layout: at most 10000038 bytes (docs/FORMATS.md, "Saved files").

@@ -4,9 +4,12 @@ ghost use Rattle.bg_wire.specs.Entries.Codes.{longest_packet, longest_datagram, 
 ghost use Rattle.bg_wire.specs.Packets.PacketText.{IsText, TextsTellRules};
 ghost use Rattle.bg_wire.specs.Saved.SavedText.{IsSavedText};
 ghost use Rattle.bg_wire.specs.Texts.{IsOneText};
-ghost use Rattle.bg_wire.specs.FaultLaws.{HaveOneWireFault, PacketsHaveNoFault, HaveOneLoadFault, SavedTextsHaveNoFault};
-ghost use Rattle.bg_wire.specs.Saved.SlotLaws.{FrontsLoadAsNothing, EmptyLoadsAsNothing, LoadAsOneThing, RestoreOneThing, RestoreOneOfBoth};
-ghost use Rattle.bg_wire.specs.Saved.SlotLaws.{GoesByTurns, NextGoesToTheOther, WrittenIsRestored, TornIsNotRestored, GivesWhatSlotsRestore};
+ghost use Rattle.bg_wire.specs.FaultLaws.{HaveOneWireFault, PacketsHaveNoFault, HaveOneLoadFault};
+ghost use Rattle.bg_wire.specs.FaultLaws.{SavedTextsHaveNoFault};
+ghost use Rattle.bg_wire.specs.Saved.SlotLaws.{FrontsLoadAsNothing, EmptyLoadsAsNothing, LoadAsOneThing};
+ghost use Rattle.bg_wire.specs.Saved.SlotLaws.{RestoreOneThing, RestoreOneOfBoth};
+ghost use Rattle.bg_wire.specs.Saved.SlotLaws.{GoesByTurns, NextGoesToTheOther, WrittenIsRestored, TornIsNotRestored};
+ghost use Rattle.bg_wire.specs.Saved.SlotLaws.{GivesWhatSlotsRestore};
 ghost use Rattle.bg_wire.specs.Saved.WrittenLaws.{HaveWrittenText, HaveOneWrittenText, WrittenAreSaved};
 
 use crate::{FIRST_WATCHER, LONGEST_PACKET, LONGEST_SAVED_TEXT, MOST_DATAGRAM_BYTES};

@@ -1,6 +1,6 @@
 -- The texts of an inbox: how they grow, and where each of them stands.
 use Rattle.std.proofs.Common.{◌≡◌, ◌≤◌, ◌<◌, ℕ, zero, suc, ◌+◌, ◌-◌, List, [], ◌∷◌, ◌++◌, Option, Some, refl, ap, arith}
-use Rattle.std.proofs.Common.{length, take, drop, get_or, length-drop}
+use Rattle.std.proofs.Common.{length, drop, get_or, length-drop}
 use Rattle.std.proofs.lemmas.List.{take-append-le, drop-append-le, length-take}
 use Rattle.std.proofs.lemmas.Option.{slice_get_read}
 use Rattle.std.proofs.Math.Seq.{drop-append_seam, take-length}

@@ -31,7 +31,8 @@ pub struct MemoryKeeper {
 
 impl MemoryKeeper {
     ghost use Rattle.bg_world.specs.Protocol.Slots.{empty_slots};
-    ghost use Rattle.bg_world.specs.Devices.MemoryDevices.{keeper_faults, keeper_plan, last_written, reads_of, slots_of};
+    ghost use Rattle.bg_world.specs.Devices.MemoryDevices.{keeper_faults, keeper_plan, last_written, reads_of};
+    ghost use Rattle.bg_world.specs.Devices.MemoryDevices.{slots_of};
     ghost use Rattle.bg_world.specs.Devices.MemoryDevices.{writes_of};
 
     /// The keeper of a party, with empty slots, of which nothing was asked. The calls that the plan names for this
@@ -107,7 +108,8 @@ fn read_by(
 
 impl Keeper for MemoryKeeper {
     ghost use Rattle.std.specs.Prelude.{Some};
-    ghost use Rattle.bg_world.specs.Devices.MemoryDevices.{keeper_faults, keeper_plan, last_written, reads_of, slots_of};
+    ghost use Rattle.bg_world.specs.Devices.MemoryDevices.{keeper_faults, keeper_plan, last_written, reads_of};
+    ghost use Rattle.bg_world.specs.Devices.MemoryDevices.{slots_of};
     ghost use Rattle.bg_world.specs.Devices.MemoryDevices.{writes_of};
 
     ghost is_honest = { Unit {0} };

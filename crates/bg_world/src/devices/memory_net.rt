@@ -30,7 +30,8 @@ pub struct MemoryNet {
 }
 
 impl MemoryNet {
-    ghost use Rattle.bg_world.specs.Devices.MemoryDevices.{last_taken, net_faults, net_plan, sends_of, sent_over, takes_of};
+    ghost use Rattle.bg_world.specs.Devices.MemoryDevices.{last_taken, net_faults, net_plan, sends_of, sent_over};
+    ghost use Rattle.bg_world.specs.Devices.MemoryDevices.{takes_of};
 
     /// A link that nothing was sent over and nothing was asked of. The sends that the plan names fail.
     pub(crate) fn new(alloc: Global, failing: Vec<FailSend>) -> MemoryNet
@@ -99,7 +100,8 @@ fn hand_over(sent: &SentDatagrams, party: u8, pick: u32) -> Option<ArrayVec<u8, 
 
 impl Link for MemoryNet {
     ghost use Rattle.std.specs.Prelude.{Some};
-    ghost use Rattle.bg_world.specs.Devices.MemoryDevices.{last_taken, net_faults, net_plan, sends_of, sent_over, takes_of};
+    ghost use Rattle.bg_world.specs.Devices.MemoryDevices.{last_taken, net_faults, net_plan, sends_of, sent_over};
+    ghost use Rattle.bg_world.specs.Devices.MemoryDevices.{takes_of};
 
     ghost is_honest = { Unit {0} };
 

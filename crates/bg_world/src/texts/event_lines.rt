@@ -1,6 +1,7 @@
 //! The lines of events.
-ghost use Rattle.std.specs.Prelude.{◌≡◌, ℕ, List, ◌∷◌, ◌++◌, Ok, IfOk, IfErr, MatchOption};
-ghost use Rattle.bg_world.specs.Texts.EventText.{EventTextsDiffer, IsEvent, IsEventTextFault, event_text, greatest_party, greatest_word};
+ghost use Rattle.std.specs.Prelude.{◌≡◌, ℕ, List, ◌++◌, Ok, IfOk, IfErr, MatchOption};
+ghost use Rattle.bg_world.specs.Texts.EventText.{EventTextsDiffer, IsEvent, IsEventTextFault, event_text};
+ghost use Rattle.bg_world.specs.Texts.EventText.{greatest_party, greatest_word};
 ghost use Rattle.bg_world.specs.Texts.EventLines.{IsEventOf, IsNumberUpTo, kind_start, take_of};
 ghost use Rattle.bg_world.specs.declared.texts.event_lines.EventKind.{EventKind};
 ghost use Rattle.bg_world.specs.declared.texts.event_lines.EventKind.TheVariants as kind;

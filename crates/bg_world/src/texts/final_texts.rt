@@ -2,11 +2,8 @@
 ghost use Rattle.std.specs.Prelude.{◌≡◌, ◌++◌, List, ℕ, IfOk, OnOk, option_copied};
 ghost use Rattle.bg_text.specs.Boards.BoardText.{line_text};
 ghost use Rattle.bg_world.specs.Texts.FinalText.{IsBoardOf, IsFinalText, held_part, parties_text, party_line};
-ghost use Rattle.bg_world.specs.Protocol.Roles.{role};
-ghost use Rattle.bg_world.specs.Worlds.Starts.{held_of};
 ghost use Rattle.bg_world.specs.Worlds.Views.{parties};
 ghost use Rattle.bg_world.specs.Worlds.World.{view_of};
-ghost use Rattle.bg_world.specs.declared.roles.Role.TheVariants as roles;
 
 use crate::{Keeper, Link, World};
 use bg_match::Record;

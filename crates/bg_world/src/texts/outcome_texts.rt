@@ -1,8 +1,9 @@
 //! The lines of outcomes.
 ghost use Rattle.std.specs.Prelude.{◌≡◌, ◌≤◌, ◌++◌, length, codes};
 ghost use Rattle.std.specs.Fmt.{decimal};
-ghost use Rattle.bg_wire.specs.FaultWords.{numbered, wire_fault_words};
-ghost use Rattle.bg_world.specs.Texts.OutcomeText.{OutcomeTextsDiffer, answer_text, cause_words, choose_reason, chose_text, due_text, entries_told, learned_text, outcome_text, took_text};
+ghost use Rattle.bg_wire.specs.FaultWords.{wire_fault_words};
+ghost use Rattle.bg_world.specs.Texts.OutcomeText.{OutcomeTextsDiffer, answer_text, cause_words, chose_text, due_text};
+ghost use Rattle.bg_world.specs.Texts.OutcomeText.{entries_told, learned_text, outcome_text, took_text};
 
 use crate::{Outcome, RestoreCause};
 use arrayvec::ArrayString;

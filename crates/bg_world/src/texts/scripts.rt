@@ -1,5 +1,6 @@
 //! Scripts: lists of events, and what they come to.
-ghost use Rattle.std.specs.Prelude.{◌≡◌, ◌≢◌, ◌≤◌, ◌++◌, ◌+◌, ℕ, length, List, Ok, Err, IfErr, IfOk, IfSome, MatchResult, OnOk};
+ghost use Rattle.std.specs.Prelude.{◌≡◌, ◌≢◌, ◌≤◌, ◌++◌, ◌+◌, ℕ, length, List, Err, IfErr, IfOk, IfSome, MatchResult};
+ghost use Rattle.std.specs.Prelude.{OnOk};
 ghost use Rattle.bg_streams.specs.EngineFault.{SinkFails, SourceFails};
 ghost use Rattle.bg_streams.specs.Transfers.{ReadsInput, WritesText};
 ghost use Rattle.bg_text.specs.Boards.BoardText.{line_text};

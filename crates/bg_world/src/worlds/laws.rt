@@ -1,5 +1,5 @@
 //! Laws of the protocol, for whole runs, and of worlds: each is the contract of a function that does nothing.
-ghost use Rattle.std.specs.Prelude.{List, ℕ, ⊤};
+ghost use Rattle.std.specs.Prelude.{List, ⊤};
 ghost use Rattle.bg_board.specs.declared.players.Player.{Player};
 ghost use Rattle.bg_world.specs.Promises.Agreement.{Agreement};
 ghost use Rattle.bg_world.specs.Worlds.Calls.{Calls};
@@ -19,7 +19,8 @@ ghost use Rattle.bg_world.specs.Protocol.State.{IsSetup, ProtocolState, seat};
 ghost use Rattle.bg_world.specs.Promises.Survival.{SavesSurvive};
 ghost use Rattle.bg_world.specs.Worlds.Upholds.{Upholds};
 ghost use Rattle.bg_world.specs.Worlds.Views.{KeeperView, LinkView, WorldView};
-ghost use Rattle.bg_world.specs.Worlds.WorldLaws.{ComeToOneList, ComeToOneOutcome, NewWorldsAreAtTheStart, OutcomesAreFixed};
+ghost use Rattle.bg_world.specs.Worlds.WorldLaws.{ComeToOneList, ComeToOneOutcome, NewWorldsAreAtTheStart};
+ghost use Rattle.bg_world.specs.Worlds.WorldLaws.{OutcomesAreFixed};
 ghost use Rattle.bg_world.specs.Worlds.WorldRuns.{RunsProtocol};
 ghost use Rattle.bg_world.specs.Worlds.WorldState.{IsReachedWorld};
 ghost use Rattle.bg_world.specs.declared.events.Event.{Event};

@@ -2,7 +2,8 @@
 ghost use Rattle.std.specs.Prelude.{◌≡◌, IfOk, MatchResult, OnErr};
 ghost use Rattle.bg_world.specs.Worlds.Starts.{terms_in};
 ghost use Rattle.bg_world.specs.Devices.MemoryDevices.{memory_keeper_view};
-ghost use Rattle.bg_world.specs.Worlds.Simulations.{IsEmptyPlan, IsOfWords, IsSimulationFault, NoneFailed, Simulates, memory_view, start_in_memory, unused_keeper};
+ghost use Rattle.bg_world.specs.Worlds.Simulations.{IsEmptyPlan, IsOfWords, IsSimulationFault, NoneFailed, Simulates};
+ghost use Rattle.bg_world.specs.Worlds.Simulations.{memory_view, start_in_memory, unused_keeper};
 ghost use Rattle.bg_world.specs.Protocol.State.{IsSetup};
 ghost use Rattle.bg_world.specs.Worlds.Upholds.{Upholds};
 

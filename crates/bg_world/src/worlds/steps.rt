@@ -10,7 +10,8 @@ use bg_match::Action;
 
 impl<L: Link, K: Keeper> World<L, K> {
     ghost use Rattle.bg_world.specs.Protocol.Roles.{role};
-    ghost use Rattle.bg_world.specs.Worlds.Calls.{Calls, ChooseCalls, DueCalls, RestartCalls, SaveCalls, TakeCalls, TickCalls};
+    ghost use Rattle.bg_world.specs.Worlds.Calls.{Calls, ChooseCalls, DueCalls, RestartCalls, SaveCalls, TakeCalls};
+    ghost use Rattle.bg_world.specs.Worlds.Calls.{TickCalls};
     ghost use Rattle.bg_world.specs.Worlds.NotRefused.{IsNotRefused};
     ghost use Rattle.bg_world.specs.Worlds.World.{view_of};
     ghost use Rattle.bg_world.specs.Worlds.WorldRuns.{StepsProtocol};

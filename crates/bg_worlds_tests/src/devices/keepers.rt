@@ -1,6 +1,5 @@
 //! Keepers in memory that record what they are asked.
 ghost use Rattle.std.specs.Prelude.{None, length};
-ghost use Rattle.bg_world.specs.Devices.Honesty.{CountsFailed, HasCause};
 ghost use Rattle.bg_world.specs.Protocol.Slots.{empty_slots};
 
 use super::{Call, Recorder};

@@ -1,4 +1,4 @@
-use Rattle.std.proofs.Common.{◌≡◌, ◌∙◌, List, ℕ, []}
+use Rattle.std.proofs.Common.{◌∙◌, []}
 use Rattle.bg_text.specs.Judge.Judging.{lines_of}
 use Rattle.bg_reports.proofs.LineAt.{next_behind}
 use Rattle.bg_reports.proofs.checking.line_at.Goals as goal

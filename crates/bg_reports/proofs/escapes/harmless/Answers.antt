@@ -1,4 +1,4 @@
-use Rattle.std.proofs.Common.{◌≡◌, ◌∙◌, ◌⊎◌, inl, inr, ◌<◌, ◌≤◌, length, ap, arith}
+use Rattle.std.proofs.Common.{◌∙◌, ◌⊎◌, inl, inr, ◌<◌, ◌≤◌, length, ap, arith}
 use Rattle.bg_reports.proofs.CutLines.{cut_front, nat_order}
 use Rattle.bg_reports.specs.Harmless.{cut}
 use Rattle.bg_reports.proofs.escapes.harmless.Goals as goal

@@ -1,9 +1,8 @@
-use Rattle.std.proofs.Common.{◌≡◌, ◌∙◌, ◌++◌, List, ℕ, [], refl, rules}
+use Rattle.std.proofs.Common.{◌≡◌, ◌++◌, List, ℕ, [], refl, rules}
 use Rattle.std.specs.Option.{option_copied}
 use Rattle.bg_wire.specs.Saved.Restoring.{newer, parts_in}
 use Rattle.bg_text.specs.Boards.BoardText.{line_text}
-use Rattle.bg_reports.specs.Folder.{own, slot_lines}
-use Rattle.bg_reports.specs.Folder.{further as further_of}
+use Rattle.bg_reports.specs.Folder.{own, slot_lines, further as further_of}
 use Rattle.bg_reports.specs.Show.{held_of, loaded_of}
 use Rattle.bg_reports.proofs.folders.folder_text.Goals as goal
 

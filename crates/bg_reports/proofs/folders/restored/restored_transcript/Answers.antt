@@ -1,4 +1,4 @@
-use Rattle.std.proofs.Common.{◌≡◌, ◌∙◌, Some, sym}
+use Rattle.std.proofs.Common.{Some}
 use Rattle.bg_wire.specs.Saved.SavedText.{parts_of}
 use Rattle.bg_reports.specs.Show.{loaded_of}
 use Rattle.bg_reports.proofs.folders.restored.restored_transcript.Goals as goal
