@@ -99,7 +99,7 @@ impl<'a, R: Clock + Eprint> Onlooker for Operator<'a, R> {
             Event::Restart { party: _ } => self.restarted(party, held.unwrap_or_default()),
             _ => {}
         }
-        self.witness.happened(event, outcome, held);
+        self.witness.saw(event, outcome);
     }
 
     fn played(&mut self, done: u32) {

@@ -1,12 +1,13 @@
 //! What is said while the process of one party runs.
 
 use bg_auto::{Onlooker, party_at};
-use bg_console::{say, say_failures};
+use bg_console::{failed, say, say_failures, say_number};
 use bg_match::Number;
 use bg_party::Learned;
 use bg_processes::Failures;
 use bg_referee::TakeOutcome;
-use bg_world::{Event, Outcome, outcome_text};
+use bg_reports::Ending;
+use bg_world::{Event, Outcome, RestoreCause, outcome_text};
 use std::fmt::Display;
 
 /// Looks on, and says on the standard error why devices fail; and once that the parties can't go on together, and by
@@ -19,6 +20,8 @@ pub struct Witness<'a, R> {
     /// Where their files lie.
     folder: &'a str,
     warned: bool,
+    /// Whether the party is down until its files can be read again.
+    is_down: bool,
 }
 
 impl<'a, R: Eprint> Witness<'a, R> {
@@ -30,6 +33,7 @@ impl<'a, R: Eprint> Witness<'a, R> {
             failures,
             folder,
             warned: false,
+            is_down: false,
         }
     }
 
@@ -50,13 +54,60 @@ impl<'a, R: Eprint> Witness<'a, R> {
     }
 }
 
-impl<'a, R: Eprint> Onlooker for Witness<'a, R> {
-    fn happened(&mut self, event: &Event, outcome: &Outcome, _held: Option<Number>) {
+impl<'a, R: Eprint> Witness<'a, R> {
+    /// Says what an event shows of devices that fail, and of parties that can't go on together.
+    pub fn saw(&mut self, event: &Event, outcome: &Outcome) {
         self.say_failures();
         if is_out_of_step(outcome) {
             let line = outcome_text(outcome);
             self.warn(format_args!("at party {}: {}", party_at(event), line.as_str()));
         }
+    }
+
+    /// Says that the party stands still for its files, or goes on again, where that has changed.
+    fn tell_of_files(&mut self, event: &Event, outcome: &Outcome) {
+        let Event::Restart { party } = *event else {
+            return;
+        };
+        let is_down = match outcome {
+            Outcome::RestoreFault(RestoreCause::Device) => true,
+            Outcome::Restarted => false,
+            _ => return,
+        };
+        if is_down == self.is_down || self.failures.are_final() {
+            return;
+        }
+        self.is_down = is_down;
+        say_number(
+            self.rt,
+            "party ",
+            party.into(),
+            if is_down {
+                " stands still until its files can be read again"
+            } else {
+                " has its files again, and goes on"
+            },
+        );
+    }
+
+    /// Ends with `Failed` where the files of the party were given up, and says so: a write to one of them failed, and
+    /// could not be taken back.
+    pub fn check_files(&self) -> Result<(), Ending> {
+        if !self.failures.are_final() {
+            return Ok(());
+        }
+        self.say_failures();
+        Err(failed(
+            self.rt,
+            "what was saved last may be lost with the next loss of power: mend the disk, and start again",
+        ))
+    }
+}
+
+impl<'a, R: Eprint> Onlooker for Witness<'a, R> {
+    fn happened(&mut self, event: &Event, outcome: &Outcome, _held: Option<Number>) {
+        self.saw(event, outcome);
+        self.tell_of_files(event, outcome);
     }
 
     fn played(&mut self, _done: u32) {}

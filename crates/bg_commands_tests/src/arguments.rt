@@ -8,7 +8,7 @@ use requests::{is_between_processes, is_in_one_process, is_of_files, is_shown};
 use std::test::Fail;
 
 /// The words of commands, without the program's name.
-const WORDS: [&[&str]; 20] = [
+const WORDS: [&[&str]; 21] = [
     &["judge"],
     &["check", "--quiet", "a", "-", "b"],
     &["check", "--files-from", "-"],
@@ -72,6 +72,10 @@ const WORDS: [&[&str]; 20] = [
         "t",
         "--page",
         "p",
+        "--go-on",
+    ],
+    &[
+        "recover", "--match", "m", "--x", "x", "--o", "o", "--dir", "d", "t", "-",
     ],
 ];
 

@@ -44,6 +44,10 @@ fn a_transcript_grows(rt: HostRuntime) -> Result<(), Fail> {
     assert!(rt; telling.go_on(&rt, &record) == Ok(false));
     record.push(Entry::Opening(Die::Three, Die::One))?;
     assert!(rt; telling.go_on(&rt, &record) == Ok(true));
+    // A party that begins again may hold less for a while: nothing is printed twice.
+    let less = Record::new(alloc, 0, 1, Rules::One)?;
+    assert!(rt; telling.go_on(&rt, &less) == Ok(false));
+    assert!(rt; telling.go_on(&rt, &record) == Ok(false));
     // What a command ends with where a folder can't be used, which is said on the standard error.
     let refused = check_folder(&rt, "no such folder", " is no folder");
     assert!(rt; refused == Err(Ending::WrongArguments));

@@ -3,10 +3,11 @@
 use crate::messages::{failed, failed_at, failed_for, wrong_at, wrong_for};
 use bg_reports::Ending;
 use bg_system::{FolderLock, MatchFile, Printable, Ticking, Waiting};
-use std::fs::{File, TryLockError};
+use std::fs::{DirBuilder, File, TryLockError};
 use std::io::ErrorKind;
 use std::net::Net;
 use std::os::fd::RawFd;
+use std::os::unix::fs::DirBuilderExt;
 use std::rt::Files;
 use std::time::Clock;
 use std::{fs, io};
@@ -28,13 +29,20 @@ pub fn lock_of(
     }
 }
 
-/// Makes a folder where there is none, and those above it, locks it, and returns the lock. Ends with `WrongArguments`
+/// A folder that only its owner reads, writes and enters, whatever the umask.
+const OWNER_ALONE: u32 = 0o700;
+
+/// Makes a folder for its owner alone where there is none, and those above it, locks it, and returns the lock. Ends with `WrongArguments`
 /// where there is none and none can be made, and else as [`lock_of`].
 pub fn own_folder(
     rt: &(impl Files<File = File> + Eprint),
     folder: &str,
 ) -> Result<FolderLock, Ending> {
-    match fs::create_dir_all(rt, folder) {
+    let made = DirBuilder::new()
+        .recursive(true)
+        .mode(OWNER_ALONE)
+        .create(rt, folder);
+    match made {
         Ok(()) => {}
         Err(error) if error.kind() == ErrorKind::AlreadyExists => {
             check_folder(rt, folder, " is no folder")?;

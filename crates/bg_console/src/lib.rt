@@ -9,6 +9,10 @@
 //! assert!(rt; telling.go_on(&rt, &record) == Ok(false));
 //! record.push(Entry::Opening(Die::Three, Die::One))?;
 //! assert!(rt; telling.go_on(&rt, &record) == Ok(true));
+//! // A party that begins again may hold less for a while: nothing is printed twice.
+//! let less = Record::new(alloc, 0, 1, Rules::One)?;
+//! assert!(rt; telling.go_on(&rt, &less) == Ok(false));
+//! assert!(rt; telling.go_on(&rt, &record) == Ok(false));
 //! // What a command ends with where a folder can't be used, which is said on the standard error.
 //! let refused = check_folder(&rt, "no such folder", " is no folder");
 //! assert!(rt; refused == Err(Ending::WrongArguments));
@@ -28,6 +32,6 @@ pub use messages::{
     allocated, engine_failed, failed, failed_at, failed_barely, failed_for, no_memory, unread,
     unwritten, written, wrong, wrong_at, wrong_for,
 };
-pub use published::Published;
+pub use published::{Outputs, Published};
 pub use screens::columns;
 pub use tellings::{Telling, print_board, print_text, put_entries, write_out};

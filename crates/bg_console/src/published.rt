@@ -7,6 +7,7 @@ use bg_reports::Ending;
 use bg_system::publish;
 use bg_text::{board_text, transcript_text};
 use std::alloc::{AllocError, Global};
+use std::fs;
 use std::fs::File;
 use std::rt::Files;
 
@@ -16,51 +17,54 @@ const PAUSE_TICKS: u32 = 10;
 /// After so many seconds a browser shows the page of a running match anew.
 const PAGE_SECONDS: u16 = 5;
 
+/// What is kept for others, and how.
+#[derive(Clone, Copy)]
+pub struct Outputs<'a> {
+    /// The names of the files: of the board as text, of the transcript, and of the page.
+    pub board: Option<&'a str>,
+    pub transcript: Option<&'a str>,
+    pub page: Option<&'a str>,
+    /// The title of the page.
+    pub title: &'a str,
+    /// In whose numbers its points are.
+    pub numbering: Numbering,
+    /// Whether a file that can't be written is said once, and left alone until it can be; else nothing goes on.
+    pub goes_on: bool,
+}
+
 /// The files that are kept for others.
 #[derive(Drop)]
 pub struct Published<'a> {
-    board: Option<&'a str>,
-    transcript: Option<&'a str>,
-    page: Option<&'a str>,
-    /// The title of the page.
-    title: &'a str,
-    /// In whose numbers its points are.
-    numbering: Numbering,
+    outputs: Outputs<'a>,
     /// How many ticks ago they were written.
     age: u32,
     /// Whether there are entries that they lack.
     is_old: bool,
+    /// Whether one could not be written the last time.
+    is_failing: bool,
 }
 
 impl<'a> Published<'a> {
-    /// Names the files, of which none is written yet, and says what the title of the page is, and in whose numbers its
-    /// points are.
-    pub fn new(
-        board: Option<&'a str>,
-        transcript: Option<&'a str>,
-        page: Option<&'a str>,
-        title: &'a str,
-        numbering: Numbering,
-    ) -> Published<'a> {
+    /// Makes the files as these outputs say; none is written yet.
+    pub fn new(outputs: Outputs<'a>) -> Published<'a> {
         Published {
-            board,
-            transcript,
-            page,
-            title,
-            numbering,
+            outputs,
             age: PAUSE_TICKS,
             is_old: true,
+            is_failing: false,
         }
     }
 
     /// Writes the files anew where they are old, and some time has passed since: behind each round, which brought news
-    /// or not, and in which a tick was due or not.
+    /// or not, and in which a tick was due or not. Until the referee was heard, a file that is there is left as it is,
+    /// as it may have more.
     pub fn after_round<R>(
         &mut self,
         rt: &R,
         record: &Record,
         news: bool,
         tick: bool,
+        is_heard: bool,
     ) -> Result<(), Ending>
     where
         R: Files<File = File> + Eprint + AllocGlobal,
@@ -73,32 +77,63 @@ impl<'a> Published<'a> {
         if self.age < PAUSE_TICKS {
             return Ok(());
         }
-        self.write(rt, record)
+        self.write(rt, record, is_heard)
     }
 
-    /// Puts the record into the files that were asked for, where they lack some of it.
-    pub fn write<R>(&mut self, rt: &R, record: &Record) -> Result<(), Ending>
+    /// Puts the record into the files that were asked for, where they lack some of it; into those alone that are not
+    /// there, where the referee was not heard.
+    pub fn write<R>(&mut self, rt: &R, record: &Record, is_heard: bool) -> Result<(), Ending>
     where
         R: Files<File = File> + Eprint + AllocGlobal,
     {
         if !self.is_old {
             return Ok(());
         }
-        if let Some(path) = self.board {
+        let was_failing = self.is_failing;
+        self.is_failing = false;
+        let Outputs {
+            board,
+            transcript,
+            page,
+            ..
+        } = self.outputs;
+        if let Some(path) = writable(rt, board, is_heard) {
             let text = allocated(rt, board_text(rt.alloc(), &record.standing()))?;
-            put(rt, path, &text)?;
+            self.put(rt, path, &text, was_failing)?;
         }
-        if let Some(path) = self.transcript {
+        if let Some(path) = writable(rt, transcript, is_heard) {
             let text = allocated(rt, transcript_text(rt.alloc(), record))?;
-            put(rt, path, &text)?;
+            self.put(rt, path, &text, was_failing)?;
         }
-        if let Some(path) = self.page {
+        if let Some(path) = writable(rt, page, is_heard) {
             let text = allocated(rt, self.page_of(rt.alloc(), record))?;
-            put(rt, path, &text)?;
+            self.put(rt, path, &text, was_failing)?;
         }
-        self.is_old = false;
+        self.is_old = self.is_failing || !is_heard;
         self.age = 0;
         Ok(())
+    }
+
+    /// Puts a text into a file. Where it can't, that is said, but for files that failed the last time too; and it ends
+    /// there, unless it goes on.
+    fn put<R>(&mut self, rt: &R, path: &str, text: &[u8], was_failing: bool) -> Result<(), Ending>
+    where
+        R: Files<File = File> + Eprint + AllocGlobal,
+    {
+        let Err(error) = publish(rt, path, text) else {
+            return Ok(());
+        };
+        if was_failing || self.is_failing {
+            self.is_failing = true;
+            return Ok(());
+        }
+        self.is_failing = true;
+        let ending = failed_at(rt, path, " could not be written", &error);
+        if self.outputs.goes_on {
+            Ok(())
+        } else {
+            Err(ending)
+        }
     }
 
     /// The page of a record, which browsers show anew by themselves until its match is over.
@@ -107,16 +142,26 @@ impl<'a> Published<'a> {
             Phase::Over(_) => 0,
             _ => PAGE_SECONDS,
         };
-        page_text(alloc, record, self.title, self.numbering, seconds)
+        page_text(
+            alloc,
+            record,
+            self.outputs.title,
+            self.outputs.numbering,
+            seconds,
+        )
     }
 }
 
-fn put<R>(rt: &R, path: &str, text: &[u8]) -> Result<(), Ending>
-where
-    R: Files<File = File> + Eprint + AllocGlobal,
-{
-    match publish(rt, path, text) {
-        Ok(()) => Ok(()),
-        Err(error) => Err(failed_at(rt, path, " could not be written", &error)),
+/// Returns the name of a file that is kept, unless it is there and the referee was not heard.
+fn writable<'a>(
+    rt: &impl Files<File = File>,
+    path: Option<&'a str>,
+    is_heard: bool,
+) -> Option<&'a str> {
+    let path = path?;
+    if is_heard || fs::metadata(rt, path).is_err() {
+        Some(path)
+    } else {
+        None
     }
 }

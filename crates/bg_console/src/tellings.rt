@@ -42,7 +42,8 @@ impl Telling {
             }
         };
         put_entries(&mut text, record, told)?;
-        self.told = Some(record.len());
+        // A party that was restarted may hold less than was printed of it.
+        self.told = Some(record.len().max(told));
         write_out(rt, &text)?;
         Ok(record.len() > told)
     }

@@ -39,11 +39,19 @@ where
     R: Input + Eprint + AllocGlobal,
 {
     let bytes = standard_input(rt)?;
-    match read_transcript(rt.alloc(), NO_NUMBER, &bytes) {
+    record_in(rt, TRANSCRIPT, NO_NUMBER, &bytes)
+}
+
+/// The record of a transcript that is called so, of the match of this number. Where it has none, it is said why.
+pub(crate) fn record_in<R>(rt: &R, name: &str, id: u64, bytes: &[u8]) -> Result<Record, Ending>
+where
+    R: Eprint + AllocGlobal,
+{
+    match read_transcript(rt.alloc(), id, bytes) {
         Ok(record) => Ok(record),
         Err(TranscriptFault::Memory) => Err(no_memory(rt)),
         Err(TranscriptFault::Refused(_) | TranscriptFault::TooLong) => {
-            Err(refused(rt, said_of_transcript(rt.alloc(), TRANSCRIPT, &bytes, None)))
+            Err(refused(rt, said_of_transcript(rt.alloc(), name, bytes, None)))
         }
     }
 }

@@ -87,6 +87,7 @@ where
             Ok(Going::Over) => return Ok(Ending::Served),
             Err(outcome) => return Err(stopped(rt, &outcome)),
         }
+        witness.check_files()?;
         let held = match process.held() {
             Some(record) => record.len(),
             None => 0,

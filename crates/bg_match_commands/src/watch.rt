@@ -3,7 +3,9 @@ ghost use Rattle.std.specs.Prelude.{◌≤◌};
 ghost use Rattle.bg_wire.specs.Entries.Codes.{first_watcher};
 
 use bg_command_parts::{Witness, no_socket, tell_word};
-use bg_console::{Published, Telling, failed, match_of, waited, waiting_for, wrong, wrong_at};
+use bg_console::{
+    Outputs, Published, Telling, failed, match_of, waited, waiting_for, wrong, wrong_at,
+};
 use bg_options::WatchOptions;
 use bg_processes::{
     Failures, Going, Hearing, MatchFile, PartySocket, Ticking, Waiting, WatcherProcess,
@@ -28,9 +30,17 @@ where
         page,
         title,
         numbering,
+        goes_on,
     } = options;
     check_outputs(rt, board, transcript, page)?;
-    let published = Published::new(board, transcript, page, title, numbering);
+    let published = Published::new(Outputs {
+        board,
+        transcript,
+        page,
+        title,
+        numbering,
+        goes_on,
+    });
     let failures = Failures::new();
     let (process, waiting, ticking) = begin(rt, match_path, &failures)?;
     // No file is a device of a watcher, so there is no folder to name.
@@ -126,9 +136,10 @@ where
             is_watched,
         );
         let news = telling.go_on(rt, process.held())?;
-        published.after_round(rt, process.held(), news, tick)?;
+        let is_heard = process.link().heard() > 0;
+        published.after_round(rt, process.held(), news, tick, is_heard)?;
         if going == Going::Over {
-            return published.write(rt, process.held());
+            return published.write(rt, process.held(), is_heard);
         }
     }
     Ok(())

@@ -11,6 +11,7 @@ pub(crate) mod page;
 pub(crate) mod picture;
 pub(crate) mod play;
 pub(crate) mod play_loop;
+pub(crate) mod recover;
 pub(crate) mod referee;
 pub(crate) mod script;
 pub(crate) mod show;

@@ -23,6 +23,7 @@ pub use commands::check::CheckOptions;
 pub use commands::new_match::NewOptions;
 pub use commands::play::SeatOptions;
 pub use commands::play_loop::LoopOptions;
+pub use commands::recover::RecoverOptions;
 pub use commands::script::ScriptOptions;
 pub use commands::show::ShowOptions;
 pub use commands::sim::SimOptions;

@@ -5,6 +5,7 @@ use crate::commands::check::CheckOptions;
 use crate::commands::new_match::NewOptions;
 use crate::commands::play::SeatOptions;
 use crate::commands::play_loop::LoopOptions;
+use crate::commands::recover::RecoverOptions;
 use crate::commands::script::ScriptOptions;
 use crate::commands::show::ShowOptions;
 use crate::commands::sim::SimOptions;
@@ -38,6 +39,7 @@ pub enum Request<'m, 'a> {
     Sim(SimOptions),
     Loop(LoopOptions<'a>),
     New(NewOptions<'a>),
+    Recover(RecoverOptions<'m, 'a>),
     Referee {
         folder: &'a str,
     },
@@ -107,6 +109,7 @@ fn of_task<'m, 'a>(task: Task, options: &'m ArgMatches<'a>) -> Option<Request<'m
         Task::Sim => Request::Sim(SimOptions::read(options)?),
         Task::Loop => Request::Loop(LoopOptions::read(options)?),
         Task::New => Request::New(NewOptions::read(options)?),
+        Task::Recover => Request::Recover(RecoverOptions::read(options)?),
         Task::Referee => Request::Referee {
             folder: options.get_str("dir")?,
         },

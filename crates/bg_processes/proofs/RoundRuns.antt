@@ -1,7 +1,7 @@
 -- What happens in a round is a run, event by event.
 use Rattle.std.proofs.Common.{◌≡◌, ℕ, zero, suc, Bool, true, false, List, [], ◌∷◌, ◌++◌, Option, Some, None}
 use Rattle.std.proofs.Common.{Result, Ok, Err, refl, subst}
-use Rattle.std.specs.Prelude.{◌==◌, ◌||◌, if◌then◌else◌, MatchOption, MatchResult}
+use Rattle.std.specs.Prelude.{◌==◌, ◌||◌, if◌then◌else◌, MatchOption, MatchResult, is_none}
 use Rattle.std.specs.Bool.{MatchBool}
 use Rattle.bg_match.specs.declared.actions.Action.{Action}
 use Rattle.bg_wire.specs.Entries.Codes.{referee}
@@ -14,7 +14,7 @@ use Rattle.bg_processes.specs.RefereeRounds as r
 use Rattle.bg_processes.specs.SeatRounds as s
 use Rattle.bg_processes.specs.WatcherRounds as w
 use Rattle.bg_processes.specs.Rounds.{GoesWhere, IsOverAndSaved, count_of, ends_takes, most_taken}
-use Rattle.bg_processes.specs.Runs.{FollowsSave, Repeats, Runs, Saves}
+use Rattle.bg_processes.specs.Runs.{FollowsSave, Repeats, Restarts, Runs, Saves}
 use Rattle.bg_processes.specs.declared.processes.rounds.Going.{Going}
 use Rattle.bg_processes.specs.declared.processes.rounds.Going.TheVariants.{On, Over}
 use Rattle.bg_auto.specs.Attempts.{held_entries}
@@ -84,13 +84,22 @@ module _ (link_honest keeper_honest : Type 0) where
   news_lead : (old : r.RefereeMoment) (result : Result Bool Outcome) (new : r.RefereeMoment)
       → r.SavesNews link_honest keeper_honest old result new
       → Leads (r.RefereeHappens link_honest keeper_honest) old new
-  news_lead old result new h = go (count_of (held_entries (r.log_of old)) == (old.notes).saved) h where
-    go : (same : Bool)
+  news_lead old result new h = go (is_none (r.log_of old)) h where
+    up : (same : Bool)
         → MatchBool same ((result ≡ Ok false) × (new ≡ old))
         (Saves (r.RefereeHappens link_honest keeper_honest) referee old result new)
         → Leads (r.RefereeHappens link_honest keeper_honest) old new
-    go true none = ([], none.1)
-    go false saves = saves_lead (r.RefereeHappens link_honest keeper_honest) referee old result new saves
+    up true none = ([], none.1)
+    up false saves = saves_lead (r.RefereeHappens link_honest keeper_honest) referee old result new saves
+
+    go : (down : Bool)
+        → MatchBool down (Restarts (r.RefereeHappens link_honest keeper_honest) referee old result new)
+        (MatchBool (count_of (held_entries (r.log_of old)) == (old.notes).saved) ((result ≡ Ok false) × (new ≡ old))
+        (Saves (r.RefereeHappens link_honest keeper_honest) referee old result new))
+        → Leads (r.RefereeHappens link_honest keeper_honest) old new
+    go true again =
+        one_leads (r.RefereeHappens link_honest keeper_honest) old new (events.Restart referee) again.0 again.1
+    go false rest = up (count_of (held_entries (r.log_of old)) == (old.notes).saved) rest
 
   ends_lead : (tick : Bool) (first old : r.RefereeMoment) (saved : Result Bool Outcome) (result : Result Going Outcome)
       (new : r.RefereeMoment) → Leads (r.RefereeHappens link_honest keeper_honest) first old
@@ -128,6 +137,17 @@ module _ (link_honest keeper_honest : Type 0) where
     go true saves = saves_lead (s.SeatHappens link_honest keeper_honest) (party_of old.player) old result new saves
     go false none = ([], none.1)
 
+  kept_lead : (old : s.SeatMoment) (result : Result Bool Outcome) (new : s.SeatMoment)
+      → s.RestartsOrSaves link_honest keeper_honest old result new
+      → Leads (s.SeatHappens link_honest keeper_honest) old new
+  kept_lead old result new h = go (is_none (s.log_of old)) h where
+    go : (down : Bool)
+        → MatchBool down (Restarts (s.SeatHappens link_honest keeper_honest) (party_of old.player) old result new)
+        (s.SavesWorth link_honest keeper_honest old result new) → Leads (s.SeatHappens link_honest keeper_honest) old new
+    go true again =
+        one_leads (s.SeatHappens link_honest keeper_honest) old new (events.Restart (party_of old.player)) again.0 again.1
+    go false saves = worth_lead old result new saves
+
   sends_lead : (tick : Bool) (old new : s.SeatMoment) → s.SendsWhere link_honest keeper_honest tick old new
       → Leads (s.SeatHappens link_honest keeper_honest) old new
   sends_lead true old new h =
@@ -146,7 +166,7 @@ module _ (link_honest keeper_honest : Type 0) where
   seat_round_runs old tick result new h =
       let H = s.SeatHappens link_honest keeper_honest in
       let takes = repeats_lead H s.take_at ends_takes most_taken old h.taken h.takes in
-      let saves = worth_lead h.taken h.saved h.kept h.saves in
+      let saves = kept_lead h.taken h.saved h.kept h.saves in
       both_lead H old h.kept new (both_lead H old h.taken h.kept takes saves)
       (seat_ends_lead tick h.kept h.saved
       (MatchResult result (GoesWhere (IsOverAndSaved (s.log_of new) (new.notes).saved)) (λ _. ⊥)) result new h.ends)

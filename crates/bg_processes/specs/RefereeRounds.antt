@@ -1,6 +1,6 @@
 -- What the process of a referee does in a round.
 use Rattle.std.specs.Prelude.{◌≡◌, ◌<◌, ◌+◌, ◌-◌, ◌^◌, ◌==◌, ◌||◌, nat_lt, min, ℕ, Bool, true, false, if◌then◌else◌}
-use Rattle.std.specs.Prelude.{Option, List, Result, Ok, Err, MatchResult}
+use Rattle.std.specs.Prelude.{Option, List, Result, Ok, Err, MatchResult, is_none}
 use Rattle.std.specs.Bool.{MatchBool}
 use Rattle.bg_match.specs.Match.{Log}
 use Rattle.bg_match.specs.Terms.{Terms}
@@ -18,7 +18,7 @@ use Rattle.bg_world.specs.declared.events.Outcome.{Outcome}
 use Rattle.bg_world.specs.declared.events.Outcome.TheVariants as outcomes
 use Rattle.bg_auto.specs.Attempts.{Notes, held_entries, keyed_word_for, restarts_referee}
 use Rattle.bg_processes.specs.Rounds.{GoesWhere, IsOverAndSaved, count_of, ends_takes, most_parties, most_taken, saved_after}
-use Rattle.bg_processes.specs.Runs.{Repeats, Runs, Saves}
+use Rattle.bg_processes.specs.Runs.{Repeats, Restarts, Runs, Saves}
 use Rattle.bg_processes.specs.declared.processes.referee.notes.RefereeNotes.{RefereeNotes}
 use Rattle.bg_processes.specs.declared.processes.referee.RefereeProcess.{RefereeProcess}
 use Rattle.bg_processes.specs.declared.processes.rounds.Going.{Going}
@@ -134,11 +134,13 @@ module _ (link_honest keeper_honest : Type 0) where
   RefereeRepeats event is_last most old new =
       Repeats (RefereeHappens link_honest keeper_honest) event is_last most old new
 
-  -- what is not saved yet is saved; Ok says whether there was any, and it was written
+  -- where it is down it is restarted, else what is not saved yet is saved; Ok says whether there was any, and it was
+  -- written
   abbrev pub SavesNews : RefereeMoment → Result Bool Outcome → RefereeMoment → Type 0
   SavesNews old result new =
-      MatchBool (count_of (held_entries (log_of old)) == old.notes.saved) ((result ≡ Ok false) × (new ≡ old))
-      (Saves (RefereeHappens link_honest keeper_honest) referee old result new)
+      MatchBool (is_none (log_of old)) (Restarts (RefereeHappens link_honest keeper_honest) referee old result new)
+      (MatchBool (count_of (held_entries (log_of old)) == old.notes.saved) ((result ≡ Ok false) × (new ≡ old))
+      (Saves (RefereeHappens link_honest keeper_honest) referee old result new))
 
   -- what is new is sent where it was saved, and what is due where a tick is
   abbrev pub EndsRound : Bool → RefereeMoment → Bool → Result Going Outcome → RefereeMoment → Type 0
@@ -149,7 +151,7 @@ module _ (link_honest keeper_honest : Type 0) where
       × MatchResult result (GoesWhere (IsServed new)) (λ _. ⊥)
 
   -- A round, in which a tick is due or not: datagrams are taken, what is due is added, what has grown is saved, and then
-  -- it is sent. Err says why the process ends.
+  -- it is sent; where the referee is down, a restart is all that happens at it. Err says why the process ends.
   pub record PlaysRefereeRound
       (old : RefereeMoment) (tick : Bool) (result : Result Going Outcome) (new : RefereeMoment) : Type 0 where
     pub taken : RefereeMoment

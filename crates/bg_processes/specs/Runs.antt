@@ -5,10 +5,13 @@ use Rattle.bg_world.specs.declared.events.Event.{Event}
 use Rattle.bg_world.specs.declared.events.Event.TheVariants as events
 use Rattle.bg_world.specs.declared.events.Outcome.{Outcome}
 use Rattle.bg_world.specs.declared.events.Outcome.TheVariants as outcomes
+use Rattle.bg_world.specs.declared.events.RestoreCause.TheVariants as causes
 
--- a party that was restarted is up, and nothing was written; or the reason why it is down ends its process
+-- a party that was restarted is up, and nothing was written; where its slots can't be read now, it is down until a later
+-- round restarts it; any other reason why it is down ends its process
 abbrev pub restarted : Outcome → Result Bool Outcome
 restarted outcomes.Restarted = Ok false
+restarted (outcomes.RestoreFault causes.Device) = Ok false
 restarted outcome = Err outcome
 
 module _ {M : Type 0} (Happens : M → Event → Outcome → M → Type 0) where

@@ -1,6 +1,6 @@
 -- What the process of a seat does in a round, and when its player chooses.
 use Rattle.std.specs.Prelude.{◌≡◌, ◌==◌, ◌||◌, ◌&&◌, not, nat_le, nat_lt, ℕ, Bool, true, false, if◌then◌else◌}
-use Rattle.std.specs.Prelude.{Option, Some, None, List, Result, Ok, Err, MatchOption, MatchResult}
+use Rattle.std.specs.Prelude.{Option, Some, None, List, Result, Ok, Err, MatchOption, MatchResult, is_none}
 use Rattle.std.specs.Bool.{MatchBool}
 use Rattle.bg_board.specs.declared.players.Player.{Player}
 use Rattle.bg_match.specs.Match.{ActsAfter, Log}
@@ -19,7 +19,7 @@ use Rattle.bg_world.specs.declared.events.Outcome.{Outcome}
 use Rattle.bg_world.specs.declared.events.Outcome.TheVariants as outcomes
 use Rattle.bg_auto.specs.Attempts.{held_entries}
 use Rattle.bg_processes.specs.Rounds.{GoesWhere, IsOver, IsOverAndSaved, Tells, count_of, ends_takes, keeps_all, most_parties, most_taken, saved_after}
-use Rattle.bg_processes.specs.Runs.{Repeats, Runs, Saves}
+use Rattle.bg_processes.specs.Runs.{Repeats, Restarts, Runs, Saves}
 use Rattle.bg_processes.specs.declared.processes.rounds.Going.{Going}
 use Rattle.bg_processes.specs.declared.processes.seat.SeatProcess.{SeatProcess}
 use Rattle.bg_processes.specs.declared.processes.seat.notes.SeatNotes.{SeatNotes}
@@ -126,6 +126,12 @@ module _ (link_honest keeper_honest : Type 0) where
       × MatchBool wanted (Saves (SeatHappens link_honest keeper_honest) (party_of old.player) old result new)
       ((result ≡ Ok false) × (new ≡ old))
 
+  -- where it is down it is restarted, else it saves where that is worth it
+  abbrev pub RestartsOrSaves : SeatMoment → Result Bool Outcome → SeatMoment → Type 0
+  RestartsOrSaves old result new =
+      MatchBool (is_none (log_of old))
+      (Restarts (SeatHappens link_honest keeper_honest) (party_of old.player) old result new) (SavesWorth old result new)
+
   -- it sends where a tick is due
   abbrev pub SendsWhere : Bool → SeatMoment → SeatMoment → Type 0
   SendsWhere tick old new =
@@ -134,14 +140,15 @@ module _ (link_honest keeper_honest : Type 0) where
       (new ≡ old)
 
   -- A round, in which a tick is due or not: datagrams are taken, what is worth it is saved, and where a tick is due it
-  -- sends. It ends where the match is over and all of it saved, and Err says why the process ends.
+  -- sends; where the seat is down, a restart is all that happens at it. It ends where the match is over and all of it
+  -- saved, and Err says why the process ends.
   pub record PlaysSeatRound
       (old : SeatMoment) (tick : Bool) (result : Result Going Outcome) (new : SeatMoment) : Type 0 where
     pub taken : SeatMoment
     pub takes : Repeats (SeatHappens link_honest keeper_honest) take_at ends_takes most_taken old taken
     pub kept : SeatMoment
     pub saved : Result Bool Outcome
-    pub saves : SavesWorth taken saved kept
+    pub saves : RestartsOrSaves taken saved kept
     pub ends : MatchResult saved
         (λ _. SendsWhere tick kept new
         × MatchResult result (GoesWhere (IsOverAndSaved (log_of new) new.notes.saved)) (λ _. ⊥))

@@ -26,9 +26,11 @@ fn a_folder_that_cant_be_synced(rt: HostRuntime) -> Result<(), Fail> {
     let failures = Failures::new();
     let mut keeper = FileKeeper::new(&files, folder.as_str(), 1, &failures)?;
     let failed = Err(DeviceFault::Failed);
-    // The bytes are there, and the save fails all the same: the name of the file may be lost. It is noted once.
+    // The name of the file may be lost: so what was written is taken back, and nothing is read. It is noted once.
     for _ in 0..2 {
-        assert!(rt; use_both(&mut keeper) == [failed, failed, Ok(()), Ok(())]);
+        assert!(rt; use_both(&mut keeper) == [failed; 4]);
+        let path = format!(in rt.alloc(); "{folder}/party-1.0")?;
+        assert!(rt; fs::read(&rt, path.as_str())?.is_empty());
     }
     let shown = folder.as_str().strip_suffix("\u{1b}").ok_or("no such end")?;
     let said = told(&rt, &failures, folder.as_str())?;

@@ -23,6 +23,7 @@ pub use checking::tallies::Tally;
 pub use checking::{MOST_SHOWN, check_text, said_of_import_fault, said_of_transcript};
 pub use endings::{DONE, Ending, FAILED, Found, REFUSED};
 pub use escapes::harmless;
+pub use folders::comparing::{Compared, compare};
 pub use folders::restored::restored_transcript;
 pub use folders::{SlotBytes, folder_text};
 pub use showing::show_text;

@@ -181,6 +181,9 @@ where
             Err(fault) => println!(rt; "{} (`help` lists what may be typed)", fault.reason()),
             Ok(action) => match self.seat.choose(action)? {
                 Outcome::Chose(Ok(_)) => Ok(()),
+                Outcome::Down => rt.println(
+                    "nothing can be chosen until your files can be read again",
+                ),
                 outcome => rt.println(outcome_text(&outcome).as_str()),
             },
         };

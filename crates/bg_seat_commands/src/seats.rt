@@ -90,7 +90,9 @@ where
     pub(crate) fn next_round(&mut self) -> Result<Round, Ending> {
         let next = self.ticking.next_round(self.rt, &mut self.waiting);
         let (ready, tick) = waited(self.rt, next)?;
-        match self.process.round(tick, &mut self.witness) {
+        let played = self.process.round(tick, &mut self.witness);
+        self.witness.check_files()?;
+        match played {
             Ok(going) => Ok(Round {
                 input: ready.input,
                 tick,

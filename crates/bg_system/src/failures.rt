@@ -6,7 +6,7 @@ pub(crate) mod first_failures;
 
 use crate::failures::device_failures::{DeviceFailure, FailedCall};
 use arrayvec::ArrayVec;
-use std::cell::RefCell;
+use std::cell::{Cell, RefCell};
 use std::io;
 
 /// So many failures are kept at most. No event notes more, so that none is lost where they are taken out after each: a
@@ -22,6 +22,7 @@ const ROOM: usize = 128;
 #[derive(Drop)]
 pub struct Failures {
     noted: RefCell<ArrayVec<Option<DeviceFailure>, ROOM>>,
+    are_final: Cell<bool>,
 }
 
 impl Failures {
@@ -29,6 +30,7 @@ impl Failures {
     pub fn new() -> Failures {
         Failures {
             noted: RefCell::new(ArrayVec::new()),
+            are_final: Cell::new(false),
         }
     }
 
@@ -37,6 +39,17 @@ impl Failures {
         if let Ok(mut noted) = self.noted.try_borrow_mut() {
             let _ = noted.try_push(Some(DeviceFailure { call, error }));
         }
+    }
+
+    /// Returns whether a device failed for good: its files count no longer, and the process that uses it may as well
+    /// end.
+    pub fn are_final(&self) -> bool {
+        self.are_final.get()
+    }
+
+    /// Says that a device failed for good.
+    pub(crate) fn make_final(&self) {
+        self.are_final.set(true);
     }
 
     /// Takes the failures out, the oldest first, as they are asked for.

@@ -4,11 +4,16 @@ pub(crate) mod folder_locks;
 pub(crate) mod match_files;
 pub(crate) mod numbers;
 pub(crate) mod party_files;
+pub(crate) mod plain_files;
 pub(crate) mod secrets;
+pub(crate) mod slot_files;
+pub(crate) mod slot_folders;
 pub(crate) mod slot_names;
 pub(crate) mod whole_files;
 
+use crate::files::plain_files::open_plain;
 use bg_wire::LONGEST_SAVED_TEXT;
+use std::alloc::Global;
 use std::fs::File;
 use std::io;
 use std::io::Read;
@@ -17,18 +22,21 @@ use std::rt::Files;
 /// The most bytes that are read of a saved file: one more than the longest saved text has.
 const MOST_SAVED_BYTES: u64 = LONGEST_SAVED_TEXT as u64 + 1;
 
-/// The bytes of a saved file, as far as a saved text goes, and none where it is missing.
+/// Returns the bytes of a saved file, as far as a saved text goes, and none where it is missing.
 ///
 /// # Errors
-/// Why the file could not be opened or read.
+/// Why the file could not be opened or read; `InvalidInput` where it is no plain file.
 pub fn read_saved(rt: &(impl Files<File = File> + AllocGlobal), path: &str) -> io::Result<Vec<u8>> {
-    let mut bytes = Vec::new(rt.alloc());
-    match File::open(rt, path) {
-        Ok(file) => {
-            file.take(MOST_SAVED_BYTES).read_to_end(&mut bytes)?;
-        }
-        Err(error) if error.kind() == io::ErrorKind::NotFound => {}
-        Err(error) => return Err(error),
+    match open_plain(rt, path) {
+        Ok(file) => saved_bytes(rt.alloc(), file),
+        Err(error) if error.kind() == io::ErrorKind::NotFound => Ok(Vec::new(rt.alloc())),
+        Err(error) => Err(error),
     }
+}
+
+/// Returns the bytes of an open file, as far as a saved text goes.
+fn saved_bytes(alloc: Global, file: File) -> io::Result<Vec<u8>> {
+    let mut bytes = Vec::new(alloc);
+    file.take(MOST_SAVED_BYTES).read_to_end(&mut bytes)?;
     Ok(bytes)
 }

@@ -45,6 +45,11 @@ fn words_of_failures(rt: HostRuntime) -> Result<(), Fail> {
             "o'hara\\n/party-2.1 could not be read",
         ),
         (FailedCall::Sync, "o'hara\\n could not be synced"),
+        (FailedCall::Find, "o'hara\\n can't be found"),
+        (
+            FailedCall::TakeBack(FILE),
+            "o'hara\\n/party-2.1 could not be emptied after a sync that failed",
+        ),
     ] {
         failures.note(call, io::Error::from(ErrorKind::PermissionDenied));
         let said = told(&rt, &failures, "o'hara\n")?;

@@ -12,6 +12,8 @@ mod match_files;
 #[cfg(test)]
 mod own_sockets;
 #[cfg(test)]
+mod party_files;
+#[cfg(test)]
 mod printable;
 #[cfg(test)]
 mod uses;

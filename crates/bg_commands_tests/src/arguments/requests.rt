@@ -2,8 +2,8 @@
 use bg_board::Player;
 use bg_match::{Rules, Terms};
 use bg_options::{
-    ActOptions, CheckOptions, LoopOptions, NewOptions, Request, ScriptOptions, SeatOptions,
-    ShowOptions, SimOptions, WatchOptions,
+    ActOptions, CheckOptions, LoopOptions, NewOptions, RecoverOptions, Request, ScriptOptions,
+    SeatOptions, ShowOptions, SimOptions, WatchOptions,
 };
 use bg_picture::Numbering;
 
@@ -43,6 +43,21 @@ pub(crate) fn is_of_files(row: usize, request: &Request<'_, '_>) -> bool {
         ) => { files.is_empty() && *list == Some("-") && !*is_quiet }
         (3, Request::Import { rules }) => *rules == Rules::One,
         (4, Request::Import { rules }) => *rules == Rules::Two,
+        (
+            20,
+            Request::Recover(
+                RecoverOptions {
+                    match_path,
+                    folder,
+                    x,
+                    o,
+                    transcripts,
+                },
+            ),
+        ) => {
+            (*match_path, *folder, *x, *o) == ("m", "d", "x", "o")
+                && *transcripts == ["t", "-"].as_slice()
+        }
         _ => false,
     }
 }
@@ -170,6 +185,7 @@ pub(crate) fn is_between_processes(row: usize, request: &Request<'_, '_>) -> boo
                     board,
                     transcript,
                     page,
+                    goes_on: true,
                     ..
                 },
             ),

@@ -10,8 +10,9 @@ use std::alloc::Global;
 const ABOUT_WATCH: &str =
     "Watch a match until it is over, and print its transcript, entry by entry.\n\
              \n\
-             Takes the first number of a watcher, from 3, whose port is free. Ends with status 0; with 1 where\n\
-             no port is free, or reading, writing or memory failed; with 2 where the match file is none.";
+             Takes the first number of a watcher, from 3, whose port is free. A file that is there already is\n\
+             left as it is until the referee is heard. Ends with status 0; with 1 where no port is free, or\n\
+             reading, writing or memory failed; with 2 where the match file is none.";
 
 /// The match that is watched, and the files that are kept of it.
 #[derive(Clone, Copy)]
@@ -25,6 +26,8 @@ pub struct WatchOptions<'a> {
     pub title: &'a str,
     /// In whose numbers its points are.
     pub numbering: Numbering,
+    /// Whether it goes on where one of these files can't be written.
+    pub goes_on: bool,
 }
 
 impl<'a> WatchOptions<'a> {
@@ -36,6 +39,7 @@ impl<'a> WatchOptions<'a> {
             page: options.get_str("page"),
             title: title_in(options),
             numbering: numbering_in(options),
+            goes_on: options.get_flag("go-on"),
         })
     }
 }
@@ -50,6 +54,14 @@ const fn kept(name: &'static str, about: &'static str) -> Argument {
     }
 }
 
+/// The option not to end for a file.
+const GO_ON: Argument = Argument {
+    name: "go-on",
+    kind: Kind::Flag,
+    need: Need::Optional,
+    about: "Go on where a file can't be written, which is said once; without it, watching ends there",
+};
+
 /// Its options and help.
 pub(crate) fn command<'a>(alloc: Global) -> Result<Command<'a>, Error> {
     let board = kept("board", "A file that has the board, always whole");
@@ -59,6 +71,6 @@ pub(crate) fn command<'a>(alloc: Global) -> Result<Command<'a>, Error> {
         "A file that has a page for browsers, always whole; they show it anew by themselves",
     );
     let command = described(alloc, "watch", "Watch a match", ABOUT_WATCH);
-    let arguments = [MATCH, board, transcript, page, TITLE, NUMBERING];
+    let arguments = [MATCH, board, transcript, page, TITLE, NUMBERING, GO_ON];
     with_all(alloc, command.after_help(THREE_TERMINALS), &arguments)
 }

@@ -18,12 +18,12 @@ pub(crate) mod notes;
 
 use crate::processes::referee::notes::RefereeNotes;
 use crate::processes::rounds::{
-    Going, MOST_TAKEN, count_of, ends_takes, entries_of, is_over_and_saved,
+    Going, MOST_TAKEN, count_of, ends_takes, entries_of, is_down, is_over_and_saved,
 };
 use bg_auto::{DiceAttempts, Onlooker};
 use bg_match::{LengthFault, Record, Terms};
 use bg_referee::DueFault;
-use bg_world::{Keeper, Link, Outcome, RefereeNode};
+use bg_world::{Keeper, Link, Outcome, RefereeNode, RestoreCause};
 use std::alloc::Global;
 
 /// So many words are tried in a round for an opening that the referee owes.
@@ -145,11 +145,15 @@ impl<L: Link, K: Keeper> RefereeProcess<L, K> {
         }
     }
 
-    /// Saves where the record has grown, and begins again where the save failed; whether something was saved.
+    /// Saves where the record has grown, and begins again where the save failed, or the referee is down; whether
+    /// something was saved.
     fn save_news<O: Onlooker>(&mut self, onlooker: &mut O) -> Result<bool, Outcome>
         ensures { SavesNews L.is_honest K.is_honest (referee_moment L.Link K.Keeper self.old) result
             (referee_moment L.Link K.Keeper self.new) }
     {
+        if is_down(self.node.held()) {
+            return self.begin_again(onlooker);
+        }
         if count_of(self.node.held()) == self.notes.saved {
             return Ok(false);
         }
@@ -167,7 +171,8 @@ impl<L: Link, K: Keeper> RefereeProcess<L, K> {
             (referee_moment L.Link K.Keeper self.old) result (referee_moment L.Link K.Keeper self.new) }
     {
         match self.restart(onlooker) {
-            Outcome::Restarted => Ok(false),
+            // Its slots may be read again later: the next round tries it.
+            Outcome::Restarted | Outcome::RestoreFault(RestoreCause::Device) => Ok(false),
             outcome => Err(outcome),
         }
     }

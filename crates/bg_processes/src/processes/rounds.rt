@@ -1,5 +1,5 @@
 //! What the processes of all parties have in common.
-ghost use Rattle.std.specs.Prelude.{◌≡◌, option_copied};
+ghost use Rattle.std.specs.Prelude.{◌≡◌, is_none, option_copied};
 ghost use Rattle.bg_auto.specs.Attempts.{held_entries};
 ghost use Rattle.bg_match.specs.Match.{ActsAfter};
 ghost use Rattle.bg_match.specs.declared.phases.Actor.TheVariants as acting;
@@ -43,6 +43,13 @@ pub(crate) fn count_of(held: Option<&Record>) -> Number
         None => 0,
         Some(record) => record.len(),
     }
+}
+
+/// Whether a party is down.
+pub(crate) fn is_down(held: Option<&Record>) -> bool
+    ensures { result ≡ is_none (option_copied held.entry) }
+{
+    held.is_none()
 }
 
 /// Whether the seat of this player acts after a record.

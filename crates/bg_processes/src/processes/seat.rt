@@ -143,7 +143,7 @@ impl<L: Link, K: Keeper> SeatProcess<L, K> {
             result (seat_moment L.Link K.Keeper self.new) }
     {
         self.take_all(onlooker);
-        match self.save_worth(onlooker) {
+        match self.restart_or_save(onlooker) {
             Ok(_) => {
                 self.send(tick, onlooker);
                 Ok(self.going())

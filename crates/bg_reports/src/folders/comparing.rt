@@ -18,8 +18,8 @@ pub enum Compared {
     Behind(Number),
 }
 
-/// How a saved match goes on beside another.
-pub(crate) fn compare(saved: &Saved, other: &Saved) -> Compared
+/// Returns how a saved match goes on beside another (docs/FORMATS.md, "Showing saved files").
+pub fn compare(saved: &Saved, other: &Saved) -> Compared
     ensures { IsCompared result (parts_of saved.now) (parts_of other.now) }
 {
     if !is_same_match(saved, other) {

@@ -20,6 +20,10 @@ pub enum FailedCall {
     Read(SlotName),
     /// The folder of the files was to be synced.
     Sync,
+    /// The folder of the files was to be found where it was.
+    Find,
+    /// The file of a slot was to be emptied, as what was written to it could not be synced.
+    TakeBack(SlotName),
 }
 
 /// Why a call of a device failed.
@@ -61,6 +65,13 @@ impl<'a> Display for FailureText<'a> {
             FailedCall::Write(file) => write!(f, "{folder}/{file} could not be written")?,
             FailedCall::Read(file) => write!(f, "{folder}/{file} could not be read")?,
             FailedCall::Sync => write!(f, "{folder} could not be synced")?,
+            FailedCall::Find => write!(f, "{folder} can't be found")?,
+            FailedCall::TakeBack(file) => {
+                write!(
+                    f,
+                    "{folder}/{file} could not be emptied after a sync that failed"
+                )?
+            }
         }
         write!(f, ": {}", self.failure.error)
     }

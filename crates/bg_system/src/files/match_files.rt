@@ -4,6 +4,7 @@ ghost use Rattle.std.specs.Int.{IsInRange};
 ghost use Rattle.bg_system.specs.Numbers.{rules_number};
 
 use crate::files::numbers::split_number;
+use crate::files::plain_files::open_plain;
 use crate::files::whole_files::write_whole;
 use bg_match::{LONGEST_MATCH, Rules, SHORTEST_MATCH, Terms};
 use std::fmt::{Display, Formatter, Write};
@@ -96,13 +97,13 @@ impl MatchFile {
     /// What the file at a path says; `None` where it is no match file.
     ///
     /// # Errors
-    /// Why the file could not be opened or read.
+    /// Why the file could not be opened or read; `InvalidInput` where it is no plain file.
     pub fn read(
         rt: &(impl Files<File = File> + AllocGlobal),
         path: &str,
     ) -> io::Result<Option<MatchFile>> {
         let mut bytes = Vec::new(rt.alloc());
-        File::open(rt, path)?
+        open_plain(rt, path)?
             .take(MOST_BYTES)
             .read_to_end(&mut bytes)?;
         match str::from_utf8(&bytes) {

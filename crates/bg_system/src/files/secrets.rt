@@ -2,6 +2,7 @@
 ghost use Rattle.std.specs.IoError.{error_kind};
 ghost use Rattle.std.specs.Prelude.{◌≡◌, ◌≢◌, length, IfOk, IfSome, MatchResult};
 
+use crate::files::plain_files::open_plain;
 use crate::files::whole_files::write_whole;
 use std::alloc::Global;
 use std::fs::File;
@@ -33,13 +34,14 @@ pub fn make_secret(
 /// The secret in a folder.
 ///
 /// # Errors
-/// Why it could not be read; `InvalidData` where the file does not have 32 bytes.
+/// Why it could not be read; `InvalidInput` where it is no plain file, and `InvalidData` where it does not have 32
+/// bytes.
 pub fn read_secret(
     rt: &(impl Files<File = File> + AllocGlobal),
     folder: &str,
 ) -> io::Result<[u8; 32]> {
     let path = format!(in rt.alloc(); "{folder}/{NAME}")?;
-    secret_of(rt.alloc(), File::open(rt, path.as_str())?)
+    secret_of(rt.alloc(), open_plain(rt, path.as_str())?)
 }
 
 /// The secret that the bytes of a reader are, all of them.

@@ -1,5 +1,6 @@
 //! Files that are there whole, or not at all.
 
+use crate::files::slot_folders::sync_names;
 use std::fs::{File, OpenOptions};
 use std::io::{ErrorKind, Write};
 use std::os::unix::fs::OpenOptionsExt;
@@ -7,7 +8,7 @@ use std::rt::Files;
 use std::{fs, io};
 
 /// A file that only its owner reads and writes.
-const OWNER_ALONE: u32 = 0o600;
+pub(crate) const OWNER_ALONE: u32 = 0o600;
 
 /// A file that anybody reads.
 const FOR_ALL: u32 = 0o644;
@@ -25,10 +26,7 @@ pub fn write_whole(
 ) -> io::Result<()> {
     let path = format!(in rt.alloc(); "{folder}/{name}")?;
     put(rt, path.as_str(), bytes, OWNER_ALONE, true)?;
-    match File::open(rt, folder)?.sync_all() {
-        Err(error) if error.kind() == ErrorKind::InvalidInput => Ok(()),
-        result => result,
-    }
+    sync_names(rt, folder)
 }
 
 /// Puts bytes in the place of those that a published file has, which others may read at any moment: they see it as it
@@ -44,6 +42,7 @@ pub fn publish(
     put(rt, path, bytes, FOR_ALL, false)
 }
 
+/// Writes bytes into a new file beside the one at a path, and puts it in its place.
 fn put(
     rt: &(impl Files<File = File> + AllocGlobal),
     path: &str,
@@ -51,17 +50,38 @@ fn put(
     mode: u32,
     lasting: bool,
 ) -> io::Result<()> {
-    let other = format!(in rt.alloc(); "{path}.new")?;
-    let mut file = OpenOptions::new()
-        .write(true)
-        .create(true)
-        .truncate(true)
-        .mode(mode)
-        .open(rt, other.as_str())?;
+    let (mut file, name) = new_file(rt, path, mode)?;
     file.write_all(bytes)?;
     if lasting {
         file.sync_all()?;
     }
     drop(file);
-    fs::rename(rt, other.as_str(), path)
+    fs::rename(rt, name.as_str(), path)
+}
+
+/// How many files may be written for one path at once; what a kill leaves of one counts too.
+const MOST_NEW: u8 = 100;
+
+/// Makes a file `PATH.new`, or `PATH.new1` and so on where there are such files: it follows no link that stands there,
+/// and of two processes that write for the same path each has its own.
+fn new_file(
+    rt: &(impl Files<File = File> + AllocGlobal),
+    path: &str,
+    mode: u32,
+) -> io::Result<(File, String)> {
+    let mut name = format!(in rt.alloc(); "{path}.new")?;
+    for number in 1..MOST_NEW {
+        match OpenOptions::new()
+            .write(true)
+            .create_new(true)
+            .mode(mode)
+            .open(rt, name.as_str())
+        {
+            Err(error) if error.kind() == ErrorKind::AlreadyExists => {}
+            Err(error) => return Err(error),
+            Ok(file) => return Ok((file, name)),
+        }
+        name = format!(in rt.alloc(); "{path}.new{number}")?;
+    }
+    Err(io::Error::from(ErrorKind::AlreadyExists))
 }

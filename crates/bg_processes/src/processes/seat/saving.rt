@@ -2,14 +2,14 @@
 ghost use Rattle.std.specs.Prelude.{◌≡◌};
 ghost use Rattle.bg_wire.specs.Parties.{party_of as party_for};
 ghost use Rattle.bg_processes.specs.Runs.{Restarts, Saves};
-ghost use Rattle.bg_processes.specs.SeatRounds.{SavesWorth, SeatHappens, WantsSave, is_answered as is_answered_by};
+ghost use Rattle.bg_processes.specs.SeatRounds.{RestartsOrSaves, SavesWorth, SeatHappens, WantsSave, is_answered as is_answered_by};
 ghost use Rattle.bg_processes.specs.SeatRounds.{seat_moment};
 
-use crate::processes::rounds::{count_of, is_over};
+use crate::processes::rounds::{count_of, is_down, is_over};
 use crate::processes::seat::SeatProcess;
 use bg_auto::Onlooker;
 use bg_match::{Action, Number};
-use bg_world::{Keeper, Link, Outcome};
+use bg_world::{Keeper, Link, Outcome, RestoreCause};
 
 impl<L: Link, K: Keeper> SeatProcess<L, K> {
     /// Whether a save is worth it.
@@ -22,8 +22,19 @@ impl<L: Link, K: Keeper> SeatProcess<L, K> {
         self.notes.claim_waits || is_answered || (is_over && held != self.notes.saved)
     }
 
+    /// Begins again where the seat is down, and else saves where that is worth it; whether something was written.
+    pub(crate) fn restart_or_save<O: Onlooker>(&mut self, onlooker: &mut O) -> Result<bool, Outcome>
+        ensures { RestartsOrSaves L.is_honest K.is_honest (seat_moment L.Link K.Keeper self.old) result
+            (seat_moment L.Link K.Keeper self.new) }
+    {
+        if is_down(self.node.held()) {
+            return self.begin_again(onlooker);
+        }
+        self.save_worth(onlooker)
+    }
+
     /// Saves where that is worth it; whether that was written.
-    pub(crate) fn save_worth<O: Onlooker>(&mut self, onlooker: &mut O) -> Result<bool, Outcome>
+    fn save_worth<O: Onlooker>(&mut self, onlooker: &mut O) -> Result<bool, Outcome>
         ensures { SavesWorth L.is_honest K.is_honest (seat_moment L.Link K.Keeper self.old) result
             (seat_moment L.Link K.Keeper self.new) }
     {
@@ -52,7 +63,8 @@ impl<L: Link, K: Keeper> SeatProcess<L, K> {
             (seat_moment L.Link K.Keeper self.old) result (seat_moment L.Link K.Keeper self.new) }
     {
         match self.restart(onlooker) {
-            Outcome::Restarted => Ok(false),
+            // Its slots may be read again later: the next round tries it.
+            Outcome::Restarted | Outcome::RestoreFault(RestoreCause::Device) => Ok(false),
             outcome => Err(outcome),
         }
     }

@@ -1,0 +1,77 @@
+//! The options and help of the command that makes a referee's folder from what others hold.
+
+use crate::arguments::{Argument, Kind, Need, described, with, with_all};
+use crate::shared::{FOLDER, MATCH};
+use clap::{Arg, ArgMatches, Command, Error};
+use std::alloc::Global;
+
+/// What `recover` does, with an example.
+const ABOUT_RECOVER: &str =
+    "Make a referee's folder anew, where it was lost, from what the seats and others hold.
+
+    $ bg_relay recover --match match --x x --o o --dir new-table board/transcript
+    bg_relay: new-table begins with the 57 entries of board/transcript
+    $ bg_relay referee --dir new-table
+
+End all processes of the match first. Every party holds the front of what the referee had, so the
+longest record is taken, of both seats' folders and of the transcripts that are named: what watchers
+keep, or what `play` and `auto` have printed. Name each that there is: where one that is left out
+holds more, the parties can't go on together. The dice go by a new secret from there on.
+
+Where two of them differ, nothing is made. Ends with status 0; with 2 where a file or a folder is
+none, two records differ, or DIR has a match already; with 1 where a process plays over a folder, or
+reading, writing or memory failed.";
+
+/// Of what the folder is made, and where.
+#[derive(Clone, Copy)]
+pub struct RecoverOptions<'m, 'a> {
+    /// The name of the match file.
+    pub match_path: &'a str,
+    /// The folder that is to be made.
+    pub folder: &'a str,
+    /// The folder of the seat of X.
+    pub x: &'a str,
+    /// That of the seat of O.
+    pub o: &'a str,
+    /// The names of transcripts.
+    pub transcripts: &'m [&'a str],
+}
+
+impl<'m, 'a> RecoverOptions<'m, 'a> {
+    pub(crate) fn read(options: &'m ArgMatches<'a>) -> Option<RecoverOptions<'m, 'a>> {
+        Some(RecoverOptions {
+            match_path: options.get_str("match")?,
+            folder: options.get_str("dir")?,
+            x: options.get_str("x")?,
+            o: options.get_str("o")?,
+            transcripts: options.get_strs("TRANSCRIPT").unwrap_or_default(),
+        })
+    }
+}
+
+const X: Argument = Argument {
+    name: "x",
+    kind: Kind::Text("DIR"),
+    need: Need::Required,
+    about: "The folder of the seat of X",
+};
+
+const O: Argument = Argument {
+    name: "o",
+    kind: Kind::Text("DIR"),
+    need: Need::Required,
+    about: "The folder of the seat of O",
+};
+
+/// Its options and help.
+pub(crate) fn command<'a>(alloc: Global) -> Result<Command<'a>, Error> {
+    let transcripts = Arg::new(alloc, "TRANSCRIPT")
+        .num_args(0..)
+        .help("Transcripts of the match; - is the standard input");
+    let about = "Make a referee's folder from what others hold";
+    let command = described(alloc, "recover", about, ABOUT_RECOVER);
+    with(
+        with_all(alloc, command, &[MATCH, X, O, FOLDER])?,
+        transcripts,
+    )
+}

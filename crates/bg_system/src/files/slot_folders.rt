@@ -1,0 +1,122 @@
+//! The folder that the files of a party lie in.
+
+use crate::failures::Failures;
+use crate::failures::device_failures::FailedCall;
+use crate::failures::first_failures::FirstFailures;
+use crate::files::slot_names::SlotName;
+use std::alloc::AllocError;
+use std::fs::File;
+use std::io::ErrorKind;
+use std::os::unix::fs::MetadataExt;
+use std::rt::Files;
+use std::{fs, io};
+
+/// Which folder of the machine it is.
+#[derive(Clone, Copy, PartialEq, Eq)]
+struct Place {
+    device: u64,
+    inode: u64,
+}
+
+/// Returns which folder stands at a path, `None` where nothing does.
+fn place_of(rt: &impl Files<File = File>, path: &str) -> io::Result<Option<Place>> {
+    match fs::metadata(rt, path) {
+        Ok(found) => Ok(Some(Place {
+            device: found.dev(),
+            inode: found.ino(),
+        })),
+        Err(error) if error.kind() == ErrorKind::NotFound => Ok(None),
+        Err(error) => Err(error),
+    }
+}
+
+/// Why a folder or a file can't be used that was used before in this process.
+pub(crate) const WAS_THERE: &str = "it was there before, and is missing now";
+
+/// The folder that the files of a party lie in. What stands at its path later counts only while it is the folder that
+/// was there at the first use: neither one that was put in its place nor the empty one that an unmounted disk leaves.
+#[derive(Drop)]
+pub(crate) struct SlotFolder<'a, R> {
+    rt: &'a R,
+    name: String,
+    failures: &'a Failures,
+    /// Which folder it was at the first use.
+    place: Option<Place>,
+    finds: FirstFailures<'a>,
+    syncs: FirstFailures<'a>,
+}
+
+impl<'a, R: Files<File = File> + AllocGlobal> SlotFolder<'a, R> {
+    /// Makes the folder of this name. It opens nothing.
+    pub(crate) fn new(
+        rt: &'a R,
+        name: &str,
+        failures: &'a Failures,
+    ) -> Result<SlotFolder<'a, R>, AllocError> {
+        Ok(SlotFolder {
+            rt,
+            name: format!(in rt.alloc(); "{name}")?,
+            failures,
+            place: None,
+            finds: FirstFailures::new(failures),
+            syncs: FirstFailures::new(failures),
+        })
+    }
+
+    /// Checks, before a file in it is used, that it is the folder that it was, and that its files still count.
+    ///
+    /// # Errors
+    /// Where another folder stands at its path, or none, and where [`give_up`](SlotFolder::give_up) was called.
+    pub(crate) fn check(&mut self) -> io::Result<()> {
+        if self.failures.are_final() {
+            return Err(io::Error::other("an earlier write could not be taken back"));
+        }
+        let answer = self.find();
+        self.finds.after(FailedCall::Find, answer)
+    }
+
+    /// Finds the folder that it was at the first use. One that was never there has no files yet.
+    fn find(&mut self) -> io::Result<()> {
+        let found = place_of(self.rt, &self.name)?;
+        if self.place.is_none() {
+            self.place = found;
+        }
+        if self.place == found {
+            return Ok(());
+        }
+        Err(io::Error::new(
+            ErrorKind::NotFound,
+            match found {
+                Some(_) => "another folder stands there than at the start",
+                None => WAS_THERE,
+            },
+        ))
+    }
+
+    /// Writes the names in it through to the device.
+    ///
+    /// # Errors
+    /// Why that failed.
+    pub(crate) fn sync(&mut self) -> io::Result<()> {
+        self.syncs
+            .after(FailedCall::Sync, sync_names(self.rt, &self.name))
+    }
+
+    /// Gives the files up, as a write to this one failed, and could not be taken back: what it has now may be lost with
+    /// the next loss of power, so nothing may go by it.
+    pub(crate) fn give_up(&self, file: SlotName, error: io::Error) {
+        self.failures.note(FailedCall::TakeBack(file), error);
+        self.failures.make_final();
+    }
+}
+
+/// Writes the names in a folder through to the device, where the file system has that.
+///
+/// # Errors
+/// Why the folder could not be opened or synced.
+pub(crate) fn sync_names(rt: &impl Files<File = File>, folder: &str) -> io::Result<()> {
+    match File::open(rt, folder)?.sync_all() {
+        Err(error) if error.kind() == ErrorKind::InvalidInput => Ok(()),
+        answer => answer,
+    }
+}
