@@ -14,7 +14,7 @@ HOST = "127.0.0.1"
 MOST_SECONDS = 30
 # Codes of kinds, of entries and actions, and of what a player resigns.
 WANT, CLAIM, ENTRIES = 1, 2, 3
-OPENING, ROLL, RESIGN = 1, 2, 7
+OPENING, ROLL, MOVE, RESIGN = 1, 2, 6, 7
 NORMAL, GAMMON, BACKGAMMON = 1, 2, 3
 
 

@@ -94,6 +94,9 @@ where
     for _ in 0..u64::MAX {
         let round = seat.next_round()?;
         tell_word(rt, round.word, is_watched);
+        if round.foreign.is_some() {
+            return Err(Ending::ActionRefused);
+        }
         if round.tick {
             ticks = ticks.saturating_add(1);
         }

@@ -1,6 +1,6 @@
 //! The command of a person who plays at a terminal.
 
-use crate::seats::{Round, Seat};
+use crate::seats::{NOT_CHOSEN, Round, Seat};
 use crate::typed_lines::TypedLines;
 use bg_board::Player;
 use bg_console::{allocated, print_board, put_entries, unread, write_out, written};
@@ -137,6 +137,10 @@ where
         let rt = self.rt;
         if let Some(word) = round.word {
             rt.println(word)?;
+        }
+        if let Some(number) = round.foreign {
+            let (before, behind) = NOT_CHOSEN;
+            println!(rt; "{before}{number}{behind}")?;
         }
         let Some(record) = self.seat.process.held() else {
             return Ok(());

@@ -1,14 +1,17 @@
 //! The process of a seat, for the commands that play.
 
+use bg_board::Player;
 use bg_command_parts::{Witness, socket_of, stopped};
-use bg_console::{match_of, no_memory, own_folder, say_failures, waited, waiting_for, wrong};
-use bg_match::Action;
+use bg_console::{
+    match_of, no_memory, own_folder, say_failures, say_number, waited, waiting_for, wrong,
+};
+use bg_match::{Action, Number, Record};
 use bg_options::SeatOptions;
 use bg_processes::{
     Failures, FileKeeper, FolderLock, Going, Hearing, PartySocket, SeatProcess, Ticking, Waiting,
     Word,
 };
-use bg_reports::Ending;
+use bg_reports::{Ending, ending_of};
 use bg_wire::party_of;
 use bg_world::Outcome;
 use std::fs::File;
@@ -27,6 +30,9 @@ pub(crate) struct Seat<'a, R> {
     witness: Witness<'a, R>,
     ticking: Ticking,
     hearing: Hearing,
+    player: Player,
+    /// How many entries it has ever held.
+    known: Number,
     _lock: FolderLock,
 }
 
@@ -40,6 +46,8 @@ pub(crate) struct Round {
     pub(crate) going: Going,
     /// Whether the referee is heard of, where that has changed.
     pub(crate) word: Option<Word>,
+    /// The first entry that came in the player's name, and that this seat never claimed.
+    pub(crate) foreign: Option<Number>,
 }
 
 impl<'a, R> Seat<'a, R>
@@ -75,8 +83,11 @@ where
         if outcome != Outcome::Restarted {
             return Err(stopped(rt, &outcome));
         }
+        let known = count_of(process.held());
         Ok(Seat {
             rt,
+            player,
+            known,
             process,
             waiting,
             witness: Witness::new(rt, failures, folder),
@@ -86,10 +97,11 @@ where
         })
     }
 
-    /// Waits, and lets the next round be.
+    /// Waits, and lets the next round be. An entry in the player's name that the seat never claimed is said.
     pub(crate) fn next_round(&mut self) -> Result<Round, Ending> {
         let next = self.ticking.next_round(self.rt, &mut self.waiting);
         let (ready, tick) = waited(self.rt, next)?;
+        let claim = self.process.open_claim();
         let played = self.process.round(tick, &mut self.witness);
         self.witness.check_files()?;
         match played {
@@ -98,9 +110,21 @@ where
                 tick,
                 going,
                 word: self.hearing.after_round(self.rt, self.process.link(), tick),
+                foreign: self.news_of_others(&claim),
             }),
             Err(outcome) => Err(stopped(self.rt, &outcome)),
         }
+    }
+
+    /// Looks through the entries that came, and says which is the first in the player's name that does not answer this
+    /// claim, if one is.
+    fn news_of_others(&mut self, claim: &Option<(Number, Action)>) -> Option<Number> {
+        let foreign = first_foreign(self.process.held(), self.player, self.known, claim);
+        self.known = self.known.max(self.held());
+        if let Some(number) = foreign {
+            say_number(self.rt, NOT_CHOSEN.0, number.into(), NOT_CHOSEN.1);
+        }
+        foreign
     }
 
     /// Claims an action, and says what that came to.
@@ -112,10 +136,46 @@ where
     }
 
     /// How many entries it holds.
-    pub(crate) fn held(&self) -> u32 {
-        match self.process.held() {
-            Some(record) => record.len(),
-            None => 0,
+    pub(crate) fn held(&self) -> Number {
+        count_of(self.process.held())
+    }
+}
+
+/// What is said of an entry that another made for the player, before its number and behind it.
+pub(crate) const NOT_CHOSEN: (&str, &str) = (
+    "somebody else plays for you: entry ",
+    " is in your name, and was not chosen here",
+);
+
+fn count_of(held: Option<&Record>) -> Number {
+    match held {
+        Some(record) => record.len(),
+        None => 0,
+    }
+}
+
+/// Returns the number of the first entry behind so many that is in the player's name, and does not answer this claim.
+fn first_foreign(
+    held: Option<&Record>,
+    player: Player,
+    behind: Number,
+    claim: &Option<(Number, Action)>,
+) -> Option<Number> {
+    let record = held?;
+    for before in behind..record.len() {
+        if record.by(before + 1) == Some(player) && !is_claimed(record, before + 1, claim) {
+            return Some(before + 1);
         }
+    }
+    None
+}
+
+/// Whether the entry of this number answers this claim.
+fn is_claimed(record: &Record, number: Number, claim: &Option<(Number, Action)>) -> bool {
+    match claim {
+        Some((claimed, action)) if *claimed == number => {
+            ending_of(record, action, number) == Ending::Served
+        }
+        _ => false,
     }
 }
