@@ -15,7 +15,7 @@ use Rattle.bg_c.specs.declared.statuses.Status.TheVariants as status
 
 -- the status of a transcript that gives no record
 abbrev pub transcript_status : TranscriptFault → Status
-transcript_status (fault.Refused number) = status.Refused
+transcript_status (fault.Refused number why) = status.Refused
 transcript_status fault.TooLong = status.Refused
 transcript_status fault.Memory = status.Memory
 

@@ -18,7 +18,7 @@ impl From<TranscriptFault> for Status {
 
     fn from(why: TranscriptFault) -> Status {
         match why {
-            TranscriptFault::Refused(_) | TranscriptFault::TooLong => Status::Refused,
+            TranscriptFault::Refused { .. } | TranscriptFault::TooLong => Status::Refused,
             TranscriptFault::Memory => Status::Memory,
         }
     }

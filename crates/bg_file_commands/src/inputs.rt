@@ -3,8 +3,8 @@
 use bg_console::{no_memory, say, unread};
 use bg_mat::import_mat;
 use bg_match::{Record, Rules};
-use bg_reports::{Ending, said_of_import_fault, said_of_transcript};
-use bg_text::{MOST_BYTES, TranscriptFault, Verdict, read_transcript};
+use bg_reports::{Ending, said_of_import_fault, said_of_transcript_fault};
+use bg_text::{MOST_BYTES, Verdict, read_transcript};
 use std::alloc::{AllocError, Global};
 use std::io;
 use std::io::Read;
@@ -49,9 +49,9 @@ where
 {
     match read_transcript(rt.alloc(), id, bytes) {
         Ok(record) => Ok(record),
-        Err(TranscriptFault::Memory) => Err(no_memory(rt)),
-        Err(TranscriptFault::Refused(_) | TranscriptFault::TooLong) => {
-            Err(refused(rt, said_of_transcript(rt.alloc(), name, bytes, None)))
+        Err(fault) => {
+            let said = said_of_transcript_fault(rt.alloc(), name, bytes, fault, None);
+            Err(refused(rt, said))
         }
     }
 }

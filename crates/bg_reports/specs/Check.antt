@@ -5,7 +5,10 @@ use Rattle.bg_match.specs.Match.{Log}
 use Rattle.bg_match.specs.declared.limits.Rules.TheVariants as rules
 use Rattle.bg_text.specs.Boards.BoardText.{line_text}
 use Rattle.bg_text.specs.Judge.Judging.{IsJudgement, fine_line, lines_of}
+use Rattle.bg_text.specs.Judge.Transcripts.{RefusesTranscript, transcript_fault_words}
 use Rattle.bg_text.specs.Limits.{most_bytes}
+use Rattle.bg_text.specs.declared.faults.TranscriptFault.{TranscriptFault}
+use Rattle.bg_text.specs.declared.faults.TranscriptFault.TheVariants as transcript_fault
 use Rattle.bg_text.specs.declared.judging.verdicts.Verdict.{Verdict}
 use Rattle.bg_text.specs.declared.judging.verdicts.Verdict.TheVariants.{Fine, Refused, TooLong}
 use Rattle.bg_mat.specs.FaultWords.{import_fault_words}
@@ -68,6 +71,12 @@ import_verdict (import_fault.Refused line why) = Some (Refused line)
 import_verdict import_fault.TooLong = Some TooLong
 import_verdict import_fault.Memory = None
 
+-- what the fault of a transcript comes to; want of memory is no verdict
+abbrev pub transcript_verdict : TranscriptFault → Option Verdict
+transcript_verdict (transcript_fault.Refused line why) = Some (Refused line)
+transcript_verdict transcript_fault.TooLong = Some TooLong
+transcript_verdict transcript_fault.Memory = None
+
 -- what is printed of a file of this name, of which these words are said, on a screen of so many columns
 abbrev pub printed_line : List ℕ → List ℕ → Verdict → List ℕ → Option ℕ → List ℕ
 printed_line name words verdict bytes columns =
@@ -78,6 +87,19 @@ abbrev pub IsTranscriptText : List ℕ → List ℕ → Option ℕ → List ℕ 
 IsTranscriptText name bytes columns text verdict =
     (words : List ℕ) × IsTranscriptVerdict bytes words verdict
     × (text ≡ printed_line name words verdict bytes columns)
+
+-- what is printed of a transcript with this fault
+abbrev pub IsTranscriptFaultText : List ℕ → List ℕ → TranscriptFault → Option ℕ → List ℕ → Verdict → Type 0
+IsTranscriptFaultText name bytes fault columns text verdict =
+    (transcript_verdict fault ≡ Some verdict)
+    × (text ≡ printed_line name (transcript_fault_words fault) verdict bytes columns)
+
+-- what is printed of a transcript with the fault for which it gives no record is what is printed of it
+abbrev pub TranscriptFaultsAreSaid : Type 0
+TranscriptFaultsAreSaid =
+    (name bytes : List ℕ) (fault : TranscriptFault) (columns : Option ℕ) (text : List ℕ) (verdict : Verdict)
+    → RefusesTranscript fault bytes → IsTranscriptFaultText name bytes fault columns text verdict
+    → IsTranscriptText name bytes columns text verdict
 
 -- what is printed of a match file
 abbrev pub IsMatchFileText : List ℕ → List ℕ → Option ℕ → List ℕ → Verdict → Type 0

@@ -3,7 +3,8 @@ ghost use Rattle.std.specs.Prelude.{◌≡◌, ◌++◌, [], Some, IfOk, OnOk, s
 ghost use Rattle.bg_text.specs.Judge.Judging.{fine_line, lines_of};
 ghost use Rattle.bg_mat.specs.FaultWords.{import_fault_words};
 ghost use Rattle.bg_reports.specs.Check.{IsCheckText, IsImportFaultText, IsMatchFileText, IsMatchFileVerdict};
-ghost use Rattle.bg_reports.specs.Check.{IsTranscriptText, import_verdict};
+ghost use Rattle.bg_reports.specs.Check.{IsTranscriptFaultText, IsTranscriptText, TranscriptFaultsAreSaid};
+ghost use Rattle.bg_reports.specs.Check.{import_verdict};
 ghost use Rattle.bg_reports.specs.Check.{last_line as last_of, printed_line, refused_in, refused_part, room_in};
 
 pub(crate) mod tallies;
@@ -11,7 +12,7 @@ pub(crate) mod tallies;
 use crate::escapes::harmless;
 use bg_mat::{ImportFault, import_mat, is_match_file};
 use bg_match::{Number, Rules};
-use bg_text::{Verdict, judge_text, put_number, put_text, split_line};
+use bg_text::{TranscriptFault, Verdict, judge_text, put_number, put_text, split_line};
 use std::alloc::{AllocError, Global};
 
 /// The number of a match that is checked, which no file says.
@@ -42,10 +43,7 @@ pub fn check_text(
 }
 
 /// The same of a file that is a transcript.
-///
-/// # Errors
-/// `AllocError` where memory runs out.
-pub fn said_of_transcript(
+fn said_of_transcript(
     alloc: Global,
     name: &str,
     bytes: &[u8],
@@ -120,6 +118,35 @@ pub fn said_of_import_fault(
     let text = said(alloc, name, &words, bytes, verdict, columns)?;
     Ok((text, verdict))
 }
+
+/// What is printed of a transcript of this name, with these bytes, that gives no record for this fault: what
+/// [`check_text`] gives where that is the fault.
+///
+/// # Errors
+/// `AllocError` where memory runs out, also where that is the fault.
+pub fn said_of_transcript_fault(
+    alloc: Global,
+    name: &str,
+    bytes: &[u8],
+    fault: TranscriptFault,
+    columns: Option<usize>,
+) -> Result<(Vec<u8>, Verdict), AllocError>
+    ensures { IfOk result (λ told. IsTranscriptFaultText name.now bytes.now fault columns told.0.items told.1) }
+{
+    let verdict = match fault {
+        TranscriptFault::Refused { line, .. } => Verdict::Refused(line),
+        TranscriptFault::TooLong => Verdict::TooLong,
+        TranscriptFault::Memory => return Err(AllocError),
+    };
+    let words = format!(in alloc; "{fault}")?;
+    let text = said(alloc, name, words.as_bytes(), bytes, verdict, columns)?;
+    Ok((text, verdict))
+}
+
+/// What is said of a transcript by its fault is what is said of it without.
+pub fn transcript_faults_are_said()
+    ensures { TranscriptFaultsAreSaid }
+{}
 
 /// The verdict on a match file that gives no record for this fault, in words and as such.
 fn verdict_of_import_fault(

@@ -1,7 +1,10 @@
 //! Why a line cannot be read, or cannot follow.
 ghost use Rattle.std.specs.Prelude.{◌≡◌};
+ghost use Rattle.bg_text.specs.Judge.Judging.{fault_reason};
 ghost use Rattle.bg_text.specs.Judge.Reason.{text_reason};
 
+use crate::judging::reasons::reason_text;
+use arrayvec::ArrayString;
 use bg_match::EntryFault;
 use std::fmt;
 
@@ -47,37 +50,9 @@ impl fmt::Display for TextFault {
 
 impl std::error::Error for TextFault {}
 
-/// Why a transcript gives no record.
-#[derive(Clone, Copy, Debug, PartialEq, Eq)]
-pub enum TranscriptFault {
-    /// The first line that is refused. Lines count from 1.
-    Refused(u32),
-    /// The input is longer than 41943040 bytes.
-    TooLong,
-    /// There is no memory for the record.
-    Memory,
-}
-
-impl fmt::Display for TranscriptFault {
-    ghost use Rattle.std.specs.Prelude.{Some};
-    ghost use Rattle.bg_text.specs.Judge.Reason.{transcript_fault_words};
-
-    ghost output = { λ fault. Some (transcript_fault_words fault) };
-
-    fn fmt<W: fmt::Write>(&self, f: &mut fmt::Formatter<W>) -> fmt::Result {
-        match self {
-            TranscriptFault::Refused(line) => write!(f, "refused at line {line}"),
-            TranscriptFault::TooLong => f.write_str("input too long"),
-            TranscriptFault::Memory => f.write_str("out of memory"),
-        }
-    }
-}
-
-impl std::error::Error for TranscriptFault {}
-
 /// Why a line of a transcript is refused (docs/FORMATS.md, "The judge").
 #[derive(Clone, Copy, Debug, PartialEq, Eq)]
-pub(crate) enum LineFault {
+pub enum LineFault {
     /// The first line is missing, or has not the shape of a length line.
     NotALengthLine,
     /// The length has a leading zero, or is not from 1 to 99.
@@ -90,6 +65,36 @@ pub(crate) enum LineFault {
     Entry(EntryFault),
 }
 
+impl LineFault {
+    /// The fault in words, as it is printed (docs/FORMATS.md, "Refusals").
+    pub fn reason(self) -> ArrayString<40>
+        ensures { result.bytes ≡ fault_reason self }
+    {
+        let mut text = ArrayString::new();
+        text.push_str(match self {
+            LineFault::NotALengthLine => "not a length line",
+            LineFault::LengthOutOfRange => "length out of range",
+            LineFault::Text(fault) => fault.reason(),
+            LineFault::WrongPlayer => "wrong player",
+            LineFault::Entry(fault) => return reason_text(&fault),
+        });
+        text
+    }
+}
+
+impl fmt::Display for LineFault {
+    ghost use Rattle.std.specs.Prelude.{Some};
+    ghost use Rattle.bg_text.specs.Judge.Judging.{fault_reason};
+
+    ghost output = { λ fault. Some (fault_reason fault) };
+
+    fn fmt<W: fmt::Write>(&self, f: &mut fmt::Formatter<W>) -> fmt::Result {
+        f.write_str(self.reason().as_str())
+    }
+}
+
+impl std::error::Error for LineFault {}
+
 impl From<EntryFault> for LineFault {
     ghost use Rattle.std.specs.Prelude.{◌≡◌};
     ghost use Rattle.bg_text.specs.declared.faults.LineFault.TheVariants.{Entry as RefusedEntry};
@@ -100,3 +105,31 @@ impl From<EntryFault> for LineFault {
         LineFault::Entry(why)
     }
 }
+
+/// Why a transcript gives no record.
+#[derive(Clone, Copy, Debug, PartialEq, Eq)]
+pub enum TranscriptFault {
+    /// The first line that is refused, from 1, and why.
+    Refused { line: u32, why: LineFault },
+    /// The input is longer than 41943040 bytes.
+    TooLong,
+    /// There is no memory for the record.
+    Memory,
+}
+
+impl fmt::Display for TranscriptFault {
+    ghost use Rattle.std.specs.Prelude.{Some};
+    ghost use Rattle.bg_text.specs.Judge.Transcripts.{transcript_fault_words};
+
+    ghost output = { λ fault. Some (transcript_fault_words fault) };
+
+    fn fmt<W: fmt::Write>(&self, f: &mut fmt::Formatter<W>) -> fmt::Result {
+        match self {
+            TranscriptFault::Refused { line, why } => write!(f, "refused at line {line}: {why}"),
+            TranscriptFault::TooLong => f.write_str("refused: input too long"),
+            TranscriptFault::Memory => f.write_str("out of memory"),
+        }
+    }
+}
+
+impl std::error::Error for TranscriptFault {}

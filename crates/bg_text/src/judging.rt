@@ -3,6 +3,7 @@ ghost use Rattle.std.specs.Prelude.{◌≡◌, ◌≢◌, ◌≤◌, ◌+◌, �
 ghost use Rattle.bg_streams.specs.EngineFault.{SourceFails, SinkFails};
 ghost use Rattle.bg_streams.specs.Transfers.{ReadsInput, WritesText};
 ghost use Rattle.bg_text.specs.Judge.Judging.{IsJudgement, TranscriptsAreFine, JudgementsAgree};
+ghost use Rattle.bg_text.specs.Judge.Transcripts.{TranscriptFaultsAreJudged};
 ghost use Rattle.bg_text.specs.Limits.{most_bytes};
 
 pub(crate) mod courses;
@@ -44,6 +45,11 @@ pub fn judgements_agree()
 /// What is said of a transcript is that it is fine: the board where its entries lead, and how many they are.
 pub fn transcripts_are_fine()
     ensures { TranscriptsAreFine }
+{}
+
+/// Where a transcript gives no record for a line, the judge refuses it at that line, and says the reason last.
+pub fn transcript_faults_are_judged()
+    ensures { TranscriptFaultsAreJudged }
 {}
 
 /// Judges a transcript: reads all of the input, writes the board and the verdict on what it read, and flushes them, as

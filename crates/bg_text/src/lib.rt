@@ -24,13 +24,15 @@ pub use entries::lines::{parse_action, parse_entry, split_player};
 pub use entries::names::{letter, level_word};
 pub use entries::words::thirds;
 pub use entries::writing::{entry_text, entry_texts_differ};
-pub use faults::{TextFault, TranscriptFault};
+pub use faults::{LineFault, TextFault, TranscriptFault};
 pub use inputs::{MOST_BYTES, split_line};
 pub use judging::judgements::{Judgement, too_long};
 pub use judging::reading::read_transcript;
 pub use judging::reasons::reason_text;
 pub use judging::verdicts::Verdict;
-pub use judging::{judge, judge_text, judgements_agree, transcripts_are_fine};
+pub use judging::{
+    judge, judge_text, judgements_agree, transcript_faults_are_judged, transcripts_are_fine,
+};
 pub use printing::{put_number, put_text};
 pub use terms_texts::put_terms;
 pub use transcripts::transcript_text;

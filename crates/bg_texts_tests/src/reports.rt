@@ -6,4 +6,5 @@ mod refusals;
 mod restored;
 mod saved_files;
 mod shown;
+mod transcript_refusals;
 mod uses;

@@ -1,5 +1,5 @@
 -- A transcript that is read line by line.
-use Rattle.std.proofs.Common.{◌≡◌, ℕ, ◌+◌, ◌<◌, List, [], ◌∷◌, ◌++◌, length, take, slice_index_or, None, Some, refl, sym, ◌∙◌, ap, subst, arith, length-append, append-nil, append_assoc}
+use Rattle.std.proofs.Common.{◌≡◌, ℕ, ◌<◌, List, [], ◌∷◌, ◌++◌, length, take, slice_index_or, None, Some, refl, sym, ◌∙◌, ap, subst, arith, length-append, append-nil, append_assoc}
 use Rattle.std.proofs.lemmas.List.{take_all, take-append-le}
 use Rattle.bg_match.specs.Terms.{Terms}
 use Rattle.bg_match.specs.Match.{Log, StandsAt}
@@ -7,15 +7,13 @@ use Rattle.bg_match.specs.State.{State, start_of}
 use Rattle.bg_match.specs.declared.entries.Entry.{Entry}
 use Rattle.bg_match.specs.Limits.{most_entries}
 use Rattle.bg_match.proofs.Legal.{one_standing}
-use Rattle.bg_text.specs.Boards.BoardText.{board_text, line_text}
 use Rattle.bg_text.specs.Boards.Transcript.{AreLinesOf}
 use Rattle.bg_text.specs.Judge.Hearing.{IsCourseOf}
-use Rattle.bg_text.specs.Judge.Judging.{lines_of, IsLineFault, IsLongestPart, IsJudged, refused_line}
+use Rattle.bg_text.specs.Judge.Judging.{lines_of, IsLineFault, IsLongestPart}
 use Rattle.bg_text.specs.Judge.Reading.{IsLineAt, AddsLine, RefusesLine, IsPartRead, AreRead}
 use Rattle.bg_text.specs.declared.faults.LineFault.{LineFault}
 use Rattle.bg_text.specs.declared.judging.reading.AddFault.TheVariants.{Refused as RefusedLine}
 use Rattle.bg_text.specs.declared.judging.courses.Course.{Course}
-use Rattle.bg_text.specs.declared.judging.verdicts.Verdict.TheVariants.{Refused}
 use Rattle.bg_text.proofs.Judged.Courses.{line_behind, longest_of_all, longest_stopped}
 use Rattle.bg_text.proofs.Judged.ReadLines.{AreLinesOf-Leads, AreLinesOf-length, AreLinesOf-push}
 
@@ -104,15 +102,3 @@ module _ (id : ℕ) (terms : Terms) (lines : List (List ℕ)) where
         stop = subst (λ (ls : List (List ℕ)). (length r.entries < length ls) × IsLineFault why (length r.entries) part.state (slice_index_or ls (length r.entries) [])) (sym split)
             (at.0, rw at.1 fault);
       }
-
-  -- the judgement where a line is refused
-  pub judged_refused : (r : Log) (why : LineFault) (read : AreRead id terms lines r (Some why))
-      → IsJudged terms lines (board_text read.state ++ line_text (refused_line (length r.entries + 2) why)) (Refused (length r.entries + 2))
-  judged_refused r why read = record {
-    count = length r.entries;
-    state = read.state;
-    longest = read.longest;
-    line = refused_line (length r.entries + 2) why;
-    named = (read.stop.0, refl, (why, read.stop.1, refl));
-    printed = refl;
-  }

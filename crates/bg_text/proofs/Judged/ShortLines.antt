@@ -45,7 +45,7 @@ abbrev pub is_feedless : List ℕ → Bool
 is_feedless [] = true
 is_feedless (b ∷ word) = if b == 10 then false else is_feedless word
 
-feedless_by_test : (word : List ℕ) → is_feedless word ≡ true → IsFeedless word
+pub feedless_by_test : (word : List ℕ) → is_feedless word ≡ true → IsFeedless word
 feedless_by_test [] h = All-nil (λ b. b ≢ 10)
 feedless_by_test (b ∷ word) h =
     let parts : ((b == 10) ≡ false) × (is_feedless word ≡ true) = both (b == 10) (is_feedless word) h in
@@ -179,7 +179,7 @@ lines_short s (e ∷ entries) (line ∷ lines) t h =
     (rw h.0 (line_short (seat_of (actor_of s)) e (Follows_in_range s e h.1 h.2)), lines_short h.1 entries lines t h.3)
 
 -- a line without a line feed, and what stands after it
-lines_of-line : (line rest : List ℕ) → IsFeedless line → lines_of (line_text line ++ rest) ≡ line ∷ lines_of rest
+pub lines_of-line : (line rest : List ℕ) → IsFeedless line → lines_of (line_text line ++ rest) ≡ line ∷ lines_of rest
 lines_of-line [] rest h = refl
 lines_of-line (b ∷ line) rest h =
     let other : (b == 10) ≡ false = ne_eqb b 10 (All-head (λ b. b ≢ 10) b line h) in

@@ -10,8 +10,6 @@ use Rattle.bg_match.specs.declared.entries.NoDouble.{NoDouble as NoDoubleFault}
 use Rattle.bg_match.specs.declared.entries.NoDouble.TheVariants.{Crawford, NotOwner, AtCap}
 use Rattle.bg_text.specs.declared.faults.TextFault.{TextFault}
 use Rattle.bg_text.specs.declared.faults.TextFault.TheVariants.{NotALine, BadNumber, TooManySteps}
-use Rattle.bg_text.specs.declared.faults.TranscriptFault.{TranscriptFault}
-use Rattle.bg_text.specs.declared.faults.TranscriptFault.TheVariants as transcript
 
 -- the step is named by its place in the turn, from 1
 abbrev pub turn_reason : TurnFault → List ℕ
@@ -37,8 +35,3 @@ abbrev pub text_reason : TextFault → List ℕ
 text_reason NotALine = codes "not a line"
 text_reason BadNumber = codes "bad number"
 text_reason TooManySteps = codes "too many steps"
-
-abbrev pub transcript_fault_words : TranscriptFault → List ℕ
-transcript_fault_words (transcript.Refused number) = codes "refused at line " ++ decimal number
-transcript_fault_words transcript.TooLong = codes "input too long"
-transcript_fault_words transcript.Memory = codes "out of memory"

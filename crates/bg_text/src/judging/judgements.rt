@@ -2,13 +2,12 @@
 ghost use Rattle.std.specs.Prelude.{◌≡◌, ◌≤◌, ◌++◌, ◌+◌, OnOk, IfOk};
 ghost use Rattle.bg_match.specs.Limits.{most_entries};
 ghost use Rattle.bg_text.specs.Boards.BoardText.{line_text, board_text as text_of_board};
-ghost use Rattle.bg_text.specs.Judge.Judging.{fault_reason, refused_line, fine_line, IsTooLong};
+ghost use Rattle.bg_text.specs.Judge.Judging.{refused_line, fine_line, IsTooLong};
 
 use crate::Verdict;
 use crate::board_texts::board_text;
 use crate::faults::LineFault;
 use crate::judging::courses::Course;
-use crate::judging::reasons::reason_text;
 use crate::printing::{put_number, put_text};
 use std::alloc::{AllocError, Global};
 
@@ -21,19 +20,6 @@ pub struct Judgement {
     pub verdict: Verdict,
 }
 
-/// Adds the reason why a line is refused.
-fn put_reason(out: &mut Vec<u8>, why: LineFault) -> Result<(), AllocError>
-    ensures { OnOk result (out.new.items ≡ out.old.items ++ fault_reason why) }
-{
-    match why {
-        LineFault::NotALengthLine => put_text(out, "not a length line"),
-        LineFault::LengthOutOfRange => put_text(out, "length out of range"),
-        LineFault::Text(fault) => put_text(out, fault.reason()),
-        LineFault::WrongPlayer => put_text(out, "wrong player"),
-        LineFault::Entry(fault) => put_text(out, reason_text(&fault).as_str()),
-    }
-}
-
 /// Adds the verdict line of a refusal.
 fn put_refused(out: &mut Vec<u8>, number: u32, why: LineFault) -> Result<(), AllocError>
     ensures { OnOk result (out.new.items ≡ out.old.items ++ line_text (refused_line number why)) }
@@ -41,7 +27,7 @@ fn put_refused(out: &mut Vec<u8>, number: u32, why: LineFault) -> Result<(), All
     put_text(out, "refused at line ")?;
     put_number(out, number.into())?;
     put_text(out, ": ")?;
-    put_reason(out, why)?;
+    put_text(out, why.reason().as_str())?;
     put_text(out, "\n")
 }
 

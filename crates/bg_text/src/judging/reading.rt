@@ -115,6 +115,21 @@ pub(crate) enum ReadFault {
     Memory,
 }
 
+impl From<ReadFault> for TranscriptFault {
+    ghost use Rattle.std.specs.Prelude.{◌≡◌};
+    ghost use Rattle.bg_text.specs.Judge.Transcripts.{fault_of_read};
+
+    ghost from_gives = { λ why fault. fault ≡ fault_of_read why };
+
+    fn from(why: ReadFault) -> TranscriptFault {
+        match why {
+            ReadFault::TooLong => TranscriptFault::TooLong,
+            ReadFault::LengthLine(why) => TranscriptFault::Refused { line: 1, why },
+            ReadFault::Memory => TranscriptFault::Memory,
+        }
+    }
+}
+
 /// Reads an input: the record of its longest legal part, and why the line behind it is refused, if there is one.
 pub(crate) fn read_whole(
     alloc: Global,
@@ -134,19 +149,22 @@ pub(crate) fn read_whole(
     read_lines(alloc, id, terms, lines).map_err(|_| ReadFault::Memory)
 }
 
-/// The record of a transcript that the judge finds fine, as the match of this number (docs/FORMATS.md, "Transcripts").
+/// Returns the record of a transcript that the judge finds fine, as the match of this number (docs/FORMATS.md,
+/// "Transcripts").
 ///
 /// # Errors
-/// `Refused` with the line, or `TooLong`, exactly where the judge says so; `Memory` where memory runs out.
+/// `Refused` with the line and the reason, or `TooLong`, exactly where the judge says so; `Memory` where memory runs
+/// out.
 pub fn read_transcript(alloc: Global, id: u64, input: &[u8]) -> Result<Record, TranscriptFault>
     ensures read { IfOk result (ReadsTranscript id input.now) }
     ensures refused { IfErr result (λ why. RefusesTranscript why input.now) }
 {
-    match read_whole(alloc, id, input) {
-        Ok((log, None)) => Ok(log),
-        Ok((log, Some(_))) => Err(TranscriptFault::Refused(log.len() + 2)),
-        Err(ReadFault::LengthLine(_)) => Err(TranscriptFault::Refused(1)),
-        Err(ReadFault::TooLong) => Err(TranscriptFault::TooLong),
-        Err(ReadFault::Memory) => Err(TranscriptFault::Memory),
+    let (log, refusal) = read_whole(alloc, id, input)?;
+    match refusal {
+        None => Ok(log),
+        Some(why) => {
+            let line = log.len() + 2;
+            Err(TranscriptFault::Refused { line, why })
+        }
     }
 }

@@ -5,9 +5,10 @@ use super::saved_files::{AFTER_THE_MOVE, AFTER_THE_OPENING, OPENING, REFEREE, SE
 use bg_mat::{ImportFault, import_mat};
 use bg_match::Rules;
 use bg_reports::{
-    SlotBytes, check_text, folder_text, restored_transcript, said_of_import_fault, show_text,
+    SlotBytes, check_text, folder_text, restored_transcript, said_of_import_fault,
+    said_of_transcript_fault, show_text,
 };
-use bg_text::Verdict;
+use bg_text::{TranscriptFault, Verdict, read_transcript};
 use std::alloc::{AllocError, Global};
 use std::test::Fail;
 
@@ -76,6 +77,35 @@ fn refused_growths_of_refusals(rt: HostRuntime) -> Result<(), Fail> {
             verdict == Verdict::Refused(2)
                 && text.as_slice()
                     == b"a: refused at line 2: not the next game:  Game 2\n".as_slice()
+        );
+    }
+    check_no_growth_is_left(alloc)
+}
+
+/// Why a transcript is refused, also where memory is refused once.
+fn transcript_fault(alloc: Global, bytes: &[u8]) -> Option<TranscriptFault> {
+    match read_transcript(alloc, 1, bytes) {
+        Err(TranscriptFault::Memory) => read_transcript(alloc, 1, bytes).err(),
+        result => result.err(),
+    }
+}
+
+#[test]
+fn refused_growths_of_refused_transcripts(rt: HostRuntime) -> Result<(), Fail> {
+    let bytes = b"length 1\nopen 3 1\nX move 8-5\n";
+    let alloc = rt.alloc();
+    for _ in 0..2 {
+        let Some(fault) = transcript_fault(alloc, bytes) else {
+            return Err(Fail::from("more can be played"));
+        };
+        let (text, verdict) = match said_of_transcript_fault(alloc, "a", bytes, fault, Some(80)) {
+            Ok(said) => said,
+            Err(AllocError) => said_of_transcript_fault(alloc, "a", bytes, fault, Some(80))?,
+        };
+        assert!(rt;
+            verdict == Verdict::Refused(3)
+                && text.as_slice()
+                    == b"a: refused at line 3: more can be played: X move 8-5\n".as_slice()
         );
     }
     check_no_growth_is_left(alloc)

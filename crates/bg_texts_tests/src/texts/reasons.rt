@@ -2,7 +2,7 @@
 use crate::checks::check_printed;
 use bg_match::{EntryFault, NoDouble};
 use bg_streams::{EngineFault, StreamFault};
-use bg_text::{TextFault, TranscriptFault, reason_text};
+use bg_text::{LineFault, TextFault, TranscriptFault, reason_text};
 use bg_turns::TurnFault;
 use std::test::Fail;
 
@@ -77,12 +77,31 @@ fn faults_are_printed(rt: HostRuntime) -> Result<(), Fail> {
     check_printed(rt.alloc(), EngineFault::Memory, "out of memory")?;
     check_printed(rt.alloc(), TextFault::NotALine, "not a line")?;
     check_printed(rt.alloc(), TextFault::BadNumber, "bad number")?;
-    check_printed(rt.alloc(), TextFault::TooManySteps, "too many steps")?;
-    check_printed(
-        rt.alloc(),
-        TranscriptFault::Refused(12),
-        "refused at line 12",
-    )?;
-    check_printed(rt.alloc(), TranscriptFault::TooLong, "input too long")?;
-    check_printed(rt.alloc(), TranscriptFault::Memory, "out of memory")
+    check_printed(rt.alloc(), TextFault::TooManySteps, "too many steps")
+}
+
+#[test]
+fn faults_of_transcripts_are_printed(rt: HostRuntime) -> Result<(), Fail> {
+    let alloc = rt.alloc();
+    for (why, words) in [
+        (LineFault::NotALengthLine, "not a length line"),
+        (LineFault::LengthOutOfRange, "length out of range"),
+        (LineFault::Text(TextFault::BadNumber), "bad number"),
+        (LineFault::WrongPlayer, "wrong player"),
+        (
+            LineFault::Entry(EntryFault::Turn(TurnFault::StepIllegal(1))),
+            "step 2 illegal",
+        ),
+        (LineFault::Entry(EntryFault::RecordFull), "record full"),
+    ] {
+        check_printed(alloc, why, words)?;
+        let line = format!(in alloc; "refused at line 12: {words}")?;
+        check_printed(
+            alloc,
+            TranscriptFault::Refused { line: 12, why },
+            line.as_str(),
+        )?;
+    }
+    check_printed(alloc, TranscriptFault::TooLong, "refused: input too long")?;
+    check_printed(alloc, TranscriptFault::Memory, "out of memory")
 }

@@ -3,8 +3,11 @@ use super::inputs::{TOO_LONG, followed_by};
 use super::pictures::check_judged;
 use super::records::{MATCH, TEXT_OF_MATCH, check_is_match, full_record, record};
 use crate::checks::check_facts;
-use bg_match::{MOST_ENTRIES, Rules};
-use bg_text::{MOST_BYTES, TranscriptFault, Verdict, judge_text, read_transcript, transcript_text};
+use bg_match::{EntryFault, MOST_ENTRIES, Rules};
+use bg_text::{
+    LineFault, MOST_BYTES, TextFault, TranscriptFault, Verdict, judge_text, read_transcript,
+    transcript_text,
+};
 use std::alloc::Global;
 use std::test::Fail;
 
@@ -64,19 +67,36 @@ fn is_refused(alloc: Global, text: &str, line: u32) -> Result<bool, Fail> {
     Ok(judged.verdict == Verdict::Refused(line))
 }
 
-/// Where the judge refuses a line no record is read, and the fault names that line.
+/// Where the judge refuses a line no record is read, and the fault names that line and why.
 #[test]
 fn no_record_of_a_refused_transcript(rt: HostRuntime) -> Result<(), Fail> {
-    for (text, line) in [
-        ("", 1),
-        ("length 100\n", 1),
-        ("length 1\nopen 3 3\n", 2),
-        ("length 1\nopen 3 1\nO move 8-5 6-5\n", 3),
-        ("length 1\nopen 3 1\nX move 8-5 6-5\nX roll 1 2\n", 4),
+    for (text, line, why) in [
+        ("", 1, LineFault::NotALengthLine),
+        ("length 100\n", 1, LineFault::LengthOutOfRange),
+        (
+            "length 1\nopen 3 3\n",
+            2,
+            LineFault::Entry(EntryFault::EqualOpening),
+        ),
+        (
+            "length 1\nopen 7 1\n",
+            2,
+            LineFault::Text(TextFault::BadNumber),
+        ),
+        (
+            "length 1\nopen 3 1\nO move 8-5 6-5\n",
+            3,
+            LineFault::WrongPlayer,
+        ),
+        (
+            "length 1\nopen 3 1\nX move 8-5 6-5\nX roll 1 2\n",
+            4,
+            LineFault::WrongPlayer,
+        ),
     ] {
         let fault = fault_of(rt.alloc(), text.as_bytes());
         assert!(rt;
-            fault == Some(TranscriptFault::Refused(line)),
+            fault == Some(TranscriptFault::Refused { line, why }),
             "{fault:?} of {text}"
         );
         assert!(rt; is_refused(rt.alloc(), text, line)?, "{text}");
