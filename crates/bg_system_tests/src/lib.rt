@@ -1,4 +1,4 @@
-//! Tests of sockets, files and what is noted of them, by what is public of bg_system.
+//! Tests of sockets, files and what is noted of them, and of sealed datagrams, by what is public of their crates.
 #![tactic(auto)]
 
 #[cfg(test)]
@@ -15,5 +15,7 @@ mod own_sockets;
 mod party_files;
 #[cfg(test)]
 mod printable;
+#[cfg(test)]
+mod seals;
 #[cfg(test)]
 mod uses;

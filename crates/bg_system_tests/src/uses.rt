@@ -1,5 +1,6 @@
-//! The lines of use that the documentation of bg_system shows.
+//! The lines of use that the documentation of these crates shows.
 use crate::helpers::new_folder;
+use bg_seals::{Direction, KEY_BYTES, MasterSecret};
 use bg_system::{FailedCall, Failures, FirstFailures, OwnSocket, publish, read_saved};
 use std::fs;
 use std::test::Fail;
@@ -29,4 +30,21 @@ fn the_system(rt: HostRuntime) -> Result<(), Fail> {
     // end
     fs::remove_dir_all(&rt, folder)?;
     Ok(())
+}
+
+#[test]
+fn seals(rt: HostRuntime) {
+    // bg_seals
+    // The referee has the secret of its matches, and each party a key of it.
+    let secret = MasterSecret::new(&[7; KEY_BYTES]);
+    let key = secret.key_of(4711, 1);
+    let datagram = key.seal(Direction::ToReferee, 1, b"packet");
+    assert!(rt; datagram.len() == 22);
+    let opened = key.open(Direction::ToReferee, 1, datagram.as_slice());
+    assert!(rt; opened.is_some_and(|packet| packet == b"packet".as_slice()));
+    // Under the key of another party it is nothing.
+    let other = secret.key_of(4711, 2);
+    let opened = other.open(Direction::ToReferee, 1, datagram.as_slice());
+    assert!(rt; opened.is_none());
+    // end
 }

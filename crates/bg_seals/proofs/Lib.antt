@@ -1,0 +1,4 @@
+pub mod Bits
+pub mod Sealing
+pub mod WorkedCodes
+pub mod WorkedSeals

@@ -1,0 +1,4 @@
+pub mod Hmac
+pub mod Hashers
+pub mod Datagrams
+pub mod Keys

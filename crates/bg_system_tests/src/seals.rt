@@ -1,0 +1,5 @@
+//! HMACs, keys and sealed datagrams, against values of another program.
+
+mod datagrams;
+mod hmacs;
+mod keys;
