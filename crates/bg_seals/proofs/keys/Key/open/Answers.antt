@@ -3,7 +3,8 @@ use Rattle.std.proofs.lemmas.Bool.{false≢true}
 use Rattle.bg_seals.specs.Datagrams.{tag}
 use Rattle.bg_seals.proofs.Sealing.{none_of_short, none_of_long, none_of_other_tag}
 use Rattle.bg_seals.proofs.keys.Key.open.Goals as goal
-use Rattle.bg_seals.proofs.keys.Key.open.Goals.{then-packet-gt-MOST_PACKET_BYTES-via-then-packet-gt-MOST_PACKET_BYTES, then-packet-gt-MOST_PACKET_BYTES-via-else-packet-gt-MOST_PACKET_BYTES+then-not-is}
+use Rattle.bg_seals.proofs.keys.Key.open.Goals.{then-packet-gt-MOST_PACKET_BYTES-via-then-packet-gt-MOST_PACKET_BYTES}
+use Rattle.bg_seals.proofs.keys.Key.open.Goals.{then-packet-gt-MOST_PACKET_BYTES-via-else-packet-gt-MOST_PACKET_BYTES+then-not-is}
 
 pub returns-in_err-packet : goal.returns-in_err-packet
 returns-in_err-packet c =
