@@ -130,19 +130,6 @@ def is_locked(folder):
     return False
 
 
-def full_pipe(path):
-    """A named pipe in the place of a file, which is full, so that who writes there stands still; its descriptor."""
-    os.mkfifo(path)
-    pipe = os.open(path, os.O_RDWR | os.O_NONBLOCK)
-    for block in (bytes(4096), bytes(1)):
-        try:
-            while os.write(pipe, block):
-                pass
-        except BlockingIOError:
-            pass
-    return pipe
-
-
 def has_open(process, path):
     """Whether a process has opened a file."""
     folder = f"/proc/{process.pid}/fd"

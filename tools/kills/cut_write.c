@@ -1,7 +1,7 @@
 /* To be preloaded: cuts a write to a file of a party or of the match, and kills the process there, so that the file is
  * torn.
  * CUT_WRITE is the number of the write, from 1, and CUT_SHARE how many 255ths of its bytes are written: 0 leaves the
- * file empty, 255 writes all. */
+ * file empty, 255 writes all. Where CUT_SIGNAL has the number of a signal, the process gets that one. */
 #define _GNU_SOURCE
 #include <dlfcn.h>
 #include <fcntl.h>
@@ -47,7 +47,7 @@ ssize_t write(int file, const void *bytes, size_t count)
         size_t kept = count * number("CUT_SHARE") / 255;
         if (kept > 0 && real(file, bytes, kept) < 0)
             abort();
-        kill(getpid(), SIGKILL);
+        kill(getpid(), getenv("CUT_SIGNAL") ? (int)number("CUT_SIGNAL") : SIGKILL);
     }
     return real(file, bytes, count);
 }
