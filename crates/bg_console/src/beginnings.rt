@@ -1,5 +1,6 @@
 //! What the commands of one party begin with, and why they don't begin or end early.
 
+use crate::messages::says::say_of;
 use crate::messages::{failed, failed_at, failed_for, wrong_at, wrong_for};
 use bg_reports::Ending;
 use bg_system::{FolderLock, MatchFile, Printable, Ticking, Waiting};
@@ -7,7 +8,7 @@ use std::fs::{DirBuilder, File, TryLockError};
 use std::io::ErrorKind;
 use std::net::Net;
 use std::os::fd::RawFd;
-use std::os::unix::fs::DirBuilderExt;
+use std::os::unix::fs::{DirBuilderExt, MetadataExt};
 use std::rt::Files;
 use std::time::Clock;
 use std::{fs, io};
@@ -32,8 +33,9 @@ pub fn lock_of(
 /// A folder that only its owner reads, writes and enters, whatever the umask.
 const OWNER_ALONE: u32 = 0o700;
 
-/// Makes a folder for its owner alone where there is none, and those above it, locks it, and returns the lock. Ends with `WrongArguments`
-/// where there is none and none can be made, and else as [`lock_of`].
+/// Makes a folder for its owner alone where there is none, and those above it, locks it, and returns the lock; says
+/// where one that is there is open to others. Ends with `WrongArguments` where there is none and none can be made, and
+/// else as [`lock_of`].
 pub fn own_folder(
     rt: &(impl Files<File = File> + Eprint),
     folder: &str,
@@ -49,7 +51,21 @@ pub fn own_folder(
         }
         Err(error) => return Err(wrong_for(rt, folder, " can't be made", &error)),
     }
-    lock_of(rt, folder)
+    let lock = lock_of(rt, folder)?;
+    tell_if_open(rt, folder);
+    Ok(lock)
+}
+
+/// The parts of a mode by which others than the owner may read, write or enter.
+const OTHERS: u32 = 0o077;
+
+/// Says where a folder is open to others than its owner.
+pub fn tell_if_open(rt: &(impl Files<File = File> + Eprint), folder: &str) {
+    if let Ok(found) = fs::metadata(rt, folder) {
+        if found.mode() & OTHERS != 0 {
+            say_of(rt, folder, " is open to other users: `chmod 700` closes it");
+        }
+    }
 }
 
 /// Refuses what is no folder, with these words: ends with `WrongArguments`, also where nobody can look at it.

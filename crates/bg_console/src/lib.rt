@@ -25,7 +25,9 @@ mod published;
 mod screens;
 mod tellings;
 
-pub use beginnings::{check_folder, lock_of, match_of, own_folder, waited, waiting_for};
+pub use beginnings::{
+    check_folder, lock_of, match_of, own_folder, tell_if_open, waited, waiting_for,
+};
 pub use messages::progress::Progress;
 pub use messages::says::{say, say_failures, say_number, say_of, say_why};
 pub use messages::{

@@ -2,8 +2,8 @@
 
 use bg_command_parts::{Witness, socket_of, stopped};
 use bg_console::{
-    Progress, check_folder, failed_at, lock_of, match_of, no_memory, say_failures, waited,
-    waiting_for, wrong,
+    Progress, check_folder, failed_at, lock_of, match_of, no_memory, say_failures, tell_if_open,
+    waited, waiting_for, wrong,
 };
 use bg_match::Number;
 use bg_processes::{
@@ -26,6 +26,7 @@ where
 {
     check_folder(rt, folder, " is no folder")?;
     let _lock = lock_of(rt, folder)?;
+    tell_if_open(rt, folder);
     let failures = Failures::new();
     let (process, waiting, ticking) = begin(rt, folder, &failures)?;
     let witness = Witness::new(rt, &failures, folder);
