@@ -185,6 +185,9 @@ where
             Err(fault) => println!(rt; "{} (`help` lists what may be typed)", fault.reason()),
             Ok(action) => match self.seat.choose(action)? {
                 Outcome::Chose(Ok(_)) => Ok(()),
+                Outcome::SaveFault => {
+                    rt.println("your choice could not be saved, and was not made: choose again")
+                }
                 Outcome::Down => rt.println(
                     "nothing can be chosen until your files can be read again",
                 ),
