@@ -70,6 +70,13 @@ class Party:
             if packet == b"":
                 return port
 
+    def questions(self, seconds):
+        """How many questions come in so many seconds."""
+        until, count = time.monotonic() + seconds, 0
+        while self.hears(max(until - time.monotonic(), 0)) is not None:
+            count += 1
+        return count
+
     def least_pause(self):
         """The shortest time between two questions of six; one that is below two seconds will do."""
         least, last = math.inf, None

@@ -11,6 +11,8 @@ mod folders;
 #[cfg(test)]
 mod kept_output;
 #[cfg(test)]
+mod onlookers;
+#[cfg(test)]
 mod operators;
 #[cfg(test)]
 mod sim;

@@ -1,0 +1,117 @@
+//! What one who looks on is told of a match over sockets and files.
+use crate::folders::new_folder;
+use bg_auto::{LoopFault, Onlooker, party_at};
+use bg_board::Player;
+use bg_match::{Action, Number, Rules};
+use bg_processes::{Failures, play_loop};
+use bg_streams::Writing;
+use bg_world::{Event, Outcome, RestoreCause};
+use std::fs;
+use std::test::Fail;
+
+/// Keeps the last event that it is told of, by its party and whether the slots were damaged, and counts rounds.
+struct Heard {
+    last: Option<(u8, bool)>,
+    rounds: u32,
+    /// Whether the rounds were told one after the other, from 1.
+    in_order: bool,
+}
+
+impl Onlooker for Heard {
+    fn happened(&mut self, event: &Event, outcome: &Outcome, _held: Option<Number>) {
+        let damaged = matches!(outcome, Outcome::RestoreFault(RestoreCause::Damaged));
+        self.last = Some((party_at(event), damaged));
+    }
+
+    fn played(&mut self, done: u32) {
+        self.rounds = self.rounds.saturating_add(1);
+        self.in_order = self.in_order && done == self.rounds;
+    }
+}
+
+/// What one is told who looks on while so many rounds are played over a folder.
+fn heard_of(rt: &HostRuntime, folder: &str, rounds: u32) -> (Result<(), LoopFault>, Heard) {
+    let failures = Failures::new();
+    let mut heard = Heard {
+        last: None,
+        rounds: 0,
+        in_order: true,
+    };
+    let mut text = Vec::new(rt.alloc());
+    let mut output = Writing::new(&mut text);
+    let played = play_loop(
+        rt,
+        7,
+        1,
+        Rules::One,
+        rounds,
+        folder,
+        &failures,
+        &mut output,
+        &mut heard,
+    );
+    (played, heard)
+}
+
+#[test]
+fn rounds_are_told_from_the_first(rt: HostRuntime) -> Result<(), Fail> {
+    let folder = new_folder(&rt, "told-rounds")?;
+    let (played, heard) = heard_of(&rt, folder.as_str(), 3);
+    assert!(rt; played == Ok(()), "{played:?}");
+    assert!(rt;
+        heard.rounds == 3 && heard.in_order,
+        "{} rounds",
+        heard.rounds
+    );
+    // A round ends with the tick of the watcher.
+    assert!(rt; heard.last == Some((3, false)), "{:?}", heard.last);
+    fs::remove_dir_all(&rt, folder.as_str())?;
+    Ok(())
+}
+
+#[test]
+fn the_event_that_ends_a_match_is_told(rt: HostRuntime) -> Result<(), Fail> {
+    let folder = new_folder(&rt, "told-end")?;
+    for slot in 0..2 {
+        let path = format!(in rt.alloc(); "{folder}/party-0.{slot}")?;
+        fs::write(&rt, path.as_str(), b"rubbish")?;
+    }
+    let (played, heard) = heard_of(&rt, folder.as_str(), 3);
+    let damaged = LoopFault::Stopped(Outcome::RestoreFault(RestoreCause::Damaged));
+    assert!(rt; played == Err(damaged), "it played on");
+    assert!(rt; heard.last == Some((0, true)), "{:?}", heard.last);
+    assert!(rt; heard.rounds == 0, "{} rounds", heard.rounds);
+    fs::remove_dir_all(&rt, folder.as_str())?;
+    Ok(())
+}
+
+#[test]
+fn parties_of_events(rt: HostRuntime) {
+    let word = 5;
+    let action = Action::Roll;
+    let seat = Player::X;
+    for (event, party) in [
+        (Event::Due { word }, 0),
+        (
+            Event::Take {
+                party: 4,
+                pick: 0,
+                word,
+            },
+            4,
+        ),
+        (Event::Choose { seat, action }, 1),
+        (
+            Event::Choose {
+                seat: Player::O,
+                action: Action::Double,
+            },
+            2,
+        ),
+        (Event::Save { party: 2 }, 2),
+        (Event::Tick { party: 255 }, 255),
+        (Event::Restart { party: 1 }, 1),
+    ] {
+        assert!(rt; party_at(&event) == party, "{event:?}");
+    }
+}
