@@ -10,6 +10,7 @@ use std::fs;
 use std::test::Fail;
 
 /// Keeps the last event that it is told of, by its party and whether the slots were damaged, and counts rounds.
+#[derive(Drop)]
 struct Heard {
     last: Option<(u8, bool)>,
     rounds: u32,

@@ -1,2 +1,4 @@
+pub mod Ends
 pub mod Listed
 pub mod Parts
+pub mod Written

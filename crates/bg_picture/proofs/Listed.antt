@@ -8,8 +8,8 @@ use Rattle.bg_match.specs.State.{State, start_of}
 use Rattle.bg_match.specs.declared.entries.Entry.{Entry}
 use Rattle.bg_match.proofs.Legal.{one_standing}
 use Rattle.bg_text.proofs.Judged.WrittenLines.{entry_at}
-use Rattle.bg_picture.specs.Items.{AreItemsOf, entry_item}
-use Rattle.bg_picture.specs.Pages.{PutsEntries, IsPage, page_start, first_item, page_end}
+use Rattle.bg_picture.specs.Items.{AreItemsOf, entry_items}
+use Rattle.bg_picture.specs.Pages.{PutsEntries, IsPage, page_start, first_start, page_end}
 use Rattle.bg_picture.specs.declared.numberings.Numbering.{Numbering}
 
 -- the items of the entries before this number stand behind an old text, and the match then stands at s
@@ -25,18 +25,18 @@ AreItemsOf-Leads numbering first s (e ∷ entries) text t h = (h.0, h.2, AreItem
 -- one more item at the end
 pub AreItemsOf-push : (numbering : Numbering) (first : ℕ) (s : State) (entries : List Entry) (text : List ℕ) (t : State) (e : Entry) (next : State) (number : ℕ)
     → number ≡ first + length entries → AreItemsOf numbering first s entries text t → Follows t e next
-    → AreItemsOf numbering first s (entries ++ e ∷ []) (text ++ entry_item numbering number t e next) next
+    → AreItemsOf numbering first s (entries ++ e ∷ []) (text ++ entry_items numbering number t e next) next
 AreItemsOf-push numbering first s [] text t e next number at h follows =
     let same : number ≡ first = omega arith in
-    let here : text ++ entry_item numbering number t e next ≡ entry_item numbering first s e next ++ [] =
-    rw (h.0, same, h.1) (sym (append-nil (entry_item numbering first s e next))) in
+    let here : text ++ entry_items numbering number t e next ≡ entry_items numbering first s e next ++ [] =
+    rw (h.0, same, h.1) (sym (append-nil (entry_items numbering first s e next))) in
     (next, [], subst (λ (x : State). Follows x e next) h.1 follows, here, (refl, refl))
 AreItemsOf-push numbering first s (f ∷ entries) text t e next number at h follows =
     let on : number ≡ first + 1 + length entries = omega arith in
     let rest = AreItemsOf-push numbering (first + 1) h.0 entries h.1 t e next number on h.4 follows in
-    let item = entry_item numbering number t e next in
-    let here : text ++ item ≡ entry_item numbering first s f h.0 ++ (h.1 ++ item) =
-    ap (λ x. x ++ item) h.3 ∙ append_assoc (entry_item numbering first s f h.0) h.1 item in
+    let item = entry_items numbering number t e next in
+    let here : text ++ item ≡ entry_items numbering first s f h.0 ++ (h.1 ++ item) =
+    ap (λ x. x ++ item) h.3 ∙ append_assoc (entry_items numbering first s f h.0) h.1 item in
     (h.0, h.1 ++ item, h.2, here, rest)
 
 -- nothing is written yet
@@ -64,7 +64,7 @@ next_follows numbering log (suc i) old s text e legal first part at =
 -- one more item is written
 pub more_listed : (numbering : Numbering) (log : Log) (number : ℕ) (old : List ℕ) (s : State) (text : List ℕ) (e : Entry) (next : State) (new : List ℕ)
     → IsLegalRecord log.terms log.entries → 1 ≤ number → number ≤ length log.entries → IsPartListed numbering log number old s text
-    → at_number log.entries number ≡ Some e → Follows s e next → new ≡ text ++ entry_item numbering number s e next
+    → at_number log.entries number ≡ Some e → Follows s e next → new ≡ text ++ entry_items numbering number s e next
     → IsPartListed numbering log (number + 1) old next new
 more_listed numbering log zero old s text e next new legal first last part at follows added = absurd (omega arith)
 more_listed numbering log (suc i) old s text e next new legal first last part at follows added =
@@ -74,7 +74,7 @@ more_listed numbering log (suc i) old s text e next new legal first last part at
     let each : AreItemsOf numbering 1 (start_of log.terms) (take i log.entries) part.items s =
     subst (λ (n : ℕ). AreItemsOf numbering 1 (start_of log.terms) (take n log.entries) part.items s) back part.each in
     let so_many : suc i ≡ 1 + length (take i log.entries) = omega (arith, length-take-le i log.entries (omega arith)) in
-    let item = entry_item numbering (suc i) s e next in
+    let item = entry_items numbering (suc i) s e next in
     record {
       items = part.items ++ item;
       each = rw (on, here.4) (AreItemsOf-push numbering 1 (start_of log.terms) (take i log.entries) part.items s e next (suc i) so_many each follows);
@@ -91,7 +91,7 @@ all_listed numbering log number old s text end part =
 
 -- the page is whole
 pub whole_page : (title : List ℕ) (numbering : Numbering) (seconds : ℕ) (log : Log) (s : State) (o p q r text : List ℕ)
-    → StandsAt log.terms log.entries s → o ≡ [] → p ≡ o ++ page_start title seconds s → q ≡ p ++ first_item numbering (start_of log.terms)
+    → StandsAt log.terms log.entries s → o ≡ [] → p ≡ o ++ page_start title seconds s → q ≡ p ++ first_start numbering (start_of log.terms)
     → PutsEntries numbering log q r → text ≡ r ++ page_end → IsPage title numbering seconds log.terms log.entries text
 whole_page title numbering seconds log s o p q r text stands none start first puts ended =
     let leads = AreItemsOf-Leads numbering 1 (start_of log.terms) log.entries puts.0 puts.1 puts.2 in

@@ -80,8 +80,3 @@ reader_words reader = codes "; points as " ++ letter reader ++ codes " counts"
 unfoldable pub description : State → Player → List ℕ
 description s reader =
     terms_words s ++ checkers_words s.board X reader ++ checkers_words s.board O reader ++ reader_words reader
-
--- what is to happen next is the title, which is told first
-unfoldable pub titles_text : State → Player → List ℕ
-titles_text s reader =
-    codes "<title>" ++ phase_words s ++ codes "</title><desc>" ++ description s reader ++ codes "</desc>"

@@ -3,6 +3,8 @@ pub mod Numberings
 pub mod Places
 pub mod Shapes
 pub mod Descriptions
+pub mod Wins
+pub mod Captions
 pub mod Stacks
 pub mod Tables
 pub mod Pictures

@@ -24,9 +24,10 @@ page_style =
     ++ codes ".js main{flex:1;min-height:0;display:grid;grid-template:auto minmax(0,1fr)/minmax(0,1fr)}\n"
     ++ codes ".js #view{display:block}.js #view svg{max-width:none;max-height:calc(max(100vh,34rem) - 13rem)}\n"
     ++ codes ".js #list{overflow:auto}.js li svg{display:none}.js [aria-current]{background:var(--board)}\n"
+    ++ codes "li[id^=start],li[id^=result]{list-style:none}li[id^=result] a{font-weight:bold}\n"
     ++ codes "@media(min-width:48rem){.js main{grid-template:minmax(0,1fr)/minmax(0,1fr) 20rem;gap:1rem}}\n"
 
--- where the script shows one picture with its entry, and the buttons; and then the list begins
+-- where the script shows one picture with the words of its item, and the buttons; and then the lists begin
 unfoldable pub view : List ℕ
 view =
     codes "<main>\n"
@@ -37,28 +38,28 @@ view =
     ++ codes "<button value='ArrowRight'>next</button> <button value='End'>last</button></p>\n"
     ++ codes "</div>\n"
     ++ codes "<div id='list'>\n"
-    ++ codes "<ol start='0'>\n"
 
--- the script: keys, buttons and links choose an entry. Its picture is a copy of that in the list
+-- the script: keys, buttons and links choose an item. Its picture is a copy of that in the list
 unfoldable pub script : List ℕ
 script =
-    codes "const items = document.querySelectorAll('li'), last = items.length - 1;\n"
+    codes "const items = [...document.querySelectorAll('li')], last = items.length - 1;\n"
     ++ codes "const named = name => document.getElementById(name);\n"
     ++ codes "const seconds = Number(document.body.dataset.seconds);\n"
     ++ codes "let at = -1;\n"
     ++ codes "function show(wanted) {\n"
     ++ codes "  if (at >= 0) items[at].removeAttribute('aria-current');\n"
     ++ codes "  at = Math.max(0, Math.min(last, wanted));\n"
-    ++ codes "  const item = items[at];\n"
+    ++ codes "  const item = items[at], words = item.querySelector('a').textContent;\n"
+    ++ codes "  const entry = item.id.match(/^p([0-9]+)$/);\n"
     ++ codes "  item.setAttribute('aria-current', 'true');\n"
     ++ codes "  named('picture').replaceChildren(item.querySelector('svg').cloneNode(true));\n"
-    ++ codes "  named('label').textContent = at + '. ' + item.querySelector('a').textContent;\n"
+    ++ codes "  named('label').textContent = entry ? entry[1] + '. ' + words : words;\n"
     ++ codes "  item.scrollIntoView({ block: 'nearest' });\n"
-    ++ codes "  history.replaceState(null, '', seconds && at === last ? '#end' : '#p' + at);\n"
+    ++ codes "  history.replaceState(null, '', '#' + (seconds && at === last ? 'end' : item.id));\n"
     ++ codes "}\n"
     ++ codes "function find() {\n"
-    ++ codes "  const place = location.hash.match(/^#p([0-9]+)$/);\n"
-    ++ codes "  if (place) show(Number(place[1]));\n"
+    ++ codes "  const place = items.findIndex(item => '#' + item.id === location.hash);\n"
+    ++ codes "  if (place >= 0) show(place);\n"
     ++ codes "  else show(seconds || location.hash === '#end' ? last : 0);\n"
     ++ codes "}\n"
     ++ codes "const steps = { ArrowLeft: () => at - 1, ArrowRight: () => at + 1, Home: () => 0, End: () => last };\n"

@@ -8,7 +8,7 @@ use Rattle.bg_match.specs.Terms.{Terms}
 use Rattle.bg_match.specs.declared.entries.Entry.{Entry}
 use Rattle.bg_picture.specs.Descriptions.{phase_words, terms_words}
 use Rattle.bg_picture.specs.Escapes.{escaped}
-use Rattle.bg_picture.specs.Items.{AreItemsOf, item_text}
+use Rattle.bg_picture.specs.Items.{AreItemsOf, game_start}
 use Rattle.bg_picture.specs.PageParts.{head_start, page_style, script, view}
 use Rattle.bg_picture.specs.Shapes.{style, shapes}
 use Rattle.bg_picture.specs.Stacks.{numbers_text}
@@ -56,9 +56,9 @@ summary_text s = codes "<p>" ++ terms_words s ++ codes "; " ++ phase_words s ++ 
 unfoldable pub page_start : List ℕ → ℕ → State → List ℕ
 page_start title seconds s = head_text title seconds ++ shared_shapes ++ heading_text title ++ summary_text s
 
--- the list begins with the start of the match, under number 0
-unfoldable pub first_item : Numbering → State → List ℕ
-first_item numbering s = view ++ item_text numbering 0 (codes "start") s
+-- the first game starts behind no entry
+unfoldable pub first_start : Numbering → State → List ℕ
+first_start numbering s = view ++ game_start numbering 0 s
 
 unfoldable pub page_end : List ℕ
 page_end = codes "</ol>\n</div>\n</main>\n<script>\n" ++ script ++ codes "</script>\n</body>\n</html>\n"
@@ -73,4 +73,4 @@ PutsEntries numbering log old new =
 abbrev pub IsPage : List ℕ → Numbering → ℕ → Terms → List Entry → List ℕ → Type 0
 IsPage title numbering seconds terms entries text =
     (items : List ℕ) × (t : State) × AreItemsOf numbering 1 (start_of terms) entries items t
-    × (text ≡ page_start title seconds t ++ first_item numbering (start_of terms) ++ items ++ page_end)
+    × (text ≡ page_start title seconds t ++ first_start numbering (start_of terms) ++ items ++ page_end)

@@ -6,7 +6,7 @@ ghost use Rattle.bg_picture.specs.Descriptions.{crawford_words as crawford_mark,
 ghost use Rattle.bg_picture.specs.Descriptions.{phase_words, terms_words};
 ghost use Rattle.bg_picture.specs.Descriptions.{owner_words, number_for as number_of, point_words, bar_words};
 ghost use Rattle.bg_picture.specs.Descriptions.{off_words};
-ghost use Rattle.bg_picture.specs.Descriptions.{points_words, checkers_words, reader_words, description, titles_text};
+ghost use Rattle.bg_picture.specs.Descriptions.{points_words, checkers_words, reader_words, description};
 
 use bg_board::{BAR, Board, OFF, Player};
 use bg_match::{Cube, Standing};
@@ -26,25 +26,13 @@ pub(crate) fn put_phase_words(out: &mut Vec<u8>, standing: &Standing) -> Result<
     put_phase(out, standing)
 }
 
-/// Adds the title and the description of a picture whose points have the numbers of a player.
-#[tactic(auto, unfolding(crate::specs::Descriptions::titles_text))]
-pub(crate) fn put_titles(
+/// Adds the description.
+#[tactic(auto, unfolding(crate::specs::Descriptions::description))]
+pub(crate) fn put_description(
     out: &mut Vec<u8>,
     standing: &Standing,
     reader: Player,
 ) -> Result<(), AllocError>
-    ensures { OnOk result (out.new.items ≡ out.old.items ++ titles_text standing.now reader) }
-{
-    put_text(out, "<title>")?;
-    put_phase_words(out, standing)?;
-    put_text(out, "</title><desc>")?;
-    put_description(out, standing, reader)?;
-    put_text(out, "</desc>")
-}
-
-/// Adds the description.
-#[tactic(auto, unfolding(crate::specs::Descriptions::description))]
-fn put_description(out: &mut Vec<u8>, standing: &Standing, reader: Player) -> Result<(), AllocError>
     ensures { OnOk result (out.new.items ≡ out.old.items ++ description standing.now reader) }
 {
     let board = standing.board();

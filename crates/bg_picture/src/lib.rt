@@ -9,6 +9,8 @@
 //! ```
 #![tactic(auto)]
 
+mod anchors;
+mod captions;
 mod descriptions;
 mod elements;
 mod escapes;
@@ -21,6 +23,7 @@ mod places;
 mod shapes;
 mod stacks;
 mod tables;
+mod wins;
 
 pub use numberings::Numbering;
 pub use pages::page_text;

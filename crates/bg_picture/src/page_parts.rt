@@ -26,6 +26,7 @@ a{color:inherit}li svg{content-visibility:auto;contain-intrinsic-size:auto 20rem
 .js main{flex:1;min-height:0;display:grid;grid-template:auto minmax(0,1fr)/minmax(0,1fr)}
 .js #view{display:block}.js #view svg{max-width:none;max-height:calc(max(100vh,34rem) - 13rem)}
 .js #list{overflow:auto}.js li svg{display:none}.js [aria-current]{background:var(--board)}
+li[id^=start],li[id^=result]{list-style:none}li[id^=result] a{font-weight:bold}
 @media(min-width:48rem){.js main{grid-template:minmax(0,1fr)/minmax(0,1fr) 20rem;gap:1rem}}
 ";
 
@@ -39,28 +40,28 @@ const VIEW: &str = "\
 <button value='ArrowRight'>next</button> <button value='End'>last</button></p>
 </div>
 <div id='list'>
-<ol start='0'>
 ";
 
-/// Keys, buttons and links choose an entry, whose picture is shown.
+/// Keys, buttons and links choose an item, whose picture is shown.
 const SCRIPT: &str = "\
-const items = document.querySelectorAll('li'), last = items.length - 1;
+const items = [...document.querySelectorAll('li')], last = items.length - 1;
 const named = name => document.getElementById(name);
 const seconds = Number(document.body.dataset.seconds);
 let at = -1;
 function show(wanted) {
   if (at >= 0) items[at].removeAttribute('aria-current');
   at = Math.max(0, Math.min(last, wanted));
-  const item = items[at];
+  const item = items[at], words = item.querySelector('a').textContent;
+  const entry = item.id.match(/^p([0-9]+)$/);
   item.setAttribute('aria-current', 'true');
   named('picture').replaceChildren(item.querySelector('svg').cloneNode(true));
-  named('label').textContent = at + '. ' + item.querySelector('a').textContent;
+  named('label').textContent = entry ? entry[1] + '. ' + words : words;
   item.scrollIntoView({ block: 'nearest' });
-  history.replaceState(null, '', seconds && at === last ? '#end' : '#p' + at);
+  history.replaceState(null, '', '#' + (seconds && at === last ? 'end' : item.id));
 }
 function find() {
-  const place = location.hash.match(/^#p([0-9]+)$/);
-  if (place) show(Number(place[1]));
+  const place = items.findIndex(item => '#' + item.id === location.hash);
+  if (place >= 0) show(place);
   else show(seconds || location.hash === '#end' ? last : 0);
 }
 const steps = { ArrowLeft: () => at - 1, ArrowRight: () => at + 1, Home: () => 0, End: () => last };
@@ -94,7 +95,7 @@ pub(crate) fn put_page_style(out: &mut Vec<u8>) -> Result<(), AllocError>
     put_text(out, STYLE)
 }
 
-/// Adds where the script shows one picture, and begins the list.
+/// Adds where the script shows one picture, and what stands before the lists.
 #[tactic(auto, unfolding(crate::specs::PageParts::view))]
 pub(crate) fn put_view(out: &mut Vec<u8>) -> Result<(), AllocError>
     ensures { OnOk result (out.new.items ≡ out.old.items ++ view) }

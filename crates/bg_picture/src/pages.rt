@@ -1,7 +1,7 @@
 //! The page of a match.
 ghost use Rattle.std.specs.Prelude.{◌≡◌, ◌++◌, OnOk, IfOk};
 ghost use Rattle.bg_match.specs.State.{start_of as start_of_terms};
-ghost use Rattle.bg_picture.specs.Pages.{IsPage, PutsEntries, body_text, first_item, head_text, heading_text};
+ghost use Rattle.bg_picture.specs.Pages.{IsPage, PutsEntries, body_text, first_start, head_text, heading_text};
 ghost use Rattle.bg_picture.specs.Pages.{live_body};
 ghost use Rattle.bg_picture.specs.Pages.{page_end, page_start, refresh_text, shared_shapes, styles_text};
 ghost use Rattle.bg_picture.specs.Pages.{summary_text, title_text};
@@ -9,7 +9,7 @@ ghost use Rattle.bg_picture.specs.Pages.{summary_text, title_text};
 use crate::Numbering;
 use crate::descriptions::{put_phase_words, put_standing};
 use crate::escapes::put_escaped;
-use crate::items::{put_entry, put_item};
+use crate::items::{put_entry, put_game_start};
 use crate::page_parts::{put_head_start, put_page_style, put_script, put_view};
 use crate::shapes::{put_shapes, put_style};
 use crate::stacks::put_numbers;
@@ -18,9 +18,9 @@ use bg_match::{Record, Standing};
 use bg_text::{put_number, put_text};
 use std::alloc::{AllocError, Global};
 
-/// The page of a match: one HTML file with its entries by game, each with the picture of the standing after it
-/// (docs/FORMATS.md, "Pages"). The title may be any text, as it is escaped. Where the number of seconds is not 0 a
-/// browser shows the page anew that often, from the last entry on.
+/// Returns the page of a match: one HTML file that has the start of each game, its entries and its result, each with a
+/// picture (docs/FORMATS.md, "Pages"). The title may be any text, as it is escaped. Where the number of seconds is not
+/// 0 a browser shows the page anew that often, from the last item on.
 ///
 /// # Errors
 /// AllocError where there is no memory for it.
@@ -76,13 +76,13 @@ fn put_start(
     put_summary(out, standing)
 }
 
-/// Begins the list with the start of the match.
-#[tactic(auto, unfolding(crate::specs::Pages::first_item))]
+/// Adds the start of the first game.
+#[tactic(auto, unfolding(crate::specs::Pages::first_start))]
 fn put_first(out: &mut Vec<u8>, numbering: Numbering, start: &Standing) -> Result<(), AllocError>
-    ensures { OnOk result (out.new.items ≡ out.old.items ++ first_item numbering start.now) }
+    ensures { OnOk result (out.new.items ≡ out.old.items ++ first_start numbering start.now) }
 {
     put_view(out)?;
-    put_item(out, numbering, 0, "start", start)
+    put_game_start(out, numbering, 0, start)
 }
 
 /// Adds the head of the page.

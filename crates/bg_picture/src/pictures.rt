@@ -1,12 +1,13 @@
 //! The picture of a standing.
 ghost use Rattle.std.specs.Prelude.{◌≡◌, ◌++◌, OnOk, IfOk};
 ghost use Rattle.bg_picture.specs.Numberings.{reader_of};
-ghost use Rattle.bg_picture.specs.Pictures.{board_text, captions_text, drawing, frame, game_caption, phase_caption};
+ghost use Rattle.bg_picture.specs.Pictures.{board_text, captions_text, drawing, frame, game_caption, lower_caption};
 ghost use Rattle.bg_picture.specs.Pictures.{picture_start, picture_text as text_of_picture, position_text, score_text};
-ghost use Rattle.bg_picture.specs.Pictures.{scores_text, shapes_text, style_text};
+ghost use Rattle.bg_picture.specs.Pictures.{scores_text, shapes_text, style_text, titles_text};
 
 use crate::Numbering;
-use crate::descriptions::{put_game, put_phase_words, put_titles};
+use crate::captions::{Caption, put_caption};
+use crate::descriptions::{put_description, put_game};
 use crate::elements::{begin_group, begin_words, end_group, end_words, put_shape};
 use crate::shapes::{put_shapes, put_style};
 use crate::stacks::{numbers_name, put_checkers, put_numbers};
@@ -34,7 +35,7 @@ pub fn picture_text(
     put_start(&mut out, standing, reader)?;
     put_style_element(&mut out)?;
     put_definitions(&mut out, reader)?;
-    put_drawing(&mut out, standing, reader)?;
+    put_drawing(&mut out, standing, Caption::Next, reader)?;
     put_text(&mut out, "</svg>\n")?;
     Ok(out)
 }
@@ -46,8 +47,25 @@ fn put_start(out: &mut Vec<u8>, standing: &Standing, reader: Player) -> Result<(
 {
     put_text(out, "<svg xmlns='http://www.w3.org/2000/svg'")?;
     put_frame(out)?;
-    put_titles(out, standing, reader)?;
+    put_titles(out, standing, Caption::Next, reader)?;
     Ok(())
+}
+
+/// Adds the title and the description of a picture whose points have the numbers of a player.
+#[tactic(auto, unfolding(crate::specs::Pictures::titles_text))]
+pub(crate) fn put_titles(
+    out: &mut Vec<u8>,
+    standing: &Standing,
+    caption: Caption,
+    reader: Player,
+) -> Result<(), AllocError>
+    ensures { OnOk result (out.new.items ≡ out.old.items ++ titles_text standing.now caption reader) }
+{
+    put_text(out, "<title>")?;
+    put_caption(out, standing, caption)?;
+    put_text(out, "</title><desc>")?;
+    put_description(out, standing, reader)?;
+    put_text(out, "</desc>")
 }
 
 /// Adds the edges of a picture, and that it is one for whoever has it read aloud.
@@ -84,13 +102,14 @@ fn put_definitions(out: &mut Vec<u8>, reader: Player) -> Result<(), AllocError>
 pub(crate) fn put_drawing(
     out: &mut Vec<u8>,
     standing: &Standing,
+    caption: Caption,
     reader: Player,
 ) -> Result<(), AllocError>
-    ensures { OnOk result (out.new.items ≡ out.old.items ++ drawing standing.now reader) }
+    ensures { OnOk result (out.new.items ≡ out.old.items ++ drawing standing.now caption reader) }
 {
     put_position(out, standing, reader)?;
     put_table(out, standing)?;
-    put_captions(out, standing)?;
+    put_captions(out, standing, caption)?;
     put_scores(out, standing)
 }
 
@@ -117,12 +136,12 @@ fn put_board(out: &mut Vec<u8>, reader: Player) -> Result<(), AllocError>
 
 /// Adds the words above and below the board.
 #[tactic(auto, unfolding(crate::specs::Pictures::captions_text))]
-fn put_captions(out: &mut Vec<u8>, standing: &Standing) -> Result<(), AllocError>
-    ensures { OnOk result (out.new.items ≡ out.old.items ++ captions_text standing.now) }
+fn put_captions(out: &mut Vec<u8>, standing: &Standing, caption: Caption) -> Result<(), AllocError>
+    ensures { OnOk result (out.new.items ≡ out.old.items ++ captions_text standing.now caption) }
 {
     begin_group(out, "left")?;
     put_game_caption(out, standing)?;
-    put_phase_caption(out, standing)?;
+    put_lower_caption(out, standing, caption)?;
     end_group(out)
 }
 
@@ -136,13 +155,17 @@ fn put_game_caption(out: &mut Vec<u8>, standing: &Standing) -> Result<(), AllocE
     end_words(out)
 }
 
-/// Adds what is to happen next.
-#[tactic(auto, unfolding(crate::specs::Pictures::phase_caption, crate::specs::Elements::element_text))]
-fn put_phase_caption(out: &mut Vec<u8>, standing: &Standing) -> Result<(), AllocError>
-    ensures { OnOk result (out.new.items ≡ out.old.items ++ phase_caption standing.now) }
+/// Adds what is to happen next, or how the game was won.
+#[tactic(auto, unfolding(crate::specs::Pictures::lower_caption, crate::specs::Elements::element_text))]
+fn put_lower_caption(
+    out: &mut Vec<u8>,
+    standing: &Standing,
+    caption: Caption,
+) -> Result<(), AllocError>
+    ensures { OnOk result (out.new.items ≡ out.old.items ++ lower_caption standing.now caption) }
 {
     begin_words(out, 0, 549)?;
-    put_phase_words(out, standing)?;
+    put_caption(out, standing, caption)?;
     end_words(out)
 }
 

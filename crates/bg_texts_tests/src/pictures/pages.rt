@@ -9,7 +9,7 @@ const MATCH: &str =
     "length 3\nopen 3 1\nX move 8-5 6-5\nO double\nX drop\nopen 2 6\nO move 24-18 13-11\n";
 
 /// Fails where a page has not each of these parts, one behind the other, or has more behind the last.
-fn check_parts(page: &[u8], parts: &[&str]) -> Result<(), Fail> {
+pub(super) fn check_parts(page: &[u8], parts: &[&str]) -> Result<(), Fail> {
     let mut rest = text_of(page);
     for part in parts {
         match rest.split_once(*part) {
@@ -39,16 +39,24 @@ fn page_of_two_games(rt: HostRuntime) -> Result<(), Fail> {
         "</style>\n<script>document.documentElement.className='js'</script>\n</head>\n<body>\n<svg class='shapes'",
         "</defs></svg>\n<h1><bdi>Anna &amp; &lt;b&gt;Otto&lt;/b&gt; &quot;&#39;</bdi></h1>\n",
         "<p>length 3, game 2; X 0, O 1; cube 1 in the middle; X to roll</p>\n<main>\n",
-        "<ol start='0'>\n<li id='p0'><a href='#p0'>start</a><svg viewBox='-8 0 616 560' role='img'>",
-        "<title>opening</title>",
-        "</svg></li>\n</ol>\n<h2>game 1; X 0, O 0</h2>\n<ol start='1'>\n<li id='p1'><a href='#p1'>open 3 1</a>",
+        "<div id='list'>\n<h2>game 1; X 0, O 0</h2>\n<ol start='0'>\n<li id='start1'><a href='#start1'>start of game 1</a>",
+        "<svg viewBox='-8 0 616 560' role='img'><title>opening</title>",
+        "</svg></li>\n<li id='p1'><a href='#p1'>open 3 1</a>",
         "<title>X to move 3 1</title>",
         "</svg></li>\n<li id='p2'><a href='#p2'>X move 8-5 6-5</a><svg viewBox='-8 0 616 560' role='img'>",
         "<title>O to roll</title>",
         "</svg></li>\n<li id='p3'><a href='#p3'>O double</a>",
         "<use href='#cube' x='440' y='280'/><text x='440' y='286'>2</text>",
         "</svg></li>\n<li id='p4'><a href='#p4'>X drop</a>",
-        "</svg></li>\n</ol>\n<h2>game 2; X 0, O 1</h2>\n<ol start='5'>\n<li id='p5'><a href='#p5'>open 2 6</a>",
+        "<title>O wins by a drop of the double</title><desc>length 3, game 1; X 0, O 1; cube 1 in the middle; X: ",
+        ", 2 on 8, 4 on 6, 2 on 5; O: 0 on the bar, 0 off, 2 on 1, 5 on 12, 3 on 17, 5 on 19; points as X counts</desc>",
+        "<use href='#cube' x='20' y='280'/><text x='20' y='286'>1</text>",
+        "<text x='0' y='25'>length 3, game 1</text><text x='0' y='549'>O wins by a drop of the double</text>",
+        "</svg></li>\n<li id='result1'><a href='#result1'>O wins by a drop of the double, 1 point; X 0, O 1</a>",
+        "<title>O wins by a drop of the double</title><desc>length 3, game 1; X 0, O 1; cube 1 in the middle; X: ",
+        "</svg></li>\n</ol>\n<h2>game 2; X 0, O 1</h2>\n<ol start='4'>\n<li id='start2'><a href='#start2'>start of game 2</a>",
+        "<title>opening</title><desc>length 3, game 2; X 0, O 1; cube 1 in the middle; X: ",
+        "</svg></li>\n<li id='p5'><a href='#p5'>open 2 6</a>",
         "</svg></li>\n<li id='p6'><a href='#p6'>O move 24-18 13-11</a>",
         "</svg></li>\n</ol>\n</div>\n</main>\n<script>\n",
         "</script>\n</body>\n</html>\n",
@@ -64,7 +72,7 @@ fn page_that_is_shown_anew(rt: HostRuntime) -> Result<(), Fail> {
         "<noscript><meta http-equiv='refresh' content='5'></noscript>\n<title></title>\n",
         "<body data-seconds='5'>\n",
         "<p>length 1 rules 2, game 1, Crawford; X 0, O 0; cube 1 in the middle; opening</p>\n",
-        "<ol start='0'>\n<li id='p0'>",
+        "<ol start='0'>\n<li id='start1'>",
         "</li>\n</ol>\n</div>\n</main>\n<script>\n",
         "</script>\n</body>\n</html>\n",
     ];

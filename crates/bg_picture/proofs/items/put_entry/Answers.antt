@@ -1,12 +1,26 @@
-use Rattle.std.proofs.Common.{◌≡◌, Option, sym, subst, rules}
-use Rattle.bg_board.specs.declared.players.Player.{Player}
-use Rattle.bg_match.specs.Actor.{actor_of, seat_of}
-use Rattle.bg_text.specs.Entries.EntryText.{IsSeatOf}
-use Rattle.bg_text.proofs.Judged.ReadLines.{seat_acts}
+use Rattle.std.proofs.Common.{rules}
+use Rattle.bg_match.specs.Follows.{Follows}
+use Rattle.bg_picture.proofs.Written.{goes_on, ends}
 use Rattle.bg_picture.proofs.items.put_entry.Goals as goal
+use Rattle.bg_picture.proofs.items.put_entry.Goals.{in-None+in_ok-end_item-in-None, in-Some+in_ok-end_item-in-Some+in_ok-put_result_item-in-Some+in_ok-put_next_start-in-Some}
 
-pub entry_text-requires : goal.entry_text-requires
-entry_text-requires c =
-    let same : c.seat-seat.result ≡ seat_of (actor_of c.args.standing.now) = first_of (cc, search rules) in
-    subst (λ (x : Option Player). IsSeatOf x c.args.entry.now) (sym same)
-    (seat_acts c.args.standing.now c.args.entry.now c.requires.0 c.requires.1)
+pub returns : goal.returns
+returns c =
+    let s = c.args.standing.now in
+    let e = c.args.entry.now in
+    let next = c.unwrap-next.result in
+    let follows : Follows s e next = first_of (search rules, cc) in
+    elim c.match-end_of.branch [
+      | in-None+in_ok-end_item-in-None w ↦ (
+        follows,
+        rw w.out-is (goes_on c.args.numbering c.args.number s e next _ _ _ (rw w.in-None.is at c.end_of.ensures)
+            c.in_ok-begin_entry.ensures w.in_ok-end_item-in-None.ensures),
+      )
+      | in-Some+in_ok-end_item-in-Some+in_ok-put_result_item-in-Some+in_ok-put_next_start-in-Some w ↦
+          (let won = rw w.in-Some.is at c.end_of.ensures in (
+            follows,
+            rw w.out-is (ends c.args.numbering c.args.number s e next w.in-Some.end.win w.in-Some.end.standing _ _ _ _ _ won.0 won.1
+                c.in_ok-begin_entry.ensures w.in_ok-end_item-in-Some.ensures w.in_ok-put_result_item-in-Some.ensures
+                w.in_ok-put_next_start-in-Some.ensures),
+          ))
+    ]

@@ -13,5 +13,5 @@ returns c =
     let number : c.put_number.new.out.items ≡ c.put_text.new.out.items ++ decimal (s.game) = first_of (search rules, cc) in
     let crawford : c.put_text-2.new.out.items ≡ c.put_number.new.out.items ++ crawford_words s.crawford =
     rw (c.crawford_words.ensures, c.crawford.ensures) at c.in_ok-put_text-2.ensures in
-    four_parts (codes "</ol>\n<h2>game ") (decimal s.game) (crawford_words s.crawford) (score_words s) _ _ _ _ _
+    four_parts (codes "<h2>game ") (decimal s.game) (crawford_words s.crawford) (score_words s) _ _ _ _ _
     c.in_ok-put_text.ensures number crawford c.in_ok-put_score.ensures

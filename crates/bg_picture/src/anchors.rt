@@ -1,0 +1,51 @@
+//! The names of a page's items, which can stand in its address.
+ghost use Rattle.std.specs.Prelude.{◌≡◌, ◌++◌, OnOk};
+ghost use Rattle.std.specs.Fmt.{decimal};
+ghost use Rattle.bg_picture.specs.Items.{anchor_text, item_start};
+
+use bg_match::Number;
+use bg_text::{put_number, put_text};
+use std::alloc::AllocError;
+
+/// Which item it is.
+#[derive(Clone, Copy)]
+pub(crate) enum Anchor {
+    /// The start of the game of this number.
+    Start(u8),
+    /// The entry of this number.
+    Entry(Number),
+    /// The result of the game of this number.
+    Result(u8),
+}
+
+/// Begins an item, with a link to it.
+#[tactic(auto, unfolding(crate::specs::Items::item_start))]
+pub(crate) fn begin_item(out: &mut Vec<u8>, anchor: Anchor) -> Result<(), AllocError>
+    ensures { OnOk result (out.new.items ≡ out.old.items ++ item_start anchor) }
+{
+    put_text(out, "<li id='")?;
+    put_anchor(out, anchor)?;
+    put_text(out, "'><a href='#")?;
+    put_anchor(out, anchor)?;
+    put_text(out, "'>")
+}
+
+/// Adds the name of an item.
+#[tactic(auto, unfolding(crate::specs::Items::anchor_text))]
+fn put_anchor(out: &mut Vec<u8>, anchor: Anchor) -> Result<(), AllocError>
+    ensures { OnOk result (out.new.items ≡ out.old.items ++ anchor_text anchor) }
+{
+    match anchor {
+        Anchor::Start(game) => put_name(out, "start", game.into()),
+        Anchor::Entry(number) => put_name(out, "p", number.into()),
+        Anchor::Result(game) => put_name(out, "result", game.into()),
+    }
+}
+
+/// Adds a word with a number.
+fn put_name(out: &mut Vec<u8>, word: &str, number: u64) -> Result<(), AllocError>
+    ensures { OnOk result (out.new.items ≡ out.old.items ++ word.now ++ decimal number) }
+{
+    put_text(out, word)?;
+    put_number(out, number)
+}
