@@ -1,6 +1,7 @@
 """docs/WRONG_BODIES.md: what each wrong body came to when it was last tried, and of which sources that was."""
 import collections
 import datetime
+import fcntl
 import hashlib
 import re
 import subprocess
@@ -71,13 +72,16 @@ def add_files(total, folder, part, seen_as=str):
             total.update(f"{file}\0{seen_as(path.read_text(encoding='utf-8'))}\0".encode())
 
 
+def sections_of(text):
+    return {name: body.strip() for name, body in SECTION.findall(text)}
+
+
 class Record:
     """The sections of the page, by crate."""
 
     def __init__(self, top):
-        self.top, self.path = top, top / PAGE
-        text = self.path.read_text(encoding="utf-8") if self.path.is_file() else ""
-        self.sections = {name: body.strip() for name, body in SECTION.findall(text)}
+        self.top, self.path, self.noted = top, top / PAGE, set()
+        self.sections = sections_of(self.path.read_text(encoding="utf-8") if self.path.is_file() else "")
 
     def sum_of(self, name):
         found = re.search(r"^Sum: `(\w+)`", self.sections.get(name, ""), re.M)
@@ -99,16 +103,21 @@ class Record:
         for body, (kind, words) in verdicts:
             lines.append(f"| {cell(body.name)} | {kind}: {cell(words)} |")
         self.sections[name] = "\n".join(lines)
+        self.noted.add(name)
 
     def revision(self):
         words = ["git", "rev-parse", "--short", "HEAD"]
         return subprocess.run(words, cwd=self.top, capture_output=True, text=True).stdout.strip() or "no revision"
 
     def write(self, order):
-        """Writes the page, with the crates in this order."""
-        names = [name for name in order if name in self.sections]
-        parts = [HEAD, *(f"## {name}\n\n{self.sections[name]}\n" for name in names)]
-        self.path.write_text("\n".join(parts), encoding="utf-8")
+        """Writes the page, with the crates in this order, and with what other runs have noted of others meanwhile."""
+        with open(self.path, "a+", encoding="utf-8") as page:
+            fcntl.flock(page, fcntl.LOCK_EX)
+            page.seek(0)
+            sections = sections_of(page.read()) | {name: self.sections[name] for name in self.noted}
+            parts = [HEAD, *(f"## {name}\n\n{sections[name]}\n" for name in order if name in sections)]
+            page.truncate(0)
+            page.write("\n".join(parts))
 
 
 def cell(text):
