@@ -44,7 +44,10 @@ class Match:
         return self.packet(CLAIM, bytes([sender]) + number.to_bytes(4, "big") + bytes(action))
 
     def entry(self, number, *entry):
-        return self.packet(ENTRIES, number.to_bytes(4, "big") + bytes([1, *entry]))
+        return self.entries(number, [entry])
+
+    def entries(self, number, entries):
+        return self.packet(ENTRIES, number.to_bytes(4, "big") + bytes([len(entries), *(byte for entry in entries for byte in entry)]))
 
 
 class Party:
