@@ -76,6 +76,27 @@ fn a_folder_that_is_away_for_a_while(rt: HostRuntime) -> Result<(), Fail> {
     Ok(())
 }
 
+/// A folder that is missing from the beginning has no empty slots either: it may be away.
+#[test]
+fn a_folder_that_is_away_at_first(rt: HostRuntime) -> Result<(), Fail> {
+    let folder = written_folder(&rt, "away-at-first")?;
+    let folder = folder.as_str();
+    let elsewhere = format!(in rt.alloc(); "{folder}-elsewhere")?;
+    fs::rename(&rt, folder, elsewhere.as_str())?;
+    let failures = Failures::new();
+    let mut files = PartyFiles::new(&rt, folder, 1, &failures)?;
+    assert!(rt; are_away(&rt, &mut files), "before it was there");
+    fs::rename(&rt, elsewhere.as_str(), folder)?;
+    assert!(rt; have(&mut files, b"zero", b"one"), "there");
+    let said = told(&rt, &failures, "DIR")?;
+    assert!(rt;
+        said.as_str().starts_with("DIR can't be found: ") && said.as_str().lines().count() == 1,
+        "{said}"
+    );
+    fs::remove_dir_all(&rt, folder)?;
+    Ok(())
+}
+
 /// A folder in the place of that which the files were read from is said to be another.
 #[test]
 fn another_folder_is_said(rt: HostRuntime) -> Result<(), Fail> {

@@ -44,7 +44,8 @@ impl<'a, R: Files<File = File> + AllocGlobal> PartyFiles<'a, R> {
     ///
     /// # Errors
     /// Why the file could not be written or synced, or the folder synced; where the file was there before in this
-    /// process and is missing, or the folder is another one; and where an earlier write could not be taken back.
+    /// process and is missing, or the folder is missing or another one; and where an earlier write could not be taken
+    /// back.
     pub fn write(&mut self, slot: Slot, bytes: &[u8]) -> io::Result<()> {
         match slot {
             Slot::Zero => self.zero.write(&mut self.folder, bytes),
@@ -57,7 +58,7 @@ impl<'a, R: Files<File = File> + AllocGlobal> PartyFiles<'a, R> {
     ///
     /// # Errors
     /// Why the file could not be opened, synced or read, or the folder synced; where the file was there before and is
-    /// missing, or the folder is another one; and where an earlier write could not be taken back.
+    /// missing, or the folder is missing or another one; and where an earlier write could not be taken back.
     pub fn read(&mut self, slot: Slot) -> io::Result<Vec<u8>> {
         match slot {
             Slot::Zero => self.zero.read(&mut self.folder),

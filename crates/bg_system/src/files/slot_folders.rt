@@ -18,23 +18,21 @@ struct Place {
     inode: u64,
 }
 
-/// Returns which folder stands at a path, `None` where nothing does.
-fn place_of(rt: &impl Files<File = File>, path: &str) -> io::Result<Option<Place>> {
-    match fs::metadata(rt, path) {
-        Ok(found) => Ok(Some(Place {
-            device: found.dev(),
-            inode: found.ino(),
-        })),
-        Err(error) if error.kind() == ErrorKind::NotFound => Ok(None),
-        Err(error) => Err(error),
-    }
+/// Returns which folder stands at a path.
+fn place_of(rt: &impl Files<File = File>, path: &str) -> io::Result<Place> {
+    let found = fs::metadata(rt, path)?;
+    Ok(Place {
+        device: found.dev(),
+        inode: found.ino(),
+    })
 }
 
 /// Why a folder or a file can't be used that was used before in this process.
 pub(crate) const WAS_THERE: &str = "it was there before, and is missing now";
 
-/// The folder that the files of a party lie in. What stands at its path later counts only while it is the folder that
-/// was there at the first use: neither one that was put in its place nor the empty one that an unmounted disk leaves.
+/// The folder that the files of a party lie in. What stands at its path counts only while it is the folder that was
+/// there at the first use: neither one that was put in its place nor the empty one that an unmounted disk leaves. Where
+/// there is none at the first use, it is waited for.
 #[derive(Drop)]
 pub(crate) struct SlotFolder<'a, R> {
     rt: &'a R,
@@ -75,22 +73,19 @@ impl<'a, R: Files<File = File> + AllocGlobal> SlotFolder<'a, R> {
         self.finds.after(FailedCall::Find, answer)
     }
 
-    /// Finds the folder that it was at the first use. One that was never there has no files yet.
+    /// Finds the folder that it was at the first use. One that is missing then is away too, and has no empty files.
     fn find(&mut self) -> io::Result<()> {
-        let found = place_of(self.rt, &self.name)?;
-        if self.place.is_none() {
-            self.place = found;
-        }
-        if self.place == found {
+        let found = match place_of(self.rt, &self.name) {
+            Err(error) if error.kind() == ErrorKind::NotFound && self.place.is_some() => {
+                return Err(io::Error::new(ErrorKind::NotFound, WAS_THERE));
+            }
+            answer => answer?,
+        };
+        if *self.place.get_or_insert(found) == found {
             return Ok(());
         }
-        Err(io::Error::new(
-            ErrorKind::NotFound,
-            match found {
-                Some(_) => "another folder stands there than at the start",
-                None => WAS_THERE,
-            },
-        ))
+        let why = "another folder stands there than at the start";
+        Err(io::Error::new(ErrorKind::NotFound, why))
     }
 
     /// Writes the names in it through to the device.
