@@ -45,11 +45,11 @@ pub fn own_folder(
         .mode(OWNER_ALONE)
         .create(rt, folder);
     match made {
-        Ok(()) => {}
-        Err(error) if error.kind() == ErrorKind::AlreadyExists => {
-            check_folder(rt, folder, " is no folder")?;
+        Err(error) if error.kind() != ErrorKind::AlreadyExists => {
+            return Err(wrong_for(rt, folder, " can't be made", &error));
         }
-        Err(error) => return Err(wrong_for(rt, folder, " can't be made", &error)),
+        // An empty name is made of nothing.
+        _ => check_folder(rt, folder, " is no folder")?,
     }
     let lock = lock_of(rt, folder)?;
     tell_if_open(rt, folder);

@@ -34,6 +34,6 @@ pub use messages::{
     allocated, engine_failed, failed, failed_at, failed_barely, failed_for, no_memory, unread,
     unwritten, written, wrong, wrong_at, wrong_for,
 };
-pub use published::{Outputs, Published};
+pub use published::{Outputs, Published, is_one_file};
 pub use screens::columns;
 pub use tellings::{Telling, print_board, print_text, put_entries, write_out};

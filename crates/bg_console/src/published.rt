@@ -7,9 +7,11 @@ use bg_reports::Ending;
 use bg_system::publish;
 use bg_text::{board_text, transcript_text};
 use std::alloc::{AllocError, Global};
-use std::fs;
-use std::fs::File;
+use std::fs::{File, Metadata};
+use std::os::unix::fs::MetadataExt;
+use std::path::Path;
 use std::rt::Files;
+use std::{fs, io};
 
 /// The files are written anew after so many ticks at least, since all of the transcript is.
 const PAUSE_TICKS: u32 = 10;
@@ -30,6 +32,30 @@ pub struct Outputs<'a> {
     pub numbering: Numbering,
     /// Whether a file that can't be written is said once, and left alone until it can be; else nothing goes on.
     pub goes_on: bool,
+}
+
+/// Whether two paths name one file, which may be missing: they are the same, or have the same name in the same folder.
+pub fn is_one_file(rt: &impl Files<File = File>, one: &str, other: &str) -> bool {
+    if one == other {
+        return true;
+    }
+    let (one, other) = (Path::new(one), Path::new(other));
+    match (folder_of(rt, one), folder_of(rt, other)) {
+        (Ok(first), Ok(second)) => {
+            one.file_name() == other.file_name()
+                && first.dev() == second.dev()
+                && first.ino() == second.ino()
+        }
+        _ => false,
+    }
+}
+
+/// The folder that a path leads to a file in.
+fn folder_of(rt: &impl Files<File = File>, path: Path<'_>) -> io::Result<Metadata> {
+    match path.parent() {
+        Some(folder) if !folder.as_os_str().is_empty() => fs::metadata(rt, folder),
+        _ => fs::metadata(rt, "."),
+    }
 }
 
 /// The files that are kept for others.

@@ -53,20 +53,18 @@ where
 
 /// Refuses one file for two of the outputs, where each would replace the other.
 fn check_outputs(
-    rt: &impl Eprint,
+    rt: &(impl Files<File = File> + Eprint),
     board: Option<&str>,
     transcript: Option<&str>,
     page: Option<&str>,
 ) -> Result<(), Ending> {
-    for (one, other) in [(board, transcript), (board, page), (transcript, page)] {
-        if let Some(path) = one {
-            if one == other {
-                return Err(wrong_at(
-                    rt,
-                    path,
-                    " is named for two outputs: each needs a file of its own",
-                ));
-            }
+    for pair in [(board, transcript), (board, page), (transcript, page)] {
+        let (Some(one), Some(other)) = pair else {
+            continue;
+        };
+        if bg_console::is_one_file(rt, one, other) {
+            let words = " is named for two outputs: each needs a file of its own";
+            return Err(wrong_at(rt, one, words));
         }
     }
     Ok(())
