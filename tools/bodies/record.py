@@ -19,14 +19,24 @@ what each came to when it was last tried, and `tools/each_wrong_body --write` wr
 
 A section's sum is one of all that its verdicts rest on: the crate's files below src, specs, proofs and wrong_bodies,
 its line of crates.txt, and of each crate below it the specs, and the sources without the bodies of functions. Comments
-in sources count for nothing. Where it differs from that of the files, the crate is to be tried again:
-`tools/each_wrong_body --changed` tells and does so.
+in sources count for nothing, and neither do imports, since other names would be other lines too. Where it differs from
+that of the files, the crate is to be tried again: `tools/each_wrong_body --changed` tells and does so.
 
 A row names the function whose proof fails and the goals that are open there, or the answer that is written by hand and
 fits no longer. "Not judged" is a wrong body that fails the check for another reason, as where only a proof misses a
 name, so it says little of a contract.
 """
+# A `use` of sources, and of definitions and proofs; one under `pub` is seen by callers.
+IMPORTS = {
+    ".rt": re.compile(r"^ *(?:ghost +)?use\s[^;]*;\n", re.M),
+    ".antt": re.compile(r"^use\s.*\n(?:[ \t}].*\n)*", re.M),
+}
 SECTION = re.compile(r"^## (\w+)\n(.*?)(?=^## |\Z)", re.M | re.S)
+
+
+def without_imports(text, ending):
+    """Returns a file without its imports; ending is that of its name."""
+    return IMPORTS[ending].sub("", text) if ending in IMPORTS else text
 
 
 def without_comments(text):
@@ -69,7 +79,8 @@ def add_files(total, folder, part, seen_as=str):
     for path in sorted(folder.glob(f"{part}/**/*.*")):
         file = path.relative_to(folder).as_posix()
         if not places.is_test(file):
-            total.update(f"{file}\0{seen_as(path.read_text(encoding='utf-8'))}\0".encode())
+            text = without_imports(path.read_text(encoding="utf-8"), path.suffix)
+            total.update(f"{file}\0{seen_as(text)}\0".encode())
 
 
 def sections_of(text):
