@@ -170,6 +170,27 @@ fn start(alloc: Global, setup: Setup) -> Result<World<MemoryNet, MemoryKeeper>, 
     Ok(world)
 }
 
+/// Reads a script, lets this world over devices in memory play it, and writes what is printed.
+fn carry_in_memory<S: Source, T: Sink>(
+    alloc: Global,
+    mut world: World<MemoryNet, MemoryKeeper>,
+    source: &mut S,
+    sink: &mut T,
+) -> Result<Verdict, EngineFault>
+    ensures printed { IfOk result (λ verdict. (input : List ℕ) × (text : List ℕ)
+        × ReadsInput most_bytes S.Source source.old source.new input
+        × IsTextFrom (Unit {0}) (Unit {0}) (memory_view world) input text verdict
+        × WritesText T.Sink sink.old sink.new text) }
+    ensures untaken { IfErr result (λ _. T.taken sink.new ≡ T.taken sink.old) }
+    ensures unwritten { IfErr result (λ fault. fault ≢ EngineFault.Write → sink.new ≡ sink.old) }
+    ensures reads { S.reads source.new ≤ S.reads source.old + most_bytes + 1 }
+    ensures flushes { T.flushes sink.new ≤ T.flushes sink.old + 1 }
+    ensures source { SourceFails result (S.failures source.old) (S.failures source.new) }
+    ensures sink { SinkFails result (T.failures sink.old) (T.failures sink.new) }
+{
+    carry(alloc, &mut world, source, sink)
+}
+
 /// Plays a script: reads event lines to the end of the input, lets their events happen, in order, to a world where
 /// nothing has happened yet, over devices in memory that never fail, and writes the line of what each came to and then
 /// the final text (docs/FORMATS.md, "Scripts"). Where a line is no event's, that alone is written. Reading, writing
@@ -202,11 +223,11 @@ pub fn script<S: Source, T: Sink>(
     ensures source { SourceFailsOnce result (S.failures source.old) (S.failures source.new) }
     ensures sink { SinkFailsOnce result (T.failures sink.old) (T.failures sink.new) }
 {
-    let mut world = match start(alloc, setup) {
+    let world = match start(alloc, setup) {
         Ok(world) => world,
         Err(fault) => return Err(ScriptFault::World(fault)),
     };
-    match carry(alloc, &mut world, source, sink) {
+    match carry_in_memory(alloc, world, source, sink) {
         Ok(verdict) => Ok(verdict),
         Err(fault) => Err(ScriptFault::Engine(fault)),
     }

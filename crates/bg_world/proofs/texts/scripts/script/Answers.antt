@@ -4,11 +4,11 @@ use Rattle.bg_world.specs.Worlds.Views.{WorldView}
 use Rattle.bg_world.proofs.Lines.ScriptLines.{script_known}
 use Rattle.bg_world.proofs.texts.scripts.script.Goals as goal
 
-pub returns-in-Ok-carry-clause-printed : goal.returns-in-Ok-carry-clause-printed
-returns-in-Ok-carry-clause-printed g c =
-    let told = c.in-Ok-carry.ensures.printed in
+pub returns-in-Ok-carry_in_memory-clause-printed : goal.returns-in-Ok-carry_in_memory-clause-printed
+returns-in-Ok-carry_in_memory-clause-printed g c =
+    let told = c.in-Ok-carry_in_memory.ensures.printed in
     let start = c.in-Ok.ensures.start in
-    let verdict = c.in-Ok-carry.verdict in
+    let verdict = c.in-Ok-carry_in_memory.verdict in
     let text : IsScriptText c.args.setup told.0 told.1 verdict = (
       start.0,
       start.1,
