@@ -11,4 +11,5 @@ pub mod Hits
 pub mod Replays
 pub mod Readings
 pub mod Refusing
+pub mod ItemRefusals
 pub mod ImportedFiles

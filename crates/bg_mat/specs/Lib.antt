@@ -7,5 +7,6 @@ pub mod Files
 pub mod Reading
 pub mod Tellings
 pub mod Retelling
+pub mod ItemFaults
 pub mod Refusals
 pub mod Rows

@@ -1,5 +1,6 @@
 -- What a replay of items keeps, and how it goes on.
-use Rattle.std.specs.Prelude.{◌≡◌, ℕ, ◌*◌, Option, Some, None, IfSome, List, [], ◌∷◌, ◌++◌, length, replicate}
+use Rattle.std.specs.Prelude.{◌≡◌, ℕ, ◌+◌, ◌*◌, Bool, Option, Some, None, IfSome, List, [], ◌∷◌, ◌++◌, length, replicate}
+use Rattle.std.specs.Prelude.{if◌then◌else◌}
 use Rattle.bg_board.specs.declared.players.Player.{Player}
 use Rattle.bg_match.specs.Follows.{Follows}
 use Rattle.bg_board.specs.Position.{opponent}
@@ -98,6 +99,12 @@ pub record GoesOnBy (old new : Replay) (items : List Told) : Type 0 where
 -- the turn that was pending is added, and none is pending
 abbrev pub Closes : Replay → Replay → Type 0
 Closes old new = GoesOnBy old new [] × (new.pending ≡ None)
+
+-- the turn that was pending is added, with its dice alone where they stay so, else with a move; and none is pending
+abbrev pub ClosesBy : Bool → Replay → Replay → Type 0
+ClosesBy stays old new =
+    Closes old new
+    × IfSome old.pending (λ turn. length new.log.entries ≡ length old.log.entries + (if stays then 1 else 2))
 
 -- a line with the scores so far is added
 pub record TellsScores (old new : Replay) (number : ℕ) (line : List ℕ) : Type 0 where

@@ -1,5 +1,6 @@
 //! A match file read as a record.
-ghost use Rattle.std.specs.Prelude.{◌≡◌, ◌+◌, ◌<◌, ◌≤◌, ◌↔◌, ℕ, None, Err, IfOk, IfErr, OnOk, length};
+ghost use Rattle.std.specs.Prelude.{◌≡◌, ◌≢◌, ◌+◌, ◌<◌, ◌≤◌, ◌↔◌, ℕ, None, Err, IfOk, IfErr, IsOk, OnOk, length};
+ghost use Rattle.bg_mat.specs.Telling.{Game};
 ghost use Rattle.bg_match.specs.Match.{IsLog, empty_log};
 ghost use Rattle.bg_match.specs.Terms.{terms_of};
 ghost use Rattle.bg_mat.specs.Files.{Imports, after_row, item_of, items_of, numbered};
@@ -8,7 +9,8 @@ ghost use Rattle.bg_text.specs.Judge.Judging.{lines_of};
 ghost use Rattle.bg_text.specs.Limits.{most_bytes};
 ghost use Rattle.bg_mat.specs.Replaying.{GoesOnBy, IsReplay};
 ghost use Rattle.bg_mat.specs.Reading.{AddsLine, ReadsGames};
-ghost use Rattle.bg_mat.specs.Refusals.{IsAtLineOf, IsAtToldLine, IsBeginFault, IsReadFault, IsRefusal};
+ghost use Rattle.bg_mat.specs.Refusals.{AreRefusedGames, AreRefusedItems, IsBeginFault, IsReadFault, IsRefusal};
+ghost use Rattle.bg_mat.specs.Refusals.{IsRefusedItem, IsRefusedLine, Refuses};
 
 use crate::awaiting::{Awaited, awaited_behind};
 use crate::faults::{ReadFault, refused};
@@ -47,7 +49,7 @@ pub fn import_mat(
     ensures imports { IfOk result
         (λ imported. Imports id rules input.now imported.record imported.lines.items) }
     ensures too_long { (result ≡ Err ImportFault.TooLong) ↔ (most_bytes < length input.now) }
-    ensures refused { IfErr result (IsRefusal (lines_of input.now)) }
+    ensures refused { IfErr result (IsRefusal id rules (lines_of input.now)) }
 {
     if input.len() > MOST_BYTES {
         return Err(ImportFault::TooLong);
@@ -63,7 +65,7 @@ pub fn import_mat(
 fn read_file(alloc: Global, id: u64, rules: Rules, input: &[u8]) -> Result<Imported, ReadFault>
     requires { length input.now ≤ most_bytes }
     ensures done { IfOk result (λ imported. Imports id rules input.now imported.record imported.lines.items) }
-    ensures fault { IfErr result (IsReadFault (lines_of input.now)) }
+    ensures fault { IfErr result (IsReadFault id rules (lines_of input.now)) }
 {
     let mut rest = input;
     let mut number: u32 = 1;
@@ -112,7 +114,7 @@ fn read_games(start: Replay, input: &[u8], first: u32) -> Result<Imported, ReadF
     requires few { first + length input.now < 4294967296 }
     ensures done { IfOk result (λ imported.
         ReadsGames start first (lines_of input.now) imported.record imported.lines.items) }
-    ensures fault { IfErr result (IsAtToldLine first (lines_of input.now)) }
+    ensures fault { IfErr result (Refuses (AreRefusedGames start first (lines_of input.now))) }
 {
     let mut replay = start;
     let mut awaited = Awaited::Game;
@@ -134,9 +136,11 @@ fn read_games(start: Replay, input: &[u8], first: u32) -> Result<Imported, ReadF
 
 /// Adds the scores before a game.
 fn add_scores(replay: &mut Replay, line: &[u8], number: u32) -> Result<Awaited, ReadFault>
-    requires { IsReplay replay.old }
+    requires replay { IsReplay replay.old }
+    requires closed { replay.old.pending ≡ None }
     ensures done { IfOk result (AddsLine Awaited.Scores line.now number replay.old replay.new) }
-    ensures fault { IfErr result (IsAtLineOf replay.old number) }
+    ensures next { IfOk result (λ next. next ≡ Awaited.Row) }
+    ensures fault { IfErr result (Refuses (IsRefusedLine Awaited.Scores replay.old line.now number)) }
 {
     replay.tell_scores(number, line)?;
     Ok(Awaited::Row)
@@ -147,7 +151,8 @@ fn add_game(replay: &mut Replay, game: u16, line: &[u8], number: u32) -> Result<
     requires replay { IsReplay replay.old }
     requires line { IsGameLine line.now game }
     ensures done { IfOk result (AddsLine Awaited.Game line.now number replay.old replay.new) }
-    ensures fault { IfErr result (IsAtLineOf replay.old number) }
+    ensures closed { IsOk result → replay.new.pending ≡ None }
+    ensures fault { IfErr result (Refuses (IsRefusedItem replay.old number (Game game))) }
 {
     replay.begin_game(number, game)?;
     Ok(Awaited::Scores)
@@ -157,7 +162,8 @@ fn add_game(replay: &mut Replay, game: u16, line: &[u8], number: u32) -> Result<
 fn add_heading(replay: &mut Replay, line: &[u8], number: u32) -> Result<Awaited, ReadFault>
     requires { IsReplay replay.old }
     ensures done { IfOk result (AddsLine Awaited.Game line.now number replay.old replay.new) }
-    ensures fault { IfErr result (IsAtLineOf replay.old number) }
+    ensures closed { IsOk result → replay.new.pending ≡ None }
+    ensures fault { IfErr result (Refuses (IsRefusedLine Awaited.Game replay.old line.now number)) }
 {
     match read_game(line) {
         Some(game) => add_game(replay, game, line, number),
@@ -167,9 +173,11 @@ fn add_heading(replay: &mut Replay, line: &[u8], number: u32) -> Result<Awaited,
 
 /// Adds what a line tells where a row, or the next game, is awaited.
 fn add_row_line(replay: &mut Replay, line: &[u8], number: u32) -> Result<Awaited, ReadFault>
-    requires { IsReplay replay.old }
+    requires replay { IsReplay replay.old }
+    requires row { (n : ℕ) → IsGameLine line.now n → ⊥ }
     ensures done { IfOk result (AddsLine Awaited.Row line.now number replay.old replay.new) }
-    ensures fault { IfErr result (IsAtLineOf replay.old number) }
+    ensures next { IfOk result (λ next. next ≢ Awaited.Scores) }
+    ensures fault { IfErr result (Refuses (IsRefusedLine Awaited.Row replay.old line.now number)) }
 {
     match read_row(line) {
         Ok(row) => add_row(replay, row, number),
@@ -184,15 +192,19 @@ fn read_line(
     line: &[u8],
     number: u32,
 ) -> Result<Awaited, ReadFault>
-    requires { IsReplay replay.old }
+    requires replay { IsReplay replay.old }
+    requires closed { awaited ≡ Awaited.Scores → replay.old.pending ≡ None }
     ensures done { IfOk result (AddsLine awaited line.now number replay.old replay.new) }
-    ensures fault { IfErr result (IsAtLineOf replay.old number) }
+    ensures closed { IfOk result (λ next. next ≡ Awaited.Scores → replay.new.pending ≡ None) }
+    ensures fault { IfErr result (Refuses (IsRefusedLine awaited replay.old line.now number)) }
 {
     match awaited {
         Awaited::Scores => add_scores(replay, line, number),
         Awaited::Game => add_heading(replay, line, number),
-        Awaited::Row if read_game(line).is_some() => add_heading(replay, line, number),
-        Awaited::Row => add_row_line(replay, line, number),
+        Awaited::Row => match read_game(line) {
+            Some(game) => add_game(replay, game, line, number),
+            None => add_row_line(replay, line, number),
+        },
     }
 }
 
@@ -205,7 +217,7 @@ fn add_cell(
 ) -> Result<(), ReadFault>
     requires { IsReplay replay.old }
     ensures done { OnOk result (GoesOnBy replay.old replay.new (numbered number (item_of player cell))) }
-    ensures fault { IfErr result (IsAtLineOf replay.old number) }
+    ensures fault { IfErr result (Refuses (AreRefusedItems replay.old number (item_of player cell))) }
 {
     match cell {
         Some(cell) => replay.play(number, player, cell),
@@ -218,7 +230,7 @@ fn add_row(replay: &mut Replay, row: Row, number: u32) -> Result<Awaited, ReadFa
     requires { IsReplay replay.old }
     ensures done { IfOk result (λ next. (next ≡ after_row row)
         × GoesOnBy replay.old replay.new (numbered number (items_of row.left row.right))) }
-    ensures fault { IfErr result (IsAtLineOf replay.old number) }
+    ensures fault { IfErr result (Refuses (AreRefusedItems replay.old number (items_of row.left row.right))) }
 {
     let next = awaited_behind(&row);
     let Row { left, right } = row;

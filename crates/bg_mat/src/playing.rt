@@ -1,10 +1,12 @@
 //! What the cells of a file add to a record.
-ghost use Rattle.std.specs.Prelude.{◌≡◌, [], ◌∷◌, None, IsTrue, OnOk};
+ghost use Rattle.std.specs.Prelude.{◌≡◌, ◌⊎◌, ◌↔◌, [], ◌∷◌, None, IsTrue, OnOk};
 ghost use Rattle.std.specs.Bool.{OnTrue, OnFalse};
 ghost use Rattle.bg_match.specs.Match.{IsLog};
-ghost use Rattle.bg_mat.specs.Telling.{Does, Game, deed_of, GoesOn, IsOver};
+ghost use Rattle.bg_mat.specs.Telling.{Does, Game, deed_of, GoesOn, IsOver, IsOverMatch};
 ghost use Rattle.bg_mat.specs.Replaying.{Adds, Begins, GoesOnBy, IsReplay, TellsScores, place_of};
-ghost use Rattle.bg_mat.specs.Refusals.{IsAtLine, IsAtLineOf};
+ghost use Rattle.bg_mat.specs.ItemFaults.{IsDeedFault, RefusesEntry};
+ghost use Rattle.bg_mat.specs.Refusals.{IsRefusedItem, Refuses, RefusesAt};
+ghost use Rattle.bg_mat.specs.Rows.Headings.{IsScoresLine};
 ghost use Rattle.std.specs.Prelude.{IfErr};
 
 use crate::MatFault;
@@ -64,7 +66,7 @@ impl Replay {
         requires replay { IsReplay self.old }
         requires closed { self.old.pending ≡ None }
         ensures done { OnOk result (Adds self.old self.new line entry) }
-        ensures fault { IfErr result (IsAtLine line) }
+        ensures fault { IfErr result (RefusesAt line (RefusesEntry self.old.log entry)) }
     {
         if self.lines.push(line).is_err() {
             return Err(ReadFault::Memory);
@@ -92,13 +94,16 @@ impl Replay {
 
     /// Whether a game is to be opened.
     fn is_opening(&self) -> bool
-        ensures { IsTrue result → self.now.standing.phase ≡ Phase.Opening }
+        ensures { IsTrue result ↔ (self.now.standing.phase ≡ Phase.Opening) }
     {
         matches!(self.standing.phase(), Phase::Opening)
     }
 
     /// Why no game begins.
-    fn game_fault(&self) -> MatFault {
+    fn game_fault(&self) -> MatFault
+        ensures { ((result ≡ MatFault.Entry EntryFault.MatchOver) × IsOverMatch self.now.standing)
+            ⊎ ((result ≡ MatFault.GameGoesOn) × (IsOverMatch self.now.standing → ⊥)) }
+    {
         match self.standing.phase() {
             Phase::Over(_) => MatFault::Entry(EntryFault::MatchOver),
             _ => MatFault::GameGoesOn,
@@ -109,7 +114,8 @@ impl Replay {
     pub(crate) fn begin_game(&mut self, line: u32, number: u16) -> Result<(), ReadFault>
         requires { IsReplay self.old }
         ensures done { OnOk result (GoesOnBy self.old self.new (record { line = line; item = Game number } ∷ [])) }
-        ensures fault { IfErr result (IsAtLineOf self.old line) }
+        ensures closed { OnOk result (self.new.pending ≡ None) }
+        ensures fault { IfErr result (Refuses (IsRefusedItem self.old line (Game number))) }
     {
         self.close(false)?;
         if number != u16::from(self.game) + 1 {
@@ -129,9 +135,9 @@ impl Replay {
         requires { IsReplay self.old }
         ensures done { OnOk result (GoesOnBy self.old self.new
             (record { line = line; item = Does player (deed_of cell) } ∷ [])) }
-        ensures fault { IfErr result (IsAtLineOf self.old line) }
+        ensures fault { IfErr result (Refuses (IsRefusedItem self.old line (Does player (deed_of cell)))) }
     {
-        let stays = matches!(cell, Cell::Wins(_)) && self.is_lost_to(player);
+        let stays = self.stays_before(player, &cell);
         self.close(stays)?;
         self.play_next(line, player, cell)
     }
@@ -142,7 +148,8 @@ impl Replay {
         requires closed { self.old.pending ≡ None }
         ensures done { OnOk result (GoesOnBy self.old self.new
             (record { line = line; item = Does player (deed_of cell) } ∷ [])) }
-        ensures fault { IfErr result (IsAtLine line) }
+        ensures fault { IfErr result (RefusesAt line
+            (IsDeedFault self.old.log (place_of self.old) player (deed_of cell))) }
     {
         match cell {
             Cell::Wins(win) => self.win(line, player, win),
@@ -158,7 +165,8 @@ impl Replay {
         requires closed { self.old.pending ≡ None }
         ensures done { OnOk result (GoesOnBy self.old self.new
             (record { line = line; item = Does player (deed_of cell) } ∷ [])) }
-        ensures fault { IfErr result (IsAtLine line) }
+        ensures fault { IfErr result (RefusesAt line
+            (IsDeedFault self.old.log (place_of self.old) player (deed_of cell))) }
     {
         match cell {
             Cell::Turn(dice, legs) if legs.is_empty() => {
@@ -177,12 +185,13 @@ impl Replay {
     }
 
     /// Compares a line with the scores before the game.
-    pub(crate) fn tell_scores(&mut self, number: u32, line: &[u8]) -> Result<(), ReadFault>
-        requires { IsReplay self.old }
-        ensures done { OnOk result (TellsScores self.old self.new number line.now) }
-        ensures fault { IfErr result (IsAtLineOf self.old number) }
+    pub(crate) fn tell_scores(&self, number: u32, line: &[u8]) -> Result<(), ReadFault>
+        requires replay { IsReplay self.now }
+        requires closed { self.now.pending ≡ None }
+        ensures done { OnOk result (TellsScores self.now self.now number line.now) }
+        ensures fault { IfErr result (RefusesAt number (λ why. (why ≡ MatFault.WrongScores)
+            × (IsScoresLine line.now self.now.standing.x_score self.now.standing.o_score → ⊥))) }
     {
-        self.close(false)?;
         let (x, o) = self.standing.score();
         if !has_scores(line, x, o) {
             return Err(refused(number, MatFault::WrongScores));

@@ -1,5 +1,6 @@
 //! A row of a game: what X does, in the left column, and what O does, in the right one.
-ghost use Rattle.std.specs.Prelude.{ℕ, List, IfOk};
+ghost use Rattle.std.specs.Prelude.{ℕ, List, IfErr, IfOk};
+ghost use Rattle.bg_mat.specs.Refusals.{IsRowFault};
 ghost use Rattle.bg_mat.specs.Rows.Cells.{SkipsNumber, TellsCell, TellsCells, TellsRow};
 ghost use Rattle.bg_mat.specs.Rows.Words.{IsBlankText};
 
@@ -37,7 +38,8 @@ fn skip_row_number(line: &[u8]) -> &[u8]
 
 /// A text's first cell alone: nothing follows it.
 fn read_cell(text: &[u8]) -> Result<Cell, MatFault>
-    ensures { IfOk result (λ cell. (rest : List ℕ) × TellsCell text.now cell rest × IsBlankText rest) }
+    ensures told { IfOk result (λ cell. (rest : List ℕ) × TellsCell text.now cell rest × IsBlankText rest) }
+    ensures fault { IfErr result (IsRowFault text.now) }
 {
     let (cell, rest) = split_cell(text)?;
     if is_blank_text(rest) {
@@ -49,7 +51,8 @@ fn read_cell(text: &[u8]) -> Result<Cell, MatFault>
 
 /// The cells of a row behind its number.
 fn read_cells(text: &[u8]) -> Result<Row, MatFault>
-    ensures { IfOk result (λ row. TellsCells text.now row.left row.right) }
+    ensures told { IfOk result (λ row. TellsCells text.now row.left row.right) }
+    ensures fault { IfErr result (IsRowFault text.now) }
 {
     if count_blanks(text) >= LEFT_COLUMN {
         return Ok(Row {
@@ -72,7 +75,8 @@ fn read_cells(text: &[u8]) -> Result<Row, MatFault>
 
 /// The cells of a row.
 pub(crate) fn read_row(line: &[u8]) -> Result<Row, MatFault>
-    ensures { IfOk result (TellsRow line.now) }
+    ensures told { IfOk result (TellsRow line.now) }
+    ensures fault { IfErr result (IsRowFault line.now) }
 {
     read_cells(skip_row_number(line))
 }

@@ -60,7 +60,7 @@ IsMatchFileVerdict bytes words (Fine n) =
     (log : Log) × (lines : List ℕ) × Imports 0 rules.One bytes log lines × (n ≡ length log.entries)
     × (words ≡ fine_line n)
 IsMatchFileVerdict bytes words (Refused n) =
-    (why : MatFault) × IsRefusal (lines_of bytes) (import_fault.Refused n why)
+    (why : MatFault) × IsRefusal 0 rules.One (lines_of bytes) (import_fault.Refused n why)
     × (words ≡ import_fault_words (import_fault.Refused n why))
 IsMatchFileVerdict bytes words TooLong =
     (most_bytes < length bytes) × (words ≡ import_fault_words import_fault.TooLong)

@@ -1,9 +1,9 @@
 -- The first words of headings.
 use Rattle.std.specs.Prelude.{◌≡◌, ◌↔◌, ℕ, Bool, true, false, List, [], ◌∷◌, codes, IsTrue}
 use Rattle.std.specs.Cmp.Lexicographic.{pointwise}
-use Rattle.std.proofs.Common.{nat_eq, refl, subst, inl, inr}
+use Rattle.std.proofs.Common.{nat_eq, refl, sym, ◌∙◌, subst, inl, inr}
 use Rattle.std.proofs.lemmas.Bool.{eq-eqb}
-use Rattle.bg_mat.specs.Rows.Headings.{EndsLength, IsComment, IsFiller, IsLengthLine, IsPoints}
+use Rattle.bg_mat.specs.Rows.Headings.{EndsLength, IsComment, IsFiller, IsGameLine, IsLengthLine, IsPoints}
 use Rattle.bg_mat.specs.Rows.Numbers.{IsNumber}
 use Rattle.bg_mat.specs.Rows.Words.{IsBlankText, IsFirstWord}
 use Rattle.bg_mat.proofs.OfReading.WordLemmas.{first_word_same, no_first_word}
@@ -67,3 +67,22 @@ length_ends text word rest end first second = (
       ),
   λ is none. (word, rest, end, first, is, second, none),
 )
+
+-- what the words of a line say of the number of a game
+pub no_game_word : (line : List ℕ) → ((rest : List ℕ) → IsFirstWord line (codes "Game") rest → ⊥) → (n : ℕ) → IsGameLine line n → ⊥
+no_game_word line none n (number, rest, (after, f, behind), blank, is) = none after f
+
+pub game_words : (line after number rest : List ℕ) (n : ℕ) → IsFirstWord line (codes "Game") after → IsFirstWord after number rest
+    → IsGameLine line n → IsNumber number n × IsBlankText rest
+game_words line after number rest n f g (other, end, (middle, first, (last, second, is_end)), blank, is) =
+    let same : middle ≡ after = (first_word_same line (codes "Game") middle (codes "Game") after first f).1 in
+    let here : IsFirstWord after other last = subst (λ (t : List ℕ). IsFirstWord t other last) same second in
+    let both = first_word_same after other last number rest here g in (
+      subst (λ (w : List ℕ). IsNumber w n) both.0 is,
+      subst (λ (t : List ℕ). IsBlankText t) (sym is_end ∙ both.1) blank,
+    )
+
+pub no_game_number : (line after : List ℕ) → IsFirstWord line (codes "Game") after → IsBlankText after → (n : ℕ) → IsGameLine line n → ⊥
+no_game_number line after f empty n (other, end, (middle, first, (last, second, is_end)), blank, is) =
+    let same : middle ≡ after = (first_word_same line (codes "Game") middle (codes "Game") after first f).1 in
+    no_first_word after other last empty (subst (λ (t : List ℕ). IsFirstWord t other last) same second)

@@ -1,12 +1,20 @@
 -- Which line a fault names.
-use Rattle.std.specs.Prelude.{◌≡◌, ◌⊎◌, ℕ, ◌+◌, ◌≤◌, Option, Some, None, List, [], ◌∷◌, ◌++◌, length, Result, Ok, Err, IfErr}
-use Rattle.std.proofs.Common.{append_assoc, length-append, refl, sym, ◌∙◌, ap, subst, inl, inr, arith}
+use Rattle.std.specs.Prelude.{◌≡◌, ℕ, ◌+◌, ◌≤◌, Bool, Option, Some, List, [], ◌∷◌, ◌++◌, Result, Ok, Err, IfErr, IfSome}
+use Rattle.std.proofs.Common.{append_assoc, refl, sym, ◌∙◌, ap, subst, inl, inr}
 use Rattle.std.specs.List.{AllByRecursion}
 use Rattle.bg_mat.specs.Files.{numbered}
 use Rattle.bg_mat.specs.Rows.Headings.{IsFiller, IsLengthLine}
 use Rattle.bg_text.specs.Judge.Judging.{lines_of}
-use Rattle.bg_mat.specs.Refusals.{AreRefused, IsAtLine, IsAtLineOf, IsAtPending, IsAtToldLine, IsBeginFault, IsReadFault, IsToldLine}
-use Rattle.bg_mat.specs.Replaying.{GoesOnBy, pending_items}
+use Rattle.bg_turns.specs.HasStep.{has_step}
+use Rattle.bg_match.specs.Match.{empty_log}
+use Rattle.bg_match.specs.Terms.{terms_of}
+use Rattle.bg_match.specs.declared.limits.Rules.{Rules}
+use Rattle.bg_mat.specs.ItemFaults.{IsPendingFault}
+use Rattle.bg_mat.specs.Refusals.{AreRefused, AreRefusedGames, AreRefusedItems, IsBeginFault, IsReadFault, IsRefusedItem, IsRefusedLine, IsToldLine, Refuses, RefusesAt, RefusesPending}
+use Rattle.bg_mat.specs.Replaying.{Begins, GoesOnBy, IsReplay, pending_items}
+use Rattle.bg_mat.proofs.OfReading.Readings.{IsReadUpTo, all_before, both_cells}
+use Rattle.bg_mat.proofs.OfReading.Replays.{stays}
+use Rattle.bg_mat.specs.declared.awaiting.Awaited.{Awaited}
 use Rattle.bg_mat.specs.Telling.{Item, Told}
 use Rattle.bg_mat.specs.declared.faults.MatFault.{MatFault}
 use Rattle.bg_mat.specs.declared.faults.ReadFault.{ReadFault}
@@ -42,92 +50,161 @@ pending_on P old new n items before here goes =
     (subst (λ (told : List Told). AreOn P told) goes.same
     (on_both P (pending_items old.pending) (numbered n items) before (on_line P n items here)))
 
--- this line, or the one of the turn that is pending
-abbrev pub IsLineOf : Replay → ℕ → ℕ → Type 0
-IsLineOf r n m = (m ≡ n) ⊎ ((turn : PendingTurn) × (r.pending ≡ Some turn) × (m ≡ turn.line))
+-- one of such lines and reasons is one of others
+pub refuses : {F G : ℕ → MatFault → Type 0} (fault : ReadFault) → ((number : ℕ) (why : MatFault) → F number why → G number why)
+    → Refuses F fault → Refuses G fault
+refuses (read_fault.Refused number why) f h = f number why h
+refuses read_fault.Memory f h = h
 
-pub at_line : (r : Replay) (n m : ℕ) (fault : ReadFault) → IsLineOf r n m → IsAtLine m fault → IsAtLineOf r n fault
-at_line r n m (read_fault.Refused number why) (inl here) at = inl (at ∙ here)
-at_line r n m (read_fault.Refused number why) (inr (turn, is, there)) at = inr (turn, is, at ∙ there)
-at_line r n m read_fault.Memory h at = inl tt
+pub refuses_at : {F : MatFault → Type 0} {G : ℕ → MatFault → Type 0} (n : ℕ) (fault : ReadFault)
+    → ((number : ℕ) (why : MatFault) → number ≡ n → F why → G number why) → RefusesAt n F fault → Refuses G fault
+refuses_at n (read_fault.Refused number why) f h = f number why h.0 h.1
+refuses_at n read_fault.Memory f h = h
 
-own_pending : (r : Replay) (p : Option PendingTurn) (n : ℕ) → r.pending ≡ p → AreOn (IsLineOf r n) (pending_items p)
-own_pending r None n is = tt
-own_pending r (Some turn) n is = (inr (turn, is, refl), tt)
+pub why_at : {F G : MatFault → Type 0} (n : ℕ) (fault : ReadFault) → ((why : MatFault) → F why → G why)
+    → RefusesAt n F fault → RefusesAt n G fault
+why_at n (read_fault.Refused number why) f h = (h.0, f why h.1)
+why_at n read_fault.Memory f h = h
 
--- a fault behind other items of the same line
-pub at_line_then : (old middle : Replay) (n : ℕ) (items : List Item) (fault : ReadFault) → GoesOnBy old middle (numbered n items)
-    → IsAtLineOf middle n fault → IsAtLineOf old n fault
-at_line_then old middle n items fault goes (inl at) = inl at
-at_line_then old middle n items fault goes (inr (turn, is, at)) =
-    let all = pending_on (IsLineOf old n) old middle n items (own_pending old old.pending n refl) (inl refl) goes in
-    let here : AreOn (IsLineOf old n) (pending_items (Some turn)) =
-    subst (λ (p : Option PendingTurn). AreOn (IsLineOf old n) (pending_items p)) is all in
-    at_line old n turn.line fault here.0 at
-
--- a fault of a line that tells something
-pub at_told : (P : ℕ → Type 0) (first : ℕ) (lines : List (List ℕ)) (r : Replay) (fault : ReadFault)
-    → ((n : ℕ) → P n → IsToldLine first lines n) → AreOn P (pending_items r.pending) → IsAtPending r fault
-    → IsAtToldLine first lines fault
-at_told P first lines r read_fault.Memory all on h = tt
-at_told P first lines r (read_fault.Refused number why) all on (turn, is, at) =
-    let here : AreOn P (pending_items (Some turn)) = subst (λ (p : Option PendingTurn). AreOn P (pending_items p)) is on in
-    subst (λ (n : ℕ). IsToldLine first lines n) (sym at) (all turn.line here.0)
-
-pub at_told_line : (first : ℕ) (lines : List (List ℕ)) (r : Replay) (n : ℕ) (fault : ReadFault) → IsToldLine first lines n
-    → AreOn (IsToldLine first lines) (pending_items r.pending) → IsAtLineOf r n fault → IsAtToldLine first lines fault
-at_told_line first lines r n read_fault.Memory told on h = tt
-at_told_line first lines r n (read_fault.Refused number why) told on (inl at) =
-    subst (λ (m : ℕ). IsToldLine first lines m) (sym at) told
-at_told_line first lines r n (read_fault.Refused number why) told on (inr at) =
-    at_told (IsToldLine first lines) first lines r (read_fault.Refused number why) (λ m h. h) on at
-
--- so many lines stand before the rest
-pub record IsCut (first : ℕ) (input : List ℕ) (n : ℕ) (rest : List ℕ) : Type 0 where
-  pub before : List (List ℕ)
-  pub cut : lines_of input ≡ before ++ lines_of rest
-  pub number_is : n ≡ first + length before
-
-pub not_cut : (first : ℕ) (input : List ℕ) → IsCut first input first input
-not_cut first input = record { before = []; cut = refl; number_is = omega arith }
-
-pub cut_more : (first : ℕ) (input : List ℕ) (n : ℕ) (rest line after : List ℕ) → IsCut first input n rest
-    → lines_of rest ≡ line ∷ lines_of after → IsCut first input (n + 1) after
-cut_more first input n rest line after c split = record {
-  before = c.before ++ line ∷ [];
-  cut = c.cut ∙ (ap (λ (ls : List (List ℕ)). c.before ++ ls) split ∙ sym (append_assoc c.before (line ∷ []) (lines_of after)));
-  number_is = (let n_is = c.number_is in omega (arith, length-append c.before (line ∷ [])));
+-- an item behind none
+pub one_refused : (r : Replay) (n : ℕ) (item : Item) (number : ℕ) (why : MatFault) → IsReplay r
+    → IsRefusedItem r n item number why → AreRefusedItems r n (item ∷ []) number why
+one_refused r n item number why kept h = record {
+  before = [];
+  item = item;
+  behind = [];
+  cut = refl;
+  old = r;
+  goes = stays r kept;
+  refused = h;
 }
 
-pub told_here : (first : ℕ) (input : List ℕ) (n : ℕ) (rest line after : List ℕ) → IsCut first input n rest
-    → lines_of rest ≡ line ∷ lines_of after → (IsFiller line → ⊥) → IsToldLine first (lines_of input) n
-told_here first input n rest line after c split none = record {
-  before = c.before;
+-- one of the items of the first cell of a row
+pub first_refused : (r : Replay) (n : ℕ) (a b : List Item) (number : ℕ) (why : MatFault) → AreRefusedItems r n a number why
+    → AreRefusedItems r n (a ++ b) number why
+first_refused r n a b number why h = record {
+  before = h.before;
+  item = h.item;
+  behind = h.behind ++ b;
+  cut = ap (λ (xs : List Item). xs ++ b) h.cut ∙ append_assoc h.before (h.item ∷ h.behind) b;
+  old = h.old;
+  goes = h.goes;
+  refused = h.refused;
+}
+
+-- of the second one
+pub second_refused : (r middle : Replay) (n : ℕ) (a b : List Item) (number : ℕ) (why : MatFault) → GoesOnBy r middle (numbered n a)
+    → AreRefusedItems middle n b number why → AreRefusedItems r n (a ++ b) number why
+second_refused r middle n a b number why goes h = record {
+  before = a ++ h.before;
+  item = h.item;
+  behind = h.behind;
+  cut = ap (λ (xs : List Item). a ++ xs) h.cut ∙ sym (append_assoc a h.before (h.item ∷ h.behind));
+  old = h.old;
+  goes = both_cells r middle h.old n a h.before goes h.goes;
+  refused = h.refused;
+}
+
+-- where the line is this one, or that of the turn that is pending
+items_on : (P : ℕ → Type 0) (r : Replay) (n : ℕ) (items : List Item) (number : ℕ) (why : MatFault)
+    → AreOn P (pending_items r.pending) → P n → AreRefusedItems r n items number why → P number
+items_on P r n items number why before here a =
+    let on : AreOn P (pending_items a.old.pending) = pending_on P r a.old n a.before before here a.goes in
+    elim a.refused.refused [
+      | inl (turn, is, at, fault) ↦
+          let there : AreOn P (pending_items (Some turn)) = subst (λ (p : Option PendingTurn). AreOn P (pending_items p)) is on in
+          subst P (sym at) there.0
+      | inr (closed, by, at, fault) ↦ subst P (sym at) here
+    ]
+
+line_on : (P : ℕ → Type 0) (here : Awaited) (r : Replay) (line : List ℕ) (n number : ℕ) (why : MatFault)
+    → AreOn P (pending_items r.pending) → P n → IsRefusedLine here r line n number why → P number
+line_on P here r line n number why before at (inl (is, shape)) = subst P (sym is) at
+line_on P here r line n number why before at (inr (inl h)) = subst P (sym h.0) at
+line_on P here r line n number why before at (inr (inr (items, next, tells, a))) = items_on P r n items number why before at a
+
+pub told_here : (from : Replay) (first : ℕ) (input : List ℕ) (now : Replay) (here : Awaited) (n : ℕ) (rest line after : List ℕ)
+    → IsReadUpTo from first input now here n rest → lines_of rest ≡ line ∷ lines_of after → (IsFiller line → ⊥)
+    → IsToldLine first (lines_of input) n
+told_here from first input now here n rest line after r split none = record {
+  before = r.before;
   line = line;
   behind = lines_of after;
-  cut = c.cut ∙ ap (λ (ls : List (List ℕ)). c.before ++ ls) split;
-  number_is = c.number_is;
+  cut = r.cut ∙ ap (λ (ls : List (List ℕ)). r.before ++ ls) split;
+  number_is = r.number_is;
   no_filler = none;
 }
 
+-- a line is refused behind those before it
+pub line_refused : (from : Replay) (first : ℕ) (input : List ℕ) (now : Replay) (here : Awaited) (n : ℕ) (rest line after : List ℕ) (fault : ReadFault)
+    → IsReadUpTo from first input now here n rest → lines_of rest ≡ line ∷ lines_of after → (IsFiller line → ⊥)
+    → AreOn (IsToldLine first (lines_of input)) (pending_items now.pending) → Refuses (IsRefusedLine here now line n) fault
+    → Refuses (AreRefusedGames from first (lines_of input)) fault
+line_refused from first input now here n rest line after read_fault.Memory r split none on h = tt
+line_refused from first input now here n rest line after (read_fault.Refused number why) r split none on h = (
+  line_on (IsToldLine first (lines_of input)) here now line n number why on
+      (told_here from first input now here n rest line after r split none) h,
+  inl record {
+    before = r.before;
+    line = line;
+    behind = lines_of after;
+    cut = r.cut ∙ ap (λ (ls : List (List ℕ)). r.before ++ ls) split;
+    no_filler = none;
+    told = r.told;
+    here = here;
+    file = r.file;
+    r = now;
+    goes = r.goes;
+    refused = subst (λ (m : ℕ). IsRefusedLine here now line m number why) r.number_is h;
+  },
+)
+
+-- the dice that are pending at the end
+pub end_refused : (from : Replay) (first : ℕ) (input : List ℕ) (now : Replay) (here : Awaited) (n : ℕ) (rest : List ℕ) (fault : ReadFault) (alone : Bool)
+    → IsReadUpTo from first input now here n rest → rest ≡ [] → AreOn (IsToldLine first (lines_of input)) (pending_items now.pending)
+    → RefusesPending alone now fault
+    → IfSome now.pending (λ turn. alone ≡ has_step now.standing.board turn.player turn.dice)
+    → Refuses (AreRefusedGames from first (lines_of input)) fault
+end_refused from first input now here n rest read_fault.Memory alone r none on h is = tt
+end_refused from first input now here n rest (read_fault.Refused number why) alone r none on (turn, pends, h) is =
+    let there : AreOn (IsToldLine first (lines_of input)) (pending_items (Some turn)) =
+    subst (λ (p : Option PendingTurn). AreOn (IsToldLine first (lines_of input)) (pending_items p)) pends on in
+    let same : alone ≡ has_step now.standing.board turn.player turn.dice =
+    subst (λ (p : Option PendingTurn). IfSome p (λ t. alone ≡ has_step now.standing.board t.player t.dice)) pends is in (
+      subst (IsToldLine first (lines_of input)) (sym h.0) there.0,
+      inr record {
+        told = r.told;
+        here = here;
+        file = all_before from first input now here n rest r none;
+        r = now;
+        goes = r.goes;
+        turn = turn;
+        pending = pends;
+        number_is = h.0;
+        refused = subst (λ (b : Bool). IsPendingFault b now.log now.standing turn.player turn.dice why) same h.1;
+      },
+    )
+
 -- how a fault of what is left is one of the whole
-abbrev pub RefusesFrom : List ℕ → ℕ → List ℕ → Type 0
-RefusesFrom input n rest = (number : ℕ) (why : MatFault) → AreRefused n (lines_of rest) number why → AreRefused 1 (lines_of input) number why
+abbrev pub RefusesFrom : ℕ → Rules → List ℕ → ℕ → List ℕ → Type 0
+RefusesFrom id rules input n rest =
+    (number : ℕ) (why : MatFault) → AreRefused id rules n (lines_of rest) number why → AreRefused id rules 1 (lines_of input) number why
 
-pub filler_refused : (input : List ℕ) (n : ℕ) (rest line after : List ℕ) → RefusesFrom input n rest
-    → lines_of rest ≡ line ∷ lines_of after → IsFiller line → RefusesFrom input (n + 1) after
-filler_refused input n rest line after from split filler number why h = from number why (rw split (inl (filler, h)))
+pub filler_refused : (id : ℕ) (rules : Rules) (input : List ℕ) (n : ℕ) (rest line after : List ℕ) → RefusesFrom id rules input n rest
+    → lines_of rest ≡ line ∷ lines_of after → IsFiller line → RefusesFrom id rules input (n + 1) after
+filler_refused id rules input n rest line after from split filler number why h = from number why (rw split (inl (filler, h)))
 
-pub begin_refused : (input : List ℕ) (n : ℕ) (rest line after : List ℕ) (fault : ReadFault) → RefusesFrom input n rest
+pub begin_refused : (id : ℕ) (rules : Rules) (input : List ℕ) (n : ℕ) (rest line after : List ℕ) (fault : ReadFault) → RefusesFrom id rules input n rest
     → lines_of rest ≡ line ∷ lines_of after → (IsFiller line → ⊥) → IsBeginFault line n fault
-    → IsReadFault (lines_of input) fault
-begin_refused input n rest line after read_fault.Memory from split none h = tt
-begin_refused input n rest line after (read_fault.Refused number why) from split none h =
+    → IsReadFault id rules (lines_of input) fault
+begin_refused id rules input n rest line after read_fault.Memory from split none h = tt
+begin_refused id rules input n rest line after (read_fault.Refused number why) from split none h =
     from number why (rw split (inr (none, inl h)))
 
-pub games_refused : (input : List ℕ) (n points : ℕ) (rest line after : List ℕ) (fault : ReadFault) → RefusesFrom input n rest
+pub games_refused : (id : ℕ) (rules : Rules) (input : List ℕ) (n points : ℕ) (rest line after : List ℕ) (fault : ReadFault) → RefusesFrom id rules input n rest
     → lines_of rest ≡ line ∷ lines_of after → (IsFiller line → ⊥) → IsLengthLine line points → 1 ≤ points → points ≤ 99
-    → IsAtToldLine (n + 1) (lines_of after) fault → IsReadFault (lines_of input) fault
-games_refused input n points rest line after read_fault.Memory from split none is low high h = tt
-games_refused input n points rest line after (read_fault.Refused number why) from split none is low high h =
-    from number why (rw split (inr (none, inr (points, is, low, high, h))))
+    → (r : Replay) → Begins (empty_log id (terms_of points rules)) r
+    → Refuses (AreRefusedGames r (n + 1) (lines_of after)) fault → IsReadFault id rules (lines_of input) fault
+games_refused id rules input n points rest line after read_fault.Memory from split none is low high r begins h = tt
+games_refused id rules input n points rest line after (read_fault.Refused number why) from split none is low high r begins h =
+    from number why (rw split (inr (none, inr (points, is, low, high, (r, begins, h)))))

@@ -8,7 +8,9 @@ use Rattle.bg_board.specs.declared.players.Player.{Player}
 use Rattle.bg_turns.specs.Turn.{IsLegalTurn}
 use Rattle.bg_turns.specs.TurnOrder.{IsGreater}
 use Rattle.bg_turns.specs.declared.throws.Dice.{Dice}
+use Rattle.bg_mat.specs.ItemFaults.{IsMovementFault}
 use Rattle.bg_mat.specs.Turns.{HasHits, HasMovement, IsAsWritten, SameMovement, TellsTurn, steps_of}
+use Rattle.bg_mat.specs.declared.faults.MatFault.TheVariants as why
 use Rattle.bg_mat.specs.declared.movements.legs.Leg.{Leg}
 
 -- the legs as steps
@@ -74,4 +76,32 @@ none_more b p legs turns i turn before here wrong k d below moved hits =
           let same : slice_index_or turns k d ≡ turn = ap (λ (n : ℕ). slice_index_or turns n d) e ∙ here d in
           wrong (subst (λ (x : List FromTo). SameMovement (steps_of legs) x) same moved)
           (subst (λ (x : List FromTo). HasHits b p legs x) same hits)
+    ]
+
+-- a turn of the list has the movement
+pub one_moved : (b : Position) (p : Player) (dice : Dice) (legs : List Leg) (turns : List (List FromTo)) (i : ℕ) (turn : List FromTo)
+    → ((steps : List FromTo) → Contains turns steps ↔ IsLegalTurn b p dice steps) → i < length turns
+    → ((d : List FromTo) → slice_index_or turns i d ≡ turn) → SameMovement (steps_of legs) turn
+    → ((other : List FromTo) → HasMovement b p dice legs other → ⊥) → IsMovementFault b p dice legs why.WrongHits
+one_moved b p dice legs turns i turn exact within here moved none = ((turn, (exact turn).0 (i, within, here turn), moved), none)
+
+-- none has
+pub no_movement : (b : Position) (p : Player) (dice : Dice) (legs : List Leg) (turns : List (List FromTo))
+    → ((steps : List FromTo) → Contains turns steps ↔ IsLegalTurn b p dice steps)
+    → ((k : ℕ) (d : List FromTo) → k < length turns → SameMovement (steps_of legs) (slice_index_or turns k d) → ⊥)
+    → IsMovementFault b p dice legs why.NoSuchTurn
+no_movement b p dice legs turns exact none = λ turn legal moved.
+    let at : Contains turns turn = (exact turn).1 legal in none at.0 turn at.1 (rw at.2 moved)
+
+-- nor has the one at the next place
+pub none_moved : (legs : List Leg) (turns : List (List FromTo)) (i : ℕ) (turn : List FromTo)
+    → ((k : ℕ) (d : List FromTo) → k < i → SameMovement (steps_of legs) (slice_index_or turns k d) → ⊥)
+    → ((d : List FromTo) → slice_index_or turns i d ≡ turn) → (SameMovement (steps_of legs) turn → ⊥)
+    → (k : ℕ) (d : List FromTo) → k < i + 1 → SameMovement (steps_of legs) (slice_index_or turns k d) → ⊥
+none_moved legs turns i turn before here wrong k d below moved =
+    elim (cases_lt k i) [
+      | inl early ↦ before k d early moved
+      | inr late ↦ let e : k ≡ i = omega arith in
+          let same : slice_index_or turns k d ≡ turn = ap (λ (n : ℕ). slice_index_or turns n d) e ∙ here d in
+          wrong (subst (λ (x : List FromTo). SameMovement (steps_of legs) x) same moved)
     ]

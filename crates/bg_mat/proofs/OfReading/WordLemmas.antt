@@ -47,7 +47,7 @@ begins_word (x ∷ text) [] (y ∷ rest) e some solid ends =
     absurd (cc (other, solid))
 begins_word (x ∷ text) (y ∷ word) rest e some solid ends = omega arith
 
-tail_of : (P : ℕ → Type 0) (x : ℕ) (xs : List ℕ) → All P (x ∷ xs) → All P xs
+pub tail_of : (P : ℕ → Type 0) (x : ℕ) (xs : List ℕ) → All P (x ∷ xs) → All P xs
 tail_of P x xs h k d l = h (suc k) d (omega arith)
 
 solids_same : (w r v s : List ℕ) → w ++ r ≡ v ++ s → IsSolid w → IsSolid v → EndsWord r → EndsWord s

@@ -28,6 +28,12 @@ abbrev pub BeginsSolid : List ℕ → Type 0
 BeginsSolid [] = Unit {0}
 BeginsSolid (byte ∷ rest) = is_blank byte ≡ false
 
+-- no blank ends the text
+abbrev pub EndsSolid : List ℕ → Type 0
+EndsSolid [] = Unit {0}
+EndsSolid (byte ∷ []) = is_blank byte ≡ false
+EndsSolid (byte ∷ next ∷ rest) = EndsSolid (next ∷ rest)
+
 -- the first word of a text, and what follows it
 pub record IsFirstWord (text word rest : List ℕ) : Type 0 where
   pub blanks : List ℕ

@@ -2,6 +2,7 @@
 ghost use Rattle.std.specs.Prelude.{◌≤◌, ◌↔◌, List, IsTrue, IfOk, MatchOption, length};
 ghost use Rattle.bg_board.specs.FromTo.{FromTo};
 ghost use Rattle.bg_turns.specs.Turn.{IsLegalTurn};
+ghost use Rattle.bg_mat.specs.ItemFaults.{IsMovementFault};
 ghost use Rattle.bg_mat.specs.Turns.{HasHits, HasMovement, SameMovement, TellsTurn};
 
 use crate::MatFault;
@@ -71,6 +72,8 @@ pub(crate) fn turn_fault(
     legs: &[Leg],
 ) -> Result<MatFault, AllocError>
     requires { length legs.now ≤ 4 }
+    ensures { IfOk result (λ why. ((turn : List FromTo) → HasMovement board.now player dice legs.now turn → ⊥)
+        → IsMovementFault board.now player dice legs.now why) }
 {
     let written = as_turn(legs);
     let turns = legal_turns(alloc, board, player, dice)?;

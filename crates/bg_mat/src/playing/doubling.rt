@@ -1,8 +1,9 @@
 //! Doubles and their answers.
-ghost use Rattle.std.specs.Prelude.{◌≡◌, ◌*◌, None, IsTrue, OnOk};
+ghost use Rattle.std.specs.Prelude.{◌≡◌, ◌↔◌, ◌*◌, None, IsTrue, OnOk};
 ghost use Rattle.bg_mat.specs.Telling.{Doubles, Drops, Takes, GoesOn};
 ghost use Rattle.bg_mat.specs.Replaying.{IsReplay, Plays, place_of};
-ghost use Rattle.bg_mat.specs.Refusals.{IsAtLine};
+ghost use Rattle.bg_mat.specs.ItemFaults.{IsAnswerFault, IsDoubleFault};
+ghost use Rattle.bg_mat.specs.Refusals.{RefusesAt};
 ghost use Rattle.std.specs.Prelude.{IfErr};
 
 use super::Replay;
@@ -14,14 +15,14 @@ use bg_match::{Entry, Phase};
 impl Replay {
     /// Whether the player is to act.
     fn is_to_act(&self, player: Player) -> bool
-        ensures { IsTrue result → self.now.standing.phase ≡ Phase.ToAct player }
+        ensures { IsTrue result ↔ (self.now.standing.phase ≡ Phase.ToAct player) }
     {
         matches!(self.standing.phase(), Phase::ToAct(acting) if acting == player)
     }
 
     /// Whether the player is to answer a double.
     fn is_doubled(&self, player: Player) -> bool
-        ensures { IsTrue result → self.now.standing.phase ≡ Phase.Doubled player }
+        ensures { IsTrue result ↔ (self.now.standing.phase ≡ Phase.Doubled player) }
     {
         matches!(self.standing.phase(), Phase::Doubled(acting) if acting == player)
     }
@@ -38,7 +39,7 @@ impl Replay {
         requires goes_on { GoesOn (place_of self.old) }
         requires closed { self.old.pending ≡ None }
         ensures done { OnOk result (Plays self.old self.new line player (Doubles shows)) }
-        ensures fault { IfErr result (IsAtLine line) }
+        ensures fault { IfErr result (RefusesAt line (IsDoubleFault self.old.log self.old.standing player shows)) }
     {
         if !self.is_to_act(player) {
             return Err(refused(line, MatFault::OutOfTurn));
@@ -54,7 +55,8 @@ impl Replay {
         requires goes_on { GoesOn (place_of self.old) }
         requires closed { self.old.pending ≡ None }
         ensures done { OnOk result (Plays self.old self.new line player Takes) }
-        ensures fault { IfErr result (IsAtLine line) }
+        ensures fault { IfErr result (RefusesAt line
+            (IsAnswerFault self.old.log self.old.standing player Entry.Taken)) }
     {
         if !self.is_doubled(player) {
             return Err(refused(line, MatFault::OutOfTurn));
@@ -67,7 +69,8 @@ impl Replay {
         requires goes_on { GoesOn (place_of self.old) }
         requires closed { self.old.pending ≡ None }
         ensures done { OnOk result (Plays self.old self.new line player Drops) }
-        ensures fault { IfErr result (IsAtLine line) }
+        ensures fault { IfErr result (RefusesAt line
+            (IsAnswerFault self.old.log self.old.standing player Entry.Dropped)) }
     {
         if !self.is_doubled(player) {
             return Err(refused(line, MatFault::OutOfTurn));

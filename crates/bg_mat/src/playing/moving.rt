@@ -1,11 +1,15 @@
 //! Dice and moves.
-ghost use Rattle.std.specs.Prelude.{◌≡◌, ◌≢◌, [], None, IfOk, OnOk};
+ghost use Rattle.std.specs.Prelude.{◌≡◌, ◌≢◌, ◌↔◌, ◌+◌, Bool, [], None, IfOk, IfSome, IsTrue, OnOk, length, if◌then◌else◌};
 ghost use Rattle.bg_match.specs.State.{State};
 ghost use Rattle.bg_turns.specs.Dice.{first_pips, second_pips};
+ghost use Rattle.bg_turns.specs.HasStep.{has_step};
+ghost use Rattle.bg_turns.specs.declared.throws.Dice.{Dice as DiceOf};
 ghost use Rattle.bg_mat.specs.Turns.{TellsTurn};
-ghost use Rattle.bg_mat.specs.Telling.{Turn as Turns, GoesOn, BringsDice};
-ghost use Rattle.bg_mat.specs.Replaying.{AddsMove, Closes, IsReplay, Plays, Rolls, place_of};
-ghost use Rattle.bg_mat.specs.Refusals.{IsAtLine, IsAtPending};
+ghost use Rattle.bg_mat.specs.Telling.{Turn as Turns, Does, GoesOn, BringsDice, deed_of};
+ghost use Rattle.bg_mat.specs.Replaying.{AddsMove, Closes, ClosesBy, IsReplay, Plays, Rolls, place_of};
+ghost use Rattle.bg_mat.specs.ItemFaults.{IsDiceFault, IsEmptyFault, IsMoveFault, IsMovementFault, IsPendingFault};
+ghost use Rattle.bg_mat.specs.ItemFaults.{IsRollFault, IsThrowFault};
+ghost use Rattle.bg_mat.specs.Refusals.{LosesBy, RefusesAt, RefusesPending};
 ghost use Rattle.std.specs.Prelude.{IfErr};
 
 use super::{PendingTurn, Replay};
@@ -13,6 +17,7 @@ use crate::MatFault;
 use crate::faults::{ReadFault, refused};
 use crate::movements::legs::Legs;
 use crate::movements::turns::{find_turn, turn_fault};
+use crate::rows::cells::Cell;
 use arrayvec::ArrayVec;
 use bg_board::Player;
 use bg_match::{Actor, Entry, EntryFault, Phase, Standing};
@@ -41,7 +46,8 @@ pub(super) fn entry_of_dice(
     dice: Dice,
     standing: &Standing,
 ) -> Result<Entry, MatFault>
-    ensures { IfOk result (BringsDice standing.now player dice) }
+    ensures brings { IfOk result (BringsDice standing.now player dice) }
+    ensures fault { IfErr result (IsDiceFault standing.now player dice) }
 {
     match standing.phase() {
         Phase::Opening if dice.is_double() => Err(MatFault::Entry(EntryFault::EqualOpening)),
@@ -57,7 +63,7 @@ impl Replay {
         requires replay { IsReplay self.old }
         requires closed { self.old.pending ≡ None }
         ensures done { OnOk result (Rolls self.old self.new line player dice) }
-        ensures fault { IfErr result (IsAtLine line) }
+        ensures fault { IfErr result (RefusesAt line (IsRollFault self.old.log self.old.standing player dice)) }
     {
         match entry_of_dice(player, dice, &self.standing) {
             Ok(entry) => self.add(line, entry),
@@ -68,7 +74,8 @@ impl Replay {
     /// The turn that a movement tells where the match stands.
     fn turn_of(&self, line: u32, player: Player, dice: Dice, legs: &Legs) -> Result<Turn, ReadFault>
         ensures done { IfOk result (TellsTurn self.now.standing.board player dice legs.now.items) }
-        ensures fault { IfErr result (IsAtLine line) }
+        ensures fault { IfErr result (RefusesAt line
+            (IsMovementFault self.now.standing.board player dice legs.now.items)) }
     {
         let alloc = *self.lines.allocator();
         let board = self.standing.board();
@@ -95,7 +102,8 @@ impl Replay {
         requires goes_on { GoesOn (place_of self.old) }
         requires closed { self.old.pending ≡ None }
         ensures done { OnOk result (Plays self.old self.new line player (Turns dice legs.now.items)) }
-        ensures fault { IfErr result (IsAtLine line) }
+        ensures fault { IfErr result (RefusesAt line (IsThrowFault self.old.log self.old.standing player dice
+            (λ log s. IsMoveFault log s player dice legs.now.items))) }
     {
         self.roll(line, player, dice)?;
         let turn = self.turn_of(line, player, dice, legs)?;
@@ -105,7 +113,7 @@ impl Replay {
     /// The turn without steps, where the match stands.
     fn empty_turn(&self, line: u32, player: Player, dice: Dice) -> Result<Turn, ReadFault>
         ensures done { IfOk result (TellsTurn self.now.standing.board player dice []) }
-        ensures fault { IfErr result (IsAtLine line) }
+        ensures fault { IfErr result (RefusesAt line (IsMovementFault self.now.standing.board player dice [])) }
     {
         self.turn_of(line, player, dice, &ArrayVec::new())
     }
@@ -114,10 +122,11 @@ impl Replay {
     fn add_empty(&mut self, line: u32, player: Player, dice: Dice) -> Result<(), ReadFault>
         requires replay { IsReplay self.old }
         requires closed { self.old.pending ≡ None }
+        requires moves { (thrown : DiceOf) × (self.old.standing.phase ≡ Phase.ToMove player thrown) }
         ensures done { OnOk result (AddsMove self.old self.new line player dice) }
-        ensures fault { IfErr result (IsAtLine line) }
+        ensures fault { IfErr result (RefusesAt line (IsEmptyFault self.old.log self.old.standing player dice)) }
     {
-        if self.log.actor() == Actor::Referee {
+        if self.standing.actor() == Actor::Referee {
             return self.add(line, Entry::Passed);
         }
         let turn = self.empty_turn(line, player, dice)?;
@@ -130,7 +139,10 @@ impl Replay {
         requires goes_on { GoesOn (place_of self.old) }
         requires closed { self.old.pending ≡ None }
         ensures done { OnOk result (Plays self.old self.new turn.line turn.player (Turns turn.dice [])) }
-        ensures fault { IfErr result (IsAtLine turn.line) }
+        ensures many { OnOk result (length self.new.log.entries
+            ≡ length self.old.log.entries + (if stays then 1 else 2)) }
+        ensures fault { IfErr result (RefusesAt turn.line
+            (IsPendingFault stays self.old.log self.old.standing turn.player turn.dice)) }
     {
         self.roll(turn.line, turn.player, turn.dice)?;
         if stays {
@@ -142,8 +154,8 @@ impl Replay {
     /// Adds the turn that is pending, if there is one: its dice alone where it stays without a turn.
     pub(super) fn close(&mut self, stays: bool) -> Result<(), ReadFault>
         requires { IsReplay self.old }
-        ensures done { OnOk result (Closes self.old self.new) }
-        ensures fault { IfErr result (IsAtPending self.old) }
+        ensures done { OnOk result (ClosesBy stays self.old self.new) }
+        ensures fault { IfErr result (RefusesPending stays self.old) }
     {
         match self.pending.take() {
             Some(turn) => self.add_pending(turn, stays),
@@ -152,15 +164,31 @@ impl Replay {
     }
 
     /// Whether the turn that is pending is that of a player who loses to this one.
-    pub(super) fn is_lost_to(&self, winner: Player) -> bool {
+    fn is_lost_to(&self, winner: Player) -> bool
+        ensures { IfSome self.now.pending (λ turn. IsTrue result ↔ (turn.player ≢ winner)) }
+    {
         match self.pending {
             Some(turn) => turn.player != winner,
             None => false,
         }
     }
 
+    /// Whether the dice that are pending stay without a turn before a cell: their player loses by it.
+    pub(super) fn stays_before(&self, player: Player, cell: &Cell) -> bool
+        ensures { IfSome self.now.pending (λ turn.
+            IsTrue result ↔ LosesBy turn.player (Does player (deed_of cell.now))) }
+    {
+        match cell {
+            Cell::Wins(_) => self.is_lost_to(player),
+            _ => false,
+        }
+    }
+
     /// Whether the player whose turn is pending has a step.
-    fn can_move(&self) -> bool {
+    fn can_move(&self) -> bool
+        ensures { IfSome self.now.pending (λ turn.
+            result ≡ has_step self.now.standing.board turn.player turn.dice) }
+    {
         match self.pending {
             Some(turn) => can_step(&self.standing.board(), turn.player, turn.dice),
             None => false,
@@ -171,7 +199,8 @@ impl Replay {
     pub(crate) fn finish(&mut self) -> Result<(), ReadFault>
         requires { IsReplay self.old }
         ensures done { OnOk result (Closes self.old self.new) }
-        ensures fault { IfErr result (IsAtPending self.old) }
+        ensures fault { IfErr result (λ fault. (stays : Bool) × RefusesPending stays self.old fault
+            × IfSome self.old.pending (λ turn. stays ≡ has_step self.old.standing.board turn.player turn.dice)) }
     {
         let stays = self.can_move();
         self.close(stays)

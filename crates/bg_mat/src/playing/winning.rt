@@ -1,10 +1,11 @@
 //! Wins.
-ghost use Rattle.std.specs.Prelude.{◌≡◌, ◌+◌, ◌*◌, ◌<◌, true, None, IsTrue, IfSome, OnOk};
+ghost use Rattle.std.specs.Prelude.{◌≡◌, ◌↔◌, ◌+◌, ◌*◌, ◌<◌, true, None, IsTrue, MatchOption, OnOk};
 ghost use Rattle.bg_match.specs.Level.{points as points_of};
-ghost use Rattle.bg_match.specs.State.{score_of};
-ghost use Rattle.bg_mat.specs.Telling.{Wins, GoesOn, IsOver, IsOverMatch, MayResign, before_of};
+ghost use Rattle.bg_match.specs.declared.levels.Level.{Level as LevelOf};
+ghost use Rattle.bg_mat.specs.Telling.{Wins, GoesOn, IsOver, IsOverMatch, MayResign};
 ghost use Rattle.bg_mat.specs.Replaying.{IsReplay, Plays, Resigns, place_of};
-ghost use Rattle.bg_mat.specs.Refusals.{IsAtLine};
+ghost use Rattle.bg_mat.specs.ItemFaults.{HasWon, IsEndFault, IsOfferFault, IsWinFault};
+ghost use Rattle.bg_mat.specs.Refusals.{RefusesAt};
 ghost use Rattle.std.specs.Prelude.{IfErr};
 
 use super::Replay;
@@ -16,14 +17,15 @@ use bg_match::{Entry, Level, Phase};
 
 /// Whether a score has grown by so many points, at least one.
 fn has_grown(before: u16, after: u16, points: u16) -> bool
-    ensures { IsTrue result → (0 < points) × (after ≡ before + points) }
+    ensures { IsTrue result ↔ ((0 < points) × (after ≡ before + points)) }
 {
     points > 0 && u32::from(after) == u32::from(before) + u32::from(points)
 }
 
 /// The level at which so many points are won with the cube.
 fn level_of_points(won: u16, cube: u8) -> Option<Level>
-    ensures { IfSome result (λ level. won ≡ points_of level * cube) }
+    ensures { MatchOption result ((level : LevelOf) → won ≡ points_of level * cube → ⊥)
+        (λ level. won ≡ points_of level * cube) }
 {
     let cube = u16::from(cube);
     if won == cube {
@@ -43,7 +45,8 @@ impl Replay {
         requires replay { IsReplay self.old }
         requires closed { self.old.pending ≡ None }
         ensures done { OnOk result (Plays self.old self.new line winner (Wins win.points win.ends_match)) }
-        ensures fault { IfErr result (IsAtLine line) }
+        ensures fault { IfErr result (RefusesAt line
+            (IsWinFault self.old.log (place_of self.old) winner win.points win.ends_match)) }
     {
         if self.goes_on() {
             self.win_by_offer(line, winner, win)
@@ -58,7 +61,8 @@ impl Replay {
         requires goes_on { GoesOn (place_of self.old) }
         requires closed { self.old.pending ≡ None }
         ensures done { OnOk result (Plays self.old self.new line winner (Wins win.points win.ends_match)) }
-        ensures fault { IfErr result (IsAtLine line) }
+        ensures fault { IfErr result (RefusesAt line
+            (IsWinFault self.old.log (place_of self.old) winner win.points win.ends_match)) }
     {
         self.resign(line, winner, win.points)?;
         self.check_end(line, win)
@@ -70,7 +74,8 @@ impl Replay {
         requires over { IsOver (place_of self.now) }
         requires closed { self.now.pending ≡ None }
         ensures done { OnOk result (Plays self.now self.now line winner (Wins win.points win.ends_match)) }
-        ensures fault { IfErr result (IsAtLine line) }
+        ensures fault { IfErr result (RefusesAt line
+            (IsWinFault self.now.log (place_of self.now) winner win.points win.ends_match)) }
     {
         if !self.has_won(winner, win.points) {
             return Err(refused(line, MatFault::WrongPoints));
@@ -80,8 +85,7 @@ impl Replay {
 
     /// Whether the player has so many points more than before the game.
     fn has_won(&self, winner: Player, points: u16) -> bool
-        ensures { IsTrue result → (0 < points)
-            × (score_of self.now.standing winner ≡ before_of (place_of self.now) winner + points) }
+        ensures { IsTrue result ↔ HasWon (place_of self.now) winner points }
     {
         let score = self.standing.score();
         match winner {
@@ -93,7 +97,7 @@ impl Replay {
     /// Refuses a win that ends the match by the file alone.
     fn check_end(&self, line: u32, win: Win) -> Result<(), ReadFault>
         ensures done { OnOk result (win.ends_match ≡ true → IsOverMatch self.now.standing) }
-        ensures fault { IfErr result (IsAtLine line) }
+        ensures fault { IfErr result (RefusesAt line (IsEndFault self.now.standing win.ends_match)) }
     {
         match self.standing.phase() {
             Phase::Over(_) => Ok(()),
@@ -104,7 +108,7 @@ impl Replay {
 
     /// Whether the player may offer to resign.
     fn may_lose(&self, loser: Player) -> bool
-        ensures { IsTrue result → MayResign self.now.standing loser }
+        ensures { IsTrue result ↔ MayResign self.now.standing loser }
     {
         match self.standing.phase() {
             Phase::ToAct(acting) => acting == loser,
@@ -115,7 +119,8 @@ impl Replay {
 
     /// The level at which so many points are won with the cube as it is.
     fn level_for(&self, won: u16) -> Option<Level>
-        ensures { IfSome result (λ level. won ≡ points_of level * self.now.standing.cube.value) }
+        ensures { MatchOption result ((level : LevelOf) → won ≡ points_of level * self.now.standing.cube.value → ⊥)
+            (λ level. won ≡ points_of level * self.now.standing.cube.value) }
     {
         level_of_points(won, self.standing.cube().value)
     }
@@ -125,7 +130,7 @@ impl Replay {
         requires replay { IsReplay self.old }
         requires closed { self.old.pending ≡ None }
         ensures done { OnOk result (Resigns self.old self.new line winner won) }
-        ensures fault { IfErr result (IsAtLine line) }
+        ensures fault { IfErr result (RefusesAt line (IsOfferFault self.old.log self.old.standing winner won)) }
     {
         if !self.may_lose(winner.opponent()) {
             return Err(refused(line, MatFault::OutOfTurn));

@@ -1,5 +1,6 @@
 //! A cell of a row: what one player does.
-ghost use Rattle.std.specs.Prelude.{IfSome, IfOk};
+ghost use Rattle.std.specs.Prelude.{IfErr, IfSome, IfOk};
+ghost use Rattle.bg_mat.specs.Refusals.{IsRowFault};
 ghost use Rattle.bg_mat.specs.Rows.Cells.{AddsMovement, IsDiceWord, TellsCell, TellsDouble, TellsPoints, TellsWin};
 
 use crate::MatFault;
@@ -48,7 +49,8 @@ fn read_dice(word: &[u8]) -> Option<Dice>
 
 /// Adds the movement that a text begins with, all its words up to another one, and gives what follows.
 fn split_movement<'a>(legs: &mut Legs, text: &'a [u8]) -> Result<&'a [u8], MatFault>
-    ensures { IfOk result (λ rest. AddsMovement text.now rest.now legs.old.items legs.new.items) }
+    ensures told { IfOk result (λ rest. AddsMovement text.now rest.now legs.old.items legs.new.items) }
+    ensures fault { IfErr result (IsRowFault text.now) }
 {
     let Some((word, rest)) = split_word(text) else {
         return Ok(text);
@@ -98,7 +100,8 @@ fn split_double(text: &[u8]) -> Option<(u16, &[u8])>
 
 /// The turn that a text begins with, and what follows. None where it begins with no dice.
 fn split_turn(text: &[u8]) -> Result<Option<(Cell, &[u8])>, MatFault>
-    ensures { IfOk result (λ found. IfSome found (λ parts. TellsCell text.now parts.0 parts.1.now)) }
+    ensures told { IfOk result (λ found. IfSome found (λ parts. TellsCell text.now parts.0 parts.1.now)) }
+    ensures fault { IfErr result (IsRowFault text.now) }
 {
     let Some((word, rest)) = split_word(text) else {
         return Ok(None);
@@ -121,7 +124,8 @@ fn begins_with_beaver(text: &[u8]) -> bool {
 
 /// The cell that a text begins with, and what follows it.
 pub(crate) fn split_cell(text: &[u8]) -> Result<(Cell, &[u8]), MatFault>
-    ensures { IfOk result (λ parts. TellsCell text.now parts.0 parts.1.now) }
+    ensures told { IfOk result (λ parts. TellsCell text.now parts.0 parts.1.now) }
+    ensures fault { IfErr result (IsRowFault text.now) }
 {
     if let Some(parts) = split_turn(text)? {
         return Ok(parts);

@@ -1,9 +1,8 @@
 //! The lines that head a match and its games.
-ghost use Rattle.std.specs.Prelude.{◌≡◌, ◌++◌, ◌↔◌, ℕ, IsTrue, IfSome, MatchOption};
-ghost use Rattle.std.specs.Bool.{OnTrue};
+ghost use Rattle.std.specs.Prelude.{◌≡◌, ◌++◌, ◌↔◌, ℕ, List, IsTrue, MatchOption};
 ghost use Rattle.bg_mat.specs.Rows.Headings.{BeginsWithScore, EndsLength, EndsWithScore, HasScore, IsComment, IsFiller};
 ghost use Rattle.bg_mat.specs.Rows.Headings.{IsGameLine, IsLengthLine, IsScoresLine};
-ghost use Rattle.bg_mat.specs.Rows.Words.{EndsWord, IsBlankText};
+ghost use Rattle.bg_mat.specs.Rows.Words.{EndsSolid, EndsWord, IsBlankText};
 
 use crate::rows::numbers::read_number;
 use crate::rows::words::{is_blank, is_blank_text, is_points, skip_word, split_blanks, split_word};
@@ -68,10 +67,17 @@ pub(crate) fn tells_length(line: &[u8]) -> bool
 
 /// The number of a game, by the line `Game N`.
 pub(crate) fn read_game(line: &[u8]) -> Option<u16>
-    ensures { IfSome result (IsGameLine line.now) }
+    ensures { MatchOption result ((n : ℕ) → IsGameLine line.now n → ⊥) (IsGameLine line.now) }
 {
-    let (number, rest) = split_word(skip_word(line, b"Game")?)?;
-    let game = read_number(number)?;
+    let Some(behind) = skip_word(line, b"Game") else {
+        return None;
+    };
+    let Some((number, rest)) = split_word(behind) else {
+        return None;
+    };
+    let Some(game) = read_number(number) else {
+        return None;
+    };
     if is_blank_text(rest) {
         Some(game)
     } else {
@@ -81,42 +87,50 @@ pub(crate) fn read_game(line: &[u8]) -> Option<u16>
 
 /// A text without the blanks at its end, and these.
 fn trim_end(text: &[u8]) -> (&[u8], &[u8])
-    ensures { (text.now ≡ result.0.now ++ result.1.now) × IsBlankText result.1.now }
+    ensures cut { (text.now ≡ result.0.now ++ result.1.now) × IsBlankText result.1.now }
+    ensures solid { EndsSolid result.0.now }
 {
-    match text.iter().rposition(|byte| !is_blank(*byte)) {
-        Some(last) => (&text[..last + 1], &text[last + 1..]),
-        None => (&[], text),
+    let mut end = text.len();
+    while end > 0 && is_blank(text[end - 1]) {
+        end -= 1;
     }
+    (&text[..end], &text[end..])
 }
 
 /// What stands before the end of a text where that is this one.
 fn front_before<'a>(text: &'a [u8], end: &[u8]) -> Option<&'a [u8]>
-    ensures { IfSome result (λ front. text.now ≡ front.now ++ end.now) }
+    ensures { MatchOption result ((front : List ℕ) → text.now ≡ front ++ end.now → ⊥)
+        (λ front. text.now ≡ front.now ++ end.now) }
 {
     text.strip_suffix(end)
 }
 
 /// What follows the start of a text where that is this one.
 fn rest_behind<'a>(text: &'a [u8], start: &[u8]) -> Option<&'a [u8]>
-    ensures { IfSome result (λ rest. text.now ≡ start.now ++ rest.now) }
+    ensures { MatchOption result ((rest : List ℕ) → text.now ≡ start.now ++ rest → ⊥)
+        (λ rest. text.now ≡ start.now ++ rest.now) }
 {
     text.strip_prefix(start)
 }
 
 /// What stands before a colon and this score at the end of a text.
 fn before_score(text: &[u8], score: u16) -> Option<&[u8]>
-    ensures { IfSome result (λ front. EndsWithScore text.now score front.now) }
+    ensures { MatchOption result ((front : List ℕ) → EndsWithScore text.now score front → ⊥)
+        (λ front. EndsWithScore text.now score front.now
+        × ((other : List ℕ) → EndsWithScore text.now score other → other ≡ front.now)) }
 {
     let mut digits = Buffer::new();
     let scored = trim_end(text);
-    let front = front_before(scored.0, digits.format(score).as_bytes())?;
+    let Some(front) = front_before(scored.0, digits.format(score).as_bytes()) else {
+        return None;
+    };
     let named = trim_end(front);
     front_before(named.0, b":")
 }
 
 /// Whether a text begins with this score, behind any blanks, and a blank or the end follows.
 fn begins_with_score(text: &[u8], score: u16) -> bool
-    ensures { OnTrue result (BeginsWithScore text.now score) }
+    ensures { IsTrue result ↔ BeginsWithScore text.now score }
 {
     let mut digits = Buffer::new();
     let parts = split_blanks(text);
@@ -138,7 +152,7 @@ fn ends_word(text: &[u8]) -> bool
 
 /// Whether a text has a colon and this score somewhere.
 fn has_score(text: &[u8], score: u16) -> bool
-    ensures { OnTrue result (HasScore text.now score) }
+    ensures { IsTrue result ↔ HasScore text.now score }
 {
     let mut rest = text;
     while let Some((first, after)) = rest.split_first() {
@@ -152,7 +166,7 @@ fn has_score(text: &[u8], score: u16) -> bool
 
 /// Whether a line names both players, each with this score, X's first.
 pub(crate) fn has_scores(line: &[u8], x: u16, o: u16) -> bool
-    ensures { OnTrue result (IsScoresLine line.now x o) }
+    ensures { IsTrue result ↔ IsScoresLine line.now x o }
 {
     match before_score(line, o) {
         Some(front) => has_score(front, x),

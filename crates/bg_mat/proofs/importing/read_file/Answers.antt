@@ -9,8 +9,8 @@ use Rattle.bg_mat.proofs.importing.read_file.Goals as goal
 
 pub returns-in_err-record-clause-fault : goal.returns-in_err-record-clause-fault
 returns-in_err-record-clause-fault c =
-    let h : IsReadFault (lines_of c.args.input.now) c.in_err-record.field-0.0 =
-    begin_refused c.args.input.now c.loop-line.number c.loop-line.rest.now c.in-Some.line.now c.in-Some.after.now
+    let h : IsReadFault c.args.id c.args.rules (lines_of c.args.input.now) c.in_err-record.field-0.0 =
+    begin_refused c.args.id c.args.rules c.args.input.now c.loop-line.number c.loop-line.rest.now c.in-Some.line.now c.in-Some.after.now
     c.in_err-record.field-0.0 c.loop-line.invariant.refuses c.in-Some.ensures.lines
     (λ f. let t = c.is_filler.ensures.1 f in absurd (cc (t, c.if-not-is_filler.true))) c.in_err-record.ensures.fault in
     search (rules, h)
@@ -29,10 +29,10 @@ returns-then-not-is_filler-clause-fault c =
     let (log, (points, is, terms)) = c.in_ok-record.ensures.done in
     let range : points ≡ c.in_ok-record.record.terms.length = rw terms refl in
     if_err c.read_games.result
-    (λ fault h. games_refused c.args.input.now c.loop-line.number points c.loop-line.rest.now c.in-Some.line.now
+    (λ fault h. games_refused c.args.id c.args.rules c.args.input.now c.loop-line.number points c.loop-line.rest.now c.in-Some.line.now
     c.in-Some.after.now fault c.loop-line.invariant.refuses c.in-Some.ensures.lines
     (λ f. let t = c.is_filler.ensures.1 f in absurd (cc (t, c.if-not-is_filler.true))) is
-    (let low = log.points.0 in omega (arith, range)) (let low = log.points.1 in omega (arith, range)) h)
+    (let low = log.points.0 in omega (arith, range)) (let low = log.points.1 in omega (arith, range)) c.new.result (rw terms at c.new.ensures) h)
     c.read_games.ensures.fault
 
 pub returns-clause-fault : goal.returns-clause-fault

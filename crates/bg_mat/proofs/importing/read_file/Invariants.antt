@@ -9,7 +9,7 @@ abbrev pub invariant-loop-line : goal.invariant-loop-line
 invariant-loop-line l = record {
   file : (points : ℕ) (told : List Told) → TellsFile l.number (lines_of l.rest) points told
       → TellsFile 1 (lines_of l.input) points told;
-  refuses : RefusesFrom l.input l.number l.rest;
+  refuses : RefusesFrom l.fn.id l.fn.rules l.input l.number l.rest;
   few : l.number + length l.rest ≤ 1 + length l.input;
 }
 

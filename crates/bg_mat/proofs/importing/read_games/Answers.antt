@@ -1,17 +1,17 @@
 use Rattle.std.proofs.Common.{◌≡◌, [], arith, rules}
 use Rattle.std.proofs.lemmas.Grind.{common_steps}
 use Rattle.bg_text.specs.Judge.Judging.{lines_of}
-use Rattle.bg_mat.specs.Refusals.{IsAtToldLine, IsToldLine}
+use Rattle.bg_mat.specs.Refusals.{AreRefusedGames, IsToldLine, Refuses}
 use Rattle.bg_mat.proofs.OfReading.Readings.{all_read, filler_read, line_read, reading_begins}
-use Rattle.bg_mat.proofs.OfReading.Refusing.{at_told, at_told_line, cut_more, not_cut, pending_on, told_here}
+use Rattle.bg_mat.proofs.OfReading.Refusing.{end_refused, line_refused, pending_on, told_here}
 use Rattle.bg_mat.proofs.importing.read_games.Goals as goal
 use Rattle.bg_mat.proofs.importing.read_games.Goals.{then-not-is_filler+in_ok-awaited, else-not-is_filler}
 
 pub loop-line-init : goal.loop-line-init
 loop-line-init c = record {
   read = reading_begins c.args.start c.args.first c.args.input.now c.requires.replay;
-  cut = not_cut c.args.first c.args.input.now;
   pending = rw c.requires.none tt;
+  closed = λ is. c.requires.none;
   few = omega arith;
 }
 
@@ -27,38 +27,41 @@ loop-line-preserved c = record {
         c.loop-line.rest.now c.in-Some.line.now c.in-Some.after.now c.loop-line.invariant.read c.in-Some.ensures.lines
         (c.is_filler.ensures.0 w.if-not-is_filler.false))
   ];
-  cut = cut_more c.args.first c.args.input.now c.loop-line.number c.loop-line.rest.now c.in-Some.line.now c.in-Some.after.now
-      c.loop-line.invariant.cut c.in-Some.ensures.lines;
   pending = elim c.if-not-is_filler.branch [
     | then-not-is_filler+in_ok-awaited w ↦ rw w.replay-is
         (pending_on (IsToldLine c.args.first (lines_of c.args.input.now)) c.loop-line.replay _ c.loop-line.number
         w.in_ok-awaited.ensures.done.0 c.loop-line.invariant.pending
-        (told_here c.args.first c.args.input.now c.loop-line.number c.loop-line.rest.now c.in-Some.line.now c.in-Some.after.now
-        c.loop-line.invariant.cut c.in-Some.ensures.lines
+        (told_here c.args.start c.args.first c.args.input.now c.loop-line.replay c.loop-line.awaited c.loop-line.number
+        c.loop-line.rest.now c.in-Some.line.now c.in-Some.after.now c.loop-line.invariant.read c.in-Some.ensures.lines
         (λ f. let t = c.is_filler.ensures.1 f in absurd (cc (t, w.if-not-is_filler.true))))
         w.in_ok-awaited.ensures.done.2)
     | else-not-is_filler w ↦ rw w.replay-is c.loop-line.invariant.pending
+  ];
+  closed = elim c.if-not-is_filler.branch [
+    | then-not-is_filler+in_ok-awaited w ↦ rw (w.replay-is, w.awaited-is) w.in_ok-awaited.ensures.closed
+    | else-not-is_filler w ↦ rw (w.replay-is, w.awaited-is) c.loop-line.invariant.closed
   ];
   few = omega (arith, c.in-Some.ensures.shorter, c.loop-line.invariant.few);
 }
 
 pub returns-in_err-awaited-clause-fault : goal.returns-in_err-awaited-clause-fault
 returns-in_err-awaited-clause-fault c =
-    let lines = lines_of c.args.input.now in
-    let h : IsAtToldLine c.args.first lines c.in_err-awaited.field-0.0 =
-    at_told_line c.args.first lines c.loop-line.replay c.loop-line.number c.in_err-awaited.field-0.0
-    (told_here c.args.first c.args.input.now c.loop-line.number c.loop-line.rest.now c.in-Some.line.now c.in-Some.after.now
-    c.loop-line.invariant.cut c.in-Some.ensures.lines
-    (λ f. let t = c.is_filler.ensures.1 f in absurd (cc (t, c.if-not-is_filler.true))))
+    let h : Refuses (AreRefusedGames c.args.start c.args.first (lines_of c.args.input.now)) c.in_err-awaited.field-0.0 =
+    line_refused c.args.start c.args.first c.args.input.now c.loop-line.replay c.loop-line.awaited c.loop-line.number
+    c.loop-line.rest.now c.in-Some.line.now c.in-Some.after.now c.in_err-awaited.field-0.0 c.loop-line.invariant.read
+    c.in-Some.ensures.lines
+    (λ f. let t = c.is_filler.ensures.1 f in absurd (cc (t, c.if-not-is_filler.true)))
     c.loop-line.invariant.pending c.in_err-awaited.ensures.fault in
     search (rules, h)
 
 pub returns-in_err-finish-clause-fault : goal.returns-in_err-finish-clause-fault
 returns-in_err-finish-clause-fault c =
-    let lines = lines_of c.args.input.now in
-    let h : IsAtToldLine c.args.first lines c.in_err-finish.field-0.0 =
-    at_told (IsToldLine c.args.first lines) c.args.first lines c.loop-line.replay c.in_err-finish.field-0.0 (λ n k. k)
-    c.loop-line.invariant.pending c.in_err-finish.ensures.fault in
+    let none : c.loop-line.rest.now ≡ [] = grind (arith, common_steps, c.split_line.ensures.none, c.in_default.is) in
+    let (stays, refused, is) = c.in_err-finish.ensures.fault in
+    let h : Refuses (AreRefusedGames c.args.start c.args.first (lines_of c.args.input.now)) c.in_err-finish.field-0.0 =
+    end_refused c.args.start c.args.first c.args.input.now c.loop-line.replay c.loop-line.awaited c.loop-line.number
+    c.loop-line.rest.now c.in_err-finish.field-0.0 stays c.loop-line.invariant.read none c.loop-line.invariant.pending
+    refused is in
     search (rules, h)
 
 pub returns-clause-done : goal.returns-clause-done

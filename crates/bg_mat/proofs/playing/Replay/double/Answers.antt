@@ -9,6 +9,6 @@ pub returns-clause-done : goal.returns-clause-done
 returns-clause-done c =
     on_ok c.add.result
     (λ added. replays.alone c.args.self.now c.add.new.self c.args.line c.args.player (telling.Doubles c.args.shows) entry.Doubled
-    (c.requires.goes_on, c.is_to_act.ensures c.if-not-is_to_act.false, omega (arith, c.doubled_cube.ensures), refl)
+    (c.requires.goes_on, c.is_to_act.ensures.0 c.if-not-is_to_act.false, omega (arith, c.doubled_cube.ensures), refl)
     c.requires.closed added)
     c.add.ensures.done

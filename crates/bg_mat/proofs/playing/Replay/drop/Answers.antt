@@ -9,5 +9,5 @@ pub returns-clause-done : goal.returns-clause-done
 returns-clause-done c =
     on_ok c.add.result
     (λ added. replays.alone c.args.self.now c.add.new.self c.args.line c.args.player telling.Drops entry.Dropped
-    (c.requires.goes_on, c.is_doubled.ensures c.if-not-is_doubled.false, refl) c.requires.closed added)
+    (c.requires.goes_on, c.is_doubled.ensures.0 c.if-not-is_doubled.false, refl) c.requires.closed added)
     c.add.ensures.done

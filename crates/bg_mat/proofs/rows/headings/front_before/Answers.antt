@@ -1,5 +1,6 @@
-use Rattle.bg_mat.proofs.OfReading.ScoreLemmas.{ends, some_weaker}
+use Rattle.std.proofs.lemmas.Bool.Decides.{Decides-eqb}
+use Rattle.std.proofs.lemmas.Slice.Eq.{strip_suffix_is}
 use Rattle.bg_mat.proofs.rows.headings.front_before.Goals as goal
 
 pub returns : goal.returns
-returns c = some_weaker _ _ _ _ (λ x. ends _ _ _) c.strip_suffix.ensures.cases
+returns c = strip_suffix_is Decides-eqb c.args.text.now c.args.end.now c.strip_suffix.result c.strip_suffix.ensures.cases

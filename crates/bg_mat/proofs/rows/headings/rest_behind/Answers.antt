@@ -1,6 +1,6 @@
-use Rattle.bg_mat.proofs.OfReading.LegLemmas.{begins}
-use Rattle.bg_mat.proofs.OfReading.ScoreLemmas.{some_weaker}
+use Rattle.std.proofs.lemmas.Bool.Decides.{Decides-eqb}
+use Rattle.std.proofs.lemmas.Slice.Eq.{strip_prefix_is}
 use Rattle.bg_mat.proofs.rows.headings.rest_behind.Goals as goal
 
 pub returns : goal.returns
-returns c = some_weaker _ _ _ _ (λ x. begins _ _ _) c.strip_prefix.ensures.cases
+returns c = strip_prefix_is Decides-eqb c.args.text.now c.args.start.now c.strip_prefix.result c.strip_prefix.ensures.cases
