@@ -1,6 +1,8 @@
-"""Parties of a match that a check plays by hand, and strangers: sockets and packets of its own (docs/FORMATS.md,
-"Packets"); and what can be seen of processes from outside. States are waited for, as a busy machine is late."""
+"""Parties of a match that a check plays by hand, and strangers: sockets, packets and seals of its own (docs/FORMATS.md,
+"Packets", "Sealed datagrams"); and what can be seen of processes from outside. States are waited for, as a busy machine is late."""
 import fcntl
+import hashlib
+import hmac
 import math
 import os
 import re
@@ -14,8 +16,11 @@ HOST = "127.0.0.1"
 MOST_SECONDS = 30
 # Codes of kinds, of entries and actions, and of what a player resigns.
 WANT, CLAIM, ENTRIES = 1, 2, 3
-OPENING, ROLL, MOVE, RESIGN = 1, 2, 6, 7
+OPENING, ROLL, MOVE, RESIGN, REJECT = 1, 2, 6, 7, 9
 NORMAL, GAMMON, BACKGAMMON = 1, 2, 3
+# Which way a datagram goes, and the sign of life.
+TO_REFEREE, FROM_REFEREE = 0, 1
+SIGN = b"\0"
 
 
 def comes(holds, seconds=MOST_SECONDS):
@@ -28,11 +33,38 @@ def comes(holds, seconds=MOST_SECONDS):
     return True
 
 
-class Match:
-    """What the line of a match says, and packets of that match."""
+def mac(key, text):
+    return hmac.new(key, text, hashlib.sha256).digest()
 
-    def __init__(self, line):
-        self.number, self.length, self.rules, self.port = map(int, re.findall(r"\b\d+\b", line))
+
+def seal(key, direction, party, packet):
+    """The datagram of a packet (docs/FORMATS.md, "Sealed datagrams")."""
+    return packet + mac(key, b"bg_relay seal 1" + bytes([direction, party]) + packet)[:16]
+
+
+class Match:
+    """The match of a referee's folder: what its line says, its keys, and its packets, sealed or not."""
+
+    def __init__(self, folder):
+        with open(f"{folder}/match", encoding="ascii") as file:
+            self.line = file.read()
+        self.number, self.length, self.rules, self.port = map(int, re.findall(r"\b\d+\b", self.line))
+        with open(f"{folder}/key-secret", "rb") as file:
+            self.secret = file.read()
+
+    def key(self, party):
+        """The key of a party: all who watch have that of party 3."""
+        return mac(self.secret, b"bg_relay key 1" + self.number.to_bytes(8, "big") + bytes([min(party, 3)]))
+
+    def sealed(self, sender, to, packet):
+        """The datagram by which a packet goes from one party to another, one of which is the referee."""
+        party = max(sender, to)
+        return seal(self.key(party), FROM_REFEREE if sender == 0 else TO_REFEREE, party, packet)
+
+    def opened(self, sender, to, datagram):
+        """The packet of a datagram; none where it was not sealed to go from the one party to the other."""
+        packet = datagram[:-16]
+        return packet if datagram == self.sealed(sender, to, packet) else None
 
     def packet(self, kind, body):
         return b"BG" + bytes([2, kind]) + self.number.to_bytes(8, "big") + bytes([self.rules]) + body
@@ -50,28 +82,59 @@ class Match:
         return self.packet(ENTRIES, number.to_bytes(4, "big") + bytes([len(entries), *(byte for entry in entries for byte in entry)]))
 
 
-class Party:
-    """A socket of the check's own, on the port of a party or on any other."""
+class Stranger:
+    """A socket of the check's own, on any port that is free."""
 
     def __init__(self, port=0, host=HOST):
         self.socket = socket.socket(socket.AF_INET, socket.SOCK_DGRAM)
         self.socket.bind((host, port))
 
-    def send(self, port, packet=b""):
-        """Sends a packet to the party that has this port there, or asks it whether it is there."""
-        self.socket.sendto(packet, (HOST, port))
+    def send(self, port, datagram):
+        self.socket.sendto(datagram, (HOST, port))
+
+    def received(self, seconds=MOST_SECONDS):
+        """A datagram that comes in so many seconds, with the port that it comes from; none where none does."""
+        self.socket.settimeout(max(seconds, 0.001))
+        try:
+            datagram, (_, port) = self.socket.recvfrom(512)
+        except (TimeoutError, BlockingIOError):
+            return None
+        return datagram, port
+
+    def close(self):
+        self.socket.close()
+
+
+class Party(Stranger):
+    """A party of a match that the check plays: a socket on its port, or on the same port of another address."""
+
+    def __init__(self, match, number, host=HOST):
+        super().__init__(match.port + number, host)
+        self.match, self.number = match, number
+
+    def tell(self, to, packet=SIGN):
+        """Sends a packet to a party, or asks the referee whether it is there, or answers such a question."""
+        self.send(self.match.port + to, self.match.sealed(self.number, to, packet))
+
+    def heard(self, seconds=MOST_SECONDS):
+        """A packet that comes in so many seconds, with the party that it is from; others are passed over."""
+        until = time.monotonic() + seconds
+        while (found := self.received(until - time.monotonic())) is not None:
+            datagram, port = found
+            sender = port - self.match.port
+            if 0 <= sender < 256 and (sender == 0) != (self.number == 0):
+                packet = self.match.opened(sender, self.number, datagram)
+                if packet is not None:
+                    return packet, sender
+        return None
 
     def hears(self, seconds=MOST_SECONDS):
-        """The port that a datagram without a byte comes from in so many seconds: a question, or an answer to one."""
+        """The party that a sign of life comes from in so many seconds: a question, or an answer to one."""
         until = time.monotonic() + seconds
-        while True:
-            self.socket.settimeout(max(until - time.monotonic(), 0.001))
-            try:
-                packet, (_, port) = self.socket.recvfrom(512)
-            except TimeoutError:
-                return None
-            if packet == b"":
-                return port
+        while (found := self.heard(until - time.monotonic())) is not None:
+            if found[0] == SIGN:
+                return found[1]
+        return None
 
     def questions(self, seconds):
         """How many questions come in so many seconds."""
@@ -91,9 +154,6 @@ class Party:
                 least = min(least, now - last)
             last = now
         return least
-
-    def close(self):
-        self.socket.close()
 
 
 class Typist:

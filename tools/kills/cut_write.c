@@ -24,7 +24,7 @@ static long number(const char *name)
 
 static int has_kept_name(const char *path)
 {
-    return strstr(path, "/party-") || strstr(path, "/secret") || strstr(path, "/match");
+    return strstr(path, "/party-") || strstr(path, "/secret") || strstr(path, "/key-secret") || strstr(path, "/match");
 }
 
 int open(const char *path, int flags, ...)

@@ -86,17 +86,21 @@ class Match:
                 break
         else:
             raise Wrong(f"no match was made: {done.stderr}")
-        self.told = f"{self.top}/match"
-        shutil.copy(f"{self.top}/referee/match", self.told)
+        self.hand_out()
         self.running, self.waiting, self.done = {}, dict.fromkeys(self.names, 0.0), set()
         self.kills, self.known = 0, b""
+
+    def hand_out(self):
+        """Hands the key files out."""
+        for name in ("x", "o", "watch"):
+            shutil.copy(f"{self.top}/referee/match-{name}", f"{self.top}/match-{name}")
 
     def command(self, name):
         if name == "referee":
             return ["referee", "--dir", f"{self.top}/referee"]
         if name in PLAYERS:
-            return ["auto", "--player", name, "--match", self.told, "--dir", f"{self.top}/{name}"]
-        return ["watch", "--match", self.told, "--transcript", f"{self.top}/{name}.transcript"]
+            return ["auto", "--player", name, "--match", f"{self.top}/match-{name.lower()}", "--dir", f"{self.top}/{name}"]
+        return ["watch", "--match", f"{self.top}/match-watch", "--transcript", f"{self.top}/{name}.transcript"]
 
     def environment(self, name):
         """What a process is started with: the driver's own environment, or more."""

@@ -1,27 +1,35 @@
 //! The sockets of parties, and why there is none.
 
 use bg_console::failed;
-use bg_processes::{Failures, PartySocket};
+use bg_processes::{Failures, Keyring, PartySocket};
 use bg_reports::Ending;
 use std::io;
 use std::io::ErrorKind;
 use std::net::Net;
+use std::time::Clock;
 
-/// Opens the socket of a party of the match that has this port; why it fails later is noted there. Ends with `Failed`
-/// where the port is taken, or there is no socket.
-pub fn socket_of<'a>(
-    rt: &(impl Net + Eprint),
+/// The number of the last party, so that a match has so many ports above its own.
+const LAST_PARTY: u32 = 255;
+
+/// Opens the socket of a party of the match that has this port, with its keys; why it fails later is noted there. Ends
+/// with `Failed` where the port is taken, or there is no socket.
+pub fn socket_of<'a, R: Net + Clock + Eprint>(
+    rt: &'a R,
     port: u16,
     party: u8,
+    keys: Keyring,
     failures: &'a Failures,
-) -> Result<PartySocket<'a>, Ending> {
-    match PartySocket::bind(rt, port, party, failures) {
+) -> Result<PartySocket<'a, R>, Ending> {
+    match PartySocket::bind(rt, rt, port, party, keys, failures) {
         Ok(socket) => Ok(socket),
         Err(error) if error.kind() == ErrorKind::AddrInUse => {
             let own = u32::from(port) + u32::from(party);
+            let least = own.saturating_sub(LAST_PARTY);
             Err(failed(
                 rt,
-                format_args!("port {own} is taken: is party {party} running already?"),
+                format_args!(
+                    "port {own} is taken: is party {party} running already, or a match whose ports begin at {least} or above?"
+                ),
             ))
         }
         Err(error) => Err(no_socket(rt, party, &error)),

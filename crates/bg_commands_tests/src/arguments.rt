@@ -8,7 +8,7 @@ use requests::{is_between_processes, is_in_one_process, is_of_files, is_shown};
 use std::test::Fail;
 
 /// The words of commands, without the program's name.
-const WORDS: [&[&str]; 21] = [
+const WORDS: [&[&str]; 22] = [
     &["judge"],
     &["check", "--quiet", "a", "-", "b"],
     &["check", "--files-from", "-"],
@@ -77,6 +77,7 @@ const WORDS: [&[&str]; 21] = [
     &[
         "recover", "--match", "m", "--x", "x", "--o", "o", "--dir", "d", "t", "-",
     ],
+    &["keys", "--dir", "d"],
 ];
 
 /// Whether the words of this row ask for what they should.

@@ -10,9 +10,10 @@ use bg_match_commands::sim;
 use bg_options::{Request, SeatOptions, ShowOptions, SimOptions, command_line};
 use bg_picture::Numbering;
 use bg_processes::{
-    Failures, FileKeeper, Going, MatchFile, PartySocket, RefereeProcess, read_saved,
+    Failures, FileKeeper, Going, Keyring, MatchFile, PartySocket, RefereeProcess, read_saved,
 };
 use bg_reports::Ending;
+use bg_seals::MasterSecret;
 use bg_seat_commands::auto;
 use bg_wire::REFEREE;
 use bg_world::Outcome;
@@ -120,10 +121,11 @@ fn processes(rt: HostRuntime) -> Result<(), Fail> {
     // What all processes of a match agree on is a line; this is one of a match to 3 points.
     let file = MatchFile::parse("match 7 length 3 rules 1 port 4000\n").expect(&rt, "a good text");
     assert!(rt; file.terms.length == 3);
-    // The referee's process, over its own socket and a folder, with a secret that its dice go by. Why a call of the
-    // socket or of the files failed is noted.
+    // The referee's process, over its own socket and a folder, with the keys of all parties and a secret that its dice
+    // go by. Why a call of the socket or of the files failed is noted.
     let failures = Failures::new();
-    let link = PartySocket::bind(&rt, file.port, REFEREE, &failures)?;
+    let keys = Keyring::of_referee(&MasterSecret::new(&[8; 32]), file.id);
+    let link = PartySocket::bind(&rt, &rt, file.port, REFEREE, keys, &failures)?;
     let keeper = FileKeeper::new(&rt, folder, REFEREE, &failures)?;
     let begun = RefereeProcess::begin(alloc, file.id, file.terms, [7; 32], link, keeper)?;
     let (mut referee, outcome) = begun;

@@ -1,9 +1,10 @@
 //! What the commands of one party begin with, and why they don't begin or end early.
 
 use crate::messages::says::say_of;
-use crate::messages::{failed, failed_at, failed_for, wrong_at, wrong_for};
+use crate::messages::{failed, failed_at, failed_for, wrong, wrong_at, wrong_for};
 use bg_reports::Ending;
-use bg_system::{FolderLock, MatchFile, Printable, Ticking, Waiting};
+use bg_system::{FolderLock, KeyFile, MatchFile, Printable, Ticking, Waiting, name_of_key_file};
+use bg_wire::{SEAT_OF_O, SEAT_OF_X};
 use std::fs::{DirBuilder, File, TryLockError};
 use std::io::ErrorKind;
 use std::net::Net;
@@ -92,6 +93,62 @@ pub fn match_of(
         Ok(None) => Err(wrong_at(rt, path, " is no match file")),
         Err(error) => Err(failed_at(rt, path, " could not be read", &error)),
     }
+}
+
+/// Returns what the key file of a party says: 1, 2, or 3 for all watchers. Ends with `WrongArguments` where it is that
+/// of another party or none, and with `Failed` where it can't be read.
+pub fn key_file_of(
+    rt: &(impl Files<File = File> + Eprint + AllocGlobal),
+    path: &str,
+    party: u8,
+) -> Result<KeyFile, Ending> {
+    match KeyFile::read(rt, path) {
+        Ok(Some(file)) if file.party == party => Ok(file),
+        Ok(Some(file)) => {
+            let (shown, theirs, own) = (Printable(path), holder(file.party), holder(party));
+            let own_name = name_of_key_file(party);
+            Err(wrong(
+                rt,
+                format_args!("{shown} is the key file of {theirs}: for {own} it is `{own_name}`"),
+            ))
+        }
+        Ok(None) => Err(no_key_file(rt, path)),
+        Err(error) => Err(failed_at(rt, path, " could not be read", &error)),
+    }
+}
+
+/// Returns what any key file or match file at a path says of its match. Ends with `WrongArguments` where it is none,
+/// and with `Failed` where it can't be read.
+pub fn table_of(
+    rt: &(impl Files<File = File> + Eprint + AllocGlobal),
+    path: &str,
+) -> Result<MatchFile, Ending> {
+    match KeyFile::read(rt, path) {
+        Ok(Some(file)) => Ok(file.table),
+        _ => match_of(rt, path),
+    }
+}
+
+/// Whose key file it is that has this number.
+fn holder(party: u8) -> &'static str {
+    match party {
+        SEAT_OF_X => "player X",
+        SEAT_OF_O => "player O",
+        _ => "those who watch",
+    }
+}
+
+/// Says what is wrong with a file that is no key file: one without a key, as older programs made them and as the
+/// referee has, is named so.
+fn no_key_file(rt: &(impl Files<File = File> + Eprint + AllocGlobal), path: &str) -> Ending {
+    if let Ok(Some(_)) = MatchFile::read(rt, path) {
+        return wrong_at(
+            rt,
+            path,
+            " has no key: hand out `match-x`, `match-o` and `match-watch`, which `bg_relay keys` makes where they are missing",
+        );
+    }
+    wrong_at(rt, path, " is no key file")
 }
 
 /// Returns how a party waits for its socket, and for standard input if that is wanted, and when it ticks.

@@ -20,14 +20,17 @@
 #![tactic(auto)]
 
 mod beginnings;
+mod beside;
 mod messages;
 mod published;
 mod screens;
 mod tellings;
 
 pub use beginnings::{
-    check_folder, lock_of, match_of, own_folder, tell_if_open, waited, waiting_for,
+    check_folder, key_file_of, lock_of, match_of, own_folder, table_of, tell_if_open, waited,
+    waiting_for,
 };
+pub use beside::{MatchBeside, matches_beside};
 pub use messages::progress::Progress;
 pub use messages::says::{say, say_failures, say_number, say_of, say_why};
 pub use messages::{

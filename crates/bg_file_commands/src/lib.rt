@@ -1,6 +1,7 @@
 //! The commands that need no other party: those that judge, show, draw and convert what files hold, and those that make
-//! a match, or a referee's folder anew. Each prints what it comes to, says on the standard error what is wrong, and gives what it came to, as
-//! an error where it ended early. For a program, which ends with the status of that.
+//! a match, its keys, or a referee's folder anew. Each prints what it comes to, says on the standard error what is
+//! wrong, and gives what it came to, as an error where it ended early. For a program, which ends with the status of
+//! that.
 //!
 //! ```
 //! let saved = ShowOptions {
@@ -18,9 +19,11 @@ pub mod export;
 pub mod import;
 mod inputs;
 pub mod judge;
+pub mod keys;
 mod new_folders;
 pub mod new_match;
 pub mod page;
 pub mod picture;
+mod ports_beside;
 pub mod recover;
 pub mod show;

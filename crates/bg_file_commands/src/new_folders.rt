@@ -1,39 +1,100 @@
 //! The folder of a referee that is made.
 
-use bg_console::{failed_at, no_memory, own_folder, wrong};
+use bg_console::{failed, failed_at, no_memory, own_folder, written, wrong};
 use bg_reports::Ending;
-use bg_system::{FolderLock, MatchFile, Printable, make_secret};
+use bg_system::{
+    FolderLock, KeyFile, MatchFile, Printable, make_key_secret, make_secret, name_of_key_file,
+    read_key_secret,
+};
+use bg_wire::{FIRST_WATCHER, SEAT_OF_O, SEAT_OF_X};
 use std::fs;
 use std::fs::File;
 use std::random::RandomSource;
 use std::rt::Files;
 
-/// The files that a folder of a match may have from the beginning: what has one of them is no new folder.
-const NAMES: [&str; 4] = ["match", "secret", "party-0.0", "party-0.1"];
+/// The files of a folder of a match that is whole, or was begun: what has one of them is no new folder. Secrets and key
+/// files alone are those of a match that was never made whole.
+const NAMES: [&str; 3] = ["match", "party-0.0", "party-0.1"];
 
-/// Makes the folder where it is missing, locks it, and puts a new secret in it. Ends with `WrongArguments` where it has
-/// files of a match, and with `Failed` where it could not be written.
+/// Makes the folder where it is missing, and locks it. Ends with `WrongArguments` where it has files of a match, and
+/// with `Failed` where it can't be locked.
 pub(crate) fn begin_folder<R>(rt: &R, folder: &str) -> Result<FolderLock, Ending>
 where
-    R: Files<File = File> + RandomSource + Eprint + AllocGlobal,
+    R: Files<File = File> + Eprint + AllocGlobal,
 {
     let lock = own_folder(rt, folder)?;
     check_unused(rt, folder)?;
+    Ok(lock)
+}
+
+/// Puts new secrets in the folder: that of the dice, and that of the keys.
+pub(crate) fn make_secrets<R>(rt: &R, folder: &str) -> Result<(), Ending>
+where
+    R: Files<File = File> + RandomSource + Eprint + AllocGlobal,
+{
     match make_secret(rt, folder) {
-        Ok(()) => Ok(lock),
+        Ok(()) => make_keys(rt, folder),
         Err(error) => Err(failed_at(rt, folder, "/secret could not be written", &error)),
     }
 }
 
-/// Puts the match file in the folder, the last of its files: where there is one, the match is whole.
+/// Puts a new secret in the folder that keys are derived from.
+pub(crate) fn make_keys<R>(rt: &R, folder: &str) -> Result<(), Ending>
+where
+    R: Files<File = File> + RandomSource + Eprint + AllocGlobal,
+{
+    match make_key_secret(rt, folder) {
+        Ok(()) => Ok(()),
+        Err(error) => Err(failed_at(rt, folder, "/key-secret could not be written", &error)),
+    }
+}
+
+/// Puts the key files in the folder, and then the match file, the last of its files: where there is one, the match is
+/// whole.
 pub(crate) fn end_folder<R>(rt: &R, folder: &str, file: MatchFile) -> Result<(), Ending>
 where
     R: Files<File = File> + Eprint + AllocGlobal,
 {
+    write_key_files(rt, folder, file)?;
     match file.write(rt, folder) {
         Ok(()) => Ok(()),
         Err(error) => Err(failed_at(rt, folder, "/match could not be written", &error)),
     }
+}
+
+/// Puts the key files of the match in the folder, by the secret there: those of the seats, and that of all who watch.
+pub(crate) fn write_key_files<R>(rt: &R, folder: &str, table: MatchFile) -> Result<(), Ending>
+where
+    R: Files<File = File> + Eprint + AllocGlobal,
+{
+    let secret = match read_key_secret(rt, folder) {
+        Ok(secret) => secret,
+        Err(error) => return Err(failed_at(rt, folder, "/key-secret could not be read", &error)),
+    };
+    for party in [SEAT_OF_X, SEAT_OF_O, FIRST_WATCHER] {
+        if let Err(error) = KeyFile::derive(table, &secret, party).write(rt, folder) {
+            let (shown, name) = (Printable(folder), name_of_key_file(party));
+            return Err(failed(
+                rt,
+                format_args!("{shown}/{name} could not be written: {error}"),
+            ));
+        }
+    }
+    Ok(())
+}
+
+/// Prints who is to be handed which of the key files in the folder.
+pub(crate) fn tell_key_files<R: Print + Eprint>(rt: &R, folder: &str) -> Result<(), Ending> {
+    let folder = Printable(folder);
+    let (x, o, watch) = (
+        name_of_key_file(SEAT_OF_X),
+        name_of_key_file(SEAT_OF_O),
+        name_of_key_file(FIRST_WATCHER),
+    );
+    let told = println!(rt;
+        "hand {folder}/{x} to X, {folder}/{o} to O, and {folder}/{watch} to who may watch"
+    );
+    written(rt, told)
 }
 
 /// Refuses a folder that has files of a match.
@@ -45,8 +106,7 @@ where
         let Ok(path) = format!(in rt.alloc(); "{folder}/{name}") else {
             return Err(no_memory(rt));
         };
-        // A secret alone is that of a match that was never made whole.
-        if name != "secret" && fs::symlink_metadata(rt, path.as_str()).is_ok() {
+        if fs::symlink_metadata(rt, path.as_str()).is_ok() {
             let shown = Printable(folder);
             return Err(wrong(rt, format_args!("{shown} has a match already: {name}")));
         }

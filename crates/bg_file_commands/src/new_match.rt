@@ -1,6 +1,7 @@
 //! The command that makes a match between processes.
 
-use crate::new_folders::{begin_folder, end_folder};
+use crate::new_folders::{begin_folder, end_folder, make_secrets, tell_key_files};
+use crate::ports_beside::check_ports;
 use bg_console::{failed_for, written};
 use bg_match::Terms;
 use bg_options::NewOptions;
@@ -22,16 +23,19 @@ where
     } = options;
     let file = make_match(rt, terms, port, folder)?;
     written(rt, rt.print(file))?;
+    tell_key_files(rt, folder)?;
     Ok(Ending::Served)
 }
 
-/// Makes the secret first, and then the match file, so that where there is one the match is whole.
+/// Makes the secrets first, and the match file last, so that where there is one the match is whole.
 fn make_match<R>(rt: &R, terms: Terms, port: u16, folder: &str) -> Result<MatchFile, Ending>
 where
     R: Files<File = File> + RandomSource + Eprint + AllocGlobal,
 {
     let _lock = begin_folder(rt, folder)?;
+    check_ports(rt, folder, port)?;
     let id = random_number(rt)?;
+    make_secrets(rt, folder)?;
     let file = MatchFile { id, terms, port };
     end_folder(rt, folder, file)?;
     Ok(file)

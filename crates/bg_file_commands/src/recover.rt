@@ -1,10 +1,10 @@
 //! The command that makes a referee's folder anew, of what others hold.
 
 use crate::inputs::{read_input, record_in};
-use crate::new_folders::{begin_folder, end_folder};
+use crate::new_folders::{begin_folder, end_folder, make_secrets, tell_key_files};
 use bg_board::Player;
 use bg_console::{
-    check_folder, failed_at, lock_of, match_of, no_memory, say, unread, wrong, wrong_at,
+    check_folder, failed_at, lock_of, no_memory, say, table_of, unread, wrong, wrong_at,
 };
 use bg_match::{Number, Record};
 use bg_options::RecoverOptions;
@@ -31,7 +31,7 @@ where
             " is named for both seats: each has a folder of its own",
         ));
     }
-    let file = match_of(rt, options.match_path)?;
+    let file = table_of(rt, options.match_path)?;
     let seats = [(Player::X, options.x), (Player::O, options.o)];
     let mut locks: Vec<FolderLock> = Vec::new(rt.alloc());
     let mut longest = Held::nothing(rt, file, options.match_path)?;
@@ -209,13 +209,14 @@ fn file_bytes(rt: &(impl Files<File = File> + AllocGlobal), name: &str) -> io::R
     read_input(rt.alloc(), File::open(rt, name)?)
 }
 
-/// Makes the folder: a new secret, the first save with this record, and then the match file, so that where there is one
-/// the match is whole.
+/// Makes the folder: a new secret, the first save with this record, new keys, and then the match file, so that where
+/// there is one the match is whole.
 fn make<R>(rt: &R, file: MatchFile, folder: &str, longest: &Held<'_>) -> Result<Ending, Ending>
 where
     R: Files<File = File> + RandomSource + Print + Eprint + AllocGlobal,
 {
     let _lock = begin_folder(rt, folder)?;
+    make_secrets(rt, folder)?;
     let Held { name, saved } = longest;
     let Ok((slot, _, text)) = next_save(rt.alloc(), 0, REFEREE, &None, &saved.log) else {
         return Err(no_memory(rt));
@@ -229,6 +230,7 @@ where
     }
     end_folder(rt, folder, file)?;
     tell_made(rt, folder, name, saved.log.len());
+    tell_key_files(rt, folder)?;
     Ok(Ending::Served)
 }
 

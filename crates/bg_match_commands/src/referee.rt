@@ -7,17 +7,19 @@ use bg_console::{
 };
 use bg_match::Number;
 use bg_processes::{
-    Failures, FileKeeper, Going, PartySocket, RefereeProcess, Ticking, Waiting, read_secret,
+    Failures, FileKeeper, Going, Keyring, MatchFile, PartySocket, Printable, RefereeProcess,
+    Ticking, Waiting, read_key_secret, read_secret,
 };
 use bg_reports::Ending;
 use bg_wire::REFEREE;
 use bg_world::Outcome;
 use std::fs::File;
+use std::io::ErrorKind;
 use std::net::Net;
 use std::rt::Files;
 use std::time::Clock;
 
-type Referee<'a, R> = RefereeProcess<PartySocket<'a>, FileKeeper<'a, R>>;
+type Referee<'a, R> = RefereeProcess<PartySocket<'a, R>, FileKeeper<'a, R>>;
 
 /// Runs the referee of the match in this folder, until the match is over.
 pub fn run<R>(rt: &R, folder: &str, progress: Progress) -> Result<Ending, Ending>
@@ -50,7 +52,8 @@ where
         Ok(key) => key,
         Err(error) => return Err(failed_at(rt, folder, "/secret could not be read", &error)),
     };
-    let link = socket_of(rt, file.port, REFEREE, failures)?;
+    let keys = keys_of(rt, folder, &file)?;
+    let link = socket_of(rt, file.port, REFEREE, keys, failures)?;
     let (waiting, ticking) = waiting_for(rt, link.descriptor(), false)?;
     let Ok(keeper) = FileKeeper::new(rt, folder, REFEREE, failures) else {
         return Err(no_memory(rt));
@@ -64,6 +67,24 @@ where
         return Err(stopped(rt, &outcome));
     }
     Ok((process, waiting, ticking))
+}
+
+/// The keys of all parties. Where the folder has no secret for them, it is said how it gets one.
+fn keys_of<R>(rt: &R, folder: &str, file: &MatchFile) -> Result<Keyring, Ending>
+where
+    R: Files<File = File> + Eprint + AllocGlobal,
+{
+    match read_key_secret(rt, folder) {
+        Ok(secret) => Ok(Keyring::of_referee(&secret, file.id)),
+        Err(error) if error.kind() == ErrorKind::NotFound => {
+            let shown = Printable(folder);
+            Err(wrong(
+                rt,
+                format_args!("{shown} has no keys: `bg_relay keys --dir {shown}` makes them"),
+            ))
+        }
+        Err(error) => Err(failed_at(rt, folder, "/key-secret could not be read", &error)),
+    }
 }
 
 /// Rounds until the match is over.

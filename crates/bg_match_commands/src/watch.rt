@@ -4,13 +4,16 @@ ghost use Rattle.bg_wire.specs.Entries.Codes.{first_watcher};
 
 use bg_command_parts::{Witness, no_socket, tell_word};
 use bg_console::{
-    Outputs, Published, Telling, failed, match_of, waited, waiting_for, wrong, wrong_at,
+    MatchBeside, Outputs, Published, Telling, failed, key_file_of, matches_beside, waited,
+    waiting_for, wrong, wrong_at,
 };
 use bg_options::WatchOptions;
 use bg_processes::{
-    Failures, Going, Hearing, MatchFile, PartySocket, Ticking, Waiting, WatcherProcess,
+    Failures, Going, Hearing, KeyFile, Keyring, MatchFile, PartySocket, Ticking, Waiting,
+    WatcherProcess,
 };
 use bg_reports::Ending;
+use bg_seals::Key;
 use bg_wire::{FIRST_WATCHER, LAST_WATCHER};
 use std::fs::File;
 use std::io::ErrorKind;
@@ -70,21 +73,42 @@ fn check_outputs(
     Ok(())
 }
 
-type Watcher<'a> = WatcherProcess<PartySocket<'a>>;
+type Watcher<'a, R> = WatcherProcess<PartySocket<'a, R>>;
 
-/// A watcher under the first number whose port is free; its socket notes its failures there.
+/// The folder that a file of this name lies in.
+fn folder_of(path: &str) -> &str {
+    match path.rsplit_once('/') {
+        Some(("", _)) => "/",
+        Some((folder, _)) => folder,
+        None => ".",
+    }
+}
+
+/// Whether the ports of one of these matches begin at that of a party of the match that has this port.
+fn begins_at(beside: &[MatchBeside], port: u16, party: u8) -> bool {
+    let own = u32::from(port) + u32::from(party);
+    beside.iter().any(|other| u32::from(other.port) == own)
+}
+
+/// A watcher under the first number whose port is free, and not that of another referee, as far as the folders beside
+/// that of the key file tell; its socket notes its failures there.
 fn begin<'a, R>(
-    rt: &R,
+    rt: &'a R,
     path: &str,
     failures: &'a Failures,
-) -> Result<(Watcher<'a>, Waiting, Ticking), Ending>
+) -> Result<(Watcher<'a, R>, Waiting, Ticking), Ending>
 where
     R: Net + Files<File = File> + Clock + Eprint + AllocGlobal,
 {
-    let file = match_of(rt, path)?;
+    let KeyFile { table, key, .. } = key_file_of(rt, path, FIRST_WATCHER)?;
+    let beside = matches_beside(rt, folder_of(path))?;
     for party in FIRST_WATCHER..=LAST_WATCHER {
-        match PartySocket::bind(rt, file.port, party, failures) {
-            Ok(link) => return sit_down(rt, file, party, link),
+        if begins_at(&beside, table.port, party) {
+            continue;
+        }
+        let keys = Keyring::OfParty(Key::new(key.bytes()));
+        match PartySocket::bind(rt, rt, table.port, party, keys, failures) {
+            Ok(link) => return sit_down(rt, table, party, link),
             Err(error) if error.kind() == ErrorKind::AddrInUse => {}
             Err(error) => return Err(no_socket(rt, party, &error)),
         }
@@ -96,8 +120,8 @@ fn sit_down<'a, R>(
     rt: &R,
     file: MatchFile,
     party: u8,
-    link: PartySocket<'a>,
-) -> Result<(Watcher<'a>, Waiting, Ticking), Ending>
+    link: PartySocket<'a, R>,
+) -> Result<(Watcher<'a, R>, Waiting, Ticking), Ending>
 where
     R: Net + Clock + Eprint + AllocGlobal,
     requires { first_watcher ≤ party }
@@ -111,7 +135,7 @@ where
 
 fn watch<R>(
     rt: &R,
-    process: Watcher<'_>,
+    process: Watcher<'_, R>,
     waiting: Waiting,
     ticking: Ticking,
     witness: Witness<'_, R>,

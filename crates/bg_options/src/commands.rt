@@ -6,6 +6,7 @@ pub(crate) mod check;
 pub(crate) mod export;
 pub(crate) mod import;
 pub(crate) mod judge;
+pub(crate) mod keys;
 pub(crate) mod new_match;
 pub(crate) mod page;
 pub(crate) mod picture;

@@ -39,6 +39,9 @@ pub enum Request<'m, 'a> {
     Sim(SimOptions),
     Loop(LoopOptions<'a>),
     New(NewOptions<'a>),
+    Keys {
+        folder: &'a str,
+    },
     Recover(RecoverOptions<'m, 'a>),
     Referee {
         folder: &'a str,
@@ -109,6 +112,9 @@ fn of_task<'m, 'a>(task: Task, options: &'m ArgMatches<'a>) -> Option<Request<'m
         Task::Sim => Request::Sim(SimOptions::read(options)?),
         Task::Loop => Request::Loop(LoopOptions::read(options)?),
         Task::New => Request::New(NewOptions::read(options)?),
+        Task::Keys => Request::Keys {
+            folder: options.get_str("dir")?,
+        },
         Task::Recover => Request::Recover(RecoverOptions::read(options)?),
         Task::Referee => Request::Referee {
             folder: options.get_str("dir")?,

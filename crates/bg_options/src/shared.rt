@@ -24,11 +24,11 @@ pub(crate) const THREE_TERMINALS: &str =
 
     bg_relay new --length 3 --port 4000 --dir table
     bg_relay referee --dir table
-    bg_relay play --player X --match table/match --dir x
-    bg_relay play --player O --match table/match --dir o
+    bg_relay play --player X --match table/match-x --dir x
+    bg_relay play --player O --match table/match-o --dir o
 
-The first two go into one terminal. Anybody who has the match file may watch:
-bg_relay watch --match table/match. Each process may be ended and started again at any moment.";
+The first two go into one terminal. Anybody who has table/match-watch may watch:
+bg_relay watch --match table/match-watch. Each process may be ended and started again at any moment.";
 
 /// The number that an option says, if it is there.
 pub(crate) fn number_in(options: &ArgMatches<'_>, name: &str) -> Option<u32> {
@@ -138,7 +138,7 @@ pub(crate) const MATCH: Argument = Argument {
     name: "match",
     kind: Kind::Text("FILE"),
     need: Need::Required,
-    about: "The match file that `new` made",
+    about: "The key file that `new` made for the player, or for who watches",
 };
 
 pub(crate) const FOLDER: Argument = Argument {

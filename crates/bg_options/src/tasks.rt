@@ -1,8 +1,8 @@
 //! What the program can be asked to do.
 
 use crate::commands::{
-    act, auto, check, export, import, judge, new_match, page, picture, play, play_loop, recover,
-    referee, script, show, sim, watch,
+    act, auto, check, export, import, judge, keys, new_match, page, picture, play, play_loop,
+    recover, referee, script, show, sim, watch,
 };
 use clap::{Command, Error};
 use std::alloc::Global;
@@ -24,6 +24,7 @@ pub enum Task {
     Sim,
     Loop,
     New,
+    Keys,
     Recover,
     Referee,
     Play,
@@ -33,7 +34,7 @@ pub enum Task {
 }
 
 /// The commands by their names, in the order in which help lists them.
-pub const TASKS: [(&str, Task); 17] = [
+pub const TASKS: [(&str, Task); 18] = [
     ("judge", Task::Judge),
     ("check", Task::Check),
     ("import", Task::Import),
@@ -45,6 +46,7 @@ pub const TASKS: [(&str, Task); 17] = [
     ("sim", Task::Sim),
     ("loop", Task::Loop),
     ("new", Task::New),
+    ("keys", Task::Keys),
     ("recover", Task::Recover),
     ("referee", Task::Referee),
     ("play", Task::Play),
@@ -91,6 +93,7 @@ impl Task {
             Task::Sim => sim::command(alloc),
             Task::Loop => play_loop::command(alloc),
             Task::New => new_match::command(alloc),
+            Task::Keys => keys::command(alloc),
             Task::Recover => recover::command(alloc),
             Task::Referee => referee::command(alloc),
             Task::Play => play::command(alloc),

@@ -5,10 +5,11 @@
 //! // What all processes of a match agree on is a line; this is one of a match to 3 points.
 //! let file = MatchFile::parse("match 7 length 3 rules 1 port 4000\n").expect(&rt, "a good text");
 //! assert!(rt; file.terms.length == 3);
-//! // The referee's process, over its own socket and a folder, with a secret that its dice go by. Why a call of the
-//! // socket or of the files failed is noted.
+//! // The referee's process, over its own socket and a folder, with the keys of all parties and a secret that its dice
+//! // go by. Why a call of the socket or of the files failed is noted.
 //! let failures = Failures::new();
-//! let link = PartySocket::bind(&rt, file.port, REFEREE, &failures)?;
+//! let keys = Keyring::of_referee(&MasterSecret::new(&[8; 32]), file.id);
+//! let link = PartySocket::bind(&rt, &rt, file.port, REFEREE, keys, &failures)?;
 //! let keeper = FileKeeper::new(&rt, folder, REFEREE, &failures)?;
 //! let begun = RefereeProcess::begin(alloc, file.id, file.terms, [7; 32], link, keeper)?;
 //! let (mut referee, outcome) = begun;
@@ -28,8 +29,8 @@ mod sockets;
 
 pub use bg_system::{
     DeviceFailure, DrainedFailures, FailedCall, FailureText, Failures, FolderLock, HIGHEST_PORT,
-    LOWEST_PORT, MatchFile, Printable, PrintableLines, Ready, SlotName, Ticking, Waiting,
-    make_secret, publish, read_saved, read_secret,
+    KeyFile, Keyring, LOWEST_PORT, MatchFile, Printable, PrintableLines, Ready, SlotName, Ticking,
+    Waiting, make_key_secret, make_secret, publish, read_key_secret, read_saved, read_secret,
 };
 pub use files::file_keepers::FileKeeper;
 pub use loops::{play_loop, run_loop};

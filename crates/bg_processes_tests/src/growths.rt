@@ -6,7 +6,9 @@ use crate::helpers::folders::new_folder;
 use crate::helpers::tables::Table;
 use bg_auto::LoopFault;
 use bg_match::{Rules, Terms};
-use bg_processes::{MatchFile, make_secret, publish, read_secret};
+use bg_processes::{
+    KeyFile, MatchFile, make_key_secret, make_secret, publish, read_key_secret, read_secret,
+};
 use bg_world::WorldFault;
 use std::alloc::{AllocError, Global};
 use std::io::ErrorKind;
@@ -71,6 +73,10 @@ fn write_and_read(
 ) -> io::Result<Option<MatchFile>> {
     make_secret(rt, folder)?;
     read_secret(rt, folder)?;
+    make_key_secret(rt, folder)?;
+    KeyFile::derive(*file, &read_key_secret(rt, folder)?, 1).write(rt, folder)?;
+    let path = format!(in rt.alloc(); "{folder}/match-x")?;
+    KeyFile::read(rt, path.as_str())?;
     file.write(rt, folder)?;
     let path = format!(in rt.alloc(); "{folder}/board")?;
     publish(rt, path.as_str(), b"board")?;

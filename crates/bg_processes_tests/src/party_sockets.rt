@@ -1,4 +1,5 @@
 //! A party's socket, and what strangers send to it.
+use crate::helpers::tables::keys_of;
 use arrayvec::ArrayVec;
 use bg_processes::{Failures, Hearing, PartySocket, Ticking, Waiting, Word};
 use bg_wire::{Datagram, PacketBytes};
@@ -32,24 +33,51 @@ fn datagram(rt: &impl Abort, to: u8, bytes: &[u8]) -> Datagram {
     }
 }
 
+/// A clock that is set.
+#[derive(Drop)]
+struct SetClock {
+    milliseconds: Cell<u64>,
+}
+
+impl SetClock {
+    fn new() -> SetClock {
+        SetClock {
+            milliseconds: Cell::new(0),
+        }
+    }
+}
+
+impl Clock for SetClock {
+    fn monotonic(&self) -> io::Result<Duration> {
+        Ok(Duration::from_millis(self.milliseconds.get()))
+    }
+
+    fn since_1970(&self) -> io::Result<Duration> {
+        self.monotonic()
+    }
+
+    fn sleep(&self, _duration: Duration) {}
+}
+
 /// The sockets of the referee and the seats, and the port of their match.
 #[derive(Drop)]
 struct Three<'a> {
     port: u16,
-    referee: PartySocket<'a>,
-    x: PartySocket<'a>,
-    o: PartySocket<'a>,
+    referee: PartySocket<'a, SetClock>,
+    x: PartySocket<'a, SetClock>,
+    o: PartySocket<'a, SetClock>,
 }
 
 /// A port such that those of three parties are free, with their sockets.
-fn three_sockets<'a>(rt: &HostRuntime, failures: &'a Failures) -> Result<Three<'a>, Fail> {
+fn three_sockets<'a>(
+    rt: &HostRuntime,
+    clock: &'a SetClock,
+    failures: &'a Failures,
+) -> Result<Three<'a>, Fail> {
+    let bind = |port, party| PartySocket::bind(rt, clock, port, party, keys_of(party), failures);
     let mut port = 30_000 + (std::process::id(rt.process()) % 500) as u16 * 20;
     for _ in 0..500 {
-        if let (Ok(referee), Ok(x), Ok(o)) = (
-            PartySocket::bind(rt, port, 0, failures),
-            PartySocket::bind(rt, port, 1, failures),
-            PartySocket::bind(rt, port, 2, failures),
-        ) {
+        if let (Ok(referee), Ok(x), Ok(o)) = (bind(port, 0), bind(port, 1), bind(port, 2)) {
             return Ok(Three {
                 port,
                 referee,
@@ -63,13 +91,18 @@ fn three_sockets<'a>(rt: &HostRuntime, failures: &'a Failures) -> Result<Three<'
 }
 
 /// Sends bytes to a party.
-fn send(rt: &impl Abort, from: &mut PartySocket<'_>, to: u8, bytes: &[u8]) {
+fn send(rt: &impl Abort, from: &mut PartySocket<'_, SetClock>, to: u8, bytes: &[u8]) {
     let sent = from.send(&datagram(rt, to, bytes));
     assert!(rt; sent == Ok(()), "to party {to}");
 }
 
 /// A party takes these bytes, or there is nothing for it to take.
-fn check_taken(rt: &impl Abort, socket: &mut PartySocket<'_>, party: u8, expected: Option<&[u8]>) {
+fn check_taken(
+    rt: &impl Abort,
+    socket: &mut PartySocket<'_, SetClock>,
+    party: u8,
+    expected: Option<&[u8]>,
+) {
     let is_expected = match (socket.take(party, 0), expected) {
         (Ok(Some(bytes)), Some(expected)) => bytes.as_slice() == expected,
         (Ok(None), None) => true,
@@ -81,12 +114,13 @@ fn check_taken(rt: &impl Abort, socket: &mut PartySocket<'_>, party: u8, expecte
 #[test]
 fn packets_go_to_their_party(rt: HostRuntime) -> Result<(), Fail> {
     let failures = Failures::new();
+    let clock = SetClock::new();
     let Three {
         port,
         mut referee,
         mut x,
         mut o,
-    } = three_sockets(&rt, &failures)?;
+    } = three_sockets(&rt, &clock, &failures)?;
     send(&rt, &mut x, 0, &want(1));
     check_taken(&rt, &mut o, 2, None);
     check_taken(&rt, &mut referee, 0, Some(&want(1)));
@@ -94,14 +128,16 @@ fn packets_go_to_their_party(rt: HostRuntime) -> Result<(), Fail> {
     // Not for another party than the socket's.
     send(&rt, &mut x, 0, &want(1));
     check_taken(&rt, &mut referee, 1, None);
-    // To a party that is away.
-    send(&rt, &mut x, 9, &want(1));
+    // To a party that is away, and to one that is not the referee.
+    send(&rt, &mut referee, 9, &OPENING);
+    assert!(rt; x.send(&datagram(&rt, 2, &want(1))).is_err());
+    check_taken(&rt, &mut o, 2, None);
     // A second process of the party, and a party that has no port.
     for (port, party, kind) in [
         (port, 1, ErrorKind::AddrInUse),
         (65_500, 200, ErrorKind::AddrNotAvailable),
     ] {
-        let bound = PartySocket::bind(&rt, port, party, &failures);
+        let bound = PartySocket::bind(&rt, &clock, port, party, keys_of(party), &failures);
         assert!(rt;
             bound.err().map(|error| error.kind()) == Some(kind),
             "party {party}"
@@ -119,21 +155,30 @@ fn send_from_elsewhere(rt: &HostRuntime, port: u16, bytes: &[u8], times: u32) ->
     Ok(())
 }
 
-/// Packets of strangers, well made or not, are passed over, and those of parties that send for others.
+/// Packets of strangers, well made or not, are passed over, those of parties that send for others, and those that are
+/// sealed under another key.
 #[test]
 fn packets_of_strangers(rt: HostRuntime) -> Result<(), Fail> {
     let failures = Failures::new();
+    let clock = SetClock::new();
     let Three {
         port,
         mut referee,
-        mut x,
+        x,
         mut o,
-    } = three_sockets(&rt, &failures)?;
+    } = three_sockets(&rt, &clock, &failures)?;
     for bytes in [want(1).as_slice(), b"rubbish", &[7; 300]] {
         send_from_elsewhere(&rt, port, bytes, 1)?;
     }
     send(&rt, &mut o, 0, &want(1));
     check_taken(&rt, &mut referee, 0, None);
+    // X's port, with the key of those who watch.
+    drop(x);
+    let mut forger = PartySocket::bind(&rt, &clock, port, 1, keys_of(3), &failures)?;
+    send(&rt, &mut forger, 0, &want(1));
+    check_taken(&rt, &mut referee, 0, None);
+    drop(forger);
+    let mut x = PartySocket::bind(&rt, &clock, port, 1, keys_of(1), &failures)?;
     // As many as are passed over in one take, and then one of X.
     send_from_elsewhere(&rt, port, &want(2), 64)?;
     send(&rt, &mut x, 0, &want(1));
@@ -142,28 +187,10 @@ fn packets_of_strangers(rt: HostRuntime) -> Result<(), Fail> {
     Ok(())
 }
 
-/// A clock that is set.
-#[derive(Drop)]
-struct SetClock {
-    milliseconds: Cell<u64>,
-}
-
-impl Clock for SetClock {
-    fn monotonic(&self) -> io::Result<Duration> {
-        Ok(Duration::from_millis(self.milliseconds.get()))
-    }
-
-    fn since_1970(&self) -> io::Result<Duration> {
-        self.monotonic()
-    }
-
-    fn sleep(&self, _duration: Duration) {}
-}
-
 /// A party takes these bytes or nothing, and then has so often heard of the referee.
 fn check_heard(
     rt: &impl Abort,
-    socket: &mut PartySocket<'_>,
+    socket: &mut PartySocket<'_, SetClock>,
     party: u8,
     expected: Option<&[u8]>,
     heard: u32,
@@ -175,12 +202,13 @@ fn check_heard(
 #[test]
 fn questions_are_answered(rt: HostRuntime) -> Result<(), Fail> {
     let failures = Failures::new();
+    let clock = SetClock::new();
     let Three {
         port,
         mut referee,
         mut x,
         mut o,
-    } = three_sockets(&rt, &failures)?;
+    } = three_sockets(&rt, &clock, &failures)?;
     for port in [port, port.saturating_add(1)] {
         send_from_elsewhere(&rt, port, b"", 2)?;
     }
@@ -196,17 +224,53 @@ fn questions_are_answered(rt: HostRuntime) -> Result<(), Fail> {
     Ok(())
 }
 
+/// What the referee is to send is lost before a party was heard, and a minute after; what a party sends never is.
+#[test]
+fn parties_that_are_not_heard(rt: HostRuntime) -> Result<(), Fail> {
+    let failures = Failures::new();
+    let clock = SetClock::new();
+    let Three {
+        mut referee,
+        mut x,
+        mut o,
+        ..
+    } = three_sockets(&rt, &clock, &failures)?;
+    let tells = |referee: &mut PartySocket<'_, SetClock>, milliseconds| {
+        clock.milliseconds.set(milliseconds);
+        send(&rt, referee, 1, &OPENING);
+        send(&rt, referee, 2, &OPENING);
+    };
+    tells(&mut referee, 0);
+    check_taken(&rt, &mut x, 1, None);
+    clock.milliseconds.set(1000);
+    x.ask();
+    check_taken(&rt, &mut referee, 0, None);
+    for (milliseconds, expected) in [
+        (1000, Some(OPENING.as_slice())),
+        (60_999, Some(&OPENING)),
+        (61_000, None),
+        (1_000_000, None),
+    ] {
+        tells(&mut referee, milliseconds);
+        check_taken(&rt, &mut x, 1, expected);
+    }
+    send(&rt, &mut x, 0, &want(1));
+    check_taken(&rt, &mut referee, 0, Some(&want(1)));
+    tells(&mut referee, 1_059_999);
+    check_taken(&rt, &mut x, 1, Some(&OPENING));
+    check_taken(&rt, &mut o, 2, None);
+    Ok(())
+}
+
 #[test]
 fn silence_of_the_referee(rt: HostRuntime) -> Result<(), Fail> {
     let failures = Failures::new();
+    let clock = SetClock::new();
     let Three {
         mut referee,
         mut x,
         ..
-    } = three_sockets(&rt, &failures)?;
-    let clock = SetClock {
-        milliseconds: Cell::new(0),
-    };
+    } = three_sockets(&rt, &clock, &failures)?;
     let mut hearing = Hearing::new(&clock);
     let mut words = Vec::new(rt.alloc());
     for tick in 0..100u32 {
@@ -230,11 +294,12 @@ fn silence_of_the_referee(rt: HostRuntime) -> Result<(), Fail> {
 #[test]
 fn waiting_for_a_socket(rt: HostRuntime) -> Result<(), Fail> {
     let failures = Failures::new();
+    let clock = SetClock::new();
     let Three {
         mut referee,
         mut x,
         ..
-    } = three_sockets(&rt, &failures)?;
+    } = three_sockets(&rt, &clock, &failures)?;
     let mut waiting = Waiting::new(&rt, referee.descriptor(), false)?;
     let begun = Instant::now(&rt)?;
     check_ready(&rt, &mut waiting, 30, false)?;

@@ -7,7 +7,9 @@ pub use bg_auto::{
     event_words, run_rounds, sim_text,
 };
 use bg_console::{Progress, columns, failed, no_memory, unwritten, wrong};
-use bg_file_commands::{check, export, import, judge, new_match, page, picture, recover, show};
+use bg_file_commands::{
+    check, export, import, judge, keys, new_match, page, picture, recover, show,
+};
 use bg_match_commands::{play_loop, referee, script, sim, watch};
 use bg_options::{Request, command_line};
 use bg_processes::PrintableLines;
@@ -72,6 +74,7 @@ fn obey(rt: &HostRuntime, request: Request<'_, '_>) -> Result<Ending, Ending> {
         Request::Sim(options) => sim::run(rt, options, progress),
         Request::Loop(options) => play_loop::run(rt, options, progress),
         Request::New(options) => new_match::run(rt, options),
+        Request::Keys { folder } => keys::run(rt, folder),
         Request::Recover(options) => recover::run(rt, options),
         Request::Referee { folder } => referee::run(rt, folder, progress),
         Request::Play(options) => play::run(rt, options),

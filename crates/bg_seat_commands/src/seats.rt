@@ -3,13 +3,13 @@
 use bg_board::Player;
 use bg_command_parts::{Witness, socket_of, stopped};
 use bg_console::{
-    match_of, no_memory, own_folder, say_failures, say_number, waited, waiting_for, wrong,
+    key_file_of, no_memory, own_folder, say_failures, say_number, waited, waiting_for, wrong,
 };
 use bg_match::{Action, Number, Record};
 use bg_options::SeatOptions;
 use bg_processes::{
-    Failures, FileKeeper, FolderLock, Going, Hearing, PartySocket, SeatProcess, Ticking, Waiting,
-    Word,
+    Failures, FileKeeper, FolderLock, Going, Hearing, KeyFile, Keyring, PartySocket, SeatProcess,
+    Ticking, Waiting, Word,
 };
 use bg_reports::{Ending, ending_of};
 use bg_wire::party_of;
@@ -19,7 +19,7 @@ use std::net::Net;
 use std::rt::Files;
 use std::time::Clock;
 
-type Process<'a, R> = SeatProcess<PartySocket<'a>, FileKeeper<'a, R>>;
+type Process<'a, R> = SeatProcess<PartySocket<'a, R>, FileKeeper<'a, R>>;
 
 /// A seat that plays, how it waits, and the lock of its folder.
 #[derive(Drop)]
@@ -67,15 +67,15 @@ where
             match_path,
             folder,
         } = options;
-        let file = match_of(rt, match_path)?;
-        let lock = own_folder(rt, folder)?;
         let party = party_of(player);
-        let link = socket_of(rt, file.port, party, failures)?;
+        let KeyFile { table, key, .. } = key_file_of(rt, match_path, party)?;
+        let lock = own_folder(rt, folder)?;
+        let link = socket_of(rt, table.port, party, Keyring::OfParty(key), failures)?;
         let (waiting, ticking) = waiting_for(rt, link.descriptor(), with_input)?;
         let Ok(keeper) = FileKeeper::new(rt, folder, party, failures) else {
             return Err(no_memory(rt));
         };
-        let begun = SeatProcess::begin(rt.alloc(), player, file.id, file.terms, link, keeper);
+        let begun = SeatProcess::begin(rt.alloc(), player, table.id, table.terms, link, keeper);
         say_failures(rt, failures, folder);
         let Ok((process, outcome)) = begun else {
             return Err(wrong(rt, "length out of range"));

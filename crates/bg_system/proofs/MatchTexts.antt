@@ -10,34 +10,35 @@ use Rattle.bg_system.specs.MatchFiles.{match_text}
 use Rattle.bg_system.specs.Numbers.{BeginsWith, rules_number}
 use Rattle.bg_system.specs.declared.files.match_files.MatchFile.{MatchFile}
 
--- what stands behind its rules, its length and its number
-abbrev pub behind_rules : MatchFile → List ℕ
-behind_rules file = codes "port " ++ (decimal file.port ++ 10 ∷ [])
+-- what stands behind its rules, its length and its number, in a text that goes on behind it
+abbrev pub behind_rules : MatchFile → List ℕ → List ℕ
+behind_rules file rest = codes "port " ++ (decimal file.port ++ 10 ∷ rest)
 
-abbrev pub behind_length : MatchFile → List ℕ
-behind_length file = codes "rules " ++ (decimal (rules_number (rules_of file.terms)) ++ 32 ∷ behind_rules file)
+abbrev pub behind_length : MatchFile → List ℕ → List ℕ
+behind_length file rest = codes "rules " ++ (decimal (rules_number (rules_of file.terms)) ++ 32 ∷ behind_rules file rest)
 
-abbrev pub behind_number : MatchFile → List ℕ
-behind_number file = codes "length " ++ (decimal (match_length file.terms) ++ 32 ∷ behind_length file)
+abbrev pub behind_number : MatchFile → List ℕ → List ℕ
+behind_number file rest = codes "length " ++ (decimal (match_length file.terms) ++ 32 ∷ behind_length file rest)
 
-pub begins : (file : MatchFile) → BeginsWith (match_text file) (codes "match ") file.id 32 (behind_number file)
-begins file = parts (decimal file.id) (decimal (match_length file.terms)) (decimal (rules_number (rules_of file.terms))) (decimal file.port)
+pub begins : (file : MatchFile) (rest : List ℕ)
+    → BeginsWith (match_text file ++ rest) (codes "match ") file.id 32 (behind_number file rest)
+begins file rest = parts (decimal file.id) (decimal (match_length file.terms)) (decimal (rules_number (rules_of file.terms))) (decimal file.port)
   where
-    parts : (a b c d : List ℕ) → codes "match " ++ a ++ codes " length " ++ b ++ codes " rules " ++ c ++ codes " port " ++ d ++ codes "\n"
-        ≡ codes "match " ++ (a ++ 32 ∷ (codes "length " ++ (b ++ 32 ∷ (codes "rules " ++ (c ++ 32 ∷ (codes "port " ++ (d ++ 10 ∷ [])))))))
+    parts : (a b c d : List ℕ) → (codes "match " ++ a ++ codes " length " ++ b ++ codes " rules " ++ c ++ codes " port " ++ d ++ codes "\n") ++ rest
+        ≡ codes "match " ++ (a ++ 32 ∷ (codes "length " ++ (b ++ 32 ∷ (codes "rules " ++ (c ++ 32 ∷ (codes "port " ++ (d ++ 10 ∷ rest)))))))
     parts a b c d = simp append_assoc refl
 
--- a text of these parts is that of the match
-pub joined : (file : MatchFile) (text first second third : List ℕ) → BeginsWith text (codes "match ") file.id 32 first
+-- a text of these parts begins with that of the match
+pub joined : (file : MatchFile) (text first second third rest : List ℕ) → BeginsWith text (codes "match ") file.id 32 first
     → BeginsWith first (codes "length ") (match_length file.terms) 32 second
     → BeginsWith second (codes "rules ") (rules_number (rules_of file.terms)) 32 third
-    → BeginsWith third (codes "port ") file.port 10 [] → text ≡ match_text file
-joined file text first second third a b c d =
-    let rules : second ≡ behind_length file =
-    c ∙ ap (λ (rest : List ℕ). codes "rules " ++ (decimal (rules_number (rules_of file.terms)) ++ 32 ∷ rest)) d in
-    let length : first ≡ behind_number file =
-    b ∙ ap (λ (rest : List ℕ). codes "length " ++ (decimal (match_length file.terms) ++ 32 ∷ rest)) rules in
-    a ∙ ap (λ (rest : List ℕ). codes "match " ++ (decimal file.id ++ 32 ∷ rest)) length ∙ sym (begins file)
+    → BeginsWith third (codes "port ") file.port 10 rest → text ≡ match_text file ++ rest
+joined file text first second third rest a b c d =
+    let rules : second ≡ behind_length file rest =
+    c ∙ ap (λ (left : List ℕ). codes "rules " ++ (decimal (rules_number (rules_of file.terms)) ++ 32 ∷ left)) d in
+    let length : first ≡ behind_number file rest =
+    b ∙ ap (λ (left : List ℕ). codes "length " ++ (decimal (match_length file.terms) ++ 32 ∷ left)) rules in
+    a ∙ ap (λ (left : List ℕ). codes "match " ++ (decimal file.id ++ 32 ∷ left)) length ∙ sym (begins file rest)
 
 -- rules have numbers of their own
 pub same_rules : (a b : Rules) → rules_number a ≡ rules_number b → a ≡ b

@@ -1,6 +1,8 @@
 //! Files in the folders of a match.
 
 pub(crate) mod folder_locks;
+pub(crate) mod key_digits;
+pub(crate) mod key_files;
 pub(crate) mod match_files;
 pub(crate) mod numbers;
 pub(crate) mod party_files;

@@ -8,6 +8,10 @@ mod folder_locks;
 #[cfg(test)]
 mod helpers;
 #[cfg(test)]
+mod key_files;
+#[cfg(test)]
+mod keyrings;
+#[cfg(test)]
 mod match_files;
 #[cfg(test)]
 mod own_sockets;

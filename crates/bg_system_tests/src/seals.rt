@@ -2,4 +2,4 @@
 
 mod datagrams;
 mod hmacs;
-mod keys;
+pub(crate) mod keys;

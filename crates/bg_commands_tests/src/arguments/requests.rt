@@ -58,6 +58,7 @@ pub(crate) fn is_of_files(row: usize, request: &Request<'_, '_>) -> bool {
             (*match_path, *folder, *x, *o) == ("m", "d", "x", "o")
                 && *transcripts == ["t", "-"].as_slice()
         }
+        (21, Request::Keys { folder }) => *folder == "d",
         _ => false,
     }
 }

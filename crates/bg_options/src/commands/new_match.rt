@@ -10,10 +10,12 @@ use std::alloc::Global;
 /// What `new` does.
 const ABOUT_NEW: &str = "Make a match between processes.\n\
              \n\
-             Writes the files `match` and `secret` into DIR, which is made where it is missing, and prints the\n\
-             line of `match`. Hand that file to the players and to who may watch: its number is the key of the\n\
-             match. The dice go by the secret, which stays with the referee. Ends with status 0; with 2 where\n\
-             DIR has a match already; with 1 where reading, writing or memory failed.";
+             Writes the files of the referee into DIR, which is made where it is missing, and prints the line of\n\
+             `match`. Of the others hand `match-x` to player X, `match-o` to player O, and `match-watch` to who\n\
+             may watch: each has the key of its party, so show it to nobody else. `secret`, by which the dice\n\
+             go, and `key-secret`, which all keys are derived from, stay with the referee. A match takes the port\n\
+             P and the 255 above it. Ends with status 0; with 2 where DIR has a match already, or another match\n\
+             beside it one of these ports; with 1 where reading, writing or memory failed.";
 
 /// What a match between processes is to be, and where its files are to be made.
 #[derive(Clone, Copy)]

@@ -1,7 +1,7 @@
 //! The options and help of the command that makes a referee's folder from what others hold.
 
 use crate::arguments::{Argument, Kind, Need, described, with, with_all};
-use crate::shared::{FOLDER, MATCH};
+use crate::shared::FOLDER;
 use clap::{Arg, ArgMatches, Command, Error};
 use std::alloc::Global;
 
@@ -9,14 +9,15 @@ use std::alloc::Global;
 const ABOUT_RECOVER: &str =
     "Make a referee's folder anew, where it was lost, from what the seats and others hold.
 
-    $ bg_relay recover --match match --x x --o o --dir new-table board/transcript
+    $ bg_relay recover --match match-x --x x --o o --dir new-table board/transcript
     bg_relay: new-table begins with the 57 entries of board/transcript
     $ bg_relay referee --dir new-table
 
 End all processes of the match first. Every party holds the front of what the referee had, so the
 longest record is taken, of both seats' folders and of the transcripts that are named: what watchers
 keep, or what `play` and `auto` have printed. Name each that there is: where one that is left out
-holds more, the parties can't go on together. The dice go by a new secret from there on.
+holds more, the parties can't go on together. The dice go by a new secret from there on, and all keys
+are new: hand the new key files out, as `new` says.
 
 Where two of them differ, nothing is made. Ends with status 0; with 2 where a file or a folder is
 none, two records differ, or DIR has a match already; with 1 where a process plays over a folder, or
@@ -48,6 +49,13 @@ impl<'m, 'a> RecoverOptions<'m, 'a> {
         })
     }
 }
+
+const MATCH: Argument = Argument {
+    name: "match",
+    kind: Kind::Text("FILE"),
+    need: Need::Required,
+    about: "Any key file of the match, or its match file",
+};
 
 const X: Argument = Argument {
     name: "x",

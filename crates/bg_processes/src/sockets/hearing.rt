@@ -53,10 +53,10 @@ impl Hearing {
     }
 
     /// After a round over this socket, in which a tick was due or not: what has changed, if anything has.
-    pub fn after_round(
+    pub fn after_round<C: Clock>(
         &mut self,
-        rt: &impl Clock,
-        socket: &PartySocket<'_>,
+        rt: &C,
+        socket: &PartySocket<'_, C>,
         tick: bool,
     ) -> Option<Word> {
         if tick {

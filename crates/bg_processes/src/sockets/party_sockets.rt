@@ -3,44 +3,49 @@ ghost use Rattle.std.specs.Prelude.{length};
 
 use crate::answers::answered;
 use bg_streams::History;
-use bg_system::{Failures, PartyEnd};
+use bg_system::{Failures, Keyring, PartyEnd};
 use bg_wire::Datagram;
 use bg_world::{DeviceFault, Link, Taken, count_failed, note_taken};
 use std::io;
 use std::net::Net;
 use std::os::fd::RawFd;
+use std::time::Clock;
 
 /// The non-blocking UDP socket of one party on 127.0.0.1 (docs/OPERATING.md, "Ports"). Party P of a match has the port
-/// of the match and P more; only one process has a port at a time, so that no two run one party; and what comes from
-/// another port than its sender's is passed over. It says nothing of honesty: the system may lose datagrams, and
-/// whoever gets the port of a party that is away can forge its packets.
+/// of the match and P more; only one process has a port at a time, so that no two run one party. Its datagrams are
+/// sealed, and those that were not sealed for it by the party whose port they come from are passed over. It says
+/// nothing of honesty: the system may lose datagrams, and that nobody else has the keys of a party is no fact of the
+/// code.
 ///
-/// The referee's socket sends a datagram without a byte back to the party that it came from, so that who waits can
-/// [`ask`](Self::ask) whether the referee is there.
+/// The referee's socket answers the sign of life by which a party [asks](Self::ask) whether it is there. What it is to
+/// send to a party that was not heard for a minute is lost.
 ///
 /// It notes why a call failed in the [`Failures`] that it is lent.
 #[derive(Drop)]
-pub struct PartySocket<'a> {
-    end: PartyEnd<'a>,
+pub struct PartySocket<'a, C> {
+    end: PartyEnd<'a, C>,
     takes: History,
     sends: History,
     faults: History,
     taken: Result<Option<History>, DeviceFault>,
 }
 
-impl<'a> PartySocket<'a> {
-    /// The socket of a party of the match that has this port; why it fails later is noted there.
+impl<'a, C: Clock> PartySocket<'a, C> {
+    /// The socket of a party of the match that has this port, with its keys; why it fails later is noted there. By the
+    /// clock it knows when each party was heard last.
     ///
     /// # Errors
     /// `AddrInUse` where another process has the party's port; else why the system gives no socket.
     pub fn bind(
-        rt: &impl Net,
+        net: &impl Net,
+        clock: &'a C,
         port: u16,
         party: u8,
+        keys: Keyring,
         failures: &'a Failures,
-    ) -> io::Result<PartySocket<'a>> {
+    ) -> io::Result<PartySocket<'a, C>> {
         Ok(PartySocket {
-            end: PartyEnd::bind(rt, port, party, failures)?,
+            end: PartyEnd::bind(net, clock, port, party, keys, failures)?,
             takes: History::new(),
             sends: History::new(),
             faults: History::new(),
@@ -53,7 +58,7 @@ impl<'a> PartySocket<'a> {
         self.end.descriptor()
     }
 
-    /// Asks the referee whether it is there, by a datagram without a byte. Where that can't be sent, no answer comes.
+    /// Asks the referee whether it is there, by the sign of life. Where that can't be sent, no answer comes.
     pub fn ask(&self) {
         self.end.ask();
     }
@@ -65,7 +70,7 @@ impl<'a> PartySocket<'a> {
     }
 }
 
-impl<'a> Link for PartySocket<'a> {
+impl<'a, C: Clock> Link for PartySocket<'a, C> {
     ghost use Rattle.std.specs.Prelude.{None, []};
     ghost use Rattle.bg_world.specs.Devices.Handed.{noted_answer};
 

@@ -7,9 +7,10 @@ use bg_auto::{NoOnlooker, auto_action};
 use bg_board::Player;
 use bg_match::{Action, Number, Rules, Terms};
 use bg_processes::{
-    Failures, FileKeeper, Going, PartySocket, RefereeProcess, SeatProcess, WatcherProcess,
+    Failures, FileKeeper, Going, Keyring, PartySocket, RefereeProcess, SeatProcess, WatcherProcess,
 };
-use bg_wire::{REFEREE, party_of};
+use bg_seals::MasterSecret;
+use bg_wire::{FIRST_WATCHER, REFEREE, SEAT_OF_O, SEAT_OF_X, party_of};
 use bg_world::Outcome;
 use std::io;
 use std::test::Fail;
@@ -24,7 +25,7 @@ const WATCHER: u8 = 3;
 /// No match of the tests has as many turns.
 const MOST_TURNS: u32 = 20_000;
 
-type Socket<'a> = Failing<'a, PartySocket<'a>>;
+type Socket<'a> = Failing<'a, PartySocket<'a, HostRuntime>>;
 
 type Files<'a> = Failing<'a, FileKeeper<'a, HostRuntime>>;
 
@@ -46,10 +47,20 @@ pub(crate) struct Table<'a> {
     watcher: Option<WatcherProcess<Socket<'a>>>,
 }
 
+/// The keys of a party.
+pub(crate) fn keys_of(party: u8) -> Keyring {
+    let secret = MasterSecret::new(&KEY);
+    match party {
+        REFEREE => Keyring::of_referee(&secret, ID),
+        seat @ (SEAT_OF_X | SEAT_OF_O) => Keyring::OfParty(secret.key_of(ID, seat)),
+        _ => Keyring::OfParty(secret.key_of(ID, FIRST_WATCHER)),
+    }
+}
+
 /// Whether the port of a party is free.
 fn is_free(rt: &HostRuntime, port: u16, party: u8) -> bool {
     let failures = Failures::new();
-    PartySocket::bind(rt, port, party, &failures).is_ok()
+    PartySocket::bind(rt, rt, port, party, keys_of(party), &failures).is_ok()
 }
 
 /// Whether those of five parties are free.
@@ -112,7 +123,15 @@ impl<'a> Table<'a> {
     }
 
     fn socket(&self, party: u8) -> io::Result<Socket<'a>> {
-        let socket = PartySocket::bind(self.rt, self.port, party, &self.calls.failures)?;
+        let keys = keys_of(party);
+        let socket = PartySocket::bind(
+            self.rt,
+            self.rt,
+            self.port,
+            party,
+            keys,
+            &self.calls.failures,
+        )?;
         Ok(Failing::new(socket, self.calls))
     }
 

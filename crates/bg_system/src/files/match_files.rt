@@ -1,5 +1,5 @@
 //! What all processes of a match agree on, and the file that says it.
-ghost use Rattle.std.specs.Prelude.{◌≡◌, ◌↔◌, Some};
+ghost use Rattle.std.specs.Prelude.{◌≡◌, ◌↔◌, ℕ, List, ◌++◌, Some, IfSome, MatchOption};
 ghost use Rattle.std.specs.Int.{IsInRange};
 ghost use Rattle.bg_system.specs.Numbers.{rules_number};
 
@@ -19,8 +19,8 @@ pub const LOWEST_PORT: u16 = 1024;
 /// The highest port that a match may have: so each of its 256 parties has one.
 pub const HIGHEST_PORT: u16 = 65_280;
 
-/// The most bytes that are read of the file: more than any good one has.
-const MOST_BYTES: u64 = 128;
+/// The most bytes that are read of a match file or a key file: more than any good one has.
+const MOST_BYTES: u64 = 256;
 
 /// What all processes of a match agree on (docs/FORMATS.md, "Match file"). It is shown as the text of its file: `match
 /// ID length N rules R port P` in one line, which a line feed ends.
@@ -66,6 +66,18 @@ fn rules_of(number: u64) -> Rules
     if number == 1 { Rules::One } else { Rules::Two }
 }
 
+/// Returns the first bytes of a file, as far as a match file or a key file goes.
+pub(crate) fn front_of_file(
+    rt: &(impl Files<File = File> + AllocGlobal),
+    path: &str,
+) -> io::Result<Vec<u8>> {
+    let mut bytes = Vec::new(rt.alloc());
+    open_plain(rt, path)?
+        .take(MOST_BYTES)
+        .read_to_end(&mut bytes)?;
+    Ok(bytes)
+}
+
 impl MatchFile {
     ghost use Rattle.bg_system.specs.MatchFiles.{IsMatchFile, match_text};
 
@@ -74,24 +86,33 @@ impl MatchFile {
     pub fn parse(text: &str) -> Option<MatchFile>
         ensures { (file : MatchFile) → (result ≡ Some file) ↔ (IsMatchFile file × (text.now ≡ match_text file)) }
     {
+        let (file, rest) = MatchFile::parse_front(text)?;
+        if !rest.is_empty() {
+            return None;
+        }
+        Some(file)
+    }
+
+    /// Returns what a text says that begins with that of a match file, and what stands behind it. None where the text
+    /// does not begin so.
+    pub(crate) fn parse_front(text: &str) -> Option<(MatchFile, &str)>
+        ensures only { IfSome result (λ found. IsMatchFile found.0
+            × (text.now ≡ match_text found.0 ++ found.1.now)) }
+        ensures all { (file : MatchFile) (rest : List ℕ) → IsMatchFile file → text.now ≡ match_text file ++ rest
+            → MatchOption result ⊥ (λ found. (found.0 ≡ file) × (found.1.now ≡ rest)) }
+    {
         let (id, rest) = split_number(text, "match ", 0, u64::MAX, ' ')?;
         let (shortest, longest) = (u64::from(SHORTEST_MATCH), u64::from(LONGEST_MATCH));
         let (length, rest) = split_number(rest, "length ", shortest, longest, ' ')?;
         let (rules, rest) = split_number(rest, "rules ", 1, 2, ' ')?;
         let (lowest, highest) = (u64::from(LOWEST_PORT), u64::from(HIGHEST_PORT));
         let (port, rest) = split_number(rest, "port ", lowest, highest, '\n')?;
-        if !rest.is_empty() {
-            return None;
-        }
         let terms = Terms {
             length: length as u8,
             rules: rules_of(rules),
         };
-        Some(MatchFile {
-            id,
-            terms,
-            port: port as u16,
-        })
+        let port = port as u16;
+        Some((MatchFile { id, terms, port }, rest))
     }
 
     /// What the file at a path says; `None` where it is no match file.
@@ -102,18 +123,14 @@ impl MatchFile {
         rt: &(impl Files<File = File> + AllocGlobal),
         path: &str,
     ) -> io::Result<Option<MatchFile>> {
-        let mut bytes = Vec::new(rt.alloc());
-        open_plain(rt, path)?
-            .take(MOST_BYTES)
-            .read_to_end(&mut bytes)?;
+        let bytes = front_of_file(rt, path)?;
         match str::from_utf8(&bytes) {
             Ok(text) => Ok(MatchFile::parse(text)),
             Err(_) => Ok(None),
         }
     }
 
-    /// Writes it into a folder, as the file `match` that only its owner reads: who knows the number of a match can
-    /// forge its packets (docs/OPERATING.md, "Ports").
+    /// Writes it into a folder, as the file `match` that only its owner reads.
     ///
     /// # Errors
     /// Why the file could not be written. Then there is none, unless its folder could not be synced.

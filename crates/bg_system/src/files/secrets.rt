@@ -1,9 +1,10 @@
-//! The secret that the dice of a match go by.
+//! The secrets of a referee: that which the dice of its match go by, and that which keys are derived from.
 ghost use Rattle.std.specs.IoError.{error_kind};
 ghost use Rattle.std.specs.Prelude.{◌≡◌, ◌≢◌, length, IfOk, IfSome, MatchResult};
 
 use crate::files::plain_files::open_plain;
 use crate::files::whole_files::write_whole;
+use bg_seals::MasterSecret;
 use std::alloc::Global;
 use std::fs::File;
 use std::io;
@@ -11,8 +12,11 @@ use std::io::{ErrorKind, Read};
 use std::random::RandomSource;
 use std::rt::Files;
 
-/// The name of its file in the referee's folder.
+/// The name of the file of the dice's secret in the referee's folder.
 const NAME: &str = "secret";
+
+/// That of the file of the keys' secret.
+const NAME_OF_KEYS: &str = "key-secret";
 
 /// The most bytes that are read of the file: one more than a secret has.
 const MOST_BYTES: u64 = 33;
@@ -26,9 +30,29 @@ pub fn make_secret(
     rt: &(impl Files<File = File> + AllocGlobal + RandomSource),
     folder: &str,
 ) -> io::Result<()> {
+    make(rt, folder, NAME)
+}
+
+/// Draws the secret that the keys of a match are derived from, and writes it into a folder, as the file `key-secret`
+/// that only its owner reads. It is printed nowhere.
+///
+/// # Errors
+/// Why the system gives no bytes, or the file could not be written.
+pub fn make_key_secret(
+    rt: &(impl Files<File = File> + AllocGlobal + RandomSource),
+    folder: &str,
+) -> io::Result<()> {
+    make(rt, folder, NAME_OF_KEYS)
+}
+
+fn make(
+    rt: &(impl Files<File = File> + AllocGlobal + RandomSource),
+    folder: &str,
+    name: &str,
+) -> io::Result<()> {
     let mut bytes = [0; 32];
     rt.fill_bytes(&mut bytes)?;
-    write_whole(rt, folder, NAME, &bytes)
+    write_whole(rt, folder, name, &bytes)
 }
 
 /// The secret in a folder.
@@ -40,7 +64,26 @@ pub fn read_secret(
     rt: &(impl Files<File = File> + AllocGlobal),
     folder: &str,
 ) -> io::Result<[u8; 32]> {
-    let path = format!(in rt.alloc(); "{folder}/{NAME}")?;
+    read(rt, folder, NAME)
+}
+
+/// The secret in a folder that the keys of its match are derived from.
+///
+/// # Errors
+/// Those of [`read_secret`].
+pub fn read_key_secret(
+    rt: &(impl Files<File = File> + AllocGlobal),
+    folder: &str,
+) -> io::Result<MasterSecret> {
+    Ok(MasterSecret::new(&read(rt, folder, NAME_OF_KEYS)?))
+}
+
+fn read(
+    rt: &(impl Files<File = File> + AllocGlobal),
+    folder: &str,
+    name: &str,
+) -> io::Result<[u8; 32]> {
+    let path = format!(in rt.alloc(); "{folder}/{name}")?;
     secret_of(rt.alloc(), open_plain(rt, path.as_str())?)
 }
 

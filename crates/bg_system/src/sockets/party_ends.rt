@@ -1,55 +1,67 @@
-//! The UDP socket of one party, which knows the others by their ports.
+//! The UDP socket of one party, which knows the others by their ports and by their keys.
+ghost use Rattle.std.specs.Prelude.{◌≤◌, length};
+ghost use Rattle.bg_seals.specs.Datagrams.{most_packet_bytes};
 
 use crate::failures::Failures;
 use crate::failures::device_failures::FailedCall;
 use crate::failures::first_failures::FirstFailures;
+use crate::sockets::hearing_times::HearingTimes;
+use crate::sockets::keyrings::Keyring;
 use crate::sockets::own_sockets::{MOST_BYTES, Received};
-use crate::sockets::senders::{address_of, is_at, is_from_sender};
+use crate::sockets::senders::{SIGN_OF_LIFE, address_of, heard};
 use arrayvec::ArrayVec;
 use bg_wire::{Datagram, REFEREE};
 use std::io;
 use std::io::ErrorKind;
 use std::net::{Net, SocketAddr, UdpSocket};
 use std::os::fd::{AsRawFd, RawFd};
+use std::time::Clock;
 
 /// So many datagrams from elsewhere are passed over in one take at most, so that a stranger can't hold a round up.
 const MOST_PASSED_OVER: u32 = 64;
 
 /// A party's end of the match that has this port: a non-blocking UDP socket on 127.0.0.1 (docs/OPERATING.md, "Ports").
-/// What comes from another port than its sender's is passed over.
+/// What it sends is sealed by its keys, and what was not sealed so for this party by the party whose port it comes from
+/// is passed over ([`heard`]).
 ///
-/// The referee's end sends a datagram without a byte back to the party that it came from, so that who waits can
-/// [`ask`](Self::ask) whether the referee is there.
+/// The referee's end answers the sign of life by which a party [asks](Self::ask) whether it is there; and what it is to
+/// send to a party that was not heard for a minute is lost, as in a network: another process may have that port.
 ///
 /// It notes why a call failed in the [`Failures`] that it is lent.
 #[derive(Drop)]
-pub struct PartyEnd<'a> {
+pub struct PartyEnd<'a, C> {
     socket: UdpSocket,
     port: u16,
     party: u8,
+    keys: Keyring,
+    times: HearingTimes<'a, C>,
     /// How many datagrams came from the referee.
     heard: u32,
     sends: FirstFailures<'a>,
     takes: FirstFailures<'a>,
 }
 
-impl<'a> PartyEnd<'a> {
-    /// The end of a party of the match that has this port; why it fails later is noted there.
+impl<'a, C: Clock> PartyEnd<'a, C> {
+    /// The end of a party of the match that has this port, with its keys; why it fails later is noted there.
     ///
     /// # Errors
     /// `AddrInUse` where another process has the party's port; else why the system gives no socket.
     pub fn bind(
-        rt: &impl Net,
+        net: &impl Net,
+        clock: &'a C,
         port: u16,
         party: u8,
+        keys: Keyring,
         failures: &'a Failures,
-    ) -> io::Result<PartyEnd<'a>> {
-        let socket = UdpSocket::bind(rt, address_of(port, party)?)?;
+    ) -> io::Result<PartyEnd<'a, C>> {
+        let socket = UdpSocket::bind(net, address_of(port, party)?)?;
         socket.set_nonblocking(true)?;
         Ok(PartyEnd {
             socket,
             port,
             party,
+            keys,
+            times: HearingTimes::new(clock),
             heard: 0,
             sends: FirstFailures::new(failures),
             takes: FirstFailures::new(failures),
@@ -61,9 +73,9 @@ impl<'a> PartyEnd<'a> {
         self.socket.as_raw_fd()
     }
 
-    /// Asks the referee whether it is there, by a datagram without a byte. Where that can't be sent, no answer comes.
+    /// Asks the referee whether it is there, by the sign of life. Where that can't be sent, no answer comes.
     pub fn ask(&self) {
-        self.send_nothing(address_of(self.port, REFEREE));
+        self.send_sign(REFEREE);
     }
 
     /// How many datagrams its takes have read that came from the referee, answers to [`ask`](Self::ask) among them; the
@@ -72,14 +84,18 @@ impl<'a> PartyEnd<'a> {
         self.heard
     }
 
-    /// Sends a datagram to the port of its party.
+    /// Sends a datagram to the port of its party, sealed; the referee's end sends none to a party that was not heard for
+    /// a minute.
     ///
     /// # Errors
-    /// Why the system does not send it.
+    /// Why the system does not send it; `InvalidInput` where nothing goes from this party to that one.
     pub fn send(&mut self, datagram: &Datagram) -> io::Result<()> {
-        let answer = self.send_out(datagram);
-        self.sends
-            .after(FailedCall::Send { to: datagram.to }, answer)
+        let to = datagram.to;
+        if self.party == REFEREE && !self.times.is_there(to) {
+            return Ok(());
+        }
+        let answer = self.send_sealed(to, datagram.bytes.bytes.as_slice());
+        self.sends.after(FailedCall::Send { to }, answer)
     }
 
     /// What has come for a party: nothing for another than this end's.
@@ -95,25 +111,32 @@ impl<'a> PartyEnd<'a> {
     }
 }
 
-impl<'a> PartyEnd<'a> {
-    fn send_out(&self, datagram: &Datagram) -> io::Result<()> {
-        let to = address_of(self.port, datagram.to)?;
-        self.socket.send_to(datagram.bytes.bytes.as_slice(), to)?;
+impl<'a, C: Clock> PartyEnd<'a, C> {
+    /// Sends bytes to a party, sealed.
+    fn send_sealed(&self, to: u8, bytes: &[u8]) -> io::Result<()>
+        requires { length bytes.now ≤ most_packet_bytes }
+    {
+        let address = address_of(self.port, to)?;
+        let Some(sealed) = self.keys.seal(self.party, to, bytes) else {
+            return Err(io::Error::from(ErrorKind::InvalidInput));
+        };
+        self.socket.send_to(sealed.as_slice(), address)?;
         Ok(())
     }
 
-    /// The datagram that has waited longest of those whose packet comes from the port of its sender.
+    /// Sends the sign of life to a party, unless that fails.
+    fn send_sign(&self, to: u8) {
+        let _ = self.send_sealed(to, SIGN_OF_LIFE);
+    }
+
+    /// The packet that has waited longest of those that a party sent to this one.
     fn receive(&mut self) -> Received {
         for _ in 0..MOST_PASSED_OVER {
             let mut buffer = [0; MOST_BYTES];
             match self.socket.recv_from(&mut buffer) {
-                Ok((0, from)) => self.answer(from),
                 Ok((count, from)) => {
-                    if is_from_sender(self.port, &buffer[..count], from) {
-                        self.note_sender(from);
-                        let mut bytes = ArrayVec::new();
-                        bytes.try_extend_from_slice(&buffer[..count]).unwrap();
-                        return Ok(Some(bytes));
+                    if let Some(packet) = self.packet_in(&buffer[..count], from) {
+                        return Ok(Some(packet));
                     }
                 }
                 Err(error) if error.kind() == ErrorKind::WouldBlock => return Ok(None),
@@ -123,25 +146,21 @@ impl<'a> PartyEnd<'a> {
         Ok(None)
     }
 
-    /// A datagram without a byte came: a party asks whether the referee is there, or the referee says so.
-    fn answer(&mut self, from: SocketAddr) {
-        if self.party != REFEREE {
-            self.note_sender(from);
-        } else if (1..=u8::MAX).any(|party| is_at(from, self.port, party)) {
-            self.send_nothing(Ok(from));
-        }
-    }
-
-    fn send_nothing(&self, to: io::Result<SocketAddr>) {
-        if let Ok(to) = to {
-            let _ = self.socket.send_to(&[], to);
-        }
-    }
-
-    /// Counts what comes from the referee.
-    fn note_sender(&mut self, from: SocketAddr) {
-        if is_at(from, self.port, REFEREE) {
+    /// The packet of a datagram, if it has one of a party for this one. A sign of life is answered by the referee.
+    fn packet_in(&mut self, datagram: &[u8], from: SocketAddr) -> Option<ArrayVec<u8, MOST_BYTES>> {
+        let (party, bytes) = heard(&self.keys, self.port, self.party, datagram, from)?;
+        self.times.note(party);
+        if party == REFEREE {
             self.heard = self.heard.wrapping_add(1);
         }
+        if bytes == SIGN_OF_LIFE {
+            if self.party == REFEREE {
+                self.send_sign(party);
+            }
+            return None;
+        }
+        let mut packet = ArrayVec::new();
+        packet.try_extend_from_slice(bytes).ok()?;
+        Some(packet)
     }
 }

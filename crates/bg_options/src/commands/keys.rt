@@ -1,0 +1,21 @@
+//! The options and help of the command that makes the key files of a match.
+
+use crate::arguments::{described, with_all};
+use crate::shared::{FOLDER, THREE_TERMINALS};
+use clap::{Command, Error};
+use std::alloc::Global;
+
+/// What `keys` does.
+const ABOUT_KEYS: &str = "Make the key files of a match.\n\
+             \n\
+             Writes `match-x`, `match-o` and `match-watch` into DIR, the folder of the referee, as `new` does:\n\
+             the same ones again where they were lost, as the keys are derived from `key-secret`. A folder that\n\
+             an older program made has no `key-secret`: there it draws one, and the match goes on with keys. End\n\
+             all processes of such a match first. Ends with status 0; with 2 where DIR is no folder, or has no\n\
+             match; with 1 where another process plays over DIR, or reading, writing or memory failed.";
+
+/// Its options and help.
+pub(crate) fn command<'a>(alloc: Global) -> Result<Command<'a>, Error> {
+    let command = described(alloc, "keys", "Make the key files of a match", ABOUT_KEYS);
+    with_all(alloc, command.after_help(THREE_TERMINALS), &[FOLDER])
+}

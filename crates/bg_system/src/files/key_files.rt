@@ -1,0 +1,103 @@
+//! The files that a match is handed to its parties by, with the key of each.
+ghost use Rattle.std.specs.Prelude.{◌≡◌, ◌↔◌, Some};
+
+use crate::files::key_digits::{digits_of, key_in};
+use crate::files::match_files::{MatchFile, front_of_file};
+use crate::files::numbers::split_number;
+use crate::files::whole_files::write_whole;
+use bg_seals::{Key, MasterSecret};
+use bg_wire::{FIRST_WATCHER, SEAT_OF_O, SEAT_OF_X};
+use std::fmt::{Display, Formatter, Write};
+use std::fs::File;
+use std::rt::Files;
+use std::{fmt, io};
+
+/// What a party, or whoever watches, knows of its match and nobody else does but the referee: its key (docs/FORMATS.md,
+/// "Key files"). It is shown as the text of its file, which no message may have.
+#[derive(Debug, Drop)]
+pub struct KeyFile {
+    /// What all processes of the match agree on.
+    pub table: MatchFile,
+    /// The party: 1 or 2, or 3 for all watchers.
+    pub party: u8,
+    /// Its key.
+    pub key: Key,
+}
+
+/// Returns the name of the key file of a party, as which the referee's folder has it: `match-x`, `match-o`, or
+/// `match-watch` for all who watch.
+pub fn name_of_key_file(party: u8) -> &'static str {
+    match party {
+        SEAT_OF_X => "match-x",
+        SEAT_OF_O => "match-o",
+        _ => "match-watch",
+    }
+}
+
+impl Display for KeyFile {
+    ghost use Rattle.std.specs.Prelude.{Some};
+    ghost use Rattle.bg_system.specs.KeyFiles.{key_file_text};
+
+    ghost output = { λ file. Some (key_file_text file) };
+
+    fn fmt<W: Write>(&self, f: &mut Formatter<W>) -> fmt::Result {
+        let digits = digits_of(self.key.bytes());
+        let Ok(digits) = str::from_utf8(&digits) else {
+            return Err(fmt::Error);
+        };
+        let KeyFile { table, party, .. } = self;
+        writeln!(f, "{table}key {party} {digits}")
+    }
+}
+
+impl KeyFile {
+    ghost use Rattle.bg_system.specs.KeyFiles.{IsKeyFile, key_file_of, key_file_text};
+
+    /// Returns what a text says that is that of a key file, and none of any other text.
+    pub fn parse(text: &str) -> Option<KeyFile>
+        ensures { (file : KeyFile) → (result ≡ Some file) ↔ (IsKeyFile file × (text.now ≡ key_file_text file)) }
+    {
+        let (table, rest) = MatchFile::parse_front(text)?;
+        let (least, most) = (u64::from(SEAT_OF_X), u64::from(FIRST_WATCHER));
+        let (party, rest) = split_number(rest, "key ", least, most, ' ')?;
+        let key = Key::new(&key_in(rest)?);
+        let party = party as u8;
+        Some(KeyFile { table, party, key })
+    }
+
+    /// Returns the file of a party of a match, 1, 2, or 3 for all watchers, whose keys are derived from this secret.
+    pub fn derive(table: MatchFile, secret: &MasterSecret, party: u8) -> KeyFile
+        ensures { result ≡ key_file_of table secret.now party }
+    {
+        let key = secret.key_of(table.id, party);
+        KeyFile { table, party, key }
+    }
+
+    /// Returns what the file at a path says; `None` where it is no key file.
+    ///
+    /// # Errors
+    /// Why the file could not be opened or read; `InvalidInput` where it is no plain file.
+    pub fn read(
+        rt: &(impl Files<File = File> + AllocGlobal),
+        path: &str,
+    ) -> io::Result<Option<KeyFile>> {
+        let bytes = front_of_file(rt, path)?;
+        match str::from_utf8(&bytes) {
+            Ok(text) => Ok(KeyFile::parse(text)),
+            Err(_) => Ok(None),
+        }
+    }
+
+    /// Writes it into a folder, by its name, as a file that only its owner reads.
+    ///
+    /// # Errors
+    /// Why the file could not be written. Then there is none, unless its folder could not be synced.
+    pub fn write(
+        &self,
+        rt: &(impl Files<File = File> + AllocGlobal),
+        folder: &str,
+    ) -> io::Result<()> {
+        let text = format!(in rt.alloc(); "{self}")?;
+        write_whole(rt, folder, name_of_key_file(self.party), text.as_bytes())
+    }
+}

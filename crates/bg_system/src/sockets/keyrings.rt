@@ -1,0 +1,79 @@
+//! The keys that a party has, and the datagrams that it seals and opens by them.
+ghost use Rattle.std.specs.Prelude.{◌≡◌, ◌≤◌, length, MatchOption};
+ghost use Rattle.bg_seals.specs.Datagrams.{most_packet_bytes};
+ghost use Rattle.bg_system.specs.Keyrings.{way};
+
+use bg_seals::{Direction, Key, MasterSecret, SealedDatagram};
+use bg_wire::{FIRST_WATCHER, REFEREE, SEAT_OF_O, SEAT_OF_X};
+
+/// The keys that a party has (docs/FORMATS.md, "Sealed datagrams").
+#[derive(Debug, Drop)]
+pub enum Keyring {
+    /// The referee has those of both seats, and that of all watchers.
+    OfReferee { x: Key, o: Key, watchers: Key },
+    /// A seat has its own, and a watcher that of all.
+    OfParty(Key),
+}
+
+/// Returns which way a datagram goes that one party sends to another, and the one of them that is not the referee; none
+/// where both are, or neither.
+fn way(from: u8, to: u8) -> Option<(Direction, u8)>
+    ensures { result ≡ way from to }
+{
+    match (from, to) {
+        (REFEREE, REFEREE) => None,
+        (REFEREE, party) => Some((Direction::FromReferee, party)),
+        (party, REFEREE) => Some((Direction::ToReferee, party)),
+        _ => None,
+    }
+}
+
+impl Keyring {
+    ghost use Rattle.bg_system.specs.Keyrings.{CannotSeal, IsNotSealedBy, IsSealedBy, key_for, keys_of_referee};
+
+    /// Returns the keys of the referee of the match with this number, which are derived from its secret.
+    pub fn of_referee(secret: &MasterSecret, id: u64) -> Keyring
+        ensures { result ≡ keys_of_referee secret.now id }
+    {
+        Keyring::OfReferee {
+            x: secret.key_of(id, SEAT_OF_X),
+            o: secret.key_of(id, SEAT_OF_O),
+            watchers: secret.key_of(id, FIRST_WATCHER),
+        }
+    }
+
+    /// Returns the key of what goes between the referee and a party.
+    fn key_for(&self, party: u8) -> &Key
+        ensures { result.now ≡ key_for self.now party }
+    {
+        match self {
+            Keyring::OfReferee { x, o, watchers } => match party {
+                SEAT_OF_X => x,
+                SEAT_OF_O => o,
+                _ => watchers,
+            },
+            Keyring::OfParty(key) => key,
+        }
+    }
+
+    /// Returns the datagram by which a packet of at most 128 bytes goes from one party to another; none where not
+    /// exactly one of them is the referee.
+    pub fn seal(&self, from: u8, to: u8, packet: &[u8]) -> Option<SealedDatagram>
+        requires { length packet.now ≤ most_packet_bytes }
+        ensures { MatchOption result (CannotSeal from to)
+            (λ datagram. IsSealedBy self.now from to packet.now datagram.items) }
+    {
+        let (direction, party) = way(from, to)?;
+        Some(self.key_for(party).seal(direction, party, packet))
+    }
+
+    /// Returns the packet that was sealed to go from one party to another; none where the datagram is no packet that
+    /// was sealed so.
+    pub fn open<'a>(&self, from: u8, to: u8, datagram: &'a [u8]) -> Option<&'a [u8]>
+        ensures { MatchOption result (IsNotSealedBy self.now from to datagram.now)
+            (λ packet. IsSealedBy self.now from to packet.now datagram.now) }
+    {
+        let (direction, party) = way(from, to)?;
+        self.key_for(party).open(direction, party, datagram)
+    }
+}
