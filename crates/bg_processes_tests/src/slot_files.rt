@@ -118,7 +118,7 @@ fn files_that_fail(rt: HostRuntime) -> Result<(), Fail> {
 fn faults_of_devices(rt: HostRuntime) -> Result<(), Fail> {
     let files = StandIn::new(&rt, 0);
     let failures = Failures::new();
-    let mut keeper = FileKeeper::new(&files, "nowhere", 1, &failures)?;
+    let mut keeper = FileKeeper::new(&files, ".", 1, &failures)?;
     for number in [12, 1, 2, 5, 24, 28, 30, 98, 105, 111] {
         files
             .files_fail
