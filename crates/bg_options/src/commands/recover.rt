@@ -15,7 +15,7 @@ const ABOUT_RECOVER: &str =
 
 End all processes of the match first. Every party holds the front of what the referee had, so the
 longest record is taken, of both seats' folders and of the transcripts that are named: what watchers
-keep, or what `play` and `auto` have printed. Name each that there is: where one that is left out
+keep, or what `auto` and `watch` have printed. Name each that there is: where one that is left out
 holds more, the parties can't go on together. The dice go by a new secret from there on, and all keys
 are new: hand the new key files out, as `new` says.
 
