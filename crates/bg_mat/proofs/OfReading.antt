@@ -3,6 +3,8 @@ pub mod Digits
 pub mod WordLemmas
 pub mod HeadingLemmas
 pub mod LegLemmas
+pub mod MovementLemmas
+pub mod LegRefusals
 pub mod ScoreLemmas
 pub mod TurnLemmas
 pub mod ToldApart

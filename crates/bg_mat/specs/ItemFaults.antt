@@ -17,8 +17,8 @@ use Rattle.bg_match.specs.declared.entries.Entry.{Entry}
 use Rattle.bg_match.specs.declared.entries.Entry.TheVariants as entry
 use Rattle.bg_match.specs.declared.entries.EntryFault.{EntryFault}
 use Rattle.bg_match.specs.declared.entries.EntryFault.TheVariants as entry_fault
-use Rattle.bg_mat.specs.Telling.{BringsDice, Deed, Turn, Doubles, Takes, Drops, Wins, Does, Game, Scores, GoesOn, IsOver}
-use Rattle.bg_mat.specs.Telling.{IsOverMatch, Item, MayResign, Place, before_of}
+use Rattle.bg_mat.specs.Telling.{BringsDice, Deed, Turn, Doubles, Takes, Drops, Wins, Does, Game, Scores, GoesOn}
+use Rattle.bg_mat.specs.Telling.{IsOver, IsOverMatch, Item, MayResign, Place, before_of}
 use Rattle.bg_mat.specs.Turns.{HasMovement, SameMovement, TellsTurn, steps_of}
 use Rattle.bg_mat.specs.declared.faults.MatFault.{MatFault}
 use Rattle.bg_mat.specs.declared.faults.MatFault.TheVariants as why

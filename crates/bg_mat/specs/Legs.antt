@@ -1,7 +1,11 @@
 -- What the words of a movement tell.
-use Rattle.std.specs.Prelude.{◌≡◌, ◌≢◌, ◌⊎◌, ℕ, zero, suc, ◌+◌, ◌≤◌, Bool, true, false, List, [], ◌∷◌, ◌++◌, codes}
+use Rattle.std.specs.Prelude.{◌≡◌, ◌≢◌, ◌⊎◌, ℕ, zero, suc, ◌+◌, ◌<◌, ◌≤◌, Bool, true, false, List, [], ◌∷◌, ◌++◌, codes}
+use Rattle.std.specs.Prelude.{◌==◌, length}
+use Rattle.std.specs.List.{All}
 use Rattle.bg_mat.specs.Rows.Numbers.{IsNumber}
 use Rattle.bg_mat.specs.declared.movements.legs.Leg.{Leg}
+use Rattle.bg_mat.specs.declared.movements.legs.LegFault.{LegFault}
+use Rattle.bg_mat.specs.declared.movements.legs.LegFault.TheVariants as leg_fault
 
 -- the word names the point, which is 25 for the bar and 0 for off
 abbrev pub IsPointText : List ℕ → ℕ → Type 0
@@ -14,10 +18,12 @@ abbrev pub mark : Bool → List ℕ
 mark true = codes "*"
 mark false = []
 
--- from a point on, the word tells the leg: the point where it ends, and whether it hits there
+-- from a point on, the word tells the leg: the lower point where it ends, and whether it hits there
 pub record TellsLeg (from : ℕ) (word : List ℕ) (leg : Leg) : Type 0 where
   pub point : List ℕ
   pub starts : leg.step.from ≡ from
+  pub on_board : from ≤ 25
+  pub lower : leg.step.to < from
   pub ends : IsPointText point leg.step.to
   pub marked : word ≡ point ++ mark leg.hits
 
@@ -39,11 +45,14 @@ abbrev pub repeated : {X : Type 0} → ℕ → List X → List X
 repeated zero xs = []
 repeated (suc n) xs = xs ++ repeated n xs
 
+-- behind the path of a word stands in brackets how many checkers go it, 1 to 4
+abbrev pub IsBracketed : List ℕ → List ℕ → ℕ → Type 0
+IsBracketed word path count =
+    (1 ≤ count) × (count ≤ 4) × (word ≡ path ++ codes "(" ++ (48 + count) ∷ codes ")")
+
 -- so many checkers, 1 to 4, go the path of a word
 abbrev pub IsCounted : List ℕ → List ℕ → ℕ → Type 0
-IsCounted word path count =
-    ((word ≡ path) × (count ≡ 1))
-    ⊎ ((1 ≤ count) × (count ≤ 4) × (word ≡ path ++ codes "(" ++ (48 + count) ∷ codes ")"))
+IsCounted word path count = ((word ≡ path) × (count ≡ 1)) ⊎ IsBracketed word path count
 
 -- the word tells the legs of all checkers that go its path
 abbrev pub TellsWord : List ℕ → List Leg → Type 0
@@ -56,6 +65,21 @@ abbrev pub TellsMovement : List (List ℕ) → List Leg → Type 0
 TellsMovement [] legs = legs ≡ []
 TellsMovement (word ∷ words) legs =
     (first rest : List Leg) × TellsWord word first × TellsMovement words rest × (legs ≡ first ++ rest)
+
+-- no slash is in the text
+abbrev pub IsPart : List ℕ → Type 0
+IsPart text = All (λ byte. (byte == 47) ≡ false) text
+
+-- a slash begins the text, or it is empty
+abbrev pub BeginsSlash : List ℕ → Type 0
+BeginsSlash [] = Unit {0}
+BeginsSlash (byte ∷ rest) = (byte == 47) ≡ true
+
+-- no legs of which this holds can be added to others: there are none, or with them there are more than four
+abbrev pub RefusesLegs : (List Leg → Type 0) → List Leg → LegFault → Type 0
+RefusesLegs Tells old fault =
+    (fault ≡ leg_fault.NotAMovement → (more : List Leg) → Tells more → ⊥)
+    × ((more : List Leg) → Tells more → length old + length more ≤ 4 → ⊥)
 
 -- legs of which this holds are added to others
 abbrev pub AddsLegs : (List Leg → Type 0) → List Leg → List Leg → Type 0

@@ -1,5 +1,6 @@
 -- Which files are refused, at which line, and why.
-use Rattle.std.specs.Prelude.{◌≡◌, ◌≢◌, ◌⊎◌, ◌↔◌, ℕ, ◌+◌, ◌<◌, ◌≤◌, Bool, Some, List, [], ◌∷◌, ◌++◌, length, IsTrue, IfSome}
+use Rattle.std.specs.Prelude.{◌≡◌, ◌≢◌, ◌⊎◌, ◌↔◌, ℕ, ◌+◌, ◌<◌, ◌≤◌, Bool, Some, List, [], ◌∷◌, ◌++◌, length, IsTrue}
+use Rattle.std.specs.Prelude.{IfSome}
 use Rattle.bg_board.specs.declared.players.Player.{Player}
 use Rattle.bg_turns.specs.HasStep.{has_step}
 use Rattle.bg_match.specs.Match.{empty_log}
@@ -81,10 +82,12 @@ IsRefusedLine here r line n number fault =
     ((number ≡ n) × IsShapeFault here line fault)
     ⊎ (((number ≡ n) × (here ≡ awaited.Scores) × (fault ≡ why.WrongScores)
     × (IsScoresLine line r.standing.x_score r.standing.o_score → ⊥))
-    ⊎ ((items : List Item) × (next : Awaited) × TellsAwaited here line items next × AreRefusedItems r n items number fault))
+    ⊎ ((items : List Item) × (next : Awaited) × TellsAwaited here line items next
+    × AreRefusedItems r n items number fault))
 
 -- from a replay on, of lines of which the first has this number, those up to one are read, and it is refused
-pub record AreRefusedLines (from : Replay) (first : ℕ) (lines : List (List ℕ)) (number : ℕ) (fault : MatFault) : Type 0 where
+pub record AreRefusedLines (from : Replay) (first : ℕ) (lines : List (List ℕ)) (number : ℕ) (fault : MatFault)
+    : Type 0 where
   pub before : List (List ℕ)
   pub line : List ℕ
   pub behind : List (List ℕ)
@@ -99,7 +102,8 @@ pub record AreRefusedLines (from : Replay) (first : ℕ) (lines : List (List ℕ
 
 -- from a replay on all lines are read, and the dice that are pending then are refused. They stay without a turn where
 -- the player has a step
-pub record IsRefusedEnd (from : Replay) (first : ℕ) (lines : List (List ℕ)) (number : ℕ) (fault : MatFault) : Type 0 where
+pub record IsRefusedEnd (from : Replay) (first : ℕ) (lines : List (List ℕ)) (number : ℕ) (fault : MatFault)
+    : Type 0 where
   pub told : List Told
   pub here : Awaited
   pub file : TellsLines awaited.Game first lines told here
@@ -108,7 +112,8 @@ pub record IsRefusedEnd (from : Replay) (first : ℕ) (lines : List (List ℕ)) 
   pub turn : PendingTurn
   pub pending : r.pending ≡ Some turn
   pub number_is : number ≡ turn.line
-  pub refused : IsPendingFault (has_step r.standing.board turn.player turn.dice) r.log r.standing turn.player turn.dice fault
+  pub refused : IsPendingFault (has_step r.standing.board turn.player turn.dice) r.log r.standing turn.player
+      turn.dice fault
 
 -- the lines of games are refused, at a line that tells something
 abbrev pub AreRefusedGames : Replay → ℕ → List (List ℕ) → ℕ → MatFault → Type 0

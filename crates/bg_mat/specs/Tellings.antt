@@ -1,6 +1,6 @@
 -- What the entries of a record tell in a match file.
 use Rattle.std.specs.Prelude.{◌≡◌, ◌≢◌, ◌==◌, ◌&&◌, ℕ, ◌+◌, ◌-◌, ◌*◌, ◌<◌, ◌≤◌, Bool, true, not, nat_lt, Option, Some}
-use Rattle.std.specs.Prelude.{None, List, [], ◌∷◌, ◌++◌}
+use Rattle.std.specs.Prelude.{None, List, [], ◌∷◌, ◌++◌, length}
 use Rattle.std.specs.List.{AllByRecursion}
 use Rattle.arrayvec.specs.ArrayVec.{ArrayVec}
 use Rattle.bg_board.specs.FromTo.{FromTo}
@@ -11,6 +11,7 @@ use Rattle.bg_match.specs.declared.phases.Phase.{Phase}
 use Rattle.bg_match.specs.declared.phases.Phase.TheVariants as phase
 use Rattle.bg_match.specs.declared.entries.Entry.{Entry}
 use Rattle.bg_match.specs.declared.entries.Entry.TheVariants as entry
+use Rattle.bg_mat.specs.Rows.Cells.{most_legs}
 use Rattle.bg_mat.specs.Telling.{Item, Game, Scores, Does, Place, Tells, deed_of, IsOverMatch}
 use Rattle.bg_mat.specs.Turns.{HasHits, is_reached, steps_of}
 use Rattle.bg_mat.specs.declared.rows.cells.Cell.{Cell}
@@ -106,13 +107,13 @@ AreOfItems p (item ∷ more) entries q =
     (own rest : List Entry) × (middle : Place) × Tells p item own middle × AreOfItems middle more rest q
     × (entries ≡ own ++ rest)
 
--- the leg is one on the board
+-- the leg is one on the board, to a lower point
 abbrev pub IsOnBoard : Leg → Type 0
-IsOnBoard leg = (leg.step.from ≤ 25) × (leg.step.to ≤ 25)
+IsOnBoard leg = (leg.step.from ≤ 25) × (leg.step.to < leg.step.from)
 
--- the legs of a cell are on the board, and its numbers have four digits at most
+-- the legs of a cell are on the board, and at most four, and its numbers have four digits at most
 abbrev pub HasNumbers : Cell → Type 0
-HasNumbers (cell.Turn dice legs) = AllByRecursion IsOnBoard legs.items
+HasNumbers (cell.Turn dice legs) = AllByRecursion IsOnBoard legs.items × (length legs.items ≤ most_legs)
 HasNumbers (cell.Doubles shows) = shows ≤ greatest_number
 HasNumbers (cell.Wins win) = win.points ≤ greatest_number
 HasNumbers _ = Unit {0}

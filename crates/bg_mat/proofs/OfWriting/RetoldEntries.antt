@@ -1,7 +1,8 @@
 -- What each entry adds to what is told.
-use Rattle.std.specs.Prelude.{◌≡◌, ℕ, ◌*◌, ◌<◌, nat_lt, Option, Some, None, List, [], ◌∷◌, ◌++◌}
+use Rattle.std.specs.Prelude.{◌≡◌, ℕ, ◌*◌, ◌<◌, ◌≤◌, nat_lt, Option, Some, None, List, [], ◌∷◌, ◌++◌, length}
 use Rattle.std.proofs.Common.{append-nil, refl, sym, ◌∙◌, ap, subst, inl, inr, arith}
 use Rattle.arrayvec.specs.ArrayVec.{ArrayVec}
+use Rattle.bg_board.specs.FromTo.{FromTo}
 use Rattle.bg_board.specs.Position.{opponent}
 use Rattle.bg_board.specs.declared.players.Player.{Player}
 use Rattle.bg_turns.specs.declared.throws.Dice.{Dice}
@@ -57,7 +58,11 @@ no_steps (leg ∷ legs) h = absurd (cc (h))
 low_legs : (legs : List Leg) → AllByRecursion IsDownward (steps_of legs) → AllByRecursion IsOnBoard legs
 low_legs [] h = tt
 low_legs (leg ∷ legs) (down, more) =
-    ((down.starts, (let first = down.starts in let lower = down.lower in omega arith)), low_legs legs more)
+    ((down.starts, down.lower), low_legs legs more)
+
+as_many : (legs : List Leg) → length legs ≡ length (steps_of legs)
+as_many [] = refl
+as_many (leg ∷ legs) = let more = as_many legs in omega (arith, more)
 
 -- after a turn the game goes on, or is won
 after_move : (terms : Terms) (kept : List Entry) (s r t : State) (player : Player) (l : Option Level) (tellings : List Telling) (won : Option Telling)
@@ -114,7 +119,7 @@ accepted terms kept b t player level (Some d) tellings told won is h dice tells 
 
 -- a turn, or a pass
 moved_told : (terms : Terms) (kept : List Entry) (s t : State) (player : Player) (dice : Dice) (tellings : List Telling) (legs : ArrayVec Leg) (move : Entry)
-    → AllByRecursion IsOnBoard legs.items → s.phase ≡ phase.ToMove player dice → MovesBy s.board player dice legs.items move → Follows s move t
+    → AllByRecursion IsOnBoard legs.items × (length legs.items ≤ 4) → s.phase ≡ phase.ToMove player dice → MovesBy s.board player dice legs.items move → Follows s move t
     → IsTold terms kept s tellings
     → IsSettled terms (kept ++ move ∷ []) s t (tellings ++ telling.Does player (cell.Turn dice legs) ∷ [])
 moved_told terms kept s t player dice tellings legs move low ph by follows h =
@@ -191,14 +196,16 @@ entry_told terms kept s (entry.Moved turn) t tellings told won (player, dice, ph
     let by : MovesBy s.board player dice legs.items (entry.Moved turn) = written_turn s.board player dice legs.items turn (sym steps)
     (record { legal = rw steps legal; hits = rw steps hits }) in
     let range = legal_in_range s.board player dice turn legal in
-    let low : AllByRecursion IsOnBoard legs.items = low_legs legs.items (rw steps range.each) in
+    let many : length legs.items ≡ length turn = as_many legs.items ∙ ap (λ (xs : List FromTo). length xs) steps in
+    let low : AllByRecursion IsOnBoard legs.items × (length legs.items ≤ 4) =
+    (low_legs legs.items (rw steps range.each), (let few = range.few in omega (arith, many, few))) in
     let settled = moved_told terms kept s t player dice tellings legs (entry.Moved turn) low ph by (player, dice, ph, on, legal, is) h in
     let board = after_steps s.board player turn in
     rw said (after_move terms (kept ++ entry.Moved turn ∷ []) s (record s { board = board }) t player (level_of board player)
     (tellings ++ telling.Does player (cell.Turn dice legs) ∷ []) won is refl refl refl h.cube settled wins)
 entry_told terms kept s entry.Passed t tellings told won (player, dice, ph, on, is) h tells wins =
     let (legs, said, steps, hits) = subst (λ (x : Phase). TellsMove s.board x [] told) ph tells in
-    let low : AllByRecursion IsOnBoard legs.items = rw (no_steps legs.items steps) tt in
+    let low : AllByRecursion IsOnBoard legs.items × (length legs.items ≤ 4) = rw (no_steps legs.items steps) (tt, omega arith) in
     let settled = moved_told terms kept s t player dice tellings legs entry.Passed low ph (no_steps legs.items steps)
     (player, dice, ph, on, is) h in
     rw said (after_move terms (kept ++ entry.Passed ∷ []) s s t player None

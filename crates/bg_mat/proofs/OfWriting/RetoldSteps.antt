@@ -1,6 +1,6 @@
 -- What is told within a game.
-use Rattle.std.specs.Prelude.{◌≡◌, ◌≢◌, ◌<◌, Option, Some, None, List, [], ◌∷◌, ◌++◌}
-use Rattle.std.proofs.Common.{append_assoc, append-nil, refl, sym, ◌∙◌, ap, subst, inl, inr}
+use Rattle.std.specs.Prelude.{◌≡◌, ◌≢◌, ◌<◌, ◌≤◌, length, Option, Some, None, List, [], ◌∷◌, ◌++◌}
+use Rattle.std.proofs.Common.{append_assoc, append-nil, refl, sym, ◌∙◌, ap, subst, inl, inr, arith}
 use Rattle.std.specs.List.{AllByRecursion}
 use Rattle.bg_board.specs.Position.{Position}
 use Rattle.bg_board.specs.Die.{pips}
@@ -43,7 +43,7 @@ dice_told terms kept b player dice tellings h =
       place = q;
       retold = told_more terms tellings h.told (roll ∷ []) h.place q h.there awaited.Row
           (telling.Does player (cell.Turn dice (record { items = [] }))) h.retold
-          (one_item h.place q (Does player (Turn dice [])) (roll ∷ []) tells) (h.stands, tt, refl);
+          (one_item h.place q (Does player (Turn dice [])) (roll ∷ []) tells) (h.stands, (tt, omega arith), refl);
       all = all;
       at = refl;
       in_game = record { game = game.game; x = game.x; o = game.o };
@@ -51,7 +51,7 @@ dice_told terms kept b player dice tellings h =
 
 -- dice and a move
 pub turn_told : (terms : Terms) (kept : List Entry) (b : State) (player : Player) (dice : Dice) (tellings : List Telling) (legs : ArrayVec Leg) (move : Entry) (t : State)
-    → AllByRecursion IsOnBoard legs.items → MovesBy b.board player dice legs.items move
+    → AllByRecursion IsOnBoard legs.items × (length legs.items ≤ 4) → MovesBy b.board player dice legs.items move
     → Follows (record b { phase = phase.ToMove player dice }) move t → IsTold terms kept (record b { phase = phase.ToMove player dice }) tellings
     → IsSettled terms (kept ++ move ∷ []) (record b { phase = phase.ToMove player dice }) t
     (tellings ++ telling.Does player (cell.Turn dice legs) ∷ [])

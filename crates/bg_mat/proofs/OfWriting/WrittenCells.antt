@@ -64,6 +64,8 @@ leg_tells leg (from, to) = (
       record {
         point = decimal leg.step.to;
         starts = refl;
+        on_board = from;
+        lower = to;
         ends = inr (inr (number_is leg.step.to (omega arith)));
         marked = refl;
       },
@@ -134,10 +136,10 @@ pub record IsCellText (text : List ℕ) (c : Cell) : Type 0 where
   pub few : (rest : List ℕ) → leading_blanks (text ++ rest) ≤ 1
   pub of_line : IsOfLine text
 
-turn_is : (dice : Dice) (legs : List Leg) (rest : List ℕ) → AllByRecursion IsOnBoard legs → EndsWord rest
+turn_is : (dice : Dice) (legs : List Leg) (rest : List ℕ) → AllByRecursion IsOnBoard legs → length legs ≤ 4 → EndsWord rest
     → (word after : List ℕ) × IsFirstWord ((dice_text dice ++ legs_text legs) ++ rest) word after
-    × IsDiceWord word dice × TellsLegsAt after rest legs
-turn_is dice legs rest low ends =
+    × IsDiceWord word dice × TellsLegsAt after rest legs × (length legs ≤ 4)
+turn_is dice legs rest low few ends =
     let first : IsFirstWord (dice_text dice ++ (legs_text legs ++ rest)) (dice_text dice) (legs_text legs ++ rest) =
     word_first [] (dice_text dice) (legs_text legs ++ rest) no_blanks (dice_plain dice) (dice_some dice) (legs_end legs rest ends) in (
       dice_text dice,
@@ -145,6 +147,7 @@ turn_is dice legs rest low ends =
       rw (append_assoc (dice_text dice) (legs_text legs) rest) first,
       dice_is dice,
       legs_tell legs rest low ends,
+      few,
     )
 
 double_is : (n : ℕ) (rest : List ℕ) → n ≤ 9999 → EndsWord rest
@@ -221,13 +224,13 @@ ending_of_line false = tt
 -- the text of each cell
 pub cell_is : (c : Cell) → HasNumbers c → IsCellText (cell_text c) c
 cell_is (cell.Turn dice legs) low = record {
-  tells = λ rest ends. turn_is dice legs.items rest low ends;
+  tells = λ rest ends. turn_is dice legs.items rest low.0 low.1 ends;
   few = λ rest.
       let none : leading_blanks (dice_text dice ++ (legs_text legs.items ++ rest)) ≡ 0 =
       plain_leading (dice_text dice) (legs_text legs.items ++ rest) (dice_plain dice) (dice_some dice) in
       rw (append_assoc (dice_text dice) (legs_text legs.items) rest, none) (omega arith);
   of_line = of_line_both (dice_text dice) (legs_text legs.items) (plain_of_line (dice_text dice) (dice_plain dice))
-      (legs_of_line legs.items low);
+      (legs_of_line legs.items low.0);
 }
 cell_is (cell.Doubles n) low = record {
   tells = λ rest ends. double_is n rest low ends;
@@ -258,8 +261,8 @@ cell_is (cell.Wins win) low = record {
 
 -- the same cell behind blanks
 pub cell_behind : (gap text rest : List ℕ) (c : Cell) → IsBlankText gap → TellsCell text c rest → TellsCell (gap ++ text) c rest
-cell_behind gap text rest (cell.Turn dice legs) blank (word, after, first, is, more) =
-    (word, after, word_behind gap text word after blank first, is, more)
+cell_behind gap text rest (cell.Turn dice legs) blank (word, after, first, is, more, few) =
+    (word, after, word_behind gap text word after blank first, is, more, few)
 cell_behind gap text rest (cell.Doubles n) blank (number, (after, first, more), is) =
     (number, (after, word_behind gap text (codes "Doubles") after blank first, more), is)
 cell_behind gap text rest cell.Takes blank first = word_behind gap text (codes "Takes") rest blank first

@@ -1,6 +1,6 @@
 -- What a cell tells, and a row of two cells.
 use Rattle.std.specs.Prelude.{◌≡◌, ◌⊎◌, ℕ, ◌+◌, ◌<◌, ◌≤◌, Bool, true, false, Option, Some, None, List, [], ◌∷◌, ◌++◌}
-use Rattle.std.specs.Prelude.{codes}
+use Rattle.std.specs.Prelude.{codes, length}
 use Rattle.bg_turns.specs.Dice.{first_pips, second_pips}
 use Rattle.bg_turns.specs.declared.throws.Dice.{Dice}
 use Rattle.bg_mat.specs.Rows.Words.{IsBlankText, IsFirstWord, BeginsWith, leading_blanks}
@@ -44,10 +44,15 @@ abbrev pub TellsDouble : List ℕ → ℕ → List ℕ → Type 0
 TellsDouble text shows rest =
     (number : List ℕ) × BeginsWith text (codes "Doubles" ∷ codes "=>" ∷ number ∷ []) rest × IsNumber number shows
 
+-- a movement has at most so many legs
+abbrev pub most_legs : ℕ
+most_legs = 4
+
 -- a text begins with a cell, and then comes the rest
 abbrev pub TellsCell : List ℕ → Cell → List ℕ → Type 0
 TellsCell text (Turn dice legs) rest =
     (word after : List ℕ) × IsFirstWord text word after × IsDiceWord word dice × TellsLegsAt after rest legs.items
+    × (length legs.items ≤ most_legs)
 TellsCell text (Doubles shows) rest = TellsDouble text shows rest
 TellsCell text Takes rest = IsFirstWord text (codes "Takes") rest
 TellsCell text Drops rest = IsFirstWord text (codes "Drops") rest

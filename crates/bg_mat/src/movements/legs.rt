@@ -1,8 +1,10 @@
 //! A word of a movement, as `24/18*/15` or `8/5(2)`.
-ghost use Rattle.std.specs.Prelude.{◌≡◌, ◌≢◌, ◌≤◌, ◌++◌, length, IfSome, IfOk, OnOk, Err};
+ghost use Rattle.std.specs.Prelude.{◌≡◌, ◌≢◌, ◌+◌, ◌<◌, ◌≤◌, ◌++◌, [], ℕ, List, length, MatchOption, IfErr, IfOk, OnErr, OnOk, Err, false, true};
 ghost use Rattle.bg_mat.specs.Legs.{AddsLegs, IsCounted, IsPointText, TellsLeg, TellsLegs, TellsPath, TellsWord};
-ghost use Rattle.bg_mat.specs.Legs.{repeated};
+ghost use Rattle.bg_mat.specs.Legs.{BeginsSlash, IsBracketed, IsPart, RefusesLegs, mark, repeated};
+ghost use Rattle.bg_mat.specs.declared.movements.legs.Leg.{Leg as LegOf};
 
+use crate::rows::headings::front_before;
 use crate::rows::numbers::read_number;
 use arrayvec::ArrayVec;
 use bg_board::{BAR, OFF, Step};
@@ -38,7 +40,7 @@ pub(crate) enum LegFault {
 
 /// The point that a word names.
 fn read_point(word: &[u8]) -> Option<u8>
-    ensures { IfSome result (IsPointText word.now) }
+    ensures { MatchOption result ((point : ℕ) → point ≤ 25 → IsPointText word.now point → ⊥) (IsPointText word.now) }
 {
     match word {
         b"bar" | b"Bar" => Some(BAR),
@@ -54,30 +56,45 @@ fn read_point(word: &[u8]) -> Option<u8>
     }
 }
 
+/// A word without the mark of a hit at its end, and whether there is one.
+fn split_mark(word: &[u8]) -> (&[u8], bool)
+    ensures marked { word.now ≡ result.0.now ++ mark result.1 }
+    ensures none { result.1 ≡ false → (point : List ℕ) → word.now ≡ point ++ mark true → ⊥ }
+{
+    match front_before(word, b"*") {
+        Some(point) => (point, true),
+        None => (word, false),
+    }
+}
+
 /// The leg from a point to the one that a word names.
 fn read_leg(from: u8, word: &[u8]) -> Option<Leg>
-    ensures { IfSome result (TellsLeg from word.now) }
+    ensures { MatchOption result ((leg : LegOf) → TellsLeg from word.now leg → ⊥) (TellsLeg from word.now) }
 {
-    let (point, hits) = match word {
-        [point @ .., b'*'] => (point, true),
-        _ => (word, false),
+    let (point, hits) = split_mark(word);
+    let Some(to) = read_point(point) else {
+        return None;
     };
-    let step = Step::new(from, read_point(point)?)?;
+    let Some(step) = Step::new(from, to) else {
+        return None;
+    };
     Some(Leg { step, hits })
 }
 
-/// How many bytes stand before the first slash of a text, or at all.
-fn length_to_slash(text: &[u8]) -> usize
-    ensures { result ≤ length text.now }
+/// The bytes that a text begins with up to its first slash, and what follows them.
+fn split_slash(text: &[u8]) -> (&[u8], &[u8])
+    ensures { IsPart result.0.now × (text.now ≡ result.0.now ++ result.1.now) × BeginsSlash result.1.now }
 {
-    text.iter()
-        .position(|byte| *byte == b'/')
-        .unwrap_or(text.len())
+    match text.iter().position(|byte| *byte == b'/') {
+        Some(end) => (&text[..end], &text[end..]),
+        None => (text, &[]),
+    }
 }
 
 /// Adds the legs that a text tells from a point on, each behind a slash.
 fn add_legs(legs: &mut Legs, from: u8, text: &[u8]) -> Result<(), LegFault>
-    ensures { OnOk result (AddsLegs (TellsLegs from text.now) legs.old.items legs.new.items) }
+    ensures added { OnOk result (AddsLegs (TellsLegs from text.now) legs.old.items legs.new.items) }
+    ensures fault { IfErr result (RefusesLegs (TellsLegs from text.now) legs.old.items) }
 {
     if text.is_empty() {
         return Ok(());
@@ -85,8 +102,8 @@ fn add_legs(legs: &mut Legs, from: u8, text: &[u8]) -> Result<(), LegFault>
     let Some(text) = text.strip_prefix(b"/") else {
         return Err(LegFault::NotAMovement);
     };
-    let end = length_to_slash(text);
-    let Some(leg) = read_leg(from, &text[..end]) else {
+    let (word, rest) = split_slash(text);
+    let Some(leg) = read_leg(from, word) else {
         return Err(LegFault::NotAMovement);
     };
     if legs.is_full() {
@@ -94,19 +111,20 @@ fn add_legs(legs: &mut Legs, from: u8, text: &[u8]) -> Result<(), LegFault>
     }
     let to = leg.step.to();
     legs.push(leg);
-    add_legs(legs, to, &text[end..])
+    add_legs(legs, to, rest)
 }
 
 /// The legs of one checker on its way.
 fn read_path(text: &[u8]) -> Result<Legs, LegFault>
-    ensures { IfOk result (λ legs. TellsPath text.now legs.items) }
+    ensures told { IfOk result (λ legs. TellsPath text.now legs.items) }
+    ensures fault { IfErr result (RefusesLegs (TellsPath text.now) []) }
 {
-    let end = length_to_slash(text);
-    let Some(from) = read_point(&text[..end]) else {
+    let (start, rest) = split_slash(text);
+    let Some(from) = read_point(start) else {
         return Err(LegFault::NotAMovement);
     };
     let mut legs = ArrayVec::new();
-    add_legs(&mut legs, from, &text[end..])?;
+    add_legs(&mut legs, from, rest)?;
     if legs.is_empty() {
         return Err(LegFault::NotAMovement);
     }
@@ -115,7 +133,9 @@ fn read_path(text: &[u8]) -> Result<Legs, LegFault>
 
 /// The path of a word, and how many checkers go it, as `(2)` says behind it.
 fn split_count(word: &[u8]) -> (&[u8], u8)
-    ensures { IsCounted word.now result.0.now result.1 }
+    ensures counted { IsCounted word.now result.0.now result.1 }
+    ensures bracketed { (path : List ℕ) (count : ℕ) → IsBracketed word.now path count
+        → IsBracketed word.now result.0.now result.1 }
 {
     match word {
         [path @ .., b'(', count @ b'1'..=b'4', b')'] => (path, count - b'0'),
@@ -127,6 +147,7 @@ fn split_count(word: &[u8]) -> (&[u8], u8)
 fn add_times(legs: &mut Legs, path: &[Leg], count: u8) -> Result<(), LegFault>
     ensures added { OnOk result (legs.new.items ≡ legs.old.items ++ repeated count path.now) }
     ensures fault { result ≢ Err LegFault.NotAMovement }
+    ensures many { OnErr result (4 < length legs.old.items + length (repeated count path.now)) }
 {
     if count == 0 {
         return Ok(());
@@ -141,6 +162,7 @@ fn add_times(legs: &mut Legs, path: &[Leg], count: u8) -> Result<(), LegFault>
 pub(crate) fn add_word(legs: &mut Legs, word: &[u8]) -> Result<(), LegFault>
     ensures added { OnOk result (AddsLegs (TellsWord word.now) legs.old.items legs.new.items) }
     ensures same { result ≡ Err LegFault.NotAMovement → legs.new ≡ legs.old }
+    ensures fault { IfErr result (RefusesLegs (TellsWord word.now) legs.old.items) }
 {
     let (path, count) = split_count(word);
     let path = read_path(path)?;

@@ -1,5 +1,6 @@
 //! Dice and moves.
-ghost use Rattle.std.specs.Prelude.{◌≡◌, ◌≢◌, ◌↔◌, ◌+◌, Bool, [], None, IfOk, IfSome, IsTrue, OnOk, length, if◌then◌else◌};
+ghost use Rattle.std.specs.Prelude.{◌≡◌, ◌≢◌, ◌↔◌, ◌+◌, Bool, [], None, IfOk, IfSome, IsTrue, OnOk};
+ghost use Rattle.std.specs.Prelude.{length, if◌then◌else◌};
 ghost use Rattle.bg_match.specs.State.{State};
 ghost use Rattle.bg_turns.specs.Dice.{first_pips, second_pips};
 ghost use Rattle.bg_turns.specs.HasStep.{has_step};

@@ -111,6 +111,7 @@ fn split_turn(text: &[u8]) -> Result<Option<(Cell, &[u8])>, MatFault>
     };
     let mut legs = ArrayVec::new();
     let rest = split_movement(&mut legs, rest)?;
+    let _legs = legs.as_slice();
     Ok(Some((Cell::Turn(dice, legs), rest)))
 }
 

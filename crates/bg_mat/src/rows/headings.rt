@@ -98,7 +98,7 @@ fn trim_end(text: &[u8]) -> (&[u8], &[u8])
 }
 
 /// What stands before the end of a text where that is this one.
-fn front_before<'a>(text: &'a [u8], end: &[u8]) -> Option<&'a [u8]>
+pub(crate) fn front_before<'a>(text: &'a [u8], end: &[u8]) -> Option<&'a [u8]>
     ensures { MatchOption result ((front : List ℕ) → text.now ≡ front ++ end.now → ⊥)
         (λ front. text.now ≡ front.now ++ end.now) }
 {
