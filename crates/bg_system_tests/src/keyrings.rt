@@ -1,6 +1,6 @@
 //! What goes between parties by their keys, and which datagrams count.
 use crate::seals::keys::SECRET;
-use bg_seals::{Key, MasterSecret};
+use bg_seals::{Key, MOST_PACKET_BYTES, MasterSecret};
 use bg_system::{Keyring, SIGN_OF_LIFE, heard};
 use std::net::{Ipv4Addr, SocketAddr};
 
@@ -84,6 +84,9 @@ const fn row_of(
 }
 
 fn is_heard(row: &Row) -> bool {
+    if row.packet.len() > MOST_PACKET_BYTES {
+        return false;
+    }
     let Some(datagram) = row.sealing.seal(row.from, row.to, row.packet) else {
         return false;
     };
