@@ -3,9 +3,10 @@
 #
 # The times of files say nothing of that. Who builds the program notes in FILE.proved, beside it, the sums
 # of the sources and of the program, and the toolchain: where any of them is another now, what runs is
-# said not to be proved.
+# said not to be proved. So it is with the program that is compiled alone, in FILE.compiled.
 top=$(cd "$(dirname "$(readlink -f "${BASH_SOURCE[0]}")")/.." && pwd)
 program=${BG_RELAY:-$top/crates/bg_relay/out/bg_relay}
+compiled=$top/crates/bg_relay/out/compiled/bg_relay
 if [ -n "${BG_RELAY-}" ] && [ ! -x "$BG_RELAY" ]; then
     echo "bg_relay: BG_RELAY names no program: $BG_RELAY" >&2
     exit 1
@@ -67,31 +68,39 @@ toolchain() {
     echo "$words"
 }
 
-# note_proved FILE CRATE SUM (notes that FILE was proved and built just now, of a crate whose sources had
-# this sum when that began; fails where they have another one now)
-note_proved() {
-    if [ "$(sum_of_sources "$2")" != "$3" ]; then
-        echo "bg_relay: sources changed while $1 was built, so of what it was proved is not known: run this again" >&2
+# note_built HOW FILE CRATE SUM (notes in FILE.HOW, which is proved or compiled, that FILE was built so just now, of a
+# crate whose sources had this sum when that began; fails where they have another one now)
+note_built() {
+    if [ "$(sum_of_sources "$3")" != "$4" ]; then
+        echo "bg_relay: sources changed while $2 was built, so of what it was $1 is not known: run this again" >&2
         return 1
     fi
-    printf '%s\n' "sources $3" "file $(sum_of_input < "$1")" "toolchain $(toolchain)" > "$1.proved.$$"
-    mv "$1.proved.$$" "$1.proved"
+    printf '%s\n' "sources $4" "file $(sum_of_input < "$2")" "toolchain $(toolchain)" > "$2.$1.$$"
+    mv "$2.$1.$$" "$2.$1"
 }
 
-# is_proved FILE CRATE (whether FILE stands as it was proved and built, of a crate whose sources are still
-# the same, by the toolchain that is here; where not, sets why)
-is_proved() {
+# is_noted HOW FILE CRATE (whether FILE stands as it was built so, proved or compiled, of a crate whose sources are
+# still the same, by the toolchain that is here; where not, sets why)
+is_noted() {
     local sources file toolchain here
-    why="no proved program stands here"
-    [ -e "$1" ] || return 1
-    why="nothing says that the program which stands here was proved"
-    { read -r _ sources && read -r _ file && read -r _ toolchain; } 2> /dev/null < "$1.proved" || return 1
-    [ "$file" = "$(sum_of_input < "$1")" ] || return 1
-    why="the sources changed since the program was proved"
-    [ "$sources" = "$(sum_of_sources "$2")" ] || return 1
-    why="the program was proved by another toolchain, $toolchain"
+    why="no $1 program stands here"
+    [ -e "$2" ] || return 1
+    why="nothing says that the program which stands here was $1"
+    { read -r _ sources && read -r _ file && read -r _ toolchain; } 2> /dev/null < "$2.$1" || return 1
+    [ "$file" = "$(sum_of_input < "$2")" ] || return 1
+    why="the sources changed since the program was $1"
+    [ "$sources" = "$(sum_of_sources "$3")" ] || return 1
+    why="the program was $1 by another toolchain, $toolchain"
     here=$(toolchain)
     [ "$toolchain" = "${here:-$toolchain}" ]
+}
+
+# note_proved FILE CRATE SUM, is_proved FILE CRATE (the same of what was proved and built)
+note_proved() {
+    note_built proved "$@"
+}
+is_proved() {
+    is_noted proved "$@"
 }
 
 # is_current FILE CRATE (whether what was built of a crate stands there, and no source of it or below it
@@ -112,6 +121,32 @@ is_built() {
     local sources
     sources=$(sum_of_sources bg_relay)
     [ -e "$program" ] && "$top/tools/proved_by_ci" 2> /dev/null && note_proved "$program" bg_relay "$sources"
+}
+
+# needs_compiled (compiles the program, and proves nothing, where none of the sources as they are stands in $compiled;
+# waits where another call does so already)
+needs_compiled() {
+    local why
+    if is_noted compiled "$compiled" bg_relay; then return; fi
+    needs_rt
+    mkdir -p "${compiled%/*}"
+    (
+        if command -v flock > /dev/null; then flock 9; fi
+        if is_noted compiled "$compiled" bg_relay; then exit 0; fi
+        echo "bg_relay: compiling the program, which proves nothing, and takes a minute or two, once" >&2
+        sources=$(sum_of_sources bg_relay)
+        "$top/tools/compile_program" "$compiled" 9>&- && note_built compiled "$compiled" bg_relay "$sources"
+    ) 9> "${compiled%/*}/lock" || exit 1
+}
+
+# version (of the program, whose sources say it once)
+version() {
+    sed -n 's/^const VERSION: &str = "\(.*\)";$/\1/p' "$top/crates/bg_options/src/tasks.rt"
+}
+
+# short_sum SUM (of sources, as it is shown)
+short_sum() {
+    echo "${1:0:12}"
 }
 
 # needs_rt (ends the script where the toolchain's command is missing)
