@@ -44,9 +44,9 @@ pub use texts::outcome_texts::{outcome_text, outcome_texts_differ};
 pub use texts::scripts::{ScriptFault, script};
 pub use worlds::World;
 pub use worlds::laws::{
-    claims_are_kept, new_worlds_are_at_the_start, nothing_is_refused, outcomes_are_fixed,
-    parties_agree, processes_agree, saved_entries_alone_are_shown, saves_survive,
-    slots_are_given_back,
+    claims_are_kept, memory_is_seen_as_any_device, new_worlds_are_at_the_start, nothing_is_refused,
+    outcomes_are_fixed, parties_agree, processes_agree, saved_entries_alone_are_shown,
+    saves_survive, slots_are_given_back,
 };
 pub use worlds::runs::RunReport;
 pub use worlds::setups::{Keepers, MOST_WATCHERS, Setup, WorldFault};

@@ -1,5 +1,5 @@
 -- What holds of each reached state.
-use Rattle.std.specs.Prelude.{◌≡◌, ◌⊎◌, ℕ, zero, suc, ◌<◌, ◌≤◌, ◌+◌, ◌-◌, Option, Some, None, List, [], ◌∷◌, ◌++◌, length, take, replicate, slice_get, Contains}
+use Rattle.std.specs.Prelude.{◌≡◌, ◌⊎◌, ℕ, zero, suc, ◌<◌, ◌≤◌, ◌+◌, ◌-◌, true, Option, Some, None, List, [], ◌∷◌, ◌++◌, length, take, replicate, slice_get, Contains}
 use Rattle.std.proofs.Common.{refl, sym, ◌∙◌, ap, subst, arith}
 use Rattle.std.proofs.lemmas.List.{length-replicate, length-take, take_all}
 use Rattle.bg_match.specs.declared.limits.Rules.{Rules}
@@ -29,7 +29,8 @@ use Rattle.bg_world.specs.Promises.Refusals.{IsLegalClaim, IsNoClaimRefused, Are
 use Rattle.bg_world.specs.Protocol.Runs.{Run, IsReached}
 use Rattle.bg_world.specs.Protocol.SaveStep.{to_save_referee, to_save_seat}
 use Rattle.bg_world.specs.Promises.Shown.{ShowsSavedAlone}
-use Rattle.bg_world.specs.Protocol.State.{ProtocolState, SeatState, IsSetup, start, seat, saved_log, log_of, start_seat}
+use Rattle.bg_world.specs.Protocol.Slots.{empty_slots}
+use Rattle.bg_world.specs.Protocol.State.{ProtocolState, SeatState, IsSetup, start, seat, saved_log, log_of, restored_seat}
 use Rattle.bg_world.specs.Protocol.Step.{Step}
 use Rattle.bg_world.specs.Promises.Survival.{SavesSurvive}
 use Rattle.bg_world.proofs.Protocol.Lists.{prefix_none, prefix_same, prefix_take, prefix_trans, prefix_back, prefix_more, get_within, get_drop}
@@ -47,7 +48,7 @@ none_claimed q = record {
   one = λ n a b c d. absurd (none_sent c.3.0 c.3.1);
 }
 
-fresh_seat : (id : ℕ) (terms : Terms) (q : Player) → SeatOk id terms [] [] q start_seat
+fresh_seat : (id : ℕ) (terms : Terms) (q : Player) → SeatOk id terms [] [] q (restored_seat empty_slots None true)
 fresh_seat id terms q = record {
   log = prefix_none [];
   kept_log = prefix_none [];

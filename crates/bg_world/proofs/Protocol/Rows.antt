@@ -31,14 +31,14 @@ use Rattle.bg_world.specs.Promises.Claims.{AreClaimsKept}
 use Rattle.bg_world.specs.Protocol.Datagrams.{Carries, WasSent, Claimed}
 use Rattle.bg_world.specs.Protocol.DueStep.{with_entry, DueStep}
 use Rattle.bg_world.specs.Protocol.FollowerTakeStep.{FollowerTakeStep, GrowsAsShown, LearnStep}
-use Rattle.bg_world.specs.Protocol.Frames.{IfUp, SeatIfUp, SeatChanges, SendsAtMost, NoParty}
+use Rattle.bg_world.specs.Protocol.Frames.{IfUp, SeatChanges, SendsAtMost, NoParty}
 use Rattle.bg_world.specs.Protocol.RefereeTakeStep.{IsOfSaved, ShowsSaved, ReplyStep, RefereeTakeStep}
 use Rattle.bg_world.specs.Promises.Refusals.{IsSound}
-use Rattle.bg_world.specs.Protocol.RestartStep.{restored_referee, restored_seat, RestartsTo, RestartStep}
+use Rattle.bg_world.specs.Protocol.RestartStep.{RestartsTo, RestartStep}
 use Rattle.bg_world.specs.Protocol.Roles.{role}
 use Rattle.bg_world.specs.Protocol.SaveStep.{to_save_referee, to_save_seat, RefereeSaveStep, SeatSaveStep, SaveStep}
 use Rattle.bg_world.specs.Protocol.Slots.{entries_in, claim_in, SaveWritten, SaveTorn}
-use Rattle.bg_world.specs.Protocol.State.{ProtocolState, SeatState, seat, saved_log, Exists, start}
+use Rattle.bg_world.specs.Protocol.State.{ProtocolState, SeatState, seat, saved_log, Exists, start, restored_referee, restored_seat}
 use Rattle.bg_world.specs.Protocol.Step.{Step}
 use Rattle.bg_world.specs.Protocol.TickStep.{SendsOnTick, want_packet, seat_packet, TickStep}
 use Rattle.bg_referee.specs.declared.outcomes.TakeOutcome.{TakeOutcome}
@@ -78,7 +78,7 @@ same_keeps : (w : ProtocolState) (q : Player) (new : SeatState) → Inv w → ne
 unfolding SeatKeeps
 same_keeps w q new inv e = subst (λ (f : SeatState). SeatOk w.id w.terms w.sent (saved_log w) q f) (sym e) (of_seat w q inv)
 
-when_up : (b : Bool) (w : ProtocolState) (q : Player) (o : Outcome) (new : SeatState) (P : Type 0) → Inv w → (P → SeatKeeps w q new) → SeatIfUp b o (seat w q) new P → SeatKeeps w q new
+when_up : (b : Bool) (w : ProtocolState) (q : Player) (o : Outcome) (new : SeatState) (P : Type 0) → Inv w → (P → SeatKeeps w q new) → IfUp b (seat w q) o new P → SeatKeeps w q new
 when_up true w q o new P inv f h = f h
 when_up false w q o new P inv f h = same_keeps w q new inv h.1
 

@@ -11,7 +11,7 @@ use Rattle.bg_wire.specs.declared.saves.slots.Slot.TheVariants.{Zero, One}
 use Rattle.bg_wire.proofs.OfSaves.OneText.{empty_loads, restores_once}
 use Rattle.bg_wire.proofs.OfSaves.SlotTurns.{written_restores, torn_restores}
 use Rattle.bg_world.specs.Promises.Refusals.{AreWhole}
-use Rattle.bg_world.specs.Protocol.Slots.{empty_slots, IsTorn, SaveWritten, SaveTorn, next_number}
+use Rattle.bg_world.specs.Protocol.Slots.{empty_slots, MayBeLeft, SaveWritten, SaveTorn, next_number}
 
 -- the slots restore this, by the text in the slot of its save, and it is of this party and match
 pub record SlotsOk (id : ℕ) (terms : Terms) (party : ℕ) (slots : Slots) (restorable : Option SavedParts) : Type 0 where
@@ -61,7 +61,7 @@ module _ (id : ℕ) (terms : Terms) (party : ℕ) (slots : Slots) (restorable : 
       (subst (λ (x : Slots). SlotsOk id terms party x (Some p)) (sym w.after.slots) (whole p w.text ok of next w.is_text))
 
   pub torn_to : (p : SavedParts) (text left : List ℕ) → SlotsOk id terms party slots restorable → IsSavedBy party id terms p
-      → p.save ≡ next_number restorable → IsWrittenText p text → IsTorn (bytes_in slots (slot_of p.save)) text left
+      → p.save ≡ next_number restorable → IsWrittenText p text → MayBeLeft (bytes_in slots (slot_of p.save)) text left
       → (after : Option SavedParts) × SlotsOk id terms party (with_slot slots (slot_of p.save) left) after
       × ((after ≡ restorable) ⊎ (after ≡ Some p))
   torn_to p text left ok of next spelled (inl e) =

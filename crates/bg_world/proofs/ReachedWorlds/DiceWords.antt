@@ -22,12 +22,12 @@ use Rattle.bg_world.specs.Worlds.DiceWords.{HandsIn, IsWordOf, ShowsWord}
 use Rattle.bg_world.specs.Protocol.DueStep.{DueStep}
 use Rattle.bg_world.specs.Protocol.Frames.{IfUp, NoParty, SeatChanges, SendsAtMost}
 use Rattle.bg_world.specs.Protocol.RefereeTakeStep.{RefereeTakeStep, ReplyStep}
-use Rattle.bg_world.specs.Protocol.RestartStep.{RestartStep, RestartsTo, restored_referee}
+use Rattle.bg_world.specs.Protocol.RestartStep.{RestartStep, RestartsTo}
 use Rattle.bg_world.specs.Protocol.Roles.{role}
 use Rattle.bg_world.specs.Protocol.Runs.{Run}
 use Rattle.bg_world.specs.Protocol.SaveStep.{RefereeSaveStep, SaveStep, to_save_referee}
 use Rattle.bg_world.specs.Protocol.Slots.{entries_in}
-use Rattle.bg_world.specs.Protocol.State.{SeatState, ProtocolState, seat, with_seat}
+use Rattle.bg_world.specs.Protocol.State.{SeatState, ProtocolState, restored_referee, seat, with_seat}
 use Rattle.bg_world.specs.Protocol.Step.{Step}
 use Rattle.bg_world.specs.Protocol.TakeStep.{TakeStep}
 use Rattle.bg_world.specs.Protocol.TickStep.{SendsOnTick, TickStep}

@@ -121,5 +121,6 @@ upholds w world =
       packets = no_packet_refused v inv;
       slots = no_slot_refused v inv;
       survive = saves_survive v inv;
+      sent = refl;
       held = λ party log h. held_entries (role party) w c log h;
     }

@@ -15,7 +15,7 @@ use Rattle.bg_world.specs.declared.events.Outcome.TheVariants as outcomes
 use Rattle.bg_world.specs.Worlds.WorldState.{CoresMatch, Restorable, SeatMatches, SeatSide, restorable_of, seat_state, protocol_state}
 use Rattle.bg_world.specs.Worlds.Calls.{ChooseCalls, NoCalls}
 use Rattle.bg_world.specs.Worlds.Views.{WorldView, seat_core, seat_keeper, with_seat_core}
-use Rattle.bg_world.specs.Protocol.Frames.{SeatChanges, SeatIfUp}
+use Rattle.bg_world.specs.Protocol.Frames.{IfUp, SeatChanges}
 use Rattle.bg_world.specs.Protocol.State.{SeatState, seat}
 use Rattle.bg_world.specs.Protocol.ChooseStep.{ChooseStep}
 use Rattle.bg_world.proofs.Steps.Sides.{StepsTo, seat_side, seat_moves, seat_stays, down_row}
@@ -59,7 +59,7 @@ module _ (id : ℕ) (terms : Terms) (q : Player) (a : Action) (slots : Slots) (f
 
 -- the row of a seat's choice, between its states
 abbrev ChooseRow : Terms → Player → Action → Outcome → SeatState → SeatState → Type 0
-ChooseRow terms q a o old new = SeatIfUp old.up o old new (ChooseStep terms q a o old new)
+ChooseRow terms q a o old new = IfUp old.up old o new (ChooseStep terms q a o old new)
 
 pub choose_goes : (w : WorldView) (c : Restorable) (q : Player) (a : Action) (o : Outcome) (new : WorldView)
     → CoresMatch w c → ChooseCalls w q a o new → StepsTo w c (events.Choose q a) o new

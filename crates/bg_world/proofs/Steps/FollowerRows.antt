@@ -18,7 +18,7 @@ use Rattle.bg_world.specs.Devices.LinkCalls.{FollowerTakeCalls}
 use Rattle.bg_world.specs.Protocol.FollowerTakeStep.{FollowerTakeStep}
 use Rattle.bg_world.specs.Worlds.Calls.{NoCalls, SeatTakes, TakeCalls, WatcherTakes}
 use Rattle.bg_world.specs.Worlds.Views.{LinkView, WorldView, seat_core, seat_keeper, with_seat_core}
-use Rattle.bg_world.specs.Protocol.Frames.{NoParty, SeatIfUp}
+use Rattle.bg_world.specs.Protocol.Frames.{IfUp, NoParty}
 use Rattle.bg_world.specs.Protocol.TakeStep.{TakeStep}
 use Rattle.bg_world.proofs.Steps.Sides.{seat_side, seat_moves, watchers_match, get_log, set_log}
 use Rattle.bg_world.proofs.Protocol.EarlyEntries.{seat_keeps, watcher_keeps}
@@ -29,7 +29,7 @@ use Rattle.bg_world.proofs.Steps.LearnRows.{seat_takes, watcher_takes}
 -- the row of a seat's take, between its states
 abbrev SeatTakeRow : ProtocolState → Player → Outcome → SeatState → SeatState → Type 0
 SeatTakeRow v q o old new =
-    SeatIfUp old.up o old new ((log : List Entry) × FollowerTakeStep v.id v.terms v.sent (party_of q) o old.log log
+    IfUp old.up old o new ((log : List Entry) × FollowerTakeStep v.id v.terms v.sent (party_of q) o old.log log
     × (new ≡ record old { log = log }))
 
 -- the row of a seat's take, between worlds

@@ -19,11 +19,11 @@ use Rattle.bg_world.specs.declared.events.RestoreCause.TheVariants as causes
 use Rattle.bg_world.specs.declared.roles.Role.TheVariants as roles
 use Rattle.bg_world.specs.Worlds.WorldState.{CoresMatch, RefereeMatches, Restorable, SeatMatches, referee_state, restorable_of, seat_state, protocol_state, watcher_entries, with_restorable}
 use Rattle.bg_world.specs.Worlds.Calls.{NoCalls, RestartCalls}
-use Rattle.bg_world.specs.Protocol.RestartStep.{RestartStep, RestartsTo, restored_referee, restored_seat}
+use Rattle.bg_world.specs.Protocol.RestartStep.{RestartStep, RestartsTo}
 use Rattle.bg_world.specs.Worlds.Views.{WorldView, seat_core, seat_keeper, with_seat_core, with_seat_keeper}
 use Rattle.bg_world.specs.Devices.KeeperCalls.{ComesUp}
 use Rattle.bg_world.specs.Protocol.Frames.{NoParty, SeatChanges}
-use Rattle.bg_world.specs.Protocol.State.{RefereeState, SeatState, seat}
+use Rattle.bg_world.specs.Protocol.State.{RefereeState, SeatState, restored_referee, restored_seat, seat}
 use Rattle.bg_world.proofs.Protocol.Saving.{number_after}
 use Rattle.bg_world.proofs.Protocol.Invariant.{Inv}
 use Rattle.bg_world.proofs.Steps.Sides.{seat_side, seat_saves, slots_of_referee, slots_of_seat, watchers_match, get_log, set_log}

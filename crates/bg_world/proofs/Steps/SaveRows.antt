@@ -22,7 +22,7 @@ use Rattle.bg_world.specs.Protocol.SaveStep.{RefereeSaveStep, SaveStep, SeatSave
 use Rattle.bg_world.specs.Worlds.Calls.{SaveCalls, referee_parts, seat_parts}
 use Rattle.bg_world.specs.Worlds.Views.{KeeperView, WorldView, seat_core, seat_keeper, with_seat_core, with_seat_keeper}
 use Rattle.bg_world.specs.Devices.KeeperCalls.{SaveCallsAt}
-use Rattle.bg_world.specs.Protocol.Frames.{SeatIfUp}
+use Rattle.bg_world.specs.Protocol.Frames.{IfUp}
 use Rattle.bg_world.specs.Protocol.State.{SeatState}
 use Rattle.bg_world.specs.Protocol.Slots.{next_number}
 use Rattle.bg_world.proofs.Protocol.Saving.{SlotsOk, number_after}
@@ -152,7 +152,7 @@ save_referee_goes w c honest is_honest o new fits inv h = at w.referee fits inv 
 
 -- the row of a seat's save, between its states
 abbrev SaveRow : ℕ → Terms → Player → Outcome → SeatState → SeatState → Type 0
-SaveRow id terms q o old new = SeatIfUp old.up o old new (SeatSaveStep id terms q o old new)
+SaveRow id terms q o old new = IfUp old.up old o new (SeatSaveStep id terms q o old new)
 
 -- what comes of a save of a seat: its core, and its slots
 abbrev SeatSaved : ℕ → Terms → Player → SeatState → Outcome → Slots → Option SeatView → Type 0

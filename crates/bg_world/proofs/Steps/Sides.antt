@@ -18,7 +18,7 @@ use Rattle.bg_world.specs.declared.events.Outcome.{Outcome}
 use Rattle.bg_world.specs.declared.events.Outcome.TheVariants as outcomes
 use Rattle.bg_world.specs.Worlds.WorldState.{CoresMatch, Restorable, SeatSide, WatcherMatches, WatchersMatch, referee_state, restorable_of, seat_state, protocol_state, watcher_entries, with_restorable}
 use Rattle.bg_world.specs.Worlds.Views.{KeeperView, LinkView, WorldView, seat_core, seat_keeper, with_seat_core, with_seat_keeper}
-use Rattle.bg_world.specs.Protocol.Frames.{SeatChanges, SeatIfUp}
+use Rattle.bg_world.specs.Protocol.Frames.{IfUp, SeatChanges}
 use Rattle.bg_world.specs.Protocol.State.{SeatState, seat}
 use Rattle.bg_world.specs.Protocol.Step.{Step}
 use Rattle.bg_world.proofs.Protocol.Saving.{SlotsOk}
@@ -123,7 +123,7 @@ set_log watchers i f = map-set watcher_entries watchers i f
 
 -- ---- a seat that is down
 
-pub down_row : (b : Bool) (s : SeatState) (Q : Type 0) → b ≡ false → SeatIfUp b outcomes.Down s s Q
+pub down_row : (b : Bool) (s : SeatState) (Q : Type 0) → b ≡ false → IfUp b s outcomes.Down s Q
 down_row false s Q e = (refl, refl)
 down_row true s Q e = absurd cc
 

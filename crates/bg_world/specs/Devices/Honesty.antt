@@ -5,7 +5,7 @@ use Rattle.bg_wire.specs.Packets.PacketText.{IsText}
 use Rattle.bg_wire.specs.declared.packets.Datagram.{Datagram}
 use Rattle.bg_wire.specs.declared.packets.Packet.{Packet}
 use Rattle.bg_wire.specs.declared.saves.slots.Slot.{Slot}
-use Rattle.bg_world.specs.Protocol.Slots.{IsTorn}
+use Rattle.bg_world.specs.Protocol.Slots.{MayBeLeft}
 use Rattle.bg_world.specs.declared.devices.DeviceFault.{DeviceFault}
 use Rattle.bg_world.specs.declared.devices.DeviceFault.TheVariants.{Failed, Memory}
 
@@ -42,7 +42,7 @@ MayArrive sent party bytes = Contains sent (record { to = party; bytes = bytes }
 -- a write that fails leaves its slot as it was, or with a front of the bytes; the other slot stays
 pub record LeavesTorn (old : Slots) (slot : Slot) (bytes : List ℕ) (new : Slots) : Type 0 where
   pub left : List ℕ
-  pub torn : IsTorn (bytes_in old slot) bytes left
+  pub torn : MayBeLeft (bytes_in old slot) bytes left
   pub after : new ≡ with_slot old slot left
 
 -- a write that succeeds leaves its bytes in that slot, and the other slot stays

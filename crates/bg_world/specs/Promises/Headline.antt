@@ -18,8 +18,7 @@ AreAnswered terms entries sent =
     → SeatAfter terms (take (n - 1) entries) (Some player)
     → (action : Action) × IsOnlyClaim sent player n action × IsAnswer action e
 
--- every party's record is a prefix of the referee's; the referee's record is a legal match; and every entry of a
--- seat in it answers the one action that this seat ever claimed under that number
+-- the headline over a state of the protocol, where a party that is down has a record too
 pub record Headline (w : ProtocolState) : Type 0 where
   pub prefix : (party : ℕ) (log : List Entry) → log_of w party ≡ Some log → IsPrefix log w.referee.log
   pub legal : IsLegalRecord w.terms w.referee.log

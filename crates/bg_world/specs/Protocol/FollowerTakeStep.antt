@@ -20,12 +20,10 @@ pub record GrowsAsShown
   pub legal : IsLegalRecord terms new
   pub shown : (i : ℕ) (e : Entry) → slice_get more i ≡ Some e → WasShown id terms sent party (suc (length old + i)) e
 
--- entries that continue the record are held afterwards
 abbrev pub HoldsWhatContinues : ℕ → Terms → List Entry → Packet → List Entry → Type 0
 HoldsWhatContinues id terms old p new = Continues id terms old p → Holds new p
 
--- The record grows by k entries exactly where the party has learned k. What continues it is held, want of memory
--- aside.
+-- The record grows by k entries exactly where k were learned. What continues it is held, want of memory aside.
 abbrev pub LearnStep : ℕ → Terms → List Datagram → ℕ → Packet → Learned → List Entry → List Entry → Type 0
 LearnStep id terms sent party p (learns.Grew k) old new =
     (0 < k) × (length new ≡ length old + k) × GrowsAsShown id terms sent party old new

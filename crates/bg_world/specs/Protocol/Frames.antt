@@ -8,18 +8,13 @@ use Rattle.bg_world.specs.declared.events.Outcome.TheVariants as outcomes
 use Rattle.bg_world.specs.Protocol.State.{ProtocolState, SeatState, with_seat}
 
 -- the party is up and this happens; or it is down, the outcome says so, and nothing changes
-abbrev pub IfUp : Bool → ProtocolState → Outcome → ProtocolState → Type 0 → Type 0
+abbrev pub IfUp : {S : Type 0} → Bool → S → Outcome → S → Type 0 → Type 0
 IfUp true w o v Happens = Happens
 IfUp false w o v Happens = (o ≡ outcomes.Down) × (v ≡ w)
 
 -- a seat comes from one state to another, and nothing else changes
 abbrev pub SeatChanges : ProtocolState → Player → ProtocolState → (SeatState → Type 0) → Type 0
 SeatChanges w player v Becomes = (new : SeatState) × Becomes new × (v ≡ with_seat w player new)
-
--- the same, where an event does nothing to a seat that is down
-abbrev pub SeatIfUp : Bool → Outcome → SeatState → SeatState → Type 0 → Type 0
-SeatIfUp true o old new Happens = Happens
-SeatIfUp false o old new Happens = (o ≡ outcomes.Down) × (new ≡ old)
 
 -- there is no such party, the outcome says so, and nothing changes
 abbrev pub NoParty : ProtocolState → Outcome → ProtocolState → Type 0

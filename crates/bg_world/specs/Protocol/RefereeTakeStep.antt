@@ -27,7 +27,6 @@ IsOfSaved w _ = ⊥
 abbrev pub ShowsSaved : ProtocolState → Datagram → Type 0
 ShowsSaved w d = (p : Packet) × Carries d d.to p × IsOfSaved w p
 
--- the packet claims no entry that the referee accepts
 abbrev pub AcceptsNone : ProtocolState → ℕ → Packet → Type 0
 AcceptsNone w word p = (e : Entry) → IsAccepted w.id w.terms w.referee.log word p e → ⊥
 
@@ -42,8 +41,7 @@ ReplyStep w word p (takes.Answer party answer) v =
 ReplyStep w word p takes.Memory v = v ≡ w
 ReplyStep w word p _ v = AcceptsNone w word p × (v ≡ w)
 
--- The packet in hand is one that was sent to the referee. Where the link or memory fails, an answer may have gone
--- out.
+-- The packet in hand was sent to the referee. Where the link or memory fails, an answer may have gone out.
 abbrev pub RefereeTakeStep : ProtocolState → ℕ → Outcome → ProtocolState → Type 0
 RefereeTakeStep w word (outcomes.Took took) v = (p : Packet) × WasSent w.sent referee p × ReplyStep w word p took v
 RefereeTakeStep w word outcomes.NoDatagram v = v ≡ w

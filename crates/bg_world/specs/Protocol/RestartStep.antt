@@ -1,35 +1,11 @@
 -- A party gives up what it holds, and begins again from what its slots restore.
-use Rattle.std.specs.Prelude.{◌≡◌, Bool, true, false, Option, [], length, slice_set}
-use Rattle.bg_wire.specs.Saved.SavedText.{SavedParts}
+use Rattle.std.specs.Prelude.{◌≡◌, Bool, true, false, [], slice_set}
 use Rattle.bg_world.specs.declared.events.Outcome.{Outcome}
 use Rattle.bg_world.specs.declared.events.Outcome.TheVariants as outcomes
 use Rattle.bg_world.specs.declared.roles.Role.{Role}
 use Rattle.bg_world.specs.declared.roles.Role.TheVariants.{Referee as AsReferee, Seat as AsSeat, Watcher as AsWatcher}
 use Rattle.bg_world.specs.Protocol.Frames.{SeatChanges, AtWatcher}
-use Rattle.bg_wire.specs.Saved.SlotLaws.{Slots}
-use Rattle.bg_world.specs.Protocol.Slots.{entries_in, claim_in}
-use Rattle.bg_world.specs.Protocol.State.{ProtocolState, RefereeState, SeatState, seat}
-
--- the referee with what its slots restore, all of which counts as saved; it is up, or down
-abbrev pub restored_referee : Slots → Option SavedParts → Bool → RefereeState
-restored_referee slots restorable up = record {
-  up = up;
-  log = entries_in restorable;
-  saved = length (entries_in restorable);
-  slots = slots;
-  restorable = restorable;
-}
-
--- a seat with what its slots restore, which counts as saved; it is up, or down
-abbrev pub restored_seat : Slots → Option SavedParts → Bool → SeatState
-restored_seat slots restorable up = record {
-  up = up;
-  log = entries_in restorable;
-  claim = claim_in restorable;
-  claim_saved = true;
-  slots = slots;
-  restorable = restorable;
-}
+use Rattle.bg_world.specs.Protocol.State.{ProtocolState, restored_referee, restored_seat, seat}
 
 -- a restart leaves the party up, or down where the slots or memory failed
 abbrev pub RestartsTo : Outcome → (Bool → Type 0) → Type 0

@@ -23,13 +23,9 @@ claim_in (Some p) = p.claim
 abbrev pub next_number : Option SavedParts → ℕ
 next_number restorable = suc (save_in restorable)
 
--- the bytes begin the text, or are all of it
-abbrev pub IsFrontOf : List ℕ → List ℕ → Type 0
-IsFrontOf bytes text = (rest : List ℕ) × (bytes ++ rest ≡ text)
-
--- what a write that failed leaves in its slot: what was there, or a front of the text
-abbrev pub IsTorn : List ℕ → List ℕ → List ℕ → Type 0
-IsTorn old text left = (left ≡ old) ⊎ IsFrontOf left text
+-- what a write that failed may leave in its slot: what was there, or any number of the first bytes of the text
+abbrev pub MayBeLeft : List ℕ → List ℕ → List ℕ → Type 0
+MayBeLeft old text left = (left ≡ old) ⊎ ((rest : List ℕ) × (left ++ rest ≡ text))
 
 -- the bytes stand in the slot of this save, the other slot is as it was, and this is what the slots restore then
 pub record AfterWrite
@@ -48,5 +44,5 @@ pub record SaveTorn (p : SavedParts) (old new : Slots) (restorable : Option Save
   pub text : List ℕ
   pub is_text : IsWrittenText p text
   pub left : List ℕ
-  pub torn : IsTorn (bytes_in old (slot_of p.save)) text left
+  pub torn : MayBeLeft (bytes_in old (slot_of p.save)) text left
   pub after : AfterWrite old p.save left new restorable

@@ -14,7 +14,7 @@ use Rattle.bg_world.specs.declared.roles.Role.{Role}
 use Rattle.bg_world.specs.declared.roles.Role.TheVariants.{Referee as AsReferee, Seat as AsSeat, Watcher as AsWatcher}
 use Rattle.bg_world.specs.Protocol.Roles.{role}
 use Rattle.bg_wire.specs.Saved.SlotLaws.{Slots}
-use Rattle.bg_world.specs.Protocol.Slots.{empty_slots}
+use Rattle.bg_world.specs.Protocol.Slots.{claim_in, empty_slots, entries_in}
 
 -- whether it is up, its record, and how many entries of it are saved; its slots, and what they restore
 pub record RefereeState : Type 0 where
@@ -33,8 +33,7 @@ pub record SeatState : Type 0 where
   pub slots : Slots
   pub restorable : Option SavedParts
 
--- a match, its parties, and every datagram that was ever sent; of a watcher, who is never down, there is its record
--- alone
+-- a match and its parties, of a watcher, who is never down, the record alone; and all datagrams that were ever sent
 pub record ProtocolState : Type 0 where
   pub id : ℕ
   pub terms : Terms
@@ -44,17 +43,14 @@ pub record ProtocolState : Type 0 where
   pub watchers : List (List Entry)
   pub sent : List Datagram
 
--- the seat of a player
 abbrev pub seat : ProtocolState → Player → SeatState
 seat w X = w.x
 seat w O = w.o
 
--- the state with another seat of the player
 abbrev pub with_seat : ProtocolState → Player → SeatState → ProtocolState
 with_seat w X new = record w { x = new }
 with_seat w O new = record w { o = new }
 
--- there is a party of this number
 abbrev pub Exists : ProtocolState → ℕ → Type 0
 Exists w party = party < first_watcher + length w.watchers
 
@@ -81,20 +77,23 @@ pub record IsSetup (id : ℕ) (terms : Terms) (watchers : ℕ) : Type 0 where
   pub length_in_range : IsMatchLength (match_length terms)
   pub few : watchers ≤ most_watchers
 
-abbrev pub start_referee : RefereeState
-start_referee = record { up = true; log = []; saved = 0; slots = empty_slots; restorable = None }
+-- a party with what its slots restore, all of which counts as saved; it is up, or down
+abbrev pub restored_referee : Slots → Option SavedParts → Bool → RefereeState
+restored_referee slots found up =
+    let log = entries_in found in record { up = up; log = log; saved = length log; slots = slots; restorable = found }
 
-abbrev pub start_seat : SeatState
-start_seat = record { up = true; log = []; claim = None; claim_saved = true; slots = empty_slots; restorable = None }
+abbrev pub restored_seat : Slots → Option SavedParts → Bool → SeatState
+restored_seat slots r up =
+    record { up = up; log = entries_in r; claim = claim_in r; claim_saved = true; slots = slots; restorable = r }
 
 -- the start: all records, all slots and the list of datagrams are empty, there is no claim, and all parties are up
 abbrev pub start : ℕ → Terms → ℕ → ProtocolState
 start id terms watchers = record {
   id = id;
   terms = terms;
-  referee = start_referee;
-  x = start_seat;
-  o = start_seat;
+  referee = restored_referee empty_slots None true;
+  x = restored_seat empty_slots None true;
+  o = restored_seat empty_slots None true;
   watchers = replicate watchers [];
   sent = [];
 }

@@ -4,7 +4,7 @@ use Rattle.bg_world.specs.declared.events.Event.TheVariants as events
 use Rattle.bg_world.specs.declared.events.Outcome.{Outcome}
 use Rattle.bg_world.specs.Protocol.ChooseStep.{ChooseStep}
 use Rattle.bg_world.specs.Protocol.DueStep.{DueStep}
-use Rattle.bg_world.specs.Protocol.Frames.{IfUp, SeatChanges, SeatIfUp}
+use Rattle.bg_world.specs.Protocol.Frames.{IfUp, SeatChanges}
 use Rattle.bg_world.specs.Protocol.RestartStep.{RestartStep}
 use Rattle.bg_world.specs.Protocol.Roles.{role}
 use Rattle.bg_world.specs.Protocol.SaveStep.{SaveStep}
@@ -12,13 +12,12 @@ use Rattle.bg_world.specs.Protocol.State.{ProtocolState, seat}
 use Rattle.bg_world.specs.Protocol.TakeStep.{TakeStep}
 use Rattle.bg_world.specs.Protocol.TickStep.{TickStep}
 
--- From w, the event may come to this outcome and leave v: a case for each kind of event. What a case does not name
--- stays.
+-- From w the event may come to this outcome and leave v. What a case does not name stays.
 abbrev pub Step : ProtocolState → Event → Outcome → ProtocolState → Type 0
 Step w (events.Due word) o v = IfUp w.referee.up w o v (DueStep w word o v)
 Step w (events.Take party pick word) o v = TakeStep w (role party) word o v
 Step w (events.Choose player action) o v =
-    SeatChanges w player v (λ new. SeatIfUp (seat w player).up o (seat w player) new
+    SeatChanges w player v (λ new. IfUp (seat w player).up (seat w player) o new
     (ChooseStep w.terms player action o (seat w player) new))
 Step w (events.Save party) o v = SaveStep w (role party) o v
 Step w (events.Tick party) o v = TickStep w (role party) o v

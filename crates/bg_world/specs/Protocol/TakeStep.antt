@@ -7,7 +7,7 @@ use Rattle.bg_world.specs.declared.events.Outcome.{Outcome}
 use Rattle.bg_world.specs.declared.roles.Role.{Role}
 use Rattle.bg_world.specs.declared.roles.Role.TheVariants.{Referee as AsReferee, Seat as AsSeat, Watcher as AsWatcher}
 use Rattle.bg_world.specs.Protocol.FollowerTakeStep.{FollowerTakeStep}
-use Rattle.bg_world.specs.Protocol.Frames.{IfUp, SeatChanges, SeatIfUp, AtWatcher}
+use Rattle.bg_world.specs.Protocol.Frames.{IfUp, SeatChanges, AtWatcher}
 use Rattle.bg_world.specs.Protocol.RefereeTakeStep.{RefereeTakeStep}
 use Rattle.bg_world.specs.Protocol.State.{ProtocolState, seat}
 
@@ -15,7 +15,7 @@ use Rattle.bg_world.specs.Protocol.State.{ProtocolState, seat}
 abbrev pub TakeStep : ProtocolState → Role → ℕ → Outcome → ProtocolState → Type 0
 TakeStep w AsReferee word o v = IfUp w.referee.up w o v (RefereeTakeStep w word o v)
 TakeStep w (AsSeat player) word o v =
-    SeatChanges w player v (λ new. SeatIfUp (seat w player).up o (seat w player) new
+    SeatChanges w player v (λ new. IfUp (seat w player).up (seat w player) o new
     ((log : List Entry) × FollowerTakeStep w.id w.terms w.sent (party_of player) o (seat w player).log log
     × (new ≡ record (seat w player) { log = log })))
 TakeStep w (AsWatcher index) word o v =

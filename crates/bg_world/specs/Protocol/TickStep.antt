@@ -17,8 +17,7 @@ use Rattle.bg_world.specs.Protocol.Frames.{IfUp, AtWatcher, SendsAtMost}
 use Rattle.bg_world.specs.Protocol.RefereeTakeStep.{ShowsSaved}
 use Rattle.bg_world.specs.Protocol.State.{ProtocolState, Exists, seat}
 
--- so many datagrams are sent as the outcome says, at most as many as this; where the link or memory fails, those
--- before and perhaps one more, at most as many too
+-- so many datagrams are sent as the outcome says, at most `most`; where the link or memory fails, at most `most` too
 abbrev pub SendsOnTick : (Datagram → Type 0) → ℕ → ProtocolState → Outcome → ProtocolState → Type 0
 SendsOnTick may most w (outcomes.Sent n) v = (sends : SendsAtMost may most w v) × (length sends.out ≡ n)
 SendsOnTick may most w outcomes.LinkFault v = SendsAtMost may most w v

@@ -1,6 +1,7 @@
 -- Parties that run each in a process of its own, over one network: their calls, one after the other in any order.
 use Rattle.std.specs.Prelude.{◌≡◌, ℕ, List, [], ◌∷◌, ⊤, MatchOption, slice_get, slice_set}
 use Rattle.bg_board.specs.declared.players.Player.{Player}
+use Rattle.bg_board.specs.declared.players.Player.TheVariants.{X, O}
 use Rattle.bg_party.specs.Claims.{WatcherTicks}
 use Rattle.bg_party.specs.Views.{WatcherView, fresh_watcher}
 use Rattle.bg_world.specs.Worlds.Calls.{NoCalls, WatcherTakes}
@@ -8,7 +9,7 @@ use Rattle.bg_world.specs.Devices.LinkCalls.{FollowerTakeCalls, FollowerTickCall
 use Rattle.bg_world.specs.Worlds.Nodes.{RefereeNodeDues, RefereeNodeRestarts, RefereeNodeSaves, RefereeNodeTakes, RefereeNodeTicks, RefereeNodeView}
 use Rattle.bg_world.specs.Worlds.Nodes.{SeatNodeChooses, SeatNodeRestarts, SeatNodeSaves, SeatNodeTakes, SeatNodeTicks, SeatNodeView}
 use Rattle.bg_world.specs.Protocol.Roles.{role}
-use Rattle.bg_world.specs.Worlds.Views.{KeeperView, LinkView, WorldView, parties, seat_core, seat_keeper, with_seat_core, with_seat_keeper}
+use Rattle.bg_world.specs.Worlds.Views.{KeeperView, LinkView, WorldView, parties}
 use Rattle.bg_world.specs.declared.events.Event.{Event}
 use Rattle.bg_world.specs.declared.events.Event.TheVariants as events
 use Rattle.bg_world.specs.declared.events.Outcome.{Outcome}
@@ -21,84 +22,74 @@ use Rattle.bg_world.specs.declared.roles.Role.TheVariants as roles
 abbrev pub referee_node : WorldView → RefereeNodeView
 referee_node w = record { id = w.id; terms = w.terms; keeper = w.referee_keeper; core = w.referee }
 
--- the same world but for that node
 abbrev pub with_referee_node : WorldView → RefereeNodeView → WorldView
 with_referee_node w n = record w { referee_keeper = n.keeper; referee = n.core }
 
 abbrev pub seat_node : WorldView → Player → SeatNodeView
-seat_node w player =
-    record { player = player; id = w.id; terms = w.terms; keeper = seat_keeper w player; core = seat_core w player }
+seat_node w X = record { player = X; id = w.id; terms = w.terms; keeper = w.x_keeper; core = w.x }
+seat_node w O = record { player = O; id = w.id; terms = w.terms; keeper = w.o_keeper; core = w.o }
 
 abbrev pub with_seat_node : WorldView → Player → SeatNodeView → WorldView
-with_seat_node w player n = with_seat_keeper (with_seat_core w player n.core) player n.keeper
+with_seat_node w X n = record w { x_keeper = n.keeper; x = n.core }
+with_seat_node w O n = record w { o_keeper = n.keeper; o = n.core }
 
 -- ---- one event: the node that it names makes its call over the link, and all else stays
 
 abbrev pub NodeTakes : Type 0 → WorldView → Role → ℕ → ℕ → ℕ → Outcome → WorldView → Type 0
-NodeTakes honest old roles.Referee party pick word result new =
+NodeTakes honest w roles.Referee party pick word o v =
     (link : LinkView) × (node : RefereeNodeView)
-    × RefereeNodeTakes honest (parties old) old.link (referee_node old) pick word result link node
-    × (new ≡ with_referee_node (record old { link = link }) node)
-NodeTakes honest old (roles.Seat player) party pick word result new =
-    (link : LinkView) × (node : SeatNodeView)
-    × SeatNodeTakes honest old.link (seat_node old player) pick result link node
-    × (new ≡ with_seat_node (record old { link = link }) player node)
-NodeTakes honest old (roles.Watcher index) party pick word result new =
-    MatchOption (slice_get old.watchers index) (NoCalls outcomes.NoSuchParty old result new)
+    × RefereeNodeTakes honest (parties w) w.link (referee_node w) pick word o link node
+    × (v ≡ with_referee_node (record w { link = link }) node)
+NodeTakes honest w (roles.Seat player) party pick word o v =
+    (link : LinkView) × (node : SeatNodeView) × SeatNodeTakes honest w.link (seat_node w player) pick o link node
+    × (v ≡ with_seat_node (record w { link = link }) player node)
+NodeTakes honest w (roles.Watcher index) party pick word o v =
+    MatchOption (slice_get w.watchers index) (NoCalls outcomes.NoSuchParty w o v)
     (λ core. (link : LinkView) × (after : WatcherView)
-    × FollowerTakeCalls WatcherTakes honest party old.link core pick result link after
-    × (new ≡ record old { link = link; watchers = slice_set old.watchers index after }))
+    × FollowerTakeCalls WatcherTakes honest party w.link core pick o link after
+    × (v ≡ record w { link = link; watchers = slice_set w.watchers index after }))
 
 abbrev pub NodeTicks : Type 0 → WorldView → Role → Outcome → WorldView → Type 0
-NodeTicks honest old roles.Referee result new =
+NodeTicks honest w roles.Referee o v =
     (link : LinkView) × (node : RefereeNodeView)
-    × RefereeNodeTicks honest (parties old) old.link (referee_node old) result link node
-    × (new ≡ with_referee_node (record old { link = link }) node)
-NodeTicks honest old (roles.Seat player) result new =
+    × RefereeNodeTicks honest (parties w) w.link (referee_node w) o link node
+    × (v ≡ with_referee_node (record w { link = link }) node)
+NodeTicks honest w (roles.Seat player) o v =
     (link : LinkView) × (node : SeatNodeView)
-    × SeatNodeTicks honest (parties old) old.link (seat_node old player) result link node
-    × (new ≡ with_seat_node (record old { link = link }) player node)
-NodeTicks honest old (roles.Watcher index) result new =
-    MatchOption (slice_get old.watchers index) (NoCalls outcomes.NoSuchParty old result new)
+    × SeatNodeTicks honest (parties w) w.link (seat_node w player) o link node
+    × (v ≡ with_seat_node (record w { link = link }) player node)
+NodeTicks honest w (roles.Watcher index) o v =
+    MatchOption (slice_get w.watchers index) (NoCalls outcomes.NoSuchParty w o v)
     (λ core. (link : LinkView) × (after : WatcherView)
-    × FollowerTickCalls WatcherTicks honest (parties old) old.link core result link after
-    × (new ≡ record old { link = link; watchers = slice_set old.watchers index after }))
+    × FollowerTickCalls WatcherTicks honest (parties w) w.link core o link after
+    × (v ≡ record w { link = link; watchers = slice_set w.watchers index after }))
 
 abbrev pub NodeSaves : Type 0 → WorldView → Role → Outcome → WorldView → Type 0
-NodeSaves honest old roles.Referee result new =
-    (node : RefereeNodeView) × RefereeNodeSaves honest (referee_node old) result node
-    × (new ≡ with_referee_node old node)
-NodeSaves honest old (roles.Seat player) result new =
-    (node : SeatNodeView) × SeatNodeSaves honest (seat_node old player) result node
-    × (new ≡ with_seat_node old player node)
-NodeSaves honest old (roles.Watcher index) result new = NoCalls outcomes.NoSuchParty old result new
+NodeSaves honest w roles.Referee o v =
+    (node : RefereeNodeView) × RefereeNodeSaves honest (referee_node w) o node × (v ≡ with_referee_node w node)
+NodeSaves honest w (roles.Seat player) o v =
+    (node : SeatNodeView) × SeatNodeSaves honest (seat_node w player) o node × (v ≡ with_seat_node w player node)
+NodeSaves honest w (roles.Watcher index) o v = NoCalls outcomes.NoSuchParty w o v
 
 abbrev pub NodeRestarts : Type 0 → WorldView → Role → ℕ → Outcome → WorldView → Type 0
-NodeRestarts honest old roles.Referee party result new =
-    (node : RefereeNodeView) × RefereeNodeRestarts honest (referee_node old) result node
-    × (new ≡ with_referee_node old node)
-NodeRestarts honest old (roles.Seat player) party result new =
-    (node : SeatNodeView) × SeatNodeRestarts honest (seat_node old player) result node
-    × (new ≡ with_seat_node old player node)
-NodeRestarts honest old (roles.Watcher index) party result new =
-    MatchOption (slice_get old.watchers index) (NoCalls outcomes.NoSuchParty old result new)
-    (λ core. (result ≡ outcomes.Restarted)
-    × (new ≡ record old { watchers = slice_set old.watchers index (fresh_watcher party old.id old.terms) }))
+NodeRestarts honest w roles.Referee party o v =
+    (node : RefereeNodeView) × RefereeNodeRestarts honest (referee_node w) o node × (v ≡ with_referee_node w node)
+NodeRestarts honest w (roles.Seat player) party o v =
+    (node : SeatNodeView) × SeatNodeRestarts honest (seat_node w player) o node × (v ≡ with_seat_node w player node)
+NodeRestarts honest w (roles.Watcher index) party o v =
+    MatchOption (slice_get w.watchers index) (NoCalls outcomes.NoSuchParty w o v)
+    (λ core. (o ≡ outcomes.Restarted)
+    × (v ≡ record w { watchers = slice_set w.watchers index (fresh_watcher party w.id w.terms) }))
 
 abbrev pub NodeCalls : Type 0 → Type 0 → WorldView → Event → Outcome → WorldView → Type 0
-NodeCalls link_honest keepers_honest old (events.Due word) result new =
-    (node : RefereeNodeView) × RefereeNodeDues (referee_node old) word result node × (new ≡ with_referee_node old node)
-NodeCalls link_honest keepers_honest old (events.Take party pick word) result new =
-    NodeTakes link_honest old (role party) party pick word result new
-NodeCalls link_honest keepers_honest old (events.Choose player action) result new =
-    (node : SeatNodeView) × SeatNodeChooses (seat_node old player) action result node
-    × (new ≡ with_seat_node old player node)
-NodeCalls link_honest keepers_honest old (events.Save party) result new =
-    NodeSaves keepers_honest old (role party) result new
-NodeCalls link_honest keepers_honest old (events.Tick party) result new =
-    NodeTicks link_honest old (role party) result new
-NodeCalls link_honest keepers_honest old (events.Restart party) result new =
-    NodeRestarts keepers_honest old (role party) party result new
+NodeCalls link keepers w (events.Due word) o v =
+    (node : RefereeNodeView) × RefereeNodeDues (referee_node w) word o node × (v ≡ with_referee_node w node)
+NodeCalls link keepers w (events.Take party pick word) o v = NodeTakes link w (role party) party pick word o v
+NodeCalls link keepers w (events.Choose player action) o v =
+    (node : SeatNodeView) × SeatNodeChooses (seat_node w player) action o node × (v ≡ with_seat_node w player node)
+NodeCalls link keepers w (events.Save party) o v = NodeSaves keepers w (role party) o v
+NodeCalls link keepers w (events.Tick party) o v = NodeTicks link w (role party) o v
+NodeCalls link keepers w (events.Restart party) o v = NodeRestarts keepers w (role party) party o v
 
 -- ---- many, in any order
 

@@ -74,9 +74,8 @@ IsSimulationFault fault setup plan = IsWorldFault fault setup
 
 -- ---- the run
 
--- All events happen, in order, from a world where nothing has happened yet, over devices in memory that fail by the
--- plan; the report counts what they come to; and they are a run of the protocol from the start, to the state of the new
--- world.
+-- All events happen, in order, over devices in memory that fail by the plan; the report counts; and they are a run of
+-- the protocol from its start, to the state of the new world.
 pub record Simulates
     (setup : Setup) (plan : Plan) (events : List Event) (report : RunReport) (new : WorldView) : Type 0 where
   pub outcomes : List Outcome

@@ -26,7 +26,7 @@ pub record HeadlineHeld (w : WorldView) (log : Log) : Type 0 where
   pub answered : AreAnswered w.terms log.entries w.link.sent
 
 -- The headline over what a world holds, and over the state of the protocol that it is in; and the other laws of runs.
--- The record of a party that is up is the one that the state has.
+-- That state has the datagrams that were sent over the link, and of a party that is up the record that it holds.
 pub record Upholds (w : WorldView) : Type 0 where
   pub world : IsReachedWorld w
   pub held_headline : (log : Log) → held_of w (role referee) ≡ Some log → HeadlineHeld w log
@@ -37,5 +37,6 @@ pub record Upholds (w : WorldView) : Type 0 where
   pub packets : IsNoPacketRefused (protocol_state w world.restorable)
   pub slots : IsNoSlotRefused (protocol_state w world.restorable)
   pub survive : SavesSurvive (protocol_state w world.restorable)
+  pub sent : (protocol_state w world.restorable).sent ≡ w.link.sent
   pub held : (party : ℕ) (log : Log) → held_of w (role party) ≡ Some log
       → log_of (protocol_state w world.restorable) party ≡ Some log.entries

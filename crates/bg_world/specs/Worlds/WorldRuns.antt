@@ -88,8 +88,7 @@ pub record RunsCalls
   pub calls : CallsAll link_honest keepers_honest old events outcomes new
   pub reports : Reports report events outcomes
 
--- All events happen, in order; the report counts what they come to; and over honest devices they are a run of the
--- protocol.
+-- All events happen, in order; the report counts; and over honest devices they are a run of the protocol.
 pub record RunsAll
     (link_honest keepers_honest : Type 0) (old : WorldView) (events : List Event) (report : RunReport)
     (new : WorldView) : Type 0 where

@@ -13,10 +13,9 @@ use Rattle.bg_referee.specs.Referee.{RefereeView}
 use Rattle.bg_wire.specs.declared.packets.Datagram.{Datagram}
 use Rattle.bg_party.specs.Views.{FollowerView, SeatView, WatcherView, IsEarly}
 use Rattle.bg_world.specs.Protocol.Datagrams.{WasShown}
-use Rattle.bg_world.specs.Protocol.RestartStep.{restored_referee, restored_seat}
 use Rattle.bg_world.specs.Protocol.Runs.{IsReached}
 use Rattle.bg_world.specs.Protocol.Slots.{next_number}
-use Rattle.bg_world.specs.Protocol.State.{ProtocolState, RefereeState, SeatState}
+use Rattle.bg_world.specs.Protocol.State.{ProtocolState, RefereeState, SeatState, restored_referee, restored_seat}
 use Rattle.bg_world.specs.Worlds.Views.{KeeperView, WorldView}
 
 -- what the slots of the three parties that save restore

@@ -1,5 +1,5 @@
 //! Laws of the protocol, for whole runs, and of worlds: each is the contract of a function that does nothing.
-ghost use Rattle.std.specs.Prelude.{List, ⊤};
+ghost use Rattle.std.specs.Prelude.{◌≡◌, List, ⊤};
 ghost use Rattle.bg_board.specs.declared.players.Player.{Player};
 ghost use Rattle.bg_world.specs.Promises.Agreement.{Agreement};
 ghost use Rattle.bg_world.specs.Worlds.Calls.{Calls};
@@ -12,7 +12,8 @@ ghost use Rattle.bg_world.specs.Worlds.Nodes.{fresh_referee_node, fresh_seat_nod
 ghost use Rattle.bg_world.specs.Promises.Refusals.{IsNoPacketRefused, IsNoSlotRefused};
 ghost use Rattle.bg_world.specs.Protocol.Runs.{IsReached};
 ghost use Rattle.bg_world.specs.Promises.Shown.{ShowsSavedAlone};
-ghost use Rattle.bg_world.specs.Worlds.Simulations.{IsOfWords};
+ghost use Rattle.bg_world.specs.Worlds.Simulations.{IsOfWords, memory_view};
+ghost use Rattle.bg_world.specs.Worlds.World.{view_of};
 ghost use Rattle.bg_world.specs.Protocol.Slots.{claim_in};
 ghost use Rattle.bg_world.specs.Worlds.Starts.{AreUnused, fresh_world, terms_in};
 ghost use Rattle.bg_world.specs.Protocol.State.{IsSetup, ProtocolState, seat};
@@ -27,7 +28,7 @@ ghost use Rattle.bg_world.specs.declared.events.Event.{Event};
 ghost use Rattle.bg_world.specs.declared.events.Outcome.{Outcome};
 ghost use Rattle.bg_world.specs.declared.worlds.setups.Setup.{Setup};
 
-use crate::{Keeper, Link};
+use crate::{Keeper, Link, MemoryKeeper, MemoryNet, World};
 
 /// After any run every party's record is a prefix of the referee's, the referee's record is a legal match, and
 /// every entry of a seat in it answers the one action that this seat ever claimed under that number. What followers
@@ -72,6 +73,11 @@ pub fn slots_are_given_back()
 /// the protocol that it is in is the start.
 pub fn new_worlds_are_at_the_start()
     ensures { NewWorldsAreAtTheStart }
+{}
+
+/// Contracts see a world over devices in memory as they see a world over any devices.
+pub fn memory_is_seen_as_any_device(world: &World<MemoryNet, MemoryKeeper>)
+    ensures { memory_view world.now ≡ view_of ⟦<MemoryNet as Link>⟧ ⟦<MemoryKeeper as Keeper>⟧ world.now }
 {}
 
 /// Between the same two worlds an event comes to one outcome: what the referee adds itself, what claims an action or
