@@ -76,7 +76,7 @@ def check_pages(prefix, program, commands):
         text = " ".join(text.split())
         wanted = [word for item in found.options for word in (item.name, item.short, item.about)]
         wanted += [text for item in found.arguments for text in (item.name, item.about)] + [found.usage]
-        wanted += [f"{name} {about}" for name, about in found.commands.items() if name != "help"]
+        wanted += [f"{name} {about}" for name, about in found.commands.items()]
         wanted += [line.strip() for line in [*found.about, *found.after]]
         lacks = [word for word in wanted if " ".join(word.split()) not in text]
         right(not lacks, f"{page.name} lacks {lacks}")
@@ -90,12 +90,21 @@ def completed(script, words):
     return run("bash", "--norc", "-c", "\n".join(lines))[1].split("\n")[:-1]
 
 
+# What some options take, whatever the help texts are read as.
+TAKEN = {"new --rules ''": ["1", "2"], "play --player ''": ["X", "O"], "page --numbering ''": ["mover", "X"],
+         "act --match ''": ["compopt -o default", ""], "recover --x ''": ["compopt -o dirnames", ""],
+         "check --files-from ''": ["compopt -o default", ""], "sim --seed ''": [""],
+         "judge '<' ''": ["compopt -o default", ""], "judge '2>' exa": ["compopt -o default", ""],
+         "help refe": ["referee"]}
+
+
 def check_bash(script, program, commands):
     """What bash completes: commands, options, and what each option takes."""
-    names = [name for name in program.commands if name != "help"]
-    right(set(names) < set(completed(script, ["bg_relay", "''"])), "bash does not complete each command")
+    right(set(program.commands) < set(completed(script, ["bg_relay", "''"])), "bash does not complete each command")
     right(completed(script, ["bg_relay", "refe"]) == ["referee"], "bash does not complete refe")
     right(completed(script, ["bg_relay", "new", "--le"]) == ["--length"], "bash does not complete new --le")
+    for words, wanted in TAKEN.items():
+        right(completed(script, ["bg_relay", *words.split()]) == wanted, f"bash does not complete {words}")
     actions = {"file": ["compopt -o default", ""], "folder": ["compopt -o dirnames", ""], "text": [""]}
     for found in commands:
         options = {word for option in found.options for word in (option.name, option.short) if word}
@@ -122,7 +131,7 @@ def check_other_shells(prefix, program, commands):
     for shell, path in COMPLETIONS.items():
         if needs(shell, "whether it reads its completions"):
             runs(f"{shell} reads its file", shell, "-n", prefix / path)
-    for name in (name for name in program.commands if name != "help"):
+    for name in program.commands:
         right(f"\n        '{name}:" in zsh and f"\n                {name})\n" in zsh, f"zsh lacks {name}")
         right(re.search(rf"^complete .* -n __bg_relay_command -a {name} ", fish, re.M), f"fish lacks {name}")
     for found in commands:

@@ -16,18 +16,25 @@ def takes_files(found):
     return any(argument.takes() == "file" for argument in found.arguments)
 
 
-def all_commands(program):
+def explained(program):
+    """The commands that have help of their own, which the command help takes."""
     return [name for name in program.commands if name != "help"]
 
 
 # bash
 
-BASH = """\
-# bash completion of {program}, {made}
+BASH = r"""# bash completion of {program}, {made}
 _{program}() {{
     local current=${{COMP_WORDS[COMP_CWORD]}} before=${{COMP_WORDS[COMP_CWORD - 1]}} command=${{COMP_WORDS[1]}}
     local takes= values=
     COMPREPLY=()
+    # (what stands behind < or > is a file)
+    case $before in
+        *[\<\>]*)
+            compopt -o default
+            return
+            ;;
+    esac
     # (--option=value is three words here)
     if [ "$current" = = ]; then
         current=
@@ -76,7 +83,8 @@ def bash(program, commands):
     options = [bash_case(keys, *kind, 12) for kind, keys in kinds.items()]
     words = [bash_case([f"{found.command}:-*"], "values", " ".join(words_of(found)), 20) for found in commands]
     files = bash_case([f"{found.command}:*" for found in commands if takes_files(found)], "file", "", 20)
-    first = all_commands(program) + words_of(program)
+    words.append(bash_case(["help:*"], "values", " ".join(explained(program)), 20))
+    first = [*program.commands, *words_of(program)]
     return BASH.format(program=PROGRAM, made=MADE, first=" ".join(first), options="\n".join(options),
                        words="\n".join(words), files=files)
 
@@ -100,6 +108,9 @@ _{program}() {{
         command) _describe command commands ;;
         rest)
             case $words[1] in
+                help)
+                    _describe command commands
+                    ;;
 {rest}
             esac
             ;;
@@ -137,7 +148,7 @@ def zsh_argument(argument):
 
 def zsh(program, commands):
     listed = [f"        '{zsh_text(f'{name}', ':')}:{zsh_text(about, '')}'"
-              for name, about in program.commands.items() if name != "help"]
+              for name, about in program.commands.items()]
     options = [f"        {word}" for option in program.options for word in zsh_option(option)]
     rest = []
     for found in commands:
@@ -182,7 +193,8 @@ def fish_option(option, condition):
 def fish(program, commands):
     none = f"__{PROGRAM}_command"
     lines = [f"complete -c {PROGRAM} -n {none} -a {name} -d {fish_text(about)}"
-             for name, about in program.commands.items() if name != "help"]
+             for name, about in program.commands.items()]
+    lines.append(f"complete -c {PROGRAM} -n '{none} help' -a '{' '.join(explained(program))}'")
     lines += [fish_option(option, none) for option in program.options]
     for found in commands:
         condition = f"'{none} {found.command}'"

@@ -62,7 +62,6 @@ class Manifest:
     def make_folders(self, folders):
         for folder in self.missing_folders(f"{folder}/any" for folder in folders):
             (self.root / folder).mkdir()
-            (self.root / folder).chmod(0o755)
 
     def remove(self, paths):
         """Removes these files, and yields a line of each that is another now, and is left."""

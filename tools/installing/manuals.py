@@ -60,8 +60,9 @@ def synopsis(usage):
 
 
 def listed(command, about):
-    """A command in the page of the program."""
-    return ".TP", f"\\fB{escaped(command)}\\fR", f"{escaped(about)}; see \\fB{escaped(page_name(command))}\\fR(1)."
+    """A command in the page of the program; the command help has no page."""
+    page = f"; see \\fB{escaped(page_name(command))}\\fR(1)" if command != "help" else ""
+    return ".TP", f"\\fB{escaped(command)}\\fR", f"{escaped(about)}{page}."
 
 
 def page_name(command):
@@ -77,8 +78,7 @@ def page(found, program, version):
     lines += section("NAME", [f"{escaped(name)} \\- {escaped(about)}"])
     lines += section("SYNOPSIS", synopsis(found.usage))
     lines += section("DESCRIPTION", prose(found.about))
-    commands = {other: what for other, what in found.commands.items() if other != "help"}
-    lines += section("COMMANDS", [text for other in commands for text in listed(other, commands[other])])
+    lines += section("COMMANDS", [text for other in found.commands for text in listed(other, found.commands[other])])
     lines += section("ARGUMENTS", [text for one in found.arguments for text in item(one)])
     lines += section("OPTIONS", [text for one in found.options for text in item(one)])
     lines += section("EXAMPLE", prose(found.after))
