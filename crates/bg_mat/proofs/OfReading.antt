@@ -5,6 +5,13 @@ pub mod HeadingLemmas
 pub mod LegLemmas
 pub mod MovementLemmas
 pub mod LegRefusals
+pub mod CellHeads
+pub mod CellLemmas
+pub mod NoCells
+pub mod RowLemmas
+pub mod ToldLines
+pub mod OneReading
+pub mod FaultsApart
 pub mod ScoreLemmas
 pub mod TurnLemmas
 pub mod ToldApart

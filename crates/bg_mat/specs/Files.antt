@@ -55,7 +55,7 @@ TellsAwaited awaited.Row line items next =
 -- a line tells nothing, or what is awaited
 abbrev pub TellsLine : Awaited → List ℕ → List Item → Awaited → Type 0
 TellsLine here line items next =
-    (IsFiller line × (items ≡ []) × (next ≡ here)) ⊎ TellsAwaited here line items next
+    (IsFiller line × (items ≡ []) × (next ≡ here)) ⊎ ((IsFiller line → ⊥) × TellsAwaited here line items next)
 
 -- items of one line
 abbrev pub numbered : ℕ → List Item → List Told

@@ -77,9 +77,8 @@ BeginsSlash (byte ∷ rest) = (byte == 47) ≡ true
 
 -- no legs of which this holds can be added to others: there are none, or with them there are more than four
 abbrev pub RefusesLegs : (List Leg → Type 0) → List Leg → LegFault → Type 0
-RefusesLegs Tells old fault =
-    (fault ≡ leg_fault.NotAMovement → (more : List Leg) → Tells more → ⊥)
-    × ((more : List Leg) → Tells more → length old + length more ≤ 4 → ⊥)
+RefusesLegs Tells old leg_fault.NotAMovement = (more : List Leg) → Tells more → ⊥
+RefusesLegs Tells old leg_fault.TooMany = (more : List Leg) × Tells more × (4 < length old + length more)
 
 -- legs of which this holds are added to others
 abbrev pub AddsLegs : (List Leg → Type 0) → List Leg → List Leg → Type 0

@@ -9,4 +9,5 @@ pub mod Tellings
 pub mod Retelling
 pub mod ItemFaults
 pub mod Refusals
+pub mod OneReading
 pub mod Rows

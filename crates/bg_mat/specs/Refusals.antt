@@ -9,7 +9,8 @@ use Rattle.bg_match.specs.declared.limits.Rules.{Rules}
 use Rattle.bg_mat.specs.Files.{TellsAwaited, TellsLines, numbered}
 use Rattle.bg_mat.specs.ItemFaults.{IsItemFault, IsPendingFault}
 use Rattle.bg_mat.specs.Replaying.{Begins, ClosesBy, GoesOnBy, place_of}
-use Rattle.bg_mat.specs.Rows.Headings.{IsFiller, IsGameLine, IsLengthLine, IsScoresLine}
+use Rattle.bg_mat.specs.Rows.Headings.{IsFiller, IsLengthLine, IsScoresLine}
+use Rattle.bg_mat.specs.Rows.RowFaults.{IsPlaceFault, IsRowPlace}
 use Rattle.bg_mat.specs.Telling.{Does, Item, Told, Wins}
 use Rattle.bg_mat.specs.declared.awaiting.Awaited.{Awaited}
 use Rattle.bg_mat.specs.declared.awaiting.Awaited.TheVariants as awaited
@@ -38,18 +39,16 @@ IsLengthFault line why.Money = IsLengthLine line 0
 IsLengthFault line why.LengthOutOfRange = (n : ℕ) × IsLengthLine line n × (99 < n)
 IsLengthFault line _ = ⊥
 
--- the row has none of the shapes that may stand there, or one of the match rules' has not
-abbrev pub IsRowFault : List ℕ → MatFault → Type 0
-IsRowFault line why.NotALine = Unit {0}
-IsRowFault line why.Beaver = Unit {0}
-IsRowFault line why.TooManySteps = Unit {0}
-IsRowFault line _ = ⊥
+-- which fault of shape it is, where this is awaited
+abbrev pub IsShapeWhy : Awaited → List ℕ → MatFault → Type 0
+IsShapeWhy awaited.Game line fault = fault ≡ why.NotALine
+IsShapeWhy awaited.Scores line fault = ⊥
+IsShapeWhy awaited.Row line fault = IsPlaceFault (IsRowPlace line) fault
 
--- the line has no shape that may stand where this is awaited
+-- the line tells nothing of what is awaited, for this fault
 abbrev pub IsShapeFault : Awaited → List ℕ → MatFault → Type 0
-IsShapeFault awaited.Game line fault = ((n : ℕ) → IsGameLine line n → ⊥) × (fault ≡ why.NotALine)
-IsShapeFault awaited.Scores line fault = ⊥
-IsShapeFault awaited.Row line fault = ((n : ℕ) → IsGameLine line n → ⊥) × IsRowFault line fault
+IsShapeFault here line fault =
+    ((items : List Item) (next : Awaited) → TellsAwaited here line items next → ⊥) × IsShapeWhy here line fault
 
 -- by the item the player whose dice are pending loses
 abbrev pub LosesBy : Player → Item → Type 0

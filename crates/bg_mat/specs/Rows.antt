@@ -5,3 +5,4 @@ pub mod Headings
 pub mod Cells
 pub mod CellTexts
 pub mod RowTexts
+pub mod RowFaults

@@ -25,4 +25,5 @@ mod writing;
 pub use exporting::export_mat;
 pub use faults::{ImportFault, MatFault};
 pub use importing::{Imported, import_mat};
+pub use tellings::reading_once::{files_read_once, lines_read_once, row_faults_differ};
 pub use tellings::telling_apart::is_match_file;

@@ -1,7 +1,7 @@
 //! A row of a game: what X does, in the left column, and what O does, in the right one.
-ghost use Rattle.std.specs.Prelude.{ℕ, List, IfErr, IfOk};
-ghost use Rattle.bg_mat.specs.Refusals.{IsRowFault};
-ghost use Rattle.bg_mat.specs.Rows.Cells.{SkipsNumber, TellsCell, TellsCells, TellsRow};
+ghost use Rattle.std.specs.Prelude.{◌↔◌, ℕ, List, IfErr, IfOk, IsTrue};
+ghost use Rattle.bg_mat.specs.Rows.RowFaults.{AreCellsFault, IsLastFault, IsRowFault};
+ghost use Rattle.bg_mat.specs.Rows.Cells.{IsRowNumber, SkipsNumber, TellsCell, TellsCells, TellsRow};
 ghost use Rattle.bg_mat.specs.Rows.Words.{IsBlankText};
 
 pub(crate) mod cell_texts;
@@ -13,6 +13,7 @@ pub(crate) mod words;
 
 use crate::MatFault;
 use crate::rows::cells::{Cell, split_cell};
+use crate::rows::headings::front_before;
 use crate::rows::numbers::read_number;
 use crate::rows::words::{count_blanks, is_blank_text, split_word};
 
@@ -26,12 +27,22 @@ pub(crate) struct Row {
     pub(crate) right: Option<Cell>,
 }
 
-/// What follows the number of a row, as `12)`, or the text itself where it begins with none.
+/// Whether a word is the number of a row, as `12)`.
+fn is_row_number(word: &[u8]) -> bool
+    ensures { IsTrue result ↔ IsRowNumber word.now }
+{
+    match front_before(word, b")") {
+        Some(digits) => read_number(digits).is_some(),
+        None => false,
+    }
+}
+
+/// What follows the number of a row, or the text itself where it begins with none.
 fn skip_row_number(line: &[u8]) -> &[u8]
     ensures { SkipsNumber line.now result.now }
 {
     match split_word(line) {
-        Some(([digits @ .., b')'], rest)) if read_number(digits).is_some() => rest,
+        Some((word, rest)) if is_row_number(word) => rest,
         _ => line,
     }
 }
@@ -39,7 +50,7 @@ fn skip_row_number(line: &[u8]) -> &[u8]
 /// A text's first cell alone: nothing follows it.
 fn read_cell(text: &[u8]) -> Result<Cell, MatFault>
     ensures told { IfOk result (λ cell. (rest : List ℕ) × TellsCell text.now cell rest × IsBlankText rest) }
-    ensures fault { IfErr result (IsRowFault text.now) }
+    ensures fault { IfErr result (IsLastFault text.now) }
 {
     let (cell, rest) = split_cell(text)?;
     if is_blank_text(rest) {
@@ -52,7 +63,7 @@ fn read_cell(text: &[u8]) -> Result<Cell, MatFault>
 /// The cells of a row behind its number.
 fn read_cells(text: &[u8]) -> Result<Row, MatFault>
     ensures told { IfOk result (λ row. TellsCells text.now row.left row.right) }
-    ensures fault { IfErr result (IsRowFault text.now) }
+    ensures fault { IfErr result (AreCellsFault text.now) }
 {
     if count_blanks(text) >= LEFT_COLUMN {
         return Ok(Row {

@@ -4,6 +4,7 @@ ghost use Rattle.bg_mat.specs.Turns.{HasHits, steps_of};
 ghost use Rattle.bg_mat.specs.Tellings.{HasGameNumbers, IsDeedIn, IsWinOf, TellsDice, TellsEntry, TellsMove};
 ghost use Rattle.bg_mat.specs.Tellings.{TellsWin, is_new_hit};
 
+pub(crate) mod reading_once;
 pub(crate) mod retelling;
 pub(crate) mod telling_apart;
 

@@ -7,7 +7,7 @@ use Rattle.bg_mat.specs.Legs.{AddsLegs, BeginsSlash, IsBracketed, IsCounted, IsP
 use Rattle.bg_mat.specs.declared.movements.legs.Leg.{Leg}
 use Rattle.bg_mat.specs.declared.movements.legs.LegFault.{LegFault}
 use Rattle.bg_mat.specs.declared.movements.legs.LegFault.TheVariants as leg_fault
-use Rattle.bg_mat.proofs.OfReading.MovementLemmas.{AllOf, IsHigh, StopsAt, all_both, all_right, all_weaker, bracket_none, bracketed, cut_same, legs_begin, legs_cut, legs_same, path_path, point_high, point_same, word_same, IsPathByte}
+use Rattle.bg_mat.proofs.OfReading.MovementLemmas.{AllOf, IsHigh, StopsAt, all_both, all_right, all_weaker, bracket_none, bracketed, cut_same, legs_begin, legs_cut, legs_same, path_path, point_high, point_same, IsPathByte}
 
 -- no slash
 abbrev IsPartByte : ℕ → Type 0
@@ -59,53 +59,63 @@ some_text : (text behind : List ℕ) → text ≡ 47 ∷ behind → text ≡ [] 
 some_text text behind e d = absurd (cc (e, d))
 
 -- no leg begins here
-pub leg_refused : (from : ℕ) (text behind word rest : List ℕ) (old : List Leg) (fault : LegFault) → text ≡ 47 ∷ behind
+pub leg_refused : (from : ℕ) (text behind word rest : List ℕ) (old : List Leg) → text ≡ 47 ∷ behind
     → behind ≡ word ++ rest → IsPart word → BeginsSlash rest → ((leg : Leg) → TellsLeg from word leg → ⊥)
-    → RefusesLegs (TellsLegs from text) old fault
-leg_refused from text behind word rest old fault e d part slash none = (λ is more h. never more h, λ more h few. never more h) where
-  never : (more : List Leg) → TellsLegs from text more → ⊥
-  never [] h = some_text text behind e h
-  never (leg ∷ more) h = none leg (legs_open from text behind word rest leg more e d part slash h).0
+    → RefusesLegs (TellsLegs from text) old leg_fault.NotAMovement
+leg_refused from text behind word rest old e d part slash none [] h = some_text text behind e h
+leg_refused from text behind word rest old e d part slash none (leg ∷ more) h =
+    none leg (legs_open from text behind word rest leg more e d part slash h).0
 
 -- no slash begins the text
-pub slash_refused : (from : ℕ) (text : List ℕ) (old : List Leg) (fault : LegFault) → (text ≡ [] → ⊥)
-    → ((rest : List ℕ) → text ≡ (47 ∷ []) ++ rest → ⊥) → RefusesLegs (TellsLegs from text) old fault
-slash_refused from text old fault some none = (λ is more h. never more h, λ more h few. never more h) where
-  never : (more : List Leg) → TellsLegs from text more → ⊥
-  never [] h = some h
-  never (leg ∷ more) (word, rest, e, first, tells) = none (word ++ rest) e
-
--- there is no room for one more leg
-pub full_refused : (from : ℕ) (text behind : List ℕ) (old : List Leg) → text ≡ 47 ∷ behind → 4 ≤ length old
-    → RefusesLegs (TellsLegs from text) old leg_fault.TooMany
-full_refused from text behind old e full = (λ is. absurd (cc (is)), λ more h few. never more h few) where
-  never : (more : List Leg) → TellsLegs from text more → length old + length more ≤ 4 → ⊥
-  never [] h few = some_text text behind e h
-  never (leg ∷ more) h few = omega (arith, full, few)
+pub slash_refused : (from : ℕ) (text : List ℕ) (old : List Leg) → (text ≡ [] → ⊥)
+    → ((rest : List ℕ) → text ≡ (47 ∷ []) ++ rest → ⊥) → RefusesLegs (TellsLegs from text) old leg_fault.NotAMovement
+slash_refused from text old some none [] h = some h
+slash_refused from text old some none (leg ∷ more) (word, rest, e, first, tells) = none (word ++ rest) e
 
 one_leg : (from : ℕ) (word : List ℕ) (l k : Leg) → TellsLeg from word l → TellsLeg from word k → l ≡ k
 one_leg from word l k first second = (legs_cut word [] word [] from l k refl first second (inl refl) (inl refl)).0
+
+-- a leg before others
+leg_before : (from : ℕ) (text behind word rest : List ℕ) (leg : Leg) (more : List Leg) → text ≡ 47 ∷ behind
+    → behind ≡ word ++ rest → TellsLeg from word leg → TellsLegs leg.step.to rest more → TellsLegs from text (leg ∷ more)
+leg_before from text behind word rest leg more e d first tells =
+    (word, rest, e ∙ ap (λ (t : List ℕ). 47 ∷ t) d, first, tells)
+
+-- no legs are told where none are behind the first one
+none_behind : (from : ℕ) (text behind word rest : List ℕ) (leg : Leg) → text ≡ 47 ∷ behind → behind ≡ word ++ rest
+    → IsPart word → BeginsSlash rest → TellsLeg from word leg → ((more : List Leg) → TellsLegs leg.step.to rest more → ⊥)
+    → (more : List Leg) → TellsLegs from text more → ⊥
+none_behind from text behind word rest leg e d part slash first none [] h = some_text text behind e h
+none_behind from text behind word rest leg e d part slash first none (k ∷ more) h =
+    let o = legs_open from text behind word rest k more e d part slash h in
+    let same : k ≡ leg = one_leg from word k leg o.0 first in
+    none more (subst (λ (l : Leg). TellsLegs l.step.to rest more) same o.1)
 
 -- the legs behind the first one are refused
 pub more_refused : (from : ℕ) (text behind word rest : List ℕ) (leg : Leg) (old now : List Leg) (fault : LegFault) → text ≡ 47 ∷ behind
     → behind ≡ word ++ rest → IsPart word → BeginsSlash rest → TellsLeg from word leg → now ≡ old ++ leg ∷ []
     → RefusesLegs (TellsLegs leg.step.to rest) now fault → RefusesLegs (TellsLegs from text) old fault
-more_refused from text behind word rest leg old now fault e d part slash first is refused =
-    (λ not_one more h. never not_one more h, λ more h few. too_many more h few) where
-      never : fault ≡ leg_fault.NotAMovement → (more : List Leg) → TellsLegs from text more → ⊥
-      never not_one [] h = some_text text behind e h
-      never not_one (k ∷ more) h =
-          let o = legs_open from text behind word rest k more e d part slash h in
-          let same : k ≡ leg = one_leg from word k leg o.0 first in
-          refused.0 not_one more (subst (λ (l : Leg). TellsLegs l.step.to rest more) same o.1)
+more_refused from text behind word rest leg old now leg_fault.NotAMovement e d part slash first is refused =
+    none_behind from text behind word rest leg e d part slash first refused
+more_refused from text behind word rest leg old now leg_fault.TooMany e d part slash first is (more, tells, many) =
+    let size : length now ≡ length old + 1 = rw is (length-append old (leg ∷ [])) in
+    (leg ∷ more, leg_before from text behind word rest leg more e d first tells, omega (arith, size, many))
 
-      too_many : (more : List Leg) → TellsLegs from text more → length old + length more ≤ 4 → ⊥
-      too_many [] h few = some_text text behind e h
-      too_many (k ∷ more) h few =
-          let o = legs_open from text behind word rest k more e d part slash h in
-          let same : k ≡ leg = one_leg from word k leg o.0 first in
-          let many : length now ≡ length old + 1 = rw is (length-append old (leg ∷ [])) in
-          refused.1 more (subst (λ (l : Leg). TellsLegs l.step.to rest more) same o.1) (omega (arith, many, few))
+-- there is no room for the leg, and those behind it are refused
+pub full_refused : (from : ℕ) (text behind word rest : List ℕ) (leg : Leg) (old : List Leg) (fault : LegFault) → text ≡ 47 ∷ behind
+    → behind ≡ word ++ rest → IsPart word → BeginsSlash rest → TellsLeg from word leg
+    → RefusesLegs (TellsLegs leg.step.to rest) old fault → RefusesLegs (TellsLegs from text) old fault
+full_refused from text behind word rest leg old leg_fault.NotAMovement e d part slash first refused =
+    none_behind from text behind word rest leg e d part slash first refused
+full_refused from text behind word rest leg old leg_fault.TooMany e d part slash first (more, tells, many) =
+    (leg ∷ more, leg_before from text behind word rest leg more e d first tells, omega (arith, many))
+
+-- there is no room for the leg, and there are such behind it
+pub room_refused : (from : ℕ) (text behind word rest : List ℕ) (leg : Leg) (old now : List Leg) → text ≡ 47 ∷ behind
+    → behind ≡ word ++ rest → TellsLeg from word leg → 4 ≤ length old → AddsLegs (TellsLegs leg.step.to rest) old now
+    → RefusesLegs (TellsLegs from text) old leg_fault.TooMany
+room_refused from text behind word rest leg old now e d first full (more, tells, is) =
+    (leg ∷ more, leg_before from text behind word rest leg more e d first tells, omega (arith, full))
 
 -- the mark of a word, and what stands before it
 pub leg_parts : (from : ℕ) (word point : List ℕ) (hits : Bool) (leg : Leg) → word ≡ point ++ mark hits
@@ -143,29 +153,29 @@ path_open text start rest legs e part slash (from, begin, last, d, is, tells, so
       low from last [] tells some = absurd (some refl)
       low from last (leg ∷ legs) (word, rest, e, first, more) some = first.on_board
 
-pub start_refused : (text start rest : List ℕ) (fault : LegFault) → text ≡ start ++ rest → IsPart start → BeginsSlash rest
-    → ((point : ℕ) → point ≤ 25 → IsPointText start point → ⊥) → RefusesLegs (TellsPath text) [] fault
-start_refused text start rest fault e part slash none = (λ is more h. never more h, λ more h few. never more h) where
-  never : (legs : List Leg) → TellsPath text legs → ⊥
-  never legs h = let o = path_open text start rest legs e part slash h in none o.0 o.2 o.1
+pub start_refused : (text start rest : List ℕ) → text ≡ start ++ rest → IsPart start → BeginsSlash rest
+    → ((point : ℕ) → point ≤ 25 → IsPointText start point → ⊥) → RefusesLegs (TellsPath text) [] leg_fault.NotAMovement
+start_refused text start rest e part slash none legs h =
+    let o = path_open text start rest legs e part slash h in none o.0 o.2 o.1
+
+some_legs : (legs : List Leg) → 4 < 0 + length legs → legs ≢ []
+some_legs [] many e = omega (arith, many)
+some_legs (leg ∷ legs) many e = absurd (cc (e))
 
 pub legs_refused : (text start rest : List ℕ) (from : ℕ) (fault : LegFault) → text ≡ start ++ rest → IsPart start → BeginsSlash rest
     → IsPointText start from → RefusesLegs (TellsLegs from rest) [] fault → RefusesLegs (TellsPath text) [] fault
-legs_refused text start rest from fault e part slash is refused =
-    (λ not_one more h. refused.0 not_one more (told more h), λ more h few. refused.1 more (told more h) few) where
-      told : (legs : List Leg) → TellsPath text legs → TellsLegs from rest legs
-      told legs h =
-          let o = path_open text start rest legs e part slash h in
-          subst (λ (p : ℕ). TellsLegs p rest legs) (point_same start o.0 from o.1 is) o.3
+legs_refused text start rest from leg_fault.NotAMovement e part slash is refused = λ legs h.
+    let o = path_open text start rest legs e part slash h in
+    refused legs (subst (λ (p : ℕ). TellsLegs p rest legs) (point_same start o.0 from o.1 is) o.3)
+legs_refused text start rest from leg_fault.TooMany e part slash is (more, tells, many) =
+    (more, (from, start, rest, e, is, tells, some_legs more many), many)
 
-pub no_legs_refused : (text start rest : List ℕ) (from : ℕ) (fault : LegFault) → text ≡ start ++ rest → IsPart start → BeginsSlash rest
-    → IsPointText start from → TellsLegs from rest [] → RefusesLegs (TellsPath text) [] fault
-no_legs_refused text start rest from fault e part slash is empty = (λ not_one more h. never more h, λ more h few. never more h) where
-  never : (legs : List Leg) → TellsPath text legs → ⊥
-  never legs h =
-      let o = path_open text start rest legs e part slash h in
-      let tells : TellsLegs from rest legs = subst (λ (p : ℕ). TellsLegs p rest legs) (point_same start o.0 from o.1 is) o.3 in
-      o.4 (legs_same from rest legs [] tells empty)
+pub no_legs_refused : (text start rest : List ℕ) (from : ℕ) → text ≡ start ++ rest → IsPart start → BeginsSlash rest
+    → IsPointText start from → TellsLegs from rest [] → RefusesLegs (TellsPath text) [] leg_fault.NotAMovement
+no_legs_refused text start rest from e part slash is empty legs h =
+    let o = path_open text start rest legs e part slash h in
+    let tells : TellsLegs from rest legs = subst (λ (p : ℕ). TellsLegs p rest legs) (point_same start o.0 from o.1 is) o.3 in
+    o.4 (legs_same from rest legs [] tells empty)
 
 ends_three : (a b : List ℕ) (x y : ℕ) → a ++ (40 ∷ x ∷ 41 ∷ []) ≡ b ++ (40 ∷ y ∷ 41 ∷ []) → (a ≡ b) × (x ≡ y)
 ends_three [] [] x y e = (refl, cc)
@@ -210,27 +220,19 @@ few_times (suc n) once low = let m = length-append once (repeated n once) in ome
 pub path_refused : (word path : List ℕ) (count : ℕ) (old : List Leg) (fault : LegFault) → IsCounted word path count
     → ((p : List ℕ) (n : ℕ) → IsBracketed word p n → IsBracketed word path count) → RefusesLegs (TellsPath path) [] fault
     → RefusesLegs (TellsWord word) old fault
-path_refused word path count old fault counted both refused = (
-  λ not_one more h. let o = word_open word path count more counted both h in refused.0 not_one o.0 o.1,
-  λ more h few.
-      let o = word_open word path count more counted both h in
-      let low = few_times count o.0 (some_times word path count counted) in
-      let many : length more ≡ length (repeated count o.0) = ap (λ (t : List Leg). length t) o.2 in
-      refused.1 o.0 o.1 (omega (arith, low, many, few)),
-)
+path_refused word path count old leg_fault.NotAMovement counted both refused = λ more h.
+    let o = word_open word path count more counted both h in refused o.0 o.1
+path_refused word path count old leg_fault.TooMany counted both (once, tells, many) =
+    let low = few_times count once (some_times word path count counted) in
+    (repeated count once, (path, count, once, counted, tells, refl), omega (arith, low, many))
 
 pub times_refused : {A : Type 0} (r : Result A LegFault) (word path : List ℕ) (count : ℕ) (once old : List Leg) → IsCounted word path count
     → TellsPath path once → r ≢ Err leg_fault.NotAMovement → OnErr r (4 < length old + length (repeated count once))
     → IfErr r (RefusesLegs (TellsWord word) old)
 times_refused (Ok x) word path count once old counted is other many = tt
-times_refused (Err fault) word path count once old counted is other many = (
-  λ not_one. absurd (other (ap Err not_one)),
-  λ more h few.
-      let same : more ≡ repeated count once =
-      word_same word more (repeated count once) h (path, count, once, counted, is, refl) in
-      let n : length more ≡ length (repeated count once) = ap (λ (t : List Leg). length t) same in
-      omega (arith, n, many, few),
-)
+times_refused (Err leg_fault.NotAMovement) word path count once old counted is other many = absurd (other refl)
+times_refused (Err leg_fault.TooMany) word path count once old counted is other many =
+    (repeated count once, (path, count, once, counted, is, refl), many)
 
 -- no leg was added, and so there is none
 pub none_added : (from : ℕ) (rest : List ℕ) (now : List Leg) → AddsLegs (TellsLegs from rest) [] now → true ≡ (length now == 0)

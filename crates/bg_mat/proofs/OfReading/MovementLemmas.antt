@@ -37,7 +37,7 @@ pub all_both : (P : ℕ → Type 0) (a b : List ℕ) → AllOf P a → AllOf P b
 all_both P [] b h k = k
 all_both P (x ∷ a) b h k = (h.0, all_both P a b h.1 k)
 
-all_left : (P : ℕ → Type 0) (a b : List ℕ) → AllOf P (a ++ b) → AllOf P a
+pub all_left : (P : ℕ → Type 0) (a b : List ℕ) → AllOf P (a ++ b) → AllOf P a
 all_left P [] b h = tt
 all_left P (x ∷ a) b h = (h.0, all_left P a b h.1)
 

@@ -83,15 +83,15 @@ filler_read from first input now here n rest line after r split filler = record 
 -- a line that tells items
 pub line_read : (from : Replay) (first : ℕ) (input : List ℕ) (now then : Replay) (here next : Awaited) (n : ℕ) (rest line after : List ℕ) (items : List Item)
     → IsReadUpTo from first input now here n rest → lines_of rest ≡ line ∷ lines_of after
-    → TellsAwaited here line items next → GoesOnBy now then (numbered n items)
+    → (IsFiller line → ⊥) → TellsAwaited here line items next → GoesOnBy now then (numbered n items)
     → IsReadUpTo from first input then next (n + 1) after
-line_read from first input now then here next n rest line after items r split tells goes = record {
+line_read from first input now then here next n rest line after items r split none tells goes = record {
   before = r.before ++ line ∷ [];
   cut = cut_more input r.before rest line after r.cut split;
   number_is = one_later n first r.before line r.number_is;
   told = r.told ++ numbered n items;
   goes = goes_on_twice from now then r.told (numbered n items) r.goes goes;
-  file = rw r.number_is (tells_more awaited.Game first r.before line r.told here next items r.file (inr tells));
+  file = rw r.number_is (tells_more awaited.Game first r.before line r.told here next items r.file (inr (none, tells)));
 }
 
 -- nothing is left

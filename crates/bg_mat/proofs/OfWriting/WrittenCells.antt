@@ -9,7 +9,7 @@ use Rattle.bg_board.specs.declared.dice.Die.{Die}
 use Rattle.bg_board.specs.declared.dice.Die.TheVariants as die
 use Rattle.bg_turns.specs.Dice.{first_pips, second_pips}
 use Rattle.bg_turns.specs.declared.throws.Dice.{Dice}
-use Rattle.bg_mat.specs.Rows.Cells.{IsDiceWord, TellsCell, TellsDouble, TellsLegsAt, TellsWin, ending}
+use Rattle.bg_mat.specs.Rows.Cells.{EndsMovement, EndsWin, IsDiceWord, TellsCell, TellsDouble, TellsLegsAt, TellsWin, ending}
 use Rattle.bg_mat.specs.Rows.CellTexts.{cell_text, dice_text, ending_text, leg_text, legs_text, points_text, win_text}
 use Rattle.bg_mat.specs.Rows.Headings.{IsPoints}
 use Rattle.bg_mat.specs.Legs.{TellsWord, mark}
@@ -19,6 +19,7 @@ use Rattle.bg_mat.specs.declared.rows.cells.Cell.{Cell}
 use Rattle.bg_mat.specs.declared.rows.cells.Cell.TheVariants as cell
 use Rattle.bg_mat.specs.declared.rows.cells.Win.{Win}
 use Rattle.bg_mat.specs.declared.movements.legs.Leg.{Leg}
+use Rattle.bg_mat.proofs.OfReading.CellHeads.{IsBehindCell}
 use Rattle.bg_mat.proofs.OfWriting.PlainTexts.{IsOfLine, IsPlain, decimal_plain, no_blanks, number_is, of_line_both, of_line_by, one_blank, plain_both, plain_by, plain_leading, plain_of_line, word_behind, word_first}
 
 -- the word of a leg
@@ -132,14 +133,14 @@ dice_some dice = rw (dice_is dice) (omega arith)
 
 -- what the text of a cell is
 pub record IsCellText (text : List ℕ) (c : Cell) : Type 0 where
-  pub tells : (rest : List ℕ) → EndsWord rest → TellsCell (text ++ rest) c rest
+  pub tells : (rest : List ℕ) → EndsWord rest → IsBehindCell rest → TellsCell (text ++ rest) c rest
   pub few : (rest : List ℕ) → leading_blanks (text ++ rest) ≤ 1
   pub of_line : IsOfLine text
 
 turn_is : (dice : Dice) (legs : List Leg) (rest : List ℕ) → AllByRecursion IsOnBoard legs → length legs ≤ 4 → EndsWord rest
-    → (word after : List ℕ) × IsFirstWord ((dice_text dice ++ legs_text legs) ++ rest) word after
-    × IsDiceWord word dice × TellsLegsAt after rest legs × (length legs ≤ 4)
-turn_is dice legs rest low few ends =
+    → EndsMovement rest → (word after : List ℕ) × IsFirstWord ((dice_text dice ++ legs_text legs) ++ rest) word after
+    × IsDiceWord word dice × TellsLegsAt after rest legs × (length legs ≤ 4) × EndsMovement rest
+turn_is dice legs rest low few ends behind =
     let first : IsFirstWord (dice_text dice ++ (legs_text legs ++ rest)) (dice_text dice) (legs_text legs ++ rest) =
     word_first [] (dice_text dice) (legs_text legs ++ rest) no_blanks (dice_plain dice) (dice_some dice) (legs_end legs rest ends) in (
       dice_text dice,
@@ -148,6 +149,7 @@ turn_is dice legs rest low few ends =
       dice_is dice,
       legs_tell legs rest low ends,
       few,
+      behind,
     )
 
 double_is : (n : ℕ) (rest : List ℕ) → n ≤ 9999 → EndsWord rest
@@ -195,8 +197,8 @@ win_parts : (win : Win) (rest : List ℕ)
     → win_text win ++ rest ≡ codes " Wins " ++ (decimal win.points ++ (points_text win.points ++ (ending_text win.ends_match ++ rest)))
 win_parts win rest = simp append_assoc
 
-win_is : (win : Win) (rest : List ℕ) → win.points ≤ 9999 → EndsWord rest → TellsWin (win_text win ++ rest) win rest
-win_is win rest few ends =
+win_is : (win : Win) (rest : List ℕ) → win.points ≤ 9999 → EndsWord rest → EndsWin rest → TellsWin (win_text win ++ rest) win rest
+win_is win rest few ends last =
     let behind = ending_text win.ends_match ++ rest in
     let ended = ending_end win.ends_match rest ends in
     let points = points_text win.points ++ behind in
@@ -211,6 +213,7 @@ win_is win rest few ends =
       subst (λ (t : List ℕ). IsFirstWord t (codes "Wins") (codes " " ++ (decimal win.points ++ points))) (sym (win_parts win rest)) first,
       (decimal win.points, word, (points, second, (behind, third, refl)), number_is win.points few, is_points),
       ending_tells win.ends_match rest ends,
+      λ goes_on. last,
     )
 
 points_of_line : (b : Bool) → IsOfLine (if b then codes " point" else codes " points")
@@ -224,7 +227,7 @@ ending_of_line false = tt
 -- the text of each cell
 pub cell_is : (c : Cell) → HasNumbers c → IsCellText (cell_text c) c
 cell_is (cell.Turn dice legs) low = record {
-  tells = λ rest ends. turn_is dice legs.items rest low.0 low.1 ends;
+  tells = λ rest ends behind. turn_is dice legs.items rest low.0 low.1 ends behind.movement;
   few = λ rest.
       let none : leading_blanks (dice_text dice ++ (legs_text legs.items ++ rest)) ≡ 0 =
       plain_leading (dice_text dice) (legs_text legs.items ++ rest) (dice_plain dice) (dice_some dice) in
@@ -233,23 +236,23 @@ cell_is (cell.Turn dice legs) low = record {
       (legs_of_line legs.items low.0);
 }
 cell_is (cell.Doubles n) low = record {
-  tells = λ rest ends. double_is n rest low ends;
+  tells = λ rest ends behind. double_is n rest low ends;
   few = λ rest. omega arith;
   of_line = of_line_both (codes " Doubles => ") (decimal n) (of_line_by (codes " Doubles => ") refl)
       (plain_of_line (decimal n) (decimal_plain n (omega arith)));
 }
 cell_is cell.Takes low = record {
-  tells = λ rest ends. word_first (codes " ") (codes "Takes") rest one_blank (plain_by (codes "Takes") refl) (omega arith) ends;
+  tells = λ rest ends behind. word_first (codes " ") (codes "Takes") rest one_blank (plain_by (codes "Takes") refl) (omega arith) ends;
   few = λ rest. omega arith;
   of_line = of_line_by (codes " Takes") refl;
 }
 cell_is cell.Drops low = record {
-  tells = λ rest ends. word_first (codes " ") (codes "Drops") rest one_blank (plain_by (codes "Drops") refl) (omega arith) ends;
+  tells = λ rest ends behind. word_first (codes " ") (codes "Drops") rest one_blank (plain_by (codes "Drops") refl) (omega arith) ends;
   few = λ rest. omega arith;
   of_line = of_line_by (codes " Drops") refl;
 }
 cell_is (cell.Wins win) low = record {
-  tells = λ rest ends. win_is win rest low ends;
+  tells = λ rest ends behind. win_is win rest low ends behind.win;
   few = λ rest. subst (λ (t : List ℕ). leading_blanks t ≤ 1) (sym (win_parts win rest)) (omega arith);
   of_line = of_line_both (codes " Wins " ++ decimal win.points ++ points_text win.points) (ending_text win.ends_match)
       (of_line_both (codes " Wins " ++ decimal win.points) (points_text win.points)
@@ -261,11 +264,11 @@ cell_is (cell.Wins win) low = record {
 
 -- the same cell behind blanks
 pub cell_behind : (gap text rest : List ℕ) (c : Cell) → IsBlankText gap → TellsCell text c rest → TellsCell (gap ++ text) c rest
-cell_behind gap text rest (cell.Turn dice legs) blank (word, after, first, is, more, few) =
-    (word, after, word_behind gap text word after blank first, is, more, few)
+cell_behind gap text rest (cell.Turn dice legs) blank (word, after, first, is, more, few, ends) =
+    (word, after, word_behind gap text word after blank first, is, more, few, ends)
 cell_behind gap text rest (cell.Doubles n) blank (number, (after, first, more), is) =
     (number, (after, word_behind gap text (codes "Doubles") after blank first, more), is)
 cell_behind gap text rest cell.Takes blank first = word_behind gap text (codes "Takes") rest blank first
 cell_behind gap text rest cell.Drops blank first = word_behind gap text (codes "Drops") rest blank first
-cell_behind gap text rest (cell.Wins win) blank (after, behind, first, points, ends) =
-    (after, behind, word_behind gap text (codes "Wins") after blank first, points, ends)
+cell_behind gap text rest (cell.Wins win) blank (after, behind, first, points, begins, ends) =
+    (after, behind, word_behind gap text (codes "Wins") after blank first, points, begins, ends)

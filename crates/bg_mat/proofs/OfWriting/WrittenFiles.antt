@@ -21,8 +21,10 @@ use Rattle.bg_mat.specs.declared.awaiting.Awaited.TheVariants as awaited
 use Rattle.bg_mat.specs.declared.tellings.GameStart.{GameStart}
 use Rattle.bg_mat.specs.declared.tellings.Telling.{Telling}
 use Rattle.bg_mat.specs.declared.tellings.Telling.TheVariants as telling
+use Rattle.bg_mat.specs.declared.rows.Row.{Row}
+use Rattle.bg_mat.proofs.OfReading.ToldLines.{game_told, row_told}
 use Rattle.bg_mat.proofs.OfWriting.PlainTexts.{IsOfLine, blanks_of_line, decimal_plain, first_line, no_blanks, of_line_both, of_line_by, plain_of_line}
-use Rattle.bg_mat.proofs.OfWriting.WrittenRows.{alone_written, both_written, game_line, length_line, row_of, scores_line}
+use Rattle.bg_mat.proofs.OfWriting.WrittenRows.{alone_written, both_written, game_line, length_line, row_of, scores_line, scores_told}
 
 -- the items of lines
 abbrev pub items_of_line : Line → List Item
@@ -140,18 +142,22 @@ row_items O c = refl
 -- the row of a cell that is alone
 alone_line : (player : Player) (c : Cell) (line : List ℕ) → TellsRow line (row_of player c)
     → TellsLine awaited.Row line (Does player (deed_of c) ∷ []) (after_cell c)
-alone_line player c line tells = inr (inr (row_of player c, tells, row_items player c, sym (row_after player c)))
+alone_line player c line tells =
+    inr (row_told line (row_of player c) tells, inr (row_of player c, tells, row_items player c, sym (row_after player c)))
 
 both_line : (l r : Cell) (line : List ℕ) → is_win (Some l) ≡ false
     → TellsRow line (record { left = Some l; right = Some r })
     → TellsLine awaited.Row line (Does X (deed_of l) ∷ Does O (deed_of r) ∷ []) (after_cell r)
 both_line l r line wl tells =
-    inr (inr (record { left = Some l; right = Some r }, tells, refl, rw (wl, ← row_after O r) refl))
+    let row : Row = record { left = Some l; right = Some r } in
+    inr (row_told line row tells, inr (row, tells, refl, rw (wl, ← row_after O r) refl))
 
 heading_line : (here : Awaited) (n : ℕ) → here ≢ awaited.Scores → n ≤ 9999
     → TellsLine here (codes " Game " ++ decimal n) (Game n ∷ []) awaited.Scores
-heading_line awaited.Game n may few = inr (n, game_line n few, refl, refl)
-heading_line awaited.Row n may few = inr (inl (n, game_line n few, refl, refl))
+heading_line awaited.Game n may few =
+    inr (game_told (codes " Game " ++ decimal n) n (game_line n few), (n, game_line n few, refl, refl))
+heading_line awaited.Row n may few =
+    inr (game_told (codes " Game " ++ decimal n) n (game_line n few), inl (n, game_line n few, refl, refl))
 heading_line awaited.Scores n may few = absurd (may refl)
 
 score_of_line : (name : List ℕ) (x : ℕ) → IsOfLine name → x < 65536 → IsOfLine (score_text name x)
@@ -190,7 +196,7 @@ game_lines here there n game rest items may (few, x, o) more =
     let scores = codes " " ++ padded 31 (score_text (codes "X") game.x) ++ score_text (codes "O") game.o in
     let third = line_more awaited.Scores awaited.Row there (n + 1 + 1) scores rest (Scores game.x game.o ∷ []) items
     (scores_of_line game.x game.o x o)
-    (inr (game.x, game.o, scores_line game.x game.o, refl, refl)) more in
+    (inr (scores_told game.x game.o, (game.x, game.o, scores_line game.x game.o, refl, refl))) more in
     let second = line_more here awaited.Scores there (n + 1) (codes " Game " ++ decimal game.number) (scores ++ codes "\n" ++ rest)
     (Game game.number ∷ []) (Scores game.x game.o ∷ items)
     (of_line_both (codes " Game ") (decimal game.number) (of_line_by (codes " Game ") refl) (plain_of_line (decimal game.number) (decimal_plain game.number (omega arith))))

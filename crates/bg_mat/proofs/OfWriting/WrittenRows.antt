@@ -9,13 +9,15 @@ use Rattle.bg_board.specs.declared.players.Player.{Player}
 use Rattle.bg_board.specs.declared.players.Player.TheVariants.{X, O}
 use Rattle.bg_mat.specs.Rows.Cells.{SkipsNumber, TellsCell, TellsRow}
 use Rattle.bg_mat.specs.Rows.CellTexts.{cell_text}
-use Rattle.bg_mat.specs.Rows.Headings.{IsGameLine, IsLengthLine, IsScoresLine}
+use Rattle.bg_mat.specs.Rows.Headings.{IsFiller, IsGameLine, IsLengthLine, IsScoresLine}
 use Rattle.bg_mat.specs.Rows.RowTexts.{alone_text, blanks_before, both_text, in_column, padded, row_number, row_start, score_text}
 use Rattle.bg_mat.specs.Tellings.{HasNumbers}
 use Rattle.bg_mat.specs.Rows.Words.{leading_blanks, EndsWord, IsBlankText, IsFirstWord}
 use Rattle.bg_mat.specs.declared.rows.cells.Cell.{Cell}
 use Rattle.bg_mat.specs.declared.rows.cells.Cell.TheVariants as cell
 use Rattle.bg_mat.specs.declared.rows.Row.{Row}
+use Rattle.bg_mat.proofs.OfReading.CellHeads.{blank_behind, cell_behind_cell, cell_no_number}
+use Rattle.bg_mat.proofs.OfReading.ToldLines.{name_told}
 use Rattle.bg_mat.proofs.OfWriting.PlainTexts.{IsOfLine, IsPlain, blanks, blanks_of_line, decimal_plain, leading_both, no_blanks, number_is, of_line_both, of_line_by, one_blank, plain_both, plain_by, plain_of_line, word_first}
 use Rattle.bg_mat.proofs.OfWriting.WrittenCells.{cell_behind, cell_is}
 
@@ -24,7 +26,8 @@ pub record IsRowStart (text : List ℕ) : Type 0 where
   pub gap : List ℕ
   pub blank : IsBlankText gap
   pub few : length gap ≤ 6
-  pub skips : (cells : List ℕ) → SkipsNumber (text ++ cells) (gap ++ cells)
+  pub skips : (cells : List ℕ) (c : Cell) (rest : List ℕ) → TellsCell (gap ++ cells) c rest
+      → SkipsNumber (text ++ cells) (gap ++ cells)
   pub of_line : IsOfLine text
 
 blanks_start : (n : ℕ) → n ≤ 6 → IsRowStart (replicate n 32)
@@ -32,7 +35,7 @@ blanks_start n few = record {
   gap = replicate n 32;
   blank = blanks n;
   few = rw length-replicate few;
-  skips = λ cells. inl refl;
+  skips = λ cells c rest tells. inl (refl, λ behind number. cell_no_number (replicate n 32 ++ cells) c rest behind tells number);
   of_line = blanks_of_line n;
 }
 
@@ -47,15 +50,14 @@ number_start row few =
       gap = codes " ";
       blank = one_blank;
       few = omega arith;
-      skips = λ cells.
+      skips = λ cells c rest tells.
           let text : (replicate k 32 ++ decimal row ++ codes ") ") ++ cells
           ≡ replicate k 32 ++ ((decimal row ++ codes ")") ++ (codes " " ++ cells)) = simp append_assoc in
           inr (
-            decimal row,
-            row,
+            decimal row ++ codes ")",
             subst (λ (t : List ℕ). IsFirstWord t (decimal row ++ codes ")") (codes " " ++ cells)) (sym text)
                 (word_first (replicate k 32) (decimal row ++ codes ")") (codes " " ++ cells) (blanks k) plain some refl),
-            number_is row few,
+            (decimal row, row, refl, number_is row few),
           );
       of_line = of_line_both (replicate k 32 ++ decimal row) (codes ") ")
           (of_line_both (replicate k 32) (decimal row) (blanks_of_line k) (plain_of_line (decimal row) (decimal_plain row (omega arith))))
@@ -91,7 +93,7 @@ some_blanks (suc n) rest h = refl
 -- a cell that nothing follows
 last_cell : (c : Cell) → HasNumbers c → TellsCell (cell_text c) c []
 last_cell c low =
-    subst (λ (t : List ℕ). TellsCell t c []) (append-nil (cell_text c)) ((cell_is c low).tells [] tt)
+    subst (λ (t : List ℕ). TellsCell t c []) (append-nil (cell_text c)) ((cell_is c low).tells [] tt (blank_behind [] no_blanks))
 
 pub both_written : (row : ℕ) (l r : Cell) → HasNumbers l → HasNumbers r
     → WritesLine (both_text row l r) (λ line. TellsRow line (record { left = Some l; right = Some r }))
@@ -104,6 +106,10 @@ both_written row l r low high =
     let cells = cell_text l ++ middle in
     let line = row_number row ++ padded 28 (cell_text l) ++ cell_text r in
     let is : line ≡ row_number row ++ cells = simp append_assoc in
+    let last : TellsCell middle r [] = cell_behind (replicate m 32) (cell_text r) [] r (blanks m) (last_cell r high) in
+    let first : TellsCell (start.gap ++ cells) l middle =
+    cell_behind start.gap cells middle l start.blank
+    (left.tells middle (some_blanks m (cell_text r) (omega arith)) (cell_behind_cell middle r [] last)) in
     let few : leading_blanks (start.gap ++ cells) < 16 =
     (let lead = leading_both start.gap cells start.blank in let one = left.few middle in let gap = start.few in omega arith) in
     record {
@@ -114,15 +120,8 @@ both_written row l r low high =
           (of_line_both (cell_text l) (replicate m 32) left.of_line (blanks_of_line m))) right.of_line;
       tells = (
         start.gap ++ cells,
-        subst (λ (t : List ℕ). SkipsNumber t (start.gap ++ cells)) (sym is) (start.skips cells),
-        (
-          few,
-          middle,
-          [],
-          cell_behind start.gap cells middle l start.blank (left.tells middle (some_blanks m (cell_text r) (omega arith))),
-          cell_behind (replicate m 32) (cell_text r) [] r (blanks m) (last_cell r high),
-          no_blanks,
-        ),
+        subst (λ (t : List ℕ). SkipsNumber t (start.gap ++ cells)) (sym is) (start.skips cells l middle first),
+        (few, middle, [], first, last, no_blanks),
       );
     }
 
@@ -153,7 +152,7 @@ filled_cell c low =
     let own = cell_is c low in
     record {
       rest = replicate m 32;
-      tells = own.tells (replicate m 32) (blanks_end m);
+      tells = own.tells (replicate m 32) (blanks_end m) (blank_behind (replicate m 32) (blanks m));
       blank = blanks m;
       few = own.few (replicate m 32);
       of_line = of_line_both (cell_text c) (replicate m 32) own.of_line (blanks_of_line m);
@@ -171,6 +170,8 @@ left_written : (row : ℕ) (c : Cell) → HasNumbers c
 left_written row c low =
     let start = row_start_is row c in
     let own = left_cell c low in
+    let told : TellsCell (start.gap ++ in_column X c) c own.rest =
+    cell_behind start.gap (in_column X c) own.rest c start.blank own.tells in
     let few : leading_blanks (start.gap ++ in_column X c) < 16 =
     (let lead = leading_both start.gap (in_column X c) start.blank in let one = own.few in let gap = start.few in omega arith) in
     record {
@@ -179,8 +180,8 @@ left_written row c low =
       of_line = of_line_both (row_start row c) (in_column X c) start.of_line own.of_line;
       tells = (
         start.gap ++ in_column X c,
-        start.skips (in_column X c),
-        (few, own.rest, cell_behind start.gap (in_column X c) own.rest c start.blank own.tells, own.blank),
+        start.skips (in_column X c) c own.rest told,
+        (few, own.rest, told, own.blank),
       );
     }
 
@@ -190,6 +191,9 @@ right_written row c low =
     let start = row_start_is row c in
     let own = cell_is c low in
     let cells = in_column O c in
+    let told : TellsCell (start.gap ++ cells) c [] =
+    cell_behind start.gap cells [] c start.blank
+    (cell_behind (replicate 28 32) (cell_text c) [] c (blanks 28) (last_cell c low)) in
     let many : 16 ≤ leading_blanks (start.gap ++ cells) =
     (let lead = leading_both start.gap cells start.blank in
     let more : leading_blanks cells ≡ 28 + leading_blanks (cell_text c) = leading_both (replicate 28 32) (cell_text c) (blanks 28) in
@@ -201,14 +205,8 @@ right_written row c low =
           (of_line_both (replicate 28 32) (cell_text c) (blanks_of_line 28) own.of_line);
       tells = (
         start.gap ++ cells,
-        start.skips cells,
-        (
-          many,
-          [],
-          cell_behind start.gap cells [] c start.blank
-              (cell_behind (replicate 28 32) (cell_text c) [] c (blanks 28) (last_cell c low)),
-          no_blanks,
-        ),
+        start.skips cells c [] told,
+        (many, [], told, no_blanks),
       );
     }
 
@@ -266,6 +264,14 @@ scores_spelled x o m =
     ∙ ap (λ (t : List ℕ). decimal x ++ t) (append_assoc (replicate m 32) (codes "O ") (codes ": " ++ decimal o)) in
     let end = ap (λ (t : List ℕ). codes " X : " ++ t) (scored_end (decimal x ++ (replicate m 32 ++ codes "O ")) (decimal o)) in
     whole ∙ (ap (λ (t : List ℕ). codes " X : " ++ t) (sym front) ∙ end)
+
+-- the line of the scores begins with a name
+pub scores_told : (x o : ℕ) → IsFiller (codes " " ++ padded 31 (score_text (codes "X") x) ++ score_text (codes "O") o) → ⊥
+scores_told x o =
+    let m = max 1 (31 - length (score_text (codes "X") x)) in
+    let rest = codes " : " ++ ((decimal x ++ replicate m 32) ++ score_text (codes "O") o) in
+    name_told (codes " " ++ padded 31 (score_text (codes "X") x) ++ score_text (codes "O") o) rest
+    (word_first (codes " ") (codes "X") rest one_blank (plain_by (codes "X") refl) (omega arith) refl)
 
 -- the line of the scores
 pub scores_line : (x o : ℕ) → IsScoresLine (codes " " ++ padded 31 (score_text (codes "X") x) ++ score_text (codes "O") o) x o

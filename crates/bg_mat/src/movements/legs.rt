@@ -34,7 +34,7 @@ pub(crate) type Legs = ArrayVec<Leg, 4>;
 pub(crate) enum LegFault {
     /// It has another shape.
     NotAMovement,
-    /// There are more than four legs.
+    /// It tells legs, and with them there are more than four.
     TooMany,
 }
 
@@ -106,10 +106,11 @@ fn add_legs(legs: &mut Legs, from: u8, text: &[u8]) -> Result<(), LegFault>
     let Some(leg) = read_leg(from, word) else {
         return Err(LegFault::NotAMovement);
     };
+    let to = leg.step.to();
     if legs.is_full() {
+        add_legs(legs, to, rest)?;
         return Err(LegFault::TooMany);
     }
-    let to = leg.step.to();
     legs.push(leg);
     add_legs(legs, to, rest)
 }

@@ -1,7 +1,10 @@
 //! A cell of a row: what one player does.
-ghost use Rattle.std.specs.Prelude.{IfErr, IfSome, IfOk};
-ghost use Rattle.bg_mat.specs.Refusals.{IsRowFault};
-ghost use Rattle.bg_mat.specs.Rows.Cells.{AddsMovement, IsDiceWord, TellsCell, TellsDouble, TellsPoints, TellsWin};
+ghost use Rattle.std.specs.Prelude.{◌≡◌, ◌↔◌, ℕ, List, IfErr, IfOk, IsTrue, MatchOption};
+ghost use Rattle.bg_mat.specs.Rows.Cells.{AddsMovement, BeginsDice, EndsMovement, IsDiceWord, TellsCell, TellsDouble};
+ghost use Rattle.bg_mat.specs.Rows.Cells.{TellsPoints, TellsWin};
+ghost use Rattle.bg_mat.specs.Rows.RowFaults.{HasTooMany, IsBeaver, IsBeaverWord, IsCellFault, IsTooLong};
+ghost use Rattle.bg_mat.specs.declared.rows.cells.Win.{Win as WinOf};
+ghost use Rattle.bg_turns.specs.declared.throws.Dice.{Dice as DiceOf};
 
 use crate::MatFault;
 use crate::movements::legs::{LegFault, Legs, add_word};
@@ -36,7 +39,7 @@ pub(crate) struct Win {
 
 /// The dice that a word names, as `31:`.
 fn read_dice(word: &[u8]) -> Option<Dice>
-    ensures { IfSome result (IsDiceWord word.now) }
+    ensures { MatchOption result ((dice : DiceOf) → IsDiceWord word.now dice → ⊥) (IsDiceWord word.now) }
 {
     match word {
         [first @ b'1'..=b'6', second @ b'1'..=b'6', b':'] => Some(Dice {
@@ -50,7 +53,8 @@ fn read_dice(word: &[u8]) -> Option<Dice>
 /// Adds the movement that a text begins with, all its words up to another one, and gives what follows.
 fn split_movement<'a>(legs: &mut Legs, text: &'a [u8]) -> Result<&'a [u8], MatFault>
     ensures told { IfOk result (λ rest. AddsMovement text.now rest.now legs.old.items legs.new.items) }
-    ensures fault { IfErr result (IsRowFault text.now) }
+    ensures all { IfOk result (λ rest. EndsMovement rest.now) }
+    ensures fault { IfErr result (λ why. (why ≡ MatFault.TooManySteps) × HasTooMany text.now legs.old.items) }
 {
     let Some((word, rest)) = split_word(text) else {
         return Ok(text);
@@ -64,7 +68,8 @@ fn split_movement<'a>(legs: &mut Legs, text: &'a [u8]) -> Result<&'a [u8], MatFa
 
 /// The points that a text begins with, and what follows.
 fn split_points(text: &[u8]) -> Option<(u16, &[u8])>
-    ensures { IfSome result (λ found. TellsPoints text.now found.0 found.1.now) }
+    ensures { MatchOption result ((points : ℕ) (rest : List ℕ) → TellsPoints text.now points rest → ⊥)
+        (λ found. TellsPoints text.now found.0 found.1.now) }
 {
     let (number, rest) = split_word(text)?;
     let points = read_number(number)?;
@@ -78,7 +83,8 @@ fn split_points(text: &[u8]) -> Option<(u16, &[u8])>
 
 /// The win that a text begins with, and what follows.
 fn split_win(text: &[u8]) -> Option<(Win, &[u8])>
-    ensures { IfSome result (λ found. TellsWin text.now found.0 found.1.now) }
+    ensures { MatchOption result ((win : WinOf) (rest : List ℕ) → TellsWin text.now win rest → ⊥)
+        (λ found. TellsWin text.now found.0 found.1.now) }
 {
     let (points, rest) = split_points(skip_word(text, b"Wins")?)?;
     let Some(end) = skip_word(rest, b"and") else {
@@ -92,7 +98,8 @@ fn split_win(text: &[u8]) -> Option<(Win, &[u8])>
 
 /// What the cube shows by the double that a text begins with, and what follows.
 fn split_double(text: &[u8]) -> Option<(u16, &[u8])>
-    ensures { IfSome result (λ found. TellsDouble text.now found.0 found.1.now) }
+    ensures { MatchOption result ((shows : ℕ) (rest : List ℕ) → TellsDouble text.now shows rest → ⊥)
+        (λ found. TellsDouble text.now found.0 found.1.now) }
 {
     let (number, rest) = split_word(skip_word(skip_word(text, b"Doubles")?, b"=>")?)?;
     Some((read_number(number)?, rest))
@@ -100,8 +107,9 @@ fn split_double(text: &[u8]) -> Option<(u16, &[u8])>
 
 /// The turn that a text begins with, and what follows. None where it begins with no dice.
 fn split_turn(text: &[u8]) -> Result<Option<(Cell, &[u8])>, MatFault>
-    ensures told { IfOk result (λ found. IfSome found (λ parts. TellsCell text.now parts.0 parts.1.now)) }
-    ensures fault { IfErr result (IsRowFault text.now) }
+    ensures told { IfOk result (λ found. MatchOption found (BeginsDice text.now → ⊥)
+        (λ parts. TellsCell text.now parts.0 parts.1.now)) }
+    ensures fault { IfErr result (λ why. (why ≡ MatFault.TooManySteps) × IsTooLong text.now) }
 {
     let Some((word, rest)) = split_word(text) else {
         return Ok(None);
@@ -115,10 +123,19 @@ fn split_turn(text: &[u8]) -> Result<Option<(Cell, &[u8])>, MatFault>
     Ok(Some((Cell::Turn(dice, legs), rest)))
 }
 
-/// Whether a text begins with the double of a double, which the match rules do not have.
-fn begins_with_beaver(text: &[u8]) -> bool {
+/// Whether a word is the double of a double, which the match rules do not have.
+fn is_beaver(word: &[u8]) -> bool
+    ensures { IsTrue result ↔ IsBeaverWord word.now }
+{
+    matches!(word, b"Beavers" | b"Raccoons")
+}
+
+/// Whether a text begins with such a word.
+fn begins_with_beaver(text: &[u8]) -> bool
+    ensures { IsTrue result ↔ IsBeaver text.now }
+{
     match split_word(text) {
-        Some((word, _)) => matches!(word, b"Beavers" | b"Raccoons"),
+        Some((word, _)) => is_beaver(word),
         None => false,
     }
 }
@@ -126,7 +143,7 @@ fn begins_with_beaver(text: &[u8]) -> bool {
 /// The cell that a text begins with, and what follows it.
 pub(crate) fn split_cell(text: &[u8]) -> Result<(Cell, &[u8]), MatFault>
     ensures told { IfOk result (λ parts. TellsCell text.now parts.0 parts.1.now) }
-    ensures fault { IfErr result (IsRowFault text.now) }
+    ensures fault { IfErr result (IsCellFault text.now) }
 {
     if let Some(parts) = split_turn(text)? {
         return Ok(parts);

@@ -178,6 +178,8 @@ fn first_of_several_faults(rt: HostRuntime) -> Result<(), Fail> {
             5,
             MatFault::NotALine,
         ),
+        ("31: 24/23/22/21/20/19 hello\n", 5, MatFault::TooManySteps),
+        ("31: 24/23/22/21/20/19/hello\n", 5, MatFault::NotALine),
         ("31: 8/5 6/5  Beavers hello\n", 5, MatFault::Beaver),
         ("31: 8/5 6/5\n31: 8/5 6/5  hello\n", 6, MatFault::NotALine),
         (

@@ -1,8 +1,9 @@
-use Rattle.std.proofs.Common.{refl, inr}
+use Rattle.std.proofs.Common.{refl, inl, inr}
 use Rattle.bg_mat.specs.Files.{items_of}
 use Rattle.bg_mat.proofs.OfReading.LegLemmas.{if_ok}
 use Rattle.bg_mat.specs.Files.{after_row}
 use Rattle.bg_mat.proofs.OfReading.Refusing.{if_err, refuses}
+use Rattle.bg_mat.proofs.OfReading.RowLemmas.{row_shape}
 use Rattle.bg_mat.proofs.importing.add_row_line.Goals as goal
 
 pub returns-in-Ok-clause-done : goal.returns-in-Ok-clause-done
@@ -21,3 +22,7 @@ returns-in-Ok-clause-fault c =
       h,
     ))))
     c.add_row.ensures.fault
+
+pub returns-in-Err-clause-fault : goal.returns-in-Err-clause-fault
+returns-in-Err-clause-fault c =
+    rw c.refused.ensures (inl (refl, row_shape c.args.line.now c.in-Err.why c.requires.row c.in-Err.ensures.fault))

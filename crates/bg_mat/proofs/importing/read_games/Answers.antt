@@ -21,7 +21,8 @@ loop-line-preserved c = record {
     | then-not-is_filler+in_ok-awaited w ↦ rw (w.replay-is, w.awaited-is)
         (line_read c.args.start c.args.first c.args.input.now c.loop-line.replay _ c.loop-line.awaited _ c.loop-line.number
         c.loop-line.rest.now c.in-Some.line.now c.in-Some.after.now w.in_ok-awaited.ensures.done.0 c.loop-line.invariant.read
-        c.in-Some.ensures.lines w.in_ok-awaited.ensures.done.1 w.in_ok-awaited.ensures.done.2)
+        c.in-Some.ensures.lines (λ f. let t = c.is_filler.ensures.1 f in absurd (cc (t, w.if-not-is_filler.true)))
+        w.in_ok-awaited.ensures.done.1 w.in_ok-awaited.ensures.done.2)
     | else-not-is_filler w ↦ rw (w.replay-is, w.awaited-is)
         (filler_read c.args.start c.args.first c.args.input.now c.loop-line.replay c.loop-line.awaited c.loop-line.number
         c.loop-line.rest.now c.in-Some.line.now c.in-Some.after.now c.loop-line.invariant.read c.in-Some.ensures.lines

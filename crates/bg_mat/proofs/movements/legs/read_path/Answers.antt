@@ -8,7 +8,7 @@ use Rattle.bg_mat.proofs.movements.legs.read_path.Goals as goal
 pub returns-in_default-clause-fault : goal.returns-in_default-clause-fault
 returns-in_default-clause-fault c =
     let s = c.split_slash.ensures in
-    start_refused c.args.text.now c.split_slash.result.0.now c.split_slash.result.1.now _ s.1 s.0 s.2
+    start_refused c.args.text.now c.split_slash.result.0.now c.split_slash.result.1.now s.1 s.0 s.2
     (rw c.in_default.is at c.read_point.ensures)
 
 pub returns-in_err-add_legs-clause-fault : goal.returns-in_err-add_legs-clause-fault
@@ -26,4 +26,4 @@ returns-then-is_empty-clause-fault c =
     let s = c.split_slash.ensures in
     let empty : TellsLegs c.in-Some.from c.split_slash.result.1.now [] =
     none_added c.in-Some.from c.split_slash.result.1.now c.add_legs.new.legs.items (rw c.new-legs.ensures at c.in_ok-add_legs.ensures.added) c.if-is_empty.ensures in
-    no_legs_refused c.args.text.now c.split_slash.result.0.now c.split_slash.result.1.now c.in-Some.from _ s.1 s.0 s.2 c.in-Some.ensures empty
+    no_legs_refused c.args.text.now c.split_slash.result.0.now c.split_slash.result.1.now c.in-Some.from s.1 s.0 s.2 c.in-Some.ensures empty
