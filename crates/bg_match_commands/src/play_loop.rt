@@ -2,7 +2,7 @@
 
 use bg_auto::LoopFault;
 use bg_command_parts::Operator;
-use bg_console::{Progress, check_folder, failed, failed_barely, lock_of, unwritten};
+use bg_console::{Progress, check_folder, failed, failed_barely, lock_of, tell_if_open, unwritten};
 use bg_options::LoopOptions;
 use bg_processes::{Failures, play_loop};
 use bg_reports::Ending;
@@ -28,6 +28,7 @@ where
     } = options;
     check_folder(rt, folder, " is no folder")?;
     let _lock = lock_of(rt, folder)?;
+    tell_if_open(rt, folder);
     let mut output = Writing::new(io::writer(rt));
     let failures = Failures::new();
     let mut operator = Operator::new(rt, &failures, folder, progress, rounds);
