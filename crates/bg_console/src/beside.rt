@@ -4,13 +4,15 @@ use crate::messages::no_memory;
 use bg_reports::Ending;
 use bg_system::MatchFile;
 use std::fs::File;
+use std::os::unix::fs::MetadataExt;
+use std::path::Path;
 use std::rt::Files;
 use std::{fs, io};
 
 /// A match in a folder beside another one.
 #[derive(Debug, Drop)]
 pub struct MatchBeside {
-    /// The name of its match file.
+    /// The name of its match file, as short as it can be told.
     pub path: String,
     /// Its port.
     pub port: u16,
@@ -33,17 +35,51 @@ fn found_beside<R>(rt: &R, folder: &str) -> io::Result<Vec<MatchBeside>>
 where
     R: Files<File = File> + AllocGlobal,
 {
-    let above = format!(in rt.alloc(); "{folder}/..")?;
+    let above = folder_above(rt, folder)?;
+    let listed = if above.as_str().is_empty() {
+        "."
+    } else {
+        above.as_str()
+    };
     let mut matches = Vec::new(rt.alloc());
-    for found in fs::read_dir(&rt, above.as_str())? {
+    for found in fs::read_dir(&rt, listed)? {
         let Ok(found) = found else {
             continue;
         };
-        let path = format!(in rt.alloc(); "{above}/{}/match", found.file_name())?;
+        let name = format!(in rt.alloc(); "{}/match", found.file_name())?;
+        let path = Path::new(above.as_str()).join(rt.alloc(), name.as_str())?;
         if let Ok(Some(file)) = MatchFile::read(rt, path.as_str()) {
-            let port = file.port;
-            matches.push(MatchBeside { path, port })?;
+            matches.push(MatchBeside {
+                path: path.into_string(),
+                port: file.port,
+            })?;
         }
     }
     Ok(matches)
+}
+
+/// Returns the folder that a folder lies in, or will where there is none yet, and an empty name for that in which the
+/// process runs: as its name says it where that is so, and else, as for `.` and a link, as the system finds it.
+fn folder_above<R>(rt: &R, folder: &str) -> io::Result<String>
+where
+    R: Files<File = File> + AllocGlobal,
+{
+    if let Some(named) = Path::new(folder).parent() {
+        let above = format!(in rt.alloc(); "{folder}/..")?;
+        if fs::metadata(rt, folder).is_err() || is_one_folder(rt, named.as_str(), above.as_str()) {
+            return Ok(String::from_str(rt.alloc(), named.as_str())?);
+        }
+    }
+    let found = fs::canonicalize(rt, folder)?;
+    let above = found.parent().unwrap_or(found.as_path());
+    Ok(String::from_str(rt.alloc(), above.as_str())?)
+}
+
+/// Whether two paths lead to one folder. An empty one leads to that in which the process runs.
+fn is_one_folder(rt: &impl Files<File = File>, one: &str, other: &str) -> bool {
+    let one = if one.is_empty() { "." } else { one };
+    match (fs::metadata(rt, one), fs::metadata(rt, other)) {
+        (Ok(one), Ok(other)) => (one.dev(), one.ino()) == (other.dev(), other.ino()),
+        _ => false,
+    }
 }

@@ -7,6 +7,7 @@ use bg_match::Terms;
 use bg_options::NewOptions;
 use bg_reports::Ending;
 use bg_system::MatchFile;
+use std::fs;
 use std::fs::File;
 use std::random::RandomSource;
 use std::rt::Files;
@@ -27,11 +28,15 @@ where
     Ok(Ending::Served)
 }
 
-/// Makes the secrets first, and the match file last, so that where there is one the match is whole.
+/// Makes the secrets first, and the match file last, so that where there is one the match is whole. The port is looked
+/// at before the folder is made too, so that nothing is left of a match whose port is refused.
 fn make_match<R>(rt: &R, terms: Terms, port: u16, folder: &str) -> Result<MatchFile, Ending>
 where
     R: Files<File = File> + RandomSource + Eprint + AllocGlobal,
 {
+    if fs::metadata(rt, folder).is_err() {
+        check_ports(rt, folder, port)?;
+    }
     let _lock = begin_folder(rt, folder)?;
     check_ports(rt, folder, port)?;
     let id = random_number(rt)?;
