@@ -4,7 +4,7 @@ ghost use Rattle.std.specs.Prelude.{◌≡◌, ◌↔◌, Some};
 use crate::files::key_digits::{digits_of, key_in};
 use crate::files::match_files::{MatchFile, front_of_file};
 use crate::files::numbers::split_number;
-use crate::files::whole_files::write_whole;
+use crate::files::whole_files::write_shown;
 use bg_seals::{Key, MasterSecret};
 use bg_wire::{FIRST_WATCHER, SEAT_OF_O, SEAT_OF_X};
 use std::fmt::{Display, Formatter, Write};
@@ -81,11 +81,7 @@ impl KeyFile {
         rt: &(impl Files<File = File> + AllocGlobal),
         path: &str,
     ) -> io::Result<Option<KeyFile>> {
-        let bytes = front_of_file(rt, path)?;
-        match str::from_utf8(&bytes) {
-            Ok(text) => Ok(KeyFile::parse(text)),
-            Err(_) => Ok(None),
-        }
+        Ok(KeyFile::parse(front_of_file(rt, path)?.as_str()))
     }
 
     /// Writes it into a folder, by its name, as a file that only its owner reads.
@@ -97,7 +93,6 @@ impl KeyFile {
         rt: &(impl Files<File = File> + AllocGlobal),
         folder: &str,
     ) -> io::Result<()> {
-        let text = format!(in rt.alloc(); "{self}")?;
-        write_whole(rt, folder, name_of_key_file(self.party), text.as_bytes())
+        write_shown(rt, folder, name_of_key_file(self.party), self)
     }
 }

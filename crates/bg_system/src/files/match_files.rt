@@ -5,7 +5,7 @@ ghost use Rattle.bg_system.specs.Numbers.{rules_number};
 
 use crate::files::numbers::split_number;
 use crate::files::plain_files::open_plain;
-use crate::files::whole_files::write_whole;
+use crate::files::whole_files::write_shown;
 use bg_match::{LONGEST_MATCH, Rules, SHORTEST_MATCH, Terms};
 use std::fmt::{Display, Formatter, Write};
 use std::fs::File;
@@ -66,16 +66,17 @@ fn rules_of(number: u64) -> Rules
     if number == 1 { Rules::One } else { Rules::Two }
 }
 
-/// Returns the first bytes of a file, as far as a match file or a key file goes.
+/// Returns the first text of a file, as far as a match file or a key file goes; an empty one, which is neither's, where
+/// it is no text.
 pub(crate) fn front_of_file(
     rt: &(impl Files<File = File> + AllocGlobal),
     path: &str,
-) -> io::Result<Vec<u8>> {
+) -> io::Result<String> {
     let mut bytes = Vec::new(rt.alloc());
     open_plain(rt, path)?
         .take(MOST_BYTES)
         .read_to_end(&mut bytes)?;
-    Ok(bytes)
+    Ok(String::from_utf8(bytes).unwrap_or_else(|_| String::new(rt.alloc())))
 }
 
 impl MatchFile {
@@ -123,11 +124,7 @@ impl MatchFile {
         rt: &(impl Files<File = File> + AllocGlobal),
         path: &str,
     ) -> io::Result<Option<MatchFile>> {
-        let bytes = front_of_file(rt, path)?;
-        match str::from_utf8(&bytes) {
-            Ok(text) => Ok(MatchFile::parse(text)),
-            Err(_) => Ok(None),
-        }
+        Ok(MatchFile::parse(front_of_file(rt, path)?.as_str()))
     }
 
     /// Writes it into a folder, as the file `match` that only its owner reads.
@@ -139,7 +136,6 @@ impl MatchFile {
         rt: &(impl Files<File = File> + AllocGlobal),
         folder: &str,
     ) -> io::Result<()> {
-        let text = format!(in rt.alloc(); "{self}")?;
-        write_whole(rt, folder, "match", text.as_bytes())
+        write_shown(rt, folder, "match", self)
     }
 }

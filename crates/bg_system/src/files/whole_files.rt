@@ -1,6 +1,7 @@
 //! Files that are there whole, or not at all.
 
 use crate::files::slot_folders::sync_names;
+use std::fmt::Display;
 use std::fs::{File, OpenOptions};
 use std::io::{ErrorKind, Write};
 use std::os::unix::fs::OpenOptionsExt;
@@ -27,6 +28,20 @@ pub fn write_whole(
     let path = format!(in rt.alloc(); "{folder}/{name}")?;
     put(rt, path.as_str(), bytes, OWNER_ALONE, true)?;
     sync_names(rt, folder)
+}
+
+/// Makes such a file of what a value is shown as.
+///
+/// # Errors
+/// Those of [`write_whole`]; `OutOfMemory` where there is no memory for the text.
+pub(crate) fn write_shown<D: Display>(
+    rt: &(impl Files<File = File> + AllocGlobal),
+    folder: &str,
+    name: &str,
+    value: &D,
+) -> io::Result<()> {
+    let text = format!(in rt.alloc(); "{value}")?;
+    write_whole(rt, folder, name, text.as_bytes())
 }
 
 /// Puts bytes in the place of those that a published file has, which others may read at any moment: they see it as it
