@@ -75,7 +75,7 @@ const WORDS: [&[&str]; 22] = [
         "--go-on",
     ],
     &[
-        "recover", "--match", "m", "--x", "x", "--o", "o", "--dir", "d", "t", "-",
+        "recover", "--match", "m", "--keys", "k", "--x", "x", "--o", "o", "--dir", "d", "t", "-",
     ],
     &["keys", "--dir", "d"],
 ];

@@ -21,6 +21,7 @@
 
 mod beginnings;
 mod beside;
+mod folder_keys;
 mod messages;
 mod published;
 mod screens;
@@ -31,6 +32,7 @@ pub use beginnings::{
     waiting_for,
 };
 pub use beside::{MatchBeside, matches_beside};
+pub use folder_keys::{has_key_secret, key_files_in, key_files_of};
 pub use messages::progress::Progress;
 pub use messages::says::{say, say_failures, say_number, say_of, say_why};
 pub use messages::{

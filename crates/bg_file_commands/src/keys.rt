@@ -1,14 +1,17 @@
 //! The command that makes the key files of a match.
 
-use crate::new_folders::{make_keys, tell_key_files, write_key_files};
-use bg_console::{check_folder, lock_of, match_of, no_memory, tell_if_open};
+use crate::new_folders::{derived_keys, make_secret_of_keys, tell_key_files, write_key_files};
+use bg_console::{
+    check_folder, has_key_secret, key_files_of, lock_of, match_of, no_memory, tell_if_open,
+};
 use bg_reports::Ending;
-use std::fs;
+use bg_system::{KeyFiles, MatchFile};
 use std::fs::File;
 use std::random::RandomSource;
 use std::rt::Files;
 
-/// Makes the key files of the match in this folder: anew by the secret there, or with a new one where there is none.
+/// Makes the key files of the match in this folder: anew by the secret there, or with a new one where there is neither
+/// a secret nor a key file.
 pub fn run<R>(rt: &R, folder: &str) -> Result<Ending, Ending>
 where
     R: Files<File = File> + RandomSource + Print + Eprint + AllocGlobal,
@@ -16,17 +19,26 @@ where
     check_folder(rt, folder, " is no folder")?;
     let _lock = lock_of(rt, folder)?;
     tell_if_open(rt, folder);
-    let (Ok(path), Ok(secret)) = (
-        format!(in rt.alloc(); "{folder}/match"),
-        format!(in rt.alloc(); "{folder}/key-secret"),
-    ) else {
+    let Ok(path) = format!(in rt.alloc(); "{folder}/match") else {
         return Err(no_memory(rt));
     };
     let file = match_of(rt, path.as_str())?;
-    if fs::symlink_metadata(rt, secret.as_str()).is_err() {
-        make_keys(rt, folder)?;
-    }
-    write_key_files(rt, folder, file)?;
+    let keys = keys_for(rt, folder, file)?;
+    write_key_files(rt, folder, &keys)?;
     tell_key_files(rt, folder)?;
     Ok(Ending::Served)
+}
+
+/// Returns the keys that the folder has, of its secret or of its key files; new ones where it has none.
+fn keys_for<R>(rt: &R, folder: &str, file: MatchFile) -> Result<KeyFiles, Ending>
+where
+    R: Files<File = File> + RandomSource + Eprint + AllocGlobal,
+{
+    if !has_key_secret(rt, folder)? {
+        if let Some(kept) = key_files_of(rt, folder, &file)? {
+            return Ok(kept);
+        }
+        make_secret_of_keys(rt, folder)?;
+    }
+    derived_keys(rt, folder, file)
 }

@@ -16,6 +16,7 @@
 pub mod check;
 mod checkers;
 pub mod export;
+mod held_records;
 pub mod import;
 mod inputs;
 pub mod judge;

@@ -1,9 +1,9 @@
 //! The folder of a referee that is made.
 
-use bg_console::{failed, failed_at, no_memory, own_folder, written, wrong};
+use bg_console::{failed, failed_at, has_key_secret, no_memory, own_folder, written, wrong};
 use bg_reports::Ending;
 use bg_system::{
-    FolderLock, KeyFile, MatchFile, Printable, make_key_secret, make_secret, name_of_key_file,
+    FolderLock, KeyFiles, MatchFile, Printable, make_key_secret, make_secret, name_of_key_file,
     read_key_secret,
 };
 use bg_wire::{FIRST_WATCHER, SEAT_OF_O, SEAT_OF_X};
@@ -27,19 +27,19 @@ where
     Ok(lock)
 }
 
-/// Puts new secrets in the folder: that of the dice, and that of the keys.
-pub(crate) fn make_secrets<R>(rt: &R, folder: &str) -> Result<(), Ending>
+/// Puts a new secret in the folder that the dice go by.
+pub(crate) fn make_secret_of_dice<R>(rt: &R, folder: &str) -> Result<(), Ending>
 where
     R: Files<File = File> + RandomSource + Eprint + AllocGlobal,
 {
     match make_secret(rt, folder) {
-        Ok(()) => make_keys(rt, folder),
+        Ok(()) => Ok(()),
         Err(error) => Err(failed_at(rt, folder, "/secret could not be written", &error)),
     }
 }
 
 /// Puts a new secret in the folder that keys are derived from.
-pub(crate) fn make_keys<R>(rt: &R, folder: &str) -> Result<(), Ending>
+pub(crate) fn make_secret_of_keys<R>(rt: &R, folder: &str) -> Result<(), Ending>
 where
     R: Files<File = File> + RandomSource + Eprint + AllocGlobal,
 {
@@ -49,31 +49,60 @@ where
     }
 }
 
-/// Puts the key files in the folder, and then the match file, the last of its files: where there is one, the match is
-/// whole.
-pub(crate) fn end_folder<R>(rt: &R, folder: &str, file: MatchFile) -> Result<(), Ending>
+/// Removes the secret that keys are derived from, where an attempt to make the folder has left one.
+pub(crate) fn remove_secret_of_keys<R>(rt: &R, folder: &str) -> Result<(), Ending>
 where
     R: Files<File = File> + Eprint + AllocGlobal,
 {
-    write_key_files(rt, folder, file)?;
+    if !has_key_secret(rt, folder)? {
+        return Ok(());
+    }
+    let Ok(path) = format!(in rt.alloc(); "{folder}/key-secret") else {
+        return Err(no_memory(rt));
+    };
+    match fs::remove_file(rt, path.as_str()) {
+        Ok(()) => Ok(()),
+        Err(error) => Err(failed_at(rt, path.as_str(), " could not be removed", &error)),
+    }
+}
+
+/// Returns the key files of the match whose keys are derived from the secret in the folder.
+pub(crate) fn derived_keys<R>(rt: &R, folder: &str, table: MatchFile) -> Result<KeyFiles, Ending>
+where
+    R: Files<File = File> + Eprint + AllocGlobal,
+{
+    match read_key_secret(rt, folder) {
+        Ok(secret) => Ok(KeyFiles::derive(table, &secret)),
+        Err(error) => Err(failed_at(rt, folder, "/key-secret could not be read", &error)),
+    }
+}
+
+/// Puts the key files in the folder, and then the match file, the last of its files: where there is one, the match is
+/// whole.
+pub(crate) fn end_folder<R>(
+    rt: &R,
+    folder: &str,
+    file: MatchFile,
+    keys: &KeyFiles,
+) -> Result<(), Ending>
+where
+    R: Files<File = File> + Eprint + AllocGlobal,
+{
+    write_key_files(rt, folder, keys)?;
     match file.write(rt, folder) {
         Ok(()) => Ok(()),
         Err(error) => Err(failed_at(rt, folder, "/match could not be written", &error)),
     }
 }
 
-/// Puts the key files of the match in the folder, by the secret there: those of the seats, and that of all who watch.
-pub(crate) fn write_key_files<R>(rt: &R, folder: &str, table: MatchFile) -> Result<(), Ending>
+/// Puts key files in the folder: those of the seats, and that of all who watch.
+pub(crate) fn write_key_files<R>(rt: &R, folder: &str, keys: &KeyFiles) -> Result<(), Ending>
 where
     R: Files<File = File> + Eprint + AllocGlobal,
 {
-    let secret = match read_key_secret(rt, folder) {
-        Ok(secret) => secret,
-        Err(error) => return Err(failed_at(rt, folder, "/key-secret could not be read", &error)),
-    };
-    for party in [SEAT_OF_X, SEAT_OF_O, FIRST_WATCHER] {
-        if let Err(error) = KeyFile::derive(table, &secret, party).write(rt, folder) {
-            let (shown, name) = (Printable(folder), name_of_key_file(party));
+    for file in [&keys.x, &keys.o, &keys.watchers] {
+        if let Err(error) = file.write(rt, folder) {
+            let (shown, name) = (Printable(folder), name_of_key_file(file.party));
             return Err(failed(
                 rt,
                 format_args!("{shown}/{name} could not be written: {error}"),
@@ -93,6 +122,14 @@ pub(crate) fn tell_key_files<R: Print + Eprint>(rt: &R, folder: &str) -> Result<
     );
     let told = println!(rt;
         "hand {folder}/{x} to X, {folder}/{o} to O, and {folder}/{watch} to who may watch"
+    );
+    written(rt, told)
+}
+
+/// Prints that no key file is to be handed out.
+pub(crate) fn tell_kept_keys<R: Print + Eprint>(rt: &R) -> Result<(), Ending> {
+    let told = println!(rt;
+        "the keys are kept: X, O and who watches go on with the key files that they have"
     );
     written(rt, told)
 }

@@ -1,6 +1,9 @@
 //! The command that makes a match between processes.
 
-use crate::new_folders::{begin_folder, end_folder, make_secrets, tell_key_files};
+use crate::new_folders::{
+    begin_folder, derived_keys, end_folder, make_secret_of_dice, make_secret_of_keys,
+    tell_key_files,
+};
 use crate::ports_beside::check_ports;
 use bg_console::{failed_for, written};
 use bg_match::Terms;
@@ -40,9 +43,11 @@ where
     let _lock = begin_folder(rt, folder)?;
     check_ports(rt, folder, port)?;
     let id = random_number(rt)?;
-    make_secrets(rt, folder)?;
+    make_secret_of_dice(rt, folder)?;
+    make_secret_of_keys(rt, folder)?;
     let file = MatchFile { id, terms, port };
-    end_folder(rt, folder, file)?;
+    let keys = derived_keys(rt, folder, file)?;
+    end_folder(rt, folder, file, &keys)?;
     Ok(file)
 }
 

@@ -1,23 +1,22 @@
 //! The command that makes a referee's folder anew, of what others hold.
 
-use crate::inputs::{read_input, record_in};
-use crate::new_folders::{begin_folder, end_folder, make_secrets, tell_key_files};
+use crate::held_records::{Held, saved_of, seat_of, transcript_of};
+use crate::new_folders::{
+    begin_folder, derived_keys, end_folder, make_secret_of_dice, make_secret_of_keys,
+    remove_secret_of_keys, tell_kept_keys, tell_key_files,
+};
 use bg_board::Player;
 use bg_console::{
-    check_folder, failed_at, lock_of, no_memory, say, table_of, unread, wrong, wrong_at,
+    check_folder, failed_at, key_files_in, lock_of, no_memory, say, table_of, wrong_at,
 };
 use bg_match::{Number, Record};
 use bg_options::RecoverOptions;
-use bg_reports::{Compared, Ending, compare};
-use bg_system::{Failures, FolderLock, MatchFile, PartyFiles, Printable, SlotName, read_saved};
-use bg_wire::{REFEREE, RestoreRefusal, Saved, Slot, next_save, party_of, restore};
+use bg_reports::Ending;
+use bg_system::{Failures, FolderLock, KeyFiles, MatchFile, PartyFiles, Printable};
+use bg_wire::{REFEREE, next_save};
 use std::fs::File;
-use std::io;
 use std::random::RandomSource;
 use std::rt::Files;
-
-/// The name of the standard input.
-const STANDARD_INPUT: &str = "-";
 
 /// Makes the folder that the options name.
 pub fn run<R>(rt: &R, options: RecoverOptions<'_, '_>) -> Result<Ending, Ending>
@@ -32,6 +31,10 @@ where
         ));
     }
     let file = table_of(rt, options.match_path)?;
+    let kept = match options.keys {
+        Some(folder) => Some(key_files_in(rt, folder, &file)?),
+        None => None,
+    };
     let seats = [(Player::X, options.x), (Player::O, options.o)];
     let mut locks: Vec<FolderLock> = Vec::new(rt.alloc());
     let mut longest = Held::nothing(rt, file, options.match_path)?;
@@ -54,184 +57,74 @@ where
         let saved = saved_of(transcript_of(rt, file, name)?);
         longest = longest.or(rt, Held { name, saved })?;
     }
-    make(rt, file, options.folder, &longest)
+    make(rt, file, options.folder, kept, &longest)
 }
 
-/// What one of the sources holds of the match, which is called so.
-#[derive(Drop)]
-struct Held<'a> {
-    name: &'a str,
-    saved: Saved,
-}
-
-impl<'a> Held<'a> {
-    /// Makes a source that holds no entry.
-    fn nothing<R>(rt: &R, file: MatchFile, name: &'a str) -> Result<Held<'a>, Ending>
-    where
-        R: Eprint + AllocGlobal,
-    {
-        match Record::new(rt.alloc(), file.id, file.terms.length, file.terms.rules) {
-            Ok(record) => Ok(Held {
-                name,
-                saved: saved_of(record),
-            }),
-            Err(_) => Err(wrong(rt, "length out of range")),
-        }
-    }
-
-    /// Returns the one of the two that holds more, this one where they hold as much. Ends with `WrongArguments` where
-    /// an entry of the one is another of the other, or they are of different matches.
-    fn or<R: Eprint>(self, rt: &R, other: Held<'a>) -> Result<Held<'a>, Ending> {
-        let (one, two) = (Printable(self.name), Printable(other.name));
-        match compare(&self.saved, &other.saved) {
-            Compared::Behind(0) => Ok(self),
-            Compared::Behind(_) => Ok(other),
-            Compared::Differs(number) => Err(wrong(
-                rt,
-                format_args!("{one} and {two} differ at entry {number}: nothing was made"),
-            )),
-            Compared::OtherMatch => Err(wrong(
-                rt,
-                format_args!("{two} is of another length or other rules: nothing was made"),
-            )),
-        }
-    }
-}
-
-/// A record as the referee saves it first.
-fn saved_of(log: Record) -> Saved {
-    Saved {
-        party: REFEREE,
-        save: 1,
-        claim: None,
-        log,
-    }
-}
-
-/// What the seat of this player has saved in its folder; none where it saved nothing, which is said.
-fn seat_of<R>(
+/// Makes the folder: a new secret of the dice, the first save with this record, the keys that are kept or new ones, and
+/// then the match file, so that where there is one the match is whole.
+fn make<R>(
     rt: &R,
     file: MatchFile,
     folder: &str,
-    player: Player,
-) -> Result<Option<Saved>, Ending>
-where
-    R: Files<File = File> + Eprint + AllocGlobal,
-{
-    let party = party_of(player);
-    let zero = slot_of(rt, folder, party, Slot::Zero)?;
-    let one = slot_of(rt, folder, party, Slot::One)?;
-    let (length, rules) = (file.terms.length, file.terms.rules);
-    let shown = Printable(folder);
-    match restore(rt.alloc(), &zero, &one, party, file.id, length, rules) {
-        Ok(Some(saved)) => Ok(Some(saved)),
-        Ok(None) => {
-            check_seat(rt, folder, player)?;
-            say(
-                rt,
-                format_args!("{shown} has no save of party {party}: it counts as holding nothing"),
-            );
-            Ok(None)
-        }
-        Err(RestoreRefusal::Damaged) => Err(wrong(
-            rt,
-            format_args!(
-                "the files of party {party} in {shown} are damaged (`show` says how): nothing was made"
-            ),
-        )),
-        Err(RestoreRefusal::WrongMatch) => Err(wrong(
-            rt,
-            format_args!(
-                "the files of party {party} in {shown} are of another match: nothing was made"
-            ),
-        )),
-        Err(RestoreRefusal::Memory) => Err(no_memory(rt)),
-    }
-}
-
-/// Refuses, as the folder of this player's seat, one that has saves of the other's.
-fn check_seat<R>(rt: &R, folder: &str, player: Player) -> Result<(), Ending>
-where
-    R: Files<File = File> + Eprint + AllocGlobal,
-{
-    let (own, other) = (party_of(player), party_of(player.opponent()));
-    for slot in [Slot::Zero, Slot::One] {
-        if !slot_of(rt, folder, other, slot)?.is_empty() {
-            let shown = Printable(folder);
-            return Err(wrong(
-                rt,
-                format_args!(
-                    "{shown} has saves of party {other}, and none of party {own}: nothing was made"
-                ),
-            ));
-        }
-    }
-    Ok(())
-}
-
-/// The bytes of a file of a party in a folder.
-fn slot_of<R>(rt: &R, folder: &str, party: u8, slot: Slot) -> Result<Vec<u8>, Ending>
-where
-    R: Files<File = File> + Eprint + AllocGlobal,
-{
-    let name = SlotName { party, slot };
-    let Ok(path) = format!(in rt.alloc(); "{folder}/{name}") else {
-        return Err(no_memory(rt));
-    };
-    match read_saved(rt, path.as_str()) {
-        Ok(bytes) => Ok(bytes),
-        Err(error) => Err(failed_at(rt, path.as_str(), " could not be read", &error)),
-    }
-}
-
-/// The record of the transcript of this name, as one of the match.
-fn transcript_of<R>(rt: &R, file: MatchFile, name: &str) -> Result<Record, Ending>
-where
-    R: Input + Files<File = File> + Eprint + AllocGlobal,
-{
-    if name.is_empty() {
-        return Err(wrong(rt, "the name of a file is empty"));
-    }
-    if name == STANDARD_INPUT {
-        return match read_input(rt.alloc(), rt.reader()) {
-            Ok(bytes) => record_in(rt, name, file.id, &bytes),
-            Err(error) => Err(unread(rt, &error)),
-        };
-    }
-    match file_bytes(rt, name) {
-        Ok(bytes) => record_in(rt, name, file.id, &bytes),
-        Err(error) => Err(failed_at(rt, name, " could not be read", &error)),
-    }
-}
-
-/// The bytes of a file, as far as one is judged.
-fn file_bytes(rt: &(impl Files<File = File> + AllocGlobal), name: &str) -> io::Result<Vec<u8>> {
-    read_input(rt.alloc(), File::open(rt, name)?)
-}
-
-/// Makes the folder: a new secret, the first save with this record, new keys, and then the match file, so that where
-/// there is one the match is whole.
-fn make<R>(rt: &R, file: MatchFile, folder: &str, longest: &Held<'_>) -> Result<Ending, Ending>
+    kept: Option<KeyFiles>,
+    longest: &Held<'_>,
+) -> Result<Ending, Ending>
 where
     R: Files<File = File> + RandomSource + Print + Eprint + AllocGlobal,
 {
     let _lock = begin_folder(rt, folder)?;
-    make_secrets(rt, folder)?;
-    let Held { name, saved } = longest;
-    let Ok((slot, _, text)) = next_save(rt.alloc(), 0, REFEREE, &None, &saved.log) else {
+    make_secret_of_dice(rt, folder)?;
+    let are_kept = kept.is_some();
+    let keys = keys_for(rt, folder, file, kept)?;
+    save_first(rt, folder, &longest.saved.log)?;
+    end_folder(rt, folder, file, &keys)?;
+    tell_made(rt, folder, longest.name, longest.saved.log.len());
+    if are_kept {
+        tell_kept_keys(rt)?;
+    } else {
+        tell_key_files(rt, folder)?;
+    }
+    Ok(Ending::Served)
+}
+
+/// Returns the keys that are kept, and leaves no secret of others in the folder; or new ones, with their secret.
+fn keys_for<R>(
+    rt: &R,
+    folder: &str,
+    file: MatchFile,
+    kept: Option<KeyFiles>,
+) -> Result<KeyFiles, Ending>
+where
+    R: Files<File = File> + RandomSource + Eprint + AllocGlobal,
+{
+    match kept {
+        Some(kept) => {
+            remove_secret_of_keys(rt, folder)?;
+            Ok(kept)
+        }
+        None => {
+            make_secret_of_keys(rt, folder)?;
+            derived_keys(rt, folder, file)
+        }
+    }
+}
+
+/// Puts the first save of the referee in the folder, with this record.
+fn save_first<R>(rt: &R, folder: &str, log: &Record) -> Result<(), Ending>
+where
+    R: Files<File = File> + Eprint + AllocGlobal,
+{
+    let Ok((slot, _, text)) = next_save(rt.alloc(), 0, REFEREE, &None, log) else {
         return Err(no_memory(rt));
     };
     let failures = Failures::new();
     let Ok(mut files) = PartyFiles::new(rt, folder, REFEREE, &failures) else {
         return Err(no_memory(rt));
     };
-    if let Err(error) = files.write(slot, &text) {
-        return Err(failed_at(rt, folder, "/party-0.1 could not be written", &error));
+    match files.write(slot, &text) {
+        Ok(()) => Ok(()),
+        Err(error) => Err(failed_at(rt, folder, "/party-0.1 could not be written", &error)),
     }
-    end_folder(rt, folder, file)?;
-    tell_made(rt, folder, name, saved.log.len());
-    tell_key_files(rt, folder)?;
-    Ok(Ending::Served)
 }
 
 /// Says with what a new folder begins.

@@ -2,8 +2,8 @@
 
 use bg_command_parts::{Witness, socket_of, stopped};
 use bg_console::{
-    Progress, check_folder, failed_at, lock_of, match_of, no_memory, say_failures, tell_if_open,
-    waited, waiting_for, wrong,
+    Progress, check_folder, failed_at, has_key_secret, key_files_of, lock_of, match_of, no_memory,
+    say_failures, tell_if_open, waited, waiting_for, wrong,
 };
 use bg_match::Number;
 use bg_processes::{
@@ -14,7 +14,6 @@ use bg_reports::Ending;
 use bg_wire::REFEREE;
 use bg_world::Outcome;
 use std::fs::File;
-use std::io::ErrorKind;
 use std::net::Net;
 use std::rt::Files;
 use std::time::Clock;
@@ -69,20 +68,24 @@ where
     Ok((process, waiting, ticking))
 }
 
-/// The keys of all parties. Where the folder has no secret for them, it is said how it gets one.
+/// The keys of all parties: derived from the folder's secret, or those of its key files. Where it has neither, it is
+/// said how it gets some.
 fn keys_of<R>(rt: &R, folder: &str, file: &MatchFile) -> Result<Keyring, Ending>
 where
     R: Files<File = File> + Eprint + AllocGlobal,
 {
+    if !has_key_secret(rt, folder)? {
+        if let Some(files) = key_files_of(rt, folder, file)? {
+            return Ok(Keyring::of_key_files(files));
+        }
+        let shown = Printable(folder);
+        return Err(wrong(
+            rt,
+            format_args!("{shown} has no keys: `bg_relay keys --dir {shown}` makes them"),
+        ));
+    }
     match read_key_secret(rt, folder) {
         Ok(secret) => Ok(Keyring::of_referee(&secret, file.id)),
-        Err(error) if error.kind() == ErrorKind::NotFound => {
-            let shown = Printable(folder);
-            Err(wrong(
-                rt,
-                format_args!("{shown} has no keys: `bg_relay keys --dir {shown}` makes them"),
-            ))
-        }
         Err(error) => Err(failed_at(rt, folder, "/key-secret could not be read", &error)),
     }
 }

@@ -4,9 +4,10 @@ use Rattle.std.specs.Fmt.{decimal}
 use Rattle.std.specs.Int.{IsInRange}
 use Rattle.hex.specs.Hex.{IsBytes, encode_lower}
 use Rattle.bg_seals.specs.Keys.{key_bytes, party_key}
-use Rattle.bg_wire.specs.Entries.Codes.{first_watcher, seat_of_x}
+use Rattle.bg_wire.specs.Entries.Codes.{first_watcher, seat_of_o, seat_of_x}
 use Rattle.bg_system.specs.MatchFiles.{IsMatchFile, match_text}
 use Rattle.bg_system.specs.declared.files.key_files.KeyFile.{KeyFile}
+use Rattle.bg_system.specs.declared.files.key_files.KeyFiles.{KeyFiles}
 use Rattle.bg_system.specs.declared.files.match_files.MatchFile.{MatchFile}
 
 -- what a party can be handed: the match, the seat's number or that of the first watcher for all of them, and a key
@@ -27,3 +28,11 @@ key_file_text file =
 -- the file of a party whose key is derived from a secret
 abbrev pub key_file_of : MatchFile → List ℕ → ℕ → KeyFile
 key_file_of table secret party = record { table = table; party = party; key = party_key secret table.id party }
+
+-- those of all parties of a match
+abbrev pub key_files_of : MatchFile → List ℕ → KeyFiles
+key_files_of table secret = record {
+  x = key_file_of table secret seat_of_x;
+  o = key_file_of table secret seat_of_o;
+  watchers = key_file_of table secret first_watcher;
+}

@@ -5,6 +5,7 @@ use Rattle.bg_seals.specs.Keys.{party_key}
 use Rattle.bg_seals.specs.declared.directions.Direction.{Direction}
 use Rattle.bg_seals.specs.declared.directions.Direction.TheVariants.{ToReferee, FromReferee}
 use Rattle.bg_wire.specs.Entries.Codes.{referee, seat_of_x, seat_of_o, first_watcher}
+use Rattle.bg_system.specs.declared.files.key_files.KeyFiles.{KeyFiles}
 use Rattle.bg_system.specs.declared.sockets.keyrings.Keyring.{Keyring}
 use Rattle.bg_system.specs.declared.sockets.keyrings.Keyring.TheVariants.{OfReferee, OfParty}
 
@@ -12,6 +13,10 @@ use Rattle.bg_system.specs.declared.sockets.keyrings.Keyring.TheVariants.{OfRefe
 abbrev pub keys_of_referee : List ℕ → ℕ → Keyring
 keys_of_referee secret id =
     OfReferee (party_key secret id seat_of_x) (party_key secret id seat_of_o) (party_key secret id first_watcher)
+
+-- the same where the referee has key files: the key of each party is that of its file
+abbrev pub keys_in_files : KeyFiles → Keyring
+keys_in_files files = OfReferee files.x.key files.o.key files.watchers.key
 
 -- the key of what goes between the referee and a party
 abbrev pub key_for : Keyring → ℕ → List ℕ

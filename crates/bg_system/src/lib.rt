@@ -32,7 +32,7 @@ pub use failures::device_failures::{DeviceFailure, FailedCall, FailureText};
 pub use failures::first_failures::FirstFailures;
 pub use failures::{DrainedFailures, Failures};
 pub use files::folder_locks::FolderLock;
-pub use files::key_files::{KeyFile, name_of_key_file};
+pub use files::key_files::{KeyFile, KeyFiles, name_of_key_file};
 pub use files::match_files::{HIGHEST_PORT, LOWEST_PORT, MatchFile};
 pub use files::party_files::PartyFiles;
 pub use files::read_saved;

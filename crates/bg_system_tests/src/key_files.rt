@@ -3,7 +3,9 @@ use crate::helpers::new_folder;
 use crate::seals::keys::SECRET;
 use bg_match::{Rules, Terms};
 use bg_seals::{Key, MasterSecret};
-use bg_system::{KeyFile, MatchFile, make_key_secret, name_of_key_file, read_key_secret};
+use bg_system::{
+    KeyFile, KeyFiles, Keyring, MatchFile, make_key_secret, name_of_key_file, read_key_secret,
+};
 use std::fs;
 use std::io::ErrorKind;
 use std::os::unix::fs::PermissionsExt;
@@ -123,6 +125,31 @@ fn key_files_are_written_and_read(rt: HostRuntime) -> Result<(), Fail> {
     }
     fs::remove_dir_all(&rt, folder)?;
     Ok(())
+}
+
+/// What a party seals for a referee, by the key of this secret, and whether that referee opens it.
+fn is_opened(keys: &Keyring, secret: &MasterSecret, party: u8) -> bool {
+    let own = Keyring::OfParty(secret.key_of(1, party));
+    match own.seal(party, 0, b"packet") {
+        Some(datagram) => keys.open(party, 0, datagram.as_slice()).is_some(),
+        None => false,
+    }
+}
+
+/// A referee that has key files opens what each party seals by its own, as one that has their secret.
+#[test]
+fn a_referee_with_key_files(rt: HostRuntime) {
+    let (secret, other) = (MasterSecret::new(&SECRET), MasterSecret::new(&[9; 32]));
+    let mut files = KeyFiles::derive(TABLE, &secret);
+    files.o = KeyFile::derive(TABLE, &other, 2);
+    let keys = Keyring::of_key_files(files);
+    for (party, is_good) in [(1, true), (2, false), (3, true)] {
+        assert!(rt;
+            is_opened(&keys, &secret, party) == is_good,
+            "party {party}"
+        );
+        assert!(rt; is_opened(&keys, &other, party) != is_good, "party {party}");
+    }
 }
 
 #[test]

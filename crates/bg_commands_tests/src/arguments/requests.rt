@@ -48,6 +48,7 @@ pub(crate) fn is_of_files(row: usize, request: &Request<'_, '_>) -> bool {
             Request::Recover(
                 RecoverOptions {
                     match_path,
+                    keys,
                     folder,
                     x,
                     o,
@@ -56,6 +57,7 @@ pub(crate) fn is_of_files(row: usize, request: &Request<'_, '_>) -> bool {
             ),
         ) => {
             (*match_path, *folder, *x, *o) == ("m", "d", "x", "o")
+                && *keys == Some("k")
                 && *transcripts == ["t", "-"].as_slice()
         }
         (21, Request::Keys { folder }) => *folder == "d",

@@ -9,10 +9,12 @@ use std::alloc::Global;
 const ABOUT_KEYS: &str = "Make the key files of a match.\n\
              \n\
              Writes `match-x`, `match-o` and `match-watch` into DIR, the folder of the referee, as `new` does:\n\
-             the same ones again where they were lost, as the keys are derived from `key-secret`. A folder that\n\
-             an older program made has no `key-secret`: there it draws one, and the match goes on with keys. End\n\
+             the same ones again where they were lost, as the keys are derived from `key-secret`. Where `recover`\n\
+             has kept the keys, DIR has no `key-secret`, and the key files there are the keys. A folder that an\n\
+             older program made has neither: there it draws a `key-secret`, and the match goes on with keys. End\n\
              all processes of such a match first. Ends with status 0; with 2 where DIR is no folder, or has no\n\
-             match; with 1 where another process plays over DIR, or reading, writing or memory failed.";
+             match, or some key files and no `key-secret`; with 1 where another process plays over DIR, or\n\
+             reading, writing or memory failed.";
 
 /// Its options and help.
 pub(crate) fn command<'a>(alloc: Global) -> Result<Command<'a>, Error> {

@@ -9,25 +9,31 @@ use std::alloc::Global;
 const ABOUT_RECOVER: &str =
     "Make a referee's folder anew, where it was lost, from what the seats and others hold.
 
-    $ bg_relay recover --match match-x --x x --o o --dir new-table board/transcript
+    $ bg_relay recover --match keys/match-x --keys keys --x x --o o --dir new-table board/transcript
     bg_relay: new-table begins with the 57 entries of board/transcript
+    the keys are kept: X, O and who watches go on with the key files that they have
     $ bg_relay referee --dir new-table
 
 End all processes of the match first. Every party holds the front of what the referee had, so the
 longest record is taken, of both seats' folders and of the transcripts that are named: what watchers
 keep, or what `auto` and `watch` have printed. Name each that there is: where one that is left out
-holds more, the parties can't go on together. The dice go by a new secret from there on, and all keys
-are new: hand the new key files out, as `new` says.
+holds more, the parties can't go on together. The dice go by a new secret from there on.
 
-Where two of them differ, nothing is made. Ends with status 0; with 2 where a file or a folder is
-none, two records differ, or DIR has a match already; with 1 where a process plays over a folder, or
-reading, writing or memory failed.";
+The folder that --keys names has copies of `match-x`, `match-o` and `match-watch`, which players and
+watchers have: these keys are kept. Without it all keys are new: hand the new key files out, as `new`
+says.
+
+Where two records differ, or a key file is of another match or another party, nothing is made. Ends
+with status 0; with 2 where a file or a folder is none, something does not belong together, or DIR has
+a match already; with 1 where a process plays over a folder, or reading, writing or memory failed.";
 
 /// Of what the folder is made, and where.
 #[derive(Clone, Copy)]
 pub struct RecoverOptions<'m, 'a> {
     /// The name of the match file.
     pub match_path: &'a str,
+    /// The folder of the key files that are kept.
+    pub keys: Option<&'a str>,
     /// The folder that is to be made.
     pub folder: &'a str,
     /// The folder of the seat of X.
@@ -42,6 +48,7 @@ impl<'m, 'a> RecoverOptions<'m, 'a> {
     pub(crate) fn read(options: &'m ArgMatches<'a>) -> Option<RecoverOptions<'m, 'a>> {
         Some(RecoverOptions {
             match_path: options.get_str("match")?,
+            keys: options.get_str("keys"),
             folder: options.get_str("dir")?,
             x: options.get_str("x")?,
             o: options.get_str("o")?,
@@ -55,6 +62,13 @@ const MATCH: Argument = Argument {
     kind: Kind::Text("FILE"),
     need: Need::Required,
     about: "Any key file of the match, or its match file",
+};
+
+const KEYS: Argument = Argument {
+    name: "keys",
+    kind: Kind::Text("DIR"),
+    need: Need::Optional,
+    about: "A folder with the key files whose keys are kept; without it all keys are new",
 };
 
 const X: Argument = Argument {
@@ -79,7 +93,7 @@ pub(crate) fn command<'a>(alloc: Global) -> Result<Command<'a>, Error> {
     let about = "Make a referee's folder from what others hold";
     let command = described(alloc, "recover", about, ABOUT_RECOVER);
     with(
-        with_all(alloc, command, &[MATCH, X, O, FOLDER])?,
+        with_all(alloc, command, &[MATCH, KEYS, X, O, FOLDER])?,
         transcripts,
     )
 }

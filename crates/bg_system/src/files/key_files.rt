@@ -96,3 +96,26 @@ impl KeyFile {
         write_shown(rt, folder, name_of_key_file(self.party), self)
     }
 }
+
+/// The key files of a match: that of each player, and that of all who watch.
+#[derive(Debug, Drop)]
+pub struct KeyFiles {
+    pub x: KeyFile,
+    pub o: KeyFile,
+    pub watchers: KeyFile,
+}
+
+impl KeyFiles {
+    ghost use Rattle.bg_system.specs.KeyFiles.{key_files_of};
+
+    /// Returns those of a match whose keys are derived from this secret.
+    pub fn derive(table: MatchFile, secret: &MasterSecret) -> KeyFiles
+        ensures { result ≡ key_files_of table secret.now }
+    {
+        KeyFiles {
+            x: KeyFile::derive(table, secret, SEAT_OF_X),
+            o: KeyFile::derive(table, secret, SEAT_OF_O),
+            watchers: KeyFile::derive(table, secret, FIRST_WATCHER),
+        }
+    }
+}

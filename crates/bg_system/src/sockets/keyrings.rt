@@ -3,6 +3,7 @@ ghost use Rattle.std.specs.Prelude.{◌≡◌, ◌≤◌, length, MatchOption};
 ghost use Rattle.bg_seals.specs.Datagrams.{most_packet_bytes};
 ghost use Rattle.bg_system.specs.Keyrings.{way};
 
+use crate::files::key_files::KeyFiles;
 use bg_seals::{Direction, Key, MasterSecret, SealedDatagram};
 use bg_wire::{FIRST_WATCHER, REFEREE, SEAT_OF_O, SEAT_OF_X};
 
@@ -29,7 +30,7 @@ fn way(from: u8, to: u8) -> Option<(Direction, u8)>
 }
 
 impl Keyring {
-    ghost use Rattle.bg_system.specs.Keyrings.{CannotSeal, IsNotSealedBy, IsSealedBy, key_for, keys_of_referee};
+    ghost use Rattle.bg_system.specs.Keyrings.{CannotSeal, IsNotSealedBy, IsSealedBy, key_for, keys_in_files, keys_of_referee};
 
     /// Returns the keys of the referee of the match with this number, which are derived from its secret.
     pub fn of_referee(secret: &MasterSecret, id: u64) -> Keyring
@@ -39,6 +40,18 @@ impl Keyring {
             x: secret.key_of(id, SEAT_OF_X),
             o: secret.key_of(id, SEAT_OF_O),
             watchers: secret.key_of(id, FIRST_WATCHER),
+        }
+    }
+
+    /// Returns the keys of a referee that has no secret of them, but the key file of each party.
+    pub fn of_key_files(files: KeyFiles) -> Keyring
+        ensures { result ≡ keys_in_files files }
+    {
+        let KeyFiles { x, o, watchers } = files;
+        Keyring::OfReferee {
+            x: x.key,
+            o: o.key,
+            watchers: watchers.key,
         }
     }
 

@@ -1,0 +1,104 @@
+//! The keys that a folder has: a secret which they are derived from, or the key files of all parties.
+
+use crate::beginnings::key_file_of;
+use crate::messages::{no_memory, wrong};
+use bg_reports::Ending;
+use bg_system::{KeyFile, KeyFiles, MatchFile, Printable, name_of_key_file};
+use bg_wire::{FIRST_WATCHER, SEAT_OF_O, SEAT_OF_X};
+use std::fs;
+use std::fs::File;
+use std::rt::Files;
+
+/// Returns whether a referee's folder has a secret that its keys are derived from.
+pub fn has_key_secret<R>(rt: &R, folder: &str) -> Result<bool, Ending>
+where
+    R: Files<File = File> + Eprint + AllocGlobal,
+{
+    let Ok(path) = format!(in rt.alloc(); "{folder}/key-secret") else {
+        return Err(no_memory(rt));
+    };
+    Ok(fs::symlink_metadata(rt, path.as_str()).is_ok())
+}
+
+/// Returns the key files in a referee's folder, which has no secret of them; none where there is not one of them. Ends
+/// with `WrongArguments` where some are missing, or one is of another party or another match, and with `Failed` where
+/// one can't be read.
+pub fn key_files_of<R>(rt: &R, folder: &str, table: &MatchFile) -> Result<Option<KeyFiles>, Ending>
+where
+    R: Files<File = File> + Eprint + AllocGlobal,
+{
+    let x = found_in(rt, folder, table, SEAT_OF_X)?;
+    let o = found_in(rt, folder, table, SEAT_OF_O)?;
+    let watchers = found_in(rt, folder, table, FIRST_WATCHER)?;
+    match (x, o, watchers) {
+        (Some(x), Some(o), Some(watchers)) => Ok(Some(KeyFiles { x, o, watchers })),
+        (None, None, None) => Ok(None),
+        (None, _, _) => Err(lacks(rt, folder, SEAT_OF_X)),
+        (_, None, _) => Err(lacks(rt, folder, SEAT_OF_O)),
+        (_, _, None) => Err(lacks(rt, folder, FIRST_WATCHER)),
+    }
+}
+
+/// Returns the key files of a match in a folder to which they were copied, all of them. Ends with `WrongArguments`
+/// where one is of another party or another match, and with `Failed` where one can't be read.
+pub fn key_files_in<R>(rt: &R, folder: &str, table: &MatchFile) -> Result<KeyFiles, Ending>
+where
+    R: Files<File = File> + Eprint + AllocGlobal,
+{
+    Ok(KeyFiles {
+        x: key_file_in(rt, folder, table, SEAT_OF_X)?,
+        o: key_file_in(rt, folder, table, SEAT_OF_O)?,
+        watchers: key_file_in(rt, folder, table, FIRST_WATCHER)?,
+    })
+}
+
+/// The key file of a party of this match in a folder.
+fn key_file_in<R>(rt: &R, folder: &str, table: &MatchFile, party: u8) -> Result<KeyFile, Ending>
+where
+    R: Files<File = File> + Eprint + AllocGlobal,
+{
+    let Ok(path) = format!(in rt.alloc(); "{folder}/{}", name_of_key_file(party)) else {
+        return Err(no_memory(rt));
+    };
+    let file = key_file_of(rt, path.as_str(), party)?;
+    if file.table == *table {
+        return Ok(file);
+    }
+    let (shown, id) = (Printable(path.as_str()), table.id);
+    Err(wrong(
+        rt,
+        format_args!(
+            "{shown} is not of match {id}, or has another length, other rules or another port"
+        ),
+    ))
+}
+
+/// The same; none where it is missing.
+fn found_in<R>(
+    rt: &R,
+    folder: &str,
+    table: &MatchFile,
+    party: u8,
+) -> Result<Option<KeyFile>, Ending>
+where
+    R: Files<File = File> + Eprint + AllocGlobal,
+{
+    let Ok(path) = format!(in rt.alloc(); "{folder}/{}", name_of_key_file(party)) else {
+        return Err(no_memory(rt));
+    };
+    if fs::symlink_metadata(rt, path.as_str()).is_err() {
+        return Ok(None);
+    }
+    Ok(Some(key_file_in(rt, folder, table, party)?))
+}
+
+/// Says that a folder without a secret of keys lacks the key file of a party, and what is to be done.
+fn lacks(rt: &impl Eprint, folder: &str, party: u8) -> Ending {
+    let (shown, name) = (Printable(folder), name_of_key_file(party));
+    wrong(
+        rt,
+        format_args!(
+            "{shown} has neither `key-secret` nor `{name}`: put a copy of `{name}` there, or remove the other key files, and `bg_relay keys --dir {shown}` makes new ones"
+        ),
+    )
+}

@@ -1,0 +1,167 @@
+//! What seats and transcripts hold of a match.
+
+use crate::inputs::{read_input, record_in};
+use bg_board::Player;
+use bg_console::{failed_at, no_memory, say, unread, wrong};
+use bg_match::Record;
+use bg_reports::{Compared, Ending, compare};
+use bg_system::{MatchFile, Printable, SlotName, read_saved};
+use bg_wire::{REFEREE, RestoreRefusal, Saved, Slot, party_of, restore};
+use std::fs::File;
+use std::io;
+use std::rt::Files;
+
+/// The name of the standard input.
+const STANDARD_INPUT: &str = "-";
+
+/// What one of the sources holds of the match, which is called so.
+#[derive(Drop)]
+pub(crate) struct Held<'a> {
+    pub(crate) name: &'a str,
+    pub(crate) saved: Saved,
+}
+
+impl<'a> Held<'a> {
+    /// Makes a source that holds no entry.
+    pub(crate) fn nothing<R>(rt: &R, file: MatchFile, name: &'a str) -> Result<Held<'a>, Ending>
+    where
+        R: Eprint + AllocGlobal,
+    {
+        match Record::new(rt.alloc(), file.id, file.terms.length, file.terms.rules) {
+            Ok(record) => Ok(Held {
+                name,
+                saved: saved_of(record),
+            }),
+            Err(_) => Err(wrong(rt, "length out of range")),
+        }
+    }
+
+    /// Returns the one of the two that holds more, this one where they hold as much. Ends with `WrongArguments` where
+    /// an entry of the one is another of the other, or they are of different matches.
+    pub(crate) fn or<R: Eprint>(self, rt: &R, other: Held<'a>) -> Result<Held<'a>, Ending> {
+        let (one, two) = (Printable(self.name), Printable(other.name));
+        match compare(&self.saved, &other.saved) {
+            Compared::Behind(0) => Ok(self),
+            Compared::Behind(_) => Ok(other),
+            Compared::Differs(number) => Err(wrong(
+                rt,
+                format_args!("{one} and {two} differ at entry {number}: nothing was made"),
+            )),
+            Compared::OtherMatch => Err(wrong(
+                rt,
+                format_args!("{two} is of another length or other rules: nothing was made"),
+            )),
+        }
+    }
+}
+
+/// A record as the referee saves it first.
+pub(crate) fn saved_of(log: Record) -> Saved {
+    Saved {
+        party: REFEREE,
+        save: 1,
+        claim: None,
+        log,
+    }
+}
+
+/// What the seat of this player has saved in its folder; none where it saved nothing, which is said.
+pub(crate) fn seat_of<R>(
+    rt: &R,
+    file: MatchFile,
+    folder: &str,
+    player: Player,
+) -> Result<Option<Saved>, Ending>
+where
+    R: Files<File = File> + Eprint + AllocGlobal,
+{
+    let party = party_of(player);
+    let zero = slot_of(rt, folder, party, Slot::Zero)?;
+    let one = slot_of(rt, folder, party, Slot::One)?;
+    let (length, rules) = (file.terms.length, file.terms.rules);
+    let shown = Printable(folder);
+    match restore(rt.alloc(), &zero, &one, party, file.id, length, rules) {
+        Ok(Some(saved)) => Ok(Some(saved)),
+        Ok(None) => {
+            check_seat(rt, folder, player)?;
+            say(
+                rt,
+                format_args!("{shown} has no save of party {party}: it counts as holding nothing"),
+            );
+            Ok(None)
+        }
+        Err(RestoreRefusal::Damaged) => Err(wrong(
+            rt,
+            format_args!(
+                "the files of party {party} in {shown} are damaged (`show` says how): nothing was made"
+            ),
+        )),
+        Err(RestoreRefusal::WrongMatch) => Err(wrong(
+            rt,
+            format_args!(
+                "the files of party {party} in {shown} are of another match: nothing was made"
+            ),
+        )),
+        Err(RestoreRefusal::Memory) => Err(no_memory(rt)),
+    }
+}
+
+/// Refuses, as the folder of this player's seat, one that has saves of the other's.
+fn check_seat<R>(rt: &R, folder: &str, player: Player) -> Result<(), Ending>
+where
+    R: Files<File = File> + Eprint + AllocGlobal,
+{
+    let (own, other) = (party_of(player), party_of(player.opponent()));
+    for slot in [Slot::Zero, Slot::One] {
+        if !slot_of(rt, folder, other, slot)?.is_empty() {
+            let shown = Printable(folder);
+            return Err(wrong(
+                rt,
+                format_args!(
+                    "{shown} has saves of party {other}, and none of party {own}: nothing was made"
+                ),
+            ));
+        }
+    }
+    Ok(())
+}
+
+/// The bytes of a file of a party in a folder.
+fn slot_of<R>(rt: &R, folder: &str, party: u8, slot: Slot) -> Result<Vec<u8>, Ending>
+where
+    R: Files<File = File> + Eprint + AllocGlobal,
+{
+    let name = SlotName { party, slot };
+    let Ok(path) = format!(in rt.alloc(); "{folder}/{name}") else {
+        return Err(no_memory(rt));
+    };
+    match read_saved(rt, path.as_str()) {
+        Ok(bytes) => Ok(bytes),
+        Err(error) => Err(failed_at(rt, path.as_str(), " could not be read", &error)),
+    }
+}
+
+/// The record of the transcript of this name, as one of the match.
+pub(crate) fn transcript_of<R>(rt: &R, file: MatchFile, name: &str) -> Result<Record, Ending>
+where
+    R: Input + Files<File = File> + Eprint + AllocGlobal,
+{
+    if name.is_empty() {
+        return Err(wrong(rt, "the name of a file is empty"));
+    }
+    if name == STANDARD_INPUT {
+        return match read_input(rt.alloc(), rt.reader()) {
+            Ok(bytes) => record_in(rt, name, file.id, &bytes),
+            Err(error) => Err(unread(rt, &error)),
+        };
+    }
+    match file_bytes(rt, name) {
+        Ok(bytes) => record_in(rt, name, file.id, &bytes),
+        Err(error) => Err(failed_at(rt, name, " could not be read", &error)),
+    }
+}
+
+/// The bytes of a file, as far as one is judged.
+fn file_bytes(rt: &(impl Files<File = File> + AllocGlobal), name: &str) -> io::Result<Vec<u8>> {
+    read_input(rt.alloc(), File::open(rt, name)?)
+}
