@@ -1,15 +1,14 @@
 //! Packets and saved texts in which each byte was changed to every other value, given to the calls that take bytes.
 ghost use Rattle.bg_wire.specs.Saved.SavedText.{IsSavable, parts_of};
 
-use crate::fronts::{is_front, push};
+use crate::fronts::{check_legal, is_front};
 use bg_board::Player;
-use bg_match::{Record, Rules};
+use bg_match::Rules;
 use bg_party::{Seat, Watcher};
 use bg_referee::Referee;
-use bg_wire::{REFEREE, Saved, decode, encode, load, restore, save_text};
-use std::alloc::{AllocError, Global};
+use bg_wire::{Packet, REFEREE, SEAT_OF_X, Saved, decode, encode, load, restore, save_text};
+use std::alloc::Global;
 use std::process::Abort;
-use std::test::Fail;
 
 /// A word with the dice 3 1.
 const THREE_ONE: u32 = 12;
@@ -46,132 +45,149 @@ const SEAT_SAVE_OF_OLD: [u8; 32] = [
     3, 1,
 ];
 
-/// The entries follow each other from the start.
-fn check_legal(rt: &impl Abort, alloc: Global, record: &Record) -> Result<(), Fail> {
-    let mut again = Record::new(alloc, record.id(), record.length(), record.rules())?;
-    for number in 1..=record.len() {
-        push(&mut again, record.entry(number).expect(rt, "an entry"))?;
-    }
-    Ok(())
+/// What bytes are of.
+#[derive(Clone, Copy)]
+enum Kind {
+    Packet,
+    /// A save of this party.
+    Save(u8),
 }
 
-/// A referee that has opened match 1 and saved it takes the bytes, and so do a seat and a watcher.
-fn check_packet(rt: &impl Abort, alloc: Global, bytes: &[u8]) -> Result<(), Fail> {
-    let Ok(packet) = decode(bytes) else {
-        return Ok(());
-    };
-    assert!(rt; encode(&packet).as_slice() == bytes);
-    let mut referee = Referee::fresh(alloc, 1, 1, Rules::One)?;
-    referee.due(THREE_ONE)?;
-    let (_, save, _) = referee.to_save()?;
+/// A referee that has opened match 1 and saved it takes the packet.
+fn check_referee(rt: &impl Abort, alloc: Global, packet: &Packet) {
+    let referee = Referee::fresh(alloc, 1, 1, Rules::One);
+    let mut referee = referee.expect(rt, "a length");
+    assert!(rt; referee.due(THREE_ONE) == Ok(1));
+    let (_, save, _) = referee.to_save().expect(rt, "a save");
     referee.mark_saved(save);
-    let _ = referee.take(&packet, THREE_ONE);
-    check_legal(rt, alloc, referee.held())?;
-    let mut seat = Seat::fresh(alloc, Player::X, 1, 1, Rules::One)?;
-    let _ = seat.take(&packet);
-    check_legal(rt, alloc, seat.held())?;
-    let mut watcher = Watcher::fresh(alloc, 3, 1, 1, Rules::One)?;
-    let _ = watcher.take(&packet);
-    check_legal(rt, alloc, watcher.held())
+    let _ = referee.take(packet, THREE_ONE);
+    check_legal(rt, alloc, referee.held());
+}
+
+/// A seat takes the packet.
+fn check_seat(rt: &impl Abort, alloc: Global, packet: &Packet) {
+    let seat = Seat::fresh(alloc, Player::X, 1, 1, Rules::One);
+    let mut seat = seat.expect(rt, "a length");
+    let _ = seat.take(packet);
+    check_legal(rt, alloc, seat.held());
+}
+
+/// A watcher takes the packet.
+fn check_watcher(rt: &impl Abort, alloc: Global, packet: &Packet) {
+    let watcher = Watcher::fresh(alloc, 3, 1, 1, Rules::One);
+    let mut watcher = watcher.expect(rt, "a length");
+    let _ = watcher.take(packet);
+    check_legal(rt, alloc, watcher.held());
+}
+
+/// All cores take the bytes, where these are a packet.
+fn check_packet(rt: &impl Abort, alloc: Global, bytes: &[u8]) {
+    if let Ok(packet) = decode(bytes) {
+        assert!(rt; encode(&packet).as_slice() == bytes);
+        check_referee(rt, alloc, &packet);
+        check_seat(rt, alloc, &packet);
+        check_watcher(rt, alloc, &packet);
+    }
 }
 
 /// What was restored is legal, and so is what a core holds that goes on from it.
-fn check_restored(rt: &impl Abort, alloc: Global, saved: Saved) -> Result<(), Fail>
+fn check_restored(rt: &impl Abort, alloc: Global, saved: Saved)
     requires { IsSavable (parts_of saved) }
 {
     if saved.party == REFEREE {
-        check_legal(rt, alloc, Referee::resume(alloc, saved).held())
+        check_legal(rt, alloc, Referee::resume(alloc, saved).held());
     } else {
-        check_legal(rt, alloc, Seat::resume(alloc, saved).held())
+        check_legal(rt, alloc, Seat::resume(alloc, saved).held());
     }
 }
 
 /// What two slots of match 1 restore, if anything.
-fn check_slots(
-    rt: &impl Abort,
-    alloc: Global,
-    slot0: &[u8],
-    slot1: &[u8],
-    party: u8,
-) -> Result<(), Fail> {
+fn check_slots(rt: &impl Abort, alloc: Global, slot0: &[u8], slot1: &[u8], party: u8) {
     if let Ok(Some(saved)) = restore(alloc, slot0, slot1, party, 1, 1, Rules::One) {
-        check_restored(rt, alloc, saved)?;
+        check_restored(rt, alloc, saved);
     }
-    Ok(())
+}
+
+/// The text of old was loaded as the same as what was written of it.
+fn check_same(rt: &impl Abort, alloc: Global, saved: &Saved, text: &[u8]) {
+    let again = load(alloc, text).expect(rt, "a written text loads");
+    assert!(rt; again.party == saved.party && again.save == saved.save);
+    assert!(rt; again.claim == saved.claim && is_front(&again.log, &saved.log));
+    assert!(rt; again.log.len() == saved.log.len());
 }
 
 /// What was loaded is written as it stood, or, where it stood in the layout of old, as a text that loads as the same.
-fn check_written(rt: &impl Abort, alloc: Global, saved: &Saved, bytes: &[u8]) -> Result<(), Fail>
+fn check_written(rt: &impl Abort, alloc: Global, saved: &Saved, bytes: &[u8])
     requires { IsSavable (parts_of saved.now) }
 {
-    let text = save_text(alloc, saved)?;
+    let text = save_text(alloc, saved).expect(rt, "memory");
     if bytes.get(3) == Some(&b'2') {
         assert!(rt; text.as_slice() == bytes);
-        return Ok(());
+    } else {
+        check_same(rt, alloc, saved, &text);
     }
-    let again = load(alloc, &text).map_err(|_| Fail::from("a written text loads"))?;
-    assert!(rt; (again.party, again.save) == (saved.party, saved.save));
-    assert!(rt; again.claim == saved.claim && is_front(&again.log, &saved.log));
-    assert!(rt; again.log.len() == saved.log.len());
-    Ok(())
 }
 
 /// The bytes are loaded, and restored in either slot, alone and beside a good text.
-fn check_saved(
-    rt: &impl Abort,
-    alloc: Global,
-    bytes: &[u8],
-    good: &[u8],
-    party: u8,
-) -> Result<(), Fail> {
+fn check_saved(rt: &impl Abort, alloc: Global, bytes: &[u8], good: &[u8], party: u8) {
     if let Ok(saved) = load(alloc, bytes) {
-        check_written(rt, alloc, &saved, bytes)?;
-        check_legal(rt, alloc, &saved.log)?;
+        check_written(rt, alloc, &saved, bytes);
+        check_legal(rt, alloc, &saved.log);
     }
-    check_slots(rt, alloc, bytes, good, party)?;
-    check_slots(rt, alloc, good, bytes, party)?;
-    check_slots(rt, alloc, bytes, &[], party)?;
-    check_slots(rt, alloc, &[], bytes, party)
+    check_slots(rt, alloc, bytes, good, party);
+    check_slots(rt, alloc, good, bytes, party);
+    check_slots(rt, alloc, bytes, &[], party);
+    check_slots(rt, alloc, &[], bytes, party);
 }
 
-/// The bytes with another one in this place.
-fn altered(alloc: Global, bytes: &[u8], place: usize, byte: u8) -> Result<Vec<u8>, AllocError> {
-    let mut copy = bytes.to_vec(alloc)?;
-    if let Some(old) = copy.get_mut(place) {
+/// Puts a byte into this place.
+fn put(bytes: &mut [u8], place: usize, byte: u8) {
+    if let Some(old) = bytes.get_mut(place) {
         *old = byte;
     }
-    Ok(copy)
 }
 
-fn check_altered_packets(rt: &impl Abort, alloc: Global, text: &[u8]) -> Result<(), Fail> {
-    for place in 0..text.len() {
-        for byte in 0..=u8::MAX {
-            check_packet(rt, alloc, &altered(alloc, text, place, byte)?)?;
+/// The text with each value in this place, in a copy of it.
+fn check_place(
+    rt: &impl Abort,
+    alloc: Global,
+    copy: &mut Vec<u8>,
+    text: &[u8],
+    kind: Kind,
+    place: usize,
+) {
+    for byte in 0..=u8::MAX {
+        put(copy, place, byte);
+        match kind {
+            Kind::Packet => check_packet(rt, alloc, copy),
+            Kind::Save(party) => check_saved(rt, alloc, copy, text, party),
         }
     }
-    Ok(())
+}
+
+/// The text with each value in each place.
+fn check_altered(rt: &(impl AllocGlobal + Abort), text: &[u8], kind: Kind) {
+    let alloc = rt.alloc();
+    let mut copy = text.to_vec(alloc).expect(rt, "memory");
+    let mut place = 0usize;
+    for byte in text {
+        check_place(rt, alloc, &mut copy, text, kind, place);
+        put(&mut copy, place, *byte);
+        place = place.wrapping_add(1);
+    }
 }
 
 #[test]
-fn altered_packets(rt: HostRuntime) -> Result<(), Fail> {
-    check_altered_packets(&rt, rt.alloc(), &WANT)?;
-    check_altered_packets(&rt, rt.alloc(), &CLAIM)?;
-    check_altered_packets(&rt, rt.alloc(), &ENTRIES)
-}
-
-fn check_altered_saves(rt: &impl Abort, alloc: Global, text: &[u8], party: u8) -> Result<(), Fail> {
-    for place in 0..text.len() {
-        for byte in 0..=u8::MAX {
-            check_saved(rt, alloc, &altered(alloc, text, place, byte)?, text, party)?;
-        }
-    }
-    Ok(())
+fn altered_packets(rt: HostRuntime) {
+    check_altered(&rt, &WANT, Kind::Packet);
+    check_altered(&rt, &CLAIM, Kind::Packet);
+    check_altered(&rt, &ENTRIES, Kind::Packet);
 }
 
 #[test]
-fn altered_saves(rt: HostRuntime) -> Result<(), Fail> {
-    check_altered_saves(&rt, rt.alloc(), &REFEREE_SAVE, REFEREE)?;
-    check_altered_saves(&rt, rt.alloc(), &SEAT_SAVE, 1)?;
-    check_altered_saves(&rt, rt.alloc(), &REFEREE_SAVE_OF_OLD, REFEREE)?;
-    check_altered_saves(&rt, rt.alloc(), &SEAT_SAVE_OF_OLD, 1)
+fn altered_saves(rt: HostRuntime) {
+    check_altered(&rt, &REFEREE_SAVE, Kind::Save(REFEREE));
+    check_altered(&rt, &SEAT_SAVE, Kind::Save(SEAT_OF_X));
+    check_altered(&rt, &REFEREE_SAVE_OF_OLD, Kind::Save(REFEREE));
+    check_altered(&rt, &SEAT_SAVE_OF_OLD, Kind::Save(SEAT_OF_X));
 }

@@ -2,34 +2,27 @@
 ghost use Rattle.std.specs.Prelude.{IfSome};
 ghost use Rattle.bg_wire.specs.Packets.PacketText.{IsPacket};
 
+use crate::hosts::{Host, new_folder, remove_folder};
 use bg_board::Player;
 use bg_examples::own_devices::{BeginFault, world_over};
 use bg_examples::referee_host::{HostFault, RefereeHost};
 use bg_match::{Action, Actor, Level, Rules};
 use bg_party::{Learned, Seat};
 use bg_wire::{Packet, RestoreRefusal, decode, encode};
-use bg_world::{Event, Outcome, Setup};
-use std::net::{Ipv4Addr, UdpSocket};
-use std::test::Fail;
+use bg_world::{Event, Keeper, Link, Outcome, Setup, World};
+use std::fs;
+use std::net::{Ipv4Addr, SocketAddr, UdpSocket};
+use std::process::Abort;
 use std::time::Duration;
-use std::{fs, io};
 
 const MATCH: u64 = 1;
 
-/// A new folder among those that do not last.
-pub(crate) fn new_folder(rt: &HostRuntime, name: &str) -> io::Result<String> {
-    let process = std::process::id(rt.process());
-    let temp = std::env::temp_dir(rt)?;
-    let folder = format!(in rt.alloc(); "{}/bg_tests-{process}-{name}", temp.as_str())?;
-    fs::create_dir(rt, folder.as_str())?;
-    Ok(folder)
-}
-
 /// A socket that never waits for long.
-fn client(rt: &HostRuntime) -> io::Result<UdpSocket> {
-    let socket = UdpSocket::bind(rt, (Ipv4Addr::LOCALHOST, 0))?;
-    socket.set_read_timeout(Some(Duration::from_millis(200)))?;
-    Ok(socket)
+fn client(rt: &impl Host) -> UdpSocket {
+    let socket = UdpSocket::bind(rt, (Ipv4Addr::LOCALHOST, 0)).expect(rt, "a socket");
+    let waits = socket.set_read_timeout(Some(Duration::from_millis(200)));
+    waits.expect(rt, "a socket that waits");
+    socket
 }
 
 /// The packet that comes next to a socket, if one does.
@@ -37,74 +30,105 @@ fn received(socket: &UdpSocket) -> Option<Packet>
     ensures { IfSome result IsPacket }
 {
     let mut buffer = [0; 256];
-    match socket.recv_from(&mut buffer) {
-        Ok((count, _)) => match decode(&buffer[..count]) {
-            Ok(packet) => Some(packet),
-            Err(_) => None,
-        },
-        Err(_) => None,
-    }
+    let (count, _) = socket.recv_from(&mut buffer).ok()?;
+    decode(&buffer[..count]).ok()
 }
 
 /// More turns than it takes to open a game: five of six words do.
 const MOST_TURNS: u32 = 100;
 
+/// Watcher 3 wants all entries.
+const WANT: Packet = Packet::Want {
+    id: MATCH,
+    rules: Rules::One,
+    sender: 3,
+    held: 0,
+};
+
+/// Sends a packet to an address.
+fn send(rt: &impl Abort, socket: &UdpSocket, packet: &Packet, to: SocketAddr)
+    requires { IsPacket packet.now }
+{
+    let sent = socket.send_to(encode(packet).as_slice(), to);
+    sent.expect(rt, "a datagram is sent");
+}
+
+fn open<'a, R: Host>(rt: &'a R, folder: &str, length: u8) -> RefereeHost<'a, R> {
+    let host = RefereeHost::open(rt, folder, 0, MATCH, length, Rules::One);
+    host.expect(rt, "a host")
+}
+
+/// Why no host of this match begins.
+fn refusal(rt: &impl Host, folder: &str, length: u8, rules: Rules) -> Option<HostFault> {
+    RefereeHost::open(rt, folder, 0, MATCH, length, rules).err()
+}
+
+fn address<R: Host>(rt: &R, host: &RefereeHost<'_, R>) -> SocketAddr {
+    host.address().expect(rt, "an address")
+}
+
+fn turn<R: Host>(rt: &R, host: &mut RefereeHost<'_, R>) {
+    host.turn().expect(rt, "a turn");
+}
+
 /// Asks once for all entries, as watcher 3, and waits until the host tells some: they may come as an answer or unasked.
-fn told(rt: &HostRuntime, host: &mut RefereeHost<'_, HostRuntime>) -> Result<Packet, Fail> {
-    let watcher = client(rt)?;
-    let want = Packet::Want {
-        id: MATCH,
-        rules: Rules::One,
-        sender: 3,
-        held: 0,
-    };
-    watcher.send_to(encode(&want).as_slice(), host.address()?)?;
+fn told<R: Host>(rt: &R, host: &mut RefereeHost<'_, R>) -> Packet {
+    let watcher = client(rt);
+    send(rt, &watcher, &WANT, address(rt, host));
     for _ in 0..MOST_TURNS {
-        host.turn()?;
+        turn(rt, host);
         if let Some(packet) = received(&watcher) {
-            return Ok(packet);
+            return packet;
         }
     }
-    Err(Fail::from("nothing was told"))
+    panic!(rt; "nothing was told")
+}
+
+/// Whether these are entries from the first.
+fn is_first(packet: &Packet) -> bool {
+    matches!(
+        packet,
+        Packet::Entries {
+            id: MATCH,
+            rules: Rules::One,
+            start: 1,
+            ..
+        }
+    )
+}
+
+/// Whether a folder has this file of the referee.
+fn has_file(rt: &impl Host, folder: &str, slot: u8) -> bool {
+    let path = format!(in rt.alloc(); "{folder}/party-0.{slot}");
+    fs::metadata(rt, path.expect(rt, "memory").as_str()).is_ok()
+}
+
+/// Whether a host was refused since the folder has another match.
+fn is_wrong_match(refusal: Option<HostFault>) -> bool {
+    matches!(
+        refusal,
+        Some(HostFault::Restore(RestoreRefusal::WrongMatch))
+    )
 }
 
 /// A watcher that asked is told the opening once it is saved, in the file of slot 1, and a later host over the same
 /// folder tells it again. None begins while another one has the files, or for a match of another length or by other
 /// rules.
 #[test]
-fn hosts_answer(rt: HostRuntime) -> Result<(), Fail> {
-    let folder = new_folder(&rt, "hosts-answer")?;
-    let mut host = RefereeHost::open(&rt, folder.as_str(), 0, MATCH, 5, Rules::One)?;
-    let first = told(&rt, &mut host)?;
-    assert!(rt;
-        matches!(
-            &first,
-            Packet::Entries {
-                id: MATCH,
-                rules: Rules::One,
-                start: 1,
-                ..
-            }
-        )
-    );
-    assert!(rt; fs::metadata(&rt, format!(in rt.alloc(); "{folder}/party-0.1")?.as_str()).is_ok());
-    assert!(rt; fs::metadata(&rt, format!(in rt.alloc(); "{folder}/party-0.0")?.as_str()).is_err());
-    let second = RefereeHost::open(&rt, folder.as_str(), 0, MATCH, 5, Rules::One);
-    assert!(rt; matches!(second, Err(HostFault::System(_))));
-    host.serve(1)?;
-    let other = RefereeHost::open(&rt, folder.as_str(), 0, MATCH, 3, Rules::One);
-    assert!(rt; matches!(other, Err(HostFault::Restore(RestoreRefusal::WrongMatch))));
-    let by_other_rules = RefereeHost::open(&rt, folder.as_str(), 0, MATCH, 5, Rules::Two);
-    assert!(rt;
-        matches!(
-            by_other_rules,
-            Err(HostFault::Restore(RestoreRefusal::WrongMatch))
-        )
-    );
-    let mut later = RefereeHost::open(&rt, folder.as_str(), 0, MATCH, 5, Rules::One)?;
-    assert!(rt; told(&rt, &mut later)? == first);
-    fs::remove_dir_all(&rt, folder.as_str())?;
-    Ok(())
+fn hosts_answer(rt: HostRuntime) {
+    let made = new_folder(&rt, "hosts-answer");
+    let folder = made.as_str();
+    let mut host = open(&rt, folder, 5);
+    let first = told(&rt, &mut host);
+    assert!(rt; is_first(&first));
+    assert!(rt; has_file(&rt, folder, 1) && !has_file(&rt, folder, 0));
+    let second = refusal(&rt, folder, 5, Rules::One);
+    assert!(rt; matches!(second, Some(HostFault::System(_))));
+    host.serve(1).expect(&rt, "a turn");
+    assert!(rt; is_wrong_match(refusal(&rt, folder, 3, Rules::One)));
+    assert!(rt; is_wrong_match(refusal(&rt, folder, 5, Rules::Two)));
+    assert!(rt; told(&rt, &mut open(&rt, folder, 5)) == first);
+    remove_folder(&rt, folder);
 }
 
 /// Whether the seat may claim this action now, and then does.
@@ -113,88 +137,131 @@ fn chooses(seat: &mut Seat, action: Action) -> bool {
 }
 
 /// The seat's claim counts as saved.
-fn save(seat: &mut Seat) -> Result<(), Fail> {
-    let (_slot, save, _text) = seat.to_save()?;
+fn save(rt: &impl Abort, seat: &mut Seat) {
+    let (_slot, save, _text) = seat.to_save().expect(rt, "a save");
     seat.mark_saved(save);
-    Ok(())
+}
+
+/// What a seat sends, if anything.
+fn tick(rt: &impl Abort, socket: &UdpSocket, seat: &mut Seat, to: SocketAddr) {
+    if let Some(packet) = seat.tick() {
+        send(rt, socket, &packet, to);
+    }
+}
+
+/// A seat takes what came.
+fn take(socket: &UdpSocket, seat: &mut Seat) {
+    if let Some(packet) = received(socket) {
+        seat.take(&packet);
+    }
 }
 
 /// One round of a seat: it sends what its core gives, the host has a turn, the core takes what came, and the player
 /// gives the match up as soon as he may, or accepts that the other one does.
-fn play(
-    socket: &UdpSocket,
-    seat: &mut Seat,
-    host: &mut RefereeHost<'_, HostRuntime>,
-) -> Result<(), Fail> {
-    if let Some(packet) = seat.tick() {
-        socket.send_to(encode(&packet).as_slice(), host.address()?)?;
-    }
-    host.turn()?;
-    if let Some(packet) = received(socket) {
-        seat.take(&packet);
-    }
+fn play<R: Host>(rt: &R, socket: &UdpSocket, seat: &mut Seat, host: &mut RefereeHost<'_, R>) {
+    tick(rt, socket, seat, address(rt, host));
+    turn(rt, host);
+    take(socket, seat);
     if chooses(seat, Action::Accept) || chooses(seat, Action::Resign(Level::Normal)) {
-        save(seat)?;
+        save(rt, seat);
     }
-    Ok(())
+}
+
+fn fresh(rt: &impl Host, player: Player) -> Seat {
+    Seat::fresh(rt.alloc(), player, MATCH, 1, Rules::One).expect(rt, "a seat")
+}
+
+/// Whether a seat holds the whole of a match of three entries.
+fn holds_three(seat: &Seat) -> bool {
+    seat.held().len() == 3 && seat.held().actor() == Actor::Nobody
 }
 
 /// Two seats play a match of one point over the host's socket: an opening, an offer to resign, and its acceptance.
 #[test]
-fn hosts_referee(rt: HostRuntime) -> Result<(), Fail> {
-    let folder = new_folder(&rt, "hosts-referee")?;
-    let mut host = RefereeHost::open(&rt, folder.as_str(), 0, MATCH, 1, Rules::One)?;
-    let (x_socket, o_socket) = (client(&rt)?, client(&rt)?);
-    let mut x = Seat::fresh(rt.alloc(), Player::X, MATCH, 1, Rules::One)?;
-    let mut o = Seat::fresh(rt.alloc(), Player::O, MATCH, 1, Rules::One)?;
+fn hosts_referee(rt: HostRuntime) {
+    let folder = new_folder(&rt, "hosts-referee");
+    let mut host = open(&rt, folder.as_str(), 1);
+    let (x_socket, o_socket) = (client(&rt), client(&rt));
+    let (mut x, mut o) = (fresh(&rt, Player::X), fresh(&rt, Player::O));
     for _ in 0..MOST_TURNS {
-        play(&x_socket, &mut x, &mut host)?;
-        play(&o_socket, &mut o, &mut host)?;
+        play(&rt, &x_socket, &mut x, &mut host);
+        play(&rt, &o_socket, &mut o, &mut host);
         if x.held().actor() == Actor::Nobody && o.held().actor() == Actor::Nobody {
             break;
         }
     }
-    assert!(rt; x.held().len() == 3 && o.held().len() == 3);
-    assert!(rt; x.held().actor() == Actor::Nobody && o.held().actor() == Actor::Nobody);
-    fs::remove_dir_all(&rt, folder.as_str())?;
-    Ok(())
+    assert!(rt; holds_three(&x) && holds_three(&o));
+    remove_folder(&rt, folder.as_str());
+}
+
+const SETUP: Setup = Setup {
+    id: MATCH,
+    length: 5,
+    rules: Rules::One,
+    watchers: 1,
+};
+
+/// A party takes what the link has for it.
+fn take_event(party: u8) -> Event {
+    Event::Take {
+        party,
+        pick: 0,
+        word: 0,
+    }
+}
+
+/// How many entries a party holds.
+fn count<L: Link, K: Keeper>(world: &World<L, K>, party: u8) -> Option<u32> {
+    match world.held(party) {
+        Some(record) => Some(record.len()),
+        None => None,
+    }
+}
+
+/// An event comes to this.
+fn check_step<L: Link, K: Keeper>(
+    rt: &impl Abort,
+    world: &mut World<L, K>,
+    event: Event,
+    outcome: &Outcome,
+) {
+    assert!(rt; world.step(event) == *outcome);
+}
+
+/// The referee opens the match and saves it, and the watcher learns of it.
+fn check_begun<L: Link, K: Keeper>(rt: &impl Abort, world: &mut World<L, K>) {
+    check_step(rt, world, Event::Due { word: 12 }, &Outcome::Due(Ok(1)));
+    check_step(rt, world, Event::Save { party: 0 }, &Outcome::Saved(1));
+    check_step(rt, world, Event::Tick { party: 3 }, &Outcome::Sent(1));
+    world.step(take_event(0));
+    let grew = Outcome::Learned(Learned::Grew(1));
+    check_step(rt, world, take_event(3), &grew);
+    check_step(rt, world, take_event(3), &Outcome::NoDatagram);
+}
+
+/// The referee goes on from what was saved, and the watcher from nothing.
+fn check_later<L: Link, K: Keeper>(rt: &impl Abort, world: &mut World<L, K>) {
+    assert!(rt; count(world, 0) == Some(1) && count(world, 3) == Some(0));
+    check_step(rt, world, Event::Save { party: 0 }, &Outcome::Saved(2));
+}
+
+/// Why there is no world over the folder.
+fn no_world(rt: &impl Host, folder: &str, setup: Setup) -> Option<BeginFault> {
+    world_over(rt, folder, setup).err()
 }
 
 /// A world over devices of one's own, and a later one over the same files.
 #[test]
-fn worlds_go_on(rt: HostRuntime) -> Result<(), Fail> {
-    let folder = new_folder(&rt, "worlds-go-on")?;
-    let setup = Setup {
-        id: MATCH,
-        length: 5,
-        rules: Rules::One,
-        watchers: 1,
-    };
-    let mut world = world_over(&rt, folder.as_str(), setup)?;
-    assert!(rt; world.step(Event::Due { word: 12 }) == Outcome::Due(Ok(1)));
-    assert!(rt; world.step(Event::Save { party: 0 }) == Outcome::Saved(1));
-    assert!(rt; world.step(Event::Tick { party: 3 }) == Outcome::Sent(1));
-    let take = |party| Event::Take {
-        party,
-        pick: 0,
-        word: 0,
-    };
-    world.step(take(0));
-    assert!(rt; world.step(take(3)) == Outcome::Learned(Learned::Grew(1)));
-    assert!(rt; world.step(take(3)) == Outcome::NoDatagram);
+fn worlds_go_on(rt: HostRuntime) {
+    let made = new_folder(&rt, "worlds-go-on");
+    let folder = made.as_str();
+    let mut world = world_over(&rt, folder, SETUP).expect(&rt, "a world");
+    check_begun(&rt, &mut world);
     drop(world);
-    let mut later = world_over(&rt, folder.as_str(), setup)?;
-    assert!(rt; later.held(0).is_some_and(|record| record.len() == 1));
-    assert!(rt; later.held(3).is_some_and(|record| record.is_empty()));
-    assert!(rt; later.step(Event::Save { party: 0 }) == Outcome::Saved(2));
+    let mut later = world_over(&rt, folder, SETUP).expect(&rt, "a world");
+    check_later(&rt, &mut later);
     drop(later);
-    let other = Setup { id: 2, ..setup };
-    assert!(rt;
-        matches!(
-            world_over(&rt, folder.as_str(), other),
-            Err(BeginFault::Restart(0, _))
-        )
-    );
-    fs::remove_dir_all(&rt, folder.as_str())?;
-    Ok(())
+    let refused = no_world(&rt, folder, Setup { id: 2, ..SETUP });
+    assert!(rt; matches!(refused, Some(BeginFault::Restart(0, _))));
+    remove_folder(&rt, folder);
 }

@@ -11,6 +11,8 @@ mod fronts;
 #[cfg(test)]
 mod host_tests;
 #[cfg(test)]
+mod hosts;
+#[cfg(test)]
 mod lone;
 #[cfg(test)]
 mod match_files;

@@ -3,104 +3,152 @@ use crate::fronts::is_front;
 use bg_auto::auto_action;
 use bg_board::Player;
 use bg_mat::{export_mat, import_mat};
-use bg_match::{Action, Actor, Entry, Level, MOST_ENTRIES, Phase, Record, Rules, entry_of};
+use bg_match::{Action, Actor, Entry, Level, MOST_ENTRIES, Number, Phase, Record, Rules, entry_of};
 use bg_turns::{Dice, dice_of};
 use rand_chacha::ChaCha20Rng;
 use rand_core::SeedableRng;
 use rand_core::utils::NextWord;
-use std::alloc::{AllocError, Global};
+use std::alloc::Global;
 use std::process::Abort;
-use std::test::Fail;
 
 /// So many matches are played by each of the rules.
 const MATCHES: u8 = 200;
 
 /// The dice of the next word.
-fn throw(words: &mut ChaCha20Rng) -> Result<Dice, Fail> {
-    Ok(dice_of(words.next_word()).ok_or("no dice")?)
+fn throw(rt: &impl Abort, words: &mut ChaCha20Rng) -> Dice {
+    dice_of(words.next_word()).expect(rt, "dice")
+}
+
+/// A level by a random word.
+fn level(word: u32) -> Level {
+    match word % 3 {
+        0 => Level::Normal,
+        1 => Level::Gammon,
+        _ => Level::Backgammon,
+    }
 }
 
 /// What the player does who is to act: what an automatic player does, but for an offer to resign now and then, which is
 /// accepted every other time.
-fn action(
-    alloc: Global,
-    record: &Record,
-    player: Player,
-    words: &mut ChaCha20Rng,
-) -> Result<Option<Action>, AllocError> {
-    let word = words.next_word();
+fn action(rt: &impl Abort, alloc: Global, record: &Record, player: Player, word: u32) -> Action {
     match record.standing().phase() {
-        Phase::Resigned(..) if word % 2 == 0 => Ok(Some(Action::Accept)),
-        Phase::Resigned(..) => Ok(Some(Action::Reject)),
-        Phase::ToAct(_) | Phase::ToMove(..) if word % 50 == 0 => {
-            let levels = [Level::Normal, Level::Gammon, Level::Backgammon];
-            Ok(Some(Action::Resign(levels[(word / 50 % 3) as usize])))
-        }
-        _ => auto_action(alloc, record, player),
+        Phase::Resigned(..) if word % 2 == 0 => Action::Accept,
+        Phase::Resigned(..) => Action::Reject,
+        Phase::ToAct(_) | Phase::ToMove(..) if word % 50 == 0 => Action::Resign(level(word / 50)),
+        _ => auto(rt, alloc, record, player),
     }
+}
+
+/// What an automatic player does.
+fn auto(rt: &impl Abort, alloc: Global, record: &Record, player: Player) -> Action {
+    let action = auto_action(alloc, record, player).expect(rt, "memory");
+    action.expect(rt, "an action")
 }
 
 /// What the referee adds.
-fn due(record: &Record, words: &mut ChaCha20Rng) -> Result<Entry, Fail> {
-    Ok(match record.standing().phase() {
-        Phase::Opening => {
-            let dice = throw(words)?;
-            Entry::Opening(dice.first, dice.second)
+fn due(rt: &impl Abort, record: &Record, words: &mut ChaCha20Rng) -> Entry {
+    if record.standing().phase() != Phase::Opening {
+        return Entry::Passed;
+    }
+    let dice = throw(rt, words);
+    Entry::Opening(dice.first, dice.second)
+}
+
+/// What follows; `None` where the match is over.
+fn next_entry(
+    rt: &impl Abort,
+    alloc: Global,
+    record: &Record,
+    words: &mut ChaCha20Rng,
+) -> Option<Entry> {
+    match record.actor() {
+        Actor::Nobody => None,
+        Actor::Referee => Some(due(rt, record, words)),
+        Actor::Seat(player) => {
+            let word = words.next_word();
+            let dice = throw(rt, words);
+            entry_of(action(rt, alloc, record, player, word), Some(dice))
         }
-        _ => Entry::Passed,
-    })
+    }
+}
+
+/// Adds what follows. Whether anything does.
+fn goes_on(rt: &impl Abort, alloc: Global, record: &mut Record, words: &mut ChaCha20Rng) -> bool {
+    let Some(entry) = next_entry(rt, alloc, record, words) else {
+        return false;
+    };
+    // Equal dice open no game, and nothing changes.
+    let _ = record.push(entry);
+    true
+}
+
+/// A record without an entry.
+fn empty(rt: &impl Abort, alloc: Global, length: u8, rules: Rules) -> Record {
+    Record::new(alloc, 1, length, rules).expect(rt, "a length")
 }
 
 /// A match that is over.
-fn played(alloc: Global, seed: u8, rules: Rules) -> Result<Record, Fail> {
+fn played(rt: &impl Abort, alloc: Global, seed: u8, rules: Rules) -> Record {
     let mut words = ChaCha20Rng::from_seed([seed; 32]);
-    let mut record = Record::new(alloc, 1, seed % 7 + 1, rules)?;
+    let mut record = empty(rt, alloc, seed % 7 + 1, rules);
     for _ in 0..MOST_ENTRIES {
-        let entry = match record.actor() {
-            Actor::Nobody => return Ok(record),
-            Actor::Referee => due(&record, &mut words)?,
-            Actor::Seat(player) => {
-                let action = action(alloc, &record, player, &mut words)?.ok_or("no action")?;
-                entry_of(action, Some(throw(&mut words)?)).ok_or("no entry")?
-            }
-        };
-        // Equal dice open no game, and nothing changes.
-        let _ = record.push(entry);
-    }
-    Err(Fail::from("the match does not end"))
-}
-
-/// The entries that a match file keeps: all but offers to resign that were not accepted, and the answers to these.
-fn kept(alloc: Global, record: &Record) -> Result<Record, Fail> {
-    let mut kept = Record::new(alloc, record.id(), record.length(), record.rules())?;
-    for number in 1..=record.len() {
-        let entry = record.entry(number).ok_or("no entry")?;
-        let next = record.entry(number.saturating_add(1));
-        match (entry, next) {
-            (Entry::Rejected, _) | (Entry::Resigned(_), Some(Entry::Rejected)) => {}
-            _ => kept.push(entry.copy())?,
+        if !goes_on(rt, alloc, &mut record, &mut words) {
+            break;
         }
     }
-    Ok(kept)
+    assert!(rt; record.actor() == Actor::Nobody, "the match does not end");
+    record
+}
+
+/// Whether a match file keeps the entry of this number: all but offers to resign that were not accepted, and the
+/// answers to these.
+fn is_kept(record: &Record, number: Number) -> bool {
+    match record.entry(number) {
+        Some(Entry::Rejected) => false,
+        Some(Entry::Resigned(_)) => {
+            record.entry(number.saturating_add(1)) != Some(&Entry::Rejected)
+        }
+        _ => true,
+    }
+}
+
+/// Appends a copy of the entry that another record has under this number.
+fn push(rt: &impl Abort, record: &mut Record, other: &Record, number: Number) {
+    let entry = other.entry(number).expect(rt, "an entry");
+    assert!(rt; record.push(entry.copy()).is_ok(), "entry {number}");
+}
+
+/// The entries that a match file keeps.
+fn kept(rt: &impl Abort, alloc: Global, record: &Record) -> Record {
+    let mut kept = empty(rt, alloc, record.length(), record.rules());
+    for number in 1..=record.len() {
+        if is_kept(record, number) {
+            push(rt, &mut kept, record, number);
+        }
+    }
+    kept
+}
+
+fn exported(rt: &impl Abort, alloc: Global, record: &Record) -> Vec<u8> {
+    export_mat(alloc, record).expect(rt, "a match file")
 }
 
 /// A match comes back from its match file entry by entry, and so does the file.
-fn check_match(rt: &impl Abort, alloc: Global, seed: u8, rules: Rules) -> Result<(), Fail> {
-    let record = played(alloc, seed, rules)?;
-    let file = export_mat(alloc, &record)?;
-    let imported = import_mat(alloc, 1, rules, &file)?;
-    let wanted = kept(alloc, &record)?;
+fn check_match(rt: &impl Abort, alloc: Global, seed: u8, rules: Rules) {
+    let record = played(rt, alloc, seed, rules);
+    let wanted = kept(rt, alloc, &record);
+    let file = exported(rt, alloc, &record);
+    let imported = import_mat(alloc, 1, rules, &file);
+    let imported = imported.expect(rt, "a match file");
     assert!(rt; imported.record.len() == wanted.len() && is_front(&imported.record, &wanted));
     assert!(rt; imported.lines.len() == wanted.len() as usize);
-    assert!(rt; export_mat(alloc, &imported.record)? == file);
-    Ok(())
+    assert!(rt; exported(rt, alloc, &imported.record) == file);
 }
 
 #[test]
-fn matches_come_back_from_match_files(rt: HostRuntime) -> Result<(), Fail> {
+fn matches_come_back_from_match_files(rt: HostRuntime) {
     for seed in 0..MATCHES {
-        check_match(&rt, rt.alloc(), seed, Rules::One)?;
-        check_match(&rt, rt.alloc(), seed, Rules::Two)?;
+        check_match(&rt, rt.alloc(), seed, Rules::One);
+        check_match(&rt, rt.alloc(), seed, Rules::Two);
     }
-    Ok(())
 }

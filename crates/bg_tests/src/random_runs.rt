@@ -1,51 +1,56 @@
 //! Worlds under random events of all kinds, whose devices fail now and then.
 use crate::actions::action_of;
-use crate::fronts::{MemoryWorld, check_fronts, push};
+use crate::fronts::{MemoryWorld, check_fronts, check_legal};
 use bg_board::Player;
 use bg_match::{Action, Entry, Number, Phase, Record, Rules, entry_of};
 use bg_party::Learned;
 use bg_referee::TakeOutcome;
 use bg_wire::party_of;
-use bg_world::{Event, FailRead, FailSend, Outcome, Plan, Setup, Tear, WorldFault, simulate};
+use bg_world::{Event, FailRead, FailSend, Outcome, Plan, Setup, Tear, simulate};
 use rand_chacha::ChaCha20Rng;
 use rand_core::SeedableRng;
 use rand_core::utils::NextWord;
-use std::alloc::{AllocError, Global};
+use std::alloc::Global;
 use std::process::Abort;
-use std::test::Fail;
 
 const EVENTS: u32 = 6000;
 
 /// The last party of a match with three watchers. There are events at the next one, too.
 const LAST_PARTY: u8 = 5;
 
+/// Adds a failure of each kind, by two random words.
+fn add_failures(rt: &impl Abort, plan: &mut Plan, a: u32, b: u32) {
+    let party = (a % 3) as u8;
+    let tear = Tear {
+        party,
+        nth: a / 3 % 300,
+        cut: if b % 3 == 0 { None } else { Some(b / 3 % 200) },
+    };
+    let send = FailSend {
+        nth: a / 3 % 1000,
+        went: b % 2 == 0,
+    };
+    let read = FailRead {
+        party,
+        nth: b / 3 % 100,
+    };
+    assert!(rt; plan.tears.push(tear).is_ok());
+    assert!(rt; plan.sends.push(send).is_ok());
+    assert!(rt; plan.reads.push(read).is_ok());
+}
+
 /// A plan by which each device fails a few dozen times.
-fn plan_of(alloc: Global, words: &mut ChaCha20Rng) -> Result<Plan, AllocError> {
-    let mut tears = Vec::new(alloc);
-    let mut sends = Vec::new(alloc);
-    let mut reads = Vec::new(alloc);
+fn plan_of(rt: &impl Abort, alloc: Global, words: &mut ChaCha20Rng) -> Plan {
+    let mut plan = Plan {
+        tears: Vec::new(alloc),
+        sends: Vec::new(alloc),
+        reads: Vec::new(alloc),
+    };
     for _ in 0..40 {
         let (a, b) = (words.next_word(), words.next_word());
-        let party = (a % 3) as u8;
-        tears.push(Tear {
-            party,
-            nth: a / 3 % 300,
-            cut: if b % 3 == 0 { None } else { Some(b / 3 % 200) },
-        })?;
-        sends.push(FailSend {
-            nth: a / 3 % 1000,
-            went: b % 2 == 0,
-        })?;
-        reads.push(FailRead {
-            party,
-            nth: b / 3 % 100,
-        })?;
+        add_failures(rt, &mut plan, a, b);
     }
-    Ok(Plan {
-        tears,
-        sends,
-        reads,
-    })
+    plan
 }
 
 /// A take by a party: of one of its last datagrams above all, of any, or of none.
@@ -61,38 +66,34 @@ fn take(world: &MemoryWorld, party: u8, a: u32, word: u32) -> Event {
     Event::Take { party, pick, word }
 }
 
-/// A player's choice, by the record of his seat.
-fn choice(world: &MemoryWorld, seat: Player, word: u32) -> Event {
-    let phase = match world.held(party_of(seat)) {
+/// The phase of a party's record; where it is down, as at the start.
+fn phase_of(world: &MemoryWorld, party: u8) -> Phase {
+    match world.held(party) {
         Some(record) => record.standing().phase(),
         None => Phase::Opening,
-    };
-    Event::Choose {
-        seat,
-        action: action_of(phase, word),
     }
 }
 
+/// A player's choice, by the record of his seat.
+fn choice(rt: &impl Abort, world: &MemoryWorld, seat: Player, word: u32) -> Event {
+    let action = action_of(rt, phase_of(world, party_of(seat)), word);
+    Event::Choose { seat, action }
+}
+
 /// The event of two random words.
-fn event_of(world: &MemoryWorld, a: u32, b: u32) -> Event {
+fn event_of(rt: &impl Abort, world: &MemoryWorld, a: u32, b: u32) -> Event {
     let any = (b / 4 % (u32::from(LAST_PARTY) + 2)) as u8;
     let party = if a / 16 % 2 == 0 { any % 3 } else { any };
+    let seat = if b % 2 == 0 { Player::X } else { Player::O };
     match a % 16 {
         0 => Event::Due { word: b },
         1..=6 => take(world, party, a / 32, b),
-        7..=9 => choice(
-            world,
-            if b % 2 == 0 { Player::X } else { Player::O },
-            a / 16,
-        ),
+        7..=9 => choice(rt, world, seat, a / 16),
         10 | 11 => Event::Tick { party },
         12..=14 => Event::Save { party: any % 4 },
         _ => Event::Restart { party },
     }
 }
-
-/// What was claimed: by whom, under which number, and which action.
-type Claims = Vec<(Player, Number, Action)>;
 
 /// How often each of these came.
 #[derive(Clone, Copy, Default)]
@@ -118,39 +119,45 @@ fn count(counts: &mut Counts, outcome: &Outcome) {
     *counted = counted.saturating_add(1);
 }
 
+/// What was claimed: by whom, under which number, and which action.
+#[derive(Drop)]
+struct Claim {
+    seat: Player,
+    number: Number,
+    action: Action,
+}
+
+impl Claim {
+    /// Whether the entry, of this seat and under this number, answers it.
+    fn is_answered_by(&self, seat: Player, number: Number, entry: &Entry) -> bool {
+        if self.seat != seat || self.number != number {
+            return false;
+        }
+        let dice = match entry {
+            Entry::Rolled(dice) => Some(*dice),
+            _ => None,
+        };
+        entry_of(self.action.copy(), dice).as_ref() == Some(entry)
+    }
+}
+
 /// Whether the entry answers one of the claims that its seat made under its number.
-fn is_claimed(claims: &Claims, seat: Player, number: Number, entry: &Entry) -> bool {
-    let dice = match entry {
-        Entry::Rolled(dice) => Some(*dice),
-        _ => None,
-    };
-    for (player, claimed, action) in claims {
-        if *player == seat
-            && *claimed == number
-            && entry_of(action.copy(), dice).as_ref() == Some(entry)
-        {
+fn is_claimed(claims: &[Claim], seat: Player, number: Number, entry: &Entry) -> bool {
+    for claim in claims {
+        if claim.is_answered_by(seat, number, entry) {
             return true;
         }
     }
     false
 }
 
-/// Each entry of a seat was claimed, and the entries follow each other from the start.
-fn check_record(
-    rt: &impl Abort,
-    alloc: Global,
-    record: &Record,
-    claims: &Claims,
-) -> Result<(), Fail> {
-    let mut again = Record::new(alloc, record.id(), record.length(), record.rules())?;
+/// Each entry of a seat was claimed.
+fn check_claimed(rt: &impl Abort, record: &Record, claims: &[Claim]) {
     for number in 1..=record.len() {
-        let entry = record.entry(number).expect(rt, "an entry");
-        if let Some(seat) = record.by(number) {
+        if let (Some(seat), Some(entry)) = (record.by(number), record.entry(number)) {
             assert!(rt; is_claimed(claims, seat, number, entry), "entry {number}");
         }
-        push(&mut again, entry)?;
     }
-    Ok(())
 }
 
 /// Each kind of failure and of progress came.
@@ -159,51 +166,68 @@ fn check_counts(rt: &impl Abort, counts: Counts) {
     assert!(rt; counts.saves_torn > 0 && counts.sends_failed > 0 && counts.reads_failed > 0);
 }
 
-fn world(alloc: Global, rules: Rules, words: &mut ChaCha20Rng) -> Result<MemoryWorld, WorldFault> {
-    let plan = plan_of(alloc, words)?;
+fn world(rt: &impl Abort, alloc: Global, rules: Rules, plan: &Plan) -> MemoryWorld {
     let setup = Setup {
         id: 9,
         length: 99,
         rules,
         watchers: LAST_PARTY - 2,
     };
-    let (world, _) = simulate(alloc, setup, &plan, &[])?;
-    Ok(world)
+    let (world, _) = simulate(alloc, setup, plan, &[]).expect(rt, "a world");
+    world
+}
+
+/// Notes the claim that an event made, if it made one.
+fn note_claim(rt: &impl Abort, claims: &mut Vec<Claim>, event: Event, outcome: &Outcome) {
+    if let (Event::Choose { seat, action }, Outcome::Chose(Ok(number))) = (event, outcome) {
+        let claim = Claim {
+            seat,
+            number: *number,
+            action,
+        };
+        assert!(rt; claims.push(claim).is_ok());
+    }
+}
+
+/// The event of two random words happens, and is noted.
+fn happen(
+    rt: &impl Abort,
+    world: &mut MemoryWorld,
+    claims: &mut Vec<Claim>,
+    counts: &mut Counts,
+    a: u32,
+    b: u32,
+) {
+    let event = event_of(rt, world, a, b);
+    let outcome = world.step(event.copy());
+    note_claim(rt, claims, event, &outcome);
+    count(counts, &outcome);
 }
 
 /// After each event the record of each party is a front of the referee's, and in the end each entry of a seat is one
-/// that it claimed.
-fn check_run(rt: &impl Abort, alloc: Global, seed: u8, rules: Rules) -> Result<(), Fail> {
+/// that it claimed, and the entries follow each other.
+fn check_run(rt: &impl Abort, alloc: Global, seed: u8, rules: Rules) {
     let mut words = ChaCha20Rng::from_seed([seed; 32]);
-    let mut world = world(alloc, rules, &mut words)?;
+    let plan = plan_of(rt, alloc, &mut words);
+    let mut world = world(rt, alloc, rules, &plan);
     let mut claims = Vec::new(alloc);
     let mut counts = Counts::default();
     for _ in 0..EVENTS {
         let (a, b) = (words.next_word(), words.next_word());
-        let event = event_of(&world, a, b);
-        let outcome = world.step(event.copy());
-        if let (Event::Choose { seat, action }, Outcome::Chose(Ok(number))) = (event, &outcome) {
-            claims.push((seat, *number, action))?;
-        }
-        count(&mut counts, &outcome);
+        happen(rt, &mut world, &mut claims, &mut counts, a, b);
         check_fronts(rt, &world, LAST_PARTY);
     }
     check_counts(rt, counts);
     if let Some(record) = world.held(0) {
-        check_record(rt, alloc, record, &claims)?;
+        check_claimed(rt, record, &claims);
+        check_legal(rt, alloc, record);
     }
-    Ok(())
 }
 
 #[test]
-fn random_events(rt: HostRuntime) -> Result<(), Fail> {
-    for (seed, rules) in [
-        (1, Rules::One),
-        (2, Rules::Two),
-        (3, Rules::One),
-        (4, Rules::Two),
-    ] {
-        check_run(&rt, rt.alloc(), seed, rules)?;
-    }
-    Ok(())
+fn random_events(rt: HostRuntime) {
+    check_run(&rt, rt.alloc(), 1, Rules::One);
+    check_run(&rt, rt.alloc(), 2, Rules::Two);
+    check_run(&rt, rt.alloc(), 3, Rules::One);
+    check_run(&rt, rt.alloc(), 4, Rules::Two);
 }

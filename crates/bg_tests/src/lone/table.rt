@@ -1,20 +1,18 @@
 //! A match between parties that run each in a process of its own: processes end at random, and begin again.
 use crate::fronts::is_front;
+use crate::hosts::Host;
 use bg_auto::auto_action;
 use bg_board::Player;
 use bg_examples::lone::followers::{LoneSeat, LoneWatcher};
 use bg_examples::lone::referee::LoneReferee;
-use bg_match::{Actor, Number, Record, Rules, Terms};
+use bg_examples::post_link::PostLink;
+use bg_match::{Action, Actor, Number, Record, Rules, Terms};
 use bg_text::{Verdict, judge_text, transcript_text};
-use bg_wire::{Datagram, FIRST_WATCHER, REFEREE, SEAT_OF_O, SEAT_OF_X};
+use bg_wire::{Datagram, FIRST_WATCHER, REFEREE, SEAT_OF_O, SEAT_OF_X, party_of};
 use rand_chacha::ChaCha20Rng;
 use rand_core::SeedableRng;
 use rand_core::utils::NextWord;
 use std::collections::VecDeque;
-use std::fs::File;
-use std::process::Abort;
-use std::rt::Files;
-use std::test::Fail;
 
 pub(crate) const MATCH: u64 = 1;
 
@@ -36,7 +34,27 @@ pub(crate) struct Table<'a, R> {
     watcher: Option<LoneWatcher>,
 }
 
-impl<'a, R: Files<File = File> + AllocGlobal + Abort> Table<'a, R> {
+/// What the automatic player of a seat does now.
+fn action_of<R: Host>(rt: &R, seat: &LoneSeat<'_, R>, player: Player) -> Option<Action> {
+    auto_action(rt.alloc(), seat.held()?, player).expect(rt, "memory")
+}
+
+/// A turn of a seat that plays by itself.
+fn play_seat<R: Host>(rt: &R, seat: &mut LoneSeat<'_, R>, player: Player) {
+    if let Some(action) = action_of(rt, seat, player) {
+        seat.choose(action);
+    }
+    seat.turn().expect(rt, "a turn");
+}
+
+/// The transcript is good.
+fn check_good(rt: &impl Host, record: &Record) {
+    let text = transcript_text(rt.alloc(), record).expect(rt, "memory");
+    let judged = judge_text(rt.alloc(), &text).expect(rt, "memory");
+    assert!(rt; judged.verdict == Verdict::Fine(record.len()));
+}
+
+impl<'a, R: Host> Table<'a, R> {
     pub(crate) fn new(rt: &'a R, folder: &'a str, rules: Rules) -> Table<'a, R> {
         Table {
             rt,
@@ -51,82 +69,94 @@ impl<'a, R: Files<File = File> + AllocGlobal + Abort> Table<'a, R> {
         }
     }
 
+    fn begin_referee(&mut self) {
+        self.begun = self.begun.wrapping_add(1);
+        let words = ChaCha20Rng::from_seed([self.begun; 32]);
+        let referee = LoneReferee::begin(self.rt, self.folder, MATCH, self.terms, words);
+        self.referee = Some(referee.expect(self.rt, "a referee"));
+    }
+
     /// A turn of the referee, which begins first where it does not run.
-    fn referee_turn(&mut self) -> Result<(), Fail> {
-        let mut referee = match self.referee.take() {
-            Some(referee) => referee,
-            None => {
-                self.begun = self.begun.wrapping_add(1);
-                let words = ChaCha20Rng::from_seed([self.begun; 32]);
-                LoneReferee::begin(self.rt, self.folder, MATCH, self.terms, words)?
-            }
-        };
-        referee.turn()?;
-        let sent = referee.link.outgoing();
-        self.referee = Some(referee);
-        self.carry(sent);
-        Ok(())
+    fn referee_turn(&mut self) {
+        if self.referee.is_none() {
+            self.begin_referee();
+        }
+        if let Some(referee) = &mut self.referee {
+            referee.turn().expect(self.rt, "a turn");
+        }
+        self.carry(REFEREE);
+    }
+
+    fn seat(&mut self, player: Player) -> &mut Option<LoneSeat<'a, R>> {
+        match player {
+            Player::X => &mut self.x,
+            Player::O => &mut self.o,
+        }
+    }
+
+    fn begin_seat(&mut self, player: Player) {
+        let seat = LoneSeat::begin(self.rt, self.folder, player, MATCH, self.terms);
+        let seat = seat.expect(self.rt, "a seat");
+        *self.seat(player) = Some(seat);
     }
 
     /// A turn of a seat that plays by itself, and begins first where it does not run.
-    fn seat_turn(&mut self, player: Player) -> Result<(), Fail> {
-        let running = match player {
-            Player::X => self.x.take(),
-            Player::O => self.o.take(),
-        };
-        let mut seat = match running {
-            Some(seat) => seat,
-            None => LoneSeat::begin(self.rt, self.folder, player, MATCH, self.terms)?,
-        };
-        if let Some(record) = seat.held() {
-            if let Some(action) = auto_action(self.rt.alloc(), record, player)? {
-                seat.choose(action);
-            }
+    fn seat_turn(&mut self, player: Player) {
+        let rt = self.rt;
+        if self.seat(player).is_none() {
+            self.begin_seat(player);
         }
-        seat.turn()?;
-        let sent = seat.link.outgoing();
-        match player {
-            Player::X => self.x = Some(seat),
-            Player::O => self.o = Some(seat),
+        if let Some(seat) = self.seat(player) {
+            play_seat(rt, seat, player);
         }
-        self.carry(sent);
-        Ok(())
+        self.carry(party_of(player));
+    }
+
+    fn begin_watcher(&mut self) {
+        let watcher = LoneWatcher::begin(self.rt.alloc(), FIRST_WATCHER, MATCH, self.terms);
+        self.watcher = Some(watcher.expect(self.rt, "a watcher"));
     }
 
     /// A turn of the watcher, who begins first where he does not run.
-    fn watcher_turn(&mut self) -> Result<(), Fail> {
-        let mut watcher = match self.watcher.take() {
-            Some(watcher) => watcher,
-            None => LoneWatcher::begin(self.rt.alloc(), FIRST_WATCHER, MATCH, self.terms)?,
-        };
-        watcher.turn();
-        let sent = watcher.link.outgoing();
-        self.watcher = Some(watcher);
-        self.carry(sent);
-        Ok(())
+    fn watcher_turn(&mut self) {
+        if self.watcher.is_none() {
+            self.begin_watcher();
+        }
+        if let Some(watcher) = &mut self.watcher {
+            watcher.turn();
+        }
+        self.carry(FIRST_WATCHER);
     }
 
-    /// Carries datagrams to the parties that run; one in eight is lost.
-    fn carry(&mut self, sent: VecDeque<Datagram>) {
-        for datagram in &sent {
+    /// The link of a party that runs.
+    fn link(&mut self, party: u8) -> Option<&mut PostLink> {
+        match party {
+            REFEREE => Some(&mut self.referee.as_mut()?.link),
+            SEAT_OF_X => Some(&mut self.x.as_mut()?.link),
+            SEAT_OF_O => Some(&mut self.o.as_mut()?.link),
+            FIRST_WATCHER => Some(&mut self.watcher.as_mut()?.link),
+            _ => None,
+        }
+    }
+
+    /// What a party that runs has sent.
+    fn sent(&mut self, party: u8) -> VecDeque<Datagram> {
+        let rt = self.rt;
+        self.link(party).expect(rt, "the party runs").outgoing()
+    }
+
+    /// Carries what a party has sent to the parties that run; one datagram in eight is lost.
+    fn carry(&mut self, party: u8) {
+        for datagram in &self.sent(party) {
             if self.chances.next_word() % 8 > 0 {
-                self.hand_over(datagram.to, datagram.bytes.bytes.as_slice());
+                self.hand_over(datagram);
             }
         }
     }
 
-    fn hand_over(&mut self, party: u8, bytes: &[u8]) {
-        if let (REFEREE, Some(referee)) = (party, &mut self.referee) {
-            referee.link.receive(bytes);
-        }
-        if let (SEAT_OF_X, Some(x)) = (party, &mut self.x) {
-            x.link.receive(bytes);
-        }
-        if let (SEAT_OF_O, Some(o)) = (party, &mut self.o) {
-            o.link.receive(bytes);
-        }
-        if let (FIRST_WATCHER, Some(watcher)) = (party, &mut self.watcher) {
-            watcher.link.receive(bytes);
+    fn hand_over(&mut self, datagram: &Datagram) {
+        if let Some(link) = self.link(datagram.to) {
+            link.receive(datagram.bytes.bytes.as_slice());
         }
     }
 
@@ -151,11 +181,28 @@ impl<'a, R: Files<File = File> + AllocGlobal + Abort> Table<'a, R> {
         }
     }
 
+    /// Whether a party holds the end of the match.
+    fn holds_end(&self, party: u8) -> bool {
+        match self.held(party) {
+            Some(record) => record.actor() == Actor::Nobody,
+            None => false,
+        }
+    }
+
     fn is_over(&self) -> bool {
-        (REFEREE..=FIRST_WATCHER).all(|party| {
-            self.held(party)
-                .is_some_and(|record| record.actor() == Actor::Nobody)
-        })
+        let mut is_over = true;
+        for party in REFEREE..=FIRST_WATCHER {
+            is_over &= self.holds_end(party);
+        }
+        is_over
+    }
+
+    /// Whether what a party holds that runs is a front of the whole.
+    fn holds_front(&self, party: u8, whole: &Record) -> bool {
+        match self.held(party) {
+            Some(record) => is_front(record, whole),
+            None => true,
+        }
     }
 
     /// The referee holds at least so many entries, and the others fronts of what it holds. Gives how many it holds.
@@ -166,40 +213,42 @@ impl<'a, R: Files<File = File> + AllocGlobal + Abort> Table<'a, R> {
         };
         assert!(rt; whole.len() >= before);
         for party in SEAT_OF_X..=FIRST_WATCHER {
-            if let Some(record) = self.held(party) {
-                assert!(rt; is_front(record, whole), "party {party}");
-            }
+            assert!(rt; self.holds_front(party, whole), "party {party}");
         }
         whole.len()
     }
 
+    /// A turn of each party, behind each of which a process may end.
+    fn round(&mut self) {
+        self.referee_turn();
+        self.end_one();
+        self.seat_turn(Player::X);
+        self.end_one();
+        self.seat_turn(Player::O);
+        self.end_one();
+        self.watcher_turn();
+        self.end_one();
+    }
+
     /// Rounds of all parties until each of them holds the end of the match.
-    pub(crate) fn play(&mut self) -> Result<(), Fail> {
+    pub(crate) fn play(&mut self) {
+        let rt = self.rt;
         let mut entries = 0;
         for _ in 0..MOST_ROUNDS {
-            self.referee_turn()?;
-            self.end_one();
-            self.seat_turn(Player::X)?;
-            self.end_one();
-            self.seat_turn(Player::O)?;
-            self.end_one();
-            self.watcher_turn()?;
-            self.end_one();
+            self.round();
             entries = self.check(entries);
             if self.is_over() {
-                return Ok(());
+                return;
             }
         }
-        Err(Fail::from("the match did not end"))
+        panic!(rt; "the match did not end")
     }
 
     /// All parties hold one record, whose transcript is good, and more than one process took part in it.
-    pub(crate) fn check_end(&self) -> Result<(), Fail> {
+    pub(crate) fn check_end(&self) {
         let rt = self.rt;
-        let alloc = rt.alloc();
         let whole = self.held(REFEREE).expect(rt, "the referee runs");
-        let text = transcript_text(alloc, whole)?;
-        assert!(rt; judge_text(alloc, &text)?.verdict == Verdict::Fine(whole.len()));
+        check_good(rt, whole);
         for party in SEAT_OF_X..=FIRST_WATCHER {
             let record = self.held(party).expect(rt, "the party runs");
             assert!(rt;
@@ -208,6 +257,5 @@ impl<'a, R: Files<File = File> + AllocGlobal + Abort> Table<'a, R> {
             );
         }
         assert!(rt; self.begun > 3, "{} processes", self.begun);
-        Ok(())
     }
 }
