@@ -1,5 +1,5 @@
-//! Tests of texts, by what is public of their crates: lines and the judge, pictures and pages, match files of other
-//! programs, and what is reported of files.
+//! Tests of texts, by what is public of their crates: lines and the judge, pictures and pages, what a player sees, match
+//! files of other programs, and what is reported of files.
 #![tactic(auto)]
 
 #[cfg(test)]
@@ -10,5 +10,7 @@ mod match_files;
 mod pictures;
 #[cfg(test)]
 mod reports;
+#[cfg(test)]
+mod tables;
 #[cfg(test)]
 mod texts;

@@ -1,9 +1,9 @@
 //! Pictures and pages. The expected texts are worked out by hand, from where things stand on a board.
 mod games;
-mod growths;
+pub(crate) mod growths;
 mod pages;
 mod pictures;
-mod records;
+pub(crate) mod records;
 mod results;
 mod standings;
 mod uses;

@@ -5,7 +5,7 @@ use std::alloc::{AllocError, Global};
 use std::test::Fail;
 
 /// Fails where the growth that comes next is refused: so `tools/checks/refuse_growths` learns how many came before.
-fn check_no_growth_is_left(alloc: Global) -> Result<(), Fail> {
+pub(crate) fn check_no_growth_is_left(alloc: Global) -> Result<(), Fail> {
     match Vec::<u8>::with_capacity(alloc, 1) {
         Ok(_) => Ok(()),
         Err(AllocError) => Err(Fail::from("no growth is left")),

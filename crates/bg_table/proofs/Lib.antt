@@ -1,0 +1,4 @@
+pub mod Counted
+pub mod Followed
+pub mod Latest
+pub mod Grown

@@ -1,0 +1,166 @@
+//! The match, the score, the pip counts and the cube, in words.
+ghost use Rattle.std.specs.Prelude.{◌≡◌, ◌++◌, OnOk};
+ghost use Rattle.bg_match.specs.State.{score_of};
+ghost use Rattle.bg_text.specs.Boards.BoardText.{line_text};
+ghost use Rattle.bg_table.specs.Headings.{crawford_words as mark, cube_line, cube_words, doubled_words, game_line};
+ghost use Rattle.bg_table.specs.Headings.{offer_words, owner_words, pips_line, pips_words, score_line, score_words};
+
+use crate::pips::pip_count;
+use crate::seen_players::put_name;
+use bg_board::{Board, Player};
+use bg_match::{Cube, Phase, Standing};
+use bg_text::{put_number, put_terms, put_text};
+use std::alloc::AllocError;
+
+/// Adds the line of the match and the game.
+#[tactic(auto, unfolding(crate::specs::Headings::game_line))]
+pub(crate) fn put_game_line(out: &mut Vec<u8>, standing: &Standing) -> Result<(), AllocError>
+    ensures { OnOk result (out.new.items ≡ out.old.items ++ line_text (game_line standing.now)) }
+{
+    put_terms(out, standing.length(), standing.rules())?;
+    put_text(out, ", game ")?;
+    put_number(out, standing.game().into())?;
+    put_text(out, crawford_words(standing.crawford()))?;
+    put_text(out, "\n")
+}
+
+/// What is said of a Crawford game.
+fn crawford_words(crawford: bool) -> &'static str
+    ensures { result.now ≡ mark crawford }
+{
+    if crawford { ", Crawford game" } else { "" }
+}
+
+/// Adds the line of the score, that of the reader first.
+#[tactic(auto, unfolding(crate::specs::Headings::score_line))]
+pub(crate) fn put_score_line(
+    out: &mut Vec<u8>,
+    standing: &Standing,
+    reader: Player,
+) -> Result<(), AllocError>
+    ensures { OnOk result (out.new.items ≡ out.old.items ++ line_text (score_line standing.now reader)) }
+{
+    put_text(out, "score: ")?;
+    put_score(out, standing, reader, reader)?;
+    put_text(out, ", ")?;
+    put_score(out, standing, reader.opponent(), reader)?;
+    put_text(out, "\n")
+}
+
+/// Adds how many of the points that the match is played to a player has.
+#[tactic(auto, unfolding(crate::specs::Headings::score_words))]
+fn put_score(
+    out: &mut Vec<u8>,
+    standing: &Standing,
+    player: Player,
+    reader: Player,
+) -> Result<(), AllocError>
+    ensures { OnOk result (out.new.items ≡ out.old.items ++ score_words standing.now player reader) }
+{
+    put_name(out, player, reader)?;
+    put_text(out, " ")?;
+    put_number(out, score_for(standing, player).into())?;
+    put_text(out, " of ")?;
+    put_number(out, standing.length().into())
+}
+
+/// The points of a player.
+fn score_for(standing: &Standing, player: Player) -> u16
+    ensures { result ≡ score_of standing.now player }
+{
+    let (x, o) = standing.score();
+    match player {
+        Player::X => x,
+        Player::O => o,
+    }
+}
+
+/// Adds the line of the pip counts, that of the reader first.
+#[tactic(auto, unfolding(crate::specs::Headings::pips_line))]
+pub(crate) fn put_pips_line(
+    out: &mut Vec<u8>,
+    board: &Board,
+    reader: Player,
+) -> Result<(), AllocError>
+    ensures { OnOk result (out.new.items ≡ out.old.items ++ line_text (pips_line board.now reader)) }
+{
+    put_text(out, "pips: ")?;
+    put_pips(out, board, reader, reader)?;
+    put_text(out, ", ")?;
+    put_pips(out, board, reader.opponent(), reader)?;
+    put_text(out, "\n")
+}
+
+/// Adds the pip count of a player.
+#[tactic(auto, unfolding(crate::specs::Headings::pips_words))]
+fn put_pips(
+    out: &mut Vec<u8>,
+    board: &Board,
+    player: Player,
+    reader: Player,
+) -> Result<(), AllocError>
+    ensures { OnOk result (out.new.items ≡ out.old.items ++ pips_words board.now player reader) }
+{
+    put_name(out, player, reader)?;
+    put_text(out, " ")?;
+    put_number(out, pip_count(board, player).into())
+}
+
+/// Adds the line of the cube: what it shows, whose it is, and what is offered while a double is answered.
+#[tactic(auto, unfolding(crate::specs::Headings::cube_line))]
+pub(crate) fn put_cube_line(
+    out: &mut Vec<u8>,
+    standing: &Standing,
+    reader: Player,
+) -> Result<(), AllocError>
+    ensures { OnOk result (out.new.items ≡ out.old.items ++ line_text (cube_line standing.now reader)) }
+{
+    put_cube(out, standing.cube(), reader)?;
+    put_offer(out, standing.phase(), standing.cube())?;
+    put_text(out, "\n")
+}
+
+/// Adds what the cube shows, and whose it is.
+#[tactic(auto, unfolding(crate::specs::Headings::cube_words))]
+fn put_cube(out: &mut Vec<u8>, cube: Cube, reader: Player) -> Result<(), AllocError>
+    ensures { OnOk result (out.new.items ≡ out.old.items ++ cube_words cube reader) }
+{
+    put_text(out, "cube: ")?;
+    put_number(out, cube.value.into())?;
+    put_owner(out, cube.owner, reader)
+}
+
+/// Adds whose the cube is.
+#[tactic(auto, unfolding(crate::specs::Headings::owner_words))]
+fn put_owner(out: &mut Vec<u8>, owner: Option<Player>, reader: Player) -> Result<(), AllocError>
+    ensures { OnOk result (out.new.items ≡ out.old.items ++ owner_words owner reader) }
+{
+    match owner {
+        None => put_text(out, " in the middle"),
+        Some(player) => {
+            put_text(out, " of ")?;
+            put_name(out, player, reader)
+        }
+    }
+}
+
+/// Adds what a double offers, while it is answered.
+#[tactic(auto, unfolding(crate::specs::Headings::offer_words))]
+fn put_offer(out: &mut Vec<u8>, phase: Phase, cube: Cube) -> Result<(), AllocError>
+    ensures { OnOk result (out.new.items ≡ out.old.items ++ offer_words phase cube.value) }
+{
+    match phase {
+        Phase::Doubled(_) => put_doubled(out, 2 * u64::from(cube.value)),
+        _ => Ok(()),
+    }
+}
+
+/// Adds what the cube shows where the double is taken.
+#[tactic(auto, unfolding(crate::specs::Headings::doubled_words))]
+fn put_doubled(out: &mut Vec<u8>, value: u64) -> Result<(), AllocError>
+    ensures { OnOk result (out.new.items ≡ out.old.items ++ doubled_words value) }
+{
+    put_text(out, ", doubled to ")?;
+    put_number(out, value)?;
+    Ok(())
+}

@@ -1,0 +1,82 @@
+//! What a player did last.
+ghost use Rattle.std.specs.Prelude.{◌≡◌, ◌≤◌, ◌++◌, ◌↔◌, IsTrue, MatchOption, OnOk, length};
+ghost use Rattle.bg_match.specs.Match.{IsLegalRecord};
+ghost use Rattle.bg_table.specs.LastEntries.{AddsLastLine, HasMadeNone, IsLastOf, IsMadeBy, counted_words as note};
+
+use bg_board::Player;
+use bg_match::{Entry, Number, Record};
+use bg_text::{entry_text, letter, put_text};
+use std::alloc::AllocError;
+
+/// Adds the line of the last entry that a player made, if he has made one.
+pub(crate) fn put_last(out: &mut Vec<u8>, log: &Record, player: Player) -> Result<(), AllocError>
+    ensures { OnOk result (AddsLastLine log.now player out.old.items out.new.items) }
+{
+    match last_of(log, player) {
+        Some(number) => put_last_line(out, log, player, number),
+        None => Ok(()),
+    }
+}
+
+/// The number of the last entry that a player made.
+fn last_of(log: &Record, player: Player) -> Option<Number>
+    ensures last { MatchOption result (HasMadeNone log.now player) (λ number. IsLastOf log.now player number) }
+    ensures legal { IsLegalRecord log.now.terms log.now.entries }
+{
+    let count = log.len();
+    for behind in 0..count {
+        if is_by(log, count - behind, player) {
+            return Some(count - behind);
+        }
+    }
+    None
+}
+
+/// Whether the entry of this number is the player's.
+fn is_by(log: &Record, number: Number, player: Player) -> bool
+    requires first { 1 ≤ number }
+    requires last { number ≤ length log.now.entries }
+    ensures { IsTrue result ↔ IsMadeBy log.now number player }
+{
+    is_seat(log.by(number), player)
+}
+
+/// Whether this is the seat of the player.
+fn is_seat(seat: Option<Player>, player: Player) -> bool
+    ensures { IsTrue result ↔ (seat ≡ Some player) }
+{
+    seat == Some(player)
+}
+
+/// Adds the line of the last entry of a player, which has this number.
+fn put_last_line(
+    out: &mut Vec<u8>,
+    log: &Record,
+    player: Player,
+    number: Number,
+) -> Result<(), AllocError>
+    requires last { IsLastOf log.now player number }
+    requires legal { IsLegalRecord log.now.terms log.now.entries }
+    ensures { OnOk result (AddsLastLine log.now player out.old.items out.new.items) }
+{
+    let entry = log.entry(number).unwrap();
+    put_text(out, "last: ")?;
+    put_text(out, entry_text(Some(player), entry).as_str())?;
+    put_counted(out, player, entry)?;
+    put_text(out, "\n")
+}
+
+/// Adds in whose numbers the points of an entry are.
+#[tactic(auto, unfolding(crate::specs::LastEntries::counted_words))]
+fn put_counted(out: &mut Vec<u8>, player: Player, entry: &Entry) -> Result<(), AllocError>
+    ensures { OnOk result (out.new.items ≡ out.old.items ++ note player entry.now) }
+{
+    match entry {
+        Entry::Moved(_) => {
+            put_text(out, " (as ")?;
+            put_text(out, letter(player))?;
+            put_text(out, " counts)")
+        }
+        _ => Ok(()),
+    }
+}

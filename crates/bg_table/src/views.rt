@@ -1,0 +1,57 @@
+//! All that a player sees of a match.
+ghost use Rattle.std.specs.Prelude.{◌≡◌, ◌++◌, IfOk, OnOk};
+ghost use Rattle.bg_text.specs.Boards.BoardText.{line_text, phase_line};
+ghost use Rattle.bg_table.specs.Views.{IsSeatView, heading_text, table_text};
+
+use crate::headings::{put_cube_line, put_game_line, put_pips_line, put_score_line};
+use crate::last_entries::put_last;
+use crate::seen_boards::put_seen_board;
+use bg_board::Player;
+use bg_match::{Record, Standing};
+use bg_text::{put_phase, put_text};
+use std::alloc::{AllocError, Global};
+
+/// What a player sees of a match: the match and the game, the score, the board from his side and in his own numbers,
+/// both pip counts, the cube, what the other player did last, and what is to happen next.
+///
+/// # Errors
+/// AllocError where there is no memory for it.
+pub fn seat_view_text(alloc: Global, log: &Record, reader: Player) -> Result<Vec<u8>, AllocError>
+    ensures { IfOk result (λ text. IsSeatView log.now reader text.items) }
+{
+    let standing = log.standing();
+    let mut out = Vec::new(alloc);
+    put_heading(&mut out, &standing, reader)?;
+    put_table(&mut out, &standing, reader)?;
+    put_last(&mut out, log, reader.opponent())?;
+    put_next(&mut out, &standing)?;
+    Ok(out)
+}
+
+/// Adds the match, the game and the score.
+#[tactic(auto, unfolding(crate::specs::Views::heading_text))]
+fn put_heading(out: &mut Vec<u8>, standing: &Standing, reader: Player) -> Result<(), AllocError>
+    ensures { OnOk result (out.new.items ≡ out.old.items ++ heading_text standing.now reader) }
+{
+    put_game_line(out, standing)?;
+    put_score_line(out, standing, reader)
+}
+
+/// Adds the board, the pip counts and the cube.
+#[tactic(auto, unfolding(crate::specs::Views::table_text))]
+fn put_table(out: &mut Vec<u8>, standing: &Standing, reader: Player) -> Result<(), AllocError>
+    ensures { OnOk result (out.new.items ≡ out.old.items ++ table_text standing.now reader) }
+{
+    let board = standing.board();
+    put_seen_board(out, &board, reader)?;
+    put_pips_line(out, &board, reader)?;
+    put_cube_line(out, standing, reader)
+}
+
+/// Adds the line of what is to happen next.
+fn put_next(out: &mut Vec<u8>, standing: &Standing) -> Result<(), AllocError>
+    ensures { OnOk result (out.new.items ≡ out.old.items ++ line_text (phase_line standing.now)) }
+{
+    put_phase(out, standing)?;
+    put_text(out, "\n")
+}
