@@ -3,11 +3,12 @@
 use crate::seats::{NOT_CHOSEN, Round, Seat};
 use crate::typed_lines::TypedLines;
 use bg_board::Player;
-use bg_console::{allocated, print_board, put_entries, unread, write_out, written};
+use bg_console::{allocated, put_entries, unread, write_out, written};
 use bg_match::{Actor, Entry, Number, Phase, Record};
 use bg_options::SeatOptions;
 use bg_processes::{Failures, Going};
 use bg_reports::Ending;
+use bg_table::{prompt_text, seat_view_text};
 use bg_text::{entry_text, parse_action, split_player};
 use bg_turns::legal_turns;
 use bg_world::{Outcome, outcome_text};
@@ -28,7 +29,7 @@ const HELP: &str = "You type, when it is your turn, an action of these:
   accept, reject             (after his offer to resign)
   move 8-5 6-5               (each step from a point to a point, bar and off too; `move` alone where none can be played)
 and at any time:
-  board                      draws the board
+  board                      draws the board, from your side and in your numbers
   legal                      lists the turns that are legal now
   help                       says this
   quit                       ends; the same command goes on later
@@ -113,17 +114,24 @@ where
 
     /// Shows where the match stands as far as the seat knows it.
     fn greet(&mut self) -> io::Result<()> {
-        let rt = self.rt;
-        let claimed = self.claimed();
         if let Some(record) = self.seat.process.held() {
             self.shown = record.len();
-            print_board(rt, record)?;
-            match claimed {
-                Some(number) => tell_claim(rt, number)?,
-                None => prompt(rt, self.player, record)?,
-            }
         }
-        Ok(())
+        self.show_table()
+    }
+
+    /// Shows the board, and what the player may do or that his choice waits.
+    fn show_table(&self) -> io::Result<()> {
+        let rt = self.rt;
+        let claimed = self.claimed();
+        let Some(record) = self.seat.process.held() else {
+            return Ok(());
+        };
+        print_view(rt, self.player, record)?;
+        match claimed {
+            Some(number) => tell_claim(rt, number),
+            None => prompt(rt, self.player, record),
+        }
     }
 
     /// The number of the entry that is chosen and not answered yet.
@@ -153,7 +161,7 @@ where
         self.shown = record.len();
         write_out(rt, &text)?;
         if round.going == Going::Over || record.actor() == Actor::Seat(self.player) {
-            print_board(rt, record)?;
+            print_view(rt, self.player, record)?;
             prompt(rt, self.player, record)?;
         }
         Ok(())
@@ -165,10 +173,7 @@ where
         let done = match line {
             b"" => Ok(()),
             b"help" => rt.print(HELP),
-            b"board" => match self.seat.process.held() {
-                Some(record) => print_board(rt, record),
-                None => Ok(()),
-            },
+            b"board" => self.show_table(),
             b"legal" => match self.seat.process.held() {
                 Some(record) => print_legal(rt, record),
                 None => Ok(()),
@@ -203,25 +208,16 @@ fn tell_claim(rt: &impl Print, number: Number) -> io::Result<()> {
     println!(rt; "your choice for entry {number} is kept, and waits for the referee")
 }
 
-/// Says whose turn it is, and what may be typed.
-fn prompt<R: Print>(rt: &R, player: Player, record: &Record) -> io::Result<()> {
-    let name = match player {
-        Player::X => "X",
-        Player::O => "O",
-    };
-    if record.actor() != Actor::Seat(player) {
-        return match record.actor() {
-            Actor::Nobody => rt.println("the match is over"),
-            _ => println!(rt; "it is not your turn, {name}"),
-        };
-    }
-    let what = match record.standing().phase() {
-        Phase::ToAct(_) => "roll, double, resign normal, resign gammon, resign backgammon",
-        Phase::Doubled(_) => "take, drop",
-        Phase::Resigned(_, _, _) => "accept, reject",
-        _ => "move .., resign normal, resign gammon, resign backgammon (`legal` lists the turns)",
-    };
-    println!(rt; "your turn, {name}: {what}")
+/// Shows what the player sees of the match.
+fn print_view<R: Print + AllocGlobal>(rt: &R, player: Player, record: &Record) -> io::Result<()> {
+    let text = seat_view_text(rt.alloc(), record, player)?;
+    write_out(rt, &text)
+}
+
+/// Says whose turn it is, and what the player may do.
+fn prompt<R: Print + AllocGlobal>(rt: &R, player: Player, record: &Record) -> io::Result<()> {
+    let text = prompt_text(rt.alloc(), &record.standing(), player)?;
+    write_out(rt, &text)
 }
 
 /// Prints the turns that are legal now, each as it is typed.
