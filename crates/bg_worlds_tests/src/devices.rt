@@ -4,10 +4,10 @@
 pub(crate) mod keepers;
 pub(crate) mod links;
 
-use bg_match::Number;
-use bg_wire::Slot;
+use bg_text::{put_number, put_text};
+use bg_wire::{Packet, decode};
 use bg_world::{DeviceFault, FailRead, FailSend, Tear};
-use std::alloc::Global;
+use std::alloc::{AllocError, Global};
 use std::cell::RefCell;
 
 /// Which calls of the devices fail: at most one of each kind.
@@ -32,42 +32,43 @@ pub(crate) fn tearing(party: u8, nth: u32, cut: Option<u32>) -> Failing {
     }
 }
 
-/// What a datagram says.
-#[derive(Clone, Copy, Debug, PartialEq, Eq)]
-pub(crate) enum Says {
-    /// There is none.
-    Nothing,
-    /// It is no packet.
-    Garbled,
-    /// This party holds so many entries.
-    Want(u8, Number),
-    /// This party claims the entry of this number.
-    Claim(u8, Number),
-    /// Entries from a number on, so many.
-    Entries(Number, usize),
+/// Adds words to a text, and numbers behind them.
+fn put(text: &mut Vec<u8>, words: &str, numbers: &[u32]) -> Result<(), AllocError> {
+    put_text(text, words)?;
+    for number in numbers {
+        put_text(text, " ")?;
+        put_number(text, u64::from(*number))?;
+    }
+    Ok(())
 }
 
-/// A call of a device.
-#[derive(Clone, Copy, Debug, PartialEq, Eq)]
-pub(crate) enum Call {
-    /// A slot of a party is read.
-    Read(u8, Slot),
-    /// To a slot of a party a save of this number is written, in which so many entries are held and the entry of this
-    /// number is claimed, 0 where none is.
-    Write(u8, Slot, u32, Number, Number),
-    /// The same, but it fails.
-    FailedWrite(u8, Slot, u32, Number, Number),
-    /// A party takes with a pick, and is handed this.
-    Take(u8, u32, Says),
-    /// To a party this is sent.
-    Send(u8, Says),
+/// Adds what a datagram says: "want" and a party with how many entries it holds, "claim" and a party with the number of
+/// the entry that it claims, "entries" and the first one's number with how many they are, or "garbled", where it is no
+/// packet. Where there is none that is "nothing".
+fn put_said(text: &mut Vec<u8>, datagram: Option<&[u8]>) -> Result<(), AllocError> {
+    let Some(bytes) = datagram else {
+        return put(text, ": nothing", &[]);
+    };
+    match decode(bytes) {
+        Ok(Packet::Want { sender, held, .. }) => put(text, ": want", &[sender.into(), held]),
+        Ok(Packet::Claim { sender, number, .. }) => put(text, ": claim", &[sender.into(), number]),
+        Ok(Packet::Entries { start, list, .. }) => {
+            put(text, ": entries", &[start, list.entries.len() as u32])
+        }
+        Err(_) => put(text, ": garbled", &[]),
+    }
 }
 
-/// The calls of all devices of a match, in order, and which of them fail.
+/// The calls of all devices of a match, in order, and which of them fail. A call is a line:
+/// - "read 1 0": slot 0 of party 1 is read;
+/// - "write 1 0 2 3 4": to slot 0 of party 1 save 2 is written, in which entry 3 is claimed, 0 where none is, and 4 are
+///   held; "failed write" where that fails;
+/// - "take 1 0: want 2 3": party 1 takes with pick 0, and is handed what says this;
+/// - "send 1: want 2 3": to party 1 this is sent.
 #[derive(Drop)]
 pub(crate) struct Recorder {
     pub(crate) alloc: Global,
-    calls: RefCell<Vec<Call>>,
+    calls: RefCell<Vec<u8>>,
     failing: Failing,
 }
 
@@ -80,14 +81,35 @@ impl Recorder {
         }
     }
 
-    /// The calls so far.
-    pub(crate) fn into_calls(self) -> Vec<Call> {
+    /// The lines of the calls so far.
+    pub(crate) fn into_calls(self) -> Vec<u8> {
         self.calls.into_inner()
     }
 
-    fn record(&self, call: Call) -> Result<(), DeviceFault> {
+    /// A keeper is called.
+    fn record(&self, words: &str, numbers: &[u32]) -> Result<(), DeviceFault> {
         match self.calls.try_borrow_mut() {
-            Ok(mut calls) => Ok(calls.push(call)?),
+            Ok(mut calls) => {
+                put(&mut calls, words, numbers)?;
+                Ok(put_text(&mut calls, "\n")?)
+            }
+            Err(_) => Err(DeviceFault::Failed),
+        }
+    }
+
+    /// A link is called, and handed a datagram or asked for one.
+    fn record_said(
+        &self,
+        words: &str,
+        numbers: &[u32],
+        datagram: Option<&[u8]>,
+    ) -> Result<(), DeviceFault> {
+        match self.calls.try_borrow_mut() {
+            Ok(mut calls) => {
+                put(&mut calls, words, numbers)?;
+                put_said(&mut calls, datagram)?;
+                Ok(put_text(&mut calls, "\n")?)
+            }
             Err(_) => Err(DeviceFault::Failed),
         }
     }

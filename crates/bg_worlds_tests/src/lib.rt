@@ -9,4 +9,6 @@ mod devices;
 #[cfg(test)]
 mod players;
 #[cfg(test)]
+mod sections;
+#[cfg(test)]
 mod worlds;

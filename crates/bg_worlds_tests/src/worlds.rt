@@ -3,10 +3,10 @@
 mod beginnings;
 mod device_growths;
 mod event_lines;
-mod event_rows;
 mod faults;
 mod final_texts;
 mod growths;
+mod lines;
 mod memory_keepers;
 mod memory_nets;
 mod memory_worlds;
@@ -17,14 +17,13 @@ mod scripts;
 mod simulations;
 mod worked_matches;
 
-use crate::checks::{check_party, check_row};
+use crate::checks::check_party;
 use bg_board::Player;
-use bg_match::Action;
 use bg_world::{Event, Role};
-use std::test::Fail;
+use lines::event;
 
 #[test]
-fn parts_of_parties(rt: HostRuntime) -> Result<(), Fail> {
+fn parts_of_parties(rt: HostRuntime) {
     for (party, role) in [
         (0, Role::Referee),
         (1, Role::Seat(Player::X)),
@@ -34,7 +33,6 @@ fn parts_of_parties(rt: HostRuntime) -> Result<(), Fail> {
     ] {
         check_party(&rt, party, Role::of(party) == role);
     }
-    Ok(())
 }
 
 /// Whether the copy of an event is that event.
@@ -43,24 +41,15 @@ fn copies(event: &Event) -> bool {
 }
 
 #[test]
-fn copies_of_events(rt: HostRuntime) -> Result<(), Fail> {
-    let events = [
-        Event::Due { word: 12 },
-        Event::Take {
-            party: 3,
-            pick: 1,
-            word: 2,
-        },
-        Event::Choose {
-            seat: Player::O,
-            action: Action::Double,
-        },
-        Event::Save { party: 1 },
-        Event::Tick { party: 2 },
-        Event::Restart { party: 0 },
-    ];
-    for (i, event) in events.iter().enumerate() {
-        check_row(&rt, i, copies(event));
+fn copies_of_events(rt: HostRuntime) {
+    for line in [
+        "due 12",
+        "take 3 1 2",
+        "choose O double",
+        "save 1",
+        "tick 2",
+        "restart 0",
+    ] {
+        assert!(rt; copies(&event(&rt, line)), "{line}");
     }
-    Ok(())
 }

@@ -2,15 +2,21 @@
 ghost use Rattle.std.specs.Prelude.{None, length};
 ghost use Rattle.bg_world.specs.Protocol.Slots.{empty_slots};
 
-use super::{Call, Recorder};
-use bg_match::Number;
+use super::Recorder;
 use bg_streams::History;
 use bg_wire::{Slot, load};
 use bg_world::{DeviceFault, Keeper, count_failed};
 use std::alloc::{AllocError, Global};
 
+fn number_of(slot: Slot) -> u32 {
+    match slot {
+        Slot::Zero => 0,
+        Slot::One => 1,
+    }
+}
+
 /// The number of the save that a text has, that of the entry which it claims, 0 for none, and how many entries it has.
-fn told_by(alloc: Global, bytes: &[u8]) -> Result<(u32, Number, Number), DeviceFault> {
+fn told_by(alloc: Global, bytes: &[u8]) -> Result<[u32; 3], DeviceFault> {
     let Ok(saved) = load(alloc, bytes) else {
         return Err(DeviceFault::Failed);
     };
@@ -18,7 +24,7 @@ fn told_by(alloc: Global, bytes: &[u8]) -> Result<(u32, Number, Number), DeviceF
         Some((number, _)) => *number,
         None => 0,
     };
-    Ok((saved.save, claimed, saved.log.len()))
+    Ok([saved.save, claimed, saved.log.len()])
 }
 
 /// What was last written to the slots of a party, and how often it was asked.
@@ -44,17 +50,16 @@ impl<'a> Written<'a> {
     }
 
     fn put(&mut self, slot: Slot, bytes: &[u8]) -> Result<(), DeviceFault> {
-        let (save, claimed, held) = told_by(self.recorder.alloc, bytes)?;
+        let [save, claimed, held] = told_by(self.recorder.alloc, bytes)?;
+        let told = [self.party.into(), number_of(slot), save, claimed, held];
         self.writes = self.writes.saturating_add(1);
         match self.recorder.tear(self.party, self.writes) {
             None => {
-                self.recorder
-                    .record(Call::Write(self.party, slot, save, claimed, held))?;
+                self.recorder.record("write", &told)?;
                 self.keep(slot, bytes)
             }
             Some(tear) => {
-                self.recorder
-                    .record(Call::FailedWrite(self.party, slot, save, claimed, held))?;
+                self.recorder.record("failed write", &told)?;
                 if let Some(cut) = tear.cut {
                     self.keep(slot, &bytes[..(cut as usize).min(bytes.len())])?;
                 }
@@ -64,7 +69,8 @@ impl<'a> Written<'a> {
     }
 
     fn get(&mut self, slot: Slot) -> Result<Vec<u8>, DeviceFault> {
-        self.recorder.record(Call::Read(self.party, slot))?;
+        self.recorder
+            .record("read", &[self.party.into(), number_of(slot)])?;
         self.reads = self.reads.saturating_add(1);
         if self.recorder.fails_read(self.party, self.reads) {
             return Err(DeviceFault::Failed);

@@ -2,21 +2,11 @@
 ghost use Rattle.std.specs.Prelude.{[], None, length};
 ghost use Rattle.bg_world.specs.Devices.Handed.{noted_answer};
 
-use super::{Call, Recorder, Says};
+use super::Recorder;
 use arrayvec::ArrayVec;
 use bg_streams::History;
-use bg_wire::{Datagram, Packet, decode};
+use bg_wire::Datagram;
 use bg_world::{DeviceFault, Link, Taken, count_failed, note_taken};
-
-/// What the bytes of a datagram say.
-fn said_by(bytes: &[u8]) -> Says {
-    match decode(bytes) {
-        Ok(Packet::Want { sender, held, .. }) => Says::Want(sender, held),
-        Ok(Packet::Claim { sender, number, .. }) => Says::Claim(sender, number),
-        Ok(Packet::Entries { start, list, .. }) => Says::Entries(start, list.entries.len()),
-        Err(_) => Says::Garbled,
-    }
-}
 
 /// The same bytes, by themselves.
 fn text_of(bytes: &[u8]) -> Result<ArrayVec<u8, 256>, DeviceFault> {
@@ -88,7 +78,7 @@ impl<'a> Queue<'a> {
     fn send_on(&mut self, datagram: &Datagram) -> Result<(), DeviceFault> {
         let bytes = datagram.bytes.bytes.as_slice();
         self.recorder
-            .record(Call::Send(datagram.to, said_by(bytes)))?;
+            .record_said("send", &[datagram.to.into()], Some(bytes))?;
         self.sends = self.sends.saturating_add(1);
         match self.recorder.send_failure(self.sends) {
             None => self.wait(datagram.to, bytes),
@@ -103,11 +93,9 @@ impl<'a> Queue<'a> {
 
     fn hand_over(&mut self, party: u8, pick: u32) -> Taken {
         let found = self.next(party, pick)?;
-        let said = match &found {
-            Some(bytes) => said_by(bytes.as_slice()),
-            None => Says::Nothing,
-        };
-        self.recorder.record(Call::Take(party, pick, said))?;
+        let bytes = found.as_ref().map(|bytes| bytes.as_slice());
+        self.recorder
+            .record_said("take", &[party.into(), pick], bytes)?;
         Ok(found)
     }
 }

@@ -6,7 +6,7 @@ use bg_text::{Verdict, judge_text, parse_entry};
 use bg_world::ScriptFault;
 use std::alloc::{AllocError, Global};
 use std::process::Abort;
-use std::test::Fail;
+use std::str;
 
 /// What the player does.
 pub(crate) fn action(
@@ -17,19 +17,15 @@ pub(crate) fn action(
     auto_action(alloc, record, player)
 }
 
-/// The record of these lines.
-pub(crate) fn record_of(
-    alloc: Global,
-    length: u8,
-    rules: Rules,
-    lines: &[&str],
-) -> Result<Record, Fail> {
-    let mut record = Record::new(alloc, 1, length, rules)?;
-    for line in lines {
-        let (_, entry) = parse_entry(line.as_bytes())?;
-        record.push(entry)?;
-    }
-    Ok(record)
+/// The entry of this line is the next one.
+pub(crate) fn push(rt: &impl Abort, record: &mut Record, line: &str) {
+    let (_, entry) = parse_entry(line.as_bytes()).expect(rt, "the line of an entry");
+    assert!(rt; record.push(entry).is_ok(), "{line}");
+}
+
+/// A record of no entry.
+pub(crate) fn empty_record(rt: &(impl AllocGlobal + Abort), length: u8, rules: Rules) -> Record {
+    Record::new(rt.alloc(), 1, length, rules).expect(rt, "a length from 1 to 99")
 }
 
 /// What is printed of a match after so many events.
@@ -44,13 +40,19 @@ pub(crate) fn text_of(
     sim_text(alloc, seed, length, rules, watchers, steps)
 }
 
-/// The transcript in what is printed of a match is good.
-pub(crate) fn check_transcript(
-    rt: &impl Abort,
-    alloc: Global,
-    transcript: &str,
-) -> Result<(), Fail> {
-    let judgement = judge_text(alloc, transcript.as_bytes())?;
+/// The same as a text.
+pub(crate) fn text_in<'a>(rt: &impl Abort, bytes: &'a [u8]) -> &'a str {
+    str::from_utf8(bytes).expect(rt, "a text")
+}
+
+/// What is printed of a match before its parties.
+pub(crate) fn transcript_in<'a>(rt: &impl Abort, text: &'a str) -> &'a str {
+    let (transcript, _) = text.split_once("party 0: ").expect(rt, "parties");
+    transcript
+}
+
+/// The transcript is good.
+pub(crate) fn check_transcript(rt: &(impl AllocGlobal + Abort), transcript: &str) {
+    let judgement = judge_text(rt.alloc(), transcript.as_bytes()).expect(rt, "memory");
     assert!(rt; matches!(judgement.verdict, Verdict::Fine(_)));
-    Ok(())
 }

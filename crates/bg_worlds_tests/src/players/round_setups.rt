@@ -1,15 +1,15 @@
-//! Matches in rounds over devices that have something as they begin, and the comparison of their calls with lists.
-use crate::checks::check_row;
+//! Matches in rounds over devices that have something as they begin, and the comparison of their calls with texts.
+use super::round_calls::{CALLS, SHARED_CALLS};
 use crate::devices::keepers::OwnKeeper;
 use crate::devices::links::OwnLink;
-use crate::devices::{Call, Failing, NO_FAILURE, Recorder};
+use crate::devices::{Failing, NO_FAILURE, Recorder};
+use crate::sections::lines_of;
 use bg_auto::{LoopFault, run_rounds};
 use bg_match::Rules;
 use bg_streams::Writing;
 use bg_world::Keepers;
-use std::alloc::{AllocError, Global};
 use std::process::Abort;
-use std::test::Fail;
+use std::str;
 
 /// What the slots of a party have.
 #[derive(Clone, Copy)]
@@ -58,71 +58,73 @@ pub(crate) const UNUSED: Devices<'static> = Devices {
 
 /// A keeper of a party whose slots have these bytes.
 fn keeper<'a>(
+    rt: &impl Abort,
     recorder: &'a Recorder,
     party: u8,
     slots: Slots<'_>,
-) -> Result<OwnKeeper<'a>, AllocError> {
-    OwnKeeper::over(recorder, party, slots.zero, slots.one)
+) -> OwnKeeper<'a> {
+    OwnKeeper::over(recorder, party, slots.zero, slots.one).expect(rt, "memory")
 }
 
-/// The calls of the devices in so many rounds of a match, and what became of it.
-pub(crate) fn calls_of(
-    alloc: Global,
+/// A link on which these datagrams wait that are no packets.
+fn link<'a>(rt: &impl Abort, recorder: &'a Recorder, garbled: &[u8; 3]) -> OwnLink<'a> {
+    let mut link = OwnLink::in_order(recorder);
+    for (party, count) in (0..3u8).zip(garbled) {
+        for _ in 0..*count {
+            assert!(rt; link.wait(party, &[0]).is_ok());
+        }
+    }
+    link
+}
+
+/// What becomes of so many rounds of a match, whose calls the recorder notes.
+fn played(
+    rt: &(impl AllocGlobal + Abort),
+    recorder: &Recorder,
     seed: u64,
     length: u8,
     rounds: u32,
     devices: &Devices<'_>,
-) -> Result<(Vec<Call>, Result<(), LoopFault>), Fail> {
-    let recorder = Recorder::new(alloc, devices.failing);
-    let mut link = OwnLink::in_order(&recorder);
-    for party in 0..3u8 {
-        for _ in 0..devices.garbled[usize::from(party)] {
-            link.wait(party, &[0])?;
-        }
-    }
+) -> Result<(), LoopFault> {
     let keepers = Keepers {
-        referee: keeper(&recorder, 0, devices.of_referee)?,
-        x: keeper(&recorder, 1, devices.of_x)?,
-        o: keeper(&recorder, 2, devices.of_o)?,
+        referee: keeper(rt, recorder, 0, devices.of_referee),
+        x: keeper(rt, recorder, 1, devices.of_x),
+        o: keeper(rt, recorder, 2, devices.of_o),
     };
-    let mut text = Vec::new(alloc);
-    let mut output = Writing::new(&mut text);
-    let result = run_rounds(
-        alloc,
+    run_rounds(
+        rt.alloc(),
         seed,
         length,
         Rules::One,
         rounds,
-        link,
+        link(rt, recorder, &devices.garbled),
         keepers,
-        &mut output,
-    );
-    Ok((recorder.into_calls(), result))
+        &mut Writing::new(&mut Vec::new(rt.alloc())),
+    )
 }
 
-/// The calls are those of these parts, one part after the other.
-pub(crate) fn check_calls(rt: &impl Abort, calls: &[Call], parts: &[&[Call]]) {
-    let mut rest = calls.iter();
-    for (part, expected) in parts.iter().enumerate() {
-        for (index, call) in expected.iter().enumerate() {
-            let next = rest.next();
-            assert!(rt; next == Some(call), "part {part}, call {index}: {next:?}");
-        }
+/// The lines of the calls are those of the section of this name.
+fn check_calls(rt: &impl Abort, calls: &[u8], name: &str) {
+    let mut calls = str::from_utf8(calls).expect(rt, "a text").lines();
+    for expected in &lines_of(rt, CALLS, SHARED_CALLS, name) {
+        let call = calls.next().unwrap_or("no call");
+        assert!(rt; call == *expected, "{name}: {expected}, and not {call}");
     }
-    check_row(rt, calls.len(), rest.next().is_none());
+    assert!(rt; calls.next().is_none(), "{name}");
 }
 
-/// So many rounds of a match make the calls of these parts, one part after the other.
+/// So many rounds of a match make the calls of the section of this name, and come to this.
 pub(crate) fn check_rounds(
     rt: &(impl AllocGlobal + Abort),
+    name: &str,
     seed: u64,
     length: u8,
     rounds: u32,
     devices: &Devices<'_>,
-    parts: &[&[Call]],
-) -> Result<(), Fail> {
-    let (calls, result) = calls_of(rt.alloc(), seed, length, rounds, devices)?;
-    assert!(rt; result.is_ok());
-    check_calls(rt, &calls, parts);
-    Ok(())
+    expected: &Result<(), LoopFault>,
+) {
+    let recorder = Recorder::new(rt.alloc(), devices.failing);
+    let result = played(rt, &recorder, seed, length, rounds, devices);
+    assert!(rt; result == *expected, "{name}");
+    check_calls(rt, &recorder.into_calls(), name);
 }

@@ -1,10 +1,10 @@
 //! Matches by the second rules.
-use super::actions::{action, check_transcript, record_of, text_of};
+use super::actions::{
+    action, check_transcript, empty_record, push, text_in, text_of, transcript_in,
+};
 use bg_board::Player;
 use bg_match::Rules;
-use std::alloc::Global;
-use std::str;
-use std::test::Fail;
+use std::process::Abort;
 
 /// X is hit, and rolls double sixes with which he can't enter.
 const NO_STEP: [&str; 5] = [
@@ -15,26 +15,27 @@ const NO_STEP: [&str; 5] = [
     "X roll 6 6",
 ];
 
-/// Whether X does something, and O, where X can't enter.
-fn who_acts(alloc: Global, rules: Rules) -> Result<(bool, bool), Fail> {
-    let record = record_of(alloc, 1, rules, &NO_STEP)?;
-    let of_x = action(alloc, &record, Player::X)?;
-    let of_o = action(alloc, &record, Player::O)?;
-    Ok((of_x.is_some(), of_o.is_some()))
+/// Whether a player does something where X can't enter.
+fn acts(rt: &(impl AllocGlobal + Abort), rules: Rules, player: Player) -> bool {
+    let mut record = empty_record(rt, 1, rules);
+    for line in &NO_STEP {
+        push(rt, &mut record, line);
+    }
+    action(rt.alloc(), &record, player)
+        .expect(rt, "memory")
+        .is_some()
 }
 
 #[test]
-fn nobody_plays_a_turn_that_is_passed(rt: HostRuntime) -> Result<(), Fail> {
-    assert!(rt; who_acts(rt.alloc(), Rules::One)? == (true, false));
-    assert!(rt; who_acts(rt.alloc(), Rules::Two)? == (false, false));
-    Ok(())
+fn nobody_plays_a_turn_that_is_passed(rt: HostRuntime) {
+    assert!(rt; acts(&rt, Rules::One, Player::X) && !acts(&rt, Rules::One, Player::O));
+    assert!(rt; !acts(&rt, Rules::Two, Player::X) && !acts(&rt, Rules::Two, Player::O));
 }
 
 #[test]
-fn automatic_match_by_the_second_rules(rt: HostRuntime) -> Result<(), Fail> {
-    let text = text_of(rt.alloc(), 4, 1, Rules::Two, 1, 4000)?;
-    let text = str::from_utf8(&text)?;
+fn automatic_match_by_the_second_rules(rt: HostRuntime) {
+    let text = text_of(rt.alloc(), 4, 1, Rules::Two, 1, 4000).expect(&rt, "memory");
+    let text = text_in(&rt, &text);
     assert!(rt; text.starts_with("length 1 rules 2\nopen "));
-    let (transcript, _) = text.split_once("party 0: ").ok_or("no parties")?;
-    check_transcript(&rt, rt.alloc(), transcript)
+    check_transcript(&rt, transcript_in(&rt, text));
 }

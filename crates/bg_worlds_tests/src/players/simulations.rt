@@ -1,5 +1,5 @@
 //! Automatic matches.
-use super::actions::{action, check_transcript, record_of, text_of};
+use super::actions::{action, check_transcript, empty_record, text_in, text_of, transcript_in};
 use crate::checks::{check_no_growth_is_left, check_row};
 use bg_board::{Die, Player};
 use bg_match::{Action, Entry, Rules};
@@ -7,7 +7,6 @@ use bg_streams::EngineFault;
 use bg_world::{ScriptFault, WorldFault};
 use std::alloc::AllocError;
 use std::process::Abort;
-use std::str;
 use std::test::Fail;
 
 /// No event, length 1, one watcher.
@@ -42,10 +41,9 @@ X to move 6 4
 ";
 
 #[test]
-fn nothing_happens_without_events(rt: HostRuntime) -> Result<(), Fail> {
-    let text = text_of(rt.alloc(), 1, 1, Rules::One, 1, 0)?;
+fn nothing_happens_without_events(rt: HostRuntime) {
+    let text = text_of(rt.alloc(), 1, 1, Rules::One, 1, 0).expect(&rt, "memory");
     assert!(rt; text.as_slice() == NOTHING_HAPPENED.as_bytes());
-    Ok(())
 }
 
 /// The seed, the length and the watchers of a match, and why there is none.
@@ -70,85 +68,90 @@ fn refused_matches(rt: HostRuntime) {
     }
 }
 
-/// No party counts more entries than the referee, which comes first.
-fn check_parties(rt: &impl Abort, text: &str) -> Result<(), Fail> {
-    let mut most = None;
-    for line in text.lines() {
-        let Some(rest) = line.strip_prefix("party ") else {
-            continue;
-        };
-        let (_, entries) = rest.split_once(": ").ok_or("no colon")?;
-        let entries: u32 = entries
-            .strip_suffix(" entries")
-            .ok_or("no entries")?
-            .parse()?;
-        assert!(rt; entries <= most.unwrap_or(entries));
-        most = most.or(Some(entries));
-    }
-    Ok(())
+/// How many entries a line says that a party holds, if it says that.
+fn count_in(rt: &impl Abort, line: &str) -> Option<u32> {
+    let (_, entries) = line.strip_prefix("party ")?.split_once(": ")?;
+    let count = entries.strip_suffix(" entries").expect(rt, "entries");
+    Some(count.parse().expect(rt, "a number"))
 }
 
-/// The transcript of an automatic match by these rules, which is good.
-fn transcript_of(
+/// No party counts more entries than the referee, which comes first.
+fn check_parties(rt: &impl Abort, text: &str) {
+    let mut most = None;
+    for line in text.lines() {
+        if let Some(count) = count_in(rt, line) {
+            assert!(rt; count <= most.unwrap_or(count), "{line}");
+            most = most.or(Some(count));
+        }
+    }
+}
+
+/// What is printed of an automatic match by these rules, whose transcript is good.
+fn good_text(
     rt: &(impl AllocGlobal + Abort),
     seed: u64,
     rules: Rules,
     watchers: u8,
     steps: u32,
-) -> Result<Vec<u8>, Fail> {
-    let text = text_of(rt.alloc(), seed, 3, rules, watchers, steps)?;
-    let text = str::from_utf8(&text)?;
+) -> Vec<u8> {
+    let bytes = text_of(rt.alloc(), seed, 3, rules, watchers, steps).expect(rt, "memory");
+    let text = text_in(rt, &bytes);
     assert!(rt; text.matches("party ").count() == 3 + usize::from(watchers));
-    check_parties(rt, text)?;
-    let (transcript, _) = text.split_once("party 0: ").ok_or("no parties")?;
-    check_transcript(rt, rt.alloc(), transcript)?;
-    Ok(transcript.as_bytes().to_vec(rt.alloc())?)
+    check_parties(rt, text);
+    check_transcript(rt, transcript_in(rt, text));
+    bytes
 }
 
 /// One begins with the other.
-fn check_one_match(rt: &impl Abort, left: &[u8], right: &[u8]) {
+fn check_one_match(rt: &impl Abort, left: &str, right: &str) {
     assert!(rt; left.starts_with(right) || right.starts_with(left));
 }
 
-/// Whether of five matches by these rules somebody moves: the seed and the length alone decide what their entries are,
-/// and the rest how many there are.
-fn moves_by_seed_and_length(rt: &(impl AllocGlobal + Abort), rules: Rules) -> Result<bool, Fail> {
+/// Whether somebody moves in a match of this seed: the seed and the length alone decide what its entries are, and the
+/// rest how many there are.
+fn moves_in(rt: &(impl AllocGlobal + Abort), seed: u64, rules: Rules) -> bool {
+    let short = good_text(rt, seed, rules, 1, 200);
+    let long = good_text(rt, seed, rules, 1, 2000);
+    let watched = good_text(rt, seed, rules, 5, 2000);
+    let short = transcript_in(rt, text_in(rt, &short));
+    let long = transcript_in(rt, text_in(rt, &long));
+    let watched = transcript_in(rt, text_in(rt, &watched));
+    check_one_match(rt, short, long);
+    check_one_match(rt, short, watched);
+    check_one_match(rt, long, watched);
+    long.contains(" move ")
+}
+
+/// In one of five matches somebody moves.
+fn check_moves(rt: &(impl AllocGlobal + Abort), rules: Rules) {
     let mut moved = false;
     for seed in 1..=5 {
-        let short = transcript_of(rt, seed, rules, 1, 200)?;
-        let long = transcript_of(rt, seed, rules, 1, 2000)?;
-        let watched = transcript_of(rt, seed, rules, 5, 2000)?;
-        check_one_match(rt, &short, &long);
-        check_one_match(rt, &short, &watched);
-        check_one_match(rt, &long, &watched);
-        moved = moved || str::from_utf8(&long)?.contains(" move ");
+        moved = moves_in(rt, seed, rules) || moved;
     }
-    Ok(moved)
+    assert!(rt; moved);
 }
 
 #[test]
-fn entries_by_the_first_rules(rt: HostRuntime) -> Result<(), Fail> {
-    assert!(rt; moves_by_seed_and_length(&rt, Rules::One)?);
-    Ok(())
+fn entries_by_the_first_rules(rt: HostRuntime) {
+    check_moves(&rt, Rules::One);
 }
 
 #[test]
-fn entries_by_the_second_rules(rt: HostRuntime) -> Result<(), Fail> {
-    assert!(rt; moves_by_seed_and_length(&rt, Rules::Two)?);
-    Ok(())
+fn entries_by_the_second_rules(rt: HostRuntime) {
+    check_moves(&rt, Rules::Two);
 }
 
 /// What comes of the match of this test, in which one growth may be refused, and then again.
-fn text_at_last(rt: &(impl AllocGlobal + Abort), steps: u32) -> Result<Vec<u8>, Fail> {
+fn text_at_last(rt: &(impl AllocGlobal + Abort), steps: u32) -> Vec<u8> {
     match text_of(rt.alloc(), 2047, 1, Rules::One, 1, steps) {
-        Ok(text) => Ok(text),
+        Ok(text) => text,
         Err(fault) => {
             let is_memory = matches!(
                 fault,
                 ScriptFault::World(WorldFault::Memory) | ScriptFault::Engine(EngineFault::Memory)
             );
             assert!(rt; is_memory);
-            Ok(text_of(rt.alloc(), 2047, 1, Rules::One, 1, steps)?)
+            text_of(rt.alloc(), 2047, 1, Rules::One, 1, steps).expect(rt, "memory")
         }
     }
 }
@@ -157,7 +160,7 @@ fn text_at_last(rt: &(impl AllocGlobal + Abort), steps: u32) -> Result<Vec<u8>, 
 /// `tools/checks/refuse_growths` refuses each growth in turn.
 #[test]
 fn refused_growths_of_a_match(rt: HostRuntime) -> Result<(), Fail> {
-    let text = text_at_last(&rt, 24)?;
+    let text = text_at_last(&rt, 24);
     assert!(rt; text.as_slice() == AFTER_24_EVENTS.as_bytes());
     check_no_growth_is_left(rt.alloc())
 }
@@ -165,7 +168,7 @@ fn refused_growths_of_a_match(rt: HostRuntime) -> Result<(), Fail> {
 /// An automatic player lacks memory for nothing but the list of legal turns.
 #[test]
 fn refused_growths_of_an_action(rt: HostRuntime) -> Result<(), Fail> {
-    let mut record = record_of(rt.alloc(), 1, Rules::One, &[])?;
+    let mut record = empty_record(&rt, 1, Rules::One);
     if record.push(Entry::Opening(Die::Three, Die::One)).is_err() {
         record.push(Entry::Opening(Die::Three, Die::One))?;
     }

@@ -8,8 +8,7 @@ use bg_world::Outcome;
 use rand_chacha::ChaCha20Rng;
 use rand_core::SeedableRng;
 use rand_core::utils::NextWord;
-use std::alloc::Global;
-use std::test::Fail;
+use std::process::Abort;
 
 /// Words that were computed from the definition of ChaCha20 by another program: of a seed, the number of an entry and
 /// an attempt.
@@ -104,22 +103,25 @@ fn follows(
     after.held == Some(expected.0) && after.attempt == expected.1
 }
 
+/// An attempt whose event came to this is followed by that one.
+fn check_attempt(rt: &impl Abort, attempt: u16, outcome: &Outcome, after: u16) {
+    assert!(rt;
+        follows(attempt, false, outcome, 4, (4, after)),
+        "attempt {attempt}"
+    );
+}
+
 #[test]
 fn attempts_at_words(rt: HostRuntime) {
-    let equal = DueFault::EqualOpening;
-    let rows = [
-        (0, Outcome::Due(Err(DueFault::WordRefused)), 1),
-        (1, Outcome::Due(Err(equal)), 2),
-        (2, Outcome::Took(TakeOutcome::WordRefused), 3),
-        // Nothing else goes on.
-        (3, Outcome::Due(Err(DueFault::NothingDue)), 3),
-        (3, Outcome::Sent(1), 3),
-        // The last attempt is followed by the first.
-        (65535, Outcome::Due(Err(equal)), 0),
-    ];
-    for (i, (attempt, outcome, after)) in rows.iter().enumerate() {
-        check_row(&rt, i, follows(*attempt, false, outcome, 4, (4, *after)));
-    }
+    let equal = Outcome::Due(Err(DueFault::EqualOpening));
+    check_attempt(&rt, 0, &Outcome::Due(Err(DueFault::WordRefused)), 1);
+    check_attempt(&rt, 1, &equal, 2);
+    check_attempt(&rt, 2, &Outcome::Took(TakeOutcome::WordRefused), 3);
+    // Nothing else goes on.
+    check_attempt(&rt, 3, &Outcome::Due(Err(DueFault::NothingDue)), 3);
+    check_attempt(&rt, 3, &Outcome::Sent(1), 3);
+    // The last attempt is followed by the first.
+    check_attempt(&rt, 65535, &equal, 0);
     // A restart, or another entry, begins again.
     assert!(rt; follows(3, true, &Outcome::Restarted, 4, (4, 0)));
     assert!(rt; follows(3, false, &Outcome::Due(Ok(5)), 5, (5, 0)));
@@ -153,18 +155,18 @@ fn words_of_attempts_are_those_of_the_dice(rt: HostRuntime) {
 }
 
 /// What is printed of a match whose every event makes its own words.
-fn text_of_steps(alloc: Global, seed: u64, steps: u32) -> Result<Vec<u8>, Fail> {
-    let mut simulation = Simulation::new(alloc, seed, 3, Rules::Two, 1)?;
+fn text_of_steps(rt: &(impl AllocGlobal + Abort), seed: u64, steps: u32) -> Vec<u8> {
+    let mut simulation = Simulation::new(rt.alloc(), seed, 3, Rules::Two, 1).expect(rt, "memory");
     for index in 0..steps {
-        simulation.step(index)?;
+        assert!(rt; simulation.step(index).is_ok(), "event {index}");
     }
-    Ok(simulation.text()?)
+    simulation.text().expect(rt, "memory")
 }
 
 /// A match by kept words comes to the same as one whose every event makes its own, also where the referee is down, and
 /// where attempts are in vain.
 #[test]
-fn single_steps_come_to_the_same_text(rt: HostRuntime) -> Result<(), Fail> {
+fn single_steps_come_to_the_same_text(rt: HostRuntime) {
     let rows = [
         (2047, 0),
         (2047, 1),
@@ -175,9 +177,8 @@ fn single_steps_come_to_the_same_text(rt: HostRuntime) -> Result<(), Fail> {
         (u64::MAX, 500),
     ];
     for (i, (seed, steps)) in rows.iter().enumerate() {
-        let single = text_of_steps(rt.alloc(), *seed, *steps)?;
-        let text = text_of(rt.alloc(), *seed, 3, Rules::Two, 1, *steps)?;
-        check_row(&rt, i, single == text);
+        let single = text_of_steps(&rt, *seed, *steps);
+        let text = text_of(rt.alloc(), *seed, 3, Rules::Two, 1, *steps);
+        check_row(&rt, i, text == Ok(single));
     }
-    Ok(())
 }

@@ -1,5 +1,4 @@
 //! How processes of nodes begin: over which slots, and with which lengths.
-use crate::checks::check_row;
 use crate::devices::keepers::OwnKeeper;
 use crate::devices::{NO_FAILURE, Recorder};
 use crate::worlds::parties::{ID, TERMS, begun_referee, begun_seat};
@@ -7,40 +6,56 @@ use bg_board::Player;
 use bg_match::{LengthFault, Number, Rules, Terms};
 use bg_referee::Referee;
 use bg_world::{Outcome, RestoreCause, WatcherNode};
-use std::alloc::Global;
 use std::process::Abort;
-use std::test::Fail;
+
+/// A keeper of a party whose slots have these bytes.
+fn keeper<'a>(
+    rt: &impl Abort,
+    recorder: &'a Recorder,
+    party: u8,
+    zero: &[u8],
+    one: &[u8],
+) -> OwnKeeper<'a> {
+    OwnKeeper::over(recorder, party, zero, one).expect(rt, "memory")
+}
 
 /// How many entries a referee holds that begins over these slots, or why they restore nothing.
 fn referee_over(
-    alloc: Global,
+    rt: &(impl AllocGlobal + Abort),
     zero: &[u8],
     one: &[u8],
-) -> Result<Result<Number, RestoreCause>, Fail> {
-    let recorder = Recorder::new(alloc, NO_FAILURE);
-    let keeper = OwnKeeper::over(&recorder, 0, zero, one)?;
-    let (node, outcome) = begun_referee(alloc, TERMS, keeper)?;
-    match (outcome, node.held()) {
-        (Outcome::Restarted, Some(record)) => Ok(Ok(record.len())),
-        (Outcome::RestoreFault(cause), None) => Ok(Err(cause)),
-        _ => Err(Fail::from("no restart")),
+) -> Result<Number, RestoreCause> {
+    let recorder = Recorder::new(rt.alloc(), NO_FAILURE);
+    let keeper = keeper(rt, &recorder, 0, zero, one);
+    let (node, outcome) = begun_referee(rt.alloc(), TERMS, keeper).expect(rt, "a referee");
+    let held = node.held().map(|record| record.len());
+    if let Outcome::RestoreFault(cause) = outcome {
+        assert!(rt; held.is_none());
+        return Err(cause);
     }
+    assert!(rt; outcome == Outcome::Restarted);
+    Ok(held.expect(rt, "a referee that is up"))
 }
 
-/// Why a seat of X that begins over these bytes in slot 1 is down, without a claim.
-fn refusal_of_seat(alloc: Global, one: &[u8]) -> Result<RestoreCause, Fail> {
-    let recorder = Recorder::new(alloc, NO_FAILURE);
-    let keeper = OwnKeeper::over(&recorder, 1, &[], one)?;
-    let (seat, outcome) = begun_seat(alloc, Player::X, TERMS, keeper)?;
-    match (outcome, seat.held(), seat.claim()) {
-        (Outcome::RestoreFault(cause), None, None) => Ok(cause),
-        _ => Err(Fail::from("no refusal")),
+/// Why a seat of X that begins over these slots is down, without a claim.
+fn refusal_of_seat(
+    rt: &(impl AllocGlobal + Abort),
+    zero: &[u8],
+    one: &[u8],
+) -> Option<RestoreCause> {
+    let recorder = Recorder::new(rt.alloc(), NO_FAILURE);
+    let keeper = keeper(rt, &recorder, 1, zero, one);
+    let (seat, outcome) = begun_seat(rt.alloc(), Player::X, TERMS, keeper).expect(rt, "a seat");
+    assert!(rt; seat.held().is_none() && seat.claim().is_none());
+    match outcome {
+        Outcome::RestoreFault(cause) => Some(cause),
+        _ => None,
     }
 }
 
 /// The first text that a referee of this match and these rules saves, of one entry.
-fn text_of(rt: &impl Abort, alloc: Global, id: u64, rules: Rules) -> Vec<u8> {
-    let mut core = Referee::fresh(alloc, id, TERMS.length, rules).expect(
+fn text_of(rt: &(impl AllocGlobal + Abort), id: u64, rules: Rules) -> Vec<u8> {
+    let mut core = Referee::fresh(rt.alloc(), id, TERMS.length, rules).expect(
         rt,
         "a length from 1 to 99",
     );
@@ -50,49 +65,61 @@ fn text_of(rt: &impl Abort, alloc: Global, id: u64, rules: Rules) -> Vec<u8> {
     text
 }
 
-#[test]
-fn processes_begin(rt: HostRuntime) -> Result<(), Fail> {
-    let alloc = rt.alloc();
-    let text = text_of(&rt, alloc, ID, Rules::One);
-    let another = text_of(&rt, alloc, ID + 1, Rules::One);
-    let other_rules = text_of(&rt, alloc, ID, Rules::Two);
-    let torn = text.get(..20).expect(&rt, "a text of 33 bytes");
-    let none = b"".as_slice();
-    let rows = [
-        (none, none, Ok(0)),
-        (none, text.as_slice(), Ok(1)),
-        (torn, text.as_slice(), Ok(1)),
-        (none, torn, Ok(0)),
-        (torn, torn, Err(RestoreCause::Damaged)),
-        (torn, none, Err(RestoreCause::Damaged)),
-        (none, another.as_slice(), Err(RestoreCause::WrongMatch)),
-        (none, other_rules.as_slice(), Err(RestoreCause::WrongMatch)),
-    ];
-    for (i, (zero, one, expected)) in rows.iter().enumerate() {
-        check_row(&rt, i, referee_over(alloc, zero, one)? == *expected);
-    }
-    // A seat doesn't sit down on what the referee saved.
-    assert!(rt; refusal_of_seat(alloc, &text)? == RestoreCause::WrongMatch);
-    Ok(())
+/// A referee that begins over these slots holds so many entries.
+fn check_restored(
+    rt: &(impl AllocGlobal + Abort),
+    row: &str,
+    zero: &[u8],
+    one: &[u8],
+    entries: Number,
+) {
+    assert!(rt; referee_over(rt, zero, one) == Ok(entries), "{row}");
 }
 
-/// Whether no party of a match of this length begins.
-fn is_refused(alloc: Global, length: u8) -> Result<bool, Fail> {
+/// A referee that begins over these slots is down.
+fn check_down(
+    rt: &(impl AllocGlobal + Abort),
+    row: &str,
+    zero: &[u8],
+    one: &[u8],
+    cause: RestoreCause,
+) {
+    assert!(rt; referee_over(rt, zero, one) == Err(cause), "{row}");
+}
+
+#[test]
+fn processes_begin(rt: HostRuntime) {
+    let text = text_of(&rt, ID, Rules::One);
+    let another = text_of(&rt, ID + 1, Rules::One);
+    let other_rules = text_of(&rt, ID, Rules::Two);
+    let torn = text.get(..20).expect(&rt, "a text of 33 bytes");
+    check_restored(&rt, "empty", b"", b"", 0);
+    check_restored(&rt, "empty and a text", b"", &text, 1);
+    check_restored(&rt, "torn and a text", torn, &text, 1);
+    check_restored(&rt, "empty and torn", b"", torn, 0);
+    check_down(&rt, "torn", torn, torn, RestoreCause::Damaged);
+    check_down(&rt, "torn and empty", torn, b"", RestoreCause::Damaged);
+    let wrong = RestoreCause::WrongMatch;
+    check_down(&rt, "another match", b"", &another, wrong);
+    check_down(&rt, "other rules", b"", &other_rules, wrong);
+    // A seat doesn't sit down on what the referee saved.
+    assert!(rt; refusal_of_seat(&rt, b"", &text) == Some(wrong));
+}
+
+/// No party of a match of this length begins.
+fn check_length(rt: &(impl AllocGlobal + Abort), length: u8) {
     let terms = Terms { length, ..TERMS };
     let refused = Some(LengthFault::LengthOutOfRange);
-    let recorder = Recorder::new(alloc, NO_FAILURE);
-    let of_referee = OwnKeeper::over(&recorder, 0, &[], &[])?;
-    let of_seat = OwnKeeper::over(&recorder, 2, &[], &[])?;
-    let referee = begun_referee(alloc, terms, of_referee).err();
-    let seat = begun_seat(alloc, Player::O, terms, of_seat).err();
-    let watcher = WatcherNode::fresh(alloc, 3, ID, terms).err();
-    Ok(referee == refused && seat == refused && watcher == refused)
+    let recorder = Recorder::new(rt.alloc(), NO_FAILURE);
+    let of_referee = keeper(rt, &recorder, 0, b"", b"");
+    let of_seat = keeper(rt, &recorder, 2, b"", b"");
+    assert!(rt; begun_referee(rt.alloc(), terms, of_referee).err() == refused);
+    assert!(rt; begun_seat(rt.alloc(), Player::O, terms, of_seat).err() == refused);
+    assert!(rt; WatcherNode::fresh(rt.alloc(), 3, ID, terms).err() == refused);
 }
 
 #[test]
-fn lengths_of_nodes(rt: HostRuntime) -> Result<(), Fail> {
-    for (i, length) in [0, 100].iter().enumerate() {
-        check_row(&rt, i, is_refused(rt.alloc(), *length)?);
-    }
-    Ok(())
+fn lengths_of_nodes(rt: HostRuntime) {
+    check_length(&rt, 0);
+    check_length(&rt, 100);
 }

@@ -1,172 +1,157 @@
 //! The devices in memory where memory is refused. No run of the tests refuses any, but `tools/checks/refuse_growths`
 //! refuses each growth in turn.
-use crate::checks::{check_no_growth_is_left, check_outcome, check_party};
-use crate::worlds::event_rows::{ComesTo, Happens, Row, is};
-use crate::worlds::growths::world_at_last;
-use crate::worlds::memory_nets::FAILING_SENDS;
+use crate::checks::check_no_growth_is_left;
+use crate::worlds::lines::check_outcome;
 use crate::worlds::memory_worlds::{
-    MemoryWorld, check_held, check_rows, check_sent, happen, held, plan_of, sent_to, world_by,
+    MemoryWorld, check_line, check_lines, happen, held, sent_to, step, world_of,
 };
-use bg_world::{FailRead, FailSend, Outcome, Tear};
-use std::alloc::Global;
+use bg_world::{Event, Outcome};
 use std::process::Abort;
 use std::test::Fail;
 
 /// What an event comes to, once more where there was no memory for it.
-fn at_last(world: &mut MemoryWorld, happens: Happens) -> Outcome {
-    let outcome = happen(world, happens);
+fn at_last(rt: &impl Abort, world: &mut MemoryWorld, event: &str) -> Outcome {
+    let outcome = happen(rt, world, event);
     if outcome.wants_memory() {
-        return happen(world, happens);
+        return happen(rt, world, event);
     }
     outcome
 }
 
 /// The event of a row, once more where there was no memory for it, comes to what the row says.
-fn check_at_last(rt: &impl Abort, world: &mut MemoryWorld, rows: &[Row]) {
-    for (i, row) in rows.iter().enumerate() {
-        let outcome = at_last(world, row.0);
-        check_outcome(rt, i, &outcome, is(&outcome, row.1));
-    }
+fn check_at_last(rt: &impl Abort, world: &mut MemoryWorld, row: &str) {
+    let (event, expected) = row.split_once(" -> ").expect(rt, "a row");
+    check_outcome(rt, event, &at_last(rt, world, event), expected);
 }
 
 /// The event sends to a party, once more where there was no memory for it, which had sent nothing.
-fn check_send_at_last(rt: &impl Abort, world: &mut MemoryWorld, to: u8, row: Row) {
+fn check_send_at_last(
+    rt: &impl Abort,
+    world: &mut MemoryWorld,
+    to: u8,
+    event: &Event,
+    expected: &str,
+) {
     let before = sent_to(world, to);
-    let first = happen(world, row.0);
-    if first == Outcome::Memory {
-        check_party(rt, to, sent_to(world, to) == before);
-        check_rows(rt, world, &[row]);
-    } else {
-        check_outcome(rt, 0, &first, is(&first, row.1));
+    let mut outcome = step(world, event.copy());
+    if outcome == Outcome::Memory {
+        assert!(rt; sent_to(world, to) == before, "party {to}");
+        outcome = step(world, event.copy());
     }
+    check_outcome(rt, "sends", &outcome, expected);
 }
 
 /// The referee's save has this number, also where there was no memory for it: then it is down, and comes back with
 /// what it had saved, so many entries, or opens a game anew.
 fn check_save_at_last(rt: &impl Abort, world: &mut MemoryWorld, save: u32) {
-    let mut outcome = at_last(world, Happens::Save(0));
+    let mut outcome = at_last(rt, world, "save 0");
     if outcome == Outcome::SaveFault {
-        check_at_last(rt, world, &[(Happens::Restart(0), ComesTo::Restarted)]);
+        check_at_last(rt, world, "restart 0 -> restarted");
         let saved = if save == 1 { 0 } else { 1 };
-        check_party(rt, 0, held(world, 0) == Some(saved));
+        assert!(rt; held(world, 0) == Some(saved));
         if saved == 0 {
-            check_at_last(rt, world, &[(Happens::Due(12), ComesTo::Opened(1))]);
+            check_at_last(rt, world, "due 12 -> entry 1");
         }
-        outcome = at_last(world, Happens::Save(0));
+        outcome = at_last(rt, world, "save 0");
     }
-    check_outcome(rt, 0, &outcome, outcome == Outcome::Saved(save));
+    assert!(rt; outcome == Outcome::Saved(save), "save {save}");
 }
 
-const OPENED: [Row; 1] = [(Happens::Due(12), ComesTo::Opened(1))];
-
 /// A party that has forgotten all asks, and the referee answers.
-fn check_answer(rt: &impl Abort, world: &mut MemoryWorld, party: u8) {
-    check_at_last(rt, world, &[(Happens::Restart(party), ComesTo::Restarted)]);
-    let want = sent_to(world, 0);
-    let asks = (Happens::Tick(party), ComesTo::Sent(1));
-    check_send_at_last(rt, world, 0, asks);
-    let answers = (Happens::Take(0, want, 0), ComesTo::Answer(party, 1, 1));
-    check_send_at_last(rt, world, party, answers);
+fn check_answer(rt: &impl Abort, world: &mut MemoryWorld, party: u8, restart: &str, answer: &str) {
+    check_at_last(rt, world, restart);
+    let pick = sent_to(world, 0);
+    check_send_at_last(rt, world, 0, &Event::Tick { party }, "sent 1");
+    let take = Event::Take {
+        party: 0,
+        pick,
+        word: 0,
+    };
+    check_send_at_last(rt, world, party, &take, answer);
 }
 
 /// Where memory is refused nothing changes and the same send then succeeds.
 #[test]
 fn refused_growths_of_sends(rt: HostRuntime) -> Result<(), Fail> {
-    let mut world = world_at_last(rt.alloc(), 1)?;
-    check_at_last(&rt, &mut world, &OPENED);
+    let mut world = world_of(&rt, &["watchers 1"]);
+    check_at_last(&rt, &mut world, "due 12 -> entry 1");
     check_save_at_last(&rt, &mut world, 1);
     for _ in 0..6 {
-        for party in 1..4 {
-            check_answer(&rt, &mut world, party);
+        for (party, restart, answer) in [
+            (1, "restart 1 -> restarted", "answer to 1: entries 1 to 1"),
+            (2, "restart 2 -> restarted", "answer to 2: entries 1 to 1"),
+            (3, "restart 3 -> restarted", "answer to 3: entries 1 to 1"),
+        ] {
+            check_answer(&rt, &mut world, party, restart, answer);
         }
     }
-    check_sent(&rt, &world, &[(0, 18), (1, 6), (2, 6), (3, 6)]);
-    for party in 1..4 {
-        check_at_last(
-            &rt,
-            &mut world,
-            &[(Happens::Take(party, 5, 0), ComesTo::Learned(1))],
-        );
+    let counts = [
+        "sent to 0: 18",
+        "sent to 1: 6",
+        "sent to 2: 6",
+        "sent to 3: 6",
+    ];
+    check_lines(&rt, &mut world, &counts);
+    for row in [
+        "take 1 5 0 -> learned 1",
+        "take 2 5 0 -> learned 1",
+        "take 3 5 0 -> learned 1",
+    ] {
+        check_at_last(&rt, &mut world, row);
     }
     check_no_growth_is_left(rt.alloc())
 }
 
-/// A world by a plan, whose first try may lack memory.
-fn planned_at_last(
-    alloc: Global,
-    tears: &[Tear],
-    sends: &[FailSend],
-    reads: &[FailRead],
-) -> Result<MemoryWorld, Fail> {
-    let plan = match plan_of(alloc, tears, sends, reads) {
-        Ok(plan) => plan,
-        Err(_) => plan_of(alloc, tears, sends, reads)?,
-    };
-    match world_by(alloc, 1, 0, &plan) {
-        Ok(world) => Ok(world),
-        Err(_) => Ok(world_by(alloc, 1, 0, &plan)?),
-    }
-}
-
 /// A send that fails and goes nowhere wants no memory.
-const NO_SEND: [Row; 2] = [
-    (Happens::Tick(2), ComesTo::LinkFault),
-    (Happens::Take(0, 0, 0), ComesTo::NoDatagram),
-];
-
 #[test]
 fn refused_growths_of_no_send(rt: HostRuntime) -> Result<(), Fail> {
-    let mut world = planned_at_last(rt.alloc(), &[], &FAILING_SENDS, &[])?;
-    check_rows(&rt, &mut world, &NO_SEND);
-    check_sent(&rt, &world, &[(0, 0)]);
+    let plan = [
+        "fails: send 1 lost",
+        "fails: send 1 went",
+        "fails: send 3 went",
+        "fails: send 0 lost",
+        "fails: send 4294967295 lost",
+    ];
+    let mut world = world_of(&rt, &plan);
+    let rows = [
+        "tick 2 -> link fault",
+        "take 0 0 0 -> no datagram",
+        "sent to 0: 0",
+    ];
+    check_lines(&rt, &mut world, &rows);
     check_no_growth_is_left(rt.alloc())
 }
 
 /// Where memory is refused the slot stays as it was, and the same write or read then succeeds.
 #[test]
 fn refused_growths_of_keepers(rt: HostRuntime) -> Result<(), Fail> {
-    let mut world = world_at_last(rt.alloc(), 0)?;
-    check_at_last(&rt, &mut world, &OPENED);
+    let mut world = world_of(&rt, &[]);
+    check_at_last(&rt, &mut world, "due 12 -> entry 1");
     for save in 1..5 {
         check_save_at_last(&rt, &mut world, save);
     }
-    check_at_last(
-        &rt,
-        &mut world,
-        &[(Happens::Restart(0), ComesTo::Restarted)],
-    );
-    check_held(&rt, &world, &[Some(1), Some(0), Some(0)]);
+    check_at_last(&rt, &mut world, "restart 0 -> restarted");
+    check_line(&rt, &mut world, "held: 1 0 0");
     check_no_growth_is_left(rt.alloc())
 }
 
-const TEARS: [Tear; 2] = [
-    Tear {
-        party: 1,
-        nth: 1,
-        cut: None,
-    },
-    Tear {
-        party: 1,
-        nth: 2,
-        cut: Some(0),
-    },
-];
-
-/// A read that fails or finds no bytes wants no memory, nor does a restart over slots that have none.
-const NO_BYTES: [Row; 2] = [
-    (Happens::Restart(1), ComesTo::ReadFault),
-    (Happens::Restart(1), ComesTo::Restarted),
-];
-
-/// A write that is torn and leaves no bytes fails by itself, whatever memory there is.
+/// A write that is torn and leaves no bytes fails by itself, whatever memory there is. A read that fails or finds no
+/// bytes wants no memory, nor does a restart over slots that have none.
 #[test]
 fn refused_growths_of_no_bytes(rt: HostRuntime) -> Result<(), Fail> {
-    let mut world = planned_at_last(rt.alloc(), &TEARS, &[], &[FailRead { party: 1, nth: 1 }])?;
-    let torn = [(Happens::Save(1), ComesTo::SaveFault)];
-    check_at_last(&rt, &mut world, &torn);
-    check_rows(&rt, &mut world, &NO_BYTES);
-    check_at_last(&rt, &mut world, &torn);
-    check_rows(&rt, &mut world, &NO_BYTES[1..]);
-    check_held(&rt, &world, &[Some(0), Some(0), Some(0)]);
+    let plan = [
+        "fails: write 1 1 none",
+        "fails: write 1 2 0",
+        "fails: read 1 1",
+    ];
+    let mut world = world_of(&rt, &plan);
+    check_at_last(&rt, &mut world, "save 1 -> save fault");
+    let rows = [
+        "restart 1 -> restore fault: device",
+        "restart 1 -> restarted",
+    ];
+    check_lines(&rt, &mut world, &rows);
+    check_at_last(&rt, &mut world, "save 1 -> save fault");
+    check_lines(&rt, &mut world, &["restart 1 -> restarted", "held: 0 0 0"]);
     check_no_growth_is_left(rt.alloc())
 }

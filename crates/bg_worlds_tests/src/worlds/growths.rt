@@ -1,13 +1,10 @@
 //! Runs in which memory is refused. No run of the tests refuses any, but `tools/checks/refuse_growths` refuses each
 //! growth in turn.
-use crate::checks::{check_no_growth_is_left, check_outcome, check_party};
-use crate::devices::NO_FAILURE;
-use crate::worlds::event_rows::{Row, TO_THE_CHOICE, TO_THE_CLAIM, is};
-use crate::worlds::memory_worlds::{MemoryWorld, happen, record_of, world};
-use crate::worlds::worked_matches::{THE_CLAIM_KEPT, THE_ROLL_LOST, TO_THE_ROLL, WITH_A_WATCHER};
+use crate::checks::check_no_growth_is_left;
+use crate::worlds::lines::{check_outcome, lines_of};
+use crate::worlds::memory_worlds::{MemoryWorld, happen, record_of, world_of};
 use bg_match::Record;
-use bg_world::{Outcome, WorldFault};
-use std::alloc::Global;
+use bg_world::Outcome;
 use std::process::Abort;
 use std::test::Fail;
 
@@ -31,7 +28,7 @@ fn check_fronts(rt: &impl Abort, world: &MemoryWorld) {
     };
     for party in 1..4 {
         if let Some(record) = record_of(world, party) {
-            check_party(rt, party, is_front(record, whole));
+            assert!(rt; is_front(record, whole), "party {party}");
         }
     }
 }
@@ -44,52 +41,52 @@ fn is_fault(outcome: &Outcome) -> bool {
     )
 }
 
-/// The events of these parts, one after the other. They come to what the rows say as long as no memory was wanted and
-/// nothing failed.
-fn check_run(rt: &impl Abort, world: &mut MemoryWorld, parts: &[&[Row]]) {
+const PLAYS: &str = "\
+with_a_watcher
+watchers 1
+as a_turn
+
+of_a_lost_roll
+as to_the_choice
+as to_the_claim
+as to_the_roll
+as the_roll_lost
+
+of_a_kept_claim
+as to_the_choice
+as to_the_claim
+as the_claim_kept
+";
+
+/// The rows of a play, in which a growth may be refused. They hold as long as no memory was wanted and nothing failed.
+fn check_refused(rt: &(impl AllocGlobal + Abort), name: &str) -> Result<(), Fail> {
+    let lines = lines_of(rt, PLAYS, name);
+    let mut world = world_of(rt, &lines);
     let mut undisturbed = true;
-    for rows in parts {
-        for (i, row) in rows.iter().enumerate() {
-            let outcome = happen(world, row.0);
-            check_fronts(rt, world);
+    for line in &lines {
+        if let Some((event, expected)) = line.split_once(" -> ") {
+            let outcome = happen(rt, &mut world, event);
+            check_fronts(rt, &world);
             undisturbed = undisturbed && !outcome.wants_memory() && !is_fault(&outcome);
-            check_outcome(rt, i, &outcome, !undisturbed || is(&outcome, row.1));
+            if undisturbed {
+                check_outcome(rt, event, &outcome, expected);
+            }
         }
     }
-}
-
-/// A world, whose first try may lack memory.
-pub(crate) fn world_at_last(alloc: Global, watchers: u8) -> Result<MemoryWorld, WorldFault> {
-    match world(alloc, 1, watchers, NO_FAILURE) {
-        Err(WorldFault::Memory) => world(alloc, 1, watchers, NO_FAILURE),
-        made => made,
-    }
-}
-
-/// A run of these parts in which a growth may be refused.
-fn check_refused(
-    rt: &(impl AllocGlobal + Abort),
-    watchers: u8,
-    parts: &[&[Row]],
-) -> Result<(), Fail> {
-    let mut world = world_at_last(rt.alloc(), watchers)?;
-    check_run(rt, &mut world, parts);
     check_no_growth_is_left(rt.alloc())
 }
 
 #[test]
 fn refused_growths_with_a_watcher(rt: HostRuntime) -> Result<(), Fail> {
-    check_refused(&rt, 1, &[&WITH_A_WATCHER])
+    check_refused(&rt, "with_a_watcher")
 }
 
 #[test]
 fn refused_growths_of_a_lost_roll(rt: HostRuntime) -> Result<(), Fail> {
-    let parts: [&[Row]; 4] = [&TO_THE_CHOICE, &TO_THE_CLAIM, &TO_THE_ROLL, &THE_ROLL_LOST];
-    check_refused(&rt, 0, &parts)
+    check_refused(&rt, "of_a_lost_roll")
 }
 
 #[test]
 fn refused_growths_of_a_kept_claim(rt: HostRuntime) -> Result<(), Fail> {
-    let parts: [&[Row]; 3] = [&TO_THE_CHOICE, &TO_THE_CLAIM, &THE_CLAIM_KEPT];
-    check_refused(&rt, 0, &parts)
+    check_refused(&rt, "of_a_kept_claim")
 }

@@ -1,191 +1,173 @@
 //! The link in memory: what it hands over and counts, and which of its sends fail.
 use crate::checks::check_row;
-use crate::worlds::event_rows::{ComesTo, Happens, Row};
 use crate::worlds::growths::is_front;
+use crate::worlds::lines::has_line;
 use crate::worlds::memory_worlds::{
-    MemoryWorld, check_rows, check_sent, happen, plan_of, played_well, record_of, sent_to, step,
-    world_by,
+    MemoryWorld, check_plays, happen, played, record_of, sent_to, step,
 };
-use bg_board::Player;
-use bg_match::{Action, Level};
-use bg_wire::party_of;
-use bg_world::{Event, FailSend};
+use bg_world::{Event, Outcome};
 use std::process::Abort;
-use std::test::Fail;
 
 /// The number that names no call and no datagram.
 pub(crate) const LAST: u32 = 4294967295;
 
-/// The opening is saved.
-const THE_OPENING: [Row; 2] = [
-    (Happens::Due(12), ComesTo::Opened(1)),
-    (Happens::Save(0), ComesTo::Saved(1)),
-];
+/// In `datagrams_are_handed_over` each party is handed its own datagrams, by their order, and as often as it asks.
+///
+/// In `garbled_pick` the last pick gives what is no packet, also where nothing was sent.
+///
+/// In `counts_of_datagrams` how many were sent is counted for each party by itself, and takes don't change it.
+///
+/// In `failing_sends` a failed send that went out is counted and can be picked; one that did not go out left nothing.
+/// Of two entries for the first send the first counts. The last two entries name no send.
+const PLAYS: &str = "\
+datagrams_are_handed_over
+watchers 253
+as the_opening
+take 0 0 0 -> no datagram
+tick 1 -> sent 1
+tick 255 -> sent 1
+tick 3 -> sent 1
+take 0 1 0 -> answer to 255: entries 1 to 1
+take 0 0 0 -> answer to 1: entries 1 to 1
+take 0 0 0 -> answer to 1: entries 1 to 1
+take 0 2 0 -> answer to 3: entries 1 to 1
+take 0 3 0 -> no datagram
+take 255 0 0 -> learned 1
+take 255 1 0 -> no datagram
+take 1 1 0 -> learned 1
+take 1 0 0 -> nothing
+take 1 2 0 -> no datagram
+take 2 0 0 -> no datagram
+take 254 0 0 -> no datagram
 
-/// Each party is handed its own datagrams, by their order, and as often as it asks.
-const HANDED_OVER: [Row; 16] = [
-    (Happens::Take(0, 0, 0), ComesTo::NoDatagram),
-    (Happens::Tick(1), ComesTo::Sent(1)),
-    (Happens::Tick(255), ComesTo::Sent(1)),
-    (Happens::Tick(3), ComesTo::Sent(1)),
-    (Happens::Take(0, 1, 0), ComesTo::Answer(255, 1, 1)),
-    (Happens::Take(0, 0, 0), ComesTo::Answer(1, 1, 1)),
-    (Happens::Take(0, 0, 0), ComesTo::Answer(1, 1, 1)),
-    (Happens::Take(0, 2, 0), ComesTo::Answer(3, 1, 1)),
-    (Happens::Take(0, 3, 0), ComesTo::NoDatagram),
-    (Happens::Take(255, 0, 0), ComesTo::Learned(1)),
-    (Happens::Take(255, 1, 0), ComesTo::NoDatagram),
-    (Happens::Take(1, 1, 0), ComesTo::Learned(1)),
-    (Happens::Take(1, 0, 0), ComesTo::LearnedNothing),
-    (Happens::Take(1, 2, 0), ComesTo::NoDatagram),
-    (Happens::Take(2, 0, 0), ComesTo::NoDatagram),
-    (Happens::Take(254, 0, 0), ComesTo::NoDatagram),
-];
+garbled_pick
+watchers 1
+take 0 4294967295 0 -> no packet: short
+take 2 4294967295 0 -> no packet: short
+take 3 4294967295 0 -> no packet: short
+tick 2 -> sent 1
+take 0 4294967295 0 -> no packet: short
+take 0 4294967294 0 -> no datagram
+sent to 0: 1
+sent to 2: 0
+sent to 3: 0
+
+counts_of_datagrams
+watchers 2
+as the_opening
+tick 4 -> sent 1
+tick 1 -> sent 1
+take 0 0 0 -> answer to 4: entries 1 to 1
+take 0 1 0 -> answer to 1: entries 1 to 1
+take 0 0 0 -> answer to 4: entries 1 to 1
+take 0 0 0 -> answer to 4: entries 1 to 1
+take 4 2 0 -> learned 1
+sent to 0: 2
+sent to 1: 1
+sent to 2: 0
+sent to 3: 0
+sent to 4: 3
+sent to 5: 0
+
+failing_sends
+watchers 2
+fails: send 1 lost
+fails: send 1 went
+fails: send 3 went
+fails: send 0 lost
+fails: send 4294967295 lost
+as the_opening
+tick 1 -> link fault
+take 0 0 0 -> no datagram
+tick 2 -> sent 1
+tick 3 -> link fault
+tick 4 -> sent 1
+take 0 0 0 -> answer to 2: entries 1 to 1
+take 0 1 0 -> answer to 3: entries 1 to 1
+take 0 2 0 -> answer to 4: entries 1 to 1
+take 0 3 0 -> no datagram
+sent to 0: 3
+sent to 1: 0
+sent to 2: 1
+";
 
 #[test]
-fn datagrams_are_handed_over(rt: HostRuntime) -> Result<(), Fail> {
-    played_well(&rt, 253, &[&THE_OPENING, &HANDED_OVER])?;
-    Ok(())
+fn links_in_memory(rt: HostRuntime) {
+    check_plays(&rt, PLAYS);
 }
 
-/// What was sent to the party last.
-fn last(world: &MemoryWorld, party: u8) -> u32 {
-    sent_to(world, party).saturating_sub(1)
+const THE_OPENING: &str = "\
+the_opening
+watchers 1
+as the_opening
+";
+
+/// A party takes the datagram of this index.
+fn take(world: &mut MemoryWorld, party: u8, pick: u32) -> Outcome {
+    let word = 0;
+    step(world, Event::Take { party, pick, word })
 }
 
-/// A party asks the referee, and takes the answer.
-fn ask(world: &mut MemoryWorld, party: u8) {
-    happen(world, Happens::Tick(party));
-    let to_the_referee = last(world, 0);
-    happen(world, Happens::Take(0, to_the_referee, 0));
-    let answer = last(world, party);
-    happen(world, Happens::Take(party, answer, 0));
+/// A party takes what was sent to it last.
+pub(crate) fn take_last(world: &mut MemoryWorld, party: u8) -> Outcome {
+    let last = sent_to(world, party).saturating_sub(1);
+    take(world, party, last)
 }
 
-/// A player does this after what the referee has saved, and the referee saves it.
-fn act(world: &mut MemoryWorld, seat: Player, action: Action) {
-    let party = party_of(seat);
-    ask(world, party);
-    step(world, Event::Choose { seat, action });
-    happen(world, Happens::Save(party));
-    happen(world, Happens::Tick(party));
-    let claim = last(world, 0);
-    happen(world, Happens::Take(0, claim, 0));
-    happen(world, Happens::Save(0));
+/// The seat of a party asks, does this after what the referee has saved, and the referee saves it.
+fn act(rt: &impl Abort, world: &mut MemoryWorld, party: u8, choice: &str) {
+    step(world, Event::Tick { party });
+    take_last(world, 0);
+    take_last(world, party);
+    happen(rt, world, choice);
+    step(world, Event::Save { party });
+    step(world, Event::Tick { party });
+    take_last(world, 0);
+    happen(rt, world, "save 0");
 }
 
-/// The watcher forgets all and asks, and is sent as many entries.
-fn ask_anew(rt: &impl Abort, world: &mut MemoryWorld, entries: u8) {
-    happen(world, Happens::Restart(3));
-    happen(world, Happens::Tick(3));
-    let want = last(world, 0);
-    let answer = ComesTo::Answer(3, 1, entries.into());
-    check_rows(rt, world, &[(Happens::Take(0, want, 0), answer)]);
+/// The watcher forgets all and asks: what the referee sends.
+fn ask_anew(rt: &impl Abort, world: &mut MemoryWorld) -> Outcome {
+    happen(rt, world, "restart 3");
+    happen(rt, world, "tick 3");
+    take_last(world, 0)
 }
 
 /// The watcher forgets all, and learns so many entries from the datagram of this index: those of the referee.
-fn learns(world: &mut MemoryWorld, index: u8) -> bool {
-    happen(world, Happens::Restart(3));
-    happen(world, Happens::Take(3, index.into(), 0));
+fn learns(rt: &impl Abort, world: &mut MemoryWorld, index: u32) -> bool {
+    happen(rt, world, "restart 3");
+    take(world, 3, index);
     match (record_of(world, 3), record_of(world, 0)) {
         (Some(record), Some(whole)) => {
-            record.len() == u32::from(index) + 1 && is_front(record, whole)
+            index.checked_add(1) == Some(record.len()) && is_front(record, whole)
         }
         _ => false,
     }
 }
 
+const ANSWERS: &str = "\
+answer to 3: entries 1 to 1
+answer to 3: entries 1 to 2
+answer to 3: entries 1 to 3
+answer to 3: entries 1 to 4
+answer to 3: entries 1 to 5
+answer to 3: entries 1 to 6
+answer to 3: entries 1 to 7
+answer to 3: entries 1 to 8";
+
 /// Texts of eight lengths, from 21 bytes to 32, are handed over as they were sent, though they are kept one behind the
 /// other: an opening, and then by turns an offer to resign and its rejection, from one entry to eight.
 #[test]
-fn texts_of_many_lengths(rt: HostRuntime) -> Result<(), Fail> {
-    let mut world = played_well(&rt, 1, &[&THE_OPENING])?;
-    for entries in 1..9 {
-        ask_anew(&rt, &mut world, entries);
-        match entries % 2 {
-            0 => act(&mut world, Player::O, Action::Reject),
-            _ => act(&mut world, Player::X, Action::Resign(Level::Normal)),
+fn texts_of_many_lengths(rt: HostRuntime) {
+    let mut world = played(&rt, THE_OPENING, "the_opening", None);
+    for (i, answer) in ANSWERS.lines().enumerate() {
+        check_row(&rt, i, has_line(&ask_anew(&rt, &mut world), answer));
+        match i % 2 {
+            0 => act(&rt, &mut world, 1, "choose X resign normal"),
+            _ => act(&rt, &mut world, 2, "choose O reject"),
         }
     }
-    for (row, index) in [7, 0, 3, 1, 6, 2, 5, 4].iter().enumerate() {
-        check_row(&rt, row, learns(&mut world, *index));
+    for index in [7, 0, 3, 1, 6, 2, 5, 4] {
+        assert!(rt; learns(&rt, &mut world, index), "datagram {index}");
     }
-    Ok(())
-}
-
-/// The last pick gives what is no packet, also where nothing was sent.
-const GARBLED: [Row; 6] = [
-    (Happens::Take(0, LAST, 0), ComesTo::Short),
-    (Happens::Take(2, LAST, 0), ComesTo::Short),
-    (Happens::Take(3, LAST, 0), ComesTo::Short),
-    (Happens::Tick(2), ComesTo::Sent(1)),
-    (Happens::Take(0, LAST, 0), ComesTo::Short),
-    (Happens::Take(0, LAST - 1, 0), ComesTo::NoDatagram),
-];
-
-#[test]
-fn garbled_pick(rt: HostRuntime) -> Result<(), Fail> {
-    let world = played_well(&rt, 1, &[&GARBLED])?;
-    check_sent(&rt, &world, &[(0, 1), (2, 0), (3, 0)]);
-    Ok(())
-}
-
-/// How many were sent is counted for each party by itself, and takes don't change it.
-const COUNTED: [Row; 7] = [
-    (Happens::Tick(4), ComesTo::Sent(1)),
-    (Happens::Tick(1), ComesTo::Sent(1)),
-    (Happens::Take(0, 0, 0), ComesTo::Answer(4, 1, 1)),
-    (Happens::Take(0, 1, 0), ComesTo::Answer(1, 1, 1)),
-    (Happens::Take(0, 0, 0), ComesTo::Answer(4, 1, 1)),
-    (Happens::Take(0, 0, 0), ComesTo::Answer(4, 1, 1)),
-    (Happens::Take(4, 2, 0), ComesTo::Learned(1)),
-];
-
-#[test]
-fn counts_of_datagrams(rt: HostRuntime) -> Result<(), Fail> {
-    let world = played_well(&rt, 2, &[&THE_OPENING, &COUNTED])?;
-    let counts = [(0, 2), (1, 1), (2, 0), (3, 0), (4, 3), (5, 0)];
-    check_sent(&rt, &world, &counts);
-    Ok(())
-}
-
-/// Of two entries for the first send the first counts. The last two entries name no send.
-pub(crate) const FAILING_SENDS: [FailSend; 5] = [
-    FailSend {
-        nth: 1,
-        went: false,
-    },
-    FailSend { nth: 1, went: true },
-    FailSend { nth: 3, went: true },
-    FailSend {
-        nth: 0,
-        went: false,
-    },
-    FailSend {
-        nth: LAST,
-        went: false,
-    },
-];
-
-/// A failed send that went out is counted and can be picked; one that did not go out left nothing.
-const FAILING: [Row; 9] = [
-    (Happens::Tick(1), ComesTo::LinkFault),
-    (Happens::Take(0, 0, 0), ComesTo::NoDatagram),
-    (Happens::Tick(2), ComesTo::Sent(1)),
-    (Happens::Tick(3), ComesTo::LinkFault),
-    (Happens::Tick(4), ComesTo::Sent(1)),
-    (Happens::Take(0, 0, 0), ComesTo::Answer(2, 1, 1)),
-    (Happens::Take(0, 1, 0), ComesTo::Answer(3, 1, 1)),
-    (Happens::Take(0, 2, 0), ComesTo::Answer(4, 1, 1)),
-    (Happens::Take(0, 3, 0), ComesTo::NoDatagram),
-];
-
-#[test]
-fn failing_sends(rt: HostRuntime) -> Result<(), Fail> {
-    let plan = plan_of(rt.alloc(), &[], &FAILING_SENDS, &[])?;
-    let mut world = world_by(rt.alloc(), 1, 2, &plan)?;
-    check_rows(&rt, &mut world, &THE_OPENING);
-    check_rows(&rt, &mut world, &FAILING);
-    check_sent(&rt, &world, &[(0, 3), (1, 0), (2, 1)]);
-    Ok(())
 }

@@ -1,102 +1,157 @@
-//! Worlds over devices in memory, as `simulate` makes them.
+//! Worlds over devices in memory, as `simulate` makes them, and their plays.
+//!
+//! A play has rows, and lines that say what its world is made of and what is seen of it:
+//! - "length 3", "watchers 2": the setup, else of length 1 and with none who watches;
+//! - "fails: write 0 2 20", "fails: read 1 1", "fails: send 7 went", "fails: send 7 lost": the plan, where a cut is
+//!   "none" or a number, or "cut", the one that the play is given;
+//! - "held: 2 1 -": how many entries the parties hold, from party 0 on, "-" where one is down or not there;
+//! - "sent to 0: 4": how many datagrams were sent to a party;
+//! - "entry 2 of 0: O roll": an entry that a party holds.
 //!
 //! Each call of a world stands in one short function with no contract, so that what the call ensures does not burden
 //! the proofs of the tests.
-use crate::checks::{check_outcome, check_party};
-use crate::devices::{Failing, NO_FAILURE};
-use crate::worlds::event_rows::{Happens, Row, event, events_of, is};
+use crate::sections::names_of;
+use crate::worlds::lines::{check_outcome, event, lines_of};
 use bg_match::{Number, Record, Rules};
+use bg_text::parse_entry;
 use bg_world::{
     Event, FailRead, FailSend, MemoryKeeper, MemoryNet, Outcome, Plan, RunReport, Setup, Tear,
     World, WorldFault, simulate,
 };
 use std::alloc::{AllocError, Global};
 use std::process::Abort;
-use std::test::Fail;
 
 pub(crate) type MemoryWorld = World<MemoryNet, MemoryKeeper>;
 
-fn list<T: Copy + Drop>(alloc: Global, item: Option<T>) -> Result<Vec<T>, AllocError> {
-    let mut items = Vec::new(alloc);
-    if let Some(item) = item {
-        items.push(item)?;
+/// The number that a word says.
+fn number(rt: &impl Abort, word: &str) -> u32 {
+    word.parse().expect(rt, "a number")
+}
+
+/// The small number that a word says: a party, a length, or how many watch.
+fn small_number(rt: &impl Abort, word: &str) -> u8 {
+    word.parse().expect(rt, "a number up to 255")
+}
+
+/// What stands before these words and behind them.
+fn parted<'a>(rt: &impl Abort, line: &'a str, by: &str) -> (&'a str, &'a str) {
+    line.split_once(by).expect(rt, "two parts")
+}
+
+fn tear(rt: &impl Abort, words: &str, given: Option<u32>) -> Tear {
+    let (party, rest) = parted(rt, words, " ");
+    let (nth, cut) = parted(rt, rest, " ");
+    Tear {
+        party: small_number(rt, party),
+        nth: number(rt, nth),
+        cut: if cut == "none" {
+            None
+        } else if cut == "cut" {
+            given
+        } else {
+            Some(number(rt, cut))
+        },
     }
-    Ok(items)
 }
 
-/// The plan by which these calls fail.
-fn plan(alloc: Global, failing: Failing) -> Result<Plan, AllocError> {
-    Ok(Plan {
-        tears: list(alloc, failing.tear)?,
-        sends: list(alloc, failing.send)?,
-        reads: list(alloc, failing.read)?,
-    })
+fn failed_send(rt: &impl Abort, words: &str) -> FailSend {
+    let (nth, how) = parted(rt, words, " ");
+    assert!(rt; how == "went" || how == "lost");
+    FailSend {
+        nth: number(rt, nth),
+        went: how == "went",
+    }
 }
 
-/// The plan of these lists.
-pub(crate) fn plan_of(
+fn failed_read(rt: &impl Abort, words: &str) -> FailRead {
+    let (party, nth) = parted(rt, words, " ");
+    FailRead {
+        party: small_number(rt, party),
+        nth: number(rt, nth),
+    }
+}
+
+/// The plan of the lines "fails:", where this is the cut that is given.
+fn plan_of(
+    rt: &impl Abort,
     alloc: Global,
-    tears: &[Tear],
-    sends: &[FailSend],
-    reads: &[FailRead],
+    lines: &[&str],
+    cut: Option<u32>,
 ) -> Result<Plan, AllocError> {
-    Ok(Plan {
-        tears: tears.to_vec(alloc)?,
-        sends: sends.to_vec(alloc)?,
-        reads: reads.to_vec(alloc)?,
-    })
-}
-
-/// A match with the id 1, by the first rules, over devices in memory that fail by the plan, after the events of these
-/// rows, and their report.
-fn simulated_by(
-    alloc: Global,
-    length: u8,
-    watchers: u8,
-    plan: &Plan,
-    rows: &[Row],
-) -> Result<(MemoryWorld, RunReport), WorldFault> {
-    let setup = Setup {
-        id: 1,
-        length,
-        rules: Rules::One,
-        watchers,
+    let mut plan = Plan {
+        tears: Vec::new(alloc),
+        sends: Vec::new(alloc),
+        reads: Vec::new(alloc),
     };
-    let events = events_of(alloc, rows)?;
-    simulate(alloc, setup, plan, &events)
+    for line in lines {
+        if let Some(words) = line.strip_prefix("fails: write ") {
+            plan.tears.push(tear(rt, words, cut))?;
+        } else if let Some(words) = line.strip_prefix("fails: send ") {
+            plan.sends.push(failed_send(rt, words))?;
+        } else if let Some(words) = line.strip_prefix("fails: read ") {
+            plan.reads.push(failed_read(rt, words))?;
+        }
+    }
+    Ok(plan)
 }
 
-/// The same, of length 1, where these calls fail.
+fn setup_of(rt: &impl Abort, lines: &[&str]) -> Setup {
+    let mut setup = Setup {
+        id: 1,
+        length: 1,
+        rules: Rules::One,
+        watchers: 0,
+    };
+    for line in lines {
+        if let Some(word) = line.strip_prefix("length ") {
+            setup.length = small_number(rt, word);
+        } else if let Some(word) = line.strip_prefix("watchers ") {
+            setup.watchers = small_number(rt, word);
+        }
+    }
+    setup
+}
+
+/// The world of a play after these events, and their report.
 pub(crate) fn simulated(
+    rt: &impl Abort,
     alloc: Global,
-    watchers: u8,
-    failing: Failing,
-    rows: &[Row],
+    lines: &[&str],
+    cut: Option<u32>,
+    events: &[Event],
 ) -> Result<(MemoryWorld, RunReport), WorldFault> {
-    let plan = plan(alloc, failing)?;
-    simulated_by(alloc, 1, watchers, &plan, rows)
+    let plan = plan_of(rt, alloc, lines, cut)?;
+    simulate(alloc, setup_of(rt, lines), &plan, events)
 }
 
-/// A world of match 1 where nothing has happened yet, whose devices fail by the plan.
-pub(crate) fn world_by(
+/// The world of a play where nothing has happened yet.
+fn world_by(
+    rt: &impl Abort,
     alloc: Global,
-    length: u8,
-    watchers: u8,
-    plan: &Plan,
+    lines: &[&str],
+    cut: Option<u32>,
 ) -> Result<MemoryWorld, WorldFault> {
-    let (world, _) = simulated_by(alloc, length, watchers, plan, &[])?;
+    let (world, _) = simulated(rt, alloc, lines, cut, &[])?;
     Ok(world)
 }
 
-/// The same, where these calls fail.
-pub(crate) fn world(
-    alloc: Global,
-    length: u8,
-    watchers: u8,
-    failing: Failing,
-) -> Result<MemoryWorld, WorldFault> {
-    let plan = plan(alloc, failing)?;
-    world_by(alloc, length, watchers, &plan)
+/// The world of a play where nothing has happened yet. The first try may lack memory.
+pub(crate) fn world_of(rt: &(impl AllocGlobal + Abort), lines: &[&str]) -> MemoryWorld {
+    match world_by(rt, rt.alloc(), lines, None) {
+        Ok(world) => world,
+        Err(_) => world_by(rt, rt.alloc(), lines, None).expect(rt, "memory"),
+    }
+}
+
+/// The events of the rows.
+pub(crate) fn events_of(rt: &(impl AllocGlobal + Abort), lines: &[&str]) -> Vec<Event> {
+    let mut events = Vec::new(rt.alloc());
+    for line in lines {
+        if let Some((words, _)) = line.split_once(" -> ") {
+            assert!(rt; events.push(event(rt, words)).is_ok());
+        }
+    }
+    events
 }
 
 /// The event happens.
@@ -104,40 +159,9 @@ pub(crate) fn step(world: &mut MemoryWorld, event: Event) -> Outcome {
     world.step(event)
 }
 
-/// The event of a row happens.
-pub(crate) fn happen(world: &mut MemoryWorld, happens: Happens) -> Outcome {
-    step(world, event(happens))
-}
-
-/// Every event comes to what its row says.
-pub(crate) fn check_rows(rt: &impl Abort, world: &mut MemoryWorld, rows: &[Row]) {
-    for (i, row) in rows.iter().enumerate() {
-        let outcome = happen(world, row.0);
-        check_outcome(rt, i, &outcome, is(&outcome, row.1));
-    }
-}
-
-/// A world of a match of length 1 whose events come to what these parts say, one part after the other.
-pub(crate) fn played(
-    rt: &(impl AllocGlobal + Abort),
-    watchers: u8,
-    failing: Failing,
-    parts: &[&[Row]],
-) -> Result<MemoryWorld, Fail> {
-    let mut world = world(rt.alloc(), 1, watchers, failing)?;
-    for rows in parts {
-        check_rows(rt, &mut world, rows);
-    }
-    Ok(world)
-}
-
-/// The same, where nothing fails.
-pub(crate) fn played_well(
-    rt: &(impl AllocGlobal + Abort),
-    watchers: u8,
-    parts: &[&[Row]],
-) -> Result<MemoryWorld, Fail> {
-    played(rt, watchers, NO_FAILURE, parts)
+/// The event of a line happens.
+pub(crate) fn happen(rt: &impl Abort, world: &mut MemoryWorld, line: &str) -> Outcome {
+    step(world, event(rt, line))
 }
 
 /// The record of a party, if it is there and up.
@@ -150,21 +174,92 @@ pub(crate) fn held(world: &MemoryWorld, party: u8) -> Option<Number> {
     Some(record_of(world, party)?.len())
 }
 
-/// The parties hold so many entries, from party 0 on.
-pub(crate) fn check_held(rt: &impl Abort, world: &MemoryWorld, expected: &[Option<Number>]) {
-    for (party, count) in (0..=255).zip(expected) {
-        check_party(rt, party, held(world, party) == *count);
-    }
-}
-
 /// How many datagrams were sent to a party.
 pub(crate) fn sent_to(world: &MemoryWorld, party: u8) -> u32 {
     world.link().sent_to(party)
 }
 
-/// So many datagrams were sent to each of these parties.
-pub(crate) fn check_sent(rt: &impl Abort, world: &MemoryWorld, expected: &[(u8, u32)]) {
-    for (party, count) in expected {
-        check_party(rt, *party, sent_to(world, *party) == *count);
+/// The parties hold so many entries, from party 0 on.
+fn check_held(rt: &impl Abort, world: &MemoryWorld, counts: &str) {
+    for (party, word) in (0..=255).zip(counts.split(' ')) {
+        let count = if word == "-" {
+            None
+        } else {
+            Some(number(rt, word))
+        };
+        assert!(rt;
+            held(world, party) == count,
+            "held: {counts}, party {party}"
+        );
+    }
+}
+
+/// So many datagrams were sent to a party.
+fn check_sent(rt: &impl Abort, world: &MemoryWorld, line: &str) {
+    let (party, count) = parted(rt, line, ": ");
+    let sent = sent_to(world, small_number(rt, party));
+    assert!(rt; sent == number(rt, count), "sent to {line}, and not {sent}");
+}
+
+/// Whether the record has this entry under a number.
+fn has_entry(rt: &impl Abort, record: &Record, number: Number, line: &str) -> bool {
+    let (by, entry) = parse_entry(line.as_bytes()).expect(rt, "the line of an entry");
+    record.entry(number) == Some(&entry) && record.by(number) == by
+}
+
+/// A party holds an entry.
+fn check_entry(rt: &impl Abort, world: &MemoryWorld, line: &str) {
+    let (place, entry) = parted(rt, line, ": ");
+    let (index, party) = parted(rt, place, " of ");
+    let record = record_of(world, small_number(rt, party)).expect(rt, "a party that is up");
+    assert!(rt;
+        has_entry(rt, record, number(rt, index), entry),
+        "entry {line}"
+    );
+}
+
+/// A row or another line of a play holds.
+pub(crate) fn check_line(rt: &impl Abort, world: &mut MemoryWorld, line: &str) {
+    if let Some((event, expected)) = line.split_once(" -> ") {
+        let outcome = happen(rt, world, event);
+        check_outcome(rt, event, &outcome, expected);
+    } else if let Some(counts) = line.strip_prefix("held: ") {
+        check_held(rt, world, counts);
+    } else if let Some(count) = line.strip_prefix("sent to ") {
+        check_sent(rt, world, count);
+    } else if let Some(entry) = line.strip_prefix("entry ") {
+        check_entry(rt, world, entry);
+    } else {
+        let makes = line.starts_with("length ")
+            || line.starts_with("watchers ")
+            || line.starts_with("fails: ");
+        assert!(rt; makes, "{line}");
+    }
+}
+
+/// All lines of a play hold.
+pub(crate) fn check_lines(rt: &impl Abort, world: &mut MemoryWorld, lines: &[&str]) {
+    for line in lines {
+        check_line(rt, world, line);
+    }
+}
+
+/// The world of a play in the end, where this is the cut that is given, and all of its lines hold.
+pub(crate) fn played(
+    rt: &(impl AllocGlobal + Abort),
+    plays: &'static str,
+    name: &str,
+    cut: Option<u32>,
+) -> MemoryWorld {
+    let lines = lines_of(rt, plays, name);
+    let mut world = world_by(rt, rt.alloc(), &lines, cut).expect(rt, "memory");
+    check_lines(rt, &mut world, &lines);
+    world
+}
+
+/// All lines of all plays hold.
+pub(crate) fn check_plays(rt: &(impl AllocGlobal + Abort), plays: &'static str) {
+    for name in &names_of(rt, plays) {
+        played(rt, plays, name, None);
     }
 }

@@ -3,49 +3,52 @@
 ghost use Rattle.std.specs.Prelude.{◌≡◌, ◌<◌, ◌≤◌, [], IfSome, Ok, Some};
 ghost use Rattle.bg_world.specs.Devices.Handed.{handed};
 
-use crate::checks::{check_no_growth_is_left, check_outcome, check_party};
+use crate::checks::{check_no_growth_is_left, check_party, check_row};
 use crate::devices::links::OwnLink;
 use crate::devices::{NO_FAILURE, Recorder};
-use crate::worlds::event_rows::{ComesTo, Happens, Row, TO_THE_CHOICE, TO_THE_CLAIM, event};
 use crate::worlds::growths::is_front;
-use crate::worlds::memory_worlds::{MemoryWorld, record_of, step, world};
-use crate::worlds::parties::{Parties, WATCHERS, failing};
-use crate::worlds::worked_matches::{THE_CLAIM_KEPT, THE_ROLL_LOST, TO_THE_ROLL, WITH_A_WATCHER};
+use crate::worlds::lines::{event, lines_of};
+use crate::worlds::memory_worlds::{MemoryWorld, record_of, step, world_of};
+use crate::worlds::parties::{Parties, failing};
 use arrayvec::ArrayVec;
 use bg_board::Player;
 use bg_match::Action;
 use bg_wire::{Datagram, PacketBytes, REFEREE};
 use bg_world::{DeviceFault, Event, Link, Outcome, Taken, WorldFault};
-use std::alloc::Global;
 use std::process::Abort;
 use std::test::Fail;
 
-/// Five parties, whose events come to what these parts say, one part after the other.
-fn played<'a>(
-    rt: &impl Abort,
-    recorder: &'a Recorder,
-    parts: &[&[Row]],
-) -> Result<Parties<'a>, Fail> {
-    let mut parties = Parties::begin(rt, recorder)?;
-    for rows in parts {
-        parties.check_rows(rt, rows);
-    }
-    Ok(parties)
+const PLAYS: &str = "\
+with_a_watcher
+as a_turn
+
+a_lost_roll_and_a_kept_claim
+as to_the_choice
+as to_the_claim
+as to_the_roll
+as the_roll_lost
+as the_claim_kept
+
+to_the_choice
+as to_the_choice
+
+a_claim_over_two_processes
+as to_the_claim
+as the_claim_kept
+";
+
+/// Five parties, whose events come to what this play says.
+fn played<'a>(rt: &impl Abort, recorder: &'a Recorder, name: &str) -> Parties<'a> {
+    let mut parties = Parties::begin(rt, recorder).expect(rt, "memory");
+    parties.check_rows(rt, &lines_of(rt, PLAYS, name));
+    parties
 }
 
 #[test]
-fn worked_matches_of_nodes(rt: HostRuntime) -> Result<(), Fail> {
+fn worked_matches_of_nodes(rt: HostRuntime) {
     let recorder = Recorder::new(rt.alloc(), NO_FAILURE);
-    played(&rt, &recorder, &[&WITH_A_WATCHER])?;
-    let parts: [&[Row]; 5] = [
-        &TO_THE_CHOICE,
-        &TO_THE_CLAIM,
-        &TO_THE_ROLL,
-        &THE_ROLL_LOST,
-        &THE_CLAIM_KEPT,
-    ];
-    played(&rt, &recorder, &parts)?;
-    Ok(())
+    played(&rt, &recorder, "with_a_watcher");
+    played(&rt, &recorder, "a_lost_roll_and_a_kept_claim");
 }
 
 /// The number after this one, in a row of numbers that looks like chance.
@@ -63,19 +66,13 @@ fn below(seed: &mut u32, count: u32) -> u32
 }
 
 /// Any event, of six parties of which five exist.
-fn any_event(seed: &mut u32) -> Event {
+fn any_event(rt: &impl Abort, seed: &mut u32) -> Event {
     let party = below(seed, 6) as u8;
     match below(seed, 16) {
         0 => Event::Due { word: next(seed) },
-        1 => Event::Choose {
-            seat: Player::X,
-            action: Action::Double,
-        },
-        2 => Event::Choose {
-            seat: Player::O,
-            action: Action::Roll,
-        },
-        3 => event(Happens::Move((8, 5), (6, 5))),
+        1 => event(rt, "choose X double"),
+        2 => event(rt, "choose O roll"),
+        3 => event(rt, "choose X move 8-5 6-5"),
         4 => Event::Restart { party },
         5 | 6 => Event::Save { party },
         7..=10 => Event::Tick { party },
@@ -99,37 +96,39 @@ fn check_same(rt: &impl Abort, parties: &Parties<'_>, world: &MemoryWorld) {
     }
 }
 
+/// The devices of a world that fail as those of the nodes do, but for the reads with which nodes begin.
+const FAILING: [&str; 4] = [
+    "watchers 2",
+    "fails: write 0 2 20",
+    "fails: send 7 went",
+    "fails: read 1 3",
+];
+
 /// The same events through a world and through nodes come to the same, over devices that fail alike. A process that
 /// begins reads both slots, which a new world does not.
-fn check_events(rt: &impl Abort, alloc: Global, seed: u32, fails: bool) -> Result<(), Fail> {
+fn check_events(rt: &(impl AllocGlobal + Abort), seed: u32, fails: bool) {
     let mut seed = seed;
-    let (with_nodes, with_world) = match fails {
-        false => (NO_FAILURE, NO_FAILURE),
-        true => (failing(5), failing(3)),
-    };
-    let recorder = Recorder::new(alloc, with_nodes);
-    let mut parties = Parties::begin(rt, &recorder)?;
-    let mut world = world(alloc, 1, WATCHERS, with_world)?;
+    let recorder = Recorder::new(rt.alloc(), if fails { failing(5) } else { NO_FAILURE });
+    let mut parties = Parties::begin(rt, &recorder).expect(rt, "memory");
+    let mut world = world_of(rt, if fails { &FAILING } else { &FAILING[..1] });
     for i in 0..400 {
-        let event = any_event(&mut seed);
+        let event = any_event(rt, &mut seed);
         let here = parties.step(rt, event.copy());
         let there = step(&mut world, event);
-        check_outcome(rt, i, &here, here == there);
+        check_row(rt, i, here == there);
         check_same(rt, &parties, &world);
     }
-    Ok(())
 }
 
 #[test]
-fn nodes_and_a_world(rt: HostRuntime) -> Result<(), Fail> {
+fn nodes_and_a_world(rt: HostRuntime) {
     for seed in 0..12 {
-        check_events(&rt, rt.alloc(), seed, seed % 2 == 1)?;
+        check_events(&rt, seed, seed % 2 == 1);
     }
-    Ok(())
 }
 
 /// Whether the last claim of X is a move as entry 2.
-fn claims_a_move(parties: &Parties<'_>) -> bool {
+fn claims_a_move(parties: &mut Parties<'_>) -> bool {
     matches!(parties.claim(Player::X), Some((2, Action::Move(_))))
 }
 
@@ -175,26 +174,19 @@ fn sends(link: &mut OwnLink<'_>, bytes: &[u8]) -> bool {
     send_over(link, &datagram).is_ok()
 }
 
-/// The claim counts once, also where somebody else repeats it.
-const THE_CLAIM_REPEATED: [Row; 2] = [
-    (Happens::Take(0, 3, 0), ComesTo::Accepted(2)),
-    (Happens::Take(0, 2, 0), ComesTo::Nothing),
-];
-
-/// A seat's claim is kept over the end of its process, and told by the next one, byte for byte.
+/// A seat's claim is kept over the end of its process, and told by the next one, byte for byte. It counts once, also
+/// where somebody else repeats it.
 #[test]
-fn a_claim_over_two_processes(rt: HostRuntime) -> Result<(), Fail> {
+fn a_claim_over_two_processes(rt: HostRuntime) {
     let recorder = Recorder::new(rt.alloc(), NO_FAILURE);
-    let mut parties = played(&rt, &recorder, &[&TO_THE_CHOICE])?;
-    assert!(rt; claims_a_move(&parties));
+    let mut parties = played(&rt, &recorder, "to_the_choice");
+    assert!(rt; claims_a_move(&mut parties));
     assert!(rt; parties.claim(Player::O).is_none());
-    parties.check_rows(&rt, &TO_THE_CLAIM);
-    parties.check_rows(&rt, &THE_CLAIM_KEPT);
-    assert!(rt; claims_a_move(&parties));
+    parties.check_rows(&rt, &lines_of(&rt, PLAYS, "a_claim_over_two_processes"));
+    assert!(rt; claims_a_move(&mut parties));
     assert!(rt; is_third(&mut parties.link, &CLAIM));
     assert!(rt; sends(&mut parties.link, &CLAIM));
-    parties.check_rows(&rt, &THE_CLAIM_REPEATED);
-    Ok(())
+    parties.check_rows(&rt, &["take 0 3 0 -> accepted 2", "take 0 2 0 -> nothing"]);
 }
 
 /// Five parties, whose first try may lack memory.
@@ -224,8 +216,9 @@ fn check_fronts(rt: &impl Abort, parties: &Parties<'_>) {
 fn refused_growths_of_nodes(rt: HostRuntime) -> Result<(), Fail> {
     let recorder = Recorder::new(rt.alloc(), NO_FAILURE);
     let mut parties = begin_at_last(&rt, &recorder)?;
-    for row in &WITH_A_WATCHER {
-        let outcome = parties.step(&rt, event(row.0));
+    for row in &lines_of(&rt, PLAYS, "with_a_watcher") {
+        let (words, _) = row.split_once(" -> ").expect(&rt, "a row");
+        let outcome = parties.step(&rt, event(&rt, words));
         assert!(rt; !matches!(outcome, Outcome::NoSuchParty));
         check_fronts(&rt, &parties);
     }

@@ -1,20 +1,14 @@
 //! The line of each outcome, and matches of length 1 whose events and outcomes are lines.
-use crate::worlds::event_lines::parsed;
-use crate::worlds::memory_worlds::{MemoryWorld, played_well, step};
+use crate::worlds::lines::has_line;
+use crate::worlds::memory_worlds::check_plays;
 use arrayvec::ArrayVec;
 use bg_match::{EntryFault, NoDouble, Rules};
 use bg_party::{ChooseFault, Learned};
 use bg_referee::{DueFault, TakeOutcome};
 use bg_turns::TurnFault;
 use bg_wire::{EntryList, Packet, WireFault};
-use bg_world::{Outcome, RestoreCause, outcome_text};
+use bg_world::{Outcome, RestoreCause};
 use std::process::Abort;
-use std::test::Fail;
-
-/// Whether the outcome has this line.
-fn has_line(outcome: &Outcome, line: &str) -> bool {
-    outcome_text(outcome).as_str() == line
-}
 
 /// The outcome has this line.
 fn check(rt: &impl Abort, outcome: Outcome, line: &str) {
@@ -35,33 +29,33 @@ fn lines_of_due(rt: HostRuntime) {
     }
 }
 
+/// What the referee made of a packet has this line.
+fn check_took(rt: &impl Abort, took: TakeOutcome, line: &str) {
+    check(rt, Outcome::Took(took), line);
+}
+
 #[test]
 fn lines_of_the_referee(rt: HostRuntime) {
-    let step = TurnFault::StepIllegal(0);
-    let larger = EntryFault::Turn(TurnFault::LargerMustBePlayed);
-    for (took, line) in [
-        (TakeOutcome::OtherMatch, "other match"),
-        (TakeOutcome::Nothing, "nothing"),
-        (TakeOutcome::Ahead, "ahead"),
-        (TakeOutcome::NotYourTurn, "not your turn"),
-        (TakeOutcome::WordRefused, "word refused"),
+    check_took(&rt, TakeOutcome::OtherMatch, "other match");
+    check_took(&rt, TakeOutcome::Nothing, "nothing");
+    check_took(&rt, TakeOutcome::Ahead, "ahead");
+    check_took(&rt, TakeOutcome::NotYourTurn, "not your turn");
+    check_took(&rt, TakeOutcome::WordRefused, "word refused");
+    for (fault, line) in [
         (
-            TakeOutcome::Illegal(larger),
+            EntryFault::Turn(TurnFault::LargerMustBePlayed),
             "illegal: larger die must be played",
         ),
         (
-            TakeOutcome::Illegal(EntryFault::Turn(step)),
+            EntryFault::Turn(TurnFault::StepIllegal(0)),
             "illegal: step 1 illegal",
         ),
-        (
-            TakeOutcome::Illegal(EntryFault::MatchOver),
-            "illegal: match over",
-        ),
-        (TakeOutcome::Memory, "out of memory"),
-        (TakeOutcome::Accepted(2), "accepted 2"),
+        (EntryFault::MatchOver, "illegal: match over"),
     ] {
-        check(&rt, Outcome::Took(took), line);
+        check_took(&rt, TakeOutcome::Illegal(fault), line);
     }
+    check_took(&rt, TakeOutcome::Memory, "out of memory");
+    check_took(&rt, TakeOutcome::Accepted(2), "accepted 2");
 }
 
 #[test]
@@ -117,95 +111,63 @@ fn lines_of_followers(rt: HostRuntime) {
 }
 
 #[test]
-fn lines_of_devices(rt: HostRuntime) {
-    for (outcome, line) in [
-        (Outcome::Saved(u32::MAX), "saved 4294967295"),
-        (Outcome::SavesSpent, "saves spent"),
-        (Outcome::Sent(0), "sent 0"),
-        (Outcome::Restarted, "restarted"),
-        (Outcome::NoDatagram, "no datagram"),
-        (Outcome::NotAPacket(WireFault::Short), "no packet: short"),
-        (
-            Outcome::NotAPacket(WireFault::Magic),
-            "no packet: bad magic",
-        ),
-        (
-            Outcome::NotAPacket(WireFault::Version),
-            "no packet: bad version",
-        ),
-        (Outcome::NotAPacket(WireFault::Kind), "no packet: bad kind"),
-        (
-            Outcome::NotAPacket(WireFault::Field(23)),
-            "no packet: bad field at 23",
-        ),
-        (
-            Outcome::NotAPacket(WireFault::Extra),
-            "no packet: extra bytes",
-        ),
-        (Outcome::Down, "down"),
-        (Outcome::NoSuchParty, "no such party"),
-        (Outcome::LinkFault, "link fault"),
-        (Outcome::SaveFault, "save fault"),
-        (
-            Outcome::RestoreFault(RestoreCause::Device),
-            "restore fault: device",
-        ),
-        (
-            Outcome::RestoreFault(RestoreCause::Damaged),
-            "restore fault: damaged",
-        ),
-        (
-            Outcome::RestoreFault(RestoreCause::WrongMatch),
-            "restore fault: wrong match",
-        ),
-        (Outcome::Memory, "out of memory"),
+fn lines_of_no_packets(rt: HostRuntime) {
+    for (fault, line) in [
+        (WireFault::Short, "no packet: short"),
+        (WireFault::Magic, "no packet: bad magic"),
+        (WireFault::Version, "no packet: bad version"),
+        (WireFault::Kind, "no packet: bad kind"),
+        (WireFault::Field(23), "no packet: bad field at 23"),
+        (WireFault::Extra, "no packet: extra bytes"),
     ] {
-        check(&rt, outcome, line);
+        check(&rt, Outcome::NotAPacket(fault), line);
     }
 }
 
-/// Whether the event of a line comes to what another line says.
-fn comes_to(world: &mut MemoryWorld, line: &str, expected: &str) -> bool {
-    match parsed(line) {
-        Ok(event) => has_line(&step(world, event), expected),
-        Err(_) => false,
+#[test]
+fn lines_of_devices(rt: HostRuntime) {
+    check(&rt, Outcome::Saved(u32::MAX), "saved 4294967295");
+    check(&rt, Outcome::SavesSpent, "saves spent");
+    check(&rt, Outcome::Sent(0), "sent 0");
+    check(&rt, Outcome::Restarted, "restarted");
+    check(&rt, Outcome::NoDatagram, "no datagram");
+    check(&rt, Outcome::Down, "down");
+    check(&rt, Outcome::NoSuchParty, "no such party");
+    check(&rt, Outcome::LinkFault, "link fault");
+    check(&rt, Outcome::SaveFault, "save fault");
+    for (cause, line) in [
+        (RestoreCause::Device, "restore fault: device"),
+        (RestoreCause::Damaged, "restore fault: damaged"),
+        (RestoreCause::WrongMatch, "restore fault: wrong match"),
+    ] {
+        check(&rt, Outcome::RestoreFault(cause), line);
     }
-}
-
-/// Every event comes to what stands beside it.
-pub(crate) fn check_lines(rt: &impl Abort, world: &mut MemoryWorld, rows: &[(&str, &str)]) {
-    for &(line, expected) in rows {
-        assert!(rt; comes_to(world, line, expected), "{line}: {expected}");
-    }
+    check(&rt, Outcome::Memory, "out of memory");
 }
 
 /// What is refused, what is not taken, and between these what is.
-const REFUSALS: [(&str, &str); 17] = [
-    ("take 0 0 12", "no datagram"),
-    ("due 4294967291", "due refused: equal opening"),
-    ("due 4294967292", "due refused: word refused"),
-    ("choose X roll", "claim refused: not your turn"),
-    ("save 3", "no such party"),
-    ("take 9 0 0", "no such party"),
-    ("due 12", "entry 1"),
-    ("due 12", "due refused: nothing due"),
-    ("save 0", "saved 1"),
-    ("tick 1", "sent 1"),
-    ("take 0 4294967295 0", "no packet: short"),
-    ("take 0 0 0", "answer to 1: entries 1 to 1"),
-    ("take 1 0 0", "learned 1"),
-    ("take 1 0 0", "nothing"),
-    ("choose X move 8-5", "claim refused: more can be played"),
-    ("choose X move 8-5 6-5", "claimed 2"),
-    (
-        "choose X move 24-23 24-21",
-        "claim refused: already claimed",
-    ),
-];
+const PLAYS: &str = "\
+refusals_in_lines
+take 0 0 12 -> no datagram
+due 4294967291 -> due refused: equal opening
+due 4294967292 -> due refused: word refused
+choose X roll -> claim refused: not your turn
+save 3 -> no such party
+take 9 0 0 -> no such party
+due 12 -> entry 1
+due 12 -> due refused: nothing due
+save 0 -> saved 1
+tick 1 -> sent 1
+take 0 4294967295 0 -> no packet: short
+take 0 0 0 -> answer to 1: entries 1 to 1
+take 1 0 0 -> learned 1
+take 1 0 0 -> nothing
+choose X move 8-5 -> claim refused: more can be played
+choose X move 8-5 6-5 -> claimed 2
+choose X move 24-23 24-21 -> claim refused: already claimed
+";
 
 #[test]
-fn refusals_in_lines(rt: HostRuntime) -> Result<(), Fail> {
-    let mut world = played_well(&rt, 0, &[])?;
-    check_lines(&rt, &mut world, &REFUSALS);
-    Ok(())
+fn refusals_in_lines(rt: HostRuntime) {
+    check_plays(&rt, PLAYS);
 }

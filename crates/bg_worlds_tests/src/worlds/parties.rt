@@ -1,9 +1,8 @@
 //! The parties of a match, each a node of its own, over a link of the tests' own: the words of the tests of nodes.
-use crate::checks::check_outcome;
 use crate::devices::keepers::OwnKeeper;
 use crate::devices::links::OwnLink;
 use crate::devices::{Failing, Recorder};
-use crate::worlds::event_rows::{Row, event, is};
+use crate::worlds::lines::{check_outcome, event};
 use bg_board::Player;
 use bg_match::{Action, LengthFault, Number, Record, Rules, Terms};
 use bg_wire::{FIRST_WATCHER, party_of};
@@ -25,20 +24,41 @@ pub(crate) const TERMS: Terms = Terms {
     rules: Rules::One,
 };
 
-/// How many watch.
-pub(crate) const WATCHERS: u8 = 2;
-
 const COUNT: usize = 5;
+
+/// The nodes of five parties.
+#[derive(Drop)]
+struct Nodes<'a> {
+    referee: OwnReferee<'a>,
+    x: OwnSeat<'a>,
+    o: OwnSeat<'a>,
+    third: WatcherNode,
+    fourth: WatcherNode,
+}
+
+impl<'a> Nodes<'a> {
+    fn seat(&mut self, player: Player) -> &mut OwnSeat<'a> {
+        match player {
+            Player::X => &mut self.x,
+            Player::O => &mut self.o,
+        }
+    }
+
+    fn watcher(&mut self, index: usize) -> Option<&mut WatcherNode> {
+        match index {
+            0 => Some(&mut self.third),
+            1 => Some(&mut self.fourth),
+            _ => None,
+        }
+    }
+}
 
 /// Five parties, each by itself; they share a link.
 #[derive(Drop)]
 pub(crate) struct Parties<'a> {
     alloc: Global,
     pub(crate) link: OwnLink<'a>,
-    referee: OwnReferee<'a>,
-    x: OwnSeat<'a>,
-    o: OwnSeat<'a>,
-    watchers: [WatcherNode; 2],
+    nodes: Nodes<'a>,
 }
 
 /// A referee that begins over the slots of its keeper, and what that came to.
@@ -96,70 +116,50 @@ impl<'a> Parties<'a> {
         Ok(Parties {
             alloc,
             link: OwnLink::by_picks(recorder),
-            referee: referee(recorder)?,
-            x: seat(recorder, Player::X)?,
-            o: seat(recorder, Player::O)?,
-            watchers: [watcher(rt, alloc, 3), watcher(rt, alloc, 4)],
+            nodes: Nodes {
+                referee: referee(recorder)?,
+                x: seat(recorder, Player::X)?,
+                o: seat(recorder, Player::O)?,
+                third: watcher(rt, alloc, 3),
+                fourth: watcher(rt, alloc, 4),
+            },
         })
-    }
-
-    fn seat(&mut self, player: Player) -> &mut OwnSeat<'a> {
-        match player {
-            Player::X => &mut self.x,
-            Player::O => &mut self.o,
-        }
     }
 
     /// The record of a party, if it is there and up.
     pub(crate) fn held(&self, party: u8) -> Option<&Record> {
-        match Role::of(party) {
-            Role::Referee => self.referee.held(),
-            Role::Seat(Player::X) => self.x.held(),
-            Role::Seat(Player::O) => self.o.held(),
-            Role::Watcher(index) => Some(self.watchers.get(index)?.held()),
+        match party {
+            0 => self.nodes.referee.held(),
+            1 => self.nodes.x.held(),
+            2 => self.nodes.o.held(),
+            3 => Some(self.nodes.third.held()),
+            4 => Some(self.nodes.fourth.held()),
+            _ => None,
         }
     }
 
     /// The last claim of a seat.
-    pub(crate) fn claim(&self, player: Player) -> Option<(Number, Action)> {
-        match player {
-            Player::X => self.x.claim(),
-            Player::O => self.o.claim(),
-        }
+    pub(crate) fn claim(&mut self, player: Player) -> Option<(Number, Action)> {
+        self.nodes.seat(player).claim()
     }
 
     /// The event, by the node of the party that it names.
     pub(crate) fn step(&mut self, rt: &impl Abort, event: Event) -> Outcome {
         match event {
-            Event::Due { word } => self.referee.due(word),
+            Event::Due { word } => self.nodes.referee.due(word),
             Event::Take { party, pick, word } => self.take(party, pick, word),
-            Event::Choose { seat, action } => self.seat(seat).choose(action),
-            Event::Save { party } => match Role::of(party) {
-                Role::Referee => self.referee.save(),
-                Role::Seat(player) => self.seat(player).save(),
-                Role::Watcher(_) => Outcome::NoSuchParty,
-            },
+            Event::Choose { seat, action } => self.nodes.seat(seat).choose(action),
+            Event::Save { party } => self.save(party),
             Event::Tick { party } => self.tick(party),
-            Event::Restart { party } => match Role::of(party) {
-                Role::Referee => self.referee.restart(),
-                Role::Seat(player) => self.seat(player).restart(),
-                Role::Watcher(index) => match self.watchers.get_mut(index) {
-                    None => Outcome::NoSuchParty,
-                    Some(node) => {
-                        *node = watcher(rt, self.alloc, party);
-                        Outcome::Restarted
-                    }
-                },
-            },
+            Event::Restart { party } => self.restart(rt, party),
         }
     }
 
     fn take(&mut self, party: u8, pick: u32, word: u32) -> Outcome {
         match Role::of(party) {
-            Role::Referee => self.referee.take(&mut self.link, COUNT, pick, word),
-            Role::Seat(Player::X) => self.x.take(&mut self.link, pick),
-            Role::Seat(Player::O) => self.o.take(&mut self.link, pick),
-            Role::Watcher(index) => match self.watchers.get_mut(index) {
+            Role::Referee => self.nodes.referee.take(&mut self.link, COUNT, pick, word),
+            Role::Seat(player) => self.nodes.seat(player).take(&mut self.link, pick),
+            Role::Watcher(index) => match self.nodes.watcher(index) {
                 None => Outcome::NoSuchParty,
                 Some(node) => node.take(&mut self.link, pick),
             },
@@ -168,21 +168,43 @@ impl<'a> Parties<'a> {
 
     fn tick(&mut self, party: u8) -> Outcome {
         match Role::of(party) {
-            Role::Referee => self.referee.tick(&mut self.link, COUNT),
-            Role::Seat(Player::X) => self.x.tick(&mut self.link, COUNT),
-            Role::Seat(Player::O) => self.o.tick(&mut self.link, COUNT),
-            Role::Watcher(index) => match self.watchers.get_mut(index) {
+            Role::Referee => self.nodes.referee.tick(&mut self.link, COUNT),
+            Role::Seat(player) => self.nodes.seat(player).tick(&mut self.link, COUNT),
+            Role::Watcher(index) => match self.nodes.watcher(index) {
                 None => Outcome::NoSuchParty,
                 Some(node) => node.tick(&mut self.link, COUNT),
             },
         }
     }
 
+    fn save(&mut self, party: u8) -> Outcome {
+        match Role::of(party) {
+            Role::Referee => self.nodes.referee.save(),
+            Role::Seat(player) => self.nodes.seat(player).save(),
+            Role::Watcher(_) => Outcome::NoSuchParty,
+        }
+    }
+
+    fn restart(&mut self, rt: &impl Abort, party: u8) -> Outcome {
+        match Role::of(party) {
+            Role::Referee => self.nodes.referee.restart(),
+            Role::Seat(player) => self.nodes.seat(player).restart(),
+            Role::Watcher(index) => match self.nodes.watcher(index) {
+                None => Outcome::NoSuchParty,
+                Some(node) => {
+                    *node = watcher(rt, self.alloc, party);
+                    Outcome::Restarted
+                }
+            },
+        }
+    }
+
     /// Every event comes to what its row says.
-    pub(crate) fn check_rows(&mut self, rt: &impl Abort, rows: &[Row]) {
-        for (i, row) in rows.iter().enumerate() {
-            let outcome = self.step(rt, event(row.0));
-            check_outcome(rt, i, &outcome, is(&outcome, row.1));
+    pub(crate) fn check_rows(&mut self, rt: &impl Abort, lines: &[&str]) {
+        for line in lines {
+            let (words, expected) = line.split_once(" -> ").expect(rt, "a row");
+            let outcome = self.step(rt, event(rt, words));
+            check_outcome(rt, words, &outcome, expected);
         }
     }
 }

@@ -1,5 +1,5 @@
 //! Scripts: good ones, refused ones, and worlds that are refused.
-use crate::checks::{check_no_growth_is_left, check_row};
+use crate::checks::check_no_growth_is_left;
 use bg_match::Rules;
 use bg_streams::{EngineFault, Reading, Writing};
 use bg_text::{MOST_BYTES, Verdict};
@@ -114,75 +114,82 @@ fn check_script(
 ) {
     let mut written = Vec::new(rt.alloc());
     let answer = play(rt.alloc(), input, 1, watchers, &mut written);
-    let holds = answer == Ok(verdict) && is_made_of(&written, texts);
-    assert!(rt; holds, "{answer:?} {written:?}");
+    assert!(rt;
+        answer == Ok(verdict) && is_made_of(&written, texts),
+        "{}",
+        texts[0]
+    );
 }
 
 /// What happens in no order, and is refused.
 const REFUSED: &str = "take 0 0 12\ndue 4294967291\nchoose X roll\nsave 3\n";
 
+/// A script of so many events is good.
+fn check_good(
+    rt: &(impl AllocGlobal + Abort),
+    input: &str,
+    watchers: u8,
+    events: u32,
+    texts: [&str; 2],
+) {
+    check_script(rt, input.as_bytes(), watchers, Verdict::Fine(events), texts);
+}
+
 #[test]
 fn good_scripts(rt: HostRuntime) {
-    for (input, watchers, events, texts) in [
-        (A_TURN, 1, 16, [TEXT_OF_THE_TURN, ""]),
-        (REFUSED, 0, 4, [TEXT_OF_REFUSALS, AT_THE_START]),
-        ("", 0, 0, ["", AT_THE_START]),
-    ] {
-        let verdict = Verdict::Fine(events);
-        check_script(&rt, input.as_bytes(), watchers, verdict, texts);
-    }
+    check_good(&rt, A_TURN, 1, 16, [TEXT_OF_THE_TURN, ""]);
+    check_good(&rt, REFUSED, 0, 4, [TEXT_OF_REFUSALS, AT_THE_START]);
+    check_good(&rt, "", 0, 0, ["", AT_THE_START]);
 }
 
-/// A script, the line at which it is refused, and what is written.
-const NO_SCRIPTS: [(&str, u32, &str); 8] = [
-    (
-        "due 12\ndue x\nsave 0",
-        2,
-        "refused at line 2: not an event\n",
-    ),
-    ("\ndue 12", 1, "refused at line 1: not an event\n"),
-    ("due 12\n\n", 2, "refused at line 2: not an event\n"),
-    ("due 12\r\n", 1, "refused at line 1: not an event\n"),
-    ("due 1\0", 1, "refused at line 1: not an event\n"),
-    ("due 12345678901", 1, "refused at line 1: not an event\n"),
-    ("due 12\ntick 256\n", 2, "refused at line 2: bad number\n"),
-    (
-        "choose X move 8-7 6-5 4-3 3-2 2-1",
-        1,
-        "refused at line 1: too many steps\n",
-    ),
-];
+/// A script is refused at a line.
+fn check_refused(rt: &(impl AllocGlobal + Abort), input: &[u8], line: u32, text: &str) {
+    check_script(rt, input, 0, Verdict::Refused(line), [text, ""]);
+}
 
 #[test]
-fn refused_scripts(rt: HostRuntime) -> Result<(), Fail> {
-    for (input, line, text) in NO_SCRIPTS {
-        let verdict = Verdict::Refused(line);
-        check_script(&rt, input.as_bytes(), 0, verdict, [text, ""]);
-    }
+fn refused_scripts(rt: HostRuntime) {
+    let at_1 = "refused at line 1: not an event\n";
+    let at_2 = "refused at line 2: not an event\n";
+    check_refused(&rt, b"due 12\ndue x\nsave 0", 2, at_2);
+    check_refused(&rt, b"\ndue 12", 1, at_1);
+    check_refused(&rt, b"due 12\n\n", 2, at_2);
+    check_refused(&rt, b"due 12\r\n", 1, at_1);
+    check_refused(&rt, b"due 1\0", 1, at_1);
+    check_refused(&rt, b"due 12345678901", 1, at_1);
+    let text = "refused at line 2: bad number\n";
+    check_refused(&rt, b"due 12\ntick 256\n", 2, text);
+    let text = "refused at line 1: too many steps\n";
+    check_refused(&rt, b"choose X move 8-7 6-5 4-3 3-2 2-1", 1, text);
+}
+
+#[test]
+fn longest_scripts(rt: HostRuntime) {
     let mut longer = Vec::new(rt.alloc());
-    longer.resize(MOST_BYTES + 1, b'\n')?;
-    let text = "refused: input too long\n";
-    check_script(&rt, &longer, 0, Verdict::TooLong, [text, ""]);
+    assert!(rt; longer.resize(MOST_BYTES + 1, b'\n').is_ok());
+    let text = ["refused: input too long\n", ""];
+    check_script(&rt, &longer, 0, Verdict::TooLong, text);
     let text = "refused at line 1: not an event\n";
-    check_script(&rt, &longer[1..], 0, Verdict::Refused(1), [text, ""]);
-    Ok(())
+    check_refused(&rt, &longer[1..], 1, text);
+}
+
+/// A script of such a world is refused, and nothing is written.
+fn check_no_world(rt: &(impl AllocGlobal + Abort), length: u8, watchers: u8, fault: WorldFault) {
+    let mut written = Vec::new(rt.alloc());
+    let answer = play(rt.alloc(), b"due x", length, watchers, &mut written);
+    let refused = answer == Err(ScriptFault::World(fault));
+    assert!(rt;
+        refused && written.is_empty(),
+        "length {length}, watchers {watchers}"
+    );
 }
 
 #[test]
-fn refused_worlds(rt: HostRuntime) -> Result<(), Fail> {
-    let rows = [
-        (1, 254, WorldFault::TooManyWatchers),
-        (0, 254, WorldFault::TooManyWatchers),
-        (0, 0, WorldFault::LengthOutOfRange),
-        (100, 253, WorldFault::LengthOutOfRange),
-    ];
-    for (i, (length, watchers, fault)) in rows.iter().enumerate() {
-        let mut written = Vec::new(rt.alloc());
-        let answer = play(rt.alloc(), b"due x", *length, *watchers, &mut written);
-        let refused = answer == Err(ScriptFault::World(*fault));
-        check_row(&rt, i, refused && written.is_empty());
-    }
-    Ok(())
+fn refused_worlds(rt: HostRuntime) {
+    check_no_world(&rt, 1, 254, WorldFault::TooManyWatchers);
+    check_no_world(&rt, 0, 254, WorldFault::TooManyWatchers);
+    check_no_world(&rt, 0, 0, WorldFault::LengthOutOfRange);
+    check_no_world(&rt, 100, 253, WorldFault::LengthOutOfRange);
 }
 
 /// Whether these words stand in the text.
@@ -220,7 +227,7 @@ fn refused_growths_of_scripts(rt: HostRuntime) -> Result<(), Fail> {
     let input = A_TURN.as_bytes();
     let mut written = match Vec::with_capacity(rt.alloc(), 1000) {
         Ok(written) => written,
-        Err(_) => Vec::with_capacity(rt.alloc(), 1000)?,
+        Err(_) => Vec::with_capacity(rt.alloc(), 1000).expect(&rt, "memory"),
     };
     let answer = play(rt.alloc(), input, 1, 1, &mut written);
     if written.as_slice() != TEXT_OF_THE_TURN.as_bytes() {

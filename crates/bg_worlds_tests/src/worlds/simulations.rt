@@ -1,89 +1,97 @@
 //! Whole runs from the start, whose saves are torn at each byte.
-use crate::checks::check_party;
-use crate::devices::{NO_FAILURE, tearing};
-use crate::worlds::event_rows::{ComesTo, Happens, Row, X_MOVES};
-use crate::worlds::memory_worlds::{check_held, check_rows, held, simulated};
-use crate::worlds::worked_matches::WITH_A_WATCHER;
-use bg_match::Number;
-use bg_world::{RunReport, WorldFault};
-use std::alloc::Global;
+use crate::worlds::lines::lines_of;
+use crate::worlds::memory_worlds::{MemoryWorld, check_lines, events_of, simulated};
+use bg_world::RunReport;
 use std::process::Abort;
-use std::test::Fail;
 
-#[test]
-fn a_run_without_failures(rt: HostRuntime) -> Result<(), Fail> {
-    let (world, report) = simulated(rt.alloc(), 1, NO_FAILURE, &WITH_A_WATCHER)?;
+/// In `four_saves` the referee has one entry in its third save, and two in its fourth, which fails; then it restarts.
+///
+/// In `one_save` the referee's first save fails; then it restarts.
+const RUNS: &str = "\
+a_run_without_failures
+watchers 1
+as a_turn
+
+four_saves
+fails: write 0 4 cut
+save 0 -> saved 1
+save 0 -> saved 2
+due 12 -> entry 1
+save 0 -> saved 3
+tick 1 -> sent 1
+take 0 0 0 -> answer to 1: entries 1 to 1
+take 1 0 0 -> learned 1
+choose X move 8-5 6-5 -> claimed 2
+save 1 -> saved 1
+tick 1 -> sent 1
+take 0 1 0 -> accepted 2
+save 0 -> save fault
+restart 0 -> restarted
+
+one_save
+fails: write 0 1 cut
+due 12 -> entry 1
+save 0 -> save fault
+restart 0 -> restarted
+";
+
+/// The world of a run in which so many events failed, and no other, and none lacked memory.
+fn run(
+    rt: &(impl AllocGlobal + Abort),
+    name: &str,
+    cut: Option<u32>,
+    faults: usize,
+) -> MemoryWorld {
+    let lines = lines_of(rt, RUNS, name);
+    let events = events_of(rt, &lines);
+    let (world, report) = simulated(rt, rt.alloc(), &lines, cut, &events).expect(rt, "memory");
     let expected = RunReport {
-        done: 16,
+        done: events.len(),
         memory: 0,
-        faults: 0,
+        faults,
     };
-    assert!(rt; report == expected);
-    check_held(&rt, &world, &[Some(2), Some(1), Some(0), Some(2)]);
-    Ok(())
+    assert!(rt; report == expected, "{name}");
+    world
 }
 
-/// The referee has one entry in its third save, and two in its fourth, which fails; then it restarts.
-const FOUR_SAVES: [Row; 13] = [
-    (Happens::Save(0), ComesTo::Saved(1)),
-    (Happens::Save(0), ComesTo::Saved(2)),
-    (Happens::Due(12), ComesTo::Opened(1)),
-    (Happens::Save(0), ComesTo::Saved(3)),
-    (Happens::Tick(1), ComesTo::Sent(1)),
-    (Happens::Take(0, 0, 0), ComesTo::Answer(1, 1, 1)),
-    (Happens::Take(1, 0, 0), ComesTo::Learned(1)),
-    (X_MOVES, ComesTo::Claimed(2)),
-    (Happens::Save(1), ComesTo::Saved(1)),
-    (Happens::Tick(1), ComesTo::Sent(1)),
-    (Happens::Take(0, 1, 0), ComesTo::Accepted(2)),
-    (Happens::Save(0), ComesTo::SaveFault),
-    (Happens::Restart(0), ComesTo::Restarted),
-];
+/// Behind a run with one fault these lines hold.
+fn check_torn(rt: &(impl AllocGlobal + Abort), name: &str, cut: Option<u32>, lines: &[&str]) {
+    let mut world = run(rt, name, cut, 1);
+    check_lines(rt, &mut world, lines);
+}
 
-/// The referee's first save fails; then it restarts.
-const ONE_SAVE: [Row; 3] = [
-    (Happens::Due(12), ComesTo::Opened(1)),
-    (Happens::Save(0), ComesTo::SaveFault),
-    (Happens::Restart(0), ComesTo::Restarted),
-];
-
-/// The referee's save of this number leaves so many bytes, it comes back with so many entries, and its next save has
-/// the number `next`.
-fn check_torn(
-    rt: &impl Abort,
-    alloc: Global,
-    rows: &[Row],
-    nth: u32,
-    cut: Option<u32>,
-    entries: Number,
-    next: u32,
-) -> Result<(), WorldFault> {
-    let (mut world, report) = simulated(alloc, 0, tearing(0, nth, cut), rows)?;
-    assert!(rt; report.done == rows.len() && report.memory == 0 && report.faults == 1);
-    check_party(rt, 0, held(&world, 0) == Some(entries));
-    check_rows(rt, &mut world, &[(Happens::Save(0), ComesTo::Saved(next))]);
-    Ok(())
+#[test]
+fn a_run_without_failures(rt: HostRuntime) {
+    assert!(rt; events_of(&rt, &lines_of(&rt, RUNS, "a_run_without_failures")).len() == 16);
+    let mut world = run(&rt, "a_run_without_failures", None, 0);
+    check_lines(&rt, &mut world, &["held: 2 1 0 2"]);
 }
 
 /// The text of the fourth save has 33 bytes: only all of them are restored, else the third save is.
 #[test]
-fn later_saves_torn(rt: HostRuntime) -> Result<(), Fail> {
-    check_torn(&rt, rt.alloc(), &FOUR_SAVES, 4, None, 1, 4)?;
+fn later_saves_torn(rt: HostRuntime) {
+    let before = ["held: 1", "save 0 -> saved 4"];
+    check_torn(&rt, "four_saves", None, &before);
     for cut in 0..33 {
-        check_torn(&rt, rt.alloc(), &FOUR_SAVES, 4, Some(cut), 1, 4)?;
+        check_torn(&rt, "four_saves", Some(cut), &before);
     }
-    check_torn(&rt, rt.alloc(), &FOUR_SAVES, 4, Some(33), 2, 5)?;
-    check_torn(&rt, rt.alloc(), &FOUR_SAVES, 4, Some(34), 2, 5)?;
-    Ok(())
+    for cut in 33..35 {
+        check_torn(
+            &rt,
+            "four_saves",
+            Some(cut),
+            &["held: 2", "save 0 -> saved 5"],
+        );
+    }
 }
 
 /// The text of the first save has 27 bytes: but for all of them the referee comes back fresh.
 #[test]
-fn first_saves_torn(rt: HostRuntime) -> Result<(), Fail> {
-    check_torn(&rt, rt.alloc(), &ONE_SAVE, 1, None, 0, 1)?;
+fn first_saves_torn(rt: HostRuntime) {
+    let before = ["held: 0", "save 0 -> saved 1"];
+    check_torn(&rt, "one_save", None, &before);
     for cut in 0..27 {
-        check_torn(&rt, rt.alloc(), &ONE_SAVE, 1, Some(cut), 0, 1)?;
+        check_torn(&rt, "one_save", Some(cut), &before);
     }
-    check_torn(&rt, rt.alloc(), &ONE_SAVE, 1, Some(27), 1, 2)?;
-    Ok(())
+    check_torn(&rt, "one_save", Some(27), &["held: 1", "save 0 -> saved 2"]);
 }

@@ -1,0 +1,54 @@
+//! Texts of tests in sections, each of which begins with its name, and an empty line stands between each two.
+use arrayvec::ArrayVec;
+use std::process::Abort;
+
+/// The lines of a section, which take no memory.
+pub(crate) type Lines<'a> = ArrayVec<&'a str, 96>;
+
+/// The section of this name, without that.
+fn section<'a>(text: &'a str, name: &str) -> Option<&'a str> {
+    for section in text.split("\n\n") {
+        let (title, lines) = section.split_once('\n')?;
+        if title == name {
+            return Some(lines);
+        }
+    }
+    None
+}
+
+fn add(rt: &impl Abort, lines: &mut Lines<'static>, text: &'static str) {
+    for line in text.lines() {
+        assert!(rt; lines.try_push(line).is_ok(), "too many lines: {line}");
+    }
+}
+
+/// The lines of the section of this name, where a line "as NAME" stands for those of the shared section of that name.
+pub(crate) fn lines_of(
+    rt: &impl Abort,
+    text: &'static str,
+    shared: &'static str,
+    name: &str,
+) -> Lines<'static> {
+    let mut lines = Lines::new();
+    for line in section(text, name).expect(rt, "a section").lines() {
+        match line.strip_prefix("as ") {
+            None => add(rt, &mut lines, line),
+            Some(name) => {
+                let others = section(shared, name).expect(rt, "a shared section");
+                add(rt, &mut lines, others);
+            }
+        }
+    }
+    lines
+}
+
+/// The names of the sections.
+pub(crate) fn names_of(rt: &impl Abort, text: &'static str) -> Lines<'static> {
+    let mut names = Lines::new();
+    for section in text.split("\n\n") {
+        if let Some((name, _)) = section.split_once('\n') {
+            add(rt, &mut names, name);
+        }
+    }
+    names
+}
