@@ -1,45 +1,53 @@
 //! Matches over sockets and files of which one call fails.
-use super::loops::{SEED, counts};
+use super::loops::counts;
+use crate::helpers::devices::{keeper, link};
 use crate::helpers::failing_devices::{Calls, Failing};
-use crate::helpers::folders::new_folder;
+use crate::helpers::folders::{new_folder, remove_folder};
+use crate::helpers::hosts::Host;
+use crate::helpers::played_loops::SEED;
 use bg_auto::{LoopFault, PARTIES, run_rounds};
 use bg_match::Rules;
-use bg_processes::{FileKeeper, UdpLink};
+use bg_processes::FileKeeper;
 use bg_streams::Writing;
 use bg_wire::{REFEREE, SEAT_OF_O, SEAT_OF_X};
-use bg_world::{Keepers, Outcome, RestoreCause};
-use std::fs;
-use std::test::Fail;
+use bg_world::{Keeper, Keepers, Link, Outcome, RestoreCause};
+use std::alloc::Global;
+
+/// The files of a party.
+fn keep<'a, R: Host>(
+    rt: &'a R,
+    folder: &str,
+    party: u8,
+    calls: &'a Calls,
+) -> Failing<'a, FileKeeper<'a, R>> {
+    Failing::new(keeper(rt, rt, folder, party, &calls.failures), calls)
+}
 
 /// Plays ten rounds over devices of which one call fails.
-fn play_failing(rt: &HostRuntime, folder: &str, calls: &Calls) -> Result<Vec<u8>, LoopFault> {
-    let link = Failing::new(UdpLink::bind(rt, PARTIES, &calls.failures)?, calls);
+fn play_failing(
+    rt: &impl Host,
+    folder: &str,
+    calls: &Calls,
+    text: &mut Vec<u8>,
+) -> Result<(), LoopFault> {
     let keepers = Keepers {
-        referee: Failing::new(
-            FileKeeper::new(rt, folder, REFEREE, &calls.failures)?,
-            calls,
-        ),
-        x: Failing::new(
-            FileKeeper::new(rt, folder, SEAT_OF_X, &calls.failures)?,
-            calls,
-        ),
-        o: Failing::new(
-            FileKeeper::new(rt, folder, SEAT_OF_O, &calls.failures)?,
-            calls,
-        ),
+        referee: keep(rt, folder, REFEREE, calls),
+        x: keep(rt, folder, SEAT_OF_X, calls),
+        o: keep(rt, folder, SEAT_OF_O, calls),
     };
-    let mut text = Vec::new(rt.alloc());
-    run_rounds(
-        rt.alloc(),
-        SEED,
-        1,
-        Rules::One,
-        10,
-        link,
-        keepers,
-        &mut Writing::new(&mut text),
-    )?;
-    Ok(text)
+    let link = Failing::new(link(rt, rt, PARTIES, &calls.failures), calls);
+    play_ten(rt.alloc(), link, keepers, text)
+}
+
+/// Plays ten rounds over any devices.
+fn play_ten<L: Link + Drop, K: Keeper + Drop>(
+    alloc: Global,
+    link: L,
+    keepers: Keepers<K>,
+    text: &mut Vec<u8>,
+) -> Result<(), LoopFault> {
+    let mut output = Writing::new(text);
+    run_rounds(alloc, SEED, 1, Rules::One, 10, link, keepers, &mut output)
 }
 
 /// Whether all parties are up in the end, and none holds more than the referee.
@@ -50,52 +58,57 @@ pub(crate) fn is_sound(text: &[u8]) -> bool {
     counts.iter().all(|count| *count <= counts[0])
 }
 
-/// Each call of ten rounds fails once, in a match of its own. Of four calls in a row a test takes the one of this
-/// rest by four, so that none takes long.
-fn check_each_fourth_call(rt: &HostRuntime, rest: u32) -> Result<(), Fail> {
-    let name = format!(in rt.alloc(); "one-call-{rest}")?;
+/// The call of this number fails, in a match of its own. Whether the match came to it.
+fn comes_to_call(rt: &impl Host, name: &str, failing: u32) -> bool {
+    let folder = new_folder(rt, name);
+    let calls = Calls::new(failing);
+    let mut text = Vec::new(rt.alloc());
+    let result = play_failing(rt, folder.as_str(), &calls, &mut text);
+    remove_folder(rt, folder.as_str());
+    if calls.made.get() < failing {
+        return false;
+    }
+    let is_as_expected = match result {
+        Ok(()) => !calls.failed_to_read.get() && is_sound(&text),
+        Err(fault) => calls.failed_to_read.get() && fault == STOPPED,
+    };
+    assert!(rt; is_as_expected, "call {failing}");
+    true
+}
+
+/// Why a match ends of which a read fails.
+const STOPPED: LoopFault = LoopFault::Stopped(Outcome::RestoreFault(RestoreCause::Device));
+
+/// Each call of ten rounds fails once. Of four calls in a row a test takes the one of this rest by four, so that none
+/// takes long.
+fn check_each_fourth_call(rt: &impl Host, name: &str, rest: u32) {
     for failing in 1..=MOST_CALLS {
-        if failing % 4 != rest {
-            continue;
-        }
-        let folder = new_folder(rt, name.as_str())?;
-        let calls = Calls::new(failing);
-        let result = play_failing(rt, folder.as_str(), &calls);
-        fs::remove_dir_all(rt, folder.as_str())?;
-        if calls.made.get() < failing {
-            return Ok(());
-        }
-        let device = LoopFault::Stopped(Outcome::RestoreFault(RestoreCause::Device));
-        let is_as_expected = match result {
-            Ok(text) => !calls.failed_to_read.get() && is_sound(&text),
-            Err(fault) => calls.failed_to_read.get() && fault == device,
-        };
-        if !is_as_expected {
-            return Err(Fail::from("a failed call is not as expected"));
+        if failing % 4 == rest && !comes_to_call(rt, name, failing) {
+            return;
         }
     }
-    Err(Fail::from("more calls than expected"))
+    panic!(rt; "more calls than expected")
 }
 
 /// Ten rounds make fewer calls.
 const MOST_CALLS: u32 = 1000;
 
 #[test]
-fn one_call_that_fails_of_the_first_and_each_fourth(rt: HostRuntime) -> Result<(), Fail> {
-    check_each_fourth_call(&rt, 1)
+fn one_call_that_fails_of_the_first_and_each_fourth(rt: HostRuntime) {
+    check_each_fourth_call(&rt, "one-call-1", 1);
 }
 
 #[test]
-fn one_call_that_fails_of_the_second_and_each_fourth(rt: HostRuntime) -> Result<(), Fail> {
-    check_each_fourth_call(&rt, 2)
+fn one_call_that_fails_of_the_second_and_each_fourth(rt: HostRuntime) {
+    check_each_fourth_call(&rt, "one-call-2", 2);
 }
 
 #[test]
-fn one_call_that_fails_of_the_third_and_each_fourth(rt: HostRuntime) -> Result<(), Fail> {
-    check_each_fourth_call(&rt, 3)
+fn one_call_that_fails_of_the_third_and_each_fourth(rt: HostRuntime) {
+    check_each_fourth_call(&rt, "one-call-3", 3);
 }
 
 #[test]
-fn one_call_that_fails_of_the_fourth_and_each_fourth(rt: HostRuntime) -> Result<(), Fail> {
-    check_each_fourth_call(&rt, 0)
+fn one_call_that_fails_of_the_fourth_and_each_fourth(rt: HostRuntime) {
+    check_each_fourth_call(&rt, "one-call-0", 0);
 }

@@ -1,8 +1,12 @@
 //! What these tests are made of.
 
+pub(crate) mod devices;
 pub(crate) mod failing_devices;
 pub(crate) mod folders;
+pub(crate) mod hosts;
+pub(crate) mod party_scripts;
 pub(crate) mod played_loops;
+pub(crate) mod saved_records;
 pub(crate) mod stand_ins;
 pub(crate) mod tables;
 pub(crate) mod told_failures;

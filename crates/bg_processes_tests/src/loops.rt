@@ -1,16 +1,13 @@
 //! Matches over sockets and files.
-use crate::helpers::folders::new_folder;
-use crate::helpers::played_loops::played;
+use crate::helpers::folders::{new_folder, path_in, remove_folder};
+use crate::helpers::hosts::Host;
+use crate::helpers::played_loops::{SEED, SHORT, played, try_played};
+use crate::helpers::saved_records::{saved_record, text_of};
 use bg_auto::{LoopFault, sim_text};
-use bg_match::{Entry, Number, Rules};
-use bg_processes::read_saved;
-use bg_text::transcript_text;
-use bg_wire::{REFEREE, Saved, restore};
+use bg_match::{Entry, Number, Record, Rules, Terms};
+use bg_wire::REFEREE;
 use bg_world::{Outcome, RestoreCause};
 use std::fs;
-use std::test::Fail;
-
-pub(crate) const SEED: u64 = 7;
 
 const AT_THE_START: &str = "party 0: 0 entries
 party 1: 0 entries
@@ -25,38 +22,18 @@ bar X 0 O 0 off X 0 O 0
 opening
 ";
 
-/// What is printed of the match of these tests over the folder, or why it ends early.
-pub(crate) fn played_some(
-    rt: &HostRuntime,
-    folder: &str,
-    rounds: u32,
-) -> Result<Vec<u8>, LoopFault> {
-    played(rt, folder, SEED, 1, Rules::One, rounds)
-}
-
-/// What the files of the referee restore of the match of these tests.
-fn saved(rt: &HostRuntime, folder: &str) -> Result<Saved, Fail> {
-    saved_by_referee(rt, folder, SEED, 1)
-}
-
-/// What the files of the referee restore of a match.
-fn saved_by_referee(rt: &HostRuntime, folder: &str, seed: u64, length: u8) -> Result<Saved, Fail> {
-    let zero = read_saved(rt, format!(in rt.alloc(); "{folder}/party-0.0")?.as_str())?;
-    let one = read_saved(rt, format!(in rt.alloc(); "{folder}/party-0.1")?.as_str())?;
-    match restore(rt.alloc(), &zero, &one, REFEREE, seed, length, Rules::One) {
-        Ok(Some(saved)) => Ok(saved),
-        _ => Err(Fail::from("nothing is restored")),
-    }
+/// Whether the two have one entry under this number, or neither has one.
+fn agree(one: &Record, other: &Record, number: Number) -> bool {
+    one.entry(number) == other.entry(number)
 }
 
 /// Whether the record begins with all entries of the earlier one.
-fn begins_with(saved: &Saved, earlier: &Saved) -> bool {
-    for number in 1..=earlier.log.len() {
-        if saved.log.entry(number) != earlier.log.entry(number) {
-            return false;
-        }
+fn begins_with(record: &Record, earlier: &Record) -> bool {
+    let mut begins = true;
+    for number in 1..=earlier.len() {
+        begins &= agree(record, earlier, number);
     }
-    true
+    begins
 }
 
 /// How many entries each party holds by the final text; `None` where a party is down.
@@ -73,25 +50,27 @@ pub(crate) fn counts(text: &[u8]) -> Option<[u32; 4]> {
 }
 
 #[test]
-fn no_rounds(rt: HostRuntime) -> Result<(), Fail> {
-    let folder = new_folder(&rt, "no-rounds")?;
-    let text = played_some(&rt, folder.as_str(), 0)?;
+fn no_rounds(rt: HostRuntime) {
+    let folder = new_folder(&rt, "no-rounds");
+    let text = played(&rt, folder.as_str(), SEED, SHORT, 0);
     assert!(rt; text.as_slice() == AT_THE_START.as_bytes());
-    fs::remove_dir_all(&rt, folder.as_str())?;
-    Ok(())
+    remove_folder(&rt, folder.as_str());
+}
+
+/// Plays forty rounds, and gives what the referee saved.
+fn after_forty(rt: &impl Host, folder: &str) -> Record {
+    let text = played(rt, folder, SEED, SHORT, 40);
+    assert!(rt; counts(&text).is_some_and(|counts| counts[0] >= 3));
+    saved_record(rt, folder, REFEREE, SEED, SHORT)
 }
 
 #[test]
-fn forty_rounds_and_forty_more(rt: HostRuntime) -> Result<(), Fail> {
-    let folder = new_folder(&rt, "forty-rounds")?;
-    let text = played_some(&rt, folder.as_str(), 40)?;
-    assert!(rt; counts(&text).is_some_and(|counts| counts[0] >= 3));
-    let earlier = saved(&rt, folder.as_str())?;
-    played_some(&rt, folder.as_str(), 40)?;
-    let later = saved(&rt, folder.as_str())?;
-    assert!(rt; later.log.len() > earlier.log.len() && begins_with(&later, &earlier));
-    fs::remove_dir_all(&rt, folder.as_str())?;
-    Ok(())
+fn forty_rounds_and_forty_more(rt: HostRuntime) {
+    let folder = new_folder(&rt, "forty-rounds");
+    let earlier = after_forty(&rt, folder.as_str());
+    let later = after_forty(&rt, folder.as_str());
+    assert!(rt; later.len() > earlier.len() && begins_with(&later, &earlier));
+    remove_folder(&rt, folder.as_str());
 }
 
 /// Matches of length 3, so many rounds of each, and how many entries these have at least. The first game of match 417
@@ -100,51 +79,55 @@ const PLAYED: [(u64, u32, Number); 2] = [(417, 170, 80), (8, 12, 4)];
 
 /// The entries are those that seed and length decide: those of the automatic match in memory.
 #[test]
-fn entries_are_those_of_the_match_in_memory(rt: HostRuntime) -> Result<(), Fail> {
+fn entries_are_those_of_the_match_in_memory(rt: HostRuntime) {
     for (seed, rounds, least) in PLAYED {
-        let folder = new_folder(&rt, "entries")?;
-        played(&rt, folder.as_str(), seed, 3, Rules::One, rounds)?;
-        let saved = saved_by_referee(&rt, folder.as_str(), seed, 3)?;
-        fs::remove_dir_all(&rt, folder.as_str())?;
-        assert!(rt; saved.log.len() >= least);
-        assert!(rt; seed != 417 || matches!(saved.log.entry(77), Some(Entry::Opening(..))));
-        let transcript = transcript_text(rt.alloc(), &saved.log)?;
-        let in_memory = sim_text(rt.alloc(), seed, 3, Rules::One, 0, 14_000)?;
-        assert!(rt; in_memory.starts_with(&transcript));
+        check_entries(&rt, seed, rounds, least);
     }
-    Ok(())
 }
 
-/// Whether a match over the folder stops for this cause.
-fn stops(rt: &HostRuntime, folder: &str, seed: u64, cause: RestoreCause) -> bool {
-    played(rt, folder, seed, 1, Rules::One, 10)
-        == Err(LoopFault::Stopped(Outcome::RestoreFault(cause)))
+fn check_entries(rt: &impl Host, seed: u64, rounds: u32, least: Number) {
+    let terms = Terms { length: 3, ..SHORT };
+    let folder = new_folder(rt, "entries");
+    played(rt, folder.as_str(), seed, terms, rounds);
+    let record = saved_record(rt, folder.as_str(), REFEREE, seed, terms);
+    remove_folder(rt, folder.as_str());
+    assert!(rt; record.len() >= least);
+    assert!(rt; seed != 417 || matches!(record.entry(77), Some(Entry::Opening(..))));
+    let in_memory = sim_text(rt.alloc(), seed, 3, Rules::One, 0, 14_000);
+    let in_memory = in_memory.expect(rt, "a match in memory");
+    assert!(rt; in_memory.starts_with(&text_of(rt, &record)));
+}
+
+/// A match over the folder stops for this cause.
+fn check_stops(rt: &impl Host, folder: &str, seed: u64, cause: RestoreCause) {
+    let stopped = LoopFault::Stopped(Outcome::RestoreFault(cause));
+    assert!(rt; try_played(rt, folder, seed, SHORT, 10) == Err(stopped));
 }
 
 #[test]
-fn other_files(rt: HostRuntime) -> Result<(), Fail> {
-    let folder = new_folder(&rt, "other-files")?;
-    played_some(&rt, folder.as_str(), 10)?;
-    assert!(rt; stops(&rt, folder.as_str(), SEED + 1, RestoreCause::WrongMatch));
-    for slot in 0..2 {
-        let path = format!(in rt.alloc(); "{folder}/party-0.{slot}")?;
-        fs::write(&rt, path.as_str(), [0x42])?;
+fn other_files(rt: HostRuntime) {
+    let made = new_folder(&rt, "other-files");
+    let folder = made.as_str();
+    played(&rt, folder, SEED, SHORT, 10);
+    check_stops(&rt, folder, SEED + 1, RestoreCause::WrongMatch);
+    for file in ["party-0.0", "party-0.1"] {
+        let path = path_in(&rt, folder, file);
+        fs::write(&rt, path.as_str(), [0x42]).expect(&rt, "a file is written");
     }
-    assert!(rt; stops(&rt, folder.as_str(), SEED, RestoreCause::Damaged));
-    fs::remove_dir_all(&rt, folder.as_str())?;
-    Ok(())
+    check_stops(&rt, folder, SEED, RestoreCause::Damaged);
+    remove_folder(&rt, folder);
 }
 
 #[test]
-fn no_such_matches(rt: HostRuntime) -> Result<(), Fail> {
-    let folder = new_folder(&rt, "no-such-matches")?;
+fn no_such_matches(rt: HostRuntime) {
+    let folder = new_folder(&rt, "no-such-matches");
     for length in [0, 100] {
-        let refused = played(&rt, folder.as_str(), SEED, length, Rules::One, 1);
+        let terms = Terms { length, ..SHORT };
+        let refused = try_played(&rt, folder.as_str(), SEED, terms, 1);
         assert!(rt;
             matches!(refused, Err(LoopFault::World(_))),
             "length {length}"
         );
     }
-    fs::remove_dir_all(&rt, folder.as_str())?;
-    Ok(())
+    remove_folder(&rt, folder.as_str());
 }

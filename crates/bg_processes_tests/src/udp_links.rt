@@ -1,22 +1,20 @@
 //! Sockets of a match among those of others, and what is noted of sockets that fail.
-use crate::helpers::folders::new_folder;
-use crate::helpers::played_loops::played;
+use crate::helpers::devices::{keeper, link};
+use crate::helpers::folders::{new_folder, remove_folder};
+use crate::helpers::hosts::Host;
+use crate::helpers::party_scripts::sends;
+use crate::helpers::played_loops::{SEED, SHORT, played};
 use crate::helpers::stand_ins::StandIn;
 use crate::helpers::told_failures::told;
-use arrayvec::ArrayVec;
-use bg_auto::{Onlooker, PARTIES, play_rounds};
+use bg_auto::{LoopFault, Onlooker, PARTIES, play_rounds};
 use bg_match::{Number, Rules};
-use bg_processes::{Failures, FileKeeper, UdpLink};
+use bg_processes::{Failures, UdpLink};
 use bg_streams::Writing;
-use bg_wire::{Datagram, PacketBytes, REFEREE, SEAT_OF_O, SEAT_OF_X, decode};
-use bg_world::{DeviceFault, Event, Keepers, Link, Outcome};
-use std::fs;
+use bg_wire::{REFEREE, SEAT_OF_O, SEAT_OF_X, decode};
+use bg_world::{Event, Keeper, Keepers, Link, Outcome};
+use std::alloc::Global;
 use std::net::{Ipv4Addr, SocketAddr, UdpSocket};
 use std::process::Abort;
-use std::test::Fail;
-
-/// The number of the match.
-const SEED: u64 = 7;
 
 /// Packets of match 7 that no party of it sends: an opening 5 6, another one 1 2, a claim of X and one of O to resign
 /// as entry 2, and party 1 asking for what follows entry 1000000.
@@ -42,12 +40,12 @@ const FORGED: [&[u8]; 5] = [
 #[derive(Drop)]
 struct Forger {
     socket: UdpSocket,
-    addresses: Vec<SocketAddr>,
+    addresses: [SocketAddr; 4],
 }
 
 impl Onlooker for Forger {
     fn happened(&mut self, _event: &Event, _outcome: &Outcome, _held: Option<Number>) {
-        for address in self.addresses.iter().copied() {
+        for address in self.addresses {
             for packet in FORGED {
                 let _ = self.socket.send_to(packet, address);
             }
@@ -57,126 +55,150 @@ impl Onlooker for Forger {
     fn played(&mut self, _done: u32) {}
 }
 
-#[test]
-fn forged_packets_change_nothing(rt: HostRuntime) -> Result<(), Fail> {
-    for packet in FORGED {
-        assert!(rt; decode(packet).is_ok());
-    }
-    let quiet = new_folder(&rt, "quiet")?;
-    let expected = played(&rt, quiet.as_str(), SEED, 1, Rules::One, 60)?;
+fn stranger(rt: &impl Host) -> UdpSocket {
+    UdpSocket::bind(rt, (Ipv4Addr::LOCALHOST, 0)).expect(rt, "a socket")
+}
 
-    let besieged = new_folder(&rt, "besieged")?;
-    let folder = besieged.as_str();
+/// What is printed of sixty rounds, while a forger looks on.
+fn besieged(rt: &impl Host, folder: &str) -> Vec<u8> {
     let failures = Failures::new();
-    let net = StandIn::new(&rt, 4);
-    let link = UdpLink::bind(&net, PARTIES, &failures)?;
-    let mut addresses = Vec::new(rt.alloc());
-    for index in 0..4 {
-        addresses.push(net.address(index)?)?;
-    }
+    let net = StandIn::new(rt, 4);
+    let link = link(rt, &net, PARTIES, &failures);
     let mut forger = Forger {
-        socket: UdpSocket::bind(&rt, (Ipv4Addr::LOCALHOST, 0))?,
-        addresses,
+        socket: stranger(rt),
+        addresses: [
+            net.address(0),
+            net.address(1),
+            net.address(2),
+            net.address(3),
+        ],
     };
     let keepers = Keepers {
-        referee: FileKeeper::new(&rt, folder, REFEREE, &failures)?,
-        x: FileKeeper::new(&rt, folder, SEAT_OF_X, &failures)?,
-        o: FileKeeper::new(&rt, folder, SEAT_OF_O, &failures)?,
+        referee: keeper(rt, rt, folder, REFEREE, &failures),
+        x: keeper(rt, rt, folder, SEAT_OF_X, &failures),
+        o: keeper(rt, rt, folder, SEAT_OF_O, &failures),
     };
     let mut text = Vec::new(rt.alloc());
-    let mut output = Writing::new(&mut text);
+    let ended = play_sixty(rt.alloc(), link, keepers, &mut text, &mut forger);
+    ended.expect(rt, "sixty rounds");
+    text
+}
+
+fn play_sixty<L: Link + Drop, K: Keeper + Drop>(
+    alloc: Global,
+    link: L,
+    keepers: Keepers<K>,
+    text: &mut Vec<u8>,
+    forger: &mut Forger,
+) -> Result<(), LoopFault> {
+    let mut output = Writing::new(text);
+    let rules = Rules::One;
     play_rounds(
-        rt.alloc(),
+        alloc,
         SEED,
         1,
-        Rules::One,
+        rules,
         60,
         link,
         keepers,
         &mut output,
-        &mut forger,
-    )?;
-    assert!(rt; text.as_slice() == expected.as_slice());
-    fs::remove_dir_all(&rt, quiet.as_str())?;
-    fs::remove_dir_all(&rt, folder)?;
-    Ok(())
+        forger,
+    )
 }
 
-/// A datagram of one byte to a party.
-fn datagram(to: u8) -> Datagram {
-    let mut bytes = ArrayVec::new();
-    let _ = bytes.try_push(to);
-    Datagram {
-        to,
-        bytes: PacketBytes { bytes },
+#[test]
+fn forged_packets_change_nothing(rt: HostRuntime) {
+    for packet in FORGED {
+        assert!(rt; decode(packet).is_ok());
     }
+    let quiet = new_folder(&rt, "quiet");
+    let expected = played(&rt, quiet.as_str(), SEED, SHORT, 60);
+    remove_folder(&rt, quiet.as_str());
+    let folder = new_folder(&rt, "besieged");
+    let text = besieged(&rt, folder.as_str());
+    assert!(rt; text.as_slice() == expected.as_slice());
+    remove_folder(&rt, folder.as_str());
 }
 
 /// Sockets of three parties. Those of the first two reach a port that nobody has, so that the call after each send
 /// fails.
-fn broken<'a>(rt: &HostRuntime, failures: &'a Failures) -> Result<UdpLink<'a>, Fail> {
+fn broken<'a>(rt: &impl Host, failures: &'a Failures) -> UdpLink<'a> {
     let net = StandIn::new(rt, 3);
-    let link = UdpLink::bind(&net, 3, failures)?;
+    let link = link(rt, &net, 3, failures);
     for index in 0..2 {
-        let closed = UdpSocket::bind(rt, (Ipv4Addr::LOCALHOST, 0))?.local_addr()?;
-        net.socket(index)?.connect(closed)?;
+        let closed = stranger(rt).local_addr().expect(rt, "an address");
+        net.socket(index)
+            .connect(closed)
+            .expect(rt, "an address to reach");
     }
-    Ok(link)
+    link
 }
 
 /// So many failures were noted, whose lines begin so.
-fn check_noted(
-    rt: &(impl AllocGlobal + Abort),
-    failures: &Failures,
-    lines: &[&str],
-) -> Result<(), Fail> {
-    let noted = told(rt, failures, "")?;
+fn check_noted(rt: &impl Host, failures: &Failures, lines: &[&str]) {
+    let noted = told(rt, failures, "");
     assert!(rt; noted.as_str().lines().count() == lines.len(), "{noted}");
     for (line, wanted) in noted.as_str().lines().zip(lines) {
         assert!(rt; line.starts_with(*wanted), "{line}");
     }
-    Ok(())
 }
 
+/// The party sends a byte to itself. Whether that does not fail.
+fn sends_byte<L: Link>(rt: &impl Abort, link: &mut L, party: u8) -> bool {
+    sends(rt, link, party, &[party])
+}
+
+/// The two parties without an end fail at what follows a send.
+fn check_broken<L: Link>(rt: &impl Abort, link: &mut L, is_read: bool) {
+    for party in 0..3 {
+        assert!(rt; sends_byte(rt, link, party));
+        let goes_on = if is_read {
+            link.take(party, 0).is_ok()
+        } else {
+            sends_byte(rt, link, party)
+        };
+        assert!(rt; goes_on == (party == 2), "party {party}");
+    }
+}
+
+/// A send that succeeded lies between two that failed, so that each of these is noted.
+const UNSENT: [&str; 4] = [
+    "no datagram could be sent to party 0: ",
+    "no datagram could be sent to party 1: ",
+    "no datagram could be sent to party 0: ",
+    "no datagram could be sent to party 1: ",
+];
+
 #[test]
-fn each_socket_notes_that_it_fails(rt: HostRuntime) -> Result<(), Fail> {
+fn each_socket_notes_that_it_fails(rt: HostRuntime) {
     let failures = Failures::new();
-    let mut link = broken(&rt, &failures)?;
+    let mut link = broken(&rt, &failures);
     for _ in 0..3 {
-        for party in 0..3 {
-            assert!(rt; link.send(&datagram(party)) == Ok(()));
-            assert!(rt; link.take(party, 0).is_err() == (party < 2));
-        }
+        check_broken(&rt, &mut link, true);
     }
     let unread = [
         "the socket of party 0 could not be read: ",
         "the socket of party 1 could not be read: ",
     ];
-    check_noted(&rt, &failures, unread.as_slice())?;
+    check_noted(&rt, &failures, &unread);
     for _ in 0..2 {
-        for party in 0..3 {
-            assert!(rt; link.send(&datagram(party)) == Ok(()));
-            assert!(rt; link.send(&datagram(party)).is_err() == (party < 2));
-        }
+        check_broken(&rt, &mut link, false);
     }
-    // A send that succeeded lies between two that failed, so that each of these is noted.
-    let unsent = [
-        "no datagram could be sent to party 0: ",
-        "no datagram could be sent to party 1: ",
-        "no datagram could be sent to party 0: ",
-        "no datagram could be sent to party 1: ",
-    ];
-    check_noted(&rt, &failures, unsent.as_slice())
+    check_noted(&rt, &failures, &UNSENT);
 }
 
 #[test]
-fn a_party_without_a_socket(rt: HostRuntime) -> Result<(), Fail> {
+fn a_party_without_a_socket(rt: HostRuntime) {
     let failures = Failures::new();
-    let mut link = UdpLink::bind(&rt, 2, &failures)?;
+    let mut link = link(&rt, &rt, 2, &failures);
     for _ in 0..2 {
-        assert!(rt; link.send(&datagram(2)) == Err(DeviceFault::Failed));
-        assert!(rt; link.send(&datagram(1)) == Ok(()));
-        assert!(rt; link.take(2, 0) == Ok(None));
+        check_without(&rt, &mut link);
     }
-    check_noted(&rt, &failures, &["no datagram could be sent to party 2: "])
+    check_noted(&rt, &failures, &["no datagram could be sent to party 2: "]);
+}
+
+fn check_without<L: Link>(rt: &impl Abort, link: &mut L) {
+    assert!(rt; !sends_byte(rt, link, 2));
+    assert!(rt; sends_byte(rt, link, 1));
+    assert!(rt; link.take(2, 0) == Ok(None));
 }

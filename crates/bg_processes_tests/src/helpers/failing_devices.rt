@@ -66,6 +66,44 @@ impl<'a, D> Failing<'a, D> {
     }
 }
 
+fn try_send<D: Link>(
+    device: &mut D,
+    calls: &Calls,
+    datagram: &Datagram,
+) -> Result<(), DeviceFault> {
+    if calls.next_fails() {
+        return Err(DeviceFault::Failed);
+    }
+    device.send(datagram)
+}
+
+fn try_take<D: Link>(device: &mut D, calls: &Calls, party: u8, pick: u32) -> Taken {
+    if calls.next_fails() {
+        return Err(DeviceFault::Failed);
+    }
+    device.take(party, pick)
+}
+
+fn try_write<D: Keeper>(
+    device: &mut D,
+    calls: &Calls,
+    slot: Slot,
+    bytes: &[u8],
+) -> Result<(), DeviceFault> {
+    if calls.next_fails() {
+        return Err(DeviceFault::Failed);
+    }
+    device.write(slot, bytes)
+}
+
+fn try_read<D: Keeper>(device: &mut D, calls: &Calls, slot: Slot) -> Result<Vec<u8>, DeviceFault> {
+    if calls.next_fails() {
+        calls.failed_to_read.set(true);
+        return Err(DeviceFault::Failed);
+    }
+    device.read(slot)
+}
+
 impl<'a, D: Link> Link for Failing<'a, D> {
     ghost is_honest = { ⊥ };
 
@@ -83,22 +121,14 @@ impl<'a, D: Link> Link for Failing<'a, D> {
 
     fn send(&mut self, datagram: &Datagram) -> Result<(), DeviceFault> {
         self.asked_too = self.asked_too.marked();
-        let result = if self.calls.next_fails() {
-            Err(DeviceFault::Failed)
-        } else {
-            self.device.send(datagram)
-        };
+        let result = try_send(&mut self.device, self.calls, datagram);
         self.faults = count_failed(&self.faults, &result);
         result
     }
 
     fn take(&mut self, party: u8, pick: u32) -> Taken {
         self.asked = self.asked.marked();
-        let result = if self.calls.next_fails() {
-            Err(DeviceFault::Failed)
-        } else {
-            self.device.take(party, pick)
-        };
+        let result = try_take(&mut self.device, self.calls, party, pick);
         self.faults = count_failed(&self.faults, &result);
         self.taken = note_taken(&result);
         result
@@ -122,23 +152,14 @@ impl<'a, D: Keeper> Keeper for Failing<'a, D> {
 
     fn write(&mut self, slot: Slot, bytes: &[u8]) -> Result<(), DeviceFault> {
         self.asked = self.asked.marked();
-        self.written = if self.calls.next_fails() {
-            Err(DeviceFault::Failed)
-        } else {
-            self.device.write(slot, bytes)
-        };
+        self.written = try_write(&mut self.device, self.calls, slot, bytes);
         self.faults = count_failed(&self.faults, &self.written);
         self.written
     }
 
     fn read(&mut self, slot: Slot) -> Result<Vec<u8>, DeviceFault> {
         self.asked_too = self.asked_too.marked();
-        let result = if self.calls.next_fails() {
-            self.calls.failed_to_read.set(true);
-            Err(DeviceFault::Failed)
-        } else {
-            self.device.read(slot)
-        };
+        let result = try_read(&mut self.device, self.calls, slot);
         self.faults = count_failed(&self.faults, &result);
         result
     }

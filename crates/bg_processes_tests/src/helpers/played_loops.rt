@@ -1,29 +1,48 @@
 //! Matches over sockets and files, from the start or from what a folder has.
 
+use crate::helpers::hosts::Host;
 use bg_auto::LoopFault;
-use bg_match::Rules;
+use bg_match::{Rules, Terms};
 use bg_processes::{Failures, run_loop};
 use bg_streams::Writing;
 
+pub(crate) const SEED: u64 = 7;
+
+/// A match of one point, by the first rules.
+pub(crate) const SHORT: Terms = Terms {
+    length: 1,
+    rules: Rules::One,
+};
+
 /// What is printed of so many rounds of a match over the folder, or why it ends early.
-pub(crate) fn played(
-    rt: &HostRuntime,
+pub(crate) fn try_played(
+    rt: &impl Host,
     folder: &str,
     seed: u64,
-    length: u8,
-    rules: Rules,
+    terms: Terms,
     rounds: u32,
 ) -> Result<Vec<u8>, LoopFault> {
     let mut text = Vec::new(rt.alloc());
     run_loop(
         rt,
         seed,
-        length,
-        rules,
+        terms.length,
+        terms.rules,
         rounds,
         folder,
         &Failures::new(),
         &mut Writing::new(&mut text),
     )?;
     Ok(text)
+}
+
+/// The same, where it does not end early.
+pub(crate) fn played(
+    rt: &impl Host,
+    folder: &str,
+    seed: u64,
+    terms: Terms,
+    rounds: u32,
+) -> Vec<u8> {
+    try_played(rt, folder, seed, terms, rounds).expect(rt, "so many rounds")
 }

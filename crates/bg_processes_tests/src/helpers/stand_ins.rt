@@ -1,80 +1,83 @@
 //! A runtime that stands in for the system's: it has so many sockets and no more, and opens files, or some, or none.
+use crate::helpers::hosts::Host;
 use std::alloc::{Alloc, Allocator, Global};
 use std::cell::{Cell, RefCell};
 use std::fs::{File, Metadata, OpenOptions};
 use std::io;
 use std::io::ErrorKind;
-use std::net::{Net, SocketAddr, TcpListener, TcpStream, UdpSocket};
+use std::net::{Ipv4Addr, Net, SocketAddr, TcpListener, TcpStream, UdpSocket};
 use std::rt::Files;
 
 /// The system's files and sockets, as far as this lets them through.
 #[derive(Drop)]
-pub(crate) struct StandIn<'a> {
-    rt: &'a HostRuntime,
+pub(crate) struct StandIn<'a, R> {
+    rt: &'a R,
     /// How many sockets may still be opened.
     sockets_left: Cell<usize>,
     /// Why no file is opened, if none is.
     pub(crate) files_fail: Cell<Option<io::Error>>,
     /// The file or folder that can't be opened, if there is one.
     pub(crate) barred: Cell<&'a str>,
-    /// The addresses that sockets were bound to.
-    bound: RefCell<Vec<SocketAddr>>,
-    /// Another handle of each of them.
+    /// Whether a socket was asked for at another address than 127.0.0.1, or at a port that the system did not choose.
+    pub(crate) strayed: Cell<bool>,
+    /// Another handle of each socket.
     sockets: RefCell<Vec<UdpSocket>>,
 }
 
-impl<'a> StandIn<'a> {
+impl<'a, R: Host> StandIn<'a, R> {
     /// It opens so many sockets, and all files.
-    pub(crate) fn new(rt: &'a HostRuntime, sockets: usize) -> StandIn<'a> {
+    pub(crate) fn new(rt: &'a R, sockets: usize) -> StandIn<'a, R> {
         StandIn {
             rt,
             sockets_left: Cell::new(sockets),
             files_fail: Cell::new(None),
             barred: Cell::new(""),
-            bound: RefCell::new(Vec::new(rt.alloc())),
+            strayed: Cell::new(false),
             sockets: RefCell::new(Vec::new(rt.alloc())),
         }
     }
 
-    /// The addresses that sockets were bound to, in order.
-    pub(crate) fn bound(&self) -> io::Result<Vec<SocketAddr>> {
-        match self.bound.try_borrow() {
-            Ok(bound) => Ok(bound.to_vec(self.rt.alloc())?),
-            Err(_) => Err(io::Error::from(ErrorKind::ResourceBusy)),
+    /// How many sockets were opened.
+    pub(crate) fn opened(&self) -> usize {
+        match self.sockets.try_borrow() {
+            Ok(sockets) => sockets.len(),
+            Err(_) => 0,
         }
     }
 
     /// Another handle of a socket, by the order in which they were opened.
-    pub(crate) fn socket(&self, index: usize) -> io::Result<UdpSocket> {
-        match self.sockets.try_borrow() {
-            Ok(sockets) => match sockets.get(index) {
-                Some(socket) => socket.try_clone(),
-                None => Err(io::Error::from(ErrorKind::NotFound)),
-            },
-            Err(_) => Err(io::Error::from(ErrorKind::ResourceBusy)),
-        }
+    pub(crate) fn socket(&self, index: usize) -> UdpSocket {
+        let found = copied(&self.sockets, index);
+        found.expect(self.rt, "a socket of this number")
     }
 
     /// Where a socket is reached.
-    pub(crate) fn address(&self, index: usize) -> io::Result<SocketAddr> {
-        self.socket(index)?.local_addr()
-    }
-
-    /// Keeps the address and another handle of a socket.
-    fn keep(&self, address: SocketAddr, socket: &UdpSocket) -> io::Result<()> {
-        let (Ok(mut bound), Ok(mut sockets)) = (
-            self.bound.try_borrow_mut(),
-            self.sockets.try_borrow_mut(),
-        ) else {
-            return Err(io::Error::from(ErrorKind::ResourceBusy));
-        };
-        bound.push(address)?;
-        sockets.push(socket.try_clone()?)?;
-        Ok(())
+    pub(crate) fn address(&self, index: usize) -> SocketAddr {
+        let address = self.socket(index).local_addr();
+        address.expect(self.rt, "the address of a socket")
     }
 }
 
-impl<'a> Alloc for StandIn<'a> {
+/// Another handle of one of the sockets.
+fn copied(sockets: &RefCell<Vec<UdpSocket>>, index: usize) -> Option<UdpSocket> {
+    match sockets.try_borrow() {
+        Ok(sockets) => sockets.get(index)?.try_clone().ok(),
+        Err(_) => None,
+    }
+}
+
+/// Keeps a socket behind the others.
+fn keep(sockets: &RefCell<Vec<UdpSocket>>, socket: UdpSocket) -> io::Result<()> {
+    match sockets.try_borrow_mut() {
+        Ok(mut sockets) => Ok(sockets.push(socket)?),
+        Err(_) => Err(io::Error::from(ErrorKind::ResourceBusy)),
+    }
+}
+
+/// Any port of this machine alone that the system chooses.
+const ANY_PORT: (Ipv4Addr, u16) = (Ipv4Addr::LOCALHOST, 0);
+
+impl<'a, R: Host> Alloc for StandIn<'a, R> {
     type A = Global;
 
     fn alloc(&self) -> Global {
@@ -82,7 +85,7 @@ impl<'a> Alloc for StandIn<'a> {
     }
 }
 
-impl<'a> Net for StandIn<'a> {
+impl<'a, R: Host> Net for StandIn<'a, R> {
     type Stream = TcpStream;
 
     type Listener = TcpListener;
@@ -101,8 +104,11 @@ impl<'a> Net for StandIn<'a> {
             return Err(io::Error::from_raw_os_error(TOO_MANY_OPEN_FILES));
         };
         self.sockets_left.set(left);
+        if addr != SocketAddr::from(ANY_PORT) {
+            self.strayed.set(true);
+        }
         let socket = self.rt.bind_udp(addr)?;
-        self.keep(addr, &socket)?;
+        keep(&self.sockets, socket.try_clone()?)?;
         Ok(socket)
     }
 }
@@ -110,10 +116,10 @@ impl<'a> Net for StandIn<'a> {
 /// The system's number of the error that a process has as many open files as it may.
 const TOO_MANY_OPEN_FILES: i32 = 24;
 
-impl<'a> Files for StandIn<'a> {
+impl<'a, R: Host> Files for StandIn<'a, R> {
     type File = File;
 
-    type Dir = <HostRuntime as Files>::Dir;
+    type Dir = R::Dir;
 
     fn open_file(&self, how: &OpenOptions, path: &str) -> io::Result<File> {
         match self.files_fail.get() {

@@ -1,19 +1,23 @@
 //! All parties of a match as processes run them, over real sockets and folders.
 
+mod parties;
 mod saved_matches;
 
 use crate::helpers::failing_devices::{Calls, Failing};
-use bg_auto::{NoOnlooker, auto_action};
+use crate::helpers::hosts::Host;
+use crate::helpers::played_loops::SHORT;
+use crate::helpers::tables::parties::{
+    begun_referee, begun_seat, begun_watcher, referee_round, seat_round,
+};
+use bg_auto::NoOnlooker;
 use bg_board::Player;
-use bg_match::{Action, Number, Rules, Terms};
+use bg_match::{Number, Rules, Terms};
 use bg_processes::{
     Failures, FileKeeper, Going, Keyring, PartySocket, RefereeProcess, SeatProcess, WatcherProcess,
 };
 use bg_seals::MasterSecret;
 use bg_wire::{FIRST_WATCHER, REFEREE, SEAT_OF_O, SEAT_OF_X, party_of};
-use bg_world::Outcome;
 use std::io;
-use std::test::Fail;
 
 const ID: u64 = 7;
 
@@ -25,26 +29,22 @@ const WATCHER: u8 = 3;
 /// No match of the tests has as many turns.
 const MOST_TURNS: u32 = 20_000;
 
-type Socket<'a> = Failing<'a, PartySocket<'a, HostRuntime>>;
+type Socket<'a, R> = Failing<'a, PartySocket<'a, R>>;
 
-type Files<'a> = Failing<'a, FileKeeper<'a, HostRuntime>>;
-
-type Referee<'a> = RefereeProcess<Socket<'a>, Files<'a>>;
-
-type Seat<'a> = SeatProcess<Socket<'a>, Files<'a>>;
+type Files<'a, R> = Failing<'a, FileKeeper<'a, R>>;
 
 /// A match between processes: those that run.
 #[derive(Drop)]
-pub(crate) struct Table<'a> {
-    rt: &'a HostRuntime,
+pub(crate) struct Table<'a, R> {
+    rt: &'a R,
     calls: &'a Calls,
     port: u16,
     folder: &'a str,
     terms: Terms,
-    referee: Option<Referee<'a>>,
-    x: Option<Seat<'a>>,
-    o: Option<Seat<'a>>,
-    watcher: Option<WatcherProcess<Socket<'a>>>,
+    referee: Option<RefereeProcess<Socket<'a, R>, Files<'a, R>>>,
+    x: Option<SeatProcess<Socket<'a, R>, Files<'a, R>>>,
+    o: Option<SeatProcess<Socket<'a, R>, Files<'a, R>>>,
+    watcher: Option<WatcherProcess<Socket<'a, R>>>,
 }
 
 /// The keys of a party.
@@ -58,13 +58,13 @@ pub(crate) fn keys_of(party: u8) -> Keyring {
 }
 
 /// Whether the port of a party is free.
-fn is_free(rt: &HostRuntime, port: u16, party: u8) -> bool {
+fn is_free(rt: &impl Host, port: u16, party: u8) -> bool {
     let failures = Failures::new();
     PartySocket::bind(rt, rt, port, party, keys_of(party), &failures).is_ok()
 }
 
 /// Whether those of five parties are free.
-fn are_free(rt: &HostRuntime, port: u16) -> bool {
+fn are_free(rt: &impl Host, port: u16) -> bool {
     for party in 0..5 {
         if !is_free(rt, port, party) {
             return false;
@@ -73,9 +73,9 @@ fn are_free(rt: &HostRuntime, port: u16) -> bool {
     true
 }
 
-/// A port such that those of five parties are free.
-fn free_port(rt: &HostRuntime) -> u16 {
-    let mut port = 20_000 + (std::process::id(rt.process()) % 500) as u16 * 20;
+/// A port such that those of five parties are free; for each `start` others are tried.
+pub(crate) fn free_port(rt: &impl Host, start: u16) -> u16 {
+    let mut port = start.saturating_add((rt.number() % 500) as u16 * 20);
     for _ in 0..500 {
         if are_free(rt, port) {
             return port;
@@ -85,36 +85,14 @@ fn free_port(rt: &HostRuntime) -> u16 {
     port
 }
 
-/// What the automatic player of a seat does now, if it is his turn.
-fn action_of(rt: &HostRuntime, process: &Seat<'_>, player: Player) -> Option<Action> {
-    if !process.acts() {
-        return None;
-    }
-    auto_action(rt.alloc(), process.held()?, player).ok()?
-}
-
-/// The automatic player of a seat claims what he does. Whether the process goes on.
-fn plays(rt: &HostRuntime, process: &mut Seat<'_>, player: Player) -> bool {
-    match action_of(rt, process, player) {
-        Some(action) => process.choose(action, &mut NoOnlooker).is_ok(),
-        None => true,
-    }
-}
-
-impl<'a> Table<'a> {
-    pub(crate) fn new(
-        rt: &'a HostRuntime,
-        calls: &'a Calls,
-        folder: &'a str,
-        length: u8,
-        rules: Rules,
-    ) -> Table<'a> {
+impl<'a, R: Host> Table<'a, R> {
+    pub(crate) fn new(rt: &'a R, calls: &'a Calls, folder: &'a str, rules: Rules) -> Table<'a, R> {
         Table {
             rt,
             calls,
-            port: free_port(rt),
+            port: free_port(rt, 20_000),
             folder,
-            terms: Terms { length, rules },
+            terms: Terms { rules, ..SHORT },
             referee: None,
             x: None,
             o: None,
@@ -122,113 +100,62 @@ impl<'a> Table<'a> {
         }
     }
 
-    fn socket(&self, party: u8) -> io::Result<Socket<'a>> {
-        let keys = keys_of(party);
-        let socket = PartySocket::bind(
-            self.rt,
-            self.rt,
-            self.port,
-            party,
-            keys,
-            &self.calls.failures,
-        )?;
+    fn socket(&self, party: u8) -> io::Result<Socket<'a, R>> {
+        let (rt, keys) = (self.rt, keys_of(party));
+        let socket = PartySocket::bind(rt, rt, self.port, party, keys, &self.calls.failures)?;
         Ok(Failing::new(socket, self.calls))
     }
 
-    fn keeper(&self, party: u8) -> io::Result<Files<'a>> {
+    fn keeper(&self, party: u8) -> io::Result<Files<'a, R>> {
         let keeper = FileKeeper::new(self.rt, self.folder, party, &self.calls.failures)?;
         Ok(Failing::new(keeper, self.calls))
     }
 
-    /// The referee's process, begun, unless it can't begin now.
-    fn begun_referee(&self) -> Result<Option<Referee<'a>>, Fail> {
-        let (Ok(socket), Ok(keeper)) = (self.socket(REFEREE), self.keeper(REFEREE)) else {
-            return Ok(None);
-        };
-        let alloc = self.rt.alloc();
-        let (process, outcome) = RefereeProcess::begin(alloc, ID, self.terms, KEY, socket, keeper)?;
-        Ok(if outcome == Outcome::Restarted {
-            Some(process)
-        } else {
-            None
-        })
-    }
-
-    /// A round of the referee, which begins first where it does not run.
-    fn referee_round(&mut self) -> Result<Going, Fail> {
-        let running = match self.referee.take() {
-            Some(process) => Some(process),
-            None => self.begun_referee()?,
-        };
-        let Some(mut process) = running else {
-            return Ok(Going::On);
-        };
-        let Ok(going) = process.round(true, &mut NoOnlooker) else {
-            return Ok(Going::On);
-        };
-        self.referee = Some(process);
-        Ok(going)
-    }
-
-    /// The process of a seat, begun, unless it can't begin now.
-    fn begun_seat(&self, player: Player) -> Result<Option<Seat<'a>>, Fail> {
-        let party = party_of(player);
-        let (Ok(socket), Ok(keeper)) = (self.socket(party), self.keeper(party)) else {
-            return Ok(None);
-        };
-        let alloc = self.rt.alloc();
-        let (process, outcome) = SeatProcess::begin(alloc, player, ID, self.terms, socket, keeper)?;
-        Ok(if outcome == Outcome::Restarted {
-            Some(process)
-        } else {
-            None
-        })
-    }
-
-    /// The process of a seat, which begins first where it does not run.
-    fn seat(&mut self, player: Player) -> Result<Option<Seat<'a>>, Fail> {
-        let running = match player {
-            Player::X => self.x.take(),
-            Player::O => self.o.take(),
-        };
-        match running {
-            Some(process) => Ok(Some(process)),
-            None => self.begun_seat(player),
+    /// A round of the referee, which begins first where it does not run. Whether the match is over for it.
+    fn referee_turn(&mut self) -> bool {
+        if self.referee.is_none() {
+            let (socket, keeper) = (self.socket(REFEREE), self.keeper(REFEREE));
+            self.referee = begun_referee(self.rt.alloc(), self.terms, socket, keeper);
         }
+        referee_round(&mut self.referee)
     }
 
-    /// A round of a seat, which plays by itself.
-    fn seat_round(&mut self, player: Player) -> Result<Going, Fail> {
-        let Some(mut process) = self.seat(player)? else {
-            return Ok(Going::On);
-        };
-        let Ok(going) = process.round(true, &mut NoOnlooker) else {
-            return Ok(Going::On);
-        };
-        if !plays(self.rt, &mut process, player) {
-            return Ok(Going::On);
-        }
+    fn seat(&mut self, player: Player) -> &mut Option<SeatProcess<Socket<'a, R>, Files<'a, R>>> {
         match player {
-            Player::X => self.x = Some(process),
-            Player::O => self.o = Some(process),
+            Player::X => &mut self.x,
+            Player::O => &mut self.o,
         }
-        Ok(going)
     }
 
-    fn watcher_round(&mut self) -> Result<Going, Fail> {
-        let mut process = match self.watcher.take() {
-            Some(process) => process,
-            None => WatcherProcess::begin(
-                self.rt.alloc(),
-                WATCHER,
-                ID,
-                self.terms,
-                self.socket(WATCHER)?,
-            )?,
-        };
-        let going = process.round(true, &mut NoOnlooker);
-        self.watcher = Some(process);
-        Ok(going)
+    /// A round of a seat, which plays by itself, and begins first where it does not run.
+    fn seat_turn(&mut self, player: Player) -> bool {
+        let alloc = self.rt.alloc();
+        if self.seat(player).is_none() {
+            let party = party_of(player);
+            let (socket, keeper) = (self.socket(party), self.keeper(party));
+            *self.seat(player) = begun_seat(alloc, player, self.terms, socket, keeper);
+        }
+        seat_round(alloc, player, self.seat(player))
+    }
+
+    /// A round of the watcher, who begins first where he does not run.
+    fn watcher_turn(&mut self) -> bool {
+        if self.watcher.is_none() {
+            let socket = self.socket(WATCHER).expect(self.rt, "the watcher's socket");
+            self.watcher = begun_watcher(self.rt.alloc(), self.terms, socket);
+        }
+        match &mut self.watcher {
+            Some(process) => process.round(true, &mut NoOnlooker) == Going::Over,
+            None => false,
+        }
+    }
+
+    /// A round of each party. Whether the match is over for everybody.
+    fn turn(&mut self) -> bool {
+        let mut is_over = self.referee_turn();
+        is_over &= self.seat_turn(Player::X);
+        is_over &= self.seat_turn(Player::O);
+        is_over & self.watcher_turn()
     }
 
     /// Ends the process of a party, as a kill does.
@@ -242,38 +169,31 @@ impl<'a> Table<'a> {
     }
 
     /// Rounds of all parties in turn until the match is over for everybody; about one turn in so many ends a process.
-    pub(crate) fn play(&mut self, seed: u32, kills: u32) -> Result<(), Fail> {
+    pub(crate) fn play(&mut self, seed: u32, kills: u32) {
+        let rt = self.rt;
         let mut seed = seed;
         for _ in 0..MOST_TURNS {
-            let goings = [
-                self.referee_round()?,
-                self.seat_round(Player::X)?,
-                self.seat_round(Player::O)?,
-                self.watcher_round()?,
-            ];
-            if goings.iter().all(|going| *going == Going::Over) {
-                return Ok(());
+            if self.turn() {
+                return;
             }
             seed = seed.wrapping_mul(1_664_525).wrapping_add(1_013_904_223);
             if kills > 0 && (seed >> 8).checked_rem(kills) == Some(0) {
                 self.end(seed >> 28 & 3);
             }
         }
-        Err(Fail::from("the match did not end"))
+        panic!(rt; "the match did not end")
     }
 
     /// Rounds of all parties in turn until the watcher holds so many entries.
-    pub(crate) fn play_some(&mut self, entries: Number) -> Result<(), Fail> {
+    pub(crate) fn play_some(&mut self, entries: Number) {
+        let rt = self.rt;
         for _ in 0..MOST_TURNS {
-            self.referee_round()?;
-            self.seat_round(Player::X)?;
-            self.seat_round(Player::O)?;
-            self.watcher_round()?;
+            self.turn();
             if self.watched() >= entries {
-                return Ok(());
+                return;
             }
         }
-        Err(Fail::from("the match does not go on"))
+        panic!(rt; "the match does not go on")
     }
 
     /// How many entries the watcher holds.

@@ -1,0 +1,113 @@
+//! The processes of single parties, over any devices: no call here moves what these are made of.
+use super::{ID, KEY, WATCHER};
+use bg_auto::{NoOnlooker, auto_action};
+use bg_board::Player;
+use bg_match::{Action, Terms};
+use bg_processes::{Going, RefereeProcess, SeatProcess, WatcherProcess};
+use bg_world::{Keeper, Link, Outcome};
+use std::alloc::Global;
+use std::io;
+
+/// The referee's process, unless it can't begin now.
+pub(super) fn begun_referee<L: Link + Drop, K: Keeper + Drop>(
+    alloc: Global,
+    terms: Terms,
+    link: io::Result<L>,
+    keeper: io::Result<K>,
+) -> Option<RefereeProcess<L, K>> {
+    match RefereeProcess::begin(alloc, ID, terms, KEY, link.ok()?, keeper.ok()?) {
+        Ok((process, Outcome::Restarted)) => Some(process),
+        _ => None,
+    }
+}
+
+/// The process of a seat, unless it can't begin now.
+pub(super) fn begun_seat<L: Link + Drop, K: Keeper + Drop>(
+    alloc: Global,
+    player: Player,
+    terms: Terms,
+    link: io::Result<L>,
+    keeper: io::Result<K>,
+) -> Option<SeatProcess<L, K>> {
+    match SeatProcess::begin(alloc, player, ID, terms, link.ok()?, keeper.ok()?) {
+        Ok((process, Outcome::Restarted)) => Some(process),
+        _ => None,
+    }
+}
+
+/// The process of the watcher.
+pub(super) fn begun_watcher<L: Link + Drop>(
+    alloc: Global,
+    terms: Terms,
+    link: L,
+) -> Option<WatcherProcess<L>> {
+    WatcherProcess::begin(alloc, WATCHER, ID, terms, link).ok()
+}
+
+/// A round of the referee, where it runs; where it can't go on its process ends. Whether the match is over for it.
+pub(super) fn referee_round<L: Link + Drop, K: Keeper + Drop>(
+    running: &mut Option<RefereeProcess<L, K>>,
+) -> bool {
+    let going = match running {
+        Some(process) => process.round(true, &mut NoOnlooker).ok(),
+        None => None,
+    };
+    if going.is_none() {
+        *running = None;
+    }
+    going == Some(Going::Over)
+}
+
+/// What the automatic player of a seat does now, if it is his turn.
+fn action_of<L: Link, K: Keeper>(
+    alloc: Global,
+    process: &SeatProcess<L, K>,
+    player: Player,
+) -> Option<Action> {
+    if !process.acts() {
+        return None;
+    }
+    auto_action(alloc, process.held()?, player).ok()?
+}
+
+/// The automatic player of a seat claims what he does. Whether the process goes on.
+fn plays<L: Link, K: Keeper>(
+    alloc: Global,
+    process: &mut SeatProcess<L, K>,
+    player: Player,
+) -> bool {
+    match action_of(alloc, process, player) {
+        Some(action) => process.choose(action, &mut NoOnlooker).is_ok(),
+        None => true,
+    }
+}
+
+/// A round of a seat and what its player does; `None` where the process can't go on.
+fn round_and_play<L: Link, K: Keeper>(
+    alloc: Global,
+    process: &mut SeatProcess<L, K>,
+    player: Player,
+) -> Option<Going> {
+    let going = process.round(true, &mut NoOnlooker).ok()?;
+    if plays(alloc, process, player) {
+        Some(going)
+    } else {
+        None
+    }
+}
+
+/// A round of a seat, where it runs; where it can't go on its process ends. Whether the match is over for it.
+pub(super) fn seat_round<L: Link + Drop, K: Keeper + Drop>(
+    alloc: Global,
+    player: Player,
+    running: &mut Option<SeatProcess<L, K>>,
+) -> bool {
+    let going = match running {
+        Some(process) => round_and_play(alloc, process, player),
+        None => None,
+    };
+    if going.is_none() {
+        *running = None;
+    }
+    going == Some(Going::Over)
+}
