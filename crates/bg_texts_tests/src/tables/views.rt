@@ -5,25 +5,185 @@ use bg_board::Player;
 use bg_table::seat_view_text;
 use std::test::Fail;
 
-/// The board after an opening and a move of O, as X sees it.
-const BOARD_OF_X: &str = "  13  14  15  16  17  18  |  19  20  21  22  23  24
+/// O has won the opening.
+const OPENED: &str = "length 3\nopen 1 3\n";
+
+const OPENED_OF_O: &str = "length 3, game 1
+score: O (you) 0 of 3, X 0 of 3
+  13  14  15  16  17  18  |  19  20  21  22  23  24
+  O5   .   .   .  X3   .  |  X5   .   .   .   .  O2
+  X5   .   .   .  O3   .  |  O5   .   .   .   .  X2
+  12  11  10   9   8   7  |   6   5   4   3   2   1
+bar: O 0, X 0; off: O 0, X 0
+pips: O (you) 167, X 167
+cube: 1 in the middle
+O to move 1 3
+";
+
+/// X needs one point more, and so the second game is the Crawford game.
+const CRAWFORD: &str = "length 2\nopen 1 3\nO resign normal\nX accept\nopen 6 1\nX move 13-7 8-7\n";
+
+const CRAWFORD_OF_O: &str = "length 2, game 2, Crawford game
+score: O (you) 0 of 2, X 1 of 2
+  13  14  15  16  17  18  |  19  20  21  22  23  24
+  O5   .   .   .  X2  X2  |  X5   .   .   .   .  O2
+  X4   .   .   .  O3   .  |  O5   .   .   .   .  X2
+  12  11  10   9   8   7  |   6   5   4   3   2   1
+bar: O 0, X 0; off: O 0, X 0
+pips: O (you) 167, X 160
+cube: 1 in the middle
+last: X move 13-7 8-7 (as X counts)
+O to roll
+";
+
+/// X owns the cube.
+const TAKEN: &str = "length 5\nopen 3 1\nX move 8-5 6-5\nO double\nX take\nO roll 6 4\n";
+
+const TAKEN_OF_X: &str = "length 5, game 1
+score: X (you) 0 of 5, O 0 of 5
+  13  14  15  16  17  18  |  19  20  21  22  23  24
+  X5   .   .   .  O3   .  |  O5   .   .   .   .  X2
+  O5   .   .   .  X2   .  |  X4  X2   .   .   .  O2
+  12  11  10   9   8   7  |   6   5   4   3   2   1
+bar: X 0, O 0; off: X 0, O 0
+pips: X (you) 163, O 167
+cube: 2 of X (you)
+last: O roll 6 4
+O to move 6 4
+";
+
+const TAKEN_OF_O: &str = "length 5, game 1
+score: O (you) 0 of 5, X 0 of 5
+  13  14  15  16  17  18  |  19  20  21  22  23  24
+  O5   .   .   .  X2   .  |  X4  X2   .   .   .  O2
+  X5   .   .   .  O3   .  |  O5   .   .   .   .  X2
+  12  11  10   9   8   7  |   6   5   4   3   2   1
+bar: O 0, X 0; off: O 0, X 0
+pips: O (you) 167, X 163
+cube: 2 of X
+last: X take
+O to move 6 4
+";
+
+/// X doubles from two to four.
+const DOUBLED: &str = "length 5\nopen 3 1\nX move 8-5 6-5\nO double\nX take\nO roll 6 4\n\
+    O move 24-18 13-9\nX double\n";
+
+const DOUBLED_OF_O: &str = "length 5, game 1
+score: O (you) 0 of 5, X 0 of 5
+  13  14  15  16  17  18  |  19  20  21  22  23  24
+  O4   .   .   .  X2  O1  |  X4  X2   .   .   .  O1
+  X5   .   .  O1  O3   .  |  O5   .   .   .   .  X2
+  12  11  10   9   8   7  |   6   5   4   3   2   1
+bar: O 0, X 0; off: O 0, X 0
+pips: O (you) 157, X 163
+cube: 2 of X, doubled to 4
+last: X double
+O to answer the double
+";
+
+/// X offers to resign.
+const RESIGNED: &str = "length 3 rules 2\nopen 2 5\nO move 24-22 13-8\nX resign gammon\n";
+
+const RESIGNED_OF_O: &str = "length 3 rules 2, game 1
+score: O (you) 0 of 3, X 0 of 3
+  13  14  15  16  17  18  |  19  20  21  22  23  24
+  O4   .   .   .  X3   .  |  X5   .   .  O1   .  O1
+  X5   .   .   .  O4   .  |  O5   .   .   .   .  X2
+  12  11  10   9   8   7  |   6   5   4   3   2   1
+bar: O 0, X 0; off: O 0, X 0
+pips: O (you) 160, X 167
+cube: 1 in the middle
+last: X resign gammon
+X resigns gammon
+";
+
+/// X bears in, and in one turn brings the last checker home, hits and bears two off.
+const HIT: &str = "length 3\nopen 6 5\nX move 24-18 18-13\n\
+    O roll 2 1\nO move 13-11 11-10\nX roll 6 5\nX move 24-18 18-13\n\
+    O roll 2 1\nO move 13-11 11-10\nX roll 4 4\nX move 13-9 13-9 9-5 9-5\n\
+    O roll 2 1\nO move 13-11 11-10\nX roll 4 4\nX move 13-9 13-9 9-5 9-5\n\
+    O roll 2 1\nO move 13-11 11-10\nX roll 4 4\nX move 13-9 13-9 9-5 9-5\n\
+    O roll 2 1\nO move 13-11 11-10\nX roll 5 5\nX move 13-8 8-3 8-3 8-3\n\
+    O roll 6 1\nO move 24-18 8-7\nX roll 5 5\nX move 8-3 6-1 5-off 5-off\n";
+
+const HIT_OF_X: &str = "length 3, game 1
+score: X (you) 0 of 3, O 0 of 3
+  13  14  15  16  17  18  |  19  20  21  22  23  24
+   .   .  O5   .  O2  O1  |  O5   .   .   .   .   .
+   .   .   .   .   .  O1  |  X4  X4   .  X4   .  X1
+  12  11  10   9   8   7  |   6   5   4   3   2   1
+bar: X 0, O 1; off: X 2, O 0
+pips: X (you) 57, O 146
+cube: 1 in the middle
+last: O move 24-18 8-7 (as O counts)
+O to roll
+";
+
+const HIT_OF_O: &str = "length 3, game 1
+score: O (you) 0 of 3, X 0 of 3
+  13  14  15  16  17  18  |  19  20  21  22  23  24
+   .   .   .   .   .  O1  |  X4  X4   .  X4   .  X1
+   .   .  O5   .  O2  O1  |  O5   .   .   .   .   .
+  12  11  10   9   8   7  |   6   5   4   3   2   1
+bar: O 1, X 0; off: O 0, X 2
+pips: O (you) 146, X 57
+cube: 1 in the middle
+last: X move 8-3 6-1 5-off 5-off (as X counts)
+O to roll
+";
+
+/// O wins a match with the cube at two.
+const WON: &str =
+    "length 2\nopen 1 3\nO move 8-5 6-5\nX double\nO take\nX resign normal\nO accept\n";
+
+const WON_OF_X: &str = "length 2, game 1
+score: X (you) 0 of 2, O 2 of 2
+  13  14  15  16  17  18  |  19  20  21  22  23  24
   X5   .   .   .  O2   .  |  O4  O2   .   .   .  X2
   O5   .   .   .  X3   .  |  X5   .   .   .   .  O2
   12  11  10   9   8   7  |   6   5   4   3   2   1
 bar: X 0, O 0; off: X 0, O 0
 pips: X (you) 167, O 163
+cube: 2 of O
+last: O accept
+O wins the match
 ";
 
-/// The end of a match that O won with the cube at 2.
+const WON_OF_O: &str = "length 2, game 1
+score: O (you) 2 of 2, X 0 of 2
+  13  14  15  16  17  18  |  19  20  21  22  23  24
+  O5   .   .   .  X3   .  |  X5   .   .   .   .  O2
+  X5   .   .   .  O2   .  |  O4  O2   .   .   .  X2
+  12  11  10   9   8   7  |   6   5   4   3   2   1
+bar: O 0, X 0; off: O 0, X 0
+pips: O (you) 163, X 167
+cube: 2 of O (you)
+last: X resign normal
+O wins the match
+";
+
+/// A transcript, a player, and all that he sees at its end.
 #[test]
-fn view_of_a_won_match(rt: HostRuntime) -> Result<(), Fail> {
-    let transcript =
-        "length 2\nopen 1 3\nO move 8-5 6-5\nX double\nO take\nX resign normal\nO accept\n";
-    let record = record_of(rt.alloc(), transcript)?;
-    let view = seat_view_text(rt.alloc(), &record, Player::X)?;
-    let above = "length 2, game 1\nscore: X (you) 0 of 2, O 2 of 2\n";
-    let below = "cube: 2 of O\nlast: O accept\nO wins the match\n";
-    let wanted = format!(in rt.alloc(); "{above}{BOARD_OF_X}{below}")?;
-    assert!(rt; text_of(&view) == wanted.as_str());
+fn words_of_views(rt: HostRuntime) -> Result<(), Fail> {
+    for (row, (transcript, player, wanted)) in [
+        (OPENED, Player::O, OPENED_OF_O),
+        (CRAWFORD, Player::O, CRAWFORD_OF_O),
+        (TAKEN, Player::X, TAKEN_OF_X),
+        (TAKEN, Player::O, TAKEN_OF_O),
+        (DOUBLED, Player::O, DOUBLED_OF_O),
+        (RESIGNED, Player::O, RESIGNED_OF_O),
+        (HIT, Player::X, HIT_OF_X),
+        (HIT, Player::O, HIT_OF_O),
+        (WON, Player::X, WON_OF_X),
+        (WON, Player::O, WON_OF_O),
+    ]
+    .into_iter()
+    .enumerate()
+    {
+        let record = record_of(rt.alloc(), transcript)?;
+        let view = seat_view_text(rt.alloc(), &record, player)?;
+        assert!(rt; text_of(&view) == wanted, "row {row}");
+    }
     Ok(())
 }
