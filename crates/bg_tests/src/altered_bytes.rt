@@ -1,4 +1,5 @@
 //! Packets and saved texts in which each byte was changed to every other value, given to the calls that take bytes.
+ghost use Rattle.bg_wire.specs.Packets.PacketText.{IsPacket};
 ghost use Rattle.bg_wire.specs.Saved.SavedText.{IsSavable, parts_of};
 
 use crate::fronts::{check_legal, is_front};
@@ -54,7 +55,9 @@ enum Kind {
 }
 
 /// A referee that has opened match 1 and saved it takes the packet.
-fn check_referee(rt: &impl Abort, alloc: Global, packet: &Packet) {
+fn check_referee(rt: &impl Abort, alloc: Global, packet: &Packet)
+    requires { IsPacket packet.now }
+{
     let referee = Referee::fresh(alloc, 1, 1, Rules::One);
     let mut referee = referee.expect(rt, "a length");
     assert!(rt; referee.due(THREE_ONE) == Ok(1));
@@ -65,7 +68,9 @@ fn check_referee(rt: &impl Abort, alloc: Global, packet: &Packet) {
 }
 
 /// A seat takes the packet.
-fn check_seat(rt: &impl Abort, alloc: Global, packet: &Packet) {
+fn check_seat(rt: &impl Abort, alloc: Global, packet: &Packet)
+    requires { IsPacket packet.now }
+{
     let seat = Seat::fresh(alloc, Player::X, 1, 1, Rules::One);
     let mut seat = seat.expect(rt, "a length");
     let _ = seat.take(packet);
@@ -73,7 +78,9 @@ fn check_seat(rt: &impl Abort, alloc: Global, packet: &Packet) {
 }
 
 /// A watcher takes the packet.
-fn check_watcher(rt: &impl Abort, alloc: Global, packet: &Packet) {
+fn check_watcher(rt: &impl Abort, alloc: Global, packet: &Packet)
+    requires { IsPacket packet.now }
+{
     let watcher = Watcher::fresh(alloc, 3, 1, 1, Rules::One);
     let mut watcher = watcher.expect(rt, "a length");
     let _ = watcher.take(packet);
