@@ -8,7 +8,7 @@ use Rattle.bg_turns.specs.Turn.{IsLegalTurn}
 use Rattle.bg_turns.specs.declared.throws.Dice.{Dice}
 use Rattle.bg_match.specs.Actor.{passes}
 use Rattle.bg_match.specs.Follows.{Follows}
-use Rattle.bg_match.specs.Level.{points}
+use Rattle.bg_match.specs.Level.{multiple}
 use Rattle.bg_match.specs.Match.{Leads, Log, IsRecordFault}
 use Rattle.bg_match.specs.State.{State, score_of}
 use Rattle.bg_match.specs.declared.levels.Level.{Level}
@@ -105,8 +105,8 @@ abbrev pub IsOfferFault : Log → State → Player → ℕ → MatFault → Type
 IsOfferFault log s winner won fault =
     ((fault ≡ why.OutOfTurn) × (MayResign s (opponent winner) → ⊥))
     ⊎ (MayResign s (opponent winner)
-    × (((fault ≡ why.WrongPoints) × ((level : Level) → won ≡ points level * s.cube.value → ⊥))
-    ⊎ ((level : Level) × (won ≡ points level * s.cube.value) × IsResignFault log level fault)))
+    × (((fault ≡ why.WrongPoints) × ((level : Level) → won ≡ multiple level * s.cube.value → ⊥))
+    ⊎ ((level : Level) × (won ≡ multiple level * s.cube.value) × IsResignFault log level fault)))
 
 -- the win is said to end the match, and does not
 abbrev pub IsEndFault : State → Bool → MatFault → Type 0
@@ -120,7 +120,7 @@ HasWon p winner won = (0 < won) × (score_of p.state winner ≡ before_of p winn
 abbrev pub IsWinFault : Log → Place → Player → ℕ → Bool → MatFault → Type 0
 IsWinFault log p winner won ends fault =
     (GoesOn p × (IsOfferFault log p.state winner won fault
-    ⊎ ((level : Level) × (t : State) × (won ≡ points level * p.state.cube.value)
+    ⊎ ((level : Level) × (t : State) × (won ≡ multiple level * p.state.cube.value)
     × Leads p.state (entry.Resigned level ∷ entry.Accepted ∷ []) t × IsEndFault t ends fault)))
     ⊎ (IsOver p × (((fault ≡ why.WrongPoints) × (HasWon p winner won → ⊥))
     ⊎ (HasWon p winner won × IsEndFault p.state ends fault)))

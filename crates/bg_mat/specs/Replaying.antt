@@ -5,7 +5,7 @@ use Rattle.bg_board.specs.declared.players.Player.{Player}
 use Rattle.bg_match.specs.Follows.{Follows}
 use Rattle.bg_board.specs.Position.{opponent}
 use Rattle.bg_turns.specs.declared.throws.Dice.{Dice}
-use Rattle.bg_match.specs.Level.{points}
+use Rattle.bg_match.specs.Level.{multiple}
 use Rattle.bg_match.specs.Match.{Log, IsLog, Leads, StandsAt}
 use Rattle.bg_match.specs.State.{start_of}
 use Rattle.bg_match.specs.declared.levels.Level.{Level}
@@ -56,7 +56,7 @@ pub record AddsMove (old new : Replay) (line : ℕ) (player : Player) (dice : Di
 pub record Resigns (old new : Replay) (line : ℕ) (winner : Player) (won : ℕ) : Type 0 where
   pub level : Level
   pub may : MayResign old.standing (opponent winner)
-  pub worth : won ≡ points level * old.standing.cube.value
+  pub worth : won ≡ multiple level * old.standing.cube.value
   pub leads : Leads old.standing (entry.Resigned level ∷ entry.Accepted ∷ []) new.standing
   pub grows : Grows old new line (entry.Resigned level ∷ entry.Accepted ∷ [])
   pub pending : new.pending ≡ old.pending

@@ -5,7 +5,7 @@ use Rattle.bg_board.specs.declared.players.Player.{Player}
 use Rattle.bg_board.specs.declared.players.Player.TheVariants.{X, O}
 use Rattle.bg_turns.specs.declared.throws.Dice.{Dice}
 use Rattle.bg_match.specs.Follows.{opener}
-use Rattle.bg_match.specs.Level.{points}
+use Rattle.bg_match.specs.Level.{multiple}
 use Rattle.bg_match.specs.Match.{Leads}
 use Rattle.bg_match.specs.State.{State, score_of, IsRunning}
 use Rattle.bg_match.specs.declared.levels.Level.{Level}
@@ -99,7 +99,7 @@ abbrev pub AreOfWin : Place → Player → ℕ → List Entry → Type 0
 AreOfWin p winner won entries =
     (IsOver p × (0 < won) × (score_of p.state winner ≡ before_of p winner + won) × (entries ≡ []))
     ⊎ (GoesOn p × MayResign p.state (opponent winner)
-    × ((level : Level) × (won ≡ points level * p.state.cube.value)
+    × ((level : Level) × (won ≡ multiple level * p.state.cube.value)
     × (entries ≡ entry.Resigned level ∷ entry.Accepted ∷ [])))
 
 -- the match is over

@@ -12,7 +12,7 @@ use Rattle.bg_match.specs.declared.levels.Level.{Level}
 use Rattle.bg_match.specs.declared.phases.Phase.TheVariants as phase
 use Rattle.bg_match.specs.declared.entries.Entry.{Entry}
 use Rattle.bg_match.specs.declared.entries.Entry.TheVariants as entry
-use Rattle.bg_match.specs.Level.{points, level_of}
+use Rattle.bg_match.specs.Level.{multiple, level_of}
 use Rattle.bg_match.specs.State.{State, IsRunning, scored, next_game, after_win, start_of, is_crawford, greater_score}
 use Rattle.bg_match.specs.Follows.{Follows, phase_back, after_level}
 use Rattle.bg_match.specs.Match.{Leads, LeadsWithScores, scores_then, IsCrawfordGame, MarksCrawford}
@@ -82,7 +82,7 @@ back_runs p (Some dice) = tt
 moves : (s : State) (board : Position) (p : Player) (level : Option Level) (scores : List ℕ) → Agrees s scores → IsRunning s.phase → Agrees (after_level (record s { board = board }) p level) (scores_then s (after_level (record s { board = board }) p level) scores)
 moves s board p None scores h running = goes_on s (record s { board = board; phase = phase.ToAct (opponent p) }) scores h running refl refl refl refl
 moves s board p (Some level) scores h running =
-    wins (record s { board = board }) p (points level * s.cube.value) scores (record { mark = h.mark; latest = h.latest }) running
+    wins (record s { board = board }) p (multiple level * s.cube.value) scores (record { mark = h.mark; latest = h.latest }) running
 
 -- one entry
 follows_agrees : (s : State) (e : Entry) (t : State) (scores : List ℕ) → Agrees s scores → Follows s e t → Agrees t (scores_then s t scores)
@@ -109,7 +109,7 @@ follows_agrees s (entry.Resigned level) t scores h f =
     rw f.4 (goes_on s _ scores h running refl refl refl refl)
 follows_agrees s entry.Accepted t scores h f =
     let running : IsRunning s.phase = rw f.3 tt in
-    rw f.4 (wins s (opponent f.0) (points f.1 * s.cube.value) scores h running)
+    rw f.4 (wins s (opponent f.0) (multiple f.1 * s.cube.value) scores h running)
 follows_agrees s entry.Rejected t scores h f =
     let running : IsRunning s.phase = rw f.3 tt in
     rw f.4 (goes_on s _ scores h running refl refl refl refl)

@@ -9,7 +9,7 @@ use Rattle.bg_match.specs.declared.levels.Level.{Level}
 use Rattle.bg_match.specs.declared.phases.Phase.TheVariants as phase
 use Rattle.bg_match.specs.declared.entries.Entry.{Entry}
 use Rattle.bg_match.specs.declared.entries.Entry.TheVariants as entry
-use Rattle.bg_match.specs.Level.{points, level_of}
+use Rattle.bg_match.specs.Level.{multiple, level_of}
 use Rattle.bg_match.specs.State.{State, scored, next_game, after_win, start_of, greater_score}
 use Rattle.bg_match.specs.Follows.{Follows, after_level}
 use Rattle.bg_match.specs.Match.{Leads, StandsAt}
@@ -25,7 +25,7 @@ terms-after_win s O n = after_scored s (scored s O n) O (greater_score s) (ltb (
 
 terms-after_level : (s : State) (board : Position) (p : Player) (level : Option Level) → (after_level (record s { board = board }) p level).terms ≡ s.terms
 terms-after_level s board p None = refl
-terms-after_level s board p (Some level) = terms-after_win (record s { board = board }) p (points level * s.cube.value)
+terms-after_level s board p (Some level) = terms-after_win (record s { board = board }) p (multiple level * s.cube.value)
 
 terms-Follows : (s : State) (e : Entry) (t : State) → Follows s e t → t.terms ≡ s.terms
 terms-Follows s (entry.Opening x o) t h = ap (λ u. u.terms) h.2

@@ -12,7 +12,7 @@ use Rattle.bg_match.specs.declared.levels.Level.{Level}
 use Rattle.bg_match.specs.declared.phases.Phase.TheVariants as phase
 use Rattle.bg_match.specs.declared.entries.Entry.{Entry}
 use Rattle.bg_match.specs.declared.entries.Entry.TheVariants as entry
-use Rattle.bg_match.specs.Level.{points}
+use Rattle.bg_match.specs.Level.{multiple}
 use Rattle.bg_match.specs.State.{State, after_win, start_of}
 use Rattle.bg_match.specs.Actor.{passes}
 use Rattle.bg_match.specs.Follows.{Follows, CanFollow, IsEntryFault, MayDouble, opener, phase_back, after_turn}
@@ -61,7 +61,7 @@ Follows-same s entry.Accepted t u h k =
     let e : phase.Resigned h.0 h.1 h.2 ≡ phase.Resigned k.0 k.1 k.2 = sym h.3 ∙ k.3 in
     let same : h.0 ≡ k.0 = cc in
     let level : h.1 ≡ k.1 = cc in
-    h.4 ∙ ap (λ (p : Player). after_win s (opponent p) (points h.1 * s.cube.value)) same ∙ ap (λ (l : Level). after_win s (opponent k.0) (points l * s.cube.value)) level ∙ sym k.4
+    h.4 ∙ ap (λ (p : Player). after_win s (opponent p) (multiple h.1 * s.cube.value)) same ∙ ap (λ (l : Level). after_win s (opponent k.0) (multiple l * s.cube.value)) level ∙ sym k.4
 Follows-same s entry.Rejected t u h k =
     let e : phase.Resigned h.0 h.1 h.2 ≡ phase.Resigned k.0 k.1 k.2 = sym h.3 ∙ k.3 in
     let same : h.0 ≡ k.0 = cc in
@@ -146,7 +146,7 @@ pub CanFollow-Resigned : (s : State) (p : Player) (back : Option Dice) (level : 
 CanFollow-Resigned s p back level is play = (record s { phase = phase.Resigned p level back }, (p, back, is, play, refl))
 
 pub CanFollow-Accepted : (s : State) (p : Player) (level : Level) (back : Option Dice) → s.phase ≡ phase.Resigned p level back → CanFollow s entry.Accepted
-CanFollow-Accepted s p level back is = (after_win s (opponent p) (points level * s.cube.value), (p, level, back, is, refl))
+CanFollow-Accepted s p level back is = (after_win s (opponent p) (multiple level * s.cube.value), (p, level, back, is, refl))
 
 pub CanFollow-Rejected : (s : State) (p : Player) (level : Level) (back : Option Dice) → s.phase ≡ phase.Resigned p level back → CanFollow s entry.Rejected
 CanFollow-Rejected s p level back is = (record s { phase = phase_back p back }, (p, level, back, is, refl))

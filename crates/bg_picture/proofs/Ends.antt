@@ -7,7 +7,7 @@ use Rattle.bg_board.specs.declared.players.Player.TheVariants.{X, O}
 use Rattle.bg_turns.specs.Turn.{IsLegalTurn, after_steps}
 use Rattle.bg_turns.specs.declared.throws.Dice.{Dice}
 use Rattle.bg_match.specs.Follows.{CanFollow, Follows, after_level}
-use Rattle.bg_match.specs.Level.{points, level_of}
+use Rattle.bg_match.specs.Level.{multiple, level_of}
 use Rattle.bg_match.specs.State.{State, IsState, IsCubeOf, after_win, greater_score, next_game, scored}
 use Rattle.bg_match.specs.Terms.{match_length}
 use Rattle.bg_match.specs.Limits.{greatest_cube}
@@ -29,7 +29,7 @@ won_ended s O n = scored_ended (scored s O n) O (greater_score s) (ltb (s.o_scor
 
 turn_goes_on : (s : State) (p : Player) (cube : ℕ) (level : Option Level) → has_ended (after_level s p level).phase ≡ false → turn_win cube p level ≡ None
 turn_goes_on s p cube None on = refl
-turn_goes_on s p cube (Some level) on = let ended = won_ended s p (points level * s.cube.value) in absurd cc
+turn_goes_on s p cube (Some level) on = let ended = won_ended s p (multiple level * s.cube.value) in absurd cc
 
 -- nothing is won where the game goes on
 pub no_win : (s : State) (e : Entry) (t : State) → Follows s e t → has_ended t.phase ≡ false → win_of s e ≡ None
@@ -46,8 +46,8 @@ no_win s (entry.Moved turn) t (p, dice, ph, passing, legal, is) on =
     rw ph (turn_goes_on (record s { board = board }) p s.cube.value (level_of board p) (rw is at on))
 no_win s (entry.Resigned level) t h on = refl
 no_win s entry.Accepted t (p, level, back, ph, is) on =
-    let ended = won_ended s (opponent p) (points level * s.cube.value) in
-    let going : has_ended (after_win s (opponent p) (points level * s.cube.value)).phase ≡ false = rw is at on in
+    let ended = won_ended s (opponent p) (multiple level * s.cube.value) in
+    let going : has_ended (after_win s (opponent p) (multiple level * s.cube.value)).phase ≡ false = rw is at on in
     absurd cc
 no_win s entry.Rejected t h on = refl
 no_win s entry.Passed t h on = refl
@@ -62,7 +62,7 @@ won_game s O n = scored_game s (scored s O n) O (greater_score s) (ltb (s.o_scor
 
 turn_game : (s : State) (p : Player) (level : Option Level) → s.game ≤ (after_level s p level).game
 turn_game s p None = omega arith
-turn_game s p (Some level) = won_game s p (points level * s.cube.value)
+turn_game s p (Some level) = won_game s p (multiple level * s.cube.value)
 
 same_game : (s t : State) → t.game ≡ s.game → s.game ≤ t.game
 same_game s t h = omega (arith, h)
@@ -78,7 +78,7 @@ later_game s (entry.Moved turn) t h =
     let board = after_steps s.board h.0 turn in
     rw h.5 (turn_game (record s { board = board }) h.0 (level_of board h.0))
 later_game s (entry.Resigned level) t h = same_game s t (ap (λ u. u.game) h.4)
-later_game s entry.Accepted t h = rw h.4 (won_game s (opponent h.0) (points h.1 * s.cube.value))
+later_game s entry.Accepted t h = rw h.4 (won_game s (opponent h.0) (multiple h.1 * s.cube.value))
 later_game s entry.Rejected t h = same_game s t (ap (λ u. u.game) h.4)
 later_game s entry.Passed t h = same_game s t (ap (λ u. u.game) h.4)
 

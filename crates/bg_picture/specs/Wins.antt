@@ -3,7 +3,7 @@ use Rattle.std.specs.Prelude.{ℕ, ◌*◌, Bool, true, false, Option, Some, Non
 use Rattle.bg_board.specs.Position.{Position, opponent}
 use Rattle.bg_board.specs.declared.players.Player.{Player}
 use Rattle.bg_turns.specs.Turn.{after_steps}
-use Rattle.bg_match.specs.Level.{points, level_of}
+use Rattle.bg_match.specs.Level.{multiple, level_of}
 use Rattle.bg_match.specs.State.{State}
 use Rattle.bg_match.specs.declared.entries.Entry.{Entry}
 use Rattle.bg_match.specs.declared.entries.Entry.TheVariants as entry
@@ -27,14 +27,14 @@ board_after _ _ b = b
 -- what a turn wins, where the cube shows this, if all checkers of the player who moves are then off
 abbrev pub turn_win : ℕ → Player → Option Level → Option Win
 turn_win cube p None = None
-turn_win cube p (Some level) = Some (record { winner = p; points = points level * cube; way = BearingOff level })
+turn_win cube p (Some level) = Some (record { winner = p; points = multiple level * cube; way = BearingOff level })
 
 -- what an entry in a phase wins, on a board after it and where the cube shows this
 abbrev pub win_in : Entry → Phase → Position → ℕ → Option Win
 win_in (entry.Moved turn) (phase.ToMove p dice) board cube = turn_win cube p (level_of board p)
 win_in entry.Dropped (phase.Doubled p) board cube = Some (record { winner = opponent p; points = cube; way = Drop })
 win_in entry.Accepted (phase.Resigned p level back) board cube =
-    Some (record { winner = opponent p; points = points level * cube; way = Resignation level })
+    Some (record { winner = opponent p; points = multiple level * cube; way = Resignation level })
 win_in _ _ board cube = None
 
 -- how an entry that follows ends the game, if it does

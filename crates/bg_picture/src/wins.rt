@@ -99,7 +99,7 @@ fn win_of(standing: &Standing, entry: &Entry, board: &Board) -> Option<Win>
             let level = level_of(board, player)?;
             Some(Win {
                 winner: player,
-                points: level.points() * cube,
+                points: level.multiple() * cube,
                 way: Way::BearingOff(level),
             })
         }
@@ -110,7 +110,7 @@ fn win_of(standing: &Standing, entry: &Entry, board: &Board) -> Option<Win>
         }),
         (Phase::Resigned(player, level, _), Entry::Accepted) => Some(Win {
             winner: player.opponent(),
-            points: level.points() * cube,
+            points: level.multiple() * cube,
             way: Way::Resignation(level),
         }),
         _ => None,

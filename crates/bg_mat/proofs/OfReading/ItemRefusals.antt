@@ -5,7 +5,7 @@ use Rattle.bg_board.specs.declared.players.Player.{Player}
 use Rattle.bg_turns.specs.declared.throws.Dice.{Dice}
 use Rattle.bg_match.specs.Actor.{actor_of, passes}
 use Rattle.bg_match.specs.Follows.{Follows}
-use Rattle.bg_match.specs.Level.{points}
+use Rattle.bg_match.specs.Level.{multiple}
 use Rattle.bg_match.specs.Match.{Log, IsRecordFault}
 use Rattle.bg_match.specs.State.{State}
 use Rattle.bg_match.specs.declared.levels.Level.{Level}
@@ -94,7 +94,7 @@ passed_by_referee s player thrown is = by (passes s) refl where
   by false p = (λ h. (let seat : actor_of s ≡ actor.Seat player = rw (p, is) refl in absurd (cc (seat, h))), λ h. p)
 
 -- points that are neither once, twice nor three times the cube
-pub no_level : (won cube : ℕ) → won ≢ cube → won ≢ 2 * cube → won ≢ 3 * cube → (l : Level) → won ≡ points l * cube → ⊥
+pub no_level : (won cube : ℕ) → won ≢ cube → won ≢ 2 * cube → won ≢ 3 * cube → (l : Level) → won ≡ multiple l * cube → ⊥
 no_level won cube one two three level.Normal is = one (omega (arith, is))
 no_level won cube one two three level.Gammon is = two is
 no_level won cube one two three level.Backgammon is = three is

@@ -7,7 +7,7 @@ use Rattle.bg_turns.specs.declared.throws.Dice.{Dice}
 use Rattle.bg_match.specs.Follows.{Follows}
 use Rattle.bg_match.specs.Match.{IsLog, StandsAt}
 use Rattle.bg_match.specs.State.{State, score_of, start_of}
-use Rattle.bg_match.specs.Level.{points}
+use Rattle.bg_match.specs.Level.{multiple}
 use Rattle.bg_match.specs.declared.levels.Level.{Level}
 use Rattle.bg_match.specs.declared.phases.Phase.TheVariants as phase
 use Rattle.bg_match.specs.declared.entries.Entry.{Entry}
@@ -209,7 +209,7 @@ alone old new line player deed e of closed a = record {
 
 -- an offer to resign and its acceptance
 pub resigned : (old middle new : Replay) (line : ℕ) (winner : Player) (won : ℕ) (level : Level)
-    → MayResign old.standing (opponent winner) → won ≡ points level * old.standing.cube.value
+    → MayResign old.standing (opponent winner) → won ≡ multiple level * old.standing.cube.value
     → Adds old middle line (entry.Resigned level) → Adds middle new line entry.Accepted → Resigns old new line winner won
 resigned old middle new line winner won level may worth a b = record {
   level = level;

@@ -7,7 +7,7 @@ use Rattle.bg_board.specs.Position.{opponent}
 use Rattle.bg_board.specs.declared.players.Player.{Player}
 use Rattle.bg_turns.specs.declared.throws.Dice.{Dice}
 use Rattle.bg_match.specs.Follows.{Follows, phase_back, after_level}
-use Rattle.bg_match.specs.Level.{points, level_of}
+use Rattle.bg_match.specs.Level.{multiple, level_of}
 use Rattle.bg_match.specs.State.{State, after_win, greater_score, score_of, scored}
 use Rattle.bg_match.specs.Terms.{Terms, match_length}
 use Rattle.bg_match.specs.declared.levels.Level.{Level}
@@ -46,7 +46,7 @@ offer_of ph = None
 as_phase : (s : State) (ph : Phase) → s.phase ≡ ph → s ≡ record s { phase = ph }
 as_phase s ph h = ap (λ (x : Phase). record s { phase = x }) h
 
-points_some : (l : Level) (n : ℕ) → 0 < n → 0 < points l * n
+points_some : (l : Level) (n : ℕ) → 0 < n → 0 < multiple l * n
 points_some level.Normal n h = omega arith
 points_some level.Gammon n h = omega arith
 points_some level.Backgammon n h = omega arith
@@ -73,7 +73,7 @@ after_move terms kept s r t player None tellings won is x o game cube h tells =
     rw (none, is) (goes_on terms kept s r (opponent player) tellings
     (subst (λ (y : State). IsSettled terms kept s y tellings) is h) game x o cube)
 after_move terms kept s r t player (Some level) tellings won is x o game cube h tells =
-    let n = points level * r.cube.value in
+    let n = multiple level * r.cube.value in
     let b = nat_lt (score_of (scored r player n) player) (match_length r.terms) in
     let same : t ≡ won_state b r player n (greater_score r) = is_won_state r player n (greater_score r) b t is in
     rw same (won_by_play terms kept s r player n (greater_score r) b tellings won (points_some level r.cube.value cube) cube
@@ -82,7 +82,7 @@ after_move terms kept s r t player (Some level) tellings won is x o game cube h 
 
 -- an offer is accepted
 accepted : (terms : Terms) (kept : List Entry) (b t : State) (player : Player) (level : Level) (back : Option Dice) (tellings : List Telling) (told won : Option Telling)
-    → t ≡ after_win (record b { phase = phase.Resigned player level back }) (opponent player) (points level * b.cube.value)
+    → t ≡ after_win (record b { phase = phase.Resigned player level back }) (opponent player) (multiple level * b.cube.value)
     → IsTold terms kept (record b { phase = phase.Resigned player level back }) tellings
     → TellsDice (phase.Resigned player level back) told
     → TellsWin (record b { phase = phase.Resigned player level back }) t won
@@ -90,7 +90,7 @@ accepted : (terms : Terms) (kept : List Entry) (b t : State) (player : Player) (
 accepted terms kept b t player level None tellings told won is h dice tells =
     let s : State = record b { phase = phase.Resigned player level None } in
     let c : State = record b { phase = phase.ToAct player } in
-    let n = points level * b.cube.value in
+    let n = multiple level * b.cube.value in
     let r = nat_lt (score_of (scored s (opponent player) n) (opponent player)) (match_length s.terms) in
     let same : t ≡ won_state r s (opponent player) n (greater_score s) = is_won_state s (opponent player) n (greater_score s) r t is in
     let settled : IsSettled terms kept c c tellings = record {
@@ -107,7 +107,7 @@ accepted terms kept b t player level None tellings told won is h dice tells =
 accepted terms kept b t player level (Some d) tellings told won is h dice tells =
     let s : State = record b { phase = phase.Resigned player level (Some d) } in
     let c : State = record b { phase = phase.ToMove player d } in
-    let n = points level * b.cube.value in
+    let n = multiple level * b.cube.value in
     let r = nat_lt (score_of (scored s (opponent player) n) (opponent player)) (match_length s.terms) in
     let same : t ≡ won_state r s (opponent player) n (greater_score s) = is_won_state s (opponent player) n (greater_score s) r t is in
     let calm_told : IsTold terms kept c tellings = rejection_told terms kept b player (Some d) level tellings h in
@@ -227,6 +227,6 @@ entry_told terms kept s entry.Accepted t tellings told won (player, level, back,
     let made_as = as_phase s (phase.Resigned player level back) ph in
     let made : State = record s { phase = phase.Resigned player level back } in
     rw ph (accepted terms kept s t player level back tellings told won
-    (subst (λ (y : State). t ≡ after_win y (opponent player) (points level * s.cube.value)) made_as is)
+    (subst (λ (y : State). t ≡ after_win y (opponent player) (multiple level * s.cube.value)) made_as is)
     (subst (λ (y : State). IsTold terms kept y tellings) made_as h) (subst (λ (x : Phase). TellsDice x told) ph tells)
     (subst (λ (y : State). TellsWin y t won) made_as wins))

@@ -7,7 +7,7 @@ use Rattle.std.proofs.lemmas.Option.{slice_get-get_or}
 use Rattle.bg_match.specs.Follows.{CanFollow, Follows, after_level, phase_back}
 use Rattle.bg_match.specs.Match.{IsLegalRecord, Leads, Log, StandsAt, at_number}
 use Rattle.bg_match.specs.State.{State, after_win, greater_score, score_of, scored, start_of}
-use Rattle.bg_match.specs.Level.{level_of, points}
+use Rattle.bg_match.specs.Level.{level_of, multiple}
 use Rattle.bg_board.specs.Position.{opponent}
 use Rattle.bg_turns.specs.Turn.{after_steps}
 use Rattle.bg_match.specs.Terms.{Terms, match_length}
@@ -48,7 +48,7 @@ after_win-offer s w n =
 
 after_level-offer : (s : State) (player : Player) (l : Option Level) → offer_of (after_level s player l).phase ≡ None
 after_level-offer s player None = refl
-after_level-offer s player (Some level) = after_win-offer s player (points level * s.cube.value)
+after_level-offer s player (Some level) = after_win-offer s player (multiple level * s.cube.value)
 
 -- the entries that are kept, one entry on
 pub kept_next : (s : State) (e : Entry) (t : State) (rest : List Entry) → Follows s e t
@@ -64,7 +64,7 @@ kept_next s (entry.Moved turn) t rest (player, dice, ph, on, legal, is) =
     rw (is, after_level-offer (record s { board = board }) player (level_of board player)) refl
 kept_next s (entry.Resigned level) t rest (player, back, ph, on, is) = rw is refl
 kept_next s entry.Accepted t rest (player, level, back, ph, is) =
-    rw (ph, is, after_win-offer s (opponent player) (points level * s.cube.value)) refl
+    rw (ph, is, after_win-offer s (opponent player) (multiple level * s.cube.value)) refl
 kept_next s entry.Rejected t rest (player, level, back, ph, is) = rw (is, back_offer player back) refl
 kept_next s entry.Passed t rest (player, dice, ph, on, is) = rw is refl
 

@@ -5,7 +5,7 @@ use Rattle.bg_board.specs.Position.{opponent}
 use Rattle.bg_board.specs.declared.players.Player.{Player}
 use Rattle.bg_board.specs.declared.players.Player.TheVariants.{X, O}
 use Rattle.bg_match.specs.Follows.{Follows}
-use Rattle.bg_match.specs.Level.{points}
+use Rattle.bg_match.specs.Level.{multiple}
 use Rattle.bg_match.specs.Match.{Leads}
 use Rattle.bg_match.specs.State.{State, IsRunning, next_game, score_of, scored}
 use Rattle.bg_match.specs.Terms.{Terms}
@@ -162,16 +162,16 @@ won_by_play terms kept r s w n g b tellings won some cube x o game h tells =
 
 -- a game is won by an offer that is accepted
 pub won_by_offer : (terms : Terms) (kept : List Entry) (c s : State) (loser : Player) (level : Level) (g : ℕ) (b : Bool) (tellings : List Telling) (won : Option Telling)
-    → 0 < points level * c.cube.value → 0 < c.cube.value → MayResign c loser → IsRunning c.phase
+    → 0 < multiple level * c.cube.value → 0 < c.cube.value → MayResign c loser → IsRunning c.phase
     → Follows c (entry.Resigned level) s → s.x_score ≡ c.x_score → s.o_score ≡ c.o_score → s.game ≡ c.game
-    → Follows s entry.Accepted (won_state b s (opponent loser) (points level * c.cube.value) g)
+    → Follows s entry.Accepted (won_state b s (opponent loser) (multiple level * c.cube.value) g)
     → s.cube ≡ c.cube → IsSettled terms kept c c tellings
-    → TellsWin s (won_state b s (opponent loser) (points level * c.cube.value) g) won
+    → TellsWin s (won_state b s (opponent loser) (multiple level * c.cube.value) g) won
     → IsTold terms (kept ++ entry.Resigned level ∷ entry.Accepted ∷ [])
-    (won_state b s (opponent loser) (points level * c.cube.value) g) (with_telling tellings won)
+    (won_state b s (opponent loser) (multiple level * c.cube.value) g) (with_telling tellings won)
 won_by_offer terms kept c s loser level g b tellings won some cube may runs offers x o game accepts same h tells =
     let w = opponent loser in
-    let n = points level * c.cube.value in
+    let n = multiple level * c.cube.value in
     let t = won_state b s w n g in
     let (win, is, worth, wins) = win_is s t w n won some (won_score b s w n g) (lost_score b s w n g) tells in
     let own = entry.Resigned level ∷ entry.Accepted ∷ [] in
@@ -180,7 +180,7 @@ won_by_offer terms kept c s loser level g b tellings won some cube may runs offe
     rw (h.at, opponent_twice loser) may in
     let leads : Leads h.place.state own t = rw h.at (s, offers, (t, accepts, refl)) in
     let on : GoesOn h.place = record { running = rw h.at runs; same = ap (λ (y : State). y.game) h.at ∙ h.in_game.game } in
-    let worth_place : win.points ≡ points level * h.place.state.cube.value = rw h.at worth in
+    let worth_place : win.points ≡ multiple level * h.place.state.cube.value = rw h.at worth in
     let tells_win : Tells h.place (Does w (deed_of (cell.Wins win))) own q =
     (refl, leads, (inr (on, may_place, (level, worth_place, refl)), wins.ends)) in
     let here : s.game ≡ q.game = game ∙ h.in_game.game in

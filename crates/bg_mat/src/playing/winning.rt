@@ -1,6 +1,6 @@
 //! Wins.
 ghost use Rattle.std.specs.Prelude.{◌≡◌, ◌↔◌, ◌+◌, ◌*◌, ◌<◌, true, None, IsTrue, MatchOption, OnOk};
-ghost use Rattle.bg_match.specs.Level.{points as points_of};
+ghost use Rattle.bg_match.specs.Level.{multiple as points_of};
 ghost use Rattle.bg_match.specs.declared.levels.Level.{Level as LevelOf};
 ghost use Rattle.bg_mat.specs.Telling.{Wins, GoesOn, IsOver, IsOverMatch, MayResign};
 ghost use Rattle.bg_mat.specs.Replaying.{IsReplay, Plays, Resigns, place_of};

@@ -8,15 +8,15 @@ use bg_board::{Board, Player};
 
 impl Standing {
     ghost use Rattle.bg_match.specs.State.{after_win, IsRunning};
-    ghost use Rattle.bg_match.specs.Level.{points};
+    ghost use Rattle.bg_match.specs.Level.{multiple};
 
     /// What a win at this level counts.
     pub(super) fn worth(&self, level: Level) -> u16
-        ensures value { result ≡ points level * self.now.cube.value }
+        ensures value { result ≡ multiple level * self.now.cube.value }
         ensures least { 1 ≤ result }
         ensures greatest { result ≤ greatest_win }
     {
-        level.points() * u16::from(self.cube.value)
+        level.multiple() * u16::from(self.cube.value)
     }
 
     /// The player takes a double.

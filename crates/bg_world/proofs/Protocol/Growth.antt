@@ -23,7 +23,7 @@ use Rattle.bg_world.specs.Protocol.RefereeTakeStep.{ReplyStep, RefereeTakeStep}
 use Rattle.bg_world.specs.Protocol.RestartStep.{RestartsTo, RestartStep}
 use Rattle.bg_world.specs.Protocol.Roles.{role}
 use Rattle.bg_world.specs.Protocol.SaveStep.{RefereeSaveStep, SaveStep}
-use Rattle.bg_world.specs.Protocol.State.{ProtocolState, SeatState, seat, with_seat}
+use Rattle.bg_world.specs.Protocol.State.{ProtocolState, SeatState, seat_in, with_seat}
 use Rattle.bg_world.specs.Protocol.Step.{Step}
 use Rattle.bg_world.specs.Protocol.TickStep.{SendsOnTick, TickStep}
 use Rattle.bg_world.proofs.Protocol.Invariant.{WasSent-more}
@@ -110,7 +110,7 @@ save_at w (AsWatcher i) o v h = stays w v h.1
 
 tick_at : (w : ProtocolState) (r : Role) (o : Outcome) (v : ProtocolState) → TickStep w r o v → Grown w v
 tick_at w AsReferee o v h = if_up w.referee.up w o v _ (ticks w o v _ 2) h
-tick_at w (AsSeat q) o v h = if_up (seat w q).up w o v _ (ticks w o v _ 1) h
+tick_at w (AsSeat q) o v h = if_up (seat_in w q).up w o v _ (ticks w o v _ 1) h
 tick_at w (AsWatcher i) o v h = at_watcher w o v (slice_get w.watchers i) _ (λ log k. ticks w o v _ 1 k) h
 
 restart_at : (w : ProtocolState) (r : Role) (o : Outcome) (v : ProtocolState) → RestartStep w r o v → Grown w v

@@ -24,7 +24,7 @@ use Rattle.bg_world.specs.Promises.Claims.{AreClaimsKept}
 use Rattle.bg_world.specs.Protocol.Datagrams.{WasSent, Carries, Claimed}
 use Rattle.bg_world.specs.Promises.Refusals.{IsLegalClaim, IsSound}
 use Rattle.bg_world.specs.Protocol.Slots.{entries_in, claim_in}
-use Rattle.bg_world.specs.Protocol.State.{ProtocolState, RefereeState, SeatState, IsSetup, seat, with_seat, saved_log, start}
+use Rattle.bg_world.specs.Protocol.State.{ProtocolState, RefereeState, SeatState, IsSetup, seat_in, with_seat, saved_log}
 use Rattle.bg_world.proofs.Protocol.Lists.{prefix_trans, prefix_length, prefix_front, prefix_run, get_set}
 use Rattle.bg_world.proofs.Protocol.Saving.{SlotsOk}
 
@@ -70,7 +70,7 @@ pub record Inv (w : ProtocolState) : Type 0 where
   pub watchers : (i : ℕ) (log : List Entry) → slice_get w.watchers i ≡ Some log → IsPrefix log (saved_log w)
   pub datagrams : (to : ℕ) (p : Packet) → WasSent w.sent to p → IsSound w p
 
-pub of_seat : (w : ProtocolState) (q : Player) → Inv w → SeatOk w.id w.terms w.sent (saved_log w) q (seat w q)
+pub of_seat : (w : ProtocolState) (q : Player) → Inv w → SeatOk w.id w.terms w.sent (saved_log w) q (seat_in w q)
 of_seat w X inv = inv.x
 of_seat w O inv = inv.o
 
@@ -163,7 +163,7 @@ watcher_steps w i log inv p = record {
 
 -- what may be sent: what is sound, and of claims what the seat's slots restore
 abbrev pub IsKeptClaim : ProtocolState → Packet → Type 0
-IsKeptClaim w (packet.Claim id rules sender n a) = (q : Player) → sender ≡ party_of q → claim_in (seat w q).restorable ≡ Some (n, a)
+IsKeptClaim w (packet.Claim id rules sender n a) = (q : Player) → sender ≡ party_of q → claim_in (seat_in w q).restorable ≡ Some (n, a)
 IsKeptClaim w _ = Unit {0}
 
 abbrev pub MaySend : ProtocolState → Datagram → Type 0
@@ -248,7 +248,7 @@ sends w out inv may = record {
     new : (to : ℕ) (p : Packet) → WasSent out to p → IsSound w p × IsKeptClaim w p
     new to p h = may_send w h.0 to p (All-contains (MaySend w) out h.0 may h.1) h.2
 
-    restorable : (q : Player) (n : ℕ) (a : Action) → Claimed out q n a → claim_in (seat w q).restorable ≡ Some (n, a)
+    restorable : (q : Player) (n : ℕ) (a : Action) → Claimed out q n a → claim_in (seat_in w q).restorable ≡ Some (n, a)
     restorable q n a c = (new c.0 (packet.Claim c.1 c.2 (party_of q) n a) c.3).1 q refl
 
     at_place : (to : ℕ) (p : Packet) → WasSent w.sent to p ⊎ WasSent out to p → IsSound w p

@@ -7,7 +7,6 @@ use Rattle.bg_match.specs.declared.entries.Entry.{Entry}
 use Rattle.bg_match.specs.Match.{at_number}
 use Rattle.bg_wire.specs.Runs.{IsRun}
 use Rattle.bg_world.specs.Promises.Agreement.{IsPrefix}
-use Rattle.bg_world.specs.Protocol.State.{start}
 
 pub prefix_same : (xs : List Entry) → IsPrefix xs xs
 prefix_same xs = ([], append-nil xs)

@@ -30,7 +30,7 @@ use Rattle.bg_world.specs.Protocol.Runs.{Run, IsReached}
 use Rattle.bg_world.specs.Protocol.SaveStep.{to_save_referee, to_save_seat}
 use Rattle.bg_world.specs.Promises.Shown.{ShowsSavedAlone}
 use Rattle.bg_world.specs.Protocol.Slots.{empty_slots}
-use Rattle.bg_world.specs.Protocol.State.{ProtocolState, SeatState, IsSetup, start, seat, saved_log, log_of, restored_seat}
+use Rattle.bg_world.specs.Protocol.State.{ProtocolState, SeatState, IsSetup, protocol_start, seat_in, saved_log, log_of, restored_seat}
 use Rattle.bg_world.specs.Protocol.Step.{Step}
 use Rattle.bg_world.specs.Promises.Survival.{SavesSurvive}
 use Rattle.bg_world.proofs.Protocol.Lists.{prefix_none, prefix_same, prefix_take, prefix_trans, prefix_back, prefix_more, get_within, get_drop}
@@ -65,7 +65,7 @@ empty_watcher zero i log h = cc
 empty_watcher (suc n) zero log h = let e : log ≡ [] = cc in subst (λ (l : List Entry). IsPrefix l []) (sym e) (prefix_none [])
 empty_watcher (suc n) (suc i) log h = empty_watcher n i log h
 
-start_keeps : (id : ℕ) (terms : Terms) (watchers : ℕ) → IsSetup id terms watchers → Inv (start id terms watchers)
+start_keeps : (id : ℕ) (terms : Terms) (watchers : ℕ) → IsSetup id terms watchers → Inv (protocol_start id terms watchers)
 start_keeps id terms watchers h = record {
   setup = subst (IsSetup id terms) (sym (length-replicate watchers [])) h;
   referee = record {
@@ -190,7 +190,7 @@ no_packet_refused w inv =
 pub no_slot_refused : (w : ProtocolState) → Inv w → IsNoSlotRefused w
 no_slot_refused w inv = record {
   referee = whole_slots w.id w.terms 0 w.referee.slots w.referee.restorable inv.referee.slots;
-  seats = λ q. whole_slots w.id w.terms (party_of q) (seat w q).slots (seat w q).restorable (of_seat w q inv).slots;
+  seats = λ q. whole_slots w.id w.terms (party_of q) (seat_in w q).slots (seat_in w q).restorable (of_seat w q inv).slots;
 }
 
 -- ---- what a world relies on from one step to the next
@@ -220,8 +220,8 @@ saves_survive w inv = record {
       (after_torn w.id w.terms 0 w.referee.slots w.referee.restorable (to_save_referee w) h.0 h.1 inv.referee.slots (referee_of w) refl h.2).1;
   seat_saved = λ q k new h.
       ap (λ (x : SeatState). x.restorable) h.1.3
-      ∙ (after_whole w.id w.terms (party_of q) (seat w q).slots (seat w q).restorable (to_save_seat w.id w.terms q (seat w q)) h.1.0 h.1.1 (of_seat w q inv).slots (party_of_seat w q) refl h.1.2).1;
+      ∙ (after_whole w.id w.terms (party_of q) (seat_in w q).slots (seat_in w q).restorable (to_save_seat w.id w.terms q (seat_in w q)) h.1.0 h.1.1 (of_seat w q inv).slots (party_of_seat w q) refl h.1.2).1;
   seat_failed = λ q new h.
-      subst (λ (x : SeatState). (x.restorable ≡ (seat w q).restorable) ⊎ (x.restorable ≡ Some (to_save_seat w.id w.terms q (seat w q)))) (sym h.3)
-      (after_torn w.id w.terms (party_of q) (seat w q).slots (seat w q).restorable (to_save_seat w.id w.terms q (seat w q)) h.0 h.1 (of_seat w q inv).slots (party_of_seat w q) refl h.2).1;
+      subst (λ (x : SeatState). (x.restorable ≡ (seat_in w q).restorable) ⊎ (x.restorable ≡ Some (to_save_seat w.id w.terms q (seat_in w q)))) (sym h.3)
+      (after_torn w.id w.terms (party_of q) (seat_in w q).slots (seat_in w q).restorable (to_save_seat w.id w.terms q (seat_in w q)) h.0 h.1 (of_seat w q inv).slots (party_of_seat w q) refl h.2).1;
 }

@@ -38,7 +38,7 @@ use Rattle.bg_world.specs.Protocol.RestartStep.{RestartsTo, RestartStep}
 use Rattle.bg_world.specs.Protocol.Roles.{role}
 use Rattle.bg_world.specs.Protocol.SaveStep.{to_save_referee, to_save_seat, RefereeSaveStep, SeatSaveStep, SaveStep}
 use Rattle.bg_world.specs.Protocol.Slots.{entries_in, claim_in, SaveWritten, SaveTorn}
-use Rattle.bg_world.specs.Protocol.State.{ProtocolState, SeatState, seat, saved_log, Exists, start, restored_referee, restored_seat}
+use Rattle.bg_world.specs.Protocol.State.{ProtocolState, SeatState, seat_in, saved_log, Exists, restored_referee, restored_seat}
 use Rattle.bg_world.specs.Protocol.Step.{Step}
 use Rattle.bg_world.specs.Protocol.TickStep.{SendsOnTick, want_packet, seat_packet, TickStep}
 use Rattle.bg_referee.specs.declared.outcomes.TakeOutcome.{TakeOutcome}
@@ -74,11 +74,11 @@ of_seat_row : (w : ProtocolState) (q : Player) (v : ProtocolState) (P : SeatStat
 unfolding SeatKeeps
 of_seat_row w q v P inv f h = subst Inv (sym h.2) (seat_steps w q h.0 inv (f h.0 h.1))
 
-same_keeps : (w : ProtocolState) (q : Player) (new : SeatState) → Inv w → new ≡ seat w q → SeatKeeps w q new
+same_keeps : (w : ProtocolState) (q : Player) (new : SeatState) → Inv w → new ≡ seat_in w q → SeatKeeps w q new
 unfolding SeatKeeps
 same_keeps w q new inv e = subst (λ (f : SeatState). SeatOk w.id w.terms w.sent (saved_log w) q f) (sym e) (of_seat w q inv)
 
-when_up : (b : Bool) (w : ProtocolState) (q : Player) (o : Outcome) (new : SeatState) (P : Type 0) → Inv w → (P → SeatKeeps w q new) → IfUp b (seat w q) o new P → SeatKeeps w q new
+when_up : (b : Bool) (w : ProtocolState) (q : Player) (o : Outcome) (new : SeatState) (P : Type 0) → Inv w → (P → SeatKeeps w q new) → IfUp b (seat_in w q) o new P → SeatKeeps w q new
 when_up true w q o new P inv f h = f h
 when_up false w q o new P inv f h = same_keeps w q new inv h.1
 
@@ -168,23 +168,23 @@ seat_exists w O = omega arith
 want_may : (w : ProtocolState) (d : Datagram) (party : ℕ) (log : List Entry) → Exists w party → IsPrefix log (saved_log w) → Carries d 0 (want_packet w.id w.terms party log) → MaySend w d
 want_may w d party log there p c = (want_packet w.id w.terms party log, c.1, ((refl, refl), there, within_saved w log p), tt)
 
-seat_may : (w : ProtocolState) (q : Player) (d : Datagram) (claim : Option (ℕ × Action)) (is_saved : Bool) → Inv w → LegalClaim w.terms (saved_log w) q claim → (is_saved ≡ true → claim ≡ claim_in (seat w q).restorable)
-    → Carries d 0 (seat_packet w.id w.terms (party_of q) (seat w q).log claim is_saved) → MaySend w d
+seat_may : (w : ProtocolState) (q : Player) (d : Datagram) (claim : Option (ℕ × Action)) (is_saved : Bool) → Inv w → LegalClaim w.terms (saved_log w) q claim → (is_saved ≡ true → claim ≡ claim_in (seat_in w q).restorable)
+    → Carries d 0 (seat_packet w.id w.terms (party_of q) (seat_in w q).log claim is_saved) → MaySend w d
 seat_may w q d claim is_saved inv legal h c = at_claim claim is_saved legal h c
   where
-    want : Carries d 0 (want_packet w.id w.terms (party_of q) (seat w q).log) → MaySend w d
-    want k = want_may w d (party_of q) (seat w q).log (seat_exists w q) (of_seat w q inv).log k
+    want : Carries d 0 (want_packet w.id w.terms (party_of q) (seat_in w q).log) → MaySend w d
+    want k = want_may w d (party_of q) (seat_in w q).log (seat_exists w q) (of_seat w q inv).log k
 
-    at_test : (m : ℕ × Action) (b : Bool) → LegalClaim w.terms (saved_log w) q (Some m) → Some m ≡ claim_in (seat w q).restorable
-        → Carries d 0 (if b then packet.Claim w.id (rules_of w.terms) (party_of q) m.0 m.1 else want_packet w.id w.terms (party_of q) (seat w q).log) → MaySend w d
-    at_test m true k e g = (packet.Claim w.id (rules_of w.terms) (party_of q) m.0 m.1, g.1, ((refl, refl), (q, refl, k)), λ p f. subst (λ (r : Player). claim_in (seat w r).restorable ≡ Some (m.0, m.1)) (same_number q p f) (sym e))
+    at_test : (m : ℕ × Action) (b : Bool) → LegalClaim w.terms (saved_log w) q (Some m) → Some m ≡ claim_in (seat_in w q).restorable
+        → Carries d 0 (if b then packet.Claim w.id (rules_of w.terms) (party_of q) m.0 m.1 else want_packet w.id w.terms (party_of q) (seat_in w q).log) → MaySend w d
+    at_test m true k e g = (packet.Claim w.id (rules_of w.terms) (party_of q) m.0 m.1, g.1, ((refl, refl), (q, refl, k)), λ p f. subst (λ (r : Player). claim_in (seat_in w r).restorable ≡ Some (m.0, m.1)) (same_number q p f) (sym e))
     at_test m false k e g = want g
 
-    at_claim : (m : Option (ℕ × Action)) (b : Bool) → LegalClaim w.terms (saved_log w) q m → (b ≡ true → m ≡ claim_in (seat w q).restorable)
-        → Carries d 0 (seat_packet w.id w.terms (party_of q) (seat w q).log m b) → MaySend w d
+    at_claim : (m : Option (ℕ × Action)) (b : Bool) → LegalClaim w.terms (saved_log w) q m → (b ≡ true → m ≡ claim_in (seat_in w q).restorable)
+        → Carries d 0 (seat_packet w.id w.terms (party_of q) (seat_in w q).log m b) → MaySend w d
     at_claim None b k e g = want g
     at_claim (Some m) false k e g = want g
-    at_claim (Some m) true k e g = at_test m (nat_lt (length (seat w q).log) m.0) k (e refl) g
+    at_claim (Some m) true k e g = at_test m (nat_lt (length (seat_in w q).log) m.0) k (e refl) g
 
 -- ---- taking
 
@@ -229,7 +229,7 @@ take_at_follower w party outcomes.LinkFault old new inv p h = subst (λ (l : Lis
 take_at_follower w party outcomes.Memory old new inv p h = subst (λ (l : List Entry). IsPrefix l (saved_log w)) (sym h) p
 take_at_follower w party _ old new inv p h = absurd h
 
-seat_learns : (w : ProtocolState) (q : Player) (new : List Entry) → Inv w → IsPrefix new (saved_log w) → SeatKeeps w q (record (seat w q) { log = new })
+seat_learns : (w : ProtocolState) (q : Player) (new : List Entry) → Inv w → IsPrefix new (saved_log w) → SeatKeeps w q (record (seat_in w q) { log = new })
 unfolding SeatKeeps
 seat_learns w q new inv p =
     let s = of_seat w q inv in
@@ -237,20 +237,20 @@ seat_learns w q new inv p =
 
 -- ---- choosing
 
-below_claim : (w : ProtocolState) (q : Player) → Inv w → claim_number (claim_in (seat w q).restorable) ≤ claim_number (seat w q).claim
-below_claim w q inv = at_saved (cases_Bool (seat w q).claim_saved)
+below_claim : (w : ProtocolState) (q : Player) → Inv w → claim_number (claim_in (seat_in w q).restorable) ≤ claim_number (seat_in w q).claim
+below_claim w q inv = at_saved (cases_Bool (seat_in w q).claim_saved)
   where
-    at_saved : ((seat w q).claim_saved ≡ true) ⊎ ((seat w q).claim_saved ≡ false) → claim_number (claim_in (seat w q).restorable) ≤ claim_number (seat w q).claim
-    at_saved (inl h) = let k : claim_number (seat w q).claim ≡ claim_number (claim_in (seat w q).restorable) = ap claim_number ((of_seat w q inv).claim_old h) in omega (k, arith)
+    at_saved : ((seat_in w q).claim_saved ≡ true) ⊎ ((seat_in w q).claim_saved ≡ false) → claim_number (claim_in (seat_in w q).restorable) ≤ claim_number (seat_in w q).claim
+    at_saved (inl h) = let k : claim_number (seat_in w q).claim ≡ claim_number (claim_in (seat_in w q).restorable) = ap claim_number ((of_seat w q inv).claim_old h) in omega (k, arith)
     at_saved (inr h) = let k = (of_seat w q inv).claim_new h in omega (k, arith)
 
-chooses : (w : ProtocolState) (q : Player) (a : Action) → Inv w → CanClaim w.terms q (seat w q).log (seat w q).claim a → SeatKeeps w q (record (seat w q) { claim = Some (length (seat w q).log + 1, a); claim_saved = false })
+chooses : (w : ProtocolState) (q : Player) (a : Action) → Inv w → CanClaim w.terms q (seat_in w q).log (seat_in w q).claim a → SeatKeeps w q (record (seat_in w q) { claim = Some (length (seat_in w q).log + 1, a); claim_saved = false })
 unfolding SeatKeeps
 chooses w q a inv h =
     let s = of_seat w q inv in
     let k = below_claim w q inv in
     let free = h.1 in
-    let front = prefix_whole (seat w q).log (saved_log w) s.log in
+    let front = prefix_whole (seat_in w q).log (saved_log w) s.log in
     record {
       log = s.log;
       kept_log = s.kept_log;
@@ -258,9 +258,9 @@ chooses w q a inv h =
       claim_old = λ e. cc;
       claim_new = λ e. omega (k, free, arith);
       claim_legal = record {
-        before = length (seat w q).log;
+        before = length (seat_in w q).log;
         number = refl;
-        within = prefix_length (seat w q).log (saved_log w) s.log;
+        within = prefix_length (seat_in w q).log (saved_log w) s.log;
         acts = subst (λ (l : List Entry). ActsAfter w.terms l (Seat q)) (sym front) h.0;
         entry = h.2.0;
         of_action = h.2.1;
@@ -291,7 +291,7 @@ restores_referee w slots restorable up inv ok p q = referee_steps w (restored_re
 pub referee_of : (w : ProtocolState) → IsSavedBy 0 w.id w.terms (to_save_referee w)
 referee_of w = record { party = refl; id = refl; terms = refl }
 
-pub seat_of : (w : ProtocolState) (q : Player) → IsSavedBy (party_of q) w.id w.terms (to_save_seat w.id w.terms q (seat w q))
+pub seat_of : (w : ProtocolState) (q : Player) → IsSavedBy (party_of q) w.id w.terms (to_save_seat w.id w.terms q (seat_in w q))
 seat_of w q = record { party = refl; id = refl; terms = refl }
 
 saves_referee : (w : ProtocolState) (slots : Slots) (restorable : Option SavedParts) → Inv w → SaveWritten (to_save_referee w) w.referee.slots slots restorable → Inv (record w { referee = record (w.referee) { saved = length w.referee.log; slots = slots; restorable = restorable } })
@@ -333,10 +333,10 @@ save_at_referee w outcomes.Memory v inv h = stays w v inv h
 save_at_referee w _ v inv h = absurd h
 
 -- The claims that were sent are restorable by a save of a seat: its claim is the restorable one, or has a greater number.
-claims_kept : (w : ProtocolState) (q : Player) → Inv w → AreClaimsKept w.sent q (seat w q).claim
-claims_kept w q inv = at_saved (cases_Bool (seat w q).claim_saved)
+claims_kept : (w : ProtocolState) (q : Player) → Inv w → AreClaimsKept w.sent q (seat_in w q).claim
+claims_kept w q inv = at_saved (cases_Bool (seat_in w q).claim_saved)
   where
-    at_saved : ((seat w q).claim_saved ≡ true) ⊎ ((seat w q).claim_saved ≡ false) → AreClaimsKept w.sent q (seat w q).claim
+    at_saved : ((seat_in w q).claim_saved ≡ true) ⊎ ((seat_in w q).claim_saved ≡ false) → AreClaimsKept w.sent q (seat_in w q).claim
     at_saved (inl h) = subst (AreClaimsKept w.sent q) (sym ((of_seat w q inv).claim_old h)) (of_seat w q inv).claims
     at_saved (inr h) =
         let s = of_seat w q inv in
@@ -347,11 +347,11 @@ claims_kept w q inv = at_saved (cases_Bool (seat w q).claim_saved)
           one = s.claims.one;
         }
 
-saves_seat : (w : ProtocolState) (q : Player) (slots : Slots) (restorable : Option SavedParts) → Inv w → SaveWritten (to_save_seat w.id w.terms q (seat w q)) (seat w q).slots slots restorable → SeatKeeps w q (record (seat w q) { claim_saved = true; slots = slots; restorable = restorable })
+saves_seat : (w : ProtocolState) (q : Player) (slots : Slots) (restorable : Option SavedParts) → Inv w → SaveWritten (to_save_seat w.id w.terms q (seat_in w q)) (seat_in w q).slots slots restorable → SeatKeeps w q (record (seat_in w q) { claim_saved = true; slots = slots; restorable = restorable })
 unfolding SeatKeeps
 saves_seat w q slots restorable inv h =
     let s = of_seat w q inv in
-    let new = after_whole w.id w.terms (party_of q) (seat w q).slots (seat w q).restorable (to_save_seat w.id w.terms q (seat w q)) slots restorable s.slots (seat_of w q) refl h in
+    let new = after_whole w.id w.terms (party_of q) (seat_in w q).slots (seat_in w q).restorable (to_save_seat w.id w.terms q (seat_in w q)) slots restorable s.slots (seat_of w q) refl h in
     record {
       log = s.log;
       kept_log = subst (λ (l : List Entry). IsPrefix l (saved_log w)) (sym (ap entries_in new.1)) s.log;
@@ -378,40 +378,40 @@ restores_seat w q slots restorable up inv ok p l c =
       claims = c;
     }
 
-tears_seat : (w : ProtocolState) (q : Player) (slots : Slots) (restorable : Option SavedParts) → Inv w → SaveTorn (to_save_seat w.id w.terms q (seat w q)) (seat w q).slots slots restorable → SeatKeeps w q (restored_seat slots restorable false)
+tears_seat : (w : ProtocolState) (q : Player) (slots : Slots) (restorable : Option SavedParts) → Inv w → SaveTorn (to_save_seat w.id w.terms q (seat_in w q)) (seat_in w q).slots slots restorable → SeatKeeps w q (restored_seat slots restorable false)
 tears_seat w q slots restorable inv h =
-    let new = after_torn w.id w.terms (party_of q) (seat w q).slots (seat w q).restorable (to_save_seat w.id w.terms q (seat w q)) slots restorable (of_seat w q inv).slots (seat_of w q) refl h in
+    let new = after_torn w.id w.terms (party_of q) (seat_in w q).slots (seat_in w q).restorable (to_save_seat w.id w.terms q (seat_in w q)) slots restorable (of_seat w q inv).slots (seat_of w q) refl h in
     restores_seat w q slots restorable false inv new.0 (log new.1) (legal new.1) (claims new.1)
   where
-    log : (restorable ≡ (seat w q).restorable) ⊎ (restorable ≡ Some (to_save_seat w.id w.terms q (seat w q))) → IsPrefix (entries_in restorable) (saved_log w)
+    log : (restorable ≡ (seat_in w q).restorable) ⊎ (restorable ≡ Some (to_save_seat w.id w.terms q (seat_in w q))) → IsPrefix (entries_in restorable) (saved_log w)
     log (inl e) = subst (λ (l : List Entry). IsPrefix l (saved_log w)) (sym (ap entries_in e)) (of_seat w q inv).kept_log
     log (inr e) = subst (λ (l : List Entry). IsPrefix l (saved_log w)) (sym (ap entries_in e)) (of_seat w q inv).log
 
-    legal : (restorable ≡ (seat w q).restorable) ⊎ (restorable ≡ Some (to_save_seat w.id w.terms q (seat w q))) → LegalClaim w.terms (saved_log w) q (claim_in restorable)
+    legal : (restorable ≡ (seat_in w q).restorable) ⊎ (restorable ≡ Some (to_save_seat w.id w.terms q (seat_in w q))) → LegalClaim w.terms (saved_log w) q (claim_in restorable)
     legal (inl e) = subst (LegalClaim w.terms (saved_log w) q) (sym (ap claim_in e)) (of_seat w q inv).kept_legal
     legal (inr e) = subst (LegalClaim w.terms (saved_log w) q) (sym (ap claim_in e)) (of_seat w q inv).claim_legal
 
-    claims : (restorable ≡ (seat w q).restorable) ⊎ (restorable ≡ Some (to_save_seat w.id w.terms q (seat w q))) → AreClaimsKept w.sent q (claim_in restorable)
+    claims : (restorable ≡ (seat_in w q).restorable) ⊎ (restorable ≡ Some (to_save_seat w.id w.terms q (seat_in w q))) → AreClaimsKept w.sent q (claim_in restorable)
     claims (inl e) = subst (AreClaimsKept w.sent q) (sym (ap claim_in e)) (of_seat w q inv).claims
     claims (inr e) = subst (AreClaimsKept w.sent q) (sym (ap claim_in e)) (claims_kept w q inv)
 
 keeps_at : (w : ProtocolState) (q : Player) (new f : SeatState) → new ≡ f → SeatKeeps w q f → SeatKeeps w q new
 keeps_at w q new f e h = subst (SeatKeeps w q) (sym e) h
 
-save_at_seat : (w : ProtocolState) (q : Player) (o : Outcome) (new : SeatState) → Inv w → SeatSaveStep w.id w.terms q o (seat w q) new → SeatKeeps w q new
+save_at_seat : (w : ProtocolState) (q : Player) (o : Outcome) (new : SeatState) → Inv w → SeatSaveStep w.id w.terms q o (seat_in w q) new → SeatKeeps w q new
 save_at_seat w q (outcomes.Saved k) new inv h = keeps_at w q new _ h.1.3 (saves_seat w q h.1.0 h.1.1 inv h.1.2)
 save_at_seat w q outcomes.SaveFault new inv h = keeps_at w q new _ h.3 (tears_seat w q h.0 h.1 inv h.2)
 save_at_seat w q outcomes.SavesSpent new inv h = same_keeps w q new inv h
 save_at_seat w q outcomes.Memory new inv h = same_keeps w q new inv h
 save_at_seat w q _ new inv h = absurd h
 
-restart_seat : (w : ProtocolState) (q : Player) (o : Outcome) (new : SeatState) → Inv w → RestartsTo o (λ up. new ≡ restored_seat (seat w q).slots (seat w q).restorable up) → SeatKeeps w q new
+restart_seat : (w : ProtocolState) (q : Player) (o : Outcome) (new : SeatState) → Inv w → RestartsTo o (λ up. new ≡ restored_seat (seat_in w q).slots (seat_in w q).restorable up) → SeatKeeps w q new
 restart_seat w q o new inv h = at_outcome o h
   where
-    restorable : (up : Bool) → SeatKeeps w q (restored_seat (seat w q).slots (seat w q).restorable up)
-    restorable up = let s = of_seat w q inv in restores_seat w q (seat w q).slots (seat w q).restorable up inv s.slots s.kept_log s.kept_legal s.claims
+    restorable : (up : Bool) → SeatKeeps w q (restored_seat (seat_in w q).slots (seat_in w q).restorable up)
+    restorable up = let s = of_seat w q inv in restores_seat w q (seat_in w q).slots (seat_in w q).restorable up inv s.slots s.kept_log s.kept_legal s.claims
 
-    at_outcome : (p : Outcome) → RestartsTo p (λ up. new ≡ restored_seat (seat w q).slots (seat w q).restorable up) → SeatKeeps w q new
+    at_outcome : (p : Outcome) → RestartsTo p (λ up. new ≡ restored_seat (seat_in w q).slots (seat_in w q).restorable up) → SeatKeeps w q new
     at_outcome outcomes.Restarted k = keeps_at w q new _ k (restorable true)
     at_outcome (outcomes.RestoreFault cause) k = keeps_at w q new _ k (restorable false)
     at_outcome outcomes.Memory k = keeps_at w q new _ k (restorable false)
@@ -434,31 +434,31 @@ due w word (outcomes.Due (Ok n)) v inv h = subst Inv (sym h.2) (opens w word h.0
 due w word (outcomes.Due (Err f)) v inv h = stays w v inv h.1
 due w word _ v inv h = absurd h
 
-choose : (w : ProtocolState) (q : Player) (a : Action) (o : Outcome) (new : SeatState) → Inv w → ChooseStep w.terms q a o (seat w q) new → SeatKeeps w q new
+choose : (w : ProtocolState) (q : Player) (a : Action) (o : Outcome) (new : SeatState) → Inv w → ChooseStep w.terms q a o (seat_in w q) new → SeatKeeps w q new
 choose w q a (outcomes.Chose (Ok n)) new inv h =
-    keeps_at w q new _ (h.2 ∙ ap (λ (m : ℕ). record (seat w q) { claim = Some (m, a); claim_saved = false }) h.1) (chooses w q a inv h.0)
+    keeps_at w q new _ (h.2 ∙ ap (λ (m : ℕ). record (seat_in w q) { claim = Some (m, a); claim_saved = false }) h.1) (chooses w q a inv h.0)
 choose w q a (outcomes.Chose (Err f)) new inv h = same_keeps w q new inv h.1
 choose w q a _ new inv h = absurd h
 
-prefix_of : (w : ProtocolState) (q : Player) → Inv w → IsPrefix (seat w q).log (saved_log w)
+prefix_of : (w : ProtocolState) (q : Player) → Inv w → IsPrefix (seat_in w q).log (saved_log w)
 prefix_of w q inv = (of_seat w q inv).log
 
 take_at : (w : ProtocolState) (r : Role) (word : ℕ) (o : Outcome) (v : ProtocolState) → Inv w → TakeStep w r word o v → Inv v
 take_at w AsReferee word o v inv h = if_up w.referee.up w o v _ inv (take_at_referee w word o v inv) h
 take_at w (AsSeat q) word o v inv h =
-    of_seat_row w q v _ inv (λ new. when_up (seat w q).up w q o new _ inv (λ k. keeps_at w q new _ k.2 (seat_learns w q k.0 inv (take_at_follower w (party_of q) o (seat w q).log k.0 inv (prefix_of w q inv) k.1)))) h
+    of_seat_row w q v _ inv (λ new. when_up (seat_in w q).up w q o new _ inv (λ k. keeps_at w q new _ k.2 (seat_learns w q k.0 inv (take_at_follower w (party_of q) o (seat_in w q).log k.0 inv (prefix_of w q inv) k.1)))) h
 take_at w (AsWatcher i) word o v inv h =
     at_watcher w o v (slice_get w.watchers i) _ inv (λ old e k. subst Inv (sym k.2) (watcher_steps w i k.0 inv (take_at_follower w (3 + i) o old k.0 inv (inv.watchers i old e) k.1))) h
 
 save_at : (w : ProtocolState) (r : Role) (o : Outcome) (v : ProtocolState) → Inv w → SaveStep w r o v → Inv v
 save_at w AsReferee o v inv h = if_up w.referee.up w o v _ inv (save_at_referee w o v inv) h
-save_at w (AsSeat q) o v inv h = of_seat_row w q v _ inv (λ new. when_up (seat w q).up w q o new _ inv (save_at_seat w q o new inv)) h
+save_at w (AsSeat q) o v inv h = of_seat_row w q v _ inv (λ new. when_up (seat_in w q).up w q o new _ inv (save_at_seat w q o new inv)) h
 save_at w (AsWatcher i) o v inv h = stays w v inv h.1
 
 tick_at : (w : ProtocolState) (r : Role) (o : Outcome) (v : ProtocolState) → Inv w → TickStep w r o v → Inv v
 tick_at w AsReferee o v inv h = if_up w.referee.up w o v _ inv (ticks w o v _ 2 inv (λ d k. of_saved_may w d k.1)) h
 tick_at w (AsSeat q) o v inv h =
-    if_up (seat w q).up w o v _ inv (ticks w o v _ 1 inv (λ d k. seat_may w q d (seat w q).claim (seat w q).claim_saved inv (of_seat w q inv).claim_legal (of_seat w q inv).claim_old k)) h
+    if_up (seat_in w q).up w o v _ inv (ticks w o v _ 1 inv (λ d k. seat_may w q d (seat_in w q).claim (seat_in w q).claim_saved inv (of_seat w q inv).claim_legal (of_seat w q inv).claim_old k)) h
 tick_at w (AsWatcher i) o v inv h = at_watcher w o v (slice_get w.watchers i) _ inv (λ log e k. ticks w o v _ 1 inv (λ d m. want_may w d (3 + i) log (let l = slice_get_within w.watchers i log e in omega (l, arith)) (inv.watchers i log e) m) k) h
 
 restart_at : (w : ProtocolState) (r : Role) (o : Outcome) (v : ProtocolState) → Inv w → RestartStep w r o v → Inv v
@@ -474,7 +474,7 @@ restart_at w (AsWatcher i) o v inv h = at_watcher w o v (slice_get w.watchers i)
 pub step_keeps : (w : ProtocolState) (e : Event) (o : Outcome) (v : ProtocolState) → Inv w → Step w e o v → Inv v
 step_keeps w (events.Due word) o v inv h = if_up w.referee.up w o v _ inv (due w word o v inv) h
 step_keeps w (events.Take party pick word) o v inv h = take_at w (role party) word o v inv h
-step_keeps w (events.Choose q a) o v inv h = of_seat_row w q v _ inv (λ new. when_up (seat w q).up w q o new _ inv (choose w q a o new inv)) h
+step_keeps w (events.Choose q a) o v inv h = of_seat_row w q v _ inv (λ new. when_up (seat_in w q).up w q o new _ inv (choose w q a o new inv)) h
 step_keeps w (events.Save party) o v inv h = save_at w (role party) o v inv h
 step_keeps w (events.Tick party) o v inv h = tick_at w (role party) o v inv h
 step_keeps w (events.Restart party) o v inv h = restart_at w (role party) o v inv h

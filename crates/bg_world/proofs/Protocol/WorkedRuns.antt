@@ -43,7 +43,7 @@ use Rattle.bg_world.specs.Protocol.Datagrams.{Carries, WasSent}
 use Rattle.bg_world.specs.Protocol.DueStep.{with_entry}
 use Rattle.bg_world.specs.Protocol.RefereeTakeStep.{ReplyStep}
 use Rattle.bg_world.specs.Protocol.Runs.{Run, IsReached}
-use Rattle.bg_world.specs.Protocol.State.{ProtocolState, with_seat, saved_log, log_of, start}
+use Rattle.bg_world.specs.Protocol.State.{ProtocolState, with_seat, saved_log, log_of, protocol_start}
 use Rattle.bg_world.specs.Protocol.Step.{Step}
 use Rattle.bg_world.proofs.Protocol.Lists.{prefix_length}
 use Rattle.bg_world.proofs.Protocol.Reached.{reached, agreement}
@@ -239,7 +239,7 @@ turn_fits = record {
 
 -- match 1, which is played to one point, with one watcher
 abbrev started : ProtocolState
-started = start 1 one_point 1
+started = protocol_start 1 one_point 1
 
 abbrev opened : ProtocolState
 opened = with_entry started opening

@@ -27,7 +27,7 @@ use Rattle.bg_world.specs.Protocol.Roles.{role}
 use Rattle.bg_world.specs.Protocol.Runs.{Run}
 use Rattle.bg_world.specs.Protocol.SaveStep.{RefereeSaveStep, SaveStep, to_save_referee}
 use Rattle.bg_world.specs.Protocol.Slots.{entries_in}
-use Rattle.bg_world.specs.Protocol.State.{SeatState, ProtocolState, restored_referee, seat, with_seat}
+use Rattle.bg_world.specs.Protocol.State.{SeatState, ProtocolState, restored_referee, seat_in, with_seat}
 use Rattle.bg_world.specs.Protocol.Step.{Step}
 use Rattle.bg_world.specs.Protocol.TakeStep.{TakeStep}
 use Rattle.bg_world.specs.Protocol.TickStep.{SendsOnTick, TickStep}
@@ -176,7 +176,7 @@ module _ (IsWord : ℕ → Type 0) where
 
   tick_at : (w : ProtocolState) (r : Role) (o : Outcome) (v : ProtocolState) → Shows w → TickStep w r o v → Shows v
   tick_at w AsReferee o v s h = if_up w.referee.up w o v _ s (ticks w o v _ 2 s) h
-  tick_at w (AsSeat q) o v s h = if_up (seat w q).up w o v _ s (ticks w o v _ 1 s) h
+  tick_at w (AsSeat q) o v s h = if_up (seat_in w q).up w o v _ s (ticks w o v _ 1 s) h
   tick_at w (AsWatcher i) o v s h = at_watcher w o v (slice_get w.watchers i) _ s (λ log k. ticks w o v _ 1 s k) h
 
   restart_at : (w : ProtocolState) (r : Role) (o : Outcome) (v : ProtocolState) → Inv w → Shows w → RestartStep w r o v → Shows v

@@ -12,7 +12,7 @@ use Rattle.bg_world.specs.Protocol.Runs.{IsReached, Run}
 use Rattle.bg_world.specs.Protocol.Step.{Step}
 use Rattle.bg_world.specs.Worlds.Simulations.{IsOfWords}
 use Rattle.bg_world.specs.Worlds.Starts.{AreUnused, fresh_world, terms_in}
-use Rattle.bg_world.specs.Protocol.State.{IsSetup, ProtocolState, start}
+use Rattle.bg_world.specs.Protocol.State.{IsSetup, ProtocolState, protocol_start}
 use Rattle.bg_world.specs.Worlds.Views.{KeeperView, LinkView, WorldView}
 use Rattle.bg_world.specs.Worlds.WorldRuns.{RunsProtocol, history_of}
 use Rattle.bg_world.specs.Worlds.WorldState.{IsReachedWorld, KeepsWhatWasShown, Restorable, protocol_state, referee_state, seat_state}
@@ -101,7 +101,7 @@ of_words setup link referee x o events outcomes new is unused h =
     let to = interleaved (fresh_world setup link referee x o) events outcomes new h begun in
     let first = start_state setup link referee x o unused.none_sent unused.referee_empty unused.x_empty
     unused.o_empty is in
-    let w = start setup.id (terms_in setup) setup.watchers in
+    let w = protocol_start setup.id (terms_in setup) setup.watchers in
     record {
       reached = to.0;
       words = run_shows (HandsIn events) w events outcomes (protocol_state new (to.0).restorable)

@@ -6,7 +6,7 @@ use Rattle.bg_wire.specs.Entries.Codes.{referee, seat_of_x, seat_of_o}
 use Rattle.bg_world.specs.Worlds.Starts.{terms_in}
 use Rattle.bg_world.specs.Worlds.DiceWords.{HandsIn, ShowsWord}
 use Rattle.bg_world.specs.Worlds.Simulations.{IsEmptyPlan, IsOfWords, NoneFailed, Simulates, start_in_memory, unused_keeper, unused_link}
-use Rattle.bg_world.specs.Protocol.State.{IsSetup, ProtocolState, start}
+use Rattle.bg_world.specs.Protocol.State.{IsSetup, ProtocolState, protocol_start}
 use Rattle.bg_world.specs.Protocol.Runs.{Run}
 use Rattle.bg_world.specs.Worlds.Views.{WorldView}
 use Rattle.bg_world.specs.Worlds.WorldRuns.{RunsAll, history_of}
@@ -34,7 +34,7 @@ module _ (setup : Setup) (plan : Plan) (is_setup : IsSetup setup.id (terms_in se
       start_reached setup (unused_link plan) (unused_keeper referee plan) (unused_keeper seat_of_x plan)
       (unused_keeper seat_of_o plan) refl refl refl refl is_setup
 
-  from_start : protocol_state (start_in_memory setup plan) begin.restorable ≡ start setup.id (terms_in setup) setup.watchers
+  from_start : protocol_state (start_in_memory setup plan) begin.restorable ≡ protocol_start setup.id (terms_in setup) setup.watchers
   unfolding begin
   from_start =
       start_state setup (unused_link plan) (unused_keeper referee plan) (unused_keeper seat_of_x plan)

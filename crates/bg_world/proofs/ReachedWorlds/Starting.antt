@@ -17,7 +17,7 @@ use Rattle.bg_party.specs.Views.{WatcherView, fresh_follower, fresh_watcher}
 use Rattle.bg_world.specs.declared.worlds.setups.Setup.{Setup}
 use Rattle.bg_world.specs.Protocol.Slots.{empty_slots}
 use Rattle.bg_world.specs.Worlds.Starts.{terms_in, AreUnused, fresh_watchers, fresh_world}
-use Rattle.bg_world.specs.Protocol.State.{IsSetup, start}
+use Rattle.bg_world.specs.Protocol.State.{IsSetup, protocol_start}
 use Rattle.bg_world.specs.Worlds.Views.{KeeperView, LinkView, WorldView}
 use Rattle.bg_world.specs.Worlds.WorldState.{CoresMatch, IsReachedWorld, Restorable, WatcherMatches, WatchersMatch, protocol_state}
 use Rattle.bg_world.specs.Worlds.WorldState.{watcher_entries}
@@ -103,9 +103,9 @@ nothing = record { referee = None; x = None; o = None }
 module _ (setup : Setup) (link : LinkView) (referee x o : KeeperView) (no_sent : link.sent ≡ [])
     (no_referee : referee.slots ≡ empty_slots)
     (no_x : x.slots ≡ empty_slots) (no_o : o.slots ≡ empty_slots) where
-  start_is : protocol_state (fresh_world setup link referee x o) nothing ≡ start setup.id (terms_in setup) setup.watchers
+  start_is : protocol_state (fresh_world setup link referee x o) nothing ≡ protocol_start setup.id (terms_in setup) setup.watchers
   start_is =
-      let w = start setup.id (terms_in setup) setup.watchers in
+      let w = protocol_start setup.id (terms_in setup) setup.watchers in
       ap₂ (λ (s : List Datagram) (l : List (List Entry)). record w {
         referee = record (w.referee) { slots = referee.slots };
         x = record (w.x) { slots = x.slots };
@@ -151,7 +151,7 @@ module _ (setup : Setup) (link : LinkView) (referee x o : KeeperView) (no_sent :
 
   pub start_state : (is : IsSetup setup.id (terms_in setup) setup.watchers)
       → protocol_state (fresh_world setup link referee x o) (start_reached is).restorable
-      ≡ start setup.id (terms_in setup) setup.watchers
+      ≡ protocol_start setup.id (terms_in setup) setup.watchers
   unfolding start_reached
   start_state is = start_is
 

@@ -18,7 +18,7 @@ use Rattle.bg_world.specs.Protocol.Roles.{role}
 use Rattle.bg_world.specs.Protocol.Slots.{claim_in}
 use Rattle.bg_world.specs.Worlds.Starts.{held_of, referee_log, seat_log}
 use Rattle.bg_world.specs.Worlds.Starts as starts
-use Rattle.bg_world.specs.Protocol.State.{log_as, seat}
+use Rattle.bg_world.specs.Protocol.State.{log_as, seat_in}
 use Rattle.bg_world.specs.Worlds.Upholds.{HeadlineHeld, Upholds}
 use Rattle.bg_world.specs.Worlds.Views.{WorldView, seat_core}
 use Rattle.bg_world.specs.Worlds.WorldState.{CoresMatch, IsLogOf, IsReachedWorld, RefereeMatches, Restorable, SeatMatches}
@@ -93,7 +93,7 @@ headline_held w c fits headline log up =
 
 -- what the slots of a seat restore is what the state says
 restorable_of_seat : (w : WorldView) (c : Restorable) (q : Player)
-    → (seat (protocol_state w c) q).restorable ≡ restorable_of c q
+    → (seat_in (protocol_state w c) q).restorable ≡ restorable_of c q
 restorable_of_seat w c X = at_x w.x
   where
     at_x : (s : Option SeatView) → (seat_state s w.x_keeper.slots c.x).restorable ≡ c.x

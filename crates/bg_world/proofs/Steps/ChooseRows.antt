@@ -16,7 +16,7 @@ use Rattle.bg_world.specs.Worlds.WorldState.{CoresMatch, Restorable, SeatMatches
 use Rattle.bg_world.specs.Worlds.Calls.{ChooseCalls, NoCalls}
 use Rattle.bg_world.specs.Worlds.Views.{WorldView, seat_core, seat_keeper, with_seat_core}
 use Rattle.bg_world.specs.Protocol.Frames.{IfUp, SeatChanges}
-use Rattle.bg_world.specs.Protocol.State.{SeatState, seat}
+use Rattle.bg_world.specs.Protocol.State.{SeatState, seat_in}
 use Rattle.bg_world.specs.Protocol.ChooseStep.{ChooseStep}
 use Rattle.bg_world.proofs.Steps.Sides.{StepsTo, seat_side, seat_moves, seat_stays, down_row}
 
@@ -66,7 +66,7 @@ pub choose_goes : (w : WorldView) (c : Restorable) (q : Player) (a : Action) (o 
 choose_goes w c q a o new fits h = at (seat_core w q) (seat_side w c q fits) refl h
   where
     went : (x : Outcome) (n : WorldView) → o ≡ x → new ≡ n
-        → SeatChanges (protocol_state w c) q (protocol_state n c) (ChooseRow w.terms q a x (seat (protocol_state w c) q))
+        → SeatChanges (protocol_state w c) q (protocol_state n c) (ChooseRow w.terms q a x (seat_in (protocol_state w c) q))
         → CoresMatch n c → StepsTo w c (events.Choose q a) o new
     went x n e f row fit =
         subst (λ (y : Outcome). StepsTo w c (events.Choose q a) y new) (sym e)

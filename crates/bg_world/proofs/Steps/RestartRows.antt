@@ -23,7 +23,7 @@ use Rattle.bg_world.specs.Protocol.RestartStep.{RestartStep, RestartsTo}
 use Rattle.bg_world.specs.Worlds.Views.{WorldView, seat_core, seat_keeper, with_seat_core, with_seat_keeper}
 use Rattle.bg_world.specs.Devices.KeeperCalls.{ComesUp}
 use Rattle.bg_world.specs.Protocol.Frames.{NoParty, SeatChanges}
-use Rattle.bg_world.specs.Protocol.State.{RefereeState, SeatState, restored_referee, restored_seat, seat}
+use Rattle.bg_world.specs.Protocol.State.{RefereeState, SeatState, restored_referee, restored_seat, seat_in}
 use Rattle.bg_world.proofs.Protocol.Saving.{number_after}
 use Rattle.bg_world.proofs.Protocol.Invariant.{Inv}
 use Rattle.bg_world.proofs.Steps.Sides.{seat_side, seat_saves, slots_of_referee, slots_of_seat, watchers_match, get_log, set_log}
@@ -197,7 +197,7 @@ restart_seat_goes w c honest is_honest q o new fits inv h =
     (subst (λ (x : Slots). SlotsRestore x.zero x.one found) (sym read.1) side.0, both.1) in
     subst (λ (n : WorldView). RestartStep (protocol_state w c) (roles.Seat q) o (protocol_state n c) × CoresMatch n c) (sym h.3)
     (subst (λ (d : Restorable). SeatChanges (protocol_state w c) q
-    (protocol_state (with_seat_keeper (with_seat_core w q s) q k) d) (BackRow o (seat (protocol_state w c) q))
+    (protocol_state (with_seat_keeper (with_seat_core w q s) q k) d) (BackRow o (seat_in (protocol_state w c) q))
     × CoresMatch (with_seat_keeper (with_seat_core w q s) q k) d) (same_restorable c q) moved)
 
 -- ---- a watcher

@@ -19,7 +19,7 @@ use Rattle.bg_world.specs.declared.events.Outcome.TheVariants as outcomes
 use Rattle.bg_world.specs.Worlds.WorldState.{CoresMatch, Restorable, SeatSide, WatcherMatches, WatchersMatch, referee_state, restorable_of, seat_state, protocol_state, watcher_entries, with_restorable}
 use Rattle.bg_world.specs.Worlds.Views.{KeeperView, LinkView, WorldView, seat_core, seat_keeper, with_seat_core, with_seat_keeper}
 use Rattle.bg_world.specs.Protocol.Frames.{IfUp, SeatChanges}
-use Rattle.bg_world.specs.Protocol.State.{SeatState, seat}
+use Rattle.bg_world.specs.Protocol.State.{SeatState, seat_in}
 use Rattle.bg_world.specs.Protocol.Step.{Step}
 use Rattle.bg_world.proofs.Protocol.Saving.{SlotsOk}
 use Rattle.bg_world.proofs.Protocol.Invariant.{Inv}
@@ -50,7 +50,7 @@ pub seat_moves : (w : WorldView) (c : Restorable) (q : Player) (n : LinkView) (s
     (seat_state s (seat_keeper w q).slots (restorable_of c q))
     → SeatSide w.id w.terms q s (seat_keeper w q) (restorable_of c q)
     → SeatChanges (protocol_state w c) q (protocol_state (with_seat_core (record w { link = n }) q s) c)
-    (P (seat (protocol_state w c) q))
+    (P (seat_in (protocol_state w c) q))
     × CoresMatch (with_seat_core (record w { link = n }) q s) c
 seat_moves w c X n s P fits same p side = (
   (
@@ -76,7 +76,7 @@ pub seat_saves : (w : WorldView) (c : Restorable) (q : Player) (s : Option SeatV
     → P (seat_state (seat_core w q) (seat_keeper w q).slots (restorable_of c q)) (seat_state s k.slots found)
     → SeatSide w.id w.terms q s k found
     → SeatChanges (protocol_state w c) q (protocol_state (with_seat_keeper (with_seat_core w q s) q k)
-    (with_restorable c q found)) (P (seat (protocol_state w c) q))
+    (with_restorable c q found)) (P (seat_in (protocol_state w c) q))
     × CoresMatch (with_seat_keeper (with_seat_core w q s) q k) (with_restorable c q found)
 seat_saves w c X s k found P fits p side = (
   (seat_state s k.slots found, p, refl),
@@ -136,7 +136,7 @@ seat_down (Some s) slots found e = absurd cc
 pub seat_stays : (w : WorldView) (c : Restorable) (q : Player) (P : SeatState → SeatState → Type 0)
     → seat_core w q ≡ None
     → ((s : SeatState) → s.up ≡ false → P s s)
-    → SeatChanges (protocol_state w c) q (protocol_state w c) (P (seat (protocol_state w c) q))
+    → SeatChanges (protocol_state w c) q (protocol_state w c) (P (seat_in (protocol_state w c) q))
 seat_stays w c X P none p = (
   seat_state w.x w.x_keeper.slots c.x,
   p (seat_state w.x w.x_keeper.slots c.x) (seat_down w.x w.x_keeper.slots c.x none),

@@ -9,7 +9,7 @@ use Rattle.bg_wire.specs.Saved.SavedText.{SavedParts}
 use Rattle.bg_wire.specs.Saved.SlotLaws.{Slots, GivesBack}
 use Rattle.bg_wire.specs.declared.faults.RestoreRefusal.{RestoreRefusal}
 use Rattle.bg_wire.specs.declared.saves.Saved.{Saved}
-use Rattle.bg_world.specs.Protocol.State.{ProtocolState, seat}
+use Rattle.bg_world.specs.Protocol.State.{ProtocolState, seat_in}
 
 -- whatever `bg_wire::restore` answers to this party of the match, of the bytes of these slots: it is this, or memory
 -- was wanted
@@ -22,4 +22,4 @@ IsGivenBack id terms party slots restorable =
 pub record AreSlotsGivenBack (w : ProtocolState) : Type 0 where
   pub referee : IsGivenBack w.id w.terms referee w.referee.slots w.referee.restorable
   pub seats : (player : Player)
-      → IsGivenBack w.id w.terms (party_of player) (seat w player).slots (seat w player).restorable
+      → IsGivenBack w.id w.terms (party_of player) (seat_in w player).slots (seat_in w player).restorable

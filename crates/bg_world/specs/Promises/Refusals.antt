@@ -20,7 +20,7 @@ use Rattle.bg_wire.specs.declared.packets.Packet.TheVariants as packet
 use Rattle.bg_party.specs.Claims.{trial_dice}
 use Rattle.bg_party.specs.Learns.{Agrees, new_entries}
 use Rattle.bg_world.specs.Protocol.Datagrams.{WasSent}
-use Rattle.bg_world.specs.Protocol.State.{ProtocolState, Exists, saved_log, log_of, seat}
+use Rattle.bg_world.specs.Protocol.State.{ProtocolState, Exists, saved_log, log_of, seat_in}
 
 -- the claim could be made after a front of the saved entries: the seat acts there, and the action's entry may follow
 pub record IsLegalClaim (terms : Terms) (saved : List Entry) (player : Player) (n : ℕ) (action : Action) : Type 0 where
@@ -83,4 +83,4 @@ pub record AreWhole (id : ℕ) (terms : Terms) (party : ℕ) (slots : Slots) (re
 pub record IsNoSlotRefused (w : ProtocolState) : Type 0 where
   pub referee : AreWhole w.id w.terms referee w.referee.slots w.referee.restorable
   pub seats : (player : Player)
-      → AreWhole w.id w.terms (party_of player) (seat w player).slots (seat w player).restorable
+      → AreWhole w.id w.terms (party_of player) (seat_in w player).slots (seat_in w player).restorable

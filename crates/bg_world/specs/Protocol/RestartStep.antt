@@ -5,7 +5,7 @@ use Rattle.bg_world.specs.declared.events.Outcome.TheVariants as outcomes
 use Rattle.bg_world.specs.declared.roles.Role.{Role}
 use Rattle.bg_world.specs.declared.roles.Role.TheVariants.{Referee as AsReferee, Seat as AsSeat, Watcher as AsWatcher}
 use Rattle.bg_world.specs.Protocol.Frames.{SeatChanges, AtWatcher}
-use Rattle.bg_world.specs.Protocol.State.{ProtocolState, restored_referee, restored_seat, seat}
+use Rattle.bg_world.specs.Protocol.State.{ProtocolState, restored_referee, restored_seat, seat_in}
 
 -- a restart leaves the party up, or down where the slots or memory failed
 abbrev pub RestartsTo : Outcome → (Bool → Type 0) → Type 0
@@ -20,7 +20,7 @@ RestartStep w AsReferee o v =
     RestartsTo o (λ up. v ≡ record w { referee = restored_referee w.referee.slots w.referee.restorable up })
 RestartStep w (AsSeat player) o v =
     SeatChanges w player v (λ new. RestartsTo o
-    (λ up. new ≡ restored_seat (seat w player).slots (seat w player).restorable up))
+    (λ up. new ≡ restored_seat (seat_in w player).slots (seat_in w player).restorable up))
 RestartStep w (AsWatcher index) o v =
     AtWatcher w index o v (λ log. (o ≡ outcomes.Restarted)
     × (v ≡ record w { watchers = slice_set w.watchers index [] }))

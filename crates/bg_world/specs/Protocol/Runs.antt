@@ -3,7 +3,7 @@ use Rattle.std.specs.Prelude.{◌≡◌, ℕ, List, [], ◌∷◌}
 use Rattle.bg_match.specs.Terms.{Terms}
 use Rattle.bg_world.specs.declared.events.Event.{Event}
 use Rattle.bg_world.specs.declared.events.Outcome.{Outcome}
-use Rattle.bg_world.specs.Protocol.State.{ProtocolState, IsSetup, start}
+use Rattle.bg_world.specs.Protocol.State.{ProtocolState, IsSetup, protocol_start}
 use Rattle.bg_world.specs.Protocol.Step.{Step}
 
 -- events with what they came to, each a step from the state that the one before left
@@ -18,4 +18,4 @@ pub record IsReached (w : ProtocolState) : Type 0 where
   pub watchers : ℕ
   pub setup : IsSetup id terms watchers
   pub history : List (Event × Outcome)
-  pub run : Run (start id terms watchers) history w
+  pub run : Run (protocol_start id terms watchers) history w

@@ -14,7 +14,7 @@ use Rattle.bg_world.specs.declared.roles.Role.{Role}
 use Rattle.bg_world.specs.declared.roles.Role.TheVariants.{Referee as AsReferee, Seat as AsSeat, Watcher as AsWatcher}
 use Rattle.bg_world.specs.Protocol.Frames.{IfUp, SeatChanges, NoParty}
 use Rattle.bg_world.specs.Protocol.Slots.{SaveWritten, SaveTorn, next_number}
-use Rattle.bg_world.specs.Protocol.State.{ProtocolState, SeatState, restored_referee, restored_seat, seat}
+use Rattle.bg_world.specs.Protocol.State.{ProtocolState, SeatState, restored_referee, restored_seat, seat_in}
 
 -- what the next save of a party tells: its number is one above that of the save that the slots restore
 abbrev pub to_save : ℕ → ℕ → Terms → Option SavedParts → Option (ℕ × Action) → List Entry → SavedParts
@@ -58,6 +58,6 @@ SeatSaveStep id terms player o old new =
 abbrev pub SaveStep : ProtocolState → Role → Outcome → ProtocolState → Type 0
 SaveStep w AsReferee o v = IfUp w.referee.up w o v (RefereeSaveStep w o v)
 SaveStep w (AsSeat player) o v =
-    SeatChanges w player v (λ new. IfUp (seat w player).up (seat w player) o new
-    (SeatSaveStep w.id w.terms player o (seat w player) new))
+    SeatChanges w player v (λ new. IfUp (seat_in w player).up (seat_in w player) o new
+    (SeatSaveStep w.id w.terms player o (seat_in w player) new))
 SaveStep w (AsWatcher index) o v = NoParty w o v

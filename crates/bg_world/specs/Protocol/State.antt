@@ -43,9 +43,10 @@ pub record ProtocolState : Type 0 where
   pub watchers : List (List Entry)
   pub sent : List Datagram
 
-abbrev pub seat : ProtocolState → Player → SeatState
-seat w X = w.x
-seat w O = w.o
+-- the seat of the player
+abbrev pub seat_in : ProtocolState → Player → SeatState
+seat_in w X = w.x
+seat_in w O = w.o
 
 abbrev pub with_seat : ProtocolState → Player → SeatState → ProtocolState
 with_seat w X new = record w { x = new }
@@ -61,7 +62,7 @@ saved_log w = take w.referee.saved w.referee.log
 -- the record of a party, where there is such a party
 abbrev pub log_as : ProtocolState → Role → Option (List Entry)
 log_as w AsReferee = Some w.referee.log
-log_as w (AsSeat player) = Some (seat w player).log
+log_as w (AsSeat player) = Some (seat_in w player).log
 log_as w (AsWatcher index) = slice_get w.watchers index
 
 abbrev pub log_of : ProtocolState → ℕ → Option (List Entry)
@@ -87,8 +88,8 @@ restored_seat slots r up =
     record { up = up; log = entries_in r; claim = claim_in r; claim_saved = true; slots = slots; restorable = r }
 
 -- the start: all records, all slots and the list of datagrams are empty, there is no claim, and all parties are up
-abbrev pub start : ℕ → Terms → ℕ → ProtocolState
-start id terms watchers = record {
+abbrev pub protocol_start : ℕ → Terms → ℕ → ProtocolState
+protocol_start id terms watchers = record {
   id = id;
   terms = terms;
   referee = restored_referee empty_slots None true;

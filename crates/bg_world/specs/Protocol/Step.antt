@@ -8,7 +8,7 @@ use Rattle.bg_world.specs.Protocol.Frames.{IfUp, SeatChanges}
 use Rattle.bg_world.specs.Protocol.RestartStep.{RestartStep}
 use Rattle.bg_world.specs.Protocol.Roles.{role}
 use Rattle.bg_world.specs.Protocol.SaveStep.{SaveStep}
-use Rattle.bg_world.specs.Protocol.State.{ProtocolState, seat}
+use Rattle.bg_world.specs.Protocol.State.{ProtocolState, seat_in}
 use Rattle.bg_world.specs.Protocol.TakeStep.{TakeStep}
 use Rattle.bg_world.specs.Protocol.TickStep.{TickStep}
 
@@ -17,8 +17,8 @@ abbrev pub Step : ProtocolState → Event → Outcome → ProtocolState → Type
 Step w (events.Due word) o v = IfUp w.referee.up w o v (DueStep w word o v)
 Step w (events.Take party pick word) o v = TakeStep w (role party) word o v
 Step w (events.Choose player action) o v =
-    SeatChanges w player v (λ new. IfUp (seat w player).up (seat w player) o new
-    (ChooseStep w.terms player action o (seat w player) new))
+    SeatChanges w player v (λ new. IfUp (seat_in w player).up (seat_in w player) o new
+    (ChooseStep w.terms player action o (seat_in w player) new))
 Step w (events.Save party) o v = SaveStep w (role party) o v
 Step w (events.Tick party) o v = TickStep w (role party) o v
 Step w (events.Restart party) o v = RestartStep w (role party) o v

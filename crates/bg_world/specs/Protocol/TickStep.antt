@@ -15,7 +15,7 @@ use Rattle.bg_world.specs.declared.roles.Role.TheVariants.{Referee as AsReferee,
 use Rattle.bg_world.specs.Protocol.Datagrams.{Carries}
 use Rattle.bg_world.specs.Protocol.Frames.{IfUp, AtWatcher, SendsAtMost}
 use Rattle.bg_world.specs.Protocol.RefereeTakeStep.{ShowsSaved}
-use Rattle.bg_world.specs.Protocol.State.{ProtocolState, Exists, seat}
+use Rattle.bg_world.specs.Protocol.State.{ProtocolState, Exists, seat_in}
 
 -- so many datagrams are sent as the outcome says, at most `most`; where the link or memory fails, at most `most` too
 abbrev pub SendsOnTick : (Datagram → Type 0) → ℕ → ProtocolState → Outcome → ProtocolState → Type 0
@@ -40,7 +40,7 @@ seat_packet id terms party log _ _ = want_packet id terms party log
 abbrev pub TickStep : ProtocolState → Role → Outcome → ProtocolState → Type 0
 TickStep w AsReferee o v = IfUp w.referee.up w o v (SendsOnTick (λ d. Exists w d.to × ShowsSaved w d) 2 w o v)
 TickStep w (AsSeat player) o v =
-    let f = seat w player in
+    let f = seat_in w player in
     IfUp f.up w o v
     (SendsOnTick
     (λ d. Carries d referee (seat_packet w.id w.terms (party_of player) f.log f.claim f.claim_saved)) 1 w o v)

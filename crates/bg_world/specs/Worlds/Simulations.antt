@@ -6,7 +6,7 @@ use Rattle.bg_world.specs.Devices.MemoryDevices.{memory_link_view, memory_keeper
 use Rattle.bg_world.specs.Protocol.Runs.{Run}
 use Rattle.bg_world.specs.Protocol.Slots.{empty_slots}
 use Rattle.bg_world.specs.Worlds.Starts.{terms_in, IsWorldFault, fresh_world}
-use Rattle.bg_world.specs.Protocol.State.{IsSetup, start}
+use Rattle.bg_world.specs.Protocol.State.{IsSetup, protocol_start}
 use Rattle.bg_world.specs.Worlds.Views.{KeeperView, LinkView, WorldView}
 use Rattle.bg_world.specs.Worlds.WorldRuns.{CallsAll, Reports, history_of}
 use Rattle.bg_world.specs.Worlds.WorldState.{IsReachedWorld, protocol_state}
@@ -82,7 +82,7 @@ pub record Simulates
   pub calls : CallsAll (Unit {0}) (Unit {0}) (start_in_memory setup plan) events outcomes new
   pub reports : Reports report events outcomes
   pub reached : IsReachedWorld new
-  pub run : Run (start setup.id (terms_in setup) setup.watchers) (history_of events outcomes)
+  pub run : Run (protocol_start setup.id (terms_in setup) setup.watchers) (history_of events outcomes)
       (protocol_state new reached.restorable)
 
 -- the dice of the referee's record are those of words that the events handed in

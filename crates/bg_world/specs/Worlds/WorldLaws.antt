@@ -4,7 +4,7 @@ use Rattle.std.specs.List.{AllByRecursion}
 use Rattle.bg_board.specs.declared.players.Player.{Player}
 use Rattle.bg_world.specs.Worlds.Calls.{Calls}
 use Rattle.bg_world.specs.Worlds.Starts.{terms_in, AreUnused, fresh_world}
-use Rattle.bg_world.specs.Protocol.State.{IsSetup, start}
+use Rattle.bg_world.specs.Protocol.State.{IsSetup, protocol_start}
 use Rattle.bg_world.specs.Worlds.Views.{KeeperView, LinkView, WorldView, seat_keeper}
 use Rattle.bg_world.specs.Worlds.WorldRuns.{is_memory}
 use Rattle.bg_world.specs.Worlds.WorldState.{IsReachedWorld, protocol_state}
@@ -21,7 +21,7 @@ NewWorldsAreAtTheStart =
     → let w = fresh_world setup link referee_keeper x_keeper o_keeper in
     IsReachedWorld w
     × ((reached : IsReachedWorld w)
-    → protocol_state w reached.restorable ≡ start setup.id (terms_in setup) setup.watchers)
+    → protocol_state w reached.restorable ≡ protocol_start setup.id (terms_in setup) setup.watchers)
 
 -- the event asks nothing of a device, or nothing but one write, of which a world shows the answer
 abbrev pub NoDeviceIsHeard : Event → Type 0

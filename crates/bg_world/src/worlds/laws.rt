@@ -16,7 +16,7 @@ ghost use Rattle.bg_world.specs.Worlds.Simulations.{IsOfWords, memory_view};
 ghost use Rattle.bg_world.specs.Worlds.World.{view_of};
 ghost use Rattle.bg_world.specs.Protocol.Slots.{claim_in};
 ghost use Rattle.bg_world.specs.Worlds.Starts.{AreUnused, fresh_world, terms_in};
-ghost use Rattle.bg_world.specs.Protocol.State.{IsSetup, ProtocolState, seat};
+ghost use Rattle.bg_world.specs.Protocol.State.{IsSetup, ProtocolState, seat_in};
 ghost use Rattle.bg_world.specs.Promises.Survival.{SavesSurvive};
 ghost use Rattle.bg_world.specs.Worlds.Upholds.{Upholds};
 ghost use Rattle.bg_world.specs.Worlds.Views.{KeeperView, LinkView, WorldView};
@@ -42,7 +42,7 @@ pub fn parties_agree()
 /// that claim at its number.
 pub fn claims_are_kept()
     ensures { (w : ProtocolState) (player : Player) → IsReached w →
-        AreClaimsKept w.sent player (claim_in (seat w player).restorable) }
+        AreClaimsKept w.sent player (claim_in (seat_in w player).restorable) }
 {}
 
 /// After any run no datagram ever sent shows an entry that is not saved.
