@@ -10,8 +10,8 @@ use crate::movements::legs::Leg;
 use bg_board::{BAR, Board, OFF, Player, Step};
 use bg_turns::Turn;
 
-/// The legs as steps.
-pub(crate) fn as_turn(legs: &[Leg]) -> Turn
+/// The legs as steps, four at most.
+pub fn as_turn(legs: &[Leg]) -> Turn
     requires { length legs.now ≤ 4 }
     ensures { result ≡ steps_of legs.now }
 {
@@ -44,8 +44,9 @@ fn count_coming(steps: &[Step], point: u8) -> usize
     }
 }
 
-/// Whether both lists of steps have the same movement.
-pub(crate) fn same_movement(written: &[Step], played: &[Step]) -> bool
+/// Whether both lists of steps, of at most four each, have the same movement: whether from each point as many checkers
+/// leave, less those that come there.
+pub fn same_movement(written: &[Step], played: &[Step]) -> bool
     requires few { length written.now ≤ 4 }
     requires short { length played.now ≤ 4 }
     ensures { IsTrue result ↔ SameMovement written.now played.now }
@@ -79,9 +80,9 @@ pub(crate) fn is_reached(steps: &[Step], point: u8) -> bool
     }
 }
 
-/// Whether a turn of the steps hits on a point: it is not off, a single opposing checker stands there, and a step ends
-/// there.
-fn is_hit(board: &Board, player: Player, steps: &[Step], point: u8) -> bool
+/// Whether a turn of the steps, which is played on this board, hits on a point, 0 to 25 in the player's numbering: it is
+/// not off, a single opposing checker stands there, and a step ends there.
+pub fn is_hit(board: &Board, player: Player, steps: &[Step], point: u8) -> bool
     requires { point ≤ 25 }
     ensures { result ≡ is_hit_by_rule board.now player steps.now point }
 {

@@ -93,6 +93,19 @@ IsPartyLine party None leader line = line ≡ codes "party " ++ decimal party ++
 IsPartyLine party (Some saved) leader line =
     (words : List ℕ) × IsHolding saved leader words × (line ≡ codes "party " ++ decimal party ++ codes ": " ++ words)
 
+-- what is printed of a folder that has the two files of one party alone, and whether one of them loads
+pub record IsPartyText (party : ℕ) (slot0 slot1 text : List ℕ) (loads : Bool) : Type 0 where
+  pub zero : Result SavedParts LoadFault
+  pub one : Result SavedParts LoadFault
+  pub saved : Option SavedParts
+  pub held : AreHeldBy party slot0 slot1 zero one saved
+  pub line : List ℕ
+  pub told : IsPartyLine party saved None line
+  pub board : List ℕ
+  pub drawn : IsBoardOf saved board
+  pub printed : text ≡ slot_lines party slot0 slot1 zero one ++ line_text line ++ board
+  pub flag : loads ≡ is_ok zero || is_ok one
+
 -- what is printed of a folder with these six files, and whether one of them loads. The board is that of the party who
 -- holds most
 pub record IsFolderText (a0 a1 b0 b1 c0 c1 text : List ℕ) (loads : Bool) : Type 0 where

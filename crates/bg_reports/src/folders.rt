@@ -5,8 +5,9 @@ ghost use Rattle.std.specs.Option.{option_copied};
 ghost use Rattle.bg_text.specs.Boards.BoardText.{line_text};
 ghost use Rattle.bg_wire.specs.Saved.Restoring.{newer, parts_in};
 ghost use Rattle.bg_wire.specs.Saved.SavedText.{parts_of};
-ghost use Rattle.bg_reports.specs.Folder.{AreHeldIn, IsFolderText, IsHolding, IsPartyLine, compared_words, own};
-ghost use Rattle.bg_reports.specs.Folder.{further as further_of, slot_line as line_of_slot, slot_lines};
+ghost use Rattle.bg_reports.specs.Folder.{AreHeldIn, IsFolderText, IsHolding, IsPartyLine, IsPartyText};
+ghost use Rattle.bg_reports.specs.Folder.{compared_words, further as further_of, own, slot_line as line_of_slot};
+ghost use Rattle.bg_reports.specs.Folder.{slot_lines};
 ghost use Rattle.bg_reports.specs.Show.{IsBoardOf, held_of, loaded_of};
 
 pub(crate) mod comparing;
@@ -66,6 +67,28 @@ pub fn folder_text(
     put_party(&mut text, SEAT_OF_O, saved2, leader)?;
     put_leader(alloc, &mut text, leader)?;
     Ok((text, one_loads(&held0, &held1, &held2)))
+}
+
+/// A line for each of the two files of a party alone, one which says how many entries they hold, and the board of what
+/// they restore; and whether one loads (docs/FORMATS.md, "Showing saved files").
+///
+/// # Errors
+/// `AllocError` where memory runs out.
+pub fn party_text(
+    alloc: Global,
+    party: u8,
+    slots: &SlotBytes,
+) -> Result<(Vec<u8>, bool), AllocError>
+    ensures { IfOk result (λ shown. IsPartyText party slots.now.zero.items slots.now.one.items
+        shown.0.items shown.1) }
+{
+    let held = hold_slots(alloc, slots)?;
+    let mut text = Vec::new(alloc);
+    put_slots(&mut text, party, slots, &held)?;
+    let saved = held.own_save(party);
+    put_party(&mut text, party, saved, None)?;
+    put_leader(alloc, &mut text, saved)?;
+    Ok((text, held.loads()))
 }
 
 /// Whether one of the files loads.

@@ -28,5 +28,5 @@ pub use endings::{DONE, Ending, FAILED, Found, REFUSED};
 pub use escapes::harmless;
 pub use folders::comparing::{Compared, compare};
 pub use folders::restored::restored_transcript;
-pub use folders::{SlotBytes, folder_text};
+pub use folders::{SlotBytes, folder_text, party_text};
 pub use showing::show_text;

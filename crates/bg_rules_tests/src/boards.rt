@@ -1,22 +1,8 @@
 //! Worked positions.
-use crate::checks::{check_facts, check_printed};
+use crate::checks::check_printed;
+use crate::words::{board, counts, named, parted, player, points, small_number, step};
 use bg_board::{Board, BoardFault, Die, Player, Step, StepFault};
-use std::test::Fail;
-
-fn counts(points: &[(usize, u8)]) -> [u8; 26] {
-    let mut counts = [0; 26];
-    for &(point, count) in points {
-        if point < 26 {
-            counts[point] = count;
-        }
-    }
-    counts
-}
-
-/// A position of X and O, by pairs of a point and the number of checkers on it.
-fn board(x: &[(usize, u8)], o: &[(usize, u8)]) -> Result<Board, Fail> {
-    Ok(Board::from_counts(counts(x), counts(o))?)
-}
+use std::process::Abort;
 
 /// What a die of this number shows, if there is one.
 fn pips_of(number: u8) -> Option<u8> {
@@ -25,23 +11,24 @@ fn pips_of(number: u8) -> Option<u8> {
 
 #[test]
 fn dice_of_numbers(rt: HostRuntime) {
-    for (number, shown) in [(0, None), (1, Some(1)), (6, Some(6)), (7, None)] {
-        assert!(rt; pips_of(number) == shown, "die {number}");
+    assert!(rt; pips_of(0).is_none());
+    assert!(rt; pips_of(1) == Some(1));
+    assert!(rt; pips_of(6) == Some(6));
+    assert!(rt; pips_of(7).is_none());
+}
+
+/// Each of the pairs of points, as "8-5", is a step, or none is.
+fn check_steps(rt: &impl Abort, words: &str, are_steps: bool) {
+    for word in words.split(' ') {
+        let (from, to) = points(rt, word);
+        assert!(rt; Step::new(from, to).is_some() == are_steps, "{word}");
     }
 }
 
 #[test]
 fn steps_between_points(rt: HostRuntime) {
-    for (from, to, good) in [
-        (25, 24, true),
-        (26, 25, false),
-        (1, 0, true),
-        (0, 0, false),
-        (6, 6, false),
-        (6, 7, false),
-    ] {
-        assert!(rt; Step::new(from, to).is_some() == good, "{from}-{to}");
-    }
+    check_steps(&rt, "25-24 1-0", true);
+    check_steps(&rt, "26-25 0-0 6-6 6-7", false);
 }
 
 /// How many checkers O has at the start on this point, and above it, if there is such a point.
@@ -56,56 +43,66 @@ fn counts_of_o(point: u8) -> Option<(u8, u8)> {
     ))
 }
 
+/// Points, and how many checkers O has on and above each at the start.
+const COUNTS: &str = "\
+0: 0 15
+6: 5 10
+8: 3 7
+13: 5 2
+24: 2 0";
+
+/// Whether O has so many checkers at the start on the point of a row, and above it.
+fn has_counts(rt: &impl Abort, row: &str) -> bool {
+    let (point, words) = parted(rt, row, ": ");
+    let (count, above) = parted(rt, words, " ");
+    let expected = (small_number(rt, count), small_number(rt, above));
+    counts_of_o(small_number(rt, point)) == Some(expected)
+}
+
 #[test]
 fn counts_at_the_start(rt: HostRuntime) {
-    for (point, count, above) in [(0, 0, 15), (6, 5, 10), (8, 3, 7), (13, 5, 2), (24, 2, 0)] {
-        let found = counts_of_o(point);
-        assert!(rt; found == Some((count, above)), "{found:?} at {point}");
+    for row in COUNTS.lines() {
+        assert!(rt; has_counts(&rt, row), "{row}");
     }
 }
 
 #[test]
-fn players_printed(rt: HostRuntime) -> Result<(), Fail> {
-    check_printed(rt.alloc(), Player::X, "X")?;
-    check_printed(rt.alloc(), Player::O, "O")
+fn players_printed(rt: HostRuntime) {
+    check_printed(&rt, Player::X, "X");
+    check_printed(&rt, Player::O, "O");
 }
 
-#[test]
-fn faults_of_steps_printed(rt: HostRuntime) -> Result<(), Fail> {
-    for (fault, text) in [
-        (StepFault::NoChecker, "no checker where the step begins"),
-        (StepFault::BarFirst, "a checker on the bar must enter first"),
-        (StepFault::WrongLanding, "the die does not lead there"),
-        (StepFault::Blocked, "the landing point is blocked"),
-        (
-            StepFault::NotAllHome,
-            "a checker stands outside the home board",
-        ),
-        (
-            StepFault::HigherChecker,
-            "a checker stands on a higher point",
-        ),
-    ] {
-        check_printed(rt.alloc(), fault, text)?;
-    }
-    Ok(())
-}
+/// The faults of steps, each behind what it prints.
+const STEP_FAULTS: [(&str, StepFault); 6] = [
+    ("no checker where the step begins", StepFault::NoChecker),
+    ("a checker on the bar must enter first", StepFault::BarFirst),
+    ("the die does not lead there", StepFault::WrongLanding),
+    ("the landing point is blocked", StepFault::Blocked),
+    (
+        "a checker stands outside the home board",
+        StepFault::NotAllHome,
+    ),
+    (
+        "a checker stands on a higher point",
+        StepFault::HigherChecker,
+    ),
+];
 
 #[test]
-fn faults_of_counts_printed(rt: HostRuntime) -> Result<(), Fail> {
-    for (fault, text) in [
-        (
-            BoardFault::NotFifteen,
-            "a player does not have fifteen checkers",
-        ),
-        (
-            BoardFault::SharedPoint,
-            "both players have checkers on one point",
-        ),
-    ] {
-        check_printed(rt.alloc(), fault, text)?;
+fn faults_of_steps_printed(rt: HostRuntime) {
+    for (words, fault) in &STEP_FAULTS {
+        check_printed(&rt, *fault, *words);
     }
-    Ok(())
+}
+
+const NOT_FIFTEEN: &str = "a player does not have fifteen checkers";
+
+const SHARED_POINT: &str = "both players have checkers on one point";
+
+#[test]
+fn faults_of_counts_printed(rt: HostRuntime) {
+    check_printed(&rt, BoardFault::NotFifteen, NOT_FIFTEEN);
+    check_printed(&rt, BoardFault::SharedPoint, SHARED_POINT);
 }
 
 /// What a board of these counts is refused for.
@@ -113,105 +110,113 @@ fn fault_of_counts(x: [u8; 26], o: [u8; 26]) -> Option<BoardFault> {
     Board::from_counts(x, o).err()
 }
 
+/// The board of these words is refused for this, if for anything.
+fn check_counts(rt: &impl Abort, words: &str, fault: Option<BoardFault>) {
+    let (x, o) = parted(rt, words, " / ");
+    assert!(rt;
+        fault_of_counts(counts(rt, x), counts(rt, o)) == fault,
+        "{words}"
+    );
+}
+
 #[test]
-fn counts_refused(rt: HostRuntime) -> Result<(), Fail> {
-    let fifteen = counts(&[(1, 15)]);
-    let fourteen = counts(&[(1, 14)]);
-    let across = counts(&[(24, 1), (0, 14)]);
+fn counts_refused(rt: HostRuntime) {
     let not_fifteen = Some(BoardFault::NotFifteen);
     let shared = Some(BoardFault::SharedPoint);
-    for (name, x, o, fault) in [
-        ("fifteen on one point each", fifteen, fifteen, None),
-        ("fourteen of X", fourteen, across, not_fifteen),
-        ("fourteen of O", across, fourteen, not_fifteen),
-        ("O across X", fifteen, across, shared),
-        ("X across O", across, fifteen, shared),
-    ] {
-        assert!(rt; fault_of_counts(x, o) == fault, "{name}");
-    }
-    Ok(())
+    check_counts(&rt, "1:15 / 1:15", None);
+    check_counts(&rt, "1:14 / 24:1 0:14", not_fifteen);
+    check_counts(&rt, "24:1 0:14 / 1:14", not_fifteen);
+    check_counts(&rt, "1:15 / 24:1 0:14", shared);
+    check_counts(&rt, "24:1 0:14 / 1:15", shared);
 }
 
 /// What a step of X by this die is refused for.
-fn fault_of_step(
-    x: [u8; 26],
-    o: [u8; 26],
-    (from, to): (u8, u8),
-    die: Die,
-) -> Result<Option<StepFault>, Fail> {
-    let board = Board::from_counts(x, o)?;
-    let step = Step::new(from, to).ok_or("step")?;
-    Ok(board.play_step(Player::X, step, die).err())
+fn fault_of_step(board: &Board, step: Step, die: Die) -> Option<StepFault> {
+    board.play_step(Player::X, step, die).err()
+}
+
+/// What is told of the step of a row, as "24-18 by 6 on start: the landing point is blocked".
+fn found_of<'a>(rt: &impl Abort, row: &'a str) -> (Option<StepFault>, &'a str) {
+    let (word, rest) = parted(rt, row, " by ");
+    let (die, rest) = parted(rt, rest, " on ");
+    let (points, found) = parted(rt, rest, "; ");
+    let die = Die::new(small_number(rt, die)).expect(rt, "a die");
+    (
+        fault_of_step(&board(rt, points), step(rt, word), die),
+        found,
+    )
+}
+
+/// Whether the step of a row is refused as it says, or allowed.
+fn is_found(rt: &impl Abort, row: &str) -> bool {
+    let (fault, words) = found_of(rt, row);
+    match words {
+        "allowed" => fault.is_none(),
+        _ => fault == Some(named(rt, &STEP_FAULTS, words)),
+    }
+}
+
+/// The rows hold.
+fn check_step_rows(rt: &impl Abort, rows: &str) {
+    for row in rows.lines() {
+        assert!(rt; is_found(rt, row), "{row}");
+    }
 }
 
 /// Each refusal, in their order, by steps that the later ones would refuse too where that can be.
+const REFUSED_STEPS: &str = "\
+12-11 by 6 on 25:1 24:1 13:5 8:3 6:5 / 24:2 13:5 8:3 6:5; no checker where the step begins
+24-18 by 6 on 25:1 24:1 13:5 8:3 6:5 / 24:2 13:5 8:3 6:5; a checker on the bar must enter first
+24-19 by 6 on 24:2 13:5 8:3 6:5 / 24:2 13:5 8:3 6:5; the die does not lead there
+24-19 by 5 on 24:2 13:5 8:3 6:5 / 24:2 13:5 8:3 6:5; the landing point is blocked
+3-0 by 4 on 13:1 5:1 3:1 0:12 / 0:15; a checker stands outside the home board
+3-0 by 4 on 5:1 3:1 0:13 / 0:15; a checker stands on a higher point
+3-0 by 4 on 4:1 3:1 0:13 / 0:15; a checker stands on a higher point";
+
 #[test]
-fn steps_refused(rt: HostRuntime) -> Result<(), Fail> {
-    let start = counts(&[(24, 2), (13, 5), (8, 3), (6, 5)]);
-    let on_bar = counts(&[(25, 1), (24, 1), (13, 5), (8, 3), (6, 5)]);
-    let one_outside = counts(&[(13, 1), (5, 1), (3, 1), (0, 12)]);
-    let home = counts(&[(5, 1), (3, 1), (0, 13)]);
-    let close = counts(&[(4, 1), (3, 1), (0, 13)]);
-    let away = counts(&[(0, 15)]);
-    for (x, o, step, die, why) in [
-        (on_bar, start, (12, 11), Die::Six, StepFault::NoChecker),
-        (on_bar, start, (24, 18), Die::Six, StepFault::BarFirst),
-        (start, start, (24, 19), Die::Six, StepFault::WrongLanding),
-        (start, start, (24, 19), Die::Five, StepFault::Blocked),
-        (one_outside, away, (3, 0), Die::Four, StepFault::NotAllHome),
-        (home, away, (3, 0), Die::Four, StepFault::HigherChecker),
-        (close, away, (3, 0), Die::Four, StepFault::HigherChecker),
-    ] {
-        let fault = fault_of_step(x, o, step, die)?;
-        assert!(rt; fault == Some(why), "{step:?}");
-    }
-    Ok(())
+fn steps_refused(rt: HostRuntime) {
+    check_step_rows(&rt, REFUSED_STEPS);
 }
 
 /// Steps beside those that are refused.
+const ALLOWED_STEPS: &str = "\
+3-0 by 3 on 5:1 3:1 0:13 / 0:15; allowed
+3-0 by 4 on 3:2 1:1 0:12 / 0:15; allowed
+25-20 by 5 on 25:1 24:1 13:5 8:3 6:5 / 24:2 13:5 8:3 6:5; allowed
+24-18 by 6 on 24:2 13:5 8:3 6:5 / 24:2 13:5 8:3 6:5; allowed";
+
 #[test]
-fn steps_allowed(rt: HostRuntime) -> Result<(), Fail> {
-    let start = counts(&[(24, 2), (13, 5), (8, 3), (6, 5)]);
-    let on_bar = counts(&[(25, 1), (24, 1), (13, 5), (8, 3), (6, 5)]);
-    let home = counts(&[(5, 1), (3, 1), (0, 13)]);
-    let low = counts(&[(3, 2), (1, 1), (0, 12)]);
-    let away = counts(&[(0, 15)]);
-    for (x, o, step, die) in [
-        (home, away, (3, 0), Die::Three),
-        (low, away, (3, 0), Die::Four),
-        (on_bar, start, (25, 20), Die::Five),
-        (start, start, (24, 18), Die::Six),
-    ] {
-        let fault = fault_of_step(x, o, step, die)?;
-        assert!(rt; fault.is_none(), "{step:?}");
-    }
-    Ok(())
+fn steps_allowed(rt: HostRuntime) {
+    check_step_rows(&rt, ALLOWED_STEPS);
 }
 
 fn has_all_off(board: &Board, player: Player) -> bool {
     board.has_all_off(player)
 }
 
+/// Whether this player has no checker left on the board.
+fn check_all_off(rt: &impl Abort, words: &str, name: &str, expected: bool) {
+    assert!(rt;
+        has_all_off(&board(rt, words), player(rt, name)) == expected,
+        "{name}"
+    );
+}
+
 #[test]
-fn all_off(rt: HostRuntime) -> Result<(), Fail> {
-    let last = board(&[(0, 14), (1, 1)], &[(0, 15)])?;
-    check_facts(&[
-        ("X has one on", !has_all_off(&last, Player::X)),
-        ("O has none on", has_all_off(&last, Player::O)),
-        ("start", !has_all_off(&Board::start(), Player::O)),
-    ])
+fn all_off(rt: HostRuntime) {
+    check_all_off(&rt, "0:14 1:1 / 0:15", "X", false);
+    check_all_off(&rt, "0:14 1:1 / 0:15", "O", true);
+    check_all_off(&rt, "start", "O", false);
 }
 
 /// Whether X comes from one board to the other by 8-5.
-fn leads_to(before: &Board, after: Board) -> Result<bool, Fail> {
-    let step = Step::new(8, 5).ok_or("step")?;
-    Ok(before.play_step(Player::X, step, Die::Three) == Ok(after))
+fn leads_to(rt: &impl Abort, before: &Board, after: Board) -> bool {
+    before.play_step(Player::X, step(rt, "8-5"), Die::Three) == Ok(after)
 }
 
 #[test]
-fn hit(rt: HostRuntime) -> Result<(), Fail> {
-    let before = board(&[(8, 2), (0, 13)], &[(20, 1), (6, 14)])?;
-    let after = board(&[(8, 1), (5, 1), (0, 13)], &[(25, 1), (6, 14)])?;
-    assert!(rt; leads_to(&before, after)?);
-    Ok(())
+fn hit(rt: HostRuntime) {
+    let before = board(&rt, "8:2 0:13 / 20:1 6:14");
+    let after = board(&rt, "8:1 5:1 0:13 / 25:1 6:14");
+    assert!(rt; leads_to(&rt, &before, after));
 }

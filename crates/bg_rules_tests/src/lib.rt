@@ -11,3 +11,5 @@ mod matches;
 mod streams;
 #[cfg(test)]
 mod turns;
+#[cfg(test)]
+mod words;

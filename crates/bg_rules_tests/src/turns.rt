@@ -2,123 +2,78 @@
 mod listings;
 
 use crate::checks::check_printed;
-use bg_board::{Board, Die, Player, Step};
+use crate::words::{board, dice, parted, small_number, turn};
+use bg_board::{Board, Player};
 use bg_turns::{Dice, Turn, TurnFault, dice_of, judge_turn, most};
-use std::test::Fail;
-
-/// A position of X and O, by pairs of a point and the number of checkers on it.
-fn board(x: &[(usize, u8)], o: &[(usize, u8)]) -> Result<Board, Fail> {
-    Ok(Board::from_counts(counts(x), counts(o))?)
-}
-
-fn counts(points: &[(usize, u8)]) -> [u8; 26] {
-    let mut counts = [0; 26];
-    for &(point, count) in points {
-        if point < 26 {
-            counts[point] = count;
-        }
-    }
-    counts
-}
-
-fn dice(first: Die, second: Die) -> Dice {
-    Dice { first, second }
-}
-
-fn turn(steps: &[(u8, u8)]) -> Result<Turn, Fail> {
-    let mut turn = Turn::new();
-    for &(from, to) in steps {
-        if turn.steps().len() >= 4 {
-            return Err(Fail::from("more than four steps"));
-        }
-        turn.push(Step::new(from, to).ok_or("step")?);
-    }
-    Ok(turn)
-}
+use std::process::Abort;
 
 /// X's last checker may play a 6 or a 5, but not both.
-fn either_die() -> Result<Board, Fail> {
-    board(&[(20, 1), (0, 14)], &[(16, 2), (0, 13)])
-}
+const EITHER_DIE: &str = "20:1 0:14 / 16:2 0:13";
 
 /// X's last checker may play three 4s, but not a fourth.
-fn three_fours() -> Result<Board, Fail> {
-    board(&[(20, 1), (0, 14)], &[(21, 2), (0, 13)])
-}
+const THREE_FOURS: &str = "20:1 0:14 / 21:2 0:13";
 
 /// X has a checker on the bar, which cannot enter by a 6.
-fn shut_out() -> Result<Board, Fail> {
-    board(
-        &[(25, 1), (24, 1), (13, 5), (8, 3), (6, 5)],
-        &[(24, 2), (13, 5), (8, 3), (6, 5)],
-    )
+const SHUT_OUT: &str = "25:1 24:1 13:5 8:3 6:5 / 24:2 13:5 8:3 6:5";
+
+/// What a turn of X is refused for.
+fn fault_of_turn(board: &Board, dice: Dice, turn: &Turn) -> Option<TurnFault> {
+    judge_turn(board, Player::X, dice, turn).err()
 }
 
-/// Fails where a turn of X has another fault than this one.
-fn check_turn(
-    board: &Board,
-    dice: Dice,
-    steps: &[(u8, u8)],
-    fault: Option<TurnFault>,
-) -> Result<(), Fail> {
-    let turn = turn(steps)?;
-    let found = judge_turn(board, Player::X, dice, &turn).err();
-    if found != fault {
-        return Err(Fail::new(format_args!("{turn:?}: {found:?}")));
-    }
-    if turn.copy() != turn {
-        return Err(Fail::new(format_args!("copy of {turn:?}")));
-    }
-    Ok(())
+fn is_copied(turn: &Turn) -> bool {
+    turn.copy() == *turn
 }
 
-/// Fails where one of these turns of X has another fault than stands beside it.
-fn check_turns(
-    board: &Board,
-    dice: Dice,
-    turns: &[(&[(u8, u8)], Option<TurnFault>)],
-) -> Result<(), Fail> {
-    for &(steps, fault) in turns {
-        check_turn(board, dice, steps, fault)?;
+/// Whether a row holds of a turn of X: its steps, and what is said of it: "legal", "more", "larger", or how many
+/// steps at its front can be played.
+fn is_judged(rt: &impl Abort, board: &Board, dice: Dice, row: &str) -> bool {
+    let (steps, said) = parted(rt, row, ": ");
+    let turn = turn(rt, steps);
+    let expected = match said {
+        "legal" => None,
+        "more" => Some(TurnFault::MoreCanBePlayed),
+        "larger" => Some(TurnFault::LargerMustBePlayed),
+        _ => Some(TurnFault::StepIllegal(small_number(rt, said))),
+    };
+    fault_of_turn(board, dice, &turn) == expected && is_copied(&turn)
+}
+
+/// The rows hold of turns of X with these dice.
+fn check_turns(rt: &impl Abort, points: &str, throw: &str, rows: &str) {
+    let board = board(rt, points);
+    let dice = dice(rt, throw);
+    for row in rows.lines() {
+        assert!(rt; is_judged(rt, &board, dice, row), "{row}");
     }
-    Ok(())
+}
+
+const TURNS: &str = "\
+8-5 6-5: legal
+8-7 8-5: legal
+8-5: more
+8-5 6-4: 1
+8-5 6-5 24-23: 2";
+
+#[test]
+fn turns_of_x(rt: HostRuntime) {
+    check_turns(&rt, "start", "3 1", TURNS);
+}
+
+const LAST_TURNS: &str = "\
+2-0: legal
+2-1 1-0: legal
+2-1: more";
+
+#[test]
+fn last_turns_of_x(rt: HostRuntime) {
+    check_turns(&rt, "2:1 0:14 / 1:15", "6 1", LAST_TURNS);
 }
 
 #[test]
-fn turns_of_x(rt: HostRuntime) -> Result<(), Fail> {
-    let more = Some(TurnFault::MoreCanBePlayed);
-    let second = Some(TurnFault::StepIllegal(1));
-    let third = Some(TurnFault::StepIllegal(2));
-    let turns: [(&[(u8, u8)], Option<TurnFault>); 5] = [
-        (&[(8, 5), (6, 5)], None),
-        (&[(8, 7), (8, 5)], None),
-        (&[(8, 5)], more),
-        (&[(8, 5), (6, 4)], second),
-        (&[(8, 5), (6, 5), (24, 23)], third),
-    ];
-    check_turns(&Board::start(), dice(Die::Three, Die::One), &turns)
-}
-
-#[test]
-fn last_turns_of_x(rt: HostRuntime) -> Result<(), Fail> {
-    let on_two = board(&[(2, 1), (0, 14)], &[(1, 15)])?;
-    let more = Some(TurnFault::MoreCanBePlayed);
-    let turns: [(&[(u8, u8)], Option<TurnFault>); 3] = [
-        (&[(2, 0)], None),
-        (&[(2, 1), (1, 0)], None),
-        (&[(2, 1)], more),
-    ];
-    check_turns(&on_two, dice(Die::Six, Die::One), &turns)
-}
-
-#[test]
-fn turns_of_few_steps(rt: HostRuntime) -> Result<(), Fail> {
-    let larger = Some(TurnFault::LargerMustBePlayed);
-    let first = Some(TurnFault::StepIllegal(0));
-    let turns: [(&[(u8, u8)], Option<TurnFault>); 2] = [(&[(20, 14)], None), (&[(20, 15)], larger)];
-    check_turns(&either_die()?, dice(Die::Six, Die::Five), &turns)?;
-    let turns: [(&[(u8, u8)], Option<TurnFault>); 2] = [(&[], None), (&[(24, 18)], first)];
-    check_turns(&shut_out()?, dice(Die::Six, Die::Six), &turns)
+fn turns_of_few_steps(rt: HostRuntime) {
+    check_turns(&rt, EITHER_DIE, "6 5", "20-14: legal\n20-15: larger");
+    check_turns(&rt, SHUT_OUT, "6 6", ": legal\n24-18: 0");
 }
 
 /// How many dice X can play at most.
@@ -126,41 +81,36 @@ fn most_of_x(board: &Board, dice: Dice) -> u8 {
     most(board, Player::X, dice)
 }
 
-#[test]
-fn greatest_numbers(rt: HostRuntime) -> Result<(), Fail> {
-    let last_two = board(&[(3, 1), (1, 1), (0, 13)], &[(1, 15)])?;
-    let sixes = dice(Die::Six, Die::Six);
-    for (name, board, dice, number) in [
-        ("start 3 1", Board::start(), dice(Die::Three, Die::One), 2),
-        ("start 6 6", Board::start(), sixes, 4),
-        ("three fours", three_fours()?, dice(Die::Four, Die::Four), 3),
-        ("last two", last_two, sixes, 2),
-        ("either die", either_die()?, dice(Die::Six, Die::Five), 1),
-        ("shut out", shut_out()?, sixes, 0),
-    ] {
-        let found = most_of_x(&board, dice);
-        assert!(rt; found == number, "{found} of {name}");
-    }
-    Ok(())
-}
-
-fn after(board: &Board, player: Player, dice: Dice, steps: &[(u8, u8)]) -> Result<Board, Fail> {
-    let turn = turn(steps)?;
-    Ok(judge_turn(board, player, dice, &turn)?)
+/// X can play so many dice at most.
+fn check_most(rt: &impl Abort, points: &str, throw: &str, number: u8) {
+    let found = most_of_x(&board(rt, points), dice(rt, throw));
+    assert!(rt; found == number, "{found} of {points}");
 }
 
 #[test]
-fn board_after_a_turn(rt: HostRuntime) -> Result<(), Fail> {
-    let (throw, sixes) = (dice(Die::Three, Die::One), dice(Die::Six, Die::Six));
-    let after_x = after(&Board::start(), Player::X, throw, &[(8, 5), (6, 5)])?;
-    let steps = [(24, 18), (24, 18), (13, 7), (13, 7)];
-    let after_o = after(&after_x, Player::O, sixes, &steps)?;
-    let expected = board(
-        &[(24, 2), (13, 5), (8, 2), (6, 4), (5, 2)],
-        &[(18, 2), (13, 3), (8, 3), (7, 2), (6, 5)],
-    )?;
-    assert!(rt; after_o == expected);
-    Ok(())
+fn greatest_numbers(rt: HostRuntime) {
+    check_most(&rt, "start", "3 1", 2);
+    check_most(&rt, "start", "6 6", 4);
+    check_most(&rt, THREE_FOURS, "4 4", 3);
+    check_most(&rt, "3:1 1:1 0:13 / 1:15", "6 6", 2);
+    check_most(&rt, EITHER_DIE, "6 5", 1);
+    check_most(&rt, SHUT_OUT, "6 6", 0);
+}
+
+/// The board after a turn of this player.
+fn after(rt: &impl Abort, board: &Board, player: Player, throw: &str, steps: &str) -> Board {
+    let turn = turn(rt, steps);
+    judge_turn(board, player, dice(rt, throw), &turn).expect(rt, "a turn")
+}
+
+const AFTER_BOTH: &str = "24:2 13:5 8:2 6:4 5:2 / 18:2 13:3 8:3 7:2 6:5";
+
+#[test]
+fn board_after_a_turn(rt: HostRuntime) {
+    let after_x = after(&rt, &Board::start(), Player::X, "3 1", "8-5 6-5");
+    let steps = "24-18 24-18 13-7 13-7";
+    let after_o = after(&rt, &after_x, Player::O, "6 6", steps);
+    assert!(rt; after_o == board(&rt, AFTER_BOTH));
 }
 
 /// Whether a word has these dice.
@@ -168,42 +118,57 @@ fn has_dice(word: u32, dice: Option<Dice>) -> bool {
     dice_of(word) == dice
 }
 
+/// Words, and the dice that they have.
+const WORDS: &str = "\
+0: 1 1
+8: 2 3
+12: 3 1
+35: 6 6
+36: 1 1
+4294967290: 6 5
+4294967291: 6 6
+4294967292: none
+4294967293: none
+4294967294: none
+4294967295: none";
+
+/// Whether a row of words holds.
+fn tells_dice(rt: &impl Abort, row: &str) -> bool {
+    let (word, shown) = parted(rt, row, ": ");
+    let word = word.parse().expect(rt, "a word");
+    match shown {
+        "none" => has_dice(word, None),
+        _ => has_dice(word, Some(dice(rt, shown))),
+    }
+}
+
+/// The rows that end so hold, and there are so many.
+fn check_words(rt: &impl Abort, are_dice: bool, count: u32) {
+    let mut found = 0u32;
+    for row in WORDS.lines() {
+        if row.ends_with("none") != are_dice {
+            assert!(rt; tells_dice(rt, row), "{row}");
+            found = found.saturating_add(1);
+        }
+    }
+    assert!(rt; found == count);
+}
+
 #[test]
 fn dice_of_words(rt: HostRuntime) {
-    for (word, first, second) in [
-        (0, Die::One, Die::One),
-        (8, Die::Two, Die::Three),
-        (12, Die::Three, Die::One),
-        (35, Die::Six, Die::Six),
-        (36, Die::One, Die::One),
-        (4_294_967_290, Die::Six, Die::Five),
-        (4_294_967_291, Die::Six, Die::Six),
-    ] {
-        assert!(rt; has_dice(word, Some(dice(first, second))), "{word}");
-    }
+    check_words(&rt, true, 7);
 }
 
 #[test]
 fn words_without_dice(rt: HostRuntime) {
-    for word in [4_294_967_292, 4_294_967_293, 4_294_967_294, u32::MAX] {
-        assert!(rt; has_dice(word, None), "{word}");
-    }
+    check_words(&rt, false, 4);
 }
 
 #[test]
-fn faults_of_turns_printed(rt: HostRuntime) -> Result<(), Fail> {
-    for (fault, text) in [
-        (
-            TurnFault::StepIllegal(2),
-            "only the first 2 steps can be played",
-        ),
-        (TurnFault::MoreCanBePlayed, "more dice can be played"),
-        (
-            TurnFault::LargerMustBePlayed,
-            "the larger die must be played",
-        ),
-    ] {
-        check_printed(rt.alloc(), fault, text)?;
-    }
-    Ok(())
+fn faults_of_turns_printed(rt: HostRuntime) {
+    let illegal = TurnFault::StepIllegal(2);
+    check_printed(&rt, illegal, "only the first 2 steps can be played");
+    check_printed(&rt, TurnFault::MoreCanBePlayed, "more dice can be played");
+    let larger = TurnFault::LargerMustBePlayed;
+    check_printed(&rt, larger, "the larger die must be played");
 }

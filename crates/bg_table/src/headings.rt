@@ -65,7 +65,7 @@ fn put_score(
 }
 
 /// The points of a player.
-fn score_for(standing: &Standing, player: Player) -> u16
+pub(crate) fn score_for(standing: &Standing, player: Player) -> u16
     ensures { result ≡ score_of standing.now player }
 {
     let (x, o) = standing.score();

@@ -28,7 +28,7 @@ pub fn prompt_text(
 
 /// Adds that line.
 #[tactic(auto, unfolding(crate::specs::Prompts::prompt_words))]
-fn put_prompt(
+pub(crate) fn put_prompt(
     out: &mut Vec<u8>,
     actor: Actor,
     reader: Player,

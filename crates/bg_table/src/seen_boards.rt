@@ -11,13 +11,13 @@ use bg_text::{letter, put_number, put_text};
 use std::alloc::AllocError;
 
 /// The points of the upper half of the board, left of the bar and right of it, in the reader's numbers.
-const UPPER: ([u8; 6], [u8; 6]) = ([13, 14, 15, 16, 17, 18], [19, 20, 21, 22, 23, 24]);
+pub(crate) const UPPER: ([u8; 6], [u8; 6]) = ([13, 14, 15, 16, 17, 18], [19, 20, 21, 22, 23, 24]);
 
 /// The points of the lower half of the board, left of the bar and right of it, in the reader's numbers.
-const LOWER: ([u8; 6], [u8; 6]) = ([12, 11, 10, 9, 8, 7], [6, 5, 4, 3, 2, 1]);
+pub(crate) const LOWER: ([u8; 6], [u8; 6]) = ([12, 11, 10, 9, 8, 7], [6, 5, 4, 3, 2, 1]);
 
 /// What is drawn for the bar.
-const BETWEEN: &str = "  |";
+pub(crate) const BETWEEN: &str = "  |";
 
 /// Adds the board, in five lines, as the reader sees it.
 #[tactic(auto, unfolding(crate::specs::SeenBoards::seen_board))]
@@ -37,7 +37,11 @@ pub(crate) fn put_seen_board(
 
 /// Adds a line of the numbers of some points left and right of the bar.
 #[tactic(auto, unfolding(crate::specs::SeenBoards::numbers_words))]
-fn put_numbers_line(out: &mut Vec<u8>, left: &[u8], right: &[u8]) -> Result<(), AllocError>
+pub(crate) fn put_numbers_line(
+    out: &mut Vec<u8>,
+    left: &[u8],
+    right: &[u8],
+) -> Result<(), AllocError>
     ensures { OnOk result (out.new.items ≡ out.old.items ++ line_text (numbers_words left.now right.now)) }
 {
     put_numbers(out, left)?;
@@ -108,7 +112,7 @@ fn put_cell(out: &mut Vec<u8>, board: &Board, reader: Player, point: u8) -> Resu
 }
 
 /// Adds a text of at most one letter and a number below 100, at the right of four places.
-fn put_in_four(out: &mut Vec<u8>, mark: &str, number: u32) -> Result<(), AllocError>
+pub(crate) fn put_in_four(out: &mut Vec<u8>, mark: &str, number: u32) -> Result<(), AllocError>
     ensures { OnOk result (out.new.items ≡ out.old.items ++ in_four (mark.now ++ decimal number)) }
 {
     let mut buffer = itoa::Buffer::new();
@@ -119,7 +123,7 @@ fn put_in_four(out: &mut Vec<u8>, mark: &str, number: u32) -> Result<(), AllocEr
 }
 
 /// The spaces before a text of this length, so that it ends four places on.
-fn padding(length: usize) -> &'static str
+pub(crate) fn padding(length: usize) -> &'static str
     ensures { result.now ≡ replicate (4 - length) 32 }
 {
     match length {
@@ -133,7 +137,11 @@ fn padding(length: usize) -> &'static str
 
 /// Adds the line of the checkers on the bar, and those off.
 #[tactic(auto, unfolding(crate::specs::SeenBoards::seen_aside))]
-fn put_aside_line(out: &mut Vec<u8>, board: &Board, reader: Player) -> Result<(), AllocError>
+pub(crate) fn put_aside_line(
+    out: &mut Vec<u8>,
+    board: &Board,
+    reader: Player,
+) -> Result<(), AllocError>
     ensures { OnOk result (out.new.items ≡ out.old.items ++ line_text (seen_aside board.now reader)) }
 {
     put_text(out, "bar: ")?;
@@ -145,7 +153,12 @@ fn put_aside_line(out: &mut Vec<u8>, board: &Board, reader: Player) -> Result<()
 
 /// Adds how many checkers each player has on one of his points, the reader first.
 #[tactic(auto, unfolding(crate::specs::SeenBoards::aside_words))]
-fn put_aside(out: &mut Vec<u8>, board: &Board, reader: Player, point: u8) -> Result<(), AllocError>
+pub(crate) fn put_aside(
+    out: &mut Vec<u8>,
+    board: &Board,
+    reader: Player,
+    point: u8,
+) -> Result<(), AllocError>
     requires { point ≤ 25 }
     ensures { OnOk result (out.new.items ≡ out.old.items ++ aside_words board.now reader point) }
 {

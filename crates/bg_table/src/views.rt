@@ -3,26 +3,31 @@ ghost use Rattle.std.specs.Prelude.{◌≡◌, ◌++◌, IfOk, OnOk};
 ghost use Rattle.bg_text.specs.Boards.BoardText.{line_text, phase_line};
 ghost use Rattle.bg_table.specs.Views.{IsSeatView, heading_text, table_text};
 
+use crate::drawings::Drawing;
 use crate::headings::{put_cube_line, put_game_line, put_pips_line, put_score_line};
 use crate::last_entries::put_last;
-use crate::seen_boards::put_seen_board;
 use bg_board::Player;
 use bg_match::{Record, Standing};
 use bg_text::{put_phase, put_text};
 use std::alloc::{AllocError, Global};
 
 /// What a player sees of a match: the match and the game, the score, the board from his side and in his own numbers,
-/// both pip counts, the cube, what the other player did last, and what is to happen next.
+/// drawn so, both pip counts, the cube, what the other player did last, and what is to happen next.
 ///
 /// # Errors
 /// AllocError where there is no memory for it.
-pub fn seat_view_text(alloc: Global, log: &Record, reader: Player) -> Result<Vec<u8>, AllocError>
-    ensures { IfOk result (λ text. IsSeatView log.now reader text.items) }
+pub fn seat_view_text(
+    alloc: Global,
+    log: &Record,
+    reader: Player,
+    drawing: Drawing,
+) -> Result<Vec<u8>, AllocError>
+    ensures { IfOk result (λ text. IsSeatView log.now reader drawing text.items) }
 {
     let standing = log.standing();
     let mut out = Vec::new(alloc);
     put_heading(&mut out, &standing, reader)?;
-    put_table(&mut out, &standing, reader)?;
+    put_table(&mut out, &standing, reader, drawing)?;
     put_last(&mut out, log, reader.opponent())?;
     put_next(&mut out, &standing)?;
     Ok(out)
@@ -39,11 +44,16 @@ fn put_heading(out: &mut Vec<u8>, standing: &Standing, reader: Player) -> Result
 
 /// Adds the board, the pip counts and the cube.
 #[tactic(auto, unfolding(crate::specs::Views::table_text))]
-fn put_table(out: &mut Vec<u8>, standing: &Standing, reader: Player) -> Result<(), AllocError>
-    ensures { OnOk result (out.new.items ≡ out.old.items ++ table_text standing.now reader) }
+fn put_table(
+    out: &mut Vec<u8>,
+    standing: &Standing,
+    reader: Player,
+    drawing: Drawing,
+) -> Result<(), AllocError>
+    ensures { OnOk result (out.new.items ≡ out.old.items ++ table_text standing.now reader drawing) }
 {
     let board = standing.board();
-    put_seen_board(out, &board, reader)?;
+    drawing.put_board(out, &board, reader)?;
     put_pips_line(out, &board, reader)?;
     put_cube_line(out, standing, reader)
 }

@@ -1,5 +1,5 @@
 //! Tests of texts, by what is public of their crates: lines and the judge, pictures and pages, what a player sees, match
-//! files of other programs, and what is reported of files.
+//! files of other programs, turns as people type them, and what is reported of files.
 #![tactic(auto)]
 
 #[cfg(test)]
@@ -14,3 +14,5 @@ mod reports;
 mod tables;
 #[cfg(test)]
 mod texts;
+#[cfg(test)]
+mod typed;

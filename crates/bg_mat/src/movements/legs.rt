@@ -11,9 +11,11 @@ use bg_board::{BAR, OFF, Step};
 
 /// A part of a movement: one checker goes from a point to a lower one, by one die or by several, and may hit there.
 #[derive(Clone, Copy, Debug, PartialEq, Eq)]
-pub(crate) struct Leg {
-    pub(crate) step: Step,
-    pub(crate) hits: bool,
+pub struct Leg {
+    /// The points, in the player's own numbering.
+    pub step: Step,
+    /// A hit is marked where it ends.
+    pub hits: bool,
 }
 
 /// The leg from 1 to 0, which fills the spare places of a list of legs.
@@ -27,11 +29,11 @@ impl Default for Leg {
 }
 
 /// The legs of a movement, in the order in which they are written.
-pub(crate) type Legs = ArrayVec<Leg, 4>;
+pub type Legs = ArrayVec<Leg, 4>;
 
 /// Why a word is no part of a movement.
 #[derive(Clone, Copy, Debug, PartialEq, Eq)]
-pub(crate) enum LegFault {
+pub enum LegFault {
     /// It has another shape.
     NotAMovement,
     /// It tells legs, and with them there are more than four.
@@ -159,8 +161,13 @@ fn add_times(legs: &mut Legs, path: &[Leg], count: u8) -> Result<(), LegFault>
     add_times(legs, path, count - 1)
 }
 
-/// Adds the legs that a word tells. Where it tells none nothing is added.
-pub(crate) fn add_word(legs: &mut Legs, word: &[u8]) -> Result<(), LegFault>
+/// Adds the legs that a word of a movement tells, as `24/18*/15`, `8/5(2)`, `bar/20` or `6/off` (docs/FORMATS.md, "Match
+/// files of other programs").
+///
+/// # Errors
+/// `NotAMovement` where it tells none, and nothing is added; `TooMany` where with its legs there are more than four, of
+/// which some may have been added.
+pub fn add_word(legs: &mut Legs, word: &[u8]) -> Result<(), LegFault>
     ensures added { OnOk result (AddsLegs (TellsWord word.now) legs.old.items legs.new.items) }
     ensures same { result ≡ Err LegFault.NotAMovement → legs.new ≡ legs.old }
     ensures fault { IfErr result (RefusesLegs (TellsWord word.now) legs.old.items) }

@@ -35,9 +35,12 @@ fn fits(board: &Board, player: Player, legs: &[Leg], written: &Turn, turn: &Turn
     }
 }
 
-/// The turn that a movement tells: the legs as steps, where these are a legal turn with these hits; else the greatest
-/// legal turn of this movement and these hits. `None` where there is none.
-pub(crate) fn find_turn(
+/// The turn that a movement of at most four legs tells: the legs as steps, where these are a legal turn with these hits;
+/// else the greatest legal turn of this movement and these hits. `None` where there is none.
+///
+/// # Errors
+/// Want of memory for the list of legal turns.
+pub fn find_turn(
     alloc: Global,
     board: &Board,
     player: Player,
@@ -62,9 +65,12 @@ pub(crate) fn find_turn(
     Ok(None)
 }
 
-/// Why a movement that tells no turn tells none: there is a legal turn of this movement, with other hits, or there is
-/// none.
-pub(crate) fn turn_fault(
+/// Why a movement of at most four legs that tells no turn tells none: `WrongHits` where there is a legal turn of this
+/// movement, with other hits, and else `NoSuchTurn`.
+///
+/// # Errors
+/// Want of memory for the list of legal turns.
+pub fn turn_fault(
     alloc: Global,
     board: &Board,
     player: Player,

@@ -39,8 +39,9 @@ fn split_solid(text: &[u8]) -> (&[u8], &[u8])
     }
 }
 
-/// The first word of a text, and what follows it. None where the text is blank.
-pub(crate) fn split_word(text: &[u8]) -> Option<(&[u8], &[u8])>
+/// The first word of a text, and what follows it: the first of its longest runs of bytes that are no space, tab or
+/// carriage return. None where the text is blank.
+pub fn split_word(text: &[u8]) -> Option<(&[u8], &[u8])>
     ensures { MatchOption result (IsBlankText text.now) (λ parts. IsFirstWord text.now parts.0.now parts.1.now) }
 {
     let (_, text) = split_blanks(text);

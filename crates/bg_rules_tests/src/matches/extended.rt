@@ -1,115 +1,114 @@
 //! Lists of entries appended at once.
-use super::{is_copied, moved, record};
-use crate::checks::check_facts;
-use bg_board::Die;
-use bg_match::{Entry, ExtendFault, Level, Number, Record};
-use std::alloc::Global;
-use std::test::Fail;
+use super::is_copied;
+use super::lines::entry;
+use super::plays::{begun, is_pushed};
+use bg_match::{Entry, ExtendFault, Number, Record, Rules};
+use std::process::Abort;
 
 /// X opens with 8-5 6-5, and O offers to resign, which X rejects.
-fn entries() -> Result<[Entry; 4], Fail> {
-    Ok([
-        Entry::Opening(Die::Three, Die::One),
-        moved(&[(8, 5), (6, 5)])?,
-        Entry::Resigned(Level::Gammon),
-        Entry::Rejected,
-    ])
+fn entries(rt: &impl Abort) -> [Entry; 4] {
+    [
+        entry(rt, "open 3 1"),
+        entry(rt, "move 8-5 6-5"),
+        entry(rt, "resign gammon"),
+        entry(rt, "reject"),
+    ]
 }
 
-/// Fails where a record is not the same as another.
-fn check_same(record: &Record, other: &Record) -> Result<(), Fail> {
-    check_facts(&[
-        ("number of entries", record.len() == other.len()),
-        ("standing", record.standing() == other.standing()),
-    ])?;
-    for number in 1..=other.len() {
-        if !is_copied(other, record, number) {
-            return Err(Fail::new(format_args!("entry {number}")));
-        }
+/// A record of these entries.
+fn record_of(rt: &(impl AllocGlobal + Abort), entries: &[Entry]) -> Record {
+    let mut record = begun(rt, 5, Rules::One);
+    for entry in entries {
+        assert!(rt; is_pushed(&mut record, entry.copy()));
     }
-    Ok(())
+    record
 }
 
-/// Appends a list, after which a record is the same as another.
-fn check_appended(record: &mut Record, list: &[Entry], other: &Record) -> Result<(), Fail> {
-    check_facts(&[
-        (
-            "standing after the list",
-            record.after_all(list) == Ok(other.standing()),
-        ),
-        ("list", record.extend(list) == Ok(())),
-    ])?;
-    check_same(record, other)
+/// Whether a record has as many entries as another, and its standing.
+fn is_like(record: &Record, other: &Record) -> bool {
+    record.len() == other.len() && record.standing() == other.standing()
 }
 
-/// Appends a list, of which the fourth entry is refused: the record is still the same as another.
-fn check_refused(record: &mut Record, list: &[Entry], other: &Record) -> Result<(), Fail> {
-    check_facts(&[
-        ("fault after the list", record.after_all(list) == Err(4)),
-        (
-            "fault of the list",
-            record.extend(list) == Err(ExtendFault::Illegal(4)),
-        ),
-    ])?;
-    check_same(record, other)
+/// A record is the same as another.
+fn check_same(rt: &impl Abort, record: &Record, other: &Record) {
+    assert!(rt; is_like(record, other));
+    for number in 1..=other.len() {
+        assert!(rt; is_copied(other, record, number), "entry {number}");
+    }
 }
 
-/// Fails where the second list is not appended to a record of the first, with this room for more.
-fn check_joined(
-    alloc: Global,
-    first: &[Entry],
-    second: &[Entry],
-    room: Number,
-    joined: &Record,
-) -> Result<(), Fail> {
-    let mut record = record(alloc, 5, first)?;
-    record.reserve(room)?;
-    check_appended(&mut record, second, joined)
+/// Whether a list is appended, and leads where another record stands.
+fn is_appended(record: &mut Record, list: &[Entry], other: &Record) -> bool {
+    record.after_all(list) == Ok(other.standing()) && record.extend(list) == Ok(())
+}
+
+/// Whether the fourth entry of a list is refused.
+fn is_refused(record: &mut Record, list: &[Entry]) -> bool {
+    record.after_all(list) == Err(4) && record.extend(list) == Err(ExtendFault::Illegal(4))
+}
+
+/// A list is appended, after which a record is the same as another.
+fn check_appended(rt: &impl Abort, record: &mut Record, list: &[Entry], other: &Record) {
+    assert!(rt; is_appended(record, list, other));
+    check_same(rt, record, other);
+}
+
+/// A list is refused for its fourth entry: the record is still the same as another.
+fn check_refused(rt: &impl Abort, record: &mut Record, list: &[Entry], other: &Record) {
+    assert!(rt; is_refused(record, list));
+    check_same(rt, record, other);
+}
+
+/// A record of the first so many entries, with this room for more.
+fn roomy(rt: &(impl AllocGlobal + Abort), entries: &[Entry], room: Number) -> Record {
+    let mut record = record_of(rt, entries);
+    assert!(rt; record.reserve(room).is_ok());
+    record
+}
+
+/// The entries behind the first so many are appended, with this room for more.
+fn check_joined(rt: &(impl AllocGlobal + Abort), list: &[Entry], held: usize, room: Number) {
+    assert!(rt; held <= list.len());
+    let mut record = roomy(rt, &list[..held], room);
+    check_appended(rt, &mut record, &list[held..], &record_of(rt, list));
 }
 
 #[test]
-fn lists_appended(rt: HostRuntime) -> Result<(), Fail> {
-    let entries = entries()?;
-    let list = entries.as_slice();
-    let pushed = record(rt.alloc(), 5, list)?;
+fn lists_appended(rt: HostRuntime) {
+    let list = entries(&rt);
     for held in 0..=4 {
-        for room in [0, 4] {
-            check_joined(rt.alloc(), &list[..held], &list[held..], room, &pushed)?;
-        }
+        check_joined(&rt, &list, held, 0);
+        check_joined(&rt, &list, held, 4);
     }
-    Ok(())
 }
 
-/// Fails where a list is not refused behind the first one, or the second is not appended then, with this room for more.
+/// The entries, of which the last does not follow.
+fn refused_entries(rt: &impl Abort) -> [Entry; 4] {
+    [
+        entry(rt, "move 8-5 6-5"),
+        entry(rt, "resign normal"),
+        entry(rt, "take"),
+        entry(rt, "reject"),
+    ]
+}
+
+/// The list is refused behind the opening, with this room for more, and then the other one is appended.
 fn check_joined_after(
+    rt: &(impl AllocGlobal + Abort),
     refused: &[Entry],
-    alloc: Global,
-    first: &[Entry],
-    second: &[Entry],
+    list: &[Entry],
     room: Number,
-    joined: &Record,
-) -> Result<(), Fail> {
-    let before = record(alloc, 5, first)?;
-    let mut record = record(alloc, 5, first)?;
-    record.reserve(room)?;
-    check_refused(&mut record, refused, &before)?;
-    check_appended(&mut record, second, joined)
+) {
+    assert!(rt; !list.is_empty());
+    let mut record = roomy(rt, &list[..1], room);
+    check_refused(rt, &mut record, refused, &record_of(rt, &list[..1]));
+    check_appended(rt, &mut record, &list[1..], &record_of(rt, list));
 }
 
 /// A refused list leaves the record as it was, so that another one is appended as if there had been none.
 #[test]
-fn refused_lists(rt: HostRuntime) -> Result<(), Fail> {
-    let entries = entries()?;
-    let list = entries.as_slice();
-    let pushed = record(rt.alloc(), 5, list)?;
-    let refused = [
-        list[1].copy(),
-        Entry::Resigned(Level::Normal),
-        Entry::Taken,
-        Entry::Rejected,
-    ];
-    for room in [0, 4] {
-        check_joined_after(&refused, rt.alloc(), &list[..1], &list[1..], room, &pushed)?;
-    }
-    Ok(())
+fn refused_lists(rt: HostRuntime) {
+    let (refused, list) = (refused_entries(&rt), entries(&rt));
+    check_joined_after(&rt, &refused, &list, 0);
+    check_joined_after(&rt, &refused, &list, 4);
 }

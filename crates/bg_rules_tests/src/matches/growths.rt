@@ -1,70 +1,52 @@
 //! Long records, and refused growths.
-use super::{is_copied, is_refused, record};
-use crate::checks::check_facts;
-use bg_board::{Die, Player};
-use bg_match::{
-    Entry, EntryFault, ExtendFault, Level, MOST_ENTRIES, Number, Record, Rules, Standing,
-};
-use std::alloc::Global;
-use std::test::Fail;
+use super::lines::entry;
+use super::plays::{begun, has_len, played};
+use super::{is_copied, is_refused};
+use bg_board::Player;
+use bg_match::{Entry, EntryFault, ExtendFault, MOST_ENTRIES, Number, Record, Rules, Standing};
+use std::process::Abort;
+
+fn push(record: &mut Record, entry: &Entry) -> bool {
+    record.push(entry.copy()).is_ok()
+}
 
 /// After the opening X offers to resign again and again, until there is no room for more.
-fn full_record(alloc: Global) -> Result<Record, Fail> {
-    let mut record = record(alloc, 1, &[Entry::Opening(Die::Three, Die::One)])?;
+fn full_record(rt: &(impl AllocGlobal + Abort)) -> Record {
+    let (offer, answer) = (entry(rt, "resign normal"), entry(rt, "reject"));
+    let mut record = played(rt, 1, "open 3 1");
     for _ in 0..499_999 {
-        record.push(Entry::Resigned(Level::Normal))?;
-        record.push(Entry::Rejected)?;
+        assert!(rt; push(&mut record, &offer) && push(&mut record, &answer));
     }
-    record.push(Entry::Resigned(Level::Normal))?;
-    Ok(record)
+    assert!(rt; push(&mut record, &offer));
+    record
 }
 
-fn check_full_copy(record: &Record) -> Result<(), Fail> {
-    let copy = record.copy()?;
-    check_facts(&[
-        (
-            "number of entries of the copy",
-            has_len(&copy, MOST_ENTRIES),
-        ),
-        (
-            "standing of the copy",
-            has_standing(&copy, &record.standing()),
-        ),
-    ])?;
+/// Whether a copy has all entries and the standing of a full record.
+fn is_full_copy(record: &Record, copy: &Record) -> bool {
+    has_len(copy, MOST_ENTRIES) && copy.standing() == record.standing()
+}
+
+fn check_full_copy(rt: &impl Abort, record: &Record) {
+    let copy = record.copy().expect(rt, "a copy");
+    assert!(rt; is_full_copy(record, &copy));
     for number in 1..=MOST_ENTRIES {
-        if !is_copied(record, &copy, number) {
-            return Err(Fail::new(format_args!("copy of entry {number}")));
-        }
+        assert!(rt; is_copied(record, &copy, number), "entry {number}");
     }
-    Ok(())
 }
 
-fn has_len(record: &Record, len: Number) -> bool {
-    record.len() == len
-}
-
-fn has_standing(record: &Record, standing: &Standing) -> bool {
-    record.standing() == *standing
+/// Whether a full record takes no entry more, be it pushed or in a list, and still an empty list.
+fn takes_no_more(record: &mut Record) -> bool {
+    is_refused(record, &Entry::Rejected, EntryFault::RecordFull)
+        && record.extend(&[Entry::Rejected]) == Err(ExtendFault::Illegal(MOST_ENTRIES + 1))
+        && record.extend(&[]) == Ok(())
 }
 
 #[test]
-fn longest_record(rt: HostRuntime) -> Result<(), Fail> {
-    let mut record = full_record(rt.alloc())?;
-    let answer = Entry::Rejected;
-    let refused = ExtendFault::Illegal(MOST_ENTRIES + 1);
-    check_facts(&[
-        ("number of entries", has_len(&record, MOST_ENTRIES)),
-        (
-            "one entry more",
-            is_refused(&mut record, &answer, EntryFault::RecordFull),
-        ),
-        (
-            "list of one more",
-            record.extend(&[Entry::Rejected]) == Err(refused),
-        ),
-        ("empty list", record.extend(&[]) == Ok(())),
-    ])?;
-    check_full_copy(&record)
+fn longest_record(rt: HostRuntime) {
+    let mut record = full_record(&rt);
+    assert!(rt; has_len(&record, MOST_ENTRIES));
+    assert!(rt; takes_no_more(&mut record));
+    check_full_copy(&rt, &record);
 }
 
 /// Where a record stands, and who made the entry of this number.
@@ -72,87 +54,72 @@ fn state_at(record: &Record, number: Number) -> (Standing, Option<Player>) {
     (record.standing(), record.by(number))
 }
 
-/// Fails where a record of so many entries has changed.
-fn check_kept(
-    record: &Record,
-    len: Number,
-    before: &(Standing, Option<Player>),
-) -> Result<(), Fail> {
-    let (standing, by) = before;
-    check_facts(&[
-        ("number of entries kept", record.len() == len),
-        ("standing kept", record.standing() == *standing),
-        ("seat kept", record.by(len) == *by),
-    ])
+/// Whether a record of so many entries is as it was.
+fn is_kept(record: &Record, len: Number, before: &(Standing, Option<Player>)) -> bool {
+    has_len(record, len) && state_at(record, len) == *before
 }
 
 /// Appends an entry to a record of so many, again where memory is refused: then nothing has changed.
-fn push_again(record: &mut Record, entry: Entry, pushed: Number) -> Result<(), Fail> {
+fn push_again(rt: &impl Abort, record: &mut Record, entry: &Entry, pushed: Number) {
     let before = state_at(record, pushed);
-    if record.push(entry.copy()).is_err() {
-        check_kept(record, pushed, &before)?;
-        record.push(entry)?;
+    if push(record, entry) {
+        return;
     }
-    Ok(())
+    assert!(rt; is_kept(record, pushed, &before));
+    assert!(rt; push(record, entry));
 }
 
 /// A record of twenty entries.
-fn grown(alloc: Global) -> Result<Record, Fail> {
-    let mut record = Record::new(alloc, 1, 1, Rules::One)?;
-    for pushed in 0..20 {
-        let entry = match pushed {
-            0 => Entry::Opening(Die::Three, Die::One),
-            odd if odd % 2 == 1 => Entry::Resigned(Level::Normal),
-            _ => Entry::Rejected,
-        };
-        push_again(&mut record, entry, pushed)?;
-        if !has_len(&record, pushed + 1) {
-            return Err(Fail::new(format_args!("length after {pushed}")));
-        }
+fn grown(rt: &(impl AllocGlobal + Abort)) -> Record {
+    let (offer, answer) = (entry(rt, "resign normal"), entry(rt, "reject"));
+    let mut record = begun(rt, 1, Rules::One);
+    push_again(rt, &mut record, &entry(rt, "open 3 1"), 0);
+    for pushed in 1..20 {
+        let next = if pushed % 2 == 1 { &offer } else { &answer };
+        push_again(rt, &mut record, next, pushed);
+        assert!(rt; has_len(&record, pushed + 1), "after {pushed}");
     }
-    Ok(record)
+    record
 }
 
 /// Makes room in a record of twenty entries, again where memory is refused: then nothing has changed.
-fn reserve_again(record: &mut Record) -> Result<(), Fail> {
+fn reserve_again(rt: &impl Abort, record: &mut Record) {
     let before = state_at(record, 20);
-    if record.reserve(100).is_err() {
-        check_kept(record, 20, &before)?;
-        let last = Entry::Resigned(Level::Normal);
-        check_facts(&[("last entry kept", record.entry(20) == Some(&last))])?;
-        record.reserve(100)?;
+    if record.reserve(100).is_ok() {
+        return;
     }
-    Ok(())
+    assert!(rt; is_kept(record, 20, &before));
+    assert!(rt; record.entry(20) == Some(&entry(rt, "resign normal")));
+    assert!(rt; record.reserve(100).is_ok());
 }
 
 /// Appends a list to a record of twenty entries, again where memory is refused: then nothing has changed.
-fn extend_again(record: &mut Record) -> Result<(), Fail> {
+fn extend_again(rt: &impl Abort, record: &mut Record) {
     let before = state_at(record, 20);
-    let list = [Entry::Rejected, Entry::Resigned(Level::Gammon)];
+    let list = [entry(rt, "reject"), entry(rt, "resign gammon")];
     if let Err(why) = record.extend(&list) {
-        check_facts(&[("fault of the list", why == ExtendFault::Memory)])?;
-        check_kept(record, 20, &before)?;
-        record.extend(&list)?;
+        assert!(rt; why == ExtendFault::Memory);
+        assert!(rt; is_kept(record, 20, &before));
+        assert!(rt; record.extend(&list).is_ok());
     }
-    check_facts(&[("number of entries at the end", has_len(record, 22))])
+    assert!(rt; has_len(record, 22));
+}
+
+/// A copy of a record, made again where memory is refused.
+fn copied(rt: &impl Abort, record: &Record) -> Record {
+    match record.copy() {
+        Ok(copy) => copy,
+        Err(_) => record.copy().expect(rt, "memory"),
+    }
 }
 
 /// Where memory is refused nothing has changed, and the same call then succeeds. No run of the tests refuses any, but
 /// `tools/checks/refuse_growths` refuses each growth in turn.
 #[test]
-fn refused_growths(rt: HostRuntime) -> Result<(), Fail> {
-    let mut record = grown(rt.alloc())?;
-    reserve_again(&mut record)?;
-    let mut copy = match record.copy() {
-        Ok(copy) => copy,
-        Err(_) => record.copy()?,
-    };
-    check_facts(&[
-        ("number of entries of the copy", has_len(&copy, 20)),
-        (
-            "standing of the copy",
-            has_standing(&copy, &record.standing()),
-        ),
-    ])?;
-    extend_again(&mut copy)
+fn refused_growths(rt: HostRuntime) {
+    let mut record = grown(&rt);
+    reserve_again(&rt, &mut record);
+    let mut copy = copied(&rt, &record);
+    assert!(rt; is_kept(&copy, 20, &state_at(&record, 20)));
+    extend_again(&rt, &mut copy);
 }

@@ -1,126 +1,100 @@
 //! Standings from their parts.
-use super::{cube, dice, standing};
-use crate::checks::check_facts;
-use bg_board::{Board, Die, Player};
-use bg_match::{Cube, Entry, EntryFault, Level, NoDouble, Phase, Standing};
-use std::test::Fail;
+use super::lines::{entry, standing};
+use super::plays::{check_standing, check_standings};
+use crate::words::{named, parted};
+use bg_match::{Rules, Standing};
+use std::process::Abort;
 
-/// What a double of X is refused for in a match of 99 points with this cube.
-fn fault_of_a_double(cube: Cube, crawford: bool) -> Result<Option<EntryFault>, Fail> {
-    let to_act = Phase::ToAct(Player::X);
-    let before = standing(99, Board::start(), to_act, cube, (0, 0), crawford, 1);
-    Ok(before.ok_or("standing")?.next(&Entry::Doubled).err())
-}
+const REFUSED_DOUBLES: &str = "\
+99, start, X acts, 128 X, 0-0, plain, 1; double -> no double: at cap
+99, start, X acts, 128 O, 0-0, plain, 1; double -> no double: not owner
+99, start, X acts, 1, 0-0, crawford, 1; double -> no double: crawford
+99, start, X acts, 128 O, 0-0, crawford, 1; double -> no double: crawford";
 
 #[test]
-fn refused_doubles(rt: HostRuntime) -> Result<(), Fail> {
-    for (cube, crawford, why) in [
-        (cube(128, Player::X), false, NoDouble::AtCap),
-        (cube(128, Player::O), false, NoDouble::NotOwner),
-        (Cube::MIDDLE, true, NoDouble::Crawford),
-        (cube(128, Player::O), true, NoDouble::Crawford),
-    ] {
-        let fault = fault_of_a_double(cube, crawford)?;
-        assert!(rt; fault == Some(EntryFault::NoDouble(why)), "at {why:?}");
-    }
-    let doubled = Phase::Doubled(Player::O);
-    assert!(rt; !is_standing(99, doubled, cube(128, Player::X), (0, 0)));
-    Ok(())
+fn refused_doubles(rt: HostRuntime) {
+    check_standings(&rt, REFUSED_DOUBLES);
+    check_parts(&rt, "no: 99, start, O is doubled, 128 X, 0-0, plain, 1");
 }
 
-/// Whether parts with the start board, of the first game and without a Crawford mark, are those of a standing.
-fn is_standing(length: u8, phase: Phase, cube: Cube, score: (u16, u16)) -> bool {
-    standing(length, Board::start(), phase, cube, score, false, 1).is_some()
+/// Whether a row holds, which begins with "yes: " where its parts are those of a standing, and with "no: " where not.
+fn tells_parts(rt: &impl Abort, row: &str) -> bool {
+    let (answer, parts) = parted(rt, row, ": ");
+    let is_standing = named(rt, &[("yes", true), ("no", false)], answer);
+    standing(rt, Rules::One, parts).is_some() == is_standing
 }
+
+/// The rows hold.
+fn check_parts(rt: &impl Abort, rows: &str) {
+    for row in rows.lines() {
+        assert!(rt; tells_parts(rt, row), "{row}");
+    }
+}
+
+const CUBES: &str = "\
+yes: 99, start, O is doubled, 1, 0-0, plain, 1
+no: 99, start, O is doubled, 1 X, 0-0, plain, 1
+no: 99, start, O is doubled, 2, 0-0, plain, 1
+yes: 99, start, O is doubled, 2 X, 0-0, plain, 1
+no: 99, start, O is doubled, 3 X, 0-0, plain, 1
+yes: 99, start, O is doubled, 64 X, 0-0, plain, 1
+no: 99, start, O is doubled, 128 X, 0-0, plain, 1
+no: 99, start, O is doubled, 0, 0-0, plain, 1
+yes: 99, start, opening, 128 X, 0-0, plain, 1
+no: 99, start, opening, 129 X, 0-0, plain, 1
+no: 99, start, opening, 255 X, 0-0, plain, 1";
 
 #[test]
 fn cubes_of_standings(rt: HostRuntime) {
-    let doubled = Phase::Doubled(Player::O);
-    for (value, owner, is_cube) in [
-        (1, None, true),
-        (1, Some(Player::X), false),
-        (2, None, false),
-        (2, Some(Player::X), true),
-        (3, Some(Player::X), false),
-        (64, Some(Player::X), true),
-        (128, Some(Player::X), false),
-        (0, None, false),
-    ] {
-        let cube = Cube { value, owner };
-        assert!(rt;
-            is_standing(99, doubled, cube, (0, 0)) == is_cube,
-            "{value}"
-        );
-    }
-    for (value, is_cube) in [(128, true), (129, false), (255, false)] {
-        let cube = cube(value, Player::X);
-        assert!(rt;
-            is_standing(99, Phase::Opening, cube, (0, 0)) == is_cube,
-            "{value}"
-        );
-    }
+    check_parts(&rt, CUBES);
 }
+
+const SCORES: &str = "\
+no: 0, start, opening, 1, 0-0, plain, 1
+no: 100, start, opening, 1, 0-0, plain, 1
+yes: 7, start, opening, 1, 6-6, plain, 1
+no: 7, start, opening, 1, 7-6, plain, 1
+no: 7, start, opening, 1, 6-7, plain, 1
+no: 7, start, X won, 1, 6-0, plain, 1
+no: 7, start, X won, 1, 7-7, plain, 1
+yes: 7, start, X won, 1, 7-6, plain, 1
+yes: 99, start, X won, 1, 482-98, plain, 1
+no: 99, start, X won, 1, 483-98, plain, 1";
 
 #[test]
 fn scores_of_standings(rt: HostRuntime) {
-    let (opening, over) = (Phase::Opening, Phase::Over(Player::X));
-    for (length, phase, score, are_scores) in [
-        (0, opening, (0, 0), false),
-        (100, opening, (0, 0), false),
-        (7, opening, (6, 6), true),
-        (7, opening, (7, 6), false),
-        (7, opening, (6, 7), false),
-        (7, over, (6, 0), false),
-        (7, over, (7, 7), false),
-        (7, over, (7, 6), true),
-        (99, over, (482, 98), true),
-        (99, over, (483, 98), false),
-    ] {
-        assert!(rt;
-            is_standing(length, phase, Cube::MIDDLE, score) == are_scores,
-            "{score:?}"
-        );
-    }
+    check_parts(&rt, SCORES);
 }
 
 /// Whether the game of this number can begin at this score in a match of nine points.
-fn is_game(score: (u16, u16), game: u8) -> bool {
-    let (start, opening) = (Board::start(), Phase::Opening);
-    standing(9, start, opening, Cube::MIDDLE, score, false, game).is_some()
-}
+const GAMES: &str = "\
+no: 9, start, opening, 1, 0-0, plain, 0
+yes: 9, start, opening, 1, 0-0, plain, 1
+no: 9, start, opening, 1, 0-0, plain, 2
+yes: 9, start, opening, 1, 1-2, plain, 4
+no: 9, start, opening, 1, 1-2, plain, 5";
 
 #[test]
 fn games_of_standings(rt: HostRuntime) {
-    for (score, game, expected) in [
-        ((0, 0), 0, false),
-        ((0, 0), 1, true),
-        ((0, 0), 2, false),
-        ((1, 2), 4, true),
-        ((1, 2), 5, false),
-    ] {
-        assert!(rt;
-            is_game(score, game) == expected,
-            "game {game} at {score:?}"
-        );
-    }
+    check_parts(&rt, GAMES);
 }
 
-/// Where a standing of a match of five points in this phase leads once an offer to resign has been rejected.
-fn after_a_rejected_offer(phase: Phase) -> Result<(Standing, Standing), Fail> {
-    let start = Board::start();
-    let before = standing(5, start, phase, Cube::MIDDLE, (0, 0), false, 1).ok_or("standing")?;
-    let offered = before.next(&Entry::Resigned(Level::Gammon))?;
-    Ok((before, offered.next(&Entry::Rejected)?))
+/// Where a standing leads once an offer to resign has been rejected.
+fn after_a_rejected_offer(rt: &impl Abort, before: &Standing) -> Option<Standing> {
+    let offered = before.next(&entry(rt, "resign gammon")).ok()?;
+    offered.next(&entry(rt, "reject")).ok()
+}
+
+/// A rejected offer leads back to the standing before it.
+fn check_rejected(rt: &impl Abort, line: &str) -> Standing {
+    let before = standing(rt, Rules::One, line).expect(rt, "a standing");
+    assert!(rt; after_a_rejected_offer(rt, &before) == Some(before));
+    before
 }
 
 #[test]
-fn rejected_offers() -> Result<(), Fail> {
-    let to_move = Phase::ToMove(Player::O, dice(Die::Six, Die::One));
-    let (before, after) = after_a_rejected_offer(Phase::ToAct(Player::X))?;
-    let (before_move, after_move) = after_a_rejected_offer(to_move)?;
-    check_facts(&[
-        ("standing with a roll due", before == after),
-        ("standing with a move due", before_move == after_move),
-        ("phase", after_move.phase() == to_move),
-    ])
+fn rejected_offers(rt: HostRuntime) {
+    check_rejected(&rt, "5, start, X acts, 1, 0-0, plain, 1");
+    let after_move = check_rejected(&rt, "5, start, O moves 6 1, 1, 0-0, plain, 1");
+    check_standing(&rt, &after_move, "phase: O moves 6 1");
 }

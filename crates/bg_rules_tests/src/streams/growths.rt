@@ -1,16 +1,9 @@
 //! Refused growths.
 use super::helpers::Fed;
+use crate::checks::check_no_growth_is_left;
 use bg_streams::{EngineFault, Reading, read_input};
-use std::alloc::{AllocError, Global};
+use std::alloc::Global;
 use std::test::Fail;
-
-/// Fails where the growth that comes next is refused: so `tools/checks/refuse_growths` learns how many came before.
-fn check_no_growth_is_left(alloc: Global) -> Result<(), Fail> {
-    match Vec::<u8>::with_capacity(alloc, 1) {
-        Ok(_) => Ok(()),
-        Err(AllocError) => Err(Fail::from("no growth is left")),
-    }
-}
 
 /// What is read of 10000 bytes.
 fn read_some(alloc: Global) -> Result<Vec<u8>, EngineFault> {

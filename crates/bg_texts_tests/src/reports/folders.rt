@@ -2,7 +2,7 @@
 use super::saved_files::{
     AFTER_THE_MOVE, AFTER_THE_OPENING, OPENING, REFEREE, SEAT, saved_by, with_byte,
 };
-use bg_reports::{SlotBytes, folder_text};
+use bg_reports::{SlotBytes, folder_text, party_text};
 use std::alloc::{AllocError, Global};
 use std::process::Abort;
 use std::test::Fail;
@@ -118,6 +118,71 @@ fn parties_behind_others(rt: HostRuntime) -> Result<(), Fail> {
         ),
     ];
     check_folders(&rt, &rows)
+}
+
+/// What is shown of a folder with the files of one party: the party, its files, the lines, the board, and whether one of
+/// them loads.
+type OneRow<'a> = (u8, [&'a [u8]; 2], &'a str, &'a str, bool);
+
+/// What is shown of folders with the files of one party.
+fn check_parties(rt: &(impl AllocGlobal + Abort), rows: &[OneRow<'_>]) -> Result<(), Fail> {
+    for row in rows {
+        let (party, [zero, one], lines, board, loads) = *row;
+        let wanted = format!(in rt.alloc(); "{lines}{board}")?;
+        let (text, found) = party_text(rt.alloc(), party, &slots(rt.alloc(), zero, one)?)?;
+        assert!(rt;
+            text.as_slice() == wanted.as_bytes() && found == loads,
+            "{lines}"
+        );
+    }
+    Ok(())
+}
+
+#[test]
+fn parties_alone(rt: HostRuntime) -> Result<(), Fail> {
+    let rows: [OneRow<'_>; 4] = [
+        (
+            0,
+            [&REFEREE, &OPENING],
+            "party-0.0: party 0 match 1 length 1 save 2 entries 2
+party-0.1: party 0 match 1 length 1 save 3 entries 1
+party 0: 1 entries
+",
+            AFTER_THE_OPENING,
+            true,
+        ),
+        (
+            1,
+            [b"BGS0", &SEAT],
+            "party-1.0: bad magic
+party-1.1: party 1 match 1 length 1 save 1 entries 1 claim 2
+party 1: 1 entries
+",
+            AFTER_THE_OPENING,
+            true,
+        ),
+        (
+            2,
+            [b"", &SEAT],
+            "party-2.0: empty
+party-2.1: party 1 match 1 length 1 save 1 entries 1 claim 2
+party 2: no save
+",
+            "",
+            true,
+        ),
+        (
+            0,
+            [b"", b""],
+            "party-0.0: empty
+party-0.1: empty
+party 0: no save
+",
+            "",
+            false,
+        ),
+    ];
+    check_parties(&rt, &rows)
 }
 
 /// Seats whose entries are others than the referee's: the dice of the opening, and the turn behind it.

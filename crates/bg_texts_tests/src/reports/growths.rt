@@ -5,7 +5,7 @@ use super::saved_files::{AFTER_THE_MOVE, AFTER_THE_OPENING, OPENING, REFEREE, SE
 use bg_mat::{ImportFault, import_mat};
 use bg_match::Rules;
 use bg_reports::{
-    SlotBytes, check_text, folder_text, restored_transcript, said_of_import_fault,
+    SlotBytes, check_text, folder_text, party_text, restored_transcript, said_of_import_fault,
     said_of_transcript_fault, show_text,
 };
 use bg_text::{TranscriptFault, Verdict, read_transcript};
@@ -129,6 +129,20 @@ fn refused_growths_of_folders(rt: HostRuntime) -> Result<(), Fail> {
         let (text, loads) = match folder_text(alloc, &of_referee, &of_x, &of_o) {
             Ok(shown) => shown,
             Err(AllocError) => folder_text(alloc, &of_referee, &of_x, &of_o)?,
+        };
+        assert!(rt; loads && text.ends_with(AFTER_THE_OPENING.as_bytes()));
+    }
+    check_no_growth_is_left(alloc)
+}
+
+#[test]
+fn refused_growths_of_a_party(rt: HostRuntime) -> Result<(), Fail> {
+    let alloc = rt.alloc();
+    let of_referee = slots_at_last(alloc, &REFEREE, &OPENING)?;
+    for _ in 0..2 {
+        let (text, loads) = match party_text(alloc, 0, &of_referee) {
+            Ok(shown) => shown,
+            Err(AllocError) => party_text(alloc, 0, &of_referee)?,
         };
         assert!(rt; loads && text.ends_with(AFTER_THE_OPENING.as_bytes()));
     }

@@ -4,7 +4,7 @@ use bg_table::pip_count;
 use std::test::Fail;
 
 /// A player's checkers: so many on each of these points, and none elsewhere.
-fn counts(held: &[(usize, u8)]) -> [u8; 26] {
+pub(crate) fn counts(held: &[(usize, u8)]) -> [u8; 26] {
     let mut counts = [0; 26];
     for &(point, count) in held {
         if let Some(place) = counts.get_mut(point) {

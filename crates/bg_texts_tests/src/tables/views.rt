@@ -2,7 +2,7 @@
 use crate::checks::text_of;
 use crate::pictures::records::record_of;
 use bg_board::Player;
-use bg_table::seat_view_text;
+use bg_table::{Drawing, seat_view_text};
 use std::test::Fail;
 
 /// O has won the opening.
@@ -182,7 +182,7 @@ fn words_of_views(rt: HostRuntime) -> Result<(), Fail> {
     .enumerate()
     {
         let record = record_of(rt.alloc(), transcript)?;
-        let view = seat_view_text(rt.alloc(), &record, player)?;
+        let view = seat_view_text(rt.alloc(), &record, player, Drawing::Rows)?;
         assert!(rt; text_of(&view) == wanted, "row {row}");
     }
     Ok(())

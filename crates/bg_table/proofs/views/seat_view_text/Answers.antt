@@ -9,7 +9,7 @@ pub returns : goal.returns
 returns c =
     let s = c.standing-standing.result in
     let heading = heading_text s c.args.reader in
-    let table = table_text s c.args.reader in
+    let table = table_text s c.args.reader c.args.drawing in
     let headed = c.in_ok-put_heading.ensures ∙ ap (λ xs. xs ++ heading) c.new-out.ensures.items in
     let seen = c.in_ok-put_table.ensures ∙ ap (λ xs. xs ++ table) headed in
     let text = c.put_last.new.out.items in

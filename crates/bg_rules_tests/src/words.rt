@@ -1,0 +1,90 @@
+//! What the words of the tests say: numbers, dice, turns, boards. A word that says nothing of the kind ends the
+//! test.
+use bg_board::{Board, Die, Player, Step};
+use bg_turns::{Dice, Turn};
+use std::process::Abort;
+
+/// The number up to 255 that a word says.
+pub(crate) fn small_number(rt: &impl Abort, word: &str) -> u8 {
+    word.parse().expect(rt, "a number up to 255")
+}
+
+/// What stands before these words and behind them.
+pub(crate) fn parted<'a>(rt: &impl Abort, line: &'a str, by: &str) -> (&'a str, &'a str) {
+    line.split_once(by).expect(rt, "two parts")
+}
+
+/// What a word stands for, by the names of what there is.
+pub(crate) fn named<T: Copy>(rt: &impl Abort, names: &[(&str, T)], word: &str) -> T {
+    for (name, value) in names {
+        if *name == word {
+            return *value;
+        }
+    }
+    panic!(rt; "no name: {word}")
+}
+
+/// A player, as "X".
+pub(crate) fn player(rt: &impl Abort, word: &str) -> Player {
+    named(rt, &[("X", Player::X), ("O", Player::O)], word)
+}
+
+fn die(rt: &impl Abort, word: &str) -> Die {
+    Die::new(small_number(rt, word)).expect(rt, "a die")
+}
+
+/// Two dice, as "3 1".
+pub(crate) fn dice(rt: &impl Abort, words: &str) -> Dice {
+    let (first, second) = parted(rt, words, " ");
+    Dice {
+        first: die(rt, first),
+        second: die(rt, second),
+    }
+}
+
+/// Where a step begins and ends, as "8-5".
+pub(crate) fn points(rt: &impl Abort, word: &str) -> (u8, u8) {
+    let (from, to) = parted(rt, word, "-");
+    (small_number(rt, from), small_number(rt, to))
+}
+
+pub(crate) fn step(rt: &impl Abort, word: &str) -> Step {
+    let (from, to) = points(rt, word);
+    Step::new(from, to).expect(rt, "a step")
+}
+
+/// The turn of some steps, as "8-5 6-5", or of none, as "".
+pub(crate) fn turn(rt: &impl Abort, words: &str) -> Turn {
+    let mut turn = Turn::new();
+    if words.is_empty() {
+        return turn;
+    }
+    for word in words.split(' ') {
+        let step = step(rt, word);
+        assert!(rt; turn.steps().len() < 4);
+        turn.push(step);
+    }
+    turn
+}
+
+/// How many checkers a player has on the points, as "24:2 13:5 8:3 6:5".
+pub(crate) fn counts(rt: &impl Abort, words: &str) -> [u8; 26] {
+    let mut counts = [0; 26];
+    for word in words.split(' ') {
+        let (point, count) = parted(rt, word, ":");
+        let point = usize::from(small_number(rt, point));
+        let count = small_number(rt, count);
+        assert!(rt; point < 26);
+        counts[point] = count;
+    }
+    counts
+}
+
+/// A board, the checkers of X before those of O, as "20:1 0:14 / 16:2 0:13", or that of the start, as "start".
+pub(crate) fn board(rt: &impl Abort, words: &str) -> Board {
+    if words == "start" {
+        return Board::start();
+    }
+    let (x, o) = parted(rt, words, " / ");
+    Board::from_counts(counts(rt, x), counts(rt, o)).expect(rt, "a board")
+}

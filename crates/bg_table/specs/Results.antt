@@ -1,0 +1,44 @@
+-- What a game came to.
+use Rattle.std.specs.Prelude.{ℕ, ◌-◌, ◌==◌, nat_lt, List, [], ◌++◌, codes, if◌then◌else◌}
+use Rattle.std.specs.Fmt.{decimal}
+use Rattle.bg_board.specs.Position.{opponent}
+use Rattle.bg_board.specs.declared.players.Player.{Player}
+use Rattle.bg_board.specs.declared.players.Player.TheVariants.{X, O}
+use Rattle.bg_match.specs.State.{State, score_of}
+use Rattle.bg_match.specs.declared.phases.Phase.{Phase}
+use Rattle.bg_match.specs.declared.phases.Phase.TheVariants.{Over}
+use Rattle.bg_text.specs.Boards.BoardText.{line_text}
+use Rattle.bg_text.specs.Entries.EntryText.{letter}
+
+-- how much greater the score of a player is at t than at s
+abbrev pub gained : State → State → Player → ℕ
+gained s t player = score_of t player - score_of s player
+
+unfoldable pub winner_words : Player → Player → List ℕ
+winner_words X X = codes "you win "
+winner_words O O = codes "you win "
+winner_words X O = letter X ++ codes " wins "
+winner_words O X = letter O ++ codes " wins "
+
+unfoldable pub points_words : ℕ → List ℕ
+points_words points = if points == 1 then codes "1 point: " else decimal points ++ codes " points: "
+
+abbrev pub worth_words : Phase → ℕ → List ℕ
+worth_words (Over p) points = codes "the match "
+worth_words _ points = points_words points
+
+-- the score, that of the winner first
+unfoldable pub scores_words : State → Player → List ℕ
+scores_words t winner = decimal (score_of t winner) ++ codes " to " ++ decimal (score_of t (opponent winner))
+
+-- as in "you win 2 points: 3 to 1", or "X wins the match 5 to 3"
+unfoldable pub won_words : State → Player → ℕ → Player → List ℕ
+won_words t winner points reader =
+    line_text (winner_words winner reader ++ worth_words t.phase points ++ scores_words t winner)
+
+-- what a game came to, where the match stood at s and stands at t: nothing where no score is greater
+unfoldable pub result_words : State → State → Player → List ℕ
+result_words s t reader =
+    if nat_lt 0 (gained s t X) then won_words t X (gained s t X) reader
+    else if nat_lt 0 (gained s t O) then won_words t O (gained s t O) reader
+    else []

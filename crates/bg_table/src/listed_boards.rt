@@ -1,0 +1,104 @@
+//! The board as a list of points, as a player sees it.
+ghost use Rattle.std.specs.Prelude.{◌≡◌, ◌≤◌, ◌++◌, OnOk, IsTrue, codes};
+ghost use Rattle.std.specs.Fmt.{decimal};
+ghost use Rattle.std.specs.List.{list_all};
+ghost use Rattle.bg_text.specs.Boards.BoardText.{is_point, line_text};
+ghost use Rattle.bg_table.specs.SeenBoards.{aside_words};
+ghost use Rattle.bg_table.specs.DrawnBoards.{all_points_listed, listed_board, listed_point, listed_points};
+
+use crate::seen_boards::put_aside;
+use bg_board::{BAR, Board, OFF, Player};
+use bg_text::{letter, put_number, put_text};
+use std::alloc::AllocError;
+
+/// The points in the reader's numbers, from the farthest from his home down.
+const POINTS_DOWN: [u8; 24] = [
+    24, 23, 22, 21, 20, 19, 18, 17, 16, 15, 14, 13, 12, 11, 10, 9, 8, 7, 6, 5, 4, 3, 2, 1,
+];
+
+/// Adds the board as a list of the points where checkers stand, as the reader sees it.
+#[tactic(auto, unfolding(crate::specs::DrawnBoards::listed_board))]
+pub(crate) fn put_listed_board(
+    out: &mut Vec<u8>,
+    board: &Board,
+    reader: Player,
+) -> Result<(), AllocError>
+    ensures { OnOk result (out.new.items ≡ out.old.items ++ listed_board board.now reader) }
+{
+    put_all_points(out, board, reader)?;
+    put_line_aside(out, "bar: ", board, reader, BAR)?;
+    put_line_aside(out, "off: ", board, reader, OFF)
+}
+
+/// Adds those of all points where checkers stand.
+#[tactic(auto, unfolding(crate::specs::DrawnBoards::all_points_listed))]
+fn put_all_points(out: &mut Vec<u8>, board: &Board, reader: Player) -> Result<(), AllocError>
+    ensures { OnOk result (out.new.items ≡ out.old.items ++ all_points_listed board.now reader) }
+{
+    put_listed_points(out, board, reader, &POINTS_DOWN)
+}
+
+/// Adds a line of how many checkers each player has on one of his points, behind some words.
+fn put_line_aside(
+    out: &mut Vec<u8>,
+    words: &str,
+    board: &Board,
+    reader: Player,
+    point: u8,
+) -> Result<(), AllocError>
+    requires { point ≤ 25 }
+    ensures { OnOk result (out.new.items ≡ out.old.items ++ line_text (words.now ++ aside_words board.now reader point)) }
+{
+    put_text(out, words)?;
+    put_aside(out, board, reader, point)?;
+    put_text(out, "\n")
+}
+
+/// Adds those of some points where checkers stand.
+fn put_listed_points(
+    out: &mut Vec<u8>,
+    board: &Board,
+    reader: Player,
+    points: &[u8],
+) -> Result<(), AllocError>
+    requires { IsTrue (list_all is_point points.now) }
+    ensures { OnOk result (out.new.items ≡ out.old.items ++ listed_points board.now reader points.now) }
+{
+    for point in points {
+        put_listed_point(out, board, reader, *point)?;
+    }
+    Ok(())
+}
+
+/// Adds a point where checkers stand.
+fn put_listed_point(
+    out: &mut Vec<u8>,
+    board: &Board,
+    reader: Player,
+    point: u8,
+) -> Result<(), AllocError>
+    requires { IsTrue (is_point point) }
+    ensures { OnOk result (out.new.items ≡ out.old.items ++ listed_point board.now reader point) }
+{
+    let own = board.count(reader, point);
+    let other = board.count(reader.opponent(), BAR - point);
+    if own > 0 {
+        put_stand(out, point, letter(reader), own)
+    } else if other > 0 {
+        put_stand(out, point, letter(reader.opponent()), other)
+    } else {
+        Ok(())
+    }
+}
+
+/// Adds a line of a point and how many checkers stand there, behind the letter of their player.
+fn put_stand(out: &mut Vec<u8>, point: u8, mark: &str, checkers: u8) -> Result<(), AllocError>
+    ensures { OnOk result (out.new.items ≡ out.old.items
+        ++ decimal point ++ codes " " ++ line_text (mark.now ++ decimal checkers)) }
+{
+    put_number(out, point.into())?;
+    put_text(out, " ")?;
+    put_text(out, mark)?;
+    put_number(out, checkers.into())?;
+    put_text(out, "\n")
+}

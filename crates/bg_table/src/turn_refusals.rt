@@ -1,0 +1,188 @@
+//! Why a turn is refused, as a sentence.
+ghost use Rattle.std.specs.Prelude.{◌≡◌, ◌++◌, IfOk, OnOk};
+ghost use Rattle.bg_board.specs.Die.{pips};
+ghost use Rattle.bg_table.specs.Grown.{Adds};
+ghost use Rattle.bg_table.specs.TurnRefusals.{IsLargerLine, IsMoreLine, IsStepLine, IsTurnRefusal, count_words};
+ghost use Rattle.bg_table.specs.TurnRefusals.{example_words, larger_words, more_words, must_play_larger_words};
+ghost use Rattle.bg_table.specs.TurnRefusals.{must_play_words, of_four_words};
+
+use crate::step_refusals::{put_die, put_step_refusal, refused_step};
+use crate::step_texts::put_steps;
+use bg_board::{Board, Die, Player, Step};
+use bg_text::{put_number, put_text};
+use bg_turns::{Dice, Turn, TurnFault, legal_turns};
+use std::alloc::{AllocError, Global};
+
+/// The line that says to a player why a turn is refused, in his own numbers, where [`judge_turn`](bg_turns::judge_turn)
+/// gives this fault:
+///
+/// - `StepIllegal`: which step can't be played, and why, as in `24-18 can't be played: point 18 is held by O`. The die
+///   that judges the step is the one that shows its pips, else the larger one;
+/// - `MoreCanBePlayed`, `LargerMustBePlayed`: what must be played, with the greatest legal turn, as in
+///   `you must play both dice: 24-18 13-11 can be played`.
+///
+/// Of a fault that the turn doesn't have it says the first step that its die can't play, or else the last one that the
+/// fault counts.
+///
+/// # Errors
+/// AllocError where there is no memory for it, or for the list of legal turns.
+pub fn turn_refusal_text(
+    alloc: Global,
+    board: &Board,
+    player: Player,
+    dice: Dice,
+    turn: &Turn,
+    fault: TurnFault,
+) -> Result<Vec<u8>, AllocError>
+    ensures { IfOk result (λ text. IsTurnRefusal board.now player dice turn.now fault text.items) }
+{
+    let mut out = Vec::new(alloc);
+    put_turn_refusal(alloc, &mut out, board, player, dice, turn, fault)?;
+    Ok(out)
+}
+
+/// Adds that line.
+pub(crate) fn put_turn_refusal(
+    alloc: Global,
+    out: &mut Vec<u8>,
+    board: &Board,
+    player: Player,
+    dice: Dice,
+    turn: &Turn,
+    fault: TurnFault,
+) -> Result<(), AllocError>
+    ensures { OnOk result (Adds (IsTurnRefusal board.now player dice turn.now fault) out.old.items out.new.items) }
+{
+    match fault {
+        TurnFault::StepIllegal(playable) => {
+            put_illegal_step(out, board, player, dice, turn.steps(), playable)
+        }
+        TurnFault::MoreCanBePlayed => put_more_line(alloc, out, board, player, dice),
+        TurnFault::LargerMustBePlayed => put_larger_line(alloc, out, board, player, dice),
+    }
+}
+
+/// Adds the line that refuses the step behind so many that can be played.
+fn put_illegal_step(
+    out: &mut Vec<u8>,
+    board: &Board,
+    player: Player,
+    dice: Dice,
+    steps: &[Step],
+    playable: u8,
+) -> Result<(), AllocError>
+    ensures { OnOk result (Adds (IsStepLine board.now player dice steps.now playable) out.old.items out.new.items) }
+{
+    let refusal = refused_step(*board, player, dice, steps, playable);
+    put_step_refusal(out, player, dice, refusal)?;
+    put_text(out, "\n")?;
+    Ok(())
+}
+
+/// Adds the line that more steps must be played.
+fn put_more_line(
+    alloc: Global,
+    out: &mut Vec<u8>,
+    board: &Board,
+    player: Player,
+    dice: Dice,
+) -> Result<(), AllocError>
+    ensures { OnOk result (Adds (IsMoreLine board.now player dice) out.old.items out.new.items) }
+{
+    let turns = legal_turns(alloc, board, player, dice)?;
+    put_more(out, dice, &turns)?;
+    put_text(out, "\n")?;
+    Ok(())
+}
+
+/// Adds the line that the larger die must be played.
+fn put_larger_line(
+    alloc: Global,
+    out: &mut Vec<u8>,
+    board: &Board,
+    player: Player,
+    dice: Dice,
+) -> Result<(), AllocError>
+    ensures { OnOk result (Adds (IsLargerLine board.now player dice) out.old.items out.new.items) }
+{
+    let turns = legal_turns(alloc, board, player, dice)?;
+    put_larger(out, dice, &turns)?;
+    put_text(out, "\n")?;
+    Ok(())
+}
+
+/// Adds that more steps must be played, with the greatest of the legal turns.
+fn put_more(out: &mut Vec<u8>, dice: Dice, turns: &[Turn]) -> Result<(), AllocError>
+    ensures { OnOk result (out.new.items ≡ out.old.items ++ more_words dice turns.now) }
+{
+    match turns.split_first() {
+        None => put_text(out, "you must play more"),
+        Some((greatest, _)) => put_must_play(out, dice, greatest),
+    }
+}
+
+/// Adds that as many steps as this turn has must be played.
+#[tactic(auto, unfolding(crate::specs::TurnRefusals::must_play_words))]
+fn put_must_play(out: &mut Vec<u8>, dice: Dice, turn: &Turn) -> Result<(), AllocError>
+    ensures { OnOk result (out.new.items ≡ out.old.items ++ must_play_words dice turn.now) }
+{
+    put_text(out, "you must play ")?;
+    put_count(out, dice, turn.steps().len())?;
+    put_example(out, turn)?;
+    Ok(())
+}
+
+/// Adds how many steps must be played.
+fn put_count(out: &mut Vec<u8>, dice: Dice, count: usize) -> Result<(), AllocError>
+    ensures { OnOk result (out.new.items ≡ out.old.items ++ count_words dice count) }
+{
+    if dice.is_double() {
+        put_of_four(out, count as u64)
+    } else if count == 2 {
+        put_text(out, "both dice")
+    } else {
+        put_text(out, "a die")
+    }
+}
+
+/// Adds how many of four steps must be played.
+#[tactic(auto, unfolding(crate::specs::TurnRefusals::of_four_words))]
+fn put_of_four(out: &mut Vec<u8>, count: u64) -> Result<(), AllocError>
+    ensures { OnOk result (out.new.items ≡ out.old.items ++ of_four_words count) }
+{
+    put_number(out, count)?;
+    put_text(out, " of the 4 steps")?;
+    Ok(())
+}
+
+/// Adds that the larger die must be played, with the greatest of the legal turns.
+fn put_larger(out: &mut Vec<u8>, dice: Dice, turns: &[Turn]) -> Result<(), AllocError>
+    ensures { OnOk result (out.new.items ≡ out.old.items ++ larger_words dice turns.now) }
+{
+    match turns.split_first() {
+        None => put_text(out, "you must play the larger die"),
+        Some((greatest, _)) => put_must_play_larger(out, dice.larger(), greatest),
+    }
+}
+
+/// Adds that this die, the larger one, must be played, with a turn that plays it.
+#[tactic(auto, unfolding(crate::specs::TurnRefusals::must_play_larger_words))]
+fn put_must_play_larger(out: &mut Vec<u8>, larger: Die, turn: &Turn) -> Result<(), AllocError>
+    ensures { OnOk result (out.new.items ≡ out.old.items ++ must_play_larger_words (pips larger) turn.now) }
+{
+    put_text(out, "you must play the larger die, ")?;
+    put_die(out, larger)?;
+    put_example(out, turn)?;
+    Ok(())
+}
+
+/// Adds a turn that can be played.
+#[tactic(auto, unfolding(crate::specs::TurnRefusals::example_words))]
+fn put_example(out: &mut Vec<u8>, turn: &Turn) -> Result<(), AllocError>
+    ensures { OnOk result (out.new.items ≡ out.old.items ++ example_words turn.now) }
+{
+    put_text(out, ":")?;
+    put_steps(out, turn.steps())?;
+    put_text(out, " can be played")?;
+    Ok(())
+}

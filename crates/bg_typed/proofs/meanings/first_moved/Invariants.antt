@@ -1,0 +1,8 @@
+use Rattle.std.proofs.Common.{ℕ, ◌<◌, List, slice_index_or}
+use Rattle.bg_board.specs.FromTo.{FromTo}
+use Rattle.bg_mat.specs.Turns.{SameMovement}
+use Rattle.bg_typed.proofs.meanings.first_moved.Given as goal
+
+abbrev pub invariant-loop-turn : goal.invariant-loop-turn
+invariant-loop-turn l =
+    (k : ℕ) (d : List FromTo) → k < l.turn-index → SameMovement l.written (slice_index_or l.turns k d) → ⊥

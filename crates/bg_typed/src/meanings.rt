@@ -1,0 +1,163 @@
+//! The turn that the legs of a typed movement mean.
+ghost use Rattle.std.specs.Prelude.{◌≡◌, ◌≢◌, ◌≤◌, ◌↔◌, [], true, false, IfErr, IfOk, IsTrue, MatchOption, length};
+ghost use Rattle.bg_mat.specs.Turns.{SameMovement};
+ghost use Rattle.bg_typed.specs.FirstTurns.{HitsOtherwise, IsFirst, IsNone};
+ghost use Rattle.bg_typed.specs.Meanings.{HitAlike, MeansLegs, has_marks as is_marked};
+ghost use Rattle.bg_typed.specs.TypedFaults.{IsMeaningFault};
+
+use crate::TypedFault;
+use bg_board::{BAR, Board, Player, Step};
+use bg_mat::{Leg, MatFault, as_turn, find_turn, is_hit, same_movement, turn_fault};
+use bg_turns::{Dice, Turn, judge_turn, legal_turns};
+use std::alloc::Global;
+
+/// Whether two lists of steps hit on the same points.
+fn hit_alike(board: &Board, player: Player, one: &[Step], other: &[Step]) -> bool
+    ensures { IsTrue result ↔ HitAlike board.now player one.now other.now }
+{
+    for point in 0..BAR + 1 {
+        if is_hit(board, player, one, point) != is_hit(board, player, other, point) {
+            return false;
+        }
+    }
+    true
+}
+
+/// Whether a leg marks a hit.
+fn has_marks(legs: &[Leg]) -> bool
+    ensures { result ≡ is_marked legs.now }
+{
+    legs.iter().any(|leg| leg.hits)
+}
+
+/// The only legal turn.
+fn only_turn(alloc: Global, board: &Board, player: Player, dice: Dice) -> Result<Turn, TypedFault>
+    ensures means { IfOk result (λ turn. MeansLegs board.now player dice [] turn) }
+    ensures fault { IfErr result (IsMeaningFault board.now player dice []) }
+{
+    let turns = legal_turns(alloc, board, player, dice)?;
+    if turns.len() != 1 {
+        return Err(TypedFault::SeveralTurns);
+    }
+    Ok(turns[0].copy())
+}
+
+/// The turn of a movement in which hits are marked.
+fn marked_turn(
+    alloc: Global,
+    board: &Board,
+    player: Player,
+    dice: Dice,
+    legs: &[Leg],
+) -> Result<Turn, TypedFault>
+    requires few { length legs.now ≤ 4 }
+    requires marked { is_marked legs.now ≡ true }
+    ensures means { IfOk result (λ turn. MeansLegs board.now player dice legs.now turn) }
+    ensures fault { IfErr result (IsMeaningFault board.now player dice legs.now) }
+{
+    if let Some(turn) = find_turn(alloc, board, player, dice, legs)? {
+        return Ok(turn);
+    }
+    match turn_fault(alloc, board, player, dice, legs)? {
+        MatFault::WrongHits => Err(TypedFault::WrongHits),
+        _ => Err(TypedFault::NoSuchTurn),
+    }
+}
+
+/// The turn of a movement in which no hit is marked.
+fn unmarked_turn(
+    alloc: Global,
+    board: &Board,
+    player: Player,
+    dice: Dice,
+    legs: &[Leg],
+) -> Result<Turn, TypedFault>
+    requires few { length legs.now ≤ 4 }
+    requires some { legs.now ≢ [] }
+    requires unmarked { is_marked legs.now ≡ false }
+    ensures means { IfOk result (λ turn. MeansLegs board.now player dice legs.now turn) }
+    ensures fault { IfErr result (IsMeaningFault board.now player dice legs.now) }
+{
+    let written = as_turn(legs);
+    if judge_turn(board, player, dice, &written).is_ok() {
+        return Ok(written);
+    }
+    let turns = legal_turns(alloc, board, player, dice)?;
+    let Some(first) = first_moved(written.steps(), &turns) else {
+        return Err(TypedFault::NoSuchTurn);
+    };
+    match first_otherwise(board, player, written.steps(), &turns, first.steps()) {
+        Some(other) => Err(TypedFault::Ambiguous(first, other)),
+        None => Ok(first),
+    }
+}
+
+/// The first of some turns that has this movement.
+fn first_moved(written: &[Step], turns: &[Turn]) -> Option<Turn>
+    requires few { length written.now ≤ 4 }
+    ensures { MatchOption result (IsNone (SameMovement written.now) turns.now)
+        (λ turn. IsFirst (SameMovement written.now) turns.now turn) }
+{
+    for turn in turns {
+        if same_movement(written, turn.steps()) {
+            return Some(turn.copy());
+        }
+    }
+    None
+}
+
+/// The first of some turns that has this movement, and hits otherwise than these steps.
+fn first_otherwise(
+    board: &Board,
+    player: Player,
+    written: &[Step],
+    turns: &[Turn],
+    steps: &[Step],
+) -> Option<Turn>
+    requires few { length written.now ≤ 4 }
+    ensures { MatchOption result (IsNone (HitsOtherwise board.now player written.now steps.now) turns.now)
+        (λ turn. IsFirst (HitsOtherwise board.now player written.now steps.now) turns.now turn) }
+{
+    for turn in turns {
+        if hits_otherwise(board, player, written, steps, turn) {
+            return Some(turn.copy());
+        }
+    }
+    None
+}
+
+/// Whether a turn has this movement, and hits otherwise than these steps.
+fn hits_otherwise(
+    board: &Board,
+    player: Player,
+    written: &[Step],
+    steps: &[Step],
+    turn: &Turn,
+) -> bool
+    requires few { length written.now ≤ 4 }
+    ensures { IsTrue result ↔ HitsOtherwise board.now player written.now steps.now turn.now }
+{
+    same_movement(written, turn.steps()) && !hit_alike(board, player, steps, turn.steps())
+}
+
+/// The turn that at most four legs mean.
+pub(crate) fn turn_of_legs(
+    alloc: Global,
+    board: &Board,
+    player: Player,
+    dice: Dice,
+    legs: &[Leg],
+) -> Result<Turn, TypedFault>
+    requires { length legs.now ≤ 4 }
+    ensures means { IfOk result (λ turn. MeansLegs board.now player dice legs.now turn) }
+    ensures fault { IfErr result (IsMeaningFault board.now player dice legs.now) }
+{
+    if legs.is_empty() {
+        return only_turn(alloc, board, player, dice);
+    }
+    if has_marks(legs) {
+        marked_turn(alloc, board, player, dice, legs)
+    } else {
+        unmarked_turn(alloc, board, player, dice, legs)
+    }
+}
