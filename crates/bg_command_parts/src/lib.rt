@@ -1,5 +1,5 @@
-//! What the commands of one party share: its socket, who looks on and says why devices fail, and what is said where the
-//! party can't go on. For the commands of a program.
+//! What the commands of one party share: its socket, who looks on and says why devices fail, its logbook, and what is said
+//! where the party can't go on. For the commands of a program.
 //!
 //! ```
 //! // A party that can't save is down, and why is said on the standard error.
@@ -10,12 +10,20 @@
 //! ```
 #![tactic(auto)]
 
+mod logbooks;
 mod operators;
+mod others_saves;
+mod results;
+mod silences;
 mod sockets;
 mod witnesses;
 mod words;
 
+pub use logbooks::Logbook;
 pub use operators::Operator;
+pub use others_saves::{check_seat_folder, say_whose_saves};
+pub use results::{GameResult, MatchResult, Results};
+pub use silences::Silence;
 pub use sockets::{no_socket, socket_of};
-pub use witnesses::Witness;
+pub use witnesses::{Witness, is_out_of_step};
 pub use words::{stopped, tell_word};

@@ -113,8 +113,9 @@ impl<'a, R: Eprint> Onlooker for Witness<'a, R> {
     fn played(&mut self, _done: u32) {}
 }
 
-/// Whether a packet was refused that no party sends whose slots have what was last written to them.
-fn is_out_of_step(outcome: &Outcome) -> bool {
+/// Returns whether a packet was refused that no party sends whose slots have what was last written
+/// to them.
+pub fn is_out_of_step(outcome: &Outcome) -> bool {
     matches!(
         outcome,
         Outcome::Took(TakeOutcome::Ahead | TakeOutcome::NotYourTurn | TakeOutcome::Illegal(_))

@@ -1,9 +1,12 @@
 //! What is said of a party and of its referee.
 
+use crate::silences::Silence;
 use bg_console::{failed_barely, say};
-use bg_processes::Word;
+use bg_processes::{MatchFile, Word};
 use bg_reports::Ending;
 use bg_world::{Outcome, outcome_text};
+use std::fs::File;
+use std::rt::Files;
 
 /// Says why the party is down, or can't save, in a line of its own.
 pub fn stopped(rt: &impl Eprint, outcome: &Outcome) -> Ending {
@@ -11,11 +14,18 @@ pub fn stopped(rt: &impl Eprint, outcome: &Outcome) -> Ending {
     failed_barely(rt, line.as_str())
 }
 
-/// Says on the standard error whether the referee is heard of, where that has changed and somebody watches.
-pub fn tell_word(rt: &impl Eprint, word: Option<Word>, is_watched: bool) {
-    if let Some(word) = word {
-        if is_watched {
-            say(rt, word);
+/// Says on the standard error whether the referee of a match is heard of, where that has changed
+/// and somebody watches.
+pub fn tell_word<R>(rt: &R, table: &MatchFile, word: Option<Word>, is_watched: bool)
+where
+    R: Files<File = File> + Eprint + AllocGlobal,
+{
+    match word {
+        Some(Word::Silent) if is_watched => {
+            let (silent, why) = (Word::Silent, Silence::of(rt, table));
+            say(rt, format_args!("{silent}: {why}"));
         }
+        Some(heard) if is_watched => say(rt, heard),
+        _ => {}
     }
 }

@@ -3,12 +3,13 @@ mod requests;
 
 use crate::command_lines::check_refused;
 use bg_options::{Request, RequestFault, command_line};
+use bg_system::NameFault;
 use clap::error::ErrorKind;
 use requests::{is_between_processes, is_in_one_process, is_of_files, is_shown};
 use std::test::Fail;
 
 /// The words of commands, without the program's name.
-const WORDS: [&[&str]; 22] = [
+const WORDS: [&[&str]; 29] = [
     &["judge"],
     &["check", "--quiet", "a", "-", "b"],
     &["check", "--files-from", "-"],
@@ -78,6 +79,36 @@ const WORDS: [&[&str]; 22] = [
         "recover", "--match", "m", "--keys", "k", "--x", "x", "--o", "o", "--dir", "d", "t", "-",
     ],
     &["keys", "--dir", "d"],
+    &["list", "a", "b"],
+    &["list", "--format", "json", "t"],
+    &["referee", "--quiet", "--dir", "d"],
+    &["watch", "--match", "m", "--quiet", "--plain"],
+    &[
+        "play",
+        "--player",
+        "O",
+        "--match",
+        "m",
+        "--dir",
+        "d",
+        "--columns",
+        "60",
+        "--forced",
+    ],
+    &[
+        "new",
+        "--name-o",
+        "Otto",
+        "--length",
+        "5",
+        "--port",
+        "1024",
+        "--dir",
+        "d",
+        "--name-x",
+        "Anna \u{d6}",
+    ],
+    &["page", "--match", "m"],
 ];
 
 /// Whether the words of this row ask for what they should.
@@ -115,6 +146,42 @@ fn misplaced_files(rt: HostRuntime) -> Result<(), Fail> {
         let matches = line.try_get_matches_from(words.as_slice())?;
         let fault = Request::read(&matches).err();
         assert!(rt; fault == Some(RequestFault::MisplacedFile(name)), "{name}");
+    }
+    Ok(())
+}
+
+/// A name that is none is said, with its option.
+#[test]
+fn names_that_are_refused(rt: HostRuntime) -> Result<(), Fail> {
+    for (option, flag, why, said) in [
+        (
+            "name-x",
+            "--name-x=",
+            NameFault::Length,
+            "--name-x is refused: a name has 1 to 64 bytes of UTF-8",
+        ),
+        (
+            "name-o",
+            "--name-o= A",
+            NameFault::Blank,
+            "--name-o is refused: a name neither begins nor ends with a blank",
+        ),
+        (
+            "name-x",
+            "--name-x=A\u{202e}",
+            NameFault::Character,
+            "--name-x is refused: a name has no control characters, and none that change the direction of a text",
+        ),
+    ] {
+        let words = [
+            "bg_relay", "new", "--length", "1", "--port", "4000", "--dir", "d", flag,
+        ];
+        let line = command_line(rt.alloc(), Some("new"))?;
+        let matches = line.try_get_matches_from(words.as_slice())?;
+        let fault = Request::read(&matches).err();
+        assert!(rt; fault == Some(RequestFault::Name(option, why)), "{flag}");
+        let shown = format!(in rt.alloc(); "{}", RequestFault::Name(option, why))?;
+        assert!(rt; shown.as_str() == said, "{shown}");
     }
     Ok(())
 }

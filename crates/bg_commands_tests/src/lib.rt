@@ -5,6 +5,8 @@
 #[cfg(test)]
 mod arguments;
 #[cfg(test)]
+mod colours;
+#[cfg(test)]
 mod command_lines;
 #[cfg(test)]
 mod folders;
@@ -14,6 +16,8 @@ mod kept_output;
 mod onlookers;
 #[cfg(test)]
 mod operators;
+#[cfg(test)]
+mod pairings;
 #[cfg(test)]
 mod sim;
 #[cfg(test)]

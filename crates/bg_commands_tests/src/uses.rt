@@ -27,10 +27,10 @@ fn a_page_is_asked_for(rt: HostRuntime) -> Result<(), Fail> {
     // The command line has the command that its first argument names, and its help all of them.
     let words = ["bg_relay", "page", "--title", "Anna against Otto"];
     let matches = command_line(alloc, Some("page"))?.try_get_matches_from(words.as_slice())?;
-    let Ok(Request::Page { title, numbering }) = Request::read(&matches) else {
+    let Ok(Request::Page(page)) = Request::read(&matches) else {
         return Err(Fail::from("another request"));
     };
-    assert!(rt; title == "Anna against Otto" && numbering == Numbering::Mover);
+    assert!(rt; page.title == Some("Anna against Otto") && page.numbering == Numbering::Mover);
     // end
     Ok(())
 }

@@ -1,9 +1,11 @@
 //! What the commands of one party begin with, and why they don't begin or end early.
 
 use crate::messages::says::say_of;
-use crate::messages::{failed, failed_at, failed_for, wrong, wrong_at, wrong_for};
+use crate::messages::{failed, failed_at, failed_for, no_memory, wrong, wrong_at, wrong_for};
 use bg_reports::Ending;
-use bg_system::{FolderLock, KeyFile, MatchFile, Printable, Ticking, Waiting, name_of_key_file};
+use bg_system::{
+    FolderLock, KeyFile, MatchFile, NamedMatch, Printable, Ticking, Waiting, name_of_key_file,
+};
 use bg_wire::{SEAT_OF_O, SEAT_OF_X};
 use std::fs::{DirBuilder, File, TryLockError};
 use std::io::ErrorKind;
@@ -82,13 +84,50 @@ pub fn check_folder(
     }
 }
 
+/// The name of the folder that is made and removed again to see whether a folder can be written to.
+/// One that a killed process has left is removed by the next.
+const TRIAL: &str = ".bg_relay-trial";
+
+/// Refuses a folder in which the process may make nothing, as nothing could be saved there: ends
+/// with `WrongArguments`.
+pub fn check_writable(
+    rt: &(impl Files<File = File> + Eprint + AllocGlobal),
+    folder: &str,
+) -> Result<(), Ending> {
+    let Ok(trial) = format!(in rt.alloc(); "{folder}/{TRIAL}") else {
+        return Err(no_memory(rt));
+    };
+    match DirBuilder::new()
+        .mode(OWNER_ALONE)
+        .create(rt, trial.as_str())
+    {
+        Err(error)
+            if matches!(
+                error.kind(),
+                ErrorKind::PermissionDenied | ErrorKind::ReadOnlyFilesystem
+            ) => {
+            Err(wrong_for(
+                rt,
+                folder,
+                " can't be written to: give another --dir, or the right to write there",
+                &error,
+            ))
+        }
+        // Other reasons may pass, as a disk that is full; where a save fails that is said.
+        _ => {
+            let _ = fs::remove_dir(rt, trial.as_str());
+            Ok(())
+        }
+    }
+}
+
 /// Returns what the match file at a path says. Ends with `WrongArguments` where it is none, and with `Failed` where it
 /// can't be read.
 pub fn match_of(
     rt: &(impl Files<File = File> + Eprint + AllocGlobal),
     path: &str,
-) -> Result<MatchFile, Ending> {
-    match MatchFile::read(rt, path) {
+) -> Result<NamedMatch, Ending> {
+    match NamedMatch::read(rt, path) {
         Ok(Some(file)) => Ok(file),
         Ok(None) => Err(wrong_at(rt, path, " is no match file")),
         Err(error) => Err(failed_at(rt, path, " could not be read", &error)),
@@ -117,14 +156,14 @@ pub fn key_file_of(
     }
 }
 
-/// Returns what any key file or match file at a path says of its match. Ends with `WrongArguments` where it is none,
+/// Returns what any key file or match file at a path says of its match, with the names in it. Ends with `WrongArguments` where it is none,
 /// and with `Failed` where it can't be read.
 pub fn table_of(
     rt: &(impl Files<File = File> + Eprint + AllocGlobal),
     path: &str,
-) -> Result<MatchFile, Ending> {
+) -> Result<NamedMatch, Ending> {
     match KeyFile::read(rt, path) {
-        Ok(Some(file)) => Ok(file.table),
+        Ok(Some(file)) => Ok(file.named_match()),
         _ => match_of(rt, path),
     }
 }

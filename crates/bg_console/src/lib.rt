@@ -21,17 +21,22 @@
 
 mod beginnings;
 mod beside;
+mod breaking;
+mod colours;
 mod folder_keys;
 mod messages;
+mod pairings;
 mod published;
 mod screens;
 mod tellings;
 
 pub use beginnings::{
-    check_folder, key_file_of, lock_of, match_of, own_folder, table_of, tell_if_open, waited,
-    waiting_for,
+    check_folder, check_writable, key_file_of, lock_of, match_of, own_folder, table_of,
+    tell_if_open, waited, waiting_for,
 };
 pub use beside::{MatchBeside, matches_beside};
+pub use breaking::broken;
+pub use colours::{with_bold_offers, with_coloured_checkers};
 pub use folder_keys::{has_key_secret, key_files_in, key_files_of};
 pub use messages::progress::Progress;
 pub use messages::says::{say, say_failures, say_number, say_of, say_why};
@@ -39,6 +44,7 @@ pub use messages::{
     allocated, engine_failed, failed, failed_at, failed_barely, failed_for, no_memory, unread,
     unwritten, written, wrong, wrong_at, wrong_for,
 };
+pub use pairings::{Called, Pairing, title_of};
 pub use published::{Outputs, Published, is_one_file};
-pub use screens::columns;
+pub use screens::{Terminal, columns, output_terminal};
 pub use tellings::{Telling, print_board, print_text, put_entries, write_out};

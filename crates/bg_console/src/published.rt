@@ -81,6 +81,11 @@ impl<'a> Published<'a> {
         }
     }
 
+    /// Returns whether a file could not be written the last time.
+    pub fn is_failing(&self) -> bool {
+        self.is_failing
+    }
+
     /// Writes the files anew where they are old, and some time has passed since: behind each round, which brought news
     /// or not, and in which a tick was due or not. Until the referee was heard, a file that is there is left as it is,
     /// as it may have more.

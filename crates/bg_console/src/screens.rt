@@ -1,20 +1,59 @@
-//! How wide a screen is.
+//! What is known of the terminal that is printed to.
 
 use std::env;
+use std::env::VarError;
 use std::io::IsTerminal;
 
-/// The columns of a screen of which nothing is known.
+/// The columns and the lines of a screen of which nothing is known.
 const USUAL_COLUMNS: usize = 80;
+
+const USUAL_LINES: usize = 24;
+
+/// The kind of a terminal that knows no sequence.
+const DUMB: &str = "dumb";
+
+/// A terminal that is printed to.
+#[derive(Clone, Copy, Debug, PartialEq, Eq)]
+pub struct Terminal {
+    pub columns: usize,
+    pub lines: usize,
+    /// Whether it knows the sequences by which a screen is drawn anew in place.
+    pub is_drawn_on: bool,
+    /// Whether it is given colours.
+    pub has_colours: bool,
+}
 
 /// Returns how many columns the standard output has, where it is a terminal: as many as the variable
 /// COLUMNS of the environment says, and else 80, since the standard library has no call that asks the
 /// terminal.
 pub fn columns(rt: &HostRuntime) -> Option<usize> {
+    Some(output_terminal(rt)?.columns)
+}
+
+/// Returns what the environment says of the standard output, where it is a terminal: its columns
+/// and lines by COLUMNS and LINES, and else 80 and 24. One of the kind `dumb`, by TERM, knows no
+/// sequences, and has no colours. No terminal has colours where NO_COLOR is not empty.
+pub fn output_terminal(rt: &HostRuntime) -> Option<Terminal> {
     if !rt.stdout().is_terminal() {
         return None;
     }
-    match env::var(rt, "COLUMNS") {
-        Ok(value) => Some(value.parse().unwrap_or(USUAL_COLUMNS)),
-        Err(_) => Some(USUAL_COLUMNS),
-    }
+    let is_drawn_on = match env::var(rt, "TERM") {
+        Ok(kind) => kind.as_str() != DUMB,
+        Err(_) => true,
+    };
+    let wants_none = match env::var(rt, "NO_COLOR") {
+        Ok(value) => !value.is_empty(),
+        Err(error) => error != VarError::NotPresent,
+    };
+    Some(Terminal {
+        columns: number_in(rt, "COLUMNS").unwrap_or(USUAL_COLUMNS),
+        lines: number_in(rt, "LINES").unwrap_or(USUAL_LINES),
+        is_drawn_on,
+        has_colours: is_drawn_on && !wants_none,
+    })
+}
+
+/// The number that a variable of the environment says, if it says one.
+fn number_in(rt: &HostRuntime, name: &str) -> Option<usize> {
+    env::var(rt, name).ok()?.parse().ok()
 }

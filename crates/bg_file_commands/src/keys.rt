@@ -5,7 +5,7 @@ use bg_console::{
     check_folder, has_key_secret, key_files_of, lock_of, match_of, no_memory, tell_if_open,
 };
 use bg_reports::Ending;
-use bg_system::{KeyFiles, MatchFile};
+use bg_system::{KeyFiles, NamedMatch};
 use std::fs::File;
 use std::random::RandomSource;
 use std::rt::Files;
@@ -23,20 +23,21 @@ where
         return Err(no_memory(rt));
     };
     let file = match_of(rt, path.as_str())?;
-    let keys = keys_for(rt, folder, file)?;
+    let keys = keys_for(rt, folder, &file)?;
     write_key_files(rt, folder, &keys)?;
     tell_key_files(rt, folder)?;
     Ok(Ending::Served)
 }
 
-/// Returns the keys that the folder has, of its secret or of its key files; new ones where it has none.
-fn keys_for<R>(rt: &R, folder: &str, file: MatchFile) -> Result<KeyFiles, Ending>
+/// Returns the keys that the folder has, of its secret or of its key files; new ones where it has none. The names are
+/// those of the match file.
+fn keys_for<R>(rt: &R, folder: &str, file: &NamedMatch) -> Result<KeyFiles, Ending>
 where
     R: Files<File = File> + RandomSource + Eprint + AllocGlobal,
 {
     if !has_key_secret(rt, folder)? {
-        if let Some(kept) = key_files_of(rt, folder, &file)? {
-            return Ok(kept);
+        if let Some(kept) = key_files_of(rt, folder, &file.table)? {
+            return Ok(kept.named(&file.names));
         }
         make_secret_of_keys(rt, folder)?;
     }

@@ -21,6 +21,7 @@ pub mod import;
 mod inputs;
 pub mod judge;
 pub mod keys;
+pub mod list;
 mod new_folders;
 pub mod new_match;
 pub mod page;

@@ -3,7 +3,7 @@
 use bg_console::{failed, failed_at, has_key_secret, no_memory, own_folder, written, wrong};
 use bg_reports::Ending;
 use bg_system::{
-    FolderLock, KeyFiles, MatchFile, Printable, make_key_secret, make_secret, name_of_key_file,
+    FolderLock, KeyFiles, NamedMatch, Printable, make_key_secret, make_secret, name_of_key_file,
     read_key_secret,
 };
 use bg_wire::{FIRST_WATCHER, SEAT_OF_O, SEAT_OF_X};
@@ -66,13 +66,13 @@ where
     }
 }
 
-/// Returns the key files of the match whose keys are derived from the secret in the folder.
-pub(crate) fn derived_keys<R>(rt: &R, folder: &str, table: MatchFile) -> Result<KeyFiles, Ending>
+/// Returns the key files of the match, with its names, whose keys are derived from the secret in the folder.
+pub(crate) fn derived_keys<R>(rt: &R, folder: &str, file: &NamedMatch) -> Result<KeyFiles, Ending>
 where
     R: Files<File = File> + Eprint + AllocGlobal,
 {
     match read_key_secret(rt, folder) {
-        Ok(secret) => Ok(KeyFiles::derive(table, &secret)),
+        Ok(secret) => Ok(KeyFiles::derive(file.table, &secret).named(&file.names)),
         Err(error) => Err(failed_at(rt, folder, "/key-secret could not be read", &error)),
     }
 }
@@ -82,7 +82,7 @@ where
 pub(crate) fn end_folder<R>(
     rt: &R,
     folder: &str,
-    file: MatchFile,
+    file: &NamedMatch,
     keys: &KeyFiles,
 ) -> Result<(), Ending>
 where

@@ -9,31 +9,39 @@ use bg_console::{failed_for, written};
 use bg_match::Terms;
 use bg_options::NewOptions;
 use bg_reports::Ending;
-use bg_system::MatchFile;
+use bg_system::{MatchFile, NamedMatch, Names};
 use std::fs;
 use std::fs::File;
 use std::random::RandomSource;
 use std::rt::Files;
 
-/// Makes the match that the options name, and prints its file.
+/// Makes the match that the options name, and prints its line.
 pub fn run<R>(rt: &R, options: NewOptions<'_>) -> Result<Ending, Ending>
 where
     R: Files<File = File> + RandomSource + Print + Eprint + AllocGlobal,
 {
+    let names = options.names();
     let NewOptions {
         terms,
         port,
         folder,
+        ..
     } = options;
-    let file = make_match(rt, terms, port, folder)?;
-    written(rt, rt.print(file))?;
+    let file = make_match(rt, terms, port, names, folder)?;
+    written(rt, rt.print(file.table))?;
     tell_key_files(rt, folder)?;
     Ok(Ending::Served)
 }
 
 /// Makes the secrets first, and the match file last, so that where there is one the match is whole. The port is looked
 /// at before the folder is made too, so that nothing is left of a match whose port is refused.
-fn make_match<R>(rt: &R, terms: Terms, port: u16, folder: &str) -> Result<MatchFile, Ending>
+fn make_match<R>(
+    rt: &R,
+    terms: Terms,
+    port: u16,
+    names: Names,
+    folder: &str,
+) -> Result<NamedMatch, Ending>
 where
     R: Files<File = File> + RandomSource + Eprint + AllocGlobal,
 {
@@ -45,9 +53,10 @@ where
     let id = random_number(rt)?;
     make_secret_of_dice(rt, folder)?;
     make_secret_of_keys(rt, folder)?;
-    let file = MatchFile { id, terms, port };
-    let keys = derived_keys(rt, folder, file)?;
-    end_folder(rt, folder, file, &keys)?;
+    let table = MatchFile { id, terms, port };
+    let file = NamedMatch { table, names };
+    let keys = derived_keys(rt, folder, &file)?;
+    end_folder(rt, folder, &file, &keys)?;
     Ok(file)
 }
 

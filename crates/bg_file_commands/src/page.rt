@@ -1,17 +1,35 @@
 //! The command that makes a page of a transcript.
 
 use crate::inputs::read_record;
-use bg_console::{allocated, print_text};
-use bg_picture::{Numbering, page_text};
+use bg_console::{allocated, print_text, table_of, title_of};
+use bg_options::PageOptions;
+use bg_picture::page_text;
 use bg_reports::Ending;
+use bg_system::Names;
+use std::fs::File;
+use std::rt::Files;
 
-/// Prints the page of the transcript on the standard input, with this title and the points in these numbers.
-pub fn run<R>(rt: &R, title: &str, numbering: Numbering) -> Result<Ending, Ending>
+/// Prints the page of the transcript on the standard input, with the title and the points in the numbers that the options
+/// name. A match file or key file that they name says the title where they have none.
+pub fn run<R>(rt: &R, options: PageOptions<'_>) -> Result<Ending, Ending>
 where
-    R: Input + Print + Eprint + AllocGlobal,
+    R: Input + Files<File = File> + Print + Eprint + AllocGlobal,
 {
+    let PageOptions {
+        title,
+        match_path,
+        numbering,
+    } = options;
+    let names = match match_path {
+        Some(path) => table_of(rt, path)?.names,
+        None => Names::none(),
+    };
+    let title = title_of(rt, title, &names)?;
     let record = read_record(rt)?;
-    let text = allocated(rt, page_text(rt.alloc(), &record, title, numbering, 0))?;
+    let text = allocated(
+        rt,
+        page_text(rt.alloc(), &record, title.as_str(), numbering, 0),
+    )?;
     print_text(rt, &text)?;
     Ok(Ending::Told)
 }

@@ -12,7 +12,7 @@ use bg_console::{
 use bg_match::{Number, Record};
 use bg_options::RecoverOptions;
 use bg_reports::Ending;
-use bg_system::{Failures, FolderLock, KeyFiles, MatchFile, PartyFiles, Printable};
+use bg_system::{Failures, FolderLock, KeyFiles, NamedMatch, PartyFiles, Printable};
 use bg_wire::{REFEREE, next_save};
 use std::fs::File;
 use std::random::RandomSource;
@@ -32,18 +32,18 @@ where
     }
     let file = table_of(rt, options.match_path)?;
     let kept = match options.keys {
-        Some(folder) => Some(key_files_in(rt, folder, &file)?),
+        Some(folder) => Some(key_files_in(rt, folder, &file.table)?.named(&file.names)),
         None => None,
     };
     let seats = [(Player::X, options.x), (Player::O, options.o)];
     let mut locks: Vec<FolderLock> = Vec::new(rt.alloc());
-    let mut longest = Held::nothing(rt, file, options.match_path)?;
+    let mut longest = Held::nothing(rt, file.table, options.match_path)?;
     for (player, folder) in seats {
         check_folder(rt, folder, " is no folder")?;
         if locks.push(lock_of(rt, folder)?).is_err() {
             return Err(no_memory(rt));
         }
-        if let Some(saved) = seat_of(rt, file, folder, player)? {
+        if let Some(saved) = seat_of(rt, file.table, folder, player)? {
             longest = longest.or(
                 rt,
                 Held {
@@ -54,17 +54,17 @@ where
         }
     }
     for name in options.transcripts.iter().copied() {
-        let saved = saved_of(transcript_of(rt, file, name)?);
+        let saved = saved_of(transcript_of(rt, file.table, name)?);
         longest = longest.or(rt, Held { name, saved })?;
     }
-    make(rt, file, options.folder, kept, &longest)
+    make(rt, &file, options.folder, kept, &longest)
 }
 
 /// Makes the folder: a new secret of the dice, the first save with this record, the keys that are kept or new ones, and
 /// then the match file, so that where there is one the match is whole.
 fn make<R>(
     rt: &R,
-    file: MatchFile,
+    file: &NamedMatch,
     folder: &str,
     kept: Option<KeyFiles>,
     longest: &Held<'_>,
@@ -91,7 +91,7 @@ where
 fn keys_for<R>(
     rt: &R,
     folder: &str,
-    file: MatchFile,
+    file: &NamedMatch,
     kept: Option<KeyFiles>,
 ) -> Result<KeyFiles, Ending>
 where

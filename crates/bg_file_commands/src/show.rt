@@ -2,9 +2,10 @@
 
 use bg_console::{allocated, check_folder, failed_at, no_memory, print_text, say, wrong};
 use bg_options::ShowOptions;
-use bg_reports::{Ending, SlotBytes, folder_text, restored_transcript, show_text};
+use bg_reports::{Ending, SlotBytes, folder_text, party_text, restored_transcript, show_text};
 use bg_system::{SlotName, read_saved};
 use bg_wire::{REFEREE, SEAT_OF_O, SEAT_OF_X, Slot};
+use std::fs;
 use std::fs::File;
 use std::rt::Files;
 
@@ -62,7 +63,7 @@ where
     Ok(Ending::Shown { loads: false })
 }
 
-/// Shows the files of the parties in a folder.
+/// Shows the files of the parties in a folder, and those of a referee alone whose seats have theirs elsewhere.
 fn show_folder<R>(rt: &R, folder: &str) -> Result<Ending, Ending>
 where
     R: Files<File = File> + Print + Eprint + AllocGlobal,
@@ -71,9 +72,31 @@ where
     let referee = slots_of(rt, folder, REFEREE)?;
     let x = slots_of(rt, folder, SEAT_OF_X)?;
     let o = slots_of(rt, folder, SEAT_OF_O)?;
-    let (text, loads) = allocated(rt, folder_text(rt.alloc(), &referee, &x, &o))?;
+    let is_alone = !has_bytes(&x) && !has_bytes(&o) && has_match(rt, folder)?;
+    let shown = if is_alone {
+        party_text(rt.alloc(), REFEREE, &referee)
+    } else {
+        folder_text(rt.alloc(), &referee, &x, &o)
+    };
+    let (text, loads) = allocated(rt, shown)?;
     print_text(rt, &text)?;
     Ok(Ending::Shown { loads })
+}
+
+/// Whether one of the two files of a party has a byte.
+fn has_bytes(slots: &SlotBytes) -> bool {
+    !slots.zero.is_empty() || !slots.one.is_empty()
+}
+
+/// Whether a folder is that of a referee whose seats have folders of their own.
+fn has_match<R>(rt: &R, folder: &str) -> Result<bool, Ending>
+where
+    R: Files<File = File> + Eprint + AllocGlobal,
+{
+    match format!(in rt.alloc(); "{folder}/match") {
+        Ok(path) => Ok(fs::metadata(rt, path.as_str()).is_ok()),
+        Err(_) => Err(no_memory(rt)),
+    }
 }
 
 /// The bytes of the two files of a party in a folder.

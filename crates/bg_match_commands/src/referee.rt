@@ -1,14 +1,15 @@
 //! The command that runs the referee of a match.
 
-use bg_command_parts::{Witness, socket_of, stopped};
+use bg_command_parts::{Logbook, Witness, say_whose_saves, socket_of, stopped};
 use bg_console::{
-    Progress, check_folder, failed_at, has_key_secret, key_files_of, lock_of, match_of, no_memory,
-    say_failures, tell_if_open, waited, waiting_for, wrong,
+    Progress, check_folder, check_writable, failed_at, has_key_secret, key_files_of, lock_of,
+    match_of, no_memory, say_failures, tell_if_open, waited, waiting_for, wrong,
 };
 use bg_match::Number;
+use bg_options::RefereeOptions;
 use bg_processes::{
-    Failures, FileKeeper, Going, Keyring, MatchFile, PartySocket, Printable, RefereeProcess,
-    Ticking, Waiting, read_key_secret, read_secret,
+    Failures, FileKeeper, Going, Keyring, MatchFile, NamedMatch, PartySocket, Printable,
+    RefereeProcess, Ticking, Waiting, read_key_secret, read_secret,
 };
 use bg_reports::Ending;
 use bg_wire::REFEREE;
@@ -21,48 +22,80 @@ use std::time::Clock;
 type Referee<'a, R> = RefereeProcess<PartySocket<'a, R>, FileKeeper<'a, R>>;
 
 /// Runs the referee of the match in this folder, until the match is over.
-pub fn run<R>(rt: &R, folder: &str, progress: Progress) -> Result<Ending, Ending>
+pub fn run<R>(rt: &R, options: RefereeOptions<'_>, progress: Progress) -> Result<Ending, Ending>
 where
     R: Net + Files<File = File> + Clock + Print + Eprint + AllocGlobal,
 {
+    let RefereeOptions { folder, is_quiet } = options;
     check_folder(rt, folder, " is no folder")?;
     let _lock = lock_of(rt, folder)?;
     tell_if_open(rt, folder);
     let failures = Failures::new();
-    let (process, waiting, ticking) = begin(rt, folder, &failures)?;
+    let file = match_in(rt, folder)?;
+    check_writable(rt, folder)?;
+    let (process, waiting, ticking) = begin(rt, folder, &file.table, &failures)?;
+    let Some(record) = process.held() else {
+        return Err(Ending::Failed);
+    };
+    let mut logbook = Logbook::begin(rt, is_quiet, REFEREE, &file, record);
     let witness = Witness::new(rt, &failures, folder);
-    serve(rt, process, waiting, ticking, witness, progress)
+    let progress = if is_quiet {
+        Progress::start(rt, false)
+    } else {
+        progress
+    };
+    let ended = serve(
+        rt,
+        process,
+        waiting,
+        ticking,
+        witness,
+        &mut logbook,
+        progress,
+    );
+    logbook.end(ended.is_ok());
+    ended
 }
 
-/// The referee of the match in a folder, and how it waits; its devices note their failures there.
+/// What the match file of a folder says.
+fn match_in<R>(rt: &R, folder: &str) -> Result<NamedMatch, Ending>
+where
+    R: Files<File = File> + Eprint + AllocGlobal,
+{
+    match format!(in rt.alloc(); "{folder}/match") {
+        Ok(path) => match_of(rt, path.as_str()),
+        Err(_) => Err(no_memory(rt)),
+    }
+}
+
+/// The referee of the match in a folder, whose match file says this, and how it waits; its devices note their failures
+/// there.
 fn begin<'a, R>(
     rt: &'a R,
     folder: &str,
+    table: &MatchFile,
     failures: &'a Failures,
 ) -> Result<(Referee<'a, R>, Waiting, Ticking), Ending>
 where
     R: Net + Files<File = File> + Clock + Eprint + AllocGlobal,
 {
-    let Ok(path) = format!(in rt.alloc(); "{folder}/match") else {
-        return Err(no_memory(rt));
-    };
-    let file = match_of(rt, path.as_str())?;
     let key = match read_secret(rt, folder) {
         Ok(key) => key,
         Err(error) => return Err(failed_at(rt, folder, "/secret could not be read", &error)),
     };
-    let keys = keys_of(rt, folder, &file)?;
-    let link = socket_of(rt, file.port, REFEREE, keys, failures)?;
+    let keys = keys_of(rt, folder, table)?;
+    let link = socket_of(rt, table.port, REFEREE, keys, failures)?;
     let (waiting, ticking) = waiting_for(rt, link.descriptor(), false)?;
     let Ok(keeper) = FileKeeper::new(rt, folder, REFEREE, failures) else {
         return Err(no_memory(rt));
     };
-    let begun = RefereeProcess::begin(rt.alloc(), file.id, file.terms, key, link, keeper);
+    let begun = RefereeProcess::begin(rt.alloc(), table.id, table.terms, key, link, keeper);
     say_failures(rt, failures, folder);
     let Ok((process, outcome)) = begun else {
         return Err(wrong(rt, "length out of range"));
     };
     if outcome != Outcome::Restarted {
+        say_whose_saves(rt, folder, REFEREE, table, &outcome);
         return Err(stopped(rt, &outcome));
     }
     Ok((process, waiting, ticking))
@@ -97,6 +130,7 @@ fn serve<R>(
     waiting: Waiting,
     ticking: Ticking,
     witness: Witness<'_, R>,
+    logbook: &mut Logbook<'_, R>,
     progress: Progress,
 ) -> Result<Ending, Ending>
 where
@@ -113,6 +147,7 @@ where
             Err(outcome) => return Err(stopped(rt, &outcome)),
         }
         witness.check_files()?;
+        logbook.after_round(process.link(), process.held(), tick);
         let held = match process.held() {
             Some(record) => record.len(),
             None => 0,

@@ -2,15 +2,20 @@
 ghost use Rattle.std.specs.Prelude.{◌≤◌};
 ghost use Rattle.bg_wire.specs.Entries.Codes.{first_watcher};
 
-use bg_command_parts::{Witness, no_socket, tell_word};
+mod live_boards;
+mod screens;
+mod showing;
+
+use crate::watch::live_boards::LiveBoard;
+use crate::watch::showing::{Lines, Showing};
+use bg_command_parts::{Logbook, Witness, no_socket};
 use bg_console::{
-    MatchBeside, Outputs, Published, Telling, failed, key_file_of, matches_beside, waited,
-    waiting_for, wrong, wrong_at,
+    MatchBeside, Outputs, Published, Telling, Terminal, failed, key_file_of, matches_beside,
+    title_of, waited, waiting_for, wrong, wrong_at,
 };
 use bg_options::WatchOptions;
 use bg_processes::{
-    Failures, Going, Hearing, KeyFile, Keyring, MatchFile, PartySocket, Ticking, Waiting,
-    WatcherProcess,
+    Failures, Going, Hearing, Keyring, MatchFile, PartySocket, Ticking, Waiting, WatcherProcess,
 };
 use bg_reports::Ending;
 use bg_seals::Key;
@@ -21,8 +26,15 @@ use std::net::Net;
 use std::rt::Files;
 use std::time::Clock;
 
-/// Watches the match that the options name, prints its transcript, and keeps the files that were asked for.
-pub fn run<R>(rt: &R, options: WatchOptions<'_>, is_watched: bool) -> Result<Ending, Ending>
+/// Watches the match that the options name, and keeps the files that were asked for. Draws its
+/// board on the terminal, if the standard output is one, and else prints its transcript.
+/// `is_watched` says whether the standard error is one.
+pub fn run<R>(
+    rt: &R,
+    options: WatchOptions<'_>,
+    terminal: Option<Terminal>,
+    is_watched: bool,
+) -> Result<Ending, Ending>
 where
     R: Net + Files<File = File> + Clock + Print + Eprint + AllocGlobal,
 {
@@ -34,23 +46,56 @@ where
         title,
         numbering,
         goes_on,
+        is_plain,
+        is_quiet,
     } = options;
     check_outputs(rt, board, transcript, page)?;
+    let handed = key_file_of(rt, match_path, FIRST_WATCHER)?;
+    let file = handed.named_match();
+    let title = title_of(rt, title, &file.names)?;
     let published = Published::new(Outputs {
         board,
         transcript,
         page,
-        title,
+        title: title.as_str(),
         numbering,
         goes_on,
     });
     let failures = Failures::new();
-    let (process, waiting, ticking) = begin(rt, match_path, &failures)?;
-    // No file is a device of a watcher, so there is no folder to name.
-    let witness = Witness::new(rt, &failures, "");
-    watch(
-        rt, process, waiting, ticking, witness, published, is_watched,
-    )?;
+    let (table, key) = (&file.table, &handed.key);
+    let (party, process, waiting, ticking) = begin(rt, match_path, table, key, &failures)?;
+    let drawn_on = terminal.filter(|terminal| terminal.is_drawn_on && !is_plain);
+    // What is said for a log would tear the board, where both are at one terminal.
+    let is_quiet = is_quiet || (is_watched && drawn_on.is_some());
+    let mut logbook = Logbook::begin(rt, is_quiet, party, &file, process.held());
+    let says_too = !is_watched;
+    let mut showing = match drawn_on {
+        Some(terminal) => {
+            let board = LiveBoard::new(rt, terminal, &failures, says_too, file, process.held());
+            Showing::Board(board)
+        }
+        None => Showing::Lines(Lines {
+            rt,
+            telling: Telling::new(),
+            // No file is a device of a watcher, so there is no folder to name.
+            witness: Witness::new(rt, &failures, ""),
+            table: file.table,
+            is_quiet,
+            is_watched,
+        }),
+    };
+    let ended = watch(
+        rt,
+        process,
+        waiting,
+        ticking,
+        &mut showing,
+        &mut logbook,
+        published,
+        is_watched,
+    );
+    logbook.end(ended.is_ok());
+    ended?;
     Ok(Ending::Served)
 }
 
@@ -90,17 +135,19 @@ fn begins_at(beside: &[MatchBeside], port: u16, party: u8) -> bool {
     beside.iter().any(|other| u32::from(other.port) == own)
 }
 
-/// A watcher under the first number whose port is free, and not that of another referee, as far as the folders beside
-/// that of the key file tell; its socket notes its failures there.
+/// A watcher of this match, whose key file has this path and this key, under the first number whose port is free, and not
+/// that of another referee, as far as the folders beside that of the key file tell; its socket notes its failures there.
+/// With his number.
 fn begin<'a, R>(
     rt: &'a R,
     path: &str,
+    table: &MatchFile,
+    key: &Key,
     failures: &'a Failures,
-) -> Result<(Watcher<'a, R>, Waiting, Ticking), Ending>
+) -> Result<(u8, Watcher<'a, R>, Waiting, Ticking), Ending>
 where
     R: Net + Files<File = File> + Clock + Eprint + AllocGlobal,
 {
-    let KeyFile { table, key, .. } = key_file_of(rt, path, FIRST_WATCHER)?;
     let beside = matches_beside(rt, folder_of(path))?;
     for party in FIRST_WATCHER..=LAST_WATCHER {
         if begins_at(&beside, table.port, party) {
@@ -108,7 +155,10 @@ where
         }
         let keys = Keyring::OfParty(Key::new(key.bytes()));
         match PartySocket::bind(rt, rt, table.port, party, keys, failures) {
-            Ok(link) => return sit_down(rt, table, party, link),
+            Ok(link) => {
+                let (process, waiting, ticking) = sit_down(rt, *table, party, link)?;
+                return Ok((party, process, waiting, ticking));
+            }
             Err(error) if error.kind() == ErrorKind::AddrInUse => {}
             Err(error) => return Err(no_socket(rt, party, &error)),
         }
@@ -138,7 +188,8 @@ fn watch<R>(
     process: Watcher<'_, R>,
     waiting: Waiting,
     ticking: Ticking,
-    witness: Witness<'_, R>,
+    showing: &mut Showing<'_, R>,
+    logbook: &mut Logbook<'_, R>,
     published: Published<'_>,
     is_watched: bool,
 ) -> Result<(), Ending>
@@ -146,20 +197,19 @@ where
     R: Net + Files<File = File> + Clock + Print + Eprint + AllocGlobal,
 {
     let (mut process, mut waiting, mut ticking) = (process, waiting, ticking);
-    let (mut witness, mut published) = (witness, published);
+    let mut published = published;
     let mut hearing = Hearing::new(rt);
-    let mut telling = Telling::new();
     for _ in 0..u64::MAX {
         let (_, tick) = waited(rt, ticking.next_round(rt, &mut waiting))?;
-        let going = process.round(tick, &mut witness);
-        tell_word(
-            rt,
-            hearing.after_round(rt, process.link(), tick),
-            is_watched,
-        );
-        let news = telling.go_on(rt, process.held())?;
+        let going = process.round(tick, showing);
+        let word = hearing.after_round(rt, process.link(), tick);
         let is_heard = process.link().heard() > 0;
+        showing.tell_word(word, is_heard);
+        // Who is at a terminal is told sooner whether the referee is heard.
+        logbook.after_round(process.link(), Some(process.held()), tick && !is_watched);
+        let news = showing.go_on(process.held(), word, is_heard)?;
         published.after_round(rt, process.held(), news, tick, is_heard)?;
+        showing.note_files(published.is_failing());
         if going == Going::Over {
             return published.write(rt, process.held(), is_heard);
         }

@@ -7,6 +7,7 @@ pub(crate) mod export;
 pub(crate) mod import;
 pub(crate) mod judge;
 pub(crate) mod keys;
+pub(crate) mod list;
 pub(crate) mod new_match;
 pub(crate) mod page;
 pub(crate) mod picture;

@@ -5,10 +5,10 @@
 //! // The command line has the command that its first argument names, and its help all of them.
 //! let words = ["bg_relay", "page", "--title", "Anna against Otto"];
 //! let matches = command_line(alloc, Some("page"))?.try_get_matches_from(words.as_slice())?;
-//! let Ok(Request::Page { title, numbering }) = Request::read(&matches) else {
+//! let Ok(Request::Page(page)) = Request::read(&matches) else {
 //!     return Err(Fail::from("another request"));
 //! };
-//! assert!(rt; title == "Anna against Otto" && numbering == Numbering::Mover);
+//! assert!(rt; page.title == Some("Anna against Otto") && page.numbering == Numbering::Mover);
 //! ```
 #![tactic(auto)]
 
@@ -20,10 +20,13 @@ mod tasks;
 
 pub use commands::act::ActOptions;
 pub use commands::check::CheckOptions;
+pub use commands::list::{ListFormat, ListOptions};
 pub use commands::new_match::NewOptions;
-pub use commands::play::SeatOptions;
+pub use commands::page::PageOptions;
+pub use commands::play::{PlayOptions, SeatOptions};
 pub use commands::play_loop::LoopOptions;
 pub use commands::recover::RecoverOptions;
+pub use commands::referee::RefereeOptions;
 pub use commands::script::ScriptOptions;
 pub use commands::show::ShowOptions;
 pub use commands::sim::SimOptions;

@@ -2,18 +2,22 @@
 
 use crate::commands::act::ActOptions;
 use crate::commands::check::CheckOptions;
-use crate::commands::new_match::NewOptions;
-use crate::commands::play::SeatOptions;
+use crate::commands::list::ListOptions;
+use crate::commands::new_match::{NewOptions, check_names};
+use crate::commands::page::PageOptions;
+use crate::commands::play::{PlayOptions, SeatOptions};
 use crate::commands::play_loop::LoopOptions;
 use crate::commands::recover::RecoverOptions;
+use crate::commands::referee::RefereeOptions;
 use crate::commands::script::ScriptOptions;
 use crate::commands::show::ShowOptions;
 use crate::commands::sim::SimOptions;
 use crate::commands::watch::WatchOptions;
-use crate::shared::{has_misplaced_file, numbering_in, rules_in, title_in};
+use crate::shared::{has_misplaced_file, numbering_in, rules_in};
 use crate::tasks::Task;
 use bg_match::Rules;
 use bg_picture::Numbering;
+use bg_system::NameFault;
 use clap::ArgMatches;
 use std::fmt;
 use std::fmt::{Display, Formatter, Write};
@@ -23,30 +27,20 @@ use std::fmt::{Display, Formatter, Write};
 pub enum Request<'m, 'a> {
     Judge,
     Check(CheckOptions<'m, 'a>),
-    Import {
-        rules: Rules,
-    },
+    Import { rules: Rules },
     Export,
     Show(ShowOptions<'a>),
-    Page {
-        title: &'a str,
-        numbering: Numbering,
-    },
-    Picture {
-        numbering: Numbering,
-    },
+    List(ListOptions<'m, 'a>),
+    Page(PageOptions<'a>),
+    Picture { numbering: Numbering },
     Script(ScriptOptions),
     Sim(SimOptions),
     Loop(LoopOptions<'a>),
     New(NewOptions<'a>),
-    Keys {
-        folder: &'a str,
-    },
+    Keys { folder: &'a str },
     Recover(RecoverOptions<'m, 'a>),
-    Referee {
-        folder: &'a str,
-    },
-    Play(SeatOptions<'a>),
+    Referee(RefereeOptions<'a>),
+    Play(PlayOptions<'a>),
     Act(ActOptions<'m, 'a>),
     Auto(SeatOptions<'a>),
     Watch(WatchOptions<'a>),
@@ -57,6 +51,8 @@ pub enum Request<'m, 'a> {
 pub enum RequestFault {
     /// A file is named to a command that reads the standard input. With the command, and the options that it needs.
     MisplacedFile(&'static str),
+    /// A name that a player is given is none. With the option, and why.
+    Name(&'static str, NameFault),
     /// An option is missing, which the parser of the command line lets none be that is needed.
     Missing,
 }
@@ -68,6 +64,7 @@ impl Display for RequestFault {
                 let why = "a file is handed in on the standard input: bg_relay";
                 write!(f, "{why} {command} < FILE")
             }
+            RequestFault::Name(option, why) => write!(f, "--{option} is refused: {why}"),
             RequestFault::Missing => f.write_str("an option is missing"),
         }
     }
@@ -77,8 +74,8 @@ impl<'m, 'a> Request<'m, 'a> {
     /// Returns what the parsed arguments ask for.
     ///
     /// # Errors
-    /// `MisplacedFile` where a file is named to a command that reads the standard input, and `Missing` where there is
-    /// no command, or it lacks an option.
+    /// `MisplacedFile` where a file is named to a command that reads the standard input, `Name` where a name that a
+    /// player is given is none, and `Missing` where there is no command, or it lacks an option.
     pub fn read(matches: &'m ArgMatches<'a>) -> Result<Request<'m, 'a>, RequestFault> {
         let (name, options) = matches.subcommand().ok_or(RequestFault::Missing)?;
         let task = Task::named(name).ok_or(RequestFault::Missing)?;
@@ -87,6 +84,7 @@ impl<'m, 'a> Request<'m, 'a> {
                 return Err(RequestFault::MisplacedFile(command));
             }
         }
+        check_names(options)?;
         of_task(task, options).ok_or(RequestFault::Missing)
     }
 }
@@ -101,10 +99,8 @@ fn of_task<'m, 'a>(task: Task, options: &'m ArgMatches<'a>) -> Option<Request<'m
         },
         Task::Export => Request::Export,
         Task::Show => Request::Show(ShowOptions::read(options)),
-        Task::Page => Request::Page {
-            title: title_in(options),
-            numbering: numbering_in(options),
-        },
+        Task::List => Request::List(ListOptions::read(options)),
+        Task::Page => Request::Page(PageOptions::read(options)),
         Task::Picture => Request::Picture {
             numbering: numbering_in(options),
         },
@@ -116,10 +112,8 @@ fn of_task<'m, 'a>(task: Task, options: &'m ArgMatches<'a>) -> Option<Request<'m
             folder: options.get_str("dir")?,
         },
         Task::Recover => Request::Recover(RecoverOptions::read(options)?),
-        Task::Referee => Request::Referee {
-            folder: options.get_str("dir")?,
-        },
-        Task::Play => Request::Play(SeatOptions::read(options)?),
+        Task::Referee => Request::Referee(RefereeOptions::read(options)?),
+        Task::Play => Request::Play(PlayOptions::read(options)?),
         Task::Act => Request::Act(ActOptions::read(options)?),
         Task::Auto => Request::Auto(SeatOptions::read(options)?),
         Task::Watch => Request::Watch(WatchOptions::read(options)?),

@@ -11,9 +11,6 @@ use std::alloc::Global;
 /// The most watchers that a match has.
 const MOST_WATCHERS: u8 = LAST_WATCHER - FIRST_WATCHER + 1;
 
-/// The title of a page that is given none.
-const USUAL_TITLE: &str = "Backgammon match";
-
 /// A file that is named to a command which reads the standard input. It is an argument that help leaves out, so that
 /// the answer can say how to hand the file in.
 const MISPLACED_FILE: &str = "FILE";
@@ -125,13 +122,13 @@ pub(crate) fn numbering_in(options: &ArgMatches<'_>) -> Numbering {
 pub(crate) const TITLE: Argument = Argument {
     name: "title",
     kind: Kind::Text("TITLE"),
-    need: Need::Usually(USUAL_TITLE),
-    about: "The title of the page, any text",
+    need: Need::Optional,
+    about: "The title of the page; without it the names of both players, or else \"Backgammon match\"",
 };
 
-/// The title of a page, by the options.
-pub(crate) fn title_in<'a>(options: &ArgMatches<'a>) -> &'a str {
-    options.get_str("title").unwrap_or(USUAL_TITLE)
+/// The title of a page, by the options, where one is given.
+pub(crate) fn title_in<'a>(options: &ArgMatches<'a>) -> Option<&'a str> {
+    options.get_str("title")
 }
 
 pub(crate) const MATCH: Argument = Argument {
@@ -139,6 +136,14 @@ pub(crate) const MATCH: Argument = Argument {
     kind: Kind::Text("FILE"),
     need: Need::Required,
     about: "The key file that `new` made for the player, or for who watches",
+};
+
+/// The option to say nothing for a log.
+pub(crate) const QUIET_LOG: Argument = Argument {
+    name: "quiet",
+    kind: Kind::Flag,
+    need: Need::Optional,
+    about: "Say on the standard error only what is wrong",
 };
 
 pub(crate) const FOLDER: Argument = Argument {

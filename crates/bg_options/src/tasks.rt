@@ -1,7 +1,7 @@
 //! What the program can be asked to do.
 
 use crate::commands::{
-    act, auto, check, export, import, judge, keys, new_match, page, picture, play, play_loop,
+    act, auto, check, export, import, judge, keys, list, new_match, page, picture, play, play_loop,
     recover, referee, script, show, sim, watch,
 };
 use clap::{Command, Error};
@@ -18,6 +18,7 @@ pub enum Task {
     Import,
     Export,
     Show,
+    List,
     Page,
     Picture,
     Script,
@@ -34,12 +35,13 @@ pub enum Task {
 }
 
 /// The commands by their names, in the order in which help lists them.
-pub const TASKS: [(&str, Task); 18] = [
+pub const TASKS: [(&str, Task); 19] = [
     ("judge", Task::Judge),
     ("check", Task::Check),
     ("import", Task::Import),
     ("export", Task::Export),
     ("show", Task::Show),
+    ("list", Task::List),
     ("page", Task::Page),
     ("picture", Task::Picture),
     ("script", Task::Script),
@@ -87,6 +89,7 @@ impl Task {
             Task::Import => import::command(alloc),
             Task::Export => export::command(alloc),
             Task::Show => show::command(alloc),
+            Task::List => list::command(alloc),
             Task::Page => page::command(alloc),
             Task::Picture => picture::command(alloc),
             Task::Script => script::command(alloc),

@@ -29,8 +29,9 @@ mod sockets;
 
 pub use bg_system::{
     DeviceFailure, DrainedFailures, FailedCall, FailureText, Failures, FolderLock, HIGHEST_PORT,
-    KeyFile, Keyring, LOWEST_PORT, MatchFile, Printable, PrintableLines, Ready, SlotName, Ticking,
-    Waiting, make_key_secret, make_secret, publish, read_key_secret, read_saved, read_secret,
+    KeyFile, Keyring, LOWEST_PORT, MatchFile, NamedMatch, Names, Presence, Printable,
+    PrintableLines, Ready, SlotName, Ticking, Waiting, make_key_secret, make_secret, publish,
+    read_key_secret, read_saved, read_secret,
 };
 pub use files::file_keepers::FileKeeper;
 pub use loops::{play_loop, run_loop};
@@ -39,6 +40,8 @@ pub use processes::referee::RefereeProcess;
 pub use processes::rounds::{Going, MOST_PARTIES};
 pub use processes::seat::SeatProcess;
 pub use processes::watcher::WatcherProcess;
+pub use sockets::attendance::{Attendance, Change};
 pub use sockets::hearing::{Hearing, Word};
+pub use sockets::opponents::{Opponent, OpponentChange};
 pub use sockets::party_sockets::PartySocket;
 pub use sockets::udp_links::UdpLink;

@@ -14,7 +14,11 @@ mod killed_processes;
 #[cfg(test)]
 mod loops;
 #[cfg(test)]
+mod opponents;
+#[cfg(test)]
 mod party_sockets;
+#[cfg(test)]
+mod presences;
 #[cfg(test)]
 mod rules;
 #[cfg(test)]

@@ -4,7 +4,7 @@ use crate::helpers::party_scripts::Step::{
     Asks, CantSend, Clock, Heard, Rebinds, Sends, Strays, Takes, TakesNothing, TakesNothingAs,
 };
 use crate::helpers::party_scripts::{SetClock, Sockets, Step};
-use bg_processes::{Failures, Hearing, Ticking, Waiting, Word};
+use bg_processes::{Attendance, Change, Failures, Hearing, Ticking, Waiting, Word};
 use bg_world::Link;
 use std::io::ErrorKind;
 use std::process::Abort;
@@ -172,6 +172,37 @@ fn silence_of_the_referee(rt: HostRuntime) {
         take(&rt, sockets.of(1), 1);
         let word = hearing.after_round(&clock, sockets.of(1), true);
         assert!(rt; word == said_at(tick), "tick {tick}");
+    }
+}
+
+/// What is told of X after so many milliseconds, who is heard after 1000, 60,000 and 200,000.
+fn told_at(time: u64) -> Option<Change> {
+    match time {
+        1000 => Some(Change::Came),
+        120_000 | 260_000 => Some(Change::Left),
+        200_000 => Some(Change::Returned),
+        _ => None,
+    }
+}
+
+#[test]
+fn parties_that_come_and_go(rt: HostRuntime) {
+    let (clock, failures) = (SetClock::new(), Failures::new());
+    let mut sockets = Sockets::new(&rt, &clock, &failures);
+    let mut attendance = Attendance::new();
+    for time in [
+        0, 999, 1000, 1001, 60_000, 119_999, 120_000, 180_000, 200_000, 259_999, 260_000, 400_000,
+    ] {
+        clock.milliseconds.set(time);
+        if matches!(time, 1000 | 60_000 | 200_000) {
+            sockets.play(&[Sends(1, 0, &X_WANTS), Takes(0, &X_WANTS)]);
+        }
+        let found = attendance.change(sockets.of(0), 1);
+        assert!(rt; found == told_at(time), "X after {time}");
+        assert!(rt;
+            attendance.change(sockets.of(0), 2).is_none(),
+            "O after {time}"
+        );
     }
 }
 

@@ -6,9 +6,9 @@ pub use bg_auto::{
     DiceAttempts, LoopFault, MemoryWorld, Simulation, auto_action, dice_word, event_of,
     event_words, run_rounds, sim_text,
 };
-use bg_console::{Progress, columns, failed, no_memory, unwritten, wrong};
+use bg_console::{Progress, columns, failed, no_memory, output_terminal, unwritten, wrong};
 use bg_file_commands::{
-    check, export, import, judge, keys, new_match, page, picture, recover, show,
+    check, export, import, judge, keys, list, new_match, page, picture, recover, show,
 };
 use bg_match_commands::{play_loop, referee, script, sim, watch};
 use bg_options::{Request, command_line};
@@ -68,7 +68,8 @@ fn obey(rt: &HostRuntime, request: Request<'_, '_>) -> Result<Ending, Ending> {
         Request::Import { rules } => import::run(rt, rules),
         Request::Export => export::run(rt),
         Request::Show(options) => show::run(rt, options),
-        Request::Page { title, numbering } => page::run(rt, title, numbering),
+        Request::List(options) => list::run(rt, options),
+        Request::Page(options) => page::run(rt, options),
         Request::Picture { numbering } => picture::run(rt, numbering),
         Request::Script(options) => script::run(rt, options),
         Request::Sim(options) => sim::run(rt, options, progress),
@@ -76,11 +77,11 @@ fn obey(rt: &HostRuntime, request: Request<'_, '_>) -> Result<Ending, Ending> {
         Request::New(options) => new_match::run(rt, options),
         Request::Keys { folder } => keys::run(rt, folder),
         Request::Recover(options) => recover::run(rt, options),
-        Request::Referee { folder } => referee::run(rt, folder, progress),
-        Request::Play(options) => play::run(rt, options),
+        Request::Referee(options) => referee::run(rt, options, progress),
+        Request::Play(options) => play::run(rt, options, output_terminal(rt)),
         Request::Act(options) => act::run(rt, options, is_watched),
         Request::Auto(options) => auto::run(rt, options, is_watched),
-        Request::Watch(options) => watch::run(rt, options, is_watched),
+        Request::Watch(options) => watch::run(rt, options, output_terminal(rt), is_watched),
     }
 }
 

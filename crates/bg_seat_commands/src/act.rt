@@ -2,7 +2,7 @@
 
 use crate::seats::Seat;
 use crate::typed_lines::joined;
-use bg_command_parts::tell_word;
+use bg_command_parts::{Silence, tell_word};
 use bg_console::{
     allocated, failed, print_board, put_entries, say, say_number, write_out, written, wrong,
 };
@@ -93,7 +93,7 @@ where
     let mut ticks = 0u32;
     for _ in 0..u64::MAX {
         let round = seat.next_round()?;
-        tell_word(rt, round.word, is_watched);
+        tell_word(rt, &seat.table, round.word, is_watched);
         if round.foreign.is_some() {
             return Err(Ending::ActionRefused);
         }
@@ -165,6 +165,13 @@ where
                 " is kept, and goes out with the next call",
             );
             Ending::Failed
+        }
+        None if seat.process.link().heard() == 0 => {
+            let why = Silence::of(rt, &seat.table);
+            failed(
+                rt,
+                format_args!("the time is over, and nothing was heard of the referee: {why}"),
+            )
         }
         None => failed(rt, "the time is over"),
     }

@@ -31,7 +31,7 @@ where
     let mut telling = Telling::new();
     for _ in 0..u64::MAX {
         let round = seat.next_round()?;
-        tell_word(rt, round.word, is_watched);
+        tell_word(rt, &seat.table, round.word, is_watched);
         if let Some(record) = seat.process.held() {
             telling.go_on(rt, record)?;
         }

@@ -1,15 +1,16 @@
 //! The process of a seat, for the commands that play.
 
 use bg_board::Player;
-use bg_command_parts::{Witness, socket_of, stopped};
+use bg_command_parts::{Witness, check_seat_folder, say_whose_saves, socket_of, stopped};
 use bg_console::{
-    key_file_of, no_memory, own_folder, say_failures, say_number, waited, waiting_for, wrong,
+    check_writable, key_file_of, no_memory, own_folder, say_failures, say_number, waited,
+    waiting_for, wrong,
 };
 use bg_match::{Action, Number, Record};
 use bg_options::SeatOptions;
 use bg_processes::{
-    Failures, FileKeeper, FolderLock, Going, Hearing, KeyFile, Keyring, PartySocket, SeatProcess,
-    Ticking, Waiting, Word,
+    Failures, FileKeeper, FolderLock, Going, Hearing, KeyFile, Keyring, MatchFile, Names,
+    PartySocket, SeatProcess, Ticking, Waiting, Word,
 };
 use bg_reports::{Ending, ending_of};
 use bg_wire::party_of;
@@ -25,7 +26,11 @@ type Process<'a, R> = SeatProcess<PartySocket<'a, R>, FileKeeper<'a, R>>;
 #[derive(Drop)]
 pub(crate) struct Seat<'a, R> {
     rt: &'a R,
+    /// What its key file says of the match.
+    pub(crate) table: MatchFile,
     pub(crate) process: Process<'a, R>,
+    /// How the players are called.
+    pub(crate) names: Names,
     pub(crate) waiting: Waiting,
     witness: Witness<'a, R>,
     ticking: Ticking,
@@ -68,8 +73,15 @@ where
             folder,
         } = options;
         let party = party_of(player);
-        let KeyFile { table, key, .. } = key_file_of(rt, match_path, party)?;
+        let KeyFile {
+            table,
+            names,
+            key,
+            ..
+        } = key_file_of(rt, match_path, party)?;
         let lock = own_folder(rt, folder)?;
+        check_seat_folder(rt, folder, player)?;
+        check_writable(rt, folder)?;
         let link = socket_of(rt, table.port, party, Keyring::OfParty(key), failures)?;
         let (waiting, ticking) = waiting_for(rt, link.descriptor(), with_input)?;
         let Ok(keeper) = FileKeeper::new(rt, folder, party, failures) else {
@@ -81,14 +93,17 @@ where
             return Err(wrong(rt, "length out of range"));
         };
         if outcome != Outcome::Restarted {
+            say_whose_saves(rt, folder, party, &table, &outcome);
             return Err(stopped(rt, &outcome));
         }
         let known = count_of(process.held());
         Ok(Seat {
             rt,
+            table,
             player,
             known,
             process,
+            names,
             waiting,
             witness: Witness::new(rt, failures, folder),
             ticking,

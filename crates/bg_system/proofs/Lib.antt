@@ -1,5 +1,8 @@
 pub mod ReadNumbers
 pub mod MatchTexts
+pub mod NameBytes
+pub mod NameTexts
+pub mod MatchedNames
 pub mod Secrets
 pub mod KeyDigits
 pub mod KeyTexts

@@ -1,5 +1,9 @@
 pub mod Numbers
 pub mod MatchFiles
+pub mod Names
+pub mod NameLines
+pub mod NamedMatches
 pub mod Senders
 pub mod KeyFiles
 pub mod Keyrings
+pub mod Notices

@@ -4,7 +4,8 @@ use crate::seals::keys::SECRET;
 use bg_match::{Rules, Terms};
 use bg_seals::{Key, MasterSecret};
 use bg_system::{
-    KeyFile, KeyFiles, Keyring, MatchFile, make_key_secret, name_of_key_file, read_key_secret,
+    KeyFile, KeyFiles, Keyring, MatchFile, Names, make_key_secret, name_of_key_file,
+    read_key_secret,
 };
 use std::fs;
 use std::io::ErrorKind;
@@ -34,6 +35,7 @@ key 3 f23c903e8be5d05a05177d2a64c1f60431eea1d42c09d41b9152479ea4e9f0a2
 fn texts_of_key_files(rt: HostRuntime) -> Result<(), Fail> {
     let file = KeyFile {
         table: TABLE,
+        names: Names::none(),
         party: 2,
         key: Key::new(&SECRET),
     };

@@ -4,7 +4,7 @@ use bg_seals::{Key, MOST_PACKET_BYTES, MasterSecret};
 use bg_system::{Keyring, SIGN_OF_LIFE, heard};
 use std::net::{Ipv4Addr, SocketAddr};
 
-const PORT: u16 = 4000;
+pub(crate) const PORT: u16 = 4000;
 
 /// Party 3 holds nothing of match 1, as another program sealed it under the key that is derived from the bytes 0 to 31.
 const WANT_OF_3: [u8; 34] = [
@@ -25,15 +25,15 @@ const OPENING: [u8; 21] = [
     0x42, 0x47, 2, 3, 0, 0, 0, 0, 0, 0, 0, 1, 1, 0, 0, 0, 1, 1, 1, 5, 6,
 ];
 
-fn referee() -> Keyring {
+pub(crate) fn referee() -> Keyring {
     Keyring::of_referee(&MasterSecret::new(&SECRET), 1)
 }
 
-fn party(number: u8) -> Keyring {
+pub(crate) fn party(number: u8) -> Keyring {
     Keyring::OfParty(MasterSecret::new(&SECRET).key_of(1, number))
 }
 
-fn address(port: u16) -> SocketAddr {
+pub(crate) fn address(port: u16) -> SocketAddr {
     SocketAddr::from((Ipv4Addr::LOCALHOST, port))
 }
 

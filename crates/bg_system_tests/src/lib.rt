@@ -14,6 +14,10 @@ mod keyrings;
 #[cfg(test)]
 mod match_files;
 #[cfg(test)]
+mod names;
+#[cfg(test)]
+mod notices;
+#[cfg(test)]
 mod own_sockets;
 #[cfg(test)]
 mod party_files;

@@ -2,8 +2,8 @@
 use bg_board::Player;
 use bg_match::{Rules, Terms};
 use bg_options::{
-    ActOptions, CheckOptions, LoopOptions, NewOptions, RecoverOptions, Request, ScriptOptions,
-    SeatOptions, ShowOptions, SimOptions, WatchOptions,
+    ActOptions, CheckOptions, ListFormat, ListOptions, LoopOptions, NewOptions, RecoverOptions,
+    RefereeOptions, Request, ScriptOptions, SeatOptions, ShowOptions, SimOptions, WatchOptions,
 };
 use bg_picture::Numbering;
 
@@ -88,13 +88,20 @@ pub(crate) fn is_shown(row: usize, request: &Request<'_, '_>) -> bool {
                 },
             ),
         ) => { *path0 == "a" && *path1 == Some("b") && *wants_transcript }
-        (8, Request::Page { title, numbering }) => {
-            *title == "A & B" && *numbering == Numbering::X
+        (8, Request::Page(page)) => {
+            (page.title, page.match_path) == (Some("A & B"), None) && page.numbering == Numbering::X
         }
-        (9, Request::Page { title, numbering }) => {
-            *title == "Backgammon match" && *numbering == Numbering::Mover
+        (9, Request::Page(page)) => {
+            (page.title, page.match_path) == (None, None) && page.numbering == Numbering::Mover
         }
+        (28, Request::Page(page)) => (page.title, page.match_path) == (None, Some("m")),
         (10, Request::Picture { numbering }) => *numbering == Numbering::X,
+        (22, Request::List(ListOptions { folders, format })) => {
+            *folders == ["a", "b"].as_slice() && *format == ListFormat::Text
+        }
+        (23, Request::List(ListOptions { folders, format })) => {
+            *folders == ["t"].as_slice() && *format == ListFormat::Json
+        }
         _ => false,
     }
 }
@@ -151,6 +158,8 @@ pub(crate) fn is_between_processes(row: usize, request: &Request<'_, '_>) -> boo
                 NewOptions {
                     terms,
                     port,
+                    name_x: None,
+                    name_o: None,
                     folder,
                 },
             ),
@@ -162,8 +171,23 @@ pub(crate) fn is_between_processes(row: usize, request: &Request<'_, '_>) -> boo
                 }
                 && (*port, *folder) == (65280, "d")
         }
-        (15, Request::Referee { folder }) => *folder == "d",
-        (16, Request::Play(seat)) => is_seat(seat, Player::X),
+        (27, Request::New(new)) => {
+            (new.port, new.folder) == (1024, "d")
+                && (new.name_x, new.name_o) == (Some("Anna \u{d6}"), Some("Otto"))
+                && new
+                    .names()
+                    .x
+                    .is_some_and(|name| name.as_str() == "Anna \u{d6}")
+                && new.names().o.is_some_and(|name| name.as_str() == "Otto")
+        }
+        (15, Request::Referee(RefereeOptions { folder, is_quiet })) => *folder == "d" && !*is_quiet,
+        (24, Request::Referee(RefereeOptions { folder, is_quiet })) => *folder == "d" && *is_quiet,
+        (16, Request::Play(play)) => {
+            is_seat(&play.seat, Player::X) && play.columns.is_none() && !play.plays_forced
+        }
+        (26, Request::Play(play)) => {
+            is_seat(&play.seat, Player::O) && play.columns == Some(60) && play.plays_forced
+        }
         (
             17,
             Request::Act(
@@ -189,12 +213,25 @@ pub(crate) fn is_between_processes(row: usize, request: &Request<'_, '_>) -> boo
                     transcript,
                     page,
                     goes_on: true,
+                    is_plain: false,
+                    is_quiet: false,
                     ..
                 },
             ),
         ) => {
             *match_path == "m" && (*board, *transcript, *page) == (Some("b"), Some("t"), Some("p"))
         }
+        (
+            25,
+            Request::Watch(
+                WatchOptions {
+                    goes_on: false,
+                    is_plain: true,
+                    is_quiet: true,
+                    ..
+                },
+            ),
+        ) => true,
         _ => false,
     }
 }

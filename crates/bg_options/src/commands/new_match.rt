@@ -1,9 +1,10 @@
 //! The options and help of the command that makes a match between processes.
 
 use crate::arguments::{Argument, Kind, Need, described, with_all};
+use crate::requests::RequestFault;
 use crate::shared::{FOLDER, LENGTH, RULES, THREE_TERMINALS, byte_in, number_in, rules_in};
 use bg_match::Terms;
-use bg_system::{HIGHEST_PORT, LOWEST_PORT};
+use bg_system::{HIGHEST_PORT, LOWEST_PORT, Name, Names};
 use clap::{ArgMatches, Command, Error};
 use std::alloc::Global;
 
@@ -14,8 +15,14 @@ const ABOUT_NEW: &str = "Make a match between processes.\n\
              `match`. Of the others hand `match-x` to player X, `match-o` to player O, and `match-watch` to who\n\
              may watch: each has the key of its party, so show it to nobody else. `secret`, by which the dice\n\
              go, and `key-secret`, which all keys are derived from, stay with the referee. A match takes the port\n\
-             P and the 255 above it. Ends with status 0; with 2 where DIR has a match already, or another match\n\
-             beside it one of these ports; with 1 where reading, writing or memory failed.";
+             P and the 255 above it.\n\
+             \n\
+             A match may have the names of its players, which `play`, `watch`, `list` and pages show: each has 1 to\n\
+             64 bytes, no control characters, none that change the direction of a text, and no blank at its\n\
+             beginning or its end. The files of a match with names need a program that knows names.\n\
+             \n\
+             Ends with status 0; with 2 where a name is refused, DIR has a match already, or another match beside it\n\
+             has one of these ports; with 1 where reading, writing or memory failed.";
 
 /// What a match between processes is to be, and where its files are to be made.
 #[derive(Clone, Copy)]
@@ -23,6 +30,9 @@ pub struct NewOptions<'a> {
     pub terms: Terms,
     /// The referee's port, from 1024 to 65280.
     pub port: u16,
+    /// The names of X and of O, of those who have one.
+    pub name_x: Option<&'a str>,
+    pub name_o: Option<&'a str>,
     pub folder: &'a str,
 }
 
@@ -34,10 +44,57 @@ impl<'a> NewOptions<'a> {
                 rules: rules_in(options)?,
             },
             port: u16::try_from(number_in(options, "port")?).ok()?,
+            name_x: options.get_str(NAME_X.name),
+            name_o: options.get_str(NAME_O.name),
             folder: options.get_str("dir")?,
         })
     }
+
+    /// Returns how the players are called.
+    pub fn names(&self) -> Names {
+        Names {
+            x: named(self.name_x),
+            o: named(self.name_o),
+        }
+    }
 }
+
+/// Refuses a name that options give to a player and that is none. A command without such options gives none.
+///
+/// # Errors
+/// `Name`, of the first of the two.
+pub(crate) fn check_names(options: &ArgMatches<'_>) -> Result<(), RequestFault> {
+    for option in [NAME_X.name, NAME_O.name] {
+        if let Some(text) = options.get_str(option) {
+            if let Err(why) = Name::new(text) {
+                return Err(RequestFault::Name(option, why));
+            }
+        }
+    }
+    Ok(())
+}
+
+/// The name that a text is, which was looked at before.
+fn named(text: Option<&str>) -> Option<Name> {
+    match Name::new(text?) {
+        Ok(name) => Some(name),
+        Err(_) => None,
+    }
+}
+
+const NAME_X: Argument = Argument {
+    name: "name-x",
+    kind: Kind::Text("NAME"),
+    need: Need::Optional,
+    about: "The name of player X, 1 to 64 bytes",
+};
+
+const NAME_O: Argument = Argument {
+    name: "name-o",
+    kind: Kind::Text("NAME"),
+    need: Need::Optional,
+    about: "The name of player O, 1 to 64 bytes",
+};
 
 const PORT: Argument = Argument {
     name: "port",
@@ -49,6 +106,6 @@ const PORT: Argument = Argument {
 /// Its options and help.
 pub(crate) fn command<'a>(alloc: Global) -> Result<Command<'a>, Error> {
     let command = described(alloc, "new", "Make a match between processes", ABOUT_NEW);
-    let arguments = [LENGTH, RULES, PORT, FOLDER];
+    let arguments = [LENGTH, RULES, PORT, FOLDER, NAME_X, NAME_O];
     with_all(alloc, command.after_help(THREE_TERMINALS), &arguments)
 }

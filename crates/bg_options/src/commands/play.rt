@@ -1,7 +1,7 @@
 //! The options and help of the command of a person who plays at a terminal.
 
-use crate::arguments::{described, with_all};
-use crate::shared::{FOLDER, MATCH, PLAYER, THREE_TERMINALS, player_in};
+use crate::arguments::{Argument, Kind, Need, described, with_all};
+use crate::shared::{FOLDER, MATCH, PLAYER, THREE_TERMINALS, number_in, player_in};
 use bg_board::Player;
 use clap::{ArgMatches, Command, Error};
 use std::alloc::Global;
@@ -11,9 +11,15 @@ const ABOUT_PLAY: &str = "Play a match at this terminal, until it is over or you
              \n\
              Draws the board when you are to act, and takes the lines that you type: `help` lists them. What\n\
              you chose is kept in DIR, a folder of this player alone, which is made where it is missing: the\n\
-             same command goes on where you were. Ends with status 0; with 1 where the port is taken, another\n\
-             process plays over DIR, its files are damaged or of another match, or reading, writing or memory\n\
-             failed; with 2 where the match file or DIR is none.";
+             same command goes on where you were. A terminal has colours, unless NO_COLOR is set or TERM is dumb.\n\
+             Ends with status 0; with 1 where the port is taken, another process plays over DIR, its files are\n\
+             damaged or of another match, or reading, writing or memory failed; with 2 where the match file or DIR\n\
+             is none, or DIR is the other player's or can't be written to.";
+
+/// The fewest columns of a screen that are taken for its width, and the most.
+const FEWEST_COLUMNS: u32 = 20;
+
+const MOST_COLUMNS: u32 = 400;
 
 /// Whose seat it is, in which match, and where what he claims is kept.
 #[derive(Clone, Copy)]
@@ -34,12 +40,46 @@ impl<'a> SeatOptions<'a> {
     }
 }
 
+/// A person's seat, and what he wants of the screen.
+#[derive(Clone, Copy)]
+pub struct PlayOptions<'a> {
+    pub seat: SeatOptions<'a>,
+    /// How many columns the screen has, from 20 to 400, where that is said.
+    pub columns: Option<u32>,
+    /// Whether a turn that is the only legal one is played at once.
+    pub plays_forced: bool,
+}
+
+impl<'a> PlayOptions<'a> {
+    pub(crate) fn read(options: &ArgMatches<'a>) -> Option<PlayOptions<'a>> {
+        Some(PlayOptions {
+            seat: SeatOptions::read(options)?,
+            columns: number_in(options, "columns"),
+            plays_forced: options.get_flag("forced"),
+        })
+    }
+}
+
+const COLUMNS: Argument = Argument {
+    name: "columns",
+    kind: Kind::Number("N", FEWEST_COLUMNS, MOST_COLUMNS),
+    need: Need::Optional,
+    about: "How many columns the screen has, 20 to 400, where the variable COLUMNS doesn't say it",
+};
+
+const FORCED: Argument = Argument {
+    name: "forced",
+    kind: Kind::Flag,
+    need: Need::Optional,
+    about: "Play a turn at once where it is the only legal one",
+};
+
 /// Its options and help.
 pub(crate) fn command<'a>(alloc: Global) -> Result<Command<'a>, Error> {
     let command = described(alloc, "play", "Play a match at this terminal", ABOUT_PLAY);
     with_all(
         alloc,
         command.after_help(THREE_TERMINALS),
-        &[PLAYER, MATCH, FOLDER],
+        &[PLAYER, MATCH, FOLDER, COLUMNS, FORCED],
     )
 }

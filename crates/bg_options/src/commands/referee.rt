@@ -1,16 +1,35 @@
 //! The options and help of the command that runs the referee of a match.
 
 use crate::arguments::{described, with_all};
-use crate::shared::{FOLDER, THREE_TERMINALS};
-use clap::{Command, Error};
+use crate::shared::{FOLDER, QUIET_LOG, THREE_TERMINALS};
+use clap::{ArgMatches, Command, Error};
 use std::alloc::Global;
 
 /// What `referee` does.
 const ABOUT_REFEREE: &str = "Run the referee of the match in DIR until it is over.\n\
              \n\
-             Ends some seconds after nobody lacks an entry any more, with status 0; with 1 where the port is\n\
-             taken, another process plays over DIR, its files are damaged or of another match, or reading,\n\
-             writing or memory failed.";
+             Says on the standard error, for a log, that it begins, the result of each game, who comes and goes,\n\
+             and that it ends. Ends some seconds after nobody lacks an entry any more, with status 0; with 1\n\
+             where the port is taken, another process plays over DIR, its files are damaged or of another match,\n\
+             or reading, writing or memory failed.";
+
+/// The match whose referee is run.
+#[derive(Clone, Copy)]
+pub struct RefereeOptions<'a> {
+    /// The folder of the match.
+    pub folder: &'a str,
+    /// Whether nothing is said but what is wrong.
+    pub is_quiet: bool,
+}
+
+impl<'a> RefereeOptions<'a> {
+    pub(crate) fn read(options: &ArgMatches<'a>) -> Option<RefereeOptions<'a>> {
+        Some(RefereeOptions {
+            folder: options.get_str(FOLDER.name)?,
+            is_quiet: options.get_flag(QUIET_LOG.name),
+        })
+    }
+}
 
 /// Its options and help.
 pub(crate) fn command<'a>(alloc: Global) -> Result<Command<'a>, Error> {
@@ -20,5 +39,9 @@ pub(crate) fn command<'a>(alloc: Global) -> Result<Command<'a>, Error> {
         "Run the referee of a match until it is over",
         ABOUT_REFEREE,
     );
-    with_all(alloc, command.after_help(THREE_TERMINALS), &[FOLDER])
+    with_all(
+        alloc,
+        command.after_help(THREE_TERMINALS),
+        &[FOLDER, QUIET_LOG],
+    )
 }

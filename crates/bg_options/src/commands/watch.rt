@@ -1,18 +1,24 @@
 //! The options and help of the command that watches a match.
 
 use crate::arguments::{Argument, Kind, Need, described, with_all};
-use crate::shared::{MATCH, NUMBERING, THREE_TERMINALS, TITLE, numbering_in, title_in};
+use crate::shared::{MATCH, NUMBERING, QUIET_LOG, THREE_TERMINALS, TITLE, numbering_in, title_in};
 use bg_picture::Numbering;
 use clap::{ArgMatches, Command, Error};
 use std::alloc::Global;
 
 /// What `watch` does.
 const ABOUT_WATCH: &str =
-    "Watch a match until it is over, and print its transcript, entry by entry.\n\
+    "Watch a match until it is over: its board at a terminal, its transcript elsewhere.\n\
+             \n\
+             Where the standard output is a terminal, the board is drawn anew in place, from X's side, with the\n\
+             newest entries below it, and whether the referee is heard. Export COLUMNS and LINES where it is not of\n\
+             80 columns and 24 lines. Elsewhere, and with --plain, the transcript is printed, entry by entry.\n\
              \n\
              Takes the first number of a watcher, from 3, whose port is free. A file that is there already is\n\
-             left as it is until the referee is heard. Ends with status 0; with 1 where no port is free, or\n\
-             reading, writing or memory failed; with 2 where the match file is none.";
+             left as it is until the referee is heard. Says on the standard error, for a log, that it begins, the\n\
+             result of each game, whether the referee is heard, and that it ends; but not where that is a terminal\n\
+             too and the board is drawn. Ends with status 0; with 1 where no port is free, or reading, writing or\n\
+             memory failed; with 2 where the match file is none.";
 
 /// The match that is watched, and the files that are kept of it.
 #[derive(Clone, Copy)]
@@ -22,12 +28,16 @@ pub struct WatchOptions<'a> {
     pub board: Option<&'a str>,
     pub transcript: Option<&'a str>,
     pub page: Option<&'a str>,
-    /// The title of the page.
-    pub title: &'a str,
+    /// The title of the page, where one is given.
+    pub title: Option<&'a str>,
     /// In whose numbers its points are.
     pub numbering: Numbering,
     /// Whether it goes on where one of these files can't be written.
     pub goes_on: bool,
+    /// Whether the transcript is printed at a terminal too, in place of the board.
+    pub is_plain: bool,
+    /// Whether nothing is said but what is wrong.
+    pub is_quiet: bool,
 }
 
 impl<'a> WatchOptions<'a> {
@@ -40,6 +50,8 @@ impl<'a> WatchOptions<'a> {
             title: title_in(options),
             numbering: numbering_in(options),
             goes_on: options.get_flag("go-on"),
+            is_plain: options.get_flag("plain"),
+            is_quiet: options.get_flag(QUIET_LOG.name),
         })
     }
 }
@@ -62,6 +74,14 @@ const GO_ON: Argument = Argument {
     about: "Go on where a file can't be written, which is said once; without it, watching ends there",
 };
 
+/// The option to print the transcript at a terminal.
+const PLAIN: Argument = Argument {
+    name: "plain",
+    kind: Kind::Flag,
+    need: Need::Optional,
+    about: "Print the transcript at a terminal too, in place of the board",
+};
+
 /// Its options and help.
 pub(crate) fn command<'a>(alloc: Global) -> Result<Command<'a>, Error> {
     let board = kept("board", "A file that has the board, always whole");
@@ -71,6 +91,8 @@ pub(crate) fn command<'a>(alloc: Global) -> Result<Command<'a>, Error> {
         "A file that has a page for browsers, always whole; they show it anew by themselves",
     );
     let command = described(alloc, "watch", "Watch a match", ABOUT_WATCH);
-    let arguments = [MATCH, board, transcript, page, TITLE, NUMBERING, GO_ON];
+    let arguments = [
+        MATCH, board, transcript, page, TITLE, NUMBERING, GO_ON, PLAIN, QUIET_LOG,
+    ];
     with_all(alloc, command.after_help(THREE_TERMINALS), &arguments)
 }

@@ -3,7 +3,7 @@ ghost use Rattle.std.specs.Prelude.{length};
 
 use crate::answers::answered;
 use bg_streams::History;
-use bg_system::{Failures, Keyring, PartyEnd};
+use bg_system::{Failures, Keyring, PartyEnd, Presence};
 use bg_wire::Datagram;
 use bg_world::{DeviceFault, Link, Taken, count_failed, note_taken};
 use std::io;
@@ -17,8 +17,9 @@ use std::time::Clock;
 /// nothing of honesty: the system may lose datagrams, and that nobody else has the keys of a party is no fact of the
 /// code.
 ///
-/// The referee's socket answers the sign of life by which a party [asks](Self::ask) whether it is there. What it is to
-/// send to a party that was not heard for a minute is lost.
+/// The referee's socket answers the sign of life by which a party [asks](Self::ask) whether it is
+/// there. What it is to send to a party that was not heard for a minute is lost. Before it answers
+/// a seat, it tells it how the other one stands.
 ///
 /// It notes why a call failed in the [`Failures`] that it is lent.
 #[derive(Drop)]
@@ -63,10 +64,23 @@ impl<'a, C: Clock> PartySocket<'a, C> {
         self.end.ask();
     }
 
-    /// How many datagrams its takes have read that came from the referee, answers to [`ask`](Self::ask) among them; the
-    /// count begins anew after 4,294,967,295.
+    /// How many datagrams its takes have read that came from the referee, answers to
+    /// [`ask`](Self::ask) among them, and notices of the other seat not; the count begins anew
+    /// after 4,294,967,295.
     pub fn heard(&self) -> u32 {
         self.end.heard()
+    }
+
+    /// Returns whether something of a party was heard within the last minute.
+    pub fn hears(&self, party: u8) -> bool {
+        self.end.hears(party)
+    }
+
+    /// Returns how the other seat stands, where the referee told this seat so within the last three
+    /// seconds. It does with each answer to [`ask`](Self::ask), but for a referee of an older
+    /// version. It is there to be shown alone.
+    pub fn other_seat(&self) -> Option<Presence> {
+        self.end.other_seat()
     }
 }
 

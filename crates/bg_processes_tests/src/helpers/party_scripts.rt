@@ -3,7 +3,7 @@
 use crate::helpers::hosts::Host;
 use crate::helpers::tables::{free_port, keys_of};
 use arrayvec::ArrayVec;
-use bg_processes::{Failures, PartySocket};
+use bg_processes::{Failures, PartySocket, Presence};
 use bg_wire::{Datagram, PacketBytes};
 use bg_world::{DeviceFault, Link};
 use std::cell::Cell;
@@ -59,6 +59,8 @@ pub(crate) enum Step<'a> {
     Asks(u8),
     /// So often the party has heard of the referee.
     Heard(u8, u32),
+    /// The referee has told the party so of the other seat within the last seconds, or nothing.
+    Told(u8, Option<Presence>),
     /// Another process has the first party's port, with the keys of the second.
     Rebinds(u8, u8),
 }
@@ -164,6 +166,7 @@ impl<'a, R: Host> Sockets<'a, R> {
             Step::TakesNothingAs(party, other) => return takes(self.of(party), other, None),
             Step::Asks(party) => self.of(party).ask(),
             Step::Heard(party, heard) => return self.of(party).heard() == heard,
+            Step::Told(party, presence) => return self.of(party).other_seat() == presence,
             Step::Rebinds(party, keys) => self.rebind(party, keys),
         }
         true

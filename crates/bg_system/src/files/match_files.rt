@@ -3,6 +3,7 @@ ghost use Rattle.std.specs.Prelude.{◌≡◌, ◌↔◌, ℕ, List, ◌++◌, S
 ghost use Rattle.std.specs.Int.{IsInRange};
 ghost use Rattle.bg_system.specs.Numbers.{rules_number};
 
+use crate::files::name_lines::Names;
 use crate::files::numbers::split_number;
 use crate::files::plain_files::open_plain;
 use crate::files::whole_files::write_shown;
@@ -19,11 +20,11 @@ pub const LOWEST_PORT: u16 = 1024;
 /// The highest port that a match may have: so each of its 256 parties has one.
 pub const HIGHEST_PORT: u16 = 65_280;
 
-/// The most bytes that are read of a match file or a key file: more than any good one has.
-const MOST_BYTES: u64 = 256;
+/// The most bytes that are read of a match file or a key file: more than any good one has, also with both names.
+const MOST_BYTES: u64 = 512;
 
-/// What all processes of a match agree on (docs/FORMATS.md, "Match file"). It is shown as the text of its file: `match
-/// ID length N rules R port P` in one line, which a line feed ends.
+/// What all processes of a match agree on (docs/FORMATS.md, "Match file"). It is shown as the text of a file without
+/// names: `match ID length N rules R port P` in one line, which a line feed ends.
 #[derive(Clone, Copy, Debug, PartialEq, Eq)]
 pub struct MatchFile {
     /// The number of the match.
@@ -48,8 +49,8 @@ impl Display for MatchFile {
     }
 }
 
-/// By which number rules are named.
-fn number_of_rules(rules: Rules) -> u8
+/// Returns the number by which rules are named: 1 or 2.
+pub fn number_of_rules(rules: Rules) -> u8
     ensures { result ≡ rules_number rules }
 {
     match rules {
@@ -81,21 +82,28 @@ pub(crate) fn front_of_file(
 
 impl MatchFile {
     ghost use Rattle.bg_system.specs.MatchFiles.{IsMatchFile, match_text};
+    ghost use Rattle.bg_system.specs.NameLines.{IsNames, names_text};
+    ghost use Rattle.bg_system.specs.declared.files.name_lines.Names.{Names};
 
-    /// Returns what a text says that is that of a match file. None where it is no match file's, as with a sign or a
-    /// zero before a number, with more than a space between two words, without its line feed, or with anything behind.
+    /// Returns what a text says that is that of a match file, whatever names are in it. None where it is no match
+    /// file's, as with a sign or a zero before a number, with more than a space between two words, without its line
+    /// feed, or with anything behind but names.
     pub fn parse(text: &str) -> Option<MatchFile>
-        ensures { (file : MatchFile) → (result ≡ Some file) ↔ (IsMatchFile file × (text.now ≡ match_text file)) }
+        ensures { (file : MatchFile) → (result ≡ Some file)
+            ↔ (IsMatchFile file × ((names : Names) × IsNames names × (text.now ≡ match_text file ++ names_text names))) }
     {
         let (file, rest) = MatchFile::parse_front(text)?;
+        let Some((_, rest)) = Names::parse_front(rest) else {
+            return None;
+        };
         if !rest.is_empty() {
             return None;
         }
         Some(file)
     }
 
-    /// Returns what a text says that begins with that of a match file, and what stands behind it. None where the text
-    /// does not begin so.
+    /// Returns what a text says that begins with the line of a match file, and what stands behind it. None where the
+    /// text does not begin so.
     pub(crate) fn parse_front(text: &str) -> Option<(MatchFile, &str)>
         ensures only { IfSome result (λ found. IsMatchFile found.0
             × (text.now ≡ match_text found.0 ++ found.1.now)) }
@@ -116,7 +124,7 @@ impl MatchFile {
         Some((MatchFile { id, terms, port }, rest))
     }
 
-    /// What the file at a path says; `None` where it is no match file.
+    /// What the file at a path says, but for names; `None` where it is no match file.
     ///
     /// # Errors
     /// Why the file could not be opened or read; `InvalidInput` where it is no plain file.
@@ -127,7 +135,7 @@ impl MatchFile {
         Ok(MatchFile::parse(front_of_file(rt, path)?.as_str()))
     }
 
-    /// Writes it into a folder, as the file `match` that only its owner reads.
+    /// Writes it into a folder, without names, as the file `match` that only its owner reads.
     ///
     /// # Errors
     /// Why the file could not be written. Then there is none, unless its folder could not be synced.

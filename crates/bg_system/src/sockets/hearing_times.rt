@@ -1,9 +1,13 @@
 //! When each party was heard last.
 
+use crate::sockets::notices::Presence;
 use std::time::{Clock, Duration, Instant};
 
 /// Who was heard within so many seconds is there.
 const MOST_SECONDS: u64 = 60;
+
+/// Who was heard within so many seconds is here, as the other seat is told.
+const MOST_SECONDS_HERE: u64 = 10;
 
 /// How many parties there are.
 const PARTIES: usize = 256;
@@ -31,10 +35,27 @@ impl<'a, C: Clock> HearingTimes<'a, C> {
 
     /// Whether a party was heard within the last minute.
     pub(crate) fn is_there(&self, party: u8) -> bool {
+        self.is_heard_within(party, MOST_SECONDS)
+    }
+
+    /// Returns how a party stands, as the other seat is told.
+    pub(crate) fn presence(&self, party: u8) -> Presence {
+        let heard = self.times[usize::from(party)];
+        if heard.is_none() {
+            Presence::Unheard
+        } else if self.is_heard_within(party, MOST_SECONDS_HERE) {
+            Presence::Here
+        } else {
+            Presence::Away
+        }
+    }
+
+    /// Whether a party was heard within the last so many seconds.
+    fn is_heard_within(&self, party: u8, seconds: u64) -> bool {
         let (Some(heard), Ok(now)) = (self.times[usize::from(party)], Instant::now(self.clock))
         else {
             return false;
         };
-        now.duration_since(heard) < Duration::from_secs(MOST_SECONDS)
+        now.duration_since(heard) < Duration::from_secs(seconds)
     }
 }

@@ -7,8 +7,9 @@ use crate::failures::device_failures::FailedCall;
 use crate::failures::first_failures::FirstFailures;
 use crate::sockets::hearing_times::HearingTimes;
 use crate::sockets::keyrings::Keyring;
+use crate::sockets::notices::{LastNotice, Presence, other_seat};
 use crate::sockets::own_sockets::{MOST_BYTES, Received};
-use crate::sockets::senders::{SIGN_OF_LIFE, address_of, heard};
+use crate::sockets::senders::{SIGN_OF_LIFE, address_of, heard, told};
 use arrayvec::ArrayVec;
 use bg_wire::{Datagram, REFEREE};
 use std::io;
@@ -24,8 +25,10 @@ const MOST_PASSED_OVER: u32 = 64;
 /// What it sends is sealed by its keys, and what was not sealed so for this party by the party whose port it comes from
 /// is passed over ([`heard`]).
 ///
-/// The referee's end answers the sign of life by which a party [asks](Self::ask) whether it is there; and what it is to
-/// send to a party that was not heard for a minute is lost, as in a network: another process may have that port.
+/// The referee's end answers the sign of life by which a party [asks](Self::ask) whether it is
+/// there; and what it is to send to a party that was not heard for a minute is lost, as in a
+/// network: another process may have that port. Before it answers a seat, it tells it how the other
+/// one stands.
 ///
 /// It notes why a call failed in the [`Failures`] that it is lent.
 #[derive(Drop)]
@@ -37,6 +40,7 @@ pub struct PartyEnd<'a, C> {
     times: HearingTimes<'a, C>,
     /// How many datagrams came from the referee.
     heard: u32,
+    notice: LastNotice<'a, C>,
     sends: FirstFailures<'a>,
     takes: FirstFailures<'a>,
 }
@@ -63,6 +67,7 @@ impl<'a, C: Clock> PartyEnd<'a, C> {
             keys,
             times: HearingTimes::new(clock),
             heard: 0,
+            notice: LastNotice::new(clock),
             sends: FirstFailures::new(failures),
             takes: FirstFailures::new(failures),
         })
@@ -78,10 +83,23 @@ impl<'a, C: Clock> PartyEnd<'a, C> {
         self.send_sign(REFEREE);
     }
 
-    /// How many datagrams its takes have read that came from the referee, answers to [`ask`](Self::ask) among them; the
-    /// count begins anew after 4,294,967,295.
+    /// How many datagrams its takes have read that came from the referee, answers to
+    /// [`ask`](Self::ask) among them, and notices of the other seat not; the count begins anew
+    /// after 4,294,967,295.
     pub fn heard(&self) -> u32 {
         self.heard
+    }
+
+    /// Returns whether something of a party was heard within the last minute.
+    pub fn hears(&self, party: u8) -> bool {
+        self.times.is_there(party)
+    }
+
+    /// Returns how the other seat stands, where the referee told this seat so within the last three
+    /// seconds. It does with each answer to [`ask`](Self::ask), but for a referee of an older
+    /// version. It is there to be shown alone.
+    pub fn other_seat(&self) -> Option<Presence> {
+        self.notice.presence()
     }
 
     /// Sends a datagram to the port of its party, sealed; the referee's end sends none to a party that was not heard for
@@ -129,6 +147,25 @@ impl<'a, C: Clock> PartyEnd<'a, C> {
         let _ = self.send_sealed(to, SIGN_OF_LIFE);
     }
 
+    /// Answers a party's sign of life by the same. A seat is told before how the other one stands,
+    /// unless that fails: so it knows that when it hears of the referee again.
+    fn answer(&self, party: u8) {
+        if let Some(other) = other_seat(party) {
+            let _ = self.send_sealed(party, &self.times.presence(other).notice());
+        }
+        self.send_sign(party);
+    }
+
+    /// Notes how the other seat stands, where a datagram tells this seat so.
+    fn note_told(&mut self, datagram: &[u8], from: SocketAddr) {
+        if other_seat(self.party).is_none() {
+            return;
+        }
+        if let Some(presence) = told(&self.keys, self.port, self.party, datagram, from) {
+            self.notice.note(presence);
+        }
+    }
+
     /// The packet that has waited longest of those that a party sent to this one.
     fn receive(&mut self) -> Received {
         for _ in 0..MOST_PASSED_OVER {
@@ -148,14 +185,18 @@ impl<'a, C: Clock> PartyEnd<'a, C> {
 
     /// The packet of a datagram, if it has one of a party for this one. A sign of life is answered by the referee.
     fn packet_in(&mut self, datagram: &[u8], from: SocketAddr) -> Option<ArrayVec<u8, MOST_BYTES>> {
-        let (party, bytes) = heard(&self.keys, self.port, self.party, datagram, from)?;
+        let found = heard(&self.keys, self.port, self.party, datagram, from);
+        let Some((party, bytes)) = found else {
+            self.note_told(datagram, from);
+            return None;
+        };
         self.times.note(party);
         if party == REFEREE {
             self.heard = self.heard.wrapping_add(1);
         }
         if bytes == SIGN_OF_LIFE {
             if self.party == REFEREE {
-                self.send_sign(party);
+                self.answer(party);
             }
             return None;
         }

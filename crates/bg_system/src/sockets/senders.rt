@@ -1,9 +1,11 @@
 //! Where the parties of a match are, and which of them a datagram is from.
 ghost use Rattle.std.specs.Prelude.{◌≡◌, ◌↔◌, true, IfOk, MatchOption};
+ghost use Rattle.bg_system.specs.Notices.{IsNotTold, IsTold};
 ghost use Rattle.bg_system.specs.Senders.{HasNoParty, IsAddressOf, IsHeard, IsNotHeard, IsWord};
 ghost use Rattle.bg_system.specs.Senders.{sender_of as party_in};
 
 use crate::sockets::keyrings::Keyring;
+use crate::sockets::notices::Presence;
 use bg_wire::{Packet, REFEREE, decode};
 use std::io;
 use std::io::ErrorKind;
@@ -72,4 +74,23 @@ pub fn heard<'a>(
         return None;
     }
     Some((party, bytes))
+}
+
+/// Returns how the other seat stands by a datagram that came to a seat from an address, in the
+/// match that has this port. Nothing where it is no notice of that, is not from the referee's
+/// address, or was not sealed by one of these keys to go from the referee to that seat.
+pub fn told(
+    keys: &Keyring,
+    port: u16,
+    own: u8,
+    datagram: &[u8],
+    from: SocketAddr,
+) -> Option<Presence>
+    ensures { MatchOption result (IsNotTold keys.now port own datagram.now from)
+        (λ presence. IsTold keys.now port own datagram.now from presence) }
+{
+    if party_at(from, port)? != REFEREE {
+        return None;
+    }
+    Presence::of_notice(keys.open(REFEREE, own, datagram)?)
 }

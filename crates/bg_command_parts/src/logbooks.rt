@@ -1,0 +1,150 @@
+//! What the process of a party says of how its match goes on.
+
+use crate::results::Results;
+use bg_console::{Pairing, say};
+use bg_match::Record;
+use bg_processes::{Attendance, Change, MatchFile, NamedMatch, Names, PartySocket};
+use bg_system::number_of_rules;
+use bg_wire::{LAST_WATCHER, REFEREE, SEAT_OF_O, SEAT_OF_X};
+use std::fmt;
+use std::fmt::{Display, Formatter, Write};
+use std::time::Clock;
+
+/// On each tick of so many it is looked who came and went.
+const TICKS_TO_LOOK: u32 = 10;
+
+/// A party, as a logbook calls it.
+#[derive(Clone, Copy)]
+struct Named(u8);
+
+impl Display for Named {
+    fn fmt<W: Write>(&self, f: &mut Formatter<W>) -> fmt::Result {
+        match self.0 {
+            REFEREE => f.write_str("the referee"),
+            SEAT_OF_X => f.write_str("the seat of X"),
+            SEAT_OF_O => f.write_str("the seat of O"),
+            party => write!(f, "watcher {party}"),
+        }
+    }
+}
+
+/// The players of a match, at the end of a line: nothing where none has a name.
+#[derive(Clone, Copy)]
+struct Players(Names);
+
+impl Display for Players {
+    fn fmt<W: Write>(&self, f: &mut Formatter<W>) -> fmt::Result {
+        match Pairing::of(&self.0) {
+            Some(pairing) => write!(f, ", {pairing}"),
+            None => Ok(()),
+        }
+    }
+}
+
+/// Says on the standard error how the match of a party goes on (docs/OPERATING.md, "The log"); nothing where it is quiet.
+#[derive(Drop)]
+pub struct Logbook<'a, R> {
+    rt: &'a R,
+    /// Whose logbook it is.
+    party: u8,
+    /// How the players are called.
+    names: Names,
+    is_quiet: bool,
+    ticks: u32,
+    attendance: Attendance,
+    results: Results,
+}
+
+impl<'a, R: Clock + Eprint> Logbook<'a, R> {
+    /// Says that a party of a match begins with this record, and returns its logbook.
+    pub fn begin(
+        rt: &'a R,
+        is_quiet: bool,
+        party: u8,
+        file: &NamedMatch,
+        record: &Record,
+    ) -> Logbook<'a, R> {
+        let logbook = Logbook {
+            rt,
+            party,
+            names: file.names,
+            is_quiet,
+            ticks: 0,
+            attendance: Attendance::new(),
+            results: Results::of(record),
+        };
+        let MatchFile { id, terms, port } = file.table;
+        let (named, length, rules) = (Named(party), terms.length, number_of_rules(terms.rules));
+        let (entries, (x, o)) = (record.len(), record.standing().score());
+        let own = u32::from(port) + u32::from(party);
+        let players = Players(file.names);
+        logbook.say(format_args!(
+            "{named} begins on port {own}: match {id}, length {length}, rules {rules}, {entries} entries, {x}-{o}{players}"
+        ));
+        logbook
+    }
+
+    /// Says this, unless it is quiet.
+    fn say<D: Display + Drop>(&self, what: D) {
+        if !self.is_quiet {
+            say(self.rt, what);
+        }
+    }
+
+    /// Says which games have ended in the record, and who came and went, after a round in which a tick was due or not.
+    pub fn after_round<C: Clock>(
+        &mut self,
+        socket: &PartySocket<'_, C>,
+        record: Option<&Record>,
+        tick: bool,
+    ) {
+        if self.is_quiet {
+            return;
+        }
+        if let Some(record) = record {
+            self.tell_results(record);
+        }
+        if tick {
+            if self.ticks % TICKS_TO_LOOK == 0 {
+                self.look(socket);
+            }
+            self.ticks = self.ticks.wrapping_add(1);
+        }
+    }
+
+    /// Says which games have ended.
+    fn tell_results(&mut self, record: &Record) {
+        for _ in 0..record.len() {
+            let Some(result) = self.results.next(record, &self.names) else {
+                return;
+            };
+            self.say(format_args!("{result}"));
+            if let Some(result) = result.of_match() {
+                self.say(format_args!("{result}"));
+            }
+        }
+    }
+
+    /// Says who came and went.
+    fn look<C: Clock>(&mut self, socket: &PartySocket<'_, C>) {
+        for party in REFEREE..=LAST_WATCHER {
+            let named = Named(party);
+            match self.attendance.change(socket, party) {
+                Some(Change::Came) => self.say(format_args!("{named} is heard")),
+                Some(Change::Left) => self.say(format_args!("no word from {named} for a minute")),
+                Some(Change::Returned) => self.say(format_args!("{named} is heard again")),
+                None => {}
+            }
+        }
+    }
+
+    /// Says that the party ends, and that the match is over, or else that it was said why.
+    pub fn end(&self, is_over: bool) {
+        let named = Named(self.party);
+        if is_over {
+            self.say(format_args!("{named} ends: the match is over"));
+        } else {
+            self.say(format_args!("{named} ends: the line above says why"));
+        }
+    }
+}

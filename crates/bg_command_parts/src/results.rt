@@ -1,0 +1,115 @@
+//! The results of games, as a record grows.
+
+use bg_board::Player;
+use bg_console::Called;
+use bg_match::{Number, Phase, Record, Standing};
+use bg_system::Names;
+use std::fmt;
+use std::fmt::{Display, Formatter, Write};
+
+/// The result of a game, as it is said: `game 2: X wins 2 points, 3-1`, with the points of X before those of O. A winner
+/// with a name is called by it: `game 2: Anna (X) wins 2 points, 3-1`.
+#[derive(Clone, Copy)]
+pub struct GameResult {
+    game: u8,
+    winner: Called,
+    points: u16,
+    score: (u16, u16),
+    /// Whether the match ended with it.
+    is_last: bool,
+}
+
+impl GameResult {
+    /// Returns the result of the game that ended from one standing to the next, if one did.
+    fn between(before: &Standing, after: &Standing, names: &Names) -> Option<GameResult> {
+        let ((old_x, old_o), score) = (before.score(), after.score());
+        let (x, o) = (score.0.saturating_sub(old_x), score.1.saturating_sub(old_o));
+        let (winner, points) = match (x, o) {
+            (0, 0) => return None,
+            (points, 0) => (Player::X, points),
+            (_, points) => (Player::O, points),
+        };
+        Some(GameResult {
+            game: before.game(),
+            winner: match winner {
+                Player::X => Called::x(names),
+                Player::O => Called::o(names),
+            },
+            points,
+            score,
+            is_last: matches!(after.phase(), Phase::Over(_)),
+        })
+    }
+
+    /// Returns that of the match, where it ended.
+    pub fn of_match(&self) -> Option<MatchResult> {
+        let result = *self;
+        if result.is_last {
+            Some(MatchResult(result))
+        } else {
+            None
+        }
+    }
+}
+
+impl Display for GameResult {
+    fn fmt<W: Write>(&self, f: &mut Formatter<W>) -> fmt::Result {
+        let GameResult {
+            game,
+            winner,
+            points,
+            score: (x, o),
+            ..
+        } = *self;
+        let unit = if points == 1 { "point" } else { "points" };
+        write!(f, "game {game}: {winner} wins {points} {unit}, {x}-{o}")
+    }
+}
+
+/// The result of a match, as it is said: `the match is over: X wins, 7-3`.
+#[derive(Clone, Copy)]
+pub struct MatchResult(GameResult);
+
+impl Display for MatchResult {
+    fn fmt<W: Write>(&self, f: &mut Formatter<W>) -> fmt::Result {
+        let (winner, (x, o)) = (self.0.winner, self.0.score);
+        write!(f, "the match is over: {winner} wins, {x}-{o}")
+    }
+}
+
+/// Follows a record, and finds the games that end in it.
+#[derive(Drop)]
+pub struct Results {
+    /// Where the match stood after the entries that were followed.
+    standing: Standing,
+    followed: Number,
+}
+
+impl Results {
+    /// Follows a record from here on.
+    pub fn of(record: &Record) -> Results {
+        Results {
+            standing: record.standing(),
+            followed: record.len(),
+        }
+    }
+
+    /// Returns the result of the next game that has ended, between players of these names. A record that begins again may
+    /// have less for a while.
+    pub fn next(&mut self, record: &Record, names: &Names) -> Option<GameResult> {
+        for before in self.followed..record.len() {
+            let before_it = self.standing;
+            let entry = record.entry(before.checked_add(1)?)?;
+            if self.standing.apply(entry).is_err() {
+                // Another record than before: it is followed from here on.
+                *self = Results::of(record);
+                return None;
+            }
+            self.followed = self.followed.saturating_add(1);
+            if let Some(result) = GameResult::between(&before_it, &self.standing, names) {
+                return Some(result);
+            }
+        }
+        None
+    }
+}

@@ -1,0 +1,74 @@
+//! Why nothing may be heard of a referee, as far as the machine tells.
+
+use bg_processes::MatchFile;
+use std::fmt::{Display, Formatter, Write};
+use std::fs::File;
+use std::rt::Files;
+use std::{fmt, fs};
+
+/// The file of the system that lists the UDP sockets of the machine, one a line behind a first line
+/// of names.
+const SOCKETS: &str = "/proc/net/udp";
+
+/// Why nothing may be heard of a referee.
+#[derive(Clone, Copy, Debug, PartialEq, Eq)]
+pub enum Silence {
+    /// No process has its port, which is this one.
+    NoProcess(u16),
+    /// A process has its port, which is this one, and does not answer the parties of the match of
+    /// this number.
+    NoAnswer(u16, u64),
+    /// The system does not tell which ports are taken.
+    Unknown,
+}
+
+impl Silence {
+    /// Returns why nothing may be heard of the referee of a match.
+    pub fn of<R>(rt: &R, table: &MatchFile) -> Silence
+    where
+        R: Files<File = File> + AllocGlobal,
+    {
+        match fs::read_to_string(rt, SOCKETS) {
+            Ok(listed) if has_port(listed.as_str(), table.port) => {
+                Silence::NoAnswer(table.port, table.id)
+            }
+            Ok(_) => Silence::NoProcess(table.port),
+            Err(_) => Silence::Unknown,
+        }
+    }
+
+    /// Returns what ends its words where a sentence follows.
+    pub fn stop(self) -> &'static str {
+        match self {
+            Silence::NoProcess(_) => ".",
+            Silence::NoAnswer(..) | Silence::Unknown => "",
+        }
+    }
+}
+
+/// Whether one of the sockets that the system lists has this port.
+fn has_port(listed: &str, port: u16) -> bool {
+    listed.lines().any(|line| port_in(line) == Some(port))
+}
+
+/// The port of a socket by its line, whose second word is its address and its port, in hexadecimal
+/// digits.
+fn port_in(line: &str) -> Option<u16> {
+    let (_, port) = line.split_ascii_whitespace().nth(1)?.rsplit_once(':')?;
+    u16::from_str_radix(port, 16).ok()
+}
+
+impl Display for Silence {
+    fn fmt<W: Write>(&self, f: &mut Formatter<W>) -> fmt::Result {
+        match *self {
+            Silence::NoProcess(port) => {
+                write!(f, "no process has its port {port}, so it is not running")
+            }
+            Silence::NoAnswer(port, id) => write!(
+                f,
+                "the process at its port {port} doesn't answer: is it the referee of match {id}?"
+            ),
+            Silence::Unknown => f.write_str("is it running?"),
+        }
+    }
+}

@@ -1,0 +1,101 @@
+//! The colours of checkers and of offers, and the texts without them.
+use bg_board::Player;
+use bg_console::{with_bold_offers, with_coloured_checkers};
+use std::test::Fail;
+
+/// What a player sees where checkers stand one above another, where they are numbers, and where
+/// points are a list.
+const STACKS: &str = "length 3, game 1
+score: X (you) 0 of 3, O 0 of 3
+  13  14  |  19  20
+   X   .  |   O   .
+   7      |   O
+bar: X 1, O 0; off: X 0, O 0
+pips: X (you) 167, O 167
+cube: 2 of O
+last: O roll 3 1
+O to move 3 1
+";
+
+const COLOURED_STACKS: &str = "length 3, game 1
+score: X (you) 0 of 3, O 0 of 3
+  13  14  |  19  20
+   \x1b[1mX\x1b[0m   .  |   \x1b[35mO\x1b[0m   .
+   7      |   \x1b[35mO\x1b[0m
+bar: \x1b[1mX\x1b[0m 1, \x1b[35mO\x1b[0m 0; off: \x1b[1mX\x1b[0m 0, \x1b[35mO\x1b[0m 0
+pips: X (you) 167, O 167
+cube: 2 of O
+last: O roll 3 1
+O to move 3 1
+";
+
+const ROWS: &str = "  O5   .  X12  |   .  O2\n24 X2\nX";
+
+const COLOURED_ROWS: &str = "  \x1b[1mO5\x1b[0m   .  \x1b[35mX12\x1b[0m  |   .  \x1b[1mO2\x1b[0m
+24 \x1b[35mX2\x1b[0m
+\x1b[35mX\x1b[0m";
+
+const OFFERS: &str = "roll the dice first
+your turn, O: roll, double, resign normal,
+resign gammon
+";
+
+const BOLD_OFFERS: &str = "roll the dice first
+your turn, O:\x1b[1m roll, double, resign normal,\x1b[0m
+\x1b[1mresign gammon\x1b[0m
+";
+
+/// A text without the sequences of looks, each of which ends with an `m`.
+fn plain(rt: &HostRuntime, text: &[u8]) -> Result<Vec<u8>, Fail> {
+    let mut out = Vec::new(rt.alloc());
+    let mut is_sequence = false;
+    for byte in text {
+        if *byte == b'\x1b' {
+            is_sequence = true;
+        } else if !is_sequence {
+            out.push(*byte)?;
+        } else if *byte == b'm' {
+            is_sequence = false;
+        }
+    }
+    Ok(out)
+}
+
+#[test]
+fn checkers_have_the_colours_of_their_players(rt: HostRuntime) -> Result<(), Fail> {
+    for (text, bold, wanted) in [
+        (STACKS, Player::X, COLOURED_STACKS),
+        (ROWS, Player::O, COLOURED_ROWS),
+        (
+            "X roll 3 1\nO move bar-20\n",
+            Player::X,
+            "X roll 3 1\nO move bar-20\n",
+        ),
+        (OFFERS, Player::O, OFFERS),
+        ("", Player::O, ""),
+    ] {
+        let coloured = with_coloured_checkers(rt.alloc(), text.as_bytes(), bold)?;
+        assert!(rt; coloured.as_slice() == wanted.as_bytes(), "{text}");
+        assert!(rt;
+            plain(&rt, &coloured)?.as_slice() == text.as_bytes(),
+            "{text}"
+        );
+    }
+    Ok(())
+}
+
+#[test]
+fn offers_are_bold(rt: HostRuntime) -> Result<(), Fail> {
+    for (text, wanted) in [
+        (OFFERS, BOLD_OFFERS),
+        ("it is O's turn\n", "it is O's turn\n"),
+        ("your turn, X: roll", "your turn, X:\x1b[1m roll\x1b[0m"),
+        (STACKS, STACKS),
+        ("", ""),
+    ] {
+        let bold = with_bold_offers(rt.alloc(), text.as_bytes())?;
+        assert!(rt; bold.as_slice() == wanted.as_bytes(), "{text}");
+        assert!(rt; plain(&rt, &bold)?.as_slice() == text.as_bytes(), "{text}");
+    }
+    Ok(())
+}

@@ -1,0 +1,34 @@
+//! Lines that fit a screen.
+
+use std::alloc::{AllocError, Global};
+
+/// Returns lines of so many columns at most, broken between words. A word that is longer has a line
+/// of its own.
+///
+/// # Errors
+/// AllocError where there is no memory for them.
+pub fn broken(alloc: Global, lines: &[u8], columns: usize) -> Result<Vec<u8>, AllocError> {
+    let mut text = Vec::new(alloc);
+    for line in lines.trim_ascii_end().split(|byte| *byte == b'\n') {
+        put_broken(&mut text, line, columns)?;
+    }
+    Ok(text)
+}
+
+/// Adds a line of words, on as many lines as it takes.
+fn put_broken(text: &mut Vec<u8>, line: &[u8], columns: usize) -> Result<(), AllocError> {
+    let mut column = 0usize;
+    for word in line.split(|byte| *byte == b' ') {
+        let end = column.saturating_add(1).saturating_add(word.len());
+        if column > 0 && end > columns {
+            text.push(b'\n')?;
+            column = 0;
+        } else if column > 0 {
+            text.push(b' ')?;
+            column = column.saturating_add(1);
+        }
+        text.extend_from_slice(word)?;
+        column = column.saturating_add(word.len());
+    }
+    Ok(text.push(b'\n')?)
+}

@@ -1,0 +1,90 @@
+//! How the players of a match are called where others look on.
+
+use crate::messages::allocated;
+use bg_reports::Ending;
+use bg_system::{Name, Names};
+use std::fmt;
+use std::fmt::{Display, Formatter, Write};
+
+/// The title of a page that is given none, of a match whose players are not both named.
+const USUAL_TITLE: &str = "Backgammon match";
+
+/// A player by his name and his letter, `Anna (X)`, or by his letter where he has no name.
+#[derive(Clone, Copy)]
+pub struct Called {
+    letter: char,
+    name: Option<Name>,
+}
+
+impl Called {
+    /// Returns player X.
+    pub fn x(names: &Names) -> Called {
+        Called {
+            letter: 'X',
+            name: names.x,
+        }
+    }
+
+    /// Returns player O.
+    pub fn o(names: &Names) -> Called {
+        Called {
+            letter: 'O',
+            name: names.o,
+        }
+    }
+}
+
+impl Display for Called {
+    fn fmt<W: Write>(&self, f: &mut Formatter<W>) -> fmt::Result {
+        let Called { letter, name } = *self;
+        match name {
+            Some(name) => write!(f, "{name} ({letter})"),
+            None => f.write_char(letter),
+        }
+    }
+}
+
+/// Two players: `Anna against Otto`. One without a name is called by his letter.
+#[derive(Clone, Copy)]
+pub struct Pairing(Names);
+
+impl Pairing {
+    /// Returns the players of a match where one of them has a name.
+    pub fn of(names: &Names) -> Option<Pairing> {
+        if names.x.is_none() && names.o.is_none() {
+            return None;
+        }
+        Some(Pairing(*names))
+    }
+}
+
+impl Display for Pairing {
+    fn fmt<W: Write>(&self, f: &mut Formatter<W>) -> fmt::Result {
+        let (x, o) = (word_for(&self.0.x, "X"), word_for(&self.0.o, "O"));
+        write!(f, "{x} against {o}")
+    }
+}
+
+/// The name of a player, or his letter where he has none.
+fn word_for<'a>(name: &'a Option<Name>, letter: &'a str) -> &'a str {
+    match name {
+        Some(name) => name.as_str(),
+        None => letter,
+    }
+}
+
+/// Returns the title of a page: the one that is given, or else the names of both players, or else the usual one. Ends
+/// with `Failed` where there is no memory for it.
+pub fn title_of<R>(rt: &R, given: Option<&str>, names: &Names) -> Result<String, Ending>
+where
+    R: Eprint + AllocGlobal,
+{
+    if let Some(title) = given {
+        return allocated(rt, String::from_str(rt.alloc(), title));
+    }
+    let title = match (&names.x, &names.o) {
+        (Some(x), Some(o)) => format!(in rt.alloc(); "{x} against {o}"),
+        _ => String::from_str(rt.alloc(), USUAL_TITLE),
+    };
+    allocated(rt, title)
+}

@@ -1,0 +1,58 @@
+//! Lines whose parts stand below each other.
+
+use crate::list::rows::NOTHING;
+use bg_text::put_text;
+use std::alloc::{AllocError, Global};
+
+/// What stands between the parts of a line, which are not aligned yet.
+pub(crate) const BETWEEN: char = '\t';
+
+/// So many parts of a line have a width at most.
+const MOST_PARTS: usize = 10;
+
+/// Returns lines with their parts below each other, but for the last part of each, which is as wide as it is. Where no
+/// line has a part, its column is left out.
+pub(crate) fn aligned(alloc: Global, lines: &[u8]) -> Result<Vec<u8>, AllocError> {
+    let lines = str::from_utf8(lines).unwrap_or_default();
+    let widths = widths_of(lines);
+    let mut text = Vec::new(alloc);
+    for line in lines.lines() {
+        let Some((front, last)) = line.rsplit_once(BETWEEN) else {
+            continue;
+        };
+        for (part, width) in front
+            .split(BETWEEN)
+            .zip(widths)
+            .filter(|(_, width)| *width > 0)
+        {
+            let part = if part.is_empty() { NOTHING } else { part };
+            put_text(&mut text, part)?;
+            for _ in columns_of(part)..width {
+                put_text(&mut text, " ")?;
+            }
+            put_text(&mut text, "  ")?;
+        }
+        put_text(&mut text, last)?;
+        put_text(&mut text, "\n")?;
+    }
+    Ok(text)
+}
+
+/// Returns how wide each part is in the line in which it is the widest.
+fn widths_of(lines: &str) -> [usize; MOST_PARTS] {
+    let mut widths = [0; MOST_PARTS];
+    for line in lines.lines() {
+        let Some((front, _)) = line.rsplit_once(BETWEEN) else {
+            continue;
+        };
+        for (width, part) in widths.iter_mut().zip(front.split(BETWEEN)) {
+            *width = (*width).max(columns_of(part));
+        }
+    }
+    widths
+}
+
+/// Returns how many columns a part takes.
+fn columns_of(part: &str) -> usize {
+    part.chars().count()
+}

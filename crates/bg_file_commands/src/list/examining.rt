@@ -1,0 +1,187 @@
+//! What the folder of a match has.
+
+use crate::list::locks::Locks;
+use crate::list::saves::{Held, held_in};
+use crate::list::searching::not_memory;
+use bg_match::{Number, Standing};
+use bg_system::{MatchFile, NamedMatch, SlotName, read_saved};
+use bg_wire::{REFEREE, Slot};
+use std::alloc::Global;
+use std::fs::File;
+use std::os::unix::fs::MetadataExt;
+use std::rt::Files;
+use std::{fs, io};
+
+/// A save that is being written can look torn, so a folder that is not sound is read so often.
+const MOST_READS: u8 = 3;
+
+/// How sound the files of a match are.
+#[derive(Clone, Copy, PartialEq, Eq)]
+pub(crate) enum Soundness {
+    /// All are.
+    Sound,
+    /// One is damaged, or of another match.
+    Unsound,
+    /// One can't be read.
+    Unread,
+}
+
+impl Soundness {
+    /// Returns the worse of the two.
+    pub(crate) fn or(self, other: Soundness) -> Soundness {
+        match (self, other) {
+            (Soundness::Unread, _) | (_, Soundness::Unread) => Soundness::Unread,
+            (Soundness::Unsound, _) | (_, Soundness::Unsound) => Soundness::Unsound,
+            (Soundness::Sound, Soundness::Sound) => Soundness::Sound,
+        }
+    }
+}
+
+/// What is listed of a folder.
+#[derive(Drop)]
+pub(crate) struct Listed {
+    pub(crate) path: String,
+    /// What its match file says.
+    pub(crate) file: Option<NamedMatch>,
+    /// Where the match stands that is saved.
+    pub(crate) standing: Option<Standing>,
+    /// How many entries of it are saved.
+    pub(crate) entries: Number,
+    /// When a save was written last, in seconds since 1970.
+    pub(crate) changed: Option<u64>,
+    /// Whether a process has locked the folder.
+    pub(crate) is_open: bool,
+    pub(crate) soundness: Soundness,
+    /// What is wrong, where it is not sound.
+    pub(crate) fault: String,
+}
+
+impl Listed {
+    /// Returns a folder of which nothing is known but what is wrong.
+    fn faulty(path: String, soundness: Soundness, fault: String) -> Listed {
+        Listed {
+            path,
+            file: None,
+            standing: None,
+            entries: 0,
+            changed: None,
+            is_open: false,
+            soundness,
+            fault,
+        }
+    }
+
+    /// Returns a folder that can't be read for this reason.
+    ///
+    /// # Errors
+    /// `OutOfMemory` alone.
+    pub(crate) fn unread(alloc: Global, path: String, error: io::Error) -> io::Result<Listed> {
+        let fault = format!(in alloc; "could not be read: {error}")?;
+        Ok(Listed::faulty(path, Soundness::Unread, fault))
+    }
+}
+
+/// Returns what the folder of a match has, which may be locked.
+///
+/// # Errors
+/// `OutOfMemory` alone.
+pub(crate) fn examine<R>(rt: &R, path: String, locks: &Locks) -> io::Result<Listed>
+where
+    R: Files<File = File> + AllocGlobal,
+{
+    let name = format!(in rt.alloc(); "{path}/match")?;
+    let file = match NamedMatch::read(rt, name.as_str()) {
+        Ok(Some(file)) => file,
+        Ok(None) => {
+            let fault = String::from_str(rt.alloc(), "match is no match file")?;
+            return Ok(Listed::faulty(path, Soundness::Unsound, fault));
+        }
+        Err(error) => {
+            let error = not_memory(error)?;
+            let fault = format!(in rt.alloc(); "match could not be read: {error}")?;
+            return Ok(Listed::faulty(path, Soundness::Unread, fault));
+        }
+    };
+    let held = settled(rt, path.as_str(), &file.table)?;
+    let changed = change_of(rt, path.as_str())?;
+    let is_open = locks.have(rt, path.as_str())?;
+    Ok(Listed {
+        path,
+        file: Some(file),
+        standing: held.standing,
+        entries: held.entries,
+        changed,
+        is_open,
+        soundness: held.soundness,
+        fault: held.fault,
+    })
+}
+
+/// Returns what the saves of a folder hold, and not what a save is that is being written.
+fn settled<R>(rt: &R, folder: &str, table: &MatchFile) -> io::Result<Held>
+where
+    R: Files<File = File> + AllocGlobal,
+{
+    let mut held = read(rt, folder, table)?;
+    for _ in 1..MOST_READS {
+        if held.soundness == Soundness::Sound {
+            break;
+        }
+        held = read(rt, folder, table)?;
+    }
+    Ok(held)
+}
+
+/// Returns what the saves of a folder hold.
+fn read<R>(rt: &R, folder: &str, table: &MatchFile) -> io::Result<Held>
+where
+    R: Files<File = File> + AllocGlobal,
+{
+    let zero = match bytes_of(rt, folder, Slot::Zero)? {
+        Ok(bytes) => bytes,
+        Err(fault) => return Ok(Held::unread(fault)),
+    };
+    let one = match bytes_of(rt, folder, Slot::One)? {
+        Ok(bytes) => bytes,
+        Err(fault) => return Ok(Held::unread(fault)),
+    };
+    Ok(held_in(rt.alloc(), table, &zero, &one)?)
+}
+
+/// Returns the bytes of one of the referee's files, or why it can't be read.
+fn bytes_of<R>(rt: &R, folder: &str, slot: Slot) -> io::Result<Result<Vec<u8>, String>>
+where
+    R: Files<File = File> + AllocGlobal,
+{
+    let name = SlotName {
+        party: REFEREE,
+        slot,
+    };
+    let path = format!(in rt.alloc(); "{folder}/{name}")?;
+    match read_saved(rt, path.as_str()) {
+        Ok(bytes) => Ok(Ok(bytes)),
+        Err(error) => {
+            let error = not_memory(error)?;
+            Ok(Err(format!(in rt.alloc(); "{name} could not be read: {error}")?))
+        }
+    }
+}
+
+/// Returns when the newer of the referee's files was written, in seconds since 1970.
+fn change_of<R>(rt: &R, folder: &str) -> io::Result<Option<u64>>
+where
+    R: Files<File = File> + AllocGlobal,
+{
+    let mut newest = None;
+    for slot in [Slot::Zero, Slot::One] {
+        let name = SlotName {
+            party: REFEREE,
+            slot,
+        };
+        let path = format!(in rt.alloc(); "{folder}/{name}")?;
+        if let Ok(found) = fs::metadata(rt, path.as_str()) {
+            newest = newest.max(u64::try_from(found.mtime()).ok());
+        }
+    }
+    Ok(newest)
+}

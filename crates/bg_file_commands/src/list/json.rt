@@ -1,0 +1,113 @@
+//! The line of a match for programs: an object of JSON.
+
+use crate::list::examining::Listed;
+use crate::list::times::Moment;
+use bg_match::{Phase, Standing};
+use bg_system::{NamedMatch, Names, number_of_rules};
+use bg_text::{put_number, put_phase, put_text};
+use std::alloc::{AllocError, Global};
+use std::fmt;
+use std::fmt::{Display, Formatter, Write};
+
+/// A text as JSON has it, between its quotes.
+#[derive(Clone, Copy)]
+struct Quoted<'a>(&'a str);
+
+impl<'a> Display for Quoted<'a> {
+    fn fmt<W: Write>(&self, f: &mut Formatter<W>) -> fmt::Result {
+        f.write_char('"')?;
+        for part in self.0.chars() {
+            match part {
+                '"' | '\\' => write!(f, "\\{part}")?,
+                '\0'..='\u{1f}' => {
+                    let code = u32::from(part);
+                    write!(f, "\\u{code:04x}")?;
+                }
+                _ => f.write_char(part)?,
+            }
+        }
+        f.write_char('"')
+    }
+}
+
+/// Adds the line of a folder (docs/FORMATS.md, "Lists of matches"). What is not known is left out.
+pub(crate) fn put_object(
+    alloc: Global,
+    out: &mut Vec<u8>,
+    listed: &Listed,
+) -> Result<(), AllocError> {
+    put_quoted(alloc, out, "{\"path\":", listed.path.as_str())?;
+    if let Some(NamedMatch { table, names }) = &listed.file {
+        put_numbered(out, ",\"match\":\"", table.id)?;
+        put_numbered(out, "\",\"length\":", table.terms.length.into())?;
+        put_numbered(
+            out,
+            ",\"rules\":",
+            number_of_rules(table.terms.rules).into(),
+        )?;
+        put_numbered(out, ",\"port\":", table.port.into())?;
+        put_names(alloc, out, names)?;
+        put_flag(out, ",\"open\":", listed.is_open)?;
+    }
+    if let Some(standing) = &listed.standing {
+        put_standing(out, standing)?;
+        put_numbered(out, ",\"entries\":", listed.entries.into())?;
+    }
+    if let Some(seconds) = listed.changed {
+        let changed = format!(in alloc; ",\"changed\":\"{}\"", Moment(seconds))?;
+        put_text(out, changed.as_str())?;
+    }
+    put_flag(out, ",\"saved\":", listed.fault.is_empty())?;
+    if !listed.fault.is_empty() {
+        put_quoted(alloc, out, ",\"fault\":", listed.fault.as_str())?;
+    }
+    put_text(out, "}\n")
+}
+
+/// Adds the names that players have.
+fn put_names(alloc: Global, out: &mut Vec<u8>, names: &Names) -> Result<(), AllocError> {
+    if names.x.is_none() && names.o.is_none() {
+        return Ok(());
+    }
+    put_text(out, ",\"names\":{")?;
+    if let Some(name) = &names.x {
+        put_quoted(alloc, out, "\"x\":", name.as_str())?;
+    }
+    if names.x.is_some() && names.o.is_some() {
+        put_text(out, ",")?;
+    }
+    if let Some(name) = &names.o {
+        put_quoted(alloc, out, "\"o\":", name.as_str())?;
+    }
+    put_text(out, "}")
+}
+
+/// Adds the score, the game, and what is to happen next.
+fn put_standing(out: &mut Vec<u8>, standing: &Standing) -> Result<(), AllocError> {
+    let (x, o) = standing.score();
+    put_numbered(out, ",\"score\":{\"x\":", x.into())?;
+    put_numbered(out, ",\"o\":", o.into())?;
+    put_numbered(out, "},\"game\":", standing.game().into())?;
+    put_text(out, ",\"next\":\"")?;
+    put_phase(out, standing)?;
+    let is_over = matches!(standing.phase(), Phase::Over(_));
+    put_flag(out, "\",\"over\":", is_over)
+}
+
+/// Adds words, and a number behind them.
+fn put_numbered(out: &mut Vec<u8>, words: &str, number: u64) -> Result<(), AllocError> {
+    put_text(out, words)?;
+    put_number(out, number)
+}
+
+/// Adds words, and whether something is so behind them.
+fn put_flag(out: &mut Vec<u8>, words: &str, is_so: bool) -> Result<(), AllocError> {
+    put_text(out, words)?;
+    put_text(out, if is_so { "true" } else { "false" })
+}
+
+/// Adds words, and a text behind them.
+fn put_quoted(alloc: Global, out: &mut Vec<u8>, words: &str, text: &str) -> Result<(), AllocError> {
+    let text = format!(in alloc; "{words}{}", Quoted(text))?;
+    put_text(out, text.as_str())
+}

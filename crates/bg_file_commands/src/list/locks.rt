@@ -1,0 +1,57 @@
+//! Which folders are locked.
+
+use std::fs::File;
+use std::os::unix::fs::MetadataExt;
+use std::rt::Files;
+use std::{fs, io};
+
+/// The file in which the system tells its locks.
+const LOCKS: &str = "/proc/locks";
+
+/// The locks of the machine, as far as the system tells them.
+#[derive(Drop)]
+pub(crate) struct Locks {
+    /// A line for each: its number, its kind, who holds it, and then the device, the file and the part that it is of.
+    told: String,
+}
+
+impl Locks {
+    /// Reads them; there are none where the system does not tell them.
+    pub(crate) fn read<R>(rt: &R) -> Locks
+    where
+        R: Files<File = File> + AllocGlobal,
+    {
+        let told = match fs::read_to_string(rt, LOCKS) {
+            Ok(told) => told,
+            Err(_) => String::new(rt.alloc()),
+        };
+        Locks { told }
+    }
+
+    /// Returns whether a folder is locked as processes lock theirs. It takes no lock itself.
+    ///
+    /// # Errors
+    /// `OutOfMemory` alone.
+    pub(crate) fn have<R>(&self, rt: &R, folder: &str) -> io::Result<bool>
+    where
+        R: Files<File = File> + AllocGlobal,
+    {
+        let Ok(found) = fs::metadata(rt, folder) else {
+            return Ok(false);
+        };
+        let (device, inode) = (found.dev(), found.ino());
+        let (major, minor) = (major_of(device), minor_of(device));
+        let place = format!(in rt.alloc(); " {major:02x}:{minor:02x}:{inode} 0 EOF")?;
+        Ok(self.told.lines().any(|line| line.contains("FLOCK") && line.ends_with(place.as_str())))
+    }
+}
+
+/// Returns the higher part of the number of a device.
+fn major_of(device: u64) -> u64 {
+    ((device >> 32) & 0xffff_f000) | ((device >> 8) & 0xfff)
+}
+
+/// Returns the lower part of the number of a device.
+fn minor_of(device: u64) -> u64 {
+    ((device >> 12) & 0xffff_ff00) | (device & 0xff)
+}

@@ -1,0 +1,90 @@
+//! The line of a match for people.
+
+use crate::list::examining::Listed;
+use crate::list::times::Moment;
+use bg_console::Pairing;
+use bg_match::Standing;
+use bg_system::{MatchFile, NamedMatch, Names, Printable};
+use bg_text::{put_number, put_phase, put_text};
+use std::alloc::{AllocError, Global};
+
+/// What stands where there is nothing to tell.
+pub(crate) const NOTHING: &str = "-";
+
+/// Adds the line of a folder. Its parts are to be aligned.
+pub(crate) fn put_row(alloc: Global, out: &mut Vec<u8>, listed: &Listed) -> Result<(), AllocError> {
+    let path = format!(in alloc; "{}\t", Printable(listed.path.as_str()))?;
+    put_text(out, path.as_str())?;
+    if let Some(NamedMatch { table, names }) = &listed.file {
+        put_numbered(out, "match ", table.id, "\t")?;
+        put_names(alloc, out, names)?;
+        if let Some(standing) = &listed.standing {
+            put_standing(out, table, standing)?;
+            put_numbered(out, "", listed.entries.into(), " entries\t")?;
+            put_changed(alloc, out, listed.changed)?;
+            put_text(out, if listed.is_open { "open" } else { NOTHING })?;
+            put_text(out, "\t")?;
+        }
+    }
+    put_text(out, state_of(listed))?;
+    put_text(out, "\n")
+}
+
+/// Returns what is said of the saves.
+fn state_of(listed: &Listed) -> &str {
+    if !listed.fault.is_empty() {
+        listed.fault.as_str()
+    } else if listed.changed.is_none() {
+        "nothing saved yet"
+    } else {
+        "saved"
+    }
+}
+
+/// Adds how the players are called, and no text where neither has a name.
+fn put_names(alloc: Global, out: &mut Vec<u8>, names: &Names) -> Result<(), AllocError> {
+    if let Some(pairing) = Pairing::of(names) {
+        let text = format!(in alloc; "{pairing}")?;
+        put_text(out, text.as_str())?;
+    }
+    put_text(out, "\t")
+}
+
+/// Adds the score, the game, and what is to happen next.
+fn put_standing(
+    out: &mut Vec<u8>,
+    table: &MatchFile,
+    standing: &Standing,
+) -> Result<(), AllocError> {
+    let (x, o) = standing.score();
+    put_numbered(out, "", x.into(), "-")?;
+    put_numbered(out, "", o.into(), " of ")?;
+    put_numbered(out, "", table.terms.length.into(), "\t")?;
+    put_numbered(out, "game ", standing.game().into(), "\t")?;
+    put_phase(out, standing)?;
+    put_text(out, "\t")
+}
+
+/// Adds when a save was written last.
+fn put_changed(alloc: Global, out: &mut Vec<u8>, changed: Option<u64>) -> Result<(), AllocError> {
+    match changed {
+        Some(seconds) => {
+            let text = format!(in alloc; "{}", Moment(seconds))?;
+            put_text(out, text.as_str())?;
+        }
+        None => put_text(out, NOTHING)?,
+    }
+    put_text(out, "\t")
+}
+
+/// Adds a number between these words.
+fn put_numbered(
+    out: &mut Vec<u8>,
+    before: &str,
+    number: u64,
+    behind: &str,
+) -> Result<(), AllocError> {
+    put_text(out, before)?;
+    put_number(out, number)?;
+    put_text(out, behind)
+}

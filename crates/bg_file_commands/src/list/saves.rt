@@ -1,0 +1,115 @@
+//! What the two saves of a referee hold, and whether they are sound.
+
+use crate::list::examining::Soundness;
+use bg_match::{Number, Record, Standing};
+use bg_system::{MatchFile, SlotName};
+use bg_wire::{FIRST_SAVE, LoadFault, REFEREE, RestoreRefusal, Saved, Slot, load, restore};
+use std::alloc::{AllocError, Global};
+
+/// What the saves of a referee hold.
+#[derive(Drop)]
+pub(crate) struct Held {
+    pub(crate) standing: Option<Standing>,
+    pub(crate) entries: Number,
+    pub(crate) soundness: Soundness,
+    /// What is wrong, where they are not sound.
+    pub(crate) fault: String,
+}
+
+impl Held {
+    /// Returns that one can't be read, and why.
+    pub(crate) fn unread(fault: String) -> Held {
+        Held {
+            standing: None,
+            entries: 0,
+            soundness: Soundness::Unread,
+            fault,
+        }
+    }
+
+    /// Returns saves that hold this, and are sound where there is no fault.
+    fn with(standing: Option<Standing>, entries: Number, fault: String) -> Held {
+        Held {
+            standing,
+            entries,
+            soundness: if fault.is_empty() {
+                Soundness::Sound
+            } else {
+                Soundness::Unsound
+            },
+            fault,
+        }
+    }
+}
+
+/// Returns what these two saves hold of a match.
+pub(crate) fn held_in(
+    alloc: Global,
+    table: &MatchFile,
+    zero: &[u8],
+    one: &[u8],
+) -> Result<Held, AllocError> {
+    let (length, rules) = (table.terms.length, table.terms.rules);
+    match restore(alloc, zero, one, REFEREE, table.id, length, rules) {
+        Ok(Some(saved)) => {
+            let fault = fault_beside(alloc, &saved, zero, one)?;
+            Ok(Held::with(Some(saved.log.standing()), saved.log.len(), fault))
+        }
+        Ok(None) => {
+            let fault = if one.is_empty() {
+                String::new(alloc)
+            } else {
+                fault_of(alloc, Slot::One, one)?
+            };
+            let start = Record::new(alloc, table.id, length, rules).ok();
+            Ok(Held::with(start.map(|record| record.standing()), 0, fault))
+        }
+        Err(RestoreRefusal::Damaged) => {
+            let (first, second) = (
+                fault_of(alloc, Slot::Zero, zero)?,
+                fault_of(alloc, Slot::One, one)?,
+            );
+            Ok(Held::with(None, 0, format!(in alloc; "{first}, {second}")?))
+        }
+        Err(RestoreRefusal::WrongMatch) => {
+            let fault = String::from_str(alloc, "the saves are of another match")?;
+            Ok(Held::with(None, 0, fault))
+        }
+        Err(RestoreRefusal::Memory) => Err(AllocError),
+    }
+}
+
+/// Returns what is wrong with the save beside the one that counts: it should be the one before, and is the next one where
+/// that was cut short. An empty text where nothing is.
+fn fault_beside(
+    alloc: Global,
+    saved: &Saved,
+    zero: &[u8],
+    one: &[u8],
+) -> Result<String, AllocError> {
+    let (slot, bytes) = if saved.save % 2 == 0 {
+        (Slot::One, one)
+    } else {
+        (Slot::Zero, zero)
+    };
+    if saved.save == FIRST_SAVE && bytes.is_empty() {
+        return Ok(String::new(alloc));
+    }
+    fault_of(alloc, slot, bytes)
+}
+
+/// Returns why the bytes of a slot are no saved text, behind its name; an empty text where they are one.
+fn fault_of(alloc: Global, slot: Slot, bytes: &[u8]) -> Result<String, AllocError> {
+    let name = SlotName {
+        party: REFEREE,
+        slot,
+    };
+    if bytes.is_empty() {
+        return format!(in alloc; "{name} is damaged: empty");
+    }
+    match load(alloc, bytes) {
+        Ok(_) => Ok(String::new(alloc)),
+        Err(LoadFault::Memory) => Err(AllocError),
+        Err(why) => format!(in alloc; "{name} is damaged: {why}"),
+    }
+}

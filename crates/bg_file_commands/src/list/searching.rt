@@ -1,0 +1,122 @@
+//! Where matches lie.
+
+use std::fs::File;
+use std::io::ErrorKind;
+use std::rt::Files;
+use std::{fs, io};
+
+/// Folders are searched so many folders deep below the one that is named.
+const MOST_DEEP: u8 = 3;
+
+/// A folder that has a match, or can't be read.
+#[derive(Drop)]
+pub(crate) struct Place {
+    pub(crate) path: String,
+    /// Why it can't be read.
+    pub(crate) fault: Option<io::Error>,
+}
+
+/// What a folder has.
+enum Content {
+    Match,
+    NoMatch,
+    Unread(io::Error),
+}
+
+/// Returns the folders with a match among a folder and those below it, and those that can't be read, by their names. A
+/// folder with a match is not searched, and links to folders are not followed.
+///
+/// # Errors
+/// `OutOfMemory` alone.
+pub(crate) fn places_below<R>(rt: &R, folder: &str) -> io::Result<Vec<Place>>
+where
+    R: Files<File = File> + AllocGlobal,
+{
+    let mut places = Vec::new(rt.alloc());
+    let mut level = Vec::new(rt.alloc());
+    level.push(without_slashes(rt, folder)?)?;
+    for depth in 0..=MOST_DEEP {
+        let mut below = Vec::new(rt.alloc());
+        for path in level {
+            search(rt, path, depth < MOST_DEEP, &mut places, &mut below)?;
+        }
+        level = below;
+    }
+    places.sort_by(|one: &Place, other: &Place| one.path.as_str().cmp(other.path.as_str()))?;
+    Ok(places)
+}
+
+/// Returns the name of a folder without the slashes at its end.
+fn without_slashes(rt: &impl AllocGlobal, folder: &str) -> io::Result<String> {
+    let name = folder.trim_end_matches('/');
+    Ok(String::from_str(rt.alloc(), if name.is_empty() { "/" } else { name })?)
+}
+
+/// Adds a folder to the places where it is one; else, where it is to be searched, the folders in it to those below.
+fn search<R>(
+    rt: &R,
+    path: String,
+    is_searched: bool,
+    places: &mut Vec<Place>,
+    below: &mut Vec<String>,
+) -> io::Result<()>
+where
+    R: Files<File = File> + AllocGlobal,
+{
+    let fault = match content_of(rt, path.as_str())? {
+        Content::Match => None,
+        Content::Unread(error) => Some(error),
+        Content::NoMatch => {
+            if !is_searched {
+                return Ok(());
+            }
+            match add_folders(rt, path.as_str(), below) {
+                Ok(()) => return Ok(()),
+                Err(error) => Some(not_memory(error)?),
+            }
+        }
+    };
+    Ok(places.push(Place { path, fault })?)
+}
+
+/// Returns whether a folder has a match file.
+fn content_of<R>(rt: &R, path: &str) -> io::Result<Content>
+where
+    R: Files<File = File> + AllocGlobal,
+{
+    let name = format!(in rt.alloc(); "{path}/match")?;
+    Ok(match fs::metadata(rt, name.as_str()) {
+        Ok(found) if found.is_file() => Content::Match,
+        Ok(_) => Content::NoMatch,
+        Err(error) => match error.kind() {
+            ErrorKind::NotFound | ErrorKind::NotADirectory => Content::NoMatch,
+            _ => Content::Unread(error),
+        },
+    })
+}
+
+/// Adds the folders in a folder to others, but for those whose names are no text.
+fn add_folders<R>(rt: &R, path: &str, folders: &mut Vec<String>) -> io::Result<()>
+where
+    R: Files<File = File> + AllocGlobal,
+{
+    for found in fs::read_dir(&rt, path)? {
+        let found = match found {
+            Ok(found) => found,
+            Err(error) if error.kind() == ErrorKind::InvalidFilename => continue,
+            Err(error) => return Err(error),
+        };
+        if found.file_type().is_ok_and(|kind| kind.is_dir()) {
+            folders.push(String::from_str(rt.alloc(), found.path().as_str())?)?;
+        }
+    }
+    Ok(())
+}
+
+/// Returns an error that is not want of memory.
+pub(crate) fn not_memory(error: io::Error) -> io::Result<io::Error> {
+    match error.kind() {
+        ErrorKind::OutOfMemory => Err(error),
+        _ => Ok(error),
+    }
+}

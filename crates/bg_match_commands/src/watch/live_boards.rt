@@ -1,0 +1,219 @@
+//! The board of a match that is watched at a terminal.
+
+use crate::watch::screens::{drawn_in_place, screen_text};
+use bg_auto::{Onlooker, party_at};
+use bg_command_parts::{GameResult, Results, Silence, is_out_of_step};
+use bg_console::{Called, Pairing, Terminal, broken, say, write_out, written};
+use bg_match::{Number, Phase, Record};
+use bg_processes::{Failures, NamedMatch, Word};
+use bg_reports::Ending;
+use bg_world::{Event, Outcome, outcome_text};
+use std::alloc::Global;
+use std::fmt::{Display, Formatter, Write};
+use std::fs::File;
+use std::rt::Files;
+use std::{fmt, io};
+
+/// What is said where parties can't go on together.
+const APART: &str = "the files of the parties do not belong together";
+
+/// What is said where a file that is kept for others can't be written.
+const UNWRITTEN: &str = "a file that is kept can't be written: `--plain` says which, and why";
+
+/// Whether the referee is heard.
+#[derive(Clone, Copy, PartialEq, Eq)]
+enum Referee {
+    /// Nothing was heard yet, for less than three seconds.
+    Awaited,
+    Heard,
+    Silent(Silence),
+}
+
+impl Display for Referee {
+    fn fmt<W: Write>(&self, f: &mut Formatter<W>) -> fmt::Result {
+        match self {
+            Referee::Awaited => f.write_str("waiting for the referee"),
+            Referee::Heard => f.write_str("the referee is heard"),
+            Referee::Silent(why) => write!(f, "{}: {why}", Word::Silent),
+        }
+    }
+}
+
+/// The board of a match on a terminal, with the newest entries below it, which is drawn anew when
+/// something changes. What is wrong stands in a line of it, so that nothing tears the screen.
+#[derive(Drop)]
+pub(super) struct LiveBoard<'a, R> {
+    rt: &'a R,
+    terminal: Terminal,
+    failures: &'a Failures,
+    /// Whether the standard error is another place than the terminal, which is told what is wrong
+    /// too.
+    says_too: bool,
+    /// What the key file says of the match and its players.
+    file: NamedMatch,
+    referee: Referee,
+    results: Results,
+    /// What the game before came to.
+    result: Option<GameResult>,
+    /// What was wrong since there was news.
+    trouble: Option<String>,
+    /// Whether a file that is kept for others can't be written.
+    is_unwritten: bool,
+    /// How many entries were drawn.
+    shown: Number,
+    /// Whether there is something that was not drawn.
+    is_old: bool,
+}
+
+impl<'a, R: Files<File = File> + Print + Eprint + AllocGlobal> LiveBoard<'a, R> {
+    /// Makes the board of this record on a terminal, where nothing is drawn yet. Devices note their
+    /// failures there, and the key file says this.
+    pub(super) fn new(
+        rt: &'a R,
+        terminal: Terminal,
+        failures: &'a Failures,
+        says_too: bool,
+        file: NamedMatch,
+        record: &Record,
+    ) -> LiveBoard<'a, R> {
+        LiveBoard {
+            rt,
+            terminal,
+            failures,
+            says_too,
+            file,
+            referee: Referee::Awaited,
+            results: Results::of(record),
+            result: None,
+            trouble: None,
+            is_unwritten: false,
+            shown: 0,
+            is_old: true,
+        }
+    }
+
+    /// Draws the board anew where something has changed: behind each round, with what changed of
+    /// the referee, and whether anything was ever heard of it. Returns whether there were new
+    /// entries.
+    pub(super) fn go_on(
+        &mut self,
+        record: &Record,
+        word: Option<Word>,
+        is_heard: bool,
+    ) -> Result<bool, Ending> {
+        self.note_referee(word, is_heard);
+        self.note_results(record);
+        let is_news = record.len() > self.shown;
+        if is_news {
+            self.trouble = None;
+        }
+        if is_news || self.is_old {
+            written(self.rt, self.draw(record))?;
+            self.shown = self.shown.max(record.len());
+            self.is_old = false;
+        }
+        Ok(is_news)
+    }
+
+    /// Keeps what the last game came to that has ended.
+    fn note_results(&mut self, record: &Record) {
+        for _ in 0..record.len() {
+            match self.results.next(record, &self.file.names) {
+                Some(result) => self.result = Some(result),
+                None => return,
+            }
+        }
+    }
+
+    fn note_referee(&mut self, word: Option<Word>, is_heard: bool) {
+        let referee = match (word, self.referee) {
+            (Some(Word::Silent), _) => Referee::Silent(Silence::of(self.rt, &self.file.table)),
+            (Some(Word::HeardAgain), _) => Referee::Heard,
+            (None, Referee::Awaited) if is_heard => Referee::Heard,
+            (None, referee) => referee,
+        };
+        self.is_old = self.is_old || referee != self.referee;
+        self.referee = referee;
+    }
+
+    fn draw(&self, record: &Record) -> io::Result<()> {
+        let alloc = self.rt.alloc();
+        let foot = self.foot(alloc, record)?;
+        let foot = broken(alloc, foot.as_bytes(), self.terminal.columns)?;
+        let heading = self.heading(alloc)?;
+        let text = screen_text(alloc, record, &heading, &foot, self.terminal)?;
+        write_out(self.rt, &drawn_in_place(alloc, &text, self.terminal)?)
+    }
+
+    /// Who plays, where a player has a name: what stands above the board.
+    fn heading(&self, alloc: Global) -> io::Result<Vec<u8>> {
+        let names = &self.file.names;
+        if Pairing::of(names).is_none() {
+            return Ok(Vec::new(alloc));
+        }
+        let (x, o) = (Called::x(names), Called::o(names));
+        let line = format!(in alloc; "{x} against {o}")?;
+        Ok(broken(alloc, line.as_bytes(), self.terminal.columns)?)
+    }
+
+    /// The lines below the entries: what the game before came to, and whether the referee is heard;
+    /// at the end of the match what it came to.
+    fn foot(&self, alloc: Global, record: &Record) -> io::Result<String> {
+        let mut foot = String::new(alloc);
+        if let Some(result) = self.result {
+            foot = format!(in alloc; "{result}\n")?;
+            if let Some(result) = result.of_match() {
+                foot = format!(in alloc; "{foot}{result}\n")?;
+            }
+        }
+        if let Some(trouble) = &self.trouble {
+            foot = format!(in alloc; "{foot}{trouble}\n")?;
+        }
+        if self.is_unwritten {
+            foot = format!(in alloc; "{foot}{UNWRITTEN}\n")?;
+        }
+        if let Phase::Over(_) = record.standing().phase() {
+            return Ok(foot);
+        }
+        Ok(format!(in alloc; "{foot}{}\n", self.referee)?)
+    }
+
+    /// Keeps for the screen what is wrong, and says it where the standard error is another place.
+    fn note_trouble(&mut self, words: String) {
+        if self.trouble.as_ref() == Some(&words) {
+            return;
+        }
+        if self.says_too {
+            say(self.rt, words.as_str());
+        }
+        self.trouble = Some(words);
+        self.is_old = true;
+    }
+
+    /// Notes whether a file that is kept for others can't be written; its name was said on the
+    /// standard error.
+    pub(super) fn note_files(&mut self, is_unwritten: bool) {
+        self.is_old = self.is_old || is_unwritten != self.is_unwritten;
+        self.is_unwritten = is_unwritten;
+    }
+}
+
+impl<'a, R: Files<File = File> + Print + Eprint + AllocGlobal> Onlooker for LiveBoard<'a, R> {
+    fn happened(&mut self, event: &Event, outcome: &Outcome, _held: Option<Number>) {
+        let alloc = self.rt.alloc();
+        for failure in self.failures.drain() {
+            if let Ok(words) = format!(in alloc; "{}", failure.in_folder("")) {
+                self.note_trouble(words);
+            }
+        }
+        if is_out_of_step(outcome) {
+            let (party, line) = (party_at(event), outcome_text(outcome));
+            let words = format!(in alloc; "{APART}: at party {party}: {}", line.as_str());
+            if let Ok(words) = words {
+                self.note_trouble(words);
+            }
+        }
+    }
+
+    fn played(&mut self, _done: u32) {}
+}

@@ -1,0 +1,113 @@
+//! The screen on which a match is watched, as text, and how it is drawn anew in place.
+
+use bg_board::Player;
+use bg_console::{Terminal, put_entries, with_coloured_checkers};
+use bg_match::{Number, Record};
+use bg_table::{Drawing, seat_view_text};
+use bg_text::put_text;
+use std::alloc::Global;
+use std::io;
+
+/// Whose side is seen, and in whose numbers the points are.
+const SEEN_FROM: Player = Player::X;
+
+/// The fewest lines on which checkers stand one above another, with an entry, a line below it, and
+/// that of the cursor.
+const LINES_FOR_STACKS: usize = 22;
+
+/// The words that speak to a player, and the beginning of the line that says what the other one did
+/// last: who watches sees neither, as the entries stand below the board.
+const SPEAKS_TO_PLAYER: &str = " (you)";
+
+const LAST: &str = "last: ";
+
+/// What a terminal takes for: go to the upper left corner, clear the rest of the line, clear the
+/// rest of the screen.
+const HOME: &[u8] = b"\x1b[H";
+
+const CLEAR_LINE: &[u8] = b"\x1b[K";
+
+const CLEAR_BELOW: &[u8] = b"\x1b[J";
+
+/// Returns the lines of a screen: a heading; the match, the score, the board from X's side and whose
+/// turn it is; as many of the newest entries as fit; and a foot. It leaves a line for the cursor.
+///
+/// # Errors
+/// Where there is no memory for it.
+pub(super) fn screen_text(
+    alloc: Global,
+    record: &Record,
+    heading: &[u8],
+    foot: &[u8],
+    terminal: Terminal,
+) -> io::Result<Vec<u8>> {
+    let mut text = Vec::new(alloc);
+    text.extend_from_slice(heading)?;
+    text.extend_from_slice(&table_text(alloc, record, terminal)?)?;
+    let taken = lines_in(&text).saturating_add(lines_in(foot));
+    let room = room_of(terminal).saturating_sub(taken);
+    let room = Number::try_from(room).unwrap_or(Number::MAX);
+    put_entries(&mut text, record, record.len().saturating_sub(room))?;
+    text.extend_from_slice(foot)?;
+    Ok(text)
+}
+
+/// How many lines of a terminal are drawn on.
+fn room_of(terminal: Terminal) -> usize {
+    terminal.lines.saturating_sub(1)
+}
+
+fn lines_in(text: &[u8]) -> usize {
+    text.iter().filter(|byte| **byte == b'\n').count()
+}
+
+/// What X sees, without the words that speak to X and without O's last entry.
+fn table_text(alloc: Global, record: &Record, terminal: Terminal) -> io::Result<Vec<u8>> {
+    let view = seat_view_text(alloc, record, SEEN_FROM, drawing_on(terminal))?;
+    let mut text = Vec::new(alloc);
+    for line in str::from_utf8(&view).unwrap_or_default().lines() {
+        if !line.starts_with(LAST) {
+            for part in line.split(SPEAKS_TO_PLAYER) {
+                put_text(&mut text, part)?;
+            }
+            text.push(b'\n')?;
+        }
+    }
+    Ok(text)
+}
+
+/// How the board is drawn on a terminal.
+fn drawing_on(terminal: Terminal) -> Drawing {
+    match Drawing::fitting(terminal.columns) {
+        Drawing::Stacks if terminal.lines < LINES_FOR_STACKS => Drawing::Rows,
+        fitting => fitting,
+    }
+}
+
+/// Returns what draws the lines of a screen in the place of those that were drawn before. What
+/// doesn't fit the terminal is cut off.
+///
+/// # Errors
+/// Where there is no memory for it.
+pub(super) fn drawn_in_place(
+    alloc: Global,
+    text: &[u8],
+    terminal: Terminal,
+) -> io::Result<Vec<u8>> {
+    let mut out = Vec::new(alloc);
+    out.extend_from_slice(HOME)?;
+    let lines = str::from_utf8(text).unwrap_or_default().lines();
+    for line in lines.take(room_of(terminal)) {
+        let line = line.get(..terminal.columns).unwrap_or(line).as_bytes();
+        if terminal.has_colours {
+            let coloured = with_coloured_checkers(alloc, line, SEEN_FROM)?;
+            out.extend_from_slice(&coloured)?;
+        } else {
+            out.extend_from_slice(line)?;
+        }
+        out.extend_from_slice(CLEAR_LINE)?;
+        out.push(b'\n')?;
+    }
+    out.extend_from_slice(CLEAR_BELOW)?;
+    Ok(out)
+}

@@ -1,0 +1,76 @@
+//! How a match that is watched is shown.
+
+use crate::watch::live_boards::LiveBoard;
+use bg_auto::Onlooker;
+use bg_command_parts::{Witness, tell_word};
+use bg_console::Telling;
+use bg_match::{Number, Record};
+use bg_processes::{MatchFile, Word};
+use bg_reports::Ending;
+use bg_world::{Event, Outcome};
+use std::fs::File;
+use std::rt::Files;
+
+/// The lines of a transcript, as they come.
+#[derive(Drop)]
+pub(super) struct Lines<'a, R> {
+    pub(super) rt: &'a R,
+    pub(super) telling: Telling,
+    pub(super) witness: Witness<'a, R>,
+    /// What the key file says of the match.
+    pub(super) table: MatchFile,
+    /// Whether only what is wrong is said.
+    pub(super) is_quiet: bool,
+    /// Whether somebody watches the standard error.
+    pub(super) is_watched: bool,
+}
+
+/// How a match is shown: by its transcript, or by a board that is drawn anew.
+#[derive(Drop)]
+pub(super) enum Showing<'a, R> {
+    Lines(Lines<'a, R>),
+    Board(LiveBoard<'a, R>),
+}
+
+impl<'a, R: Files<File = File> + Print + Eprint + AllocGlobal> Showing<'a, R> {
+    /// Says whether the referee is heard of, where that has changed: to somebody who watches, and
+    /// for a log until it was heard once, as it may be another match's. A board shows it.
+    pub(super) fn tell_word(&self, word: Option<Word>, is_heard: bool) {
+        if let Showing::Lines(lines) = self {
+            let is_told = !lines.is_quiet && (lines.is_watched || !is_heard);
+            tell_word(lines.rt, &lines.table, word, is_told);
+        }
+    }
+
+    /// Shows what a round brought, and returns whether there were new entries.
+    pub(super) fn go_on(
+        &mut self,
+        record: &Record,
+        word: Option<Word>,
+        is_heard: bool,
+    ) -> Result<bool, Ending> {
+        match self {
+            Showing::Lines(lines) => lines.telling.go_on(lines.rt, record),
+            Showing::Board(board) => board.go_on(record, word, is_heard),
+        }
+    }
+
+    /// Notes whether a file that is kept for others can't be written; its name was said on the
+    /// standard error.
+    pub(super) fn note_files(&mut self, is_unwritten: bool) {
+        if let Showing::Board(board) = self {
+            board.note_files(is_unwritten);
+        }
+    }
+}
+
+impl<'a, R: Files<File = File> + Print + Eprint + AllocGlobal> Onlooker for Showing<'a, R> {
+    fn happened(&mut self, event: &Event, outcome: &Outcome, held: Option<Number>) {
+        match self {
+            Showing::Lines(lines) => lines.witness.happened(event, outcome, held),
+            Showing::Board(board) => board.happened(event, outcome, held),
+        }
+    }
+
+    fn played(&mut self, _done: u32) {}
+}

@@ -1,0 +1,54 @@
+//! What a person at a terminal chooses, and why not.
+
+use crate::play::Table;
+use bg_console::allocated;
+use bg_match::Action;
+use bg_party::ChooseFault;
+use bg_reports::Ending;
+use bg_table::refusal_text;
+use bg_world::{Outcome, outcome_text};
+use std::fs::File;
+use std::net::Net;
+use std::rt::Files;
+use std::time::Clock;
+
+/// What is said of a choice that can't be sent yet, that could not be saved, and that can't be made.
+const KEPT: &[u8] = b"your choice is kept, and sent when the referee is heard again";
+
+const UNSAVED: &[u8] = b"your choice could not be saved, and was not made: choose again";
+
+const STANDS_STILL: &[u8] = b"nothing can be chosen until your files can be read again";
+
+impl<'a, R> Table<'a, R>
+where
+    R: Input + Net + Files<File = File> + Clock + Print + Eprint + AllocGlobal,
+{
+    /// Whether no choice waits for the referee.
+    pub(super) fn claims_nothing(&self) -> bool {
+        self.seat.process.open_claim().is_none()
+    }
+
+    /// Claims an action, or says why not.
+    pub(super) fn choose(&mut self, action: Action) -> Result<(), Ending> {
+        self.typed.clear();
+        match self.seat.choose(action.copy())? {
+            Outcome::Chose(Ok(_)) if self.is_silent => self.screen.say(KEPT),
+            Outcome::Chose(Ok(_)) => Ok(()),
+            Outcome::Chose(Err(fault)) => self.refuse(&action, fault),
+            Outcome::SaveFault => self.screen.say(UNSAVED),
+            Outcome::Down => self.screen.say(STANDS_STILL),
+            outcome => self.screen.say(outcome_text(&outcome).as_str().as_bytes()),
+        }
+    }
+
+    /// Says why an action can't be claimed, and what the player may do instead.
+    fn refuse(&self, action: &Action, fault: ChooseFault) -> Result<(), Ending> {
+        let rt = self.rt;
+        let (ChooseFault::Illegal(fault), Some(record)) = (fault, self.seat.process.held()) else {
+            return self.prompt();
+        };
+        let standing = record.standing();
+        let text = refusal_text(rt.alloc(), &standing, self.player, action, fault);
+        self.screen.say_turn(&allocated(rt, text)?)
+    }
+}

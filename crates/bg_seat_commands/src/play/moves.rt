@@ -1,0 +1,190 @@
+//! A turn as a person types it, whole or step by step, and the list of those that are legal.
+
+use crate::play::Table;
+use crate::play::turn_words::{forced, lines_behind, only_way, so_far, together, which_of};
+use bg_board::Board;
+use bg_console::allocated;
+use bg_match::{Action, Phase};
+use bg_reports::Ending;
+use bg_table::{legal_turns_text, turn_refusal_text};
+use bg_turns::{Dice, Turn, TurnFault, judge_turn};
+use bg_typed::{TypedFault, read_turn, typed_steps};
+use std::fs::File;
+use std::net::Net;
+use std::rt::Files;
+use std::time::Clock;
+
+/// As many lines of legal turns are printed at once.
+const LINES_AT_ONCE: usize = 16;
+
+/// The columns of a screen that is wider than any.
+const MOST_COLUMNS: u16 = 400;
+
+/// What is said where there is nothing to move.
+const NO_DICE: &[u8] = b"you have no dice to move now";
+
+/// What is said of a line that is none of those that may be typed.
+const NOT_UNDERSTOOD: &str = "that is not understood: `help` lists what may be typed";
+
+/// The faults of a typed movement, in words.
+const TOO_MANY_STEPS: &str = "a turn has four steps at most";
+
+const WRONG_HITS: &str =
+    "this turn hits on other points than those that are marked with `*`: leave the marks out, or mark all hits";
+
+const SEVERAL_TURNS: &[u8] = b"several turns are legal: `legal` lists them";
+
+/// What is said to one who takes back what he typed of a turn, and to one who typed nothing of it.
+const TAKEN_BACK: &[u8] = b"what you typed of this turn is taken back";
+
+const NOTHING_TYPED: &[u8] =
+    b"nothing of a turn is typed: a turn that was sent can't be taken back";
+
+/// What is said where not all legal turns were printed.
+const THERE_IS_MORE: &[u8] = b"`more` lists further turns";
+
+impl<'a, R> Table<'a, R>
+where
+    R: Input + Net + Files<File = File> + Clock + Print + Eprint + AllocGlobal,
+{
+    /// The board and the dice that the player is to move, if he is.
+    fn to_move(&self) -> Option<(Board, Dice)> {
+        let standing = self.seat.process.held()?.standing();
+        match standing.phase() {
+            Phase::ToMove(mover, dice) if mover == self.player => Some((standing.board(), dice)),
+            _ => None,
+        }
+    }
+
+    /// Plays a line as a turn, or as one more part of a turn.
+    pub(super) fn move_by(&mut self, line: &[u8]) -> Result<(), Ending> {
+        let rt = self.rt;
+        let Some((board, dice)) = self.to_move() else {
+            return self.refuse_move(line);
+        };
+        let whole = allocated(rt, together(rt.alloc(), &self.typed, line))?;
+        match read_turn(rt.alloc(), &whole, &board, self.player, dice) {
+            Ok(turn) => self.choose(Action::Move(turn)),
+            Err(TypedFault::NoSuchTurn) => self.go_on(whole, &board, dice),
+            Err(TypedFault::SeveralTurns) => match self.only_way()? {
+                Some(turn) => self.choose(Action::Move(turn)),
+                None => self.screen.say(SEVERAL_TURNS),
+            },
+            Err(fault) => self.tell_fault(&fault),
+        }
+    }
+
+    /// The greatest legal turn, where all legal turns lead to one position.
+    fn only_way(&self) -> Result<Option<Turn>, Ending> {
+        match self.to_move() {
+            Some((board, dice)) => {
+                let only = only_way(self.rt.alloc(), &board, self.player, dice);
+                allocated(self.rt, only)
+            }
+            None => Ok(None),
+        }
+    }
+
+    /// Plays the only legal turn, where there is one.
+    pub(super) fn play_forced(&mut self) -> Result<(), Ending> {
+        match self.only_way()? {
+            Some(turn) => {
+                let line = allocated(self.rt, forced(self.rt.alloc(), self.player, &turn))?;
+                self.screen.say(&line)?;
+                self.choose(Action::Move(turn))
+            }
+            None => Ok(()),
+        }
+    }
+
+    /// Says why a line is no move now.
+    fn refuse_move(&mut self, line: &[u8]) -> Result<(), Ending> {
+        match typed_steps(self.rt.alloc(), line) {
+            Ok(turn) => self.choose(Action::Move(turn)),
+            Err(_) => self.screen.say(NOT_UNDERSTOOD.as_bytes()),
+        }
+    }
+
+    /// Keeps what was typed of a turn, where its steps can be played and more have to be; else says why they can't.
+    fn go_on(&mut self, typed: Vec<u8>, board: &Board, dice: Dice) -> Result<(), Ending> {
+        let rt = self.rt;
+        let turn = match typed_steps(rt.alloc(), &typed) {
+            Ok(turn) => turn,
+            Err(fault) => return self.tell_fault(&fault),
+        };
+        let Err(fault) = judge_turn(board, self.player, dice, &turn) else {
+            return Ok(());
+        };
+        if fault == TurnFault::MoreCanBePlayed {
+            self.typed = typed;
+            return self.tell_typed();
+        }
+        let text = turn_refusal_text(rt.alloc(), board, self.player, dice, &turn, fault);
+        self.screen.say(&allocated(rt, text)?)
+    }
+
+    /// Says why what was typed is no turn.
+    fn tell_fault(&self, fault: &TypedFault) -> Result<(), Ending> {
+        let words = match fault {
+            TypedFault::NotAMovement => NOT_UNDERSTOOD,
+            TypedFault::TooManySteps => TOO_MANY_STEPS,
+            TypedFault::WrongHits => WRONG_HITS,
+            TypedFault::SeveralTurns => return self.screen.say(SEVERAL_TURNS),
+            TypedFault::Ambiguous(one, other) => {
+                let line = which_of(self.rt.alloc(), self.player, one, other);
+                return self.screen.say(&allocated(self.rt, line)?);
+            }
+            TypedFault::NoSuchTurn =>
+                "no legal turn has this movement: `legal` lists those that are",
+            TypedFault::Memory => "out of memory",
+        };
+        self.screen.say(words.as_bytes())
+    }
+
+    /// Says what was typed of a turn, if anything was.
+    pub(super) fn tell_typed(&self) -> Result<(), Ending> {
+        let rt = self.rt;
+        if self.typed.is_empty() {
+            return Ok(());
+        }
+        let Ok(turn) = typed_steps(rt.alloc(), &self.typed) else {
+            return Ok(());
+        };
+        let line = allocated(rt, so_far(rt.alloc(), self.player, &turn))?;
+        self.screen.say(&line)
+    }
+
+    /// Forgets what was typed of a turn.
+    pub(super) fn undo(&mut self) -> Result<(), Ending> {
+        if self.typed.is_empty() {
+            return self.screen.say(NOTHING_TYPED);
+        }
+        self.typed.clear();
+        self.screen.say(TAKEN_BACK)?;
+        self.prompt()
+    }
+
+    /// Prints the lines of the legal turns behind so many.
+    pub(super) fn list_turns(&mut self, behind: usize) -> Result<(), Ending> {
+        let rt = self.rt;
+        let Some((board, dice)) = self.to_move() else {
+            self.screen.say(NO_DICE)?;
+            return self.prompt();
+        };
+        let columns = u16::try_from(self.screen.columns).unwrap_or(MOST_COLUMNS);
+        let text = legal_turns_text(rt.alloc(), &board, self.player, dice, columns);
+        let text = allocated(rt, text)?;
+        let (shown, is_last) = lines_behind(&text, behind, LINES_AT_ONCE);
+        self.screen.print(shown)?;
+        self.listed = if is_last {
+            0
+        } else {
+            behind.saturating_add(LINES_AT_ONCE)
+        };
+        if is_last {
+            Ok(())
+        } else {
+            self.screen.say(THERE_IS_MORE)
+        }
+    }
+}

@@ -1,0 +1,57 @@
+//! What a person at a terminal is told of the other player's coming and going.
+
+use crate::play::Table;
+use bg_board::Player;
+use bg_console::allocated;
+use bg_match::Actor;
+use bg_processes::OpponentChange;
+use bg_reports::Ending;
+use bg_text::{letter, put_text};
+use std::alloc::{AllocError, Global};
+use std::fs::File;
+use std::net::Net;
+use std::rt::Files;
+use std::time::Clock;
+
+impl<'a, R> Table<'a, R>
+where
+    R: Input + Net + Files<File = File> + Clock + Print + Eprint + AllocGlobal,
+{
+    /// Says whether the other player has come, left or returned, where there is news of that.
+    /// Answers whether there was.
+    pub(super) fn tell_of_opponent(&mut self) -> Result<bool, Ending> {
+        let opponent = self.player.opponent();
+        let is_awaited = match self.seat.process.held() {
+            Some(record) => record.actor() == Actor::Seat(opponent),
+            None => false,
+        };
+        let socket = self.seat.process.link();
+        let change = self.opponent.after_round(self.rt, socket, is_awaited);
+        let Some(change) = change else {
+            return Ok(false);
+        };
+        let line = line_of(self.rt.alloc(), opponent, words_of(change));
+        self.screen.say(&allocated(self.rt, line)?)?;
+        Ok(true)
+    }
+}
+
+/// What is said of the other player, behind his letter.
+fn words_of(change: OpponentChange) -> &'static str {
+    match change {
+        OpponentChange::Missing => " is not here yet",
+        OpponentChange::Came => " is here now",
+        OpponentChange::Left => {
+            " is away: nothing was heard of that seat for ten seconds, and the match waits"
+        }
+        OpponentChange::Returned => " is back",
+    }
+}
+
+/// The letter of a player, and words behind it.
+fn line_of(alloc: Global, player: Player, words: &str) -> Result<Vec<u8>, AllocError> {
+    let mut line = Vec::new(alloc);
+    put_text(&mut line, letter(player))?;
+    put_text(&mut line, words)?;
+    Ok(line)
+}

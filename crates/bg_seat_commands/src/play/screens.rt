@@ -1,0 +1,91 @@
+//! What is printed for a person, on lines that fit his screen.
+
+use bg_board::Player;
+use bg_console::{
+    Terminal, allocated, broken, with_bold_offers, with_coloured_checkers, write_out, written,
+};
+use bg_match::Number;
+use bg_reports::Ending;
+use bg_text::{put_number, put_text};
+use std::alloc::{AllocError, Global};
+
+/// The columns of a screen of which nothing is known.
+const USUAL_COLUMNS: usize = 80;
+
+/// A screen, how many columns it has, and whether it has colours.
+#[derive(Drop)]
+pub(crate) struct Screen<'a, R> {
+    rt: &'a R,
+    pub(crate) columns: usize,
+    has_colours: bool,
+}
+
+impl<'a, R: Print + Eprint + AllocGlobal> Screen<'a, R> {
+    /// Makes a screen of as many columns as the options say, or else as the terminal has, if it is
+    /// one.
+    pub(crate) fn new(rt: &'a R, said: Option<u32>, terminal: Option<Terminal>) -> Screen<'a, R> {
+        let found = terminal.map_or(USUAL_COLUMNS, |terminal| terminal.columns);
+        Screen {
+            rt,
+            columns: said.map_or(found, |columns| columns as usize),
+            has_colours: terminal.is_some_and(|terminal| terminal.has_colours),
+        }
+    }
+
+    /// Prints a text as it is.
+    pub(crate) fn print(&self, text: &[u8]) -> Result<(), Ending> {
+        written(self.rt, write_out(self.rt, text))
+    }
+
+    /// Prints lines, broken between words where they don't fit.
+    pub(crate) fn say(&self, lines: &[u8]) -> Result<(), Ending> {
+        let text = allocated(self.rt, broken(self.rt.alloc(), lines, self.columns))?;
+        self.print(&text)
+    }
+
+    /// Prints a text with a board, on which the checkers of this player are bold where there are
+    /// colours.
+    pub(crate) fn show_board(&self, text: &[u8], own: Player) -> Result<(), Ending> {
+        if !self.has_colours {
+            return self.print(text);
+        }
+        let coloured = with_coloured_checkers(self.rt.alloc(), text, own);
+        self.print(&allocated(self.rt, coloured)?)
+    }
+
+    /// Prints the line that says whose turn it is as [`say`](Self::say) does, with the offers bold
+    /// where there are colours.
+    pub(crate) fn say_turn(&self, line: &[u8]) -> Result<(), Ending> {
+        let text = allocated(self.rt, broken(self.rt.alloc(), line, self.columns))?;
+        if !self.has_colours {
+            return self.print(&text);
+        }
+        let bold = with_bold_offers(self.rt.alloc(), &text);
+        self.print(&allocated(self.rt, bold)?)
+    }
+
+    /// Prints a line with a number between these words.
+    pub(crate) fn say_number(
+        &self,
+        before: &str,
+        number: Number,
+        behind: &str,
+    ) -> Result<(), Ending> {
+        let line = numbered(self.rt.alloc(), before, number, behind);
+        self.say(&allocated(self.rt, line)?)
+    }
+}
+
+/// A number between some words.
+fn numbered(
+    alloc: Global,
+    before: &str,
+    number: Number,
+    behind: &str,
+) -> Result<Vec<u8>, AllocError> {
+    let mut line = Vec::new(alloc);
+    put_text(&mut line, before)?;
+    put_number(&mut line, number.into())?;
+    put_text(&mut line, behind)?;
+    Ok(line)
+}

@@ -1,0 +1,135 @@
+//! What a person at a terminal is shown.
+
+use crate::play::Table;
+use crate::play::players::players_text;
+use crate::seats::{NOT_CHOSEN, Round};
+use bg_command_parts::Silence;
+use bg_console::{allocated, put_entries, written};
+use bg_match::Actor;
+use bg_processes::{Going, Word};
+use bg_reports::Ending;
+use bg_table::{Drawing, prompt_text, result_text, seat_view_text, waiting_text};
+use std::fs::File;
+use std::net::Net;
+use std::rt::Files;
+use std::time::Clock;
+
+/// What is said behind why nothing is heard of the referee.
+const KEPT_MEANWHILE: &str = "What you choose now is kept, and sent when it is heard again";
+
+impl<'a, R> Table<'a, R>
+where
+    R: Input + Net + Files<File = File> + Clock + Print + Eprint + AllocGlobal,
+{
+    /// Shows where the match stands as far as the seat knows it.
+    pub(super) fn greet(&mut self) -> Result<(), Ending> {
+        self.note_shown();
+        self.look_at_table()
+    }
+
+    /// Shows the board below the names of the players.
+    pub(super) fn look_at_table(&self) -> Result<(), Ending> {
+        let names = &self.seat.names;
+        let players = allocated(self.rt, players_text(self.rt.alloc(), names, self.player))?;
+        if !players.is_empty() {
+            self.screen.say(players.as_bytes())?;
+        }
+        self.show_table()
+    }
+
+    /// Notes that all entries are shown, and forgets what was typed of a turn before them.
+    pub(super) fn note_shown(&mut self) {
+        self.typed.clear();
+        self.listed = 0;
+        if let Some(record) = self.seat.process.held() {
+            self.shown = record.len();
+            self.stood = Some(record.standing());
+        }
+    }
+
+    /// Shows the board, and what the player may do or that his choice waits.
+    pub(super) fn show_table(&self) -> Result<(), Ending> {
+        let rt = self.rt;
+        let Some(record) = self.seat.process.held() else {
+            return Ok(());
+        };
+        let drawing = Drawing::fitting(self.screen.columns);
+        let view = seat_view_text(rt.alloc(), record, self.player, drawing);
+        self.screen.show_board(&allocated(rt, view)?, self.player)?;
+        self.prompt()
+    }
+
+    /// Says whose turn it is and what the player may do, or that his choice waits.
+    pub(super) fn prompt(&self) -> Result<(), Ending> {
+        let rt = self.rt;
+        if let Some((number, _)) = self.seat.process.open_claim() {
+            let text = allocated(rt, waiting_text(rt.alloc(), number))?;
+            return self.screen.say(&text);
+        }
+        let Some(record) = self.seat.process.held() else {
+            return Ok(());
+        };
+        let standing = record.standing();
+        let text = allocated(rt, prompt_text(rt.alloc(), &standing, self.player))?;
+        self.screen.say_turn(&text)?;
+        self.tell_typed()
+    }
+
+    /// Shows what a round brought, and below it what the player may do.
+    pub(super) fn show_round(&mut self, round: Round) -> Result<(), Ending> {
+        if let Some(word) = round.word {
+            self.is_silent = word == Word::Silent;
+            self.say_word(word)?;
+        }
+        if let Some(number) = round.foreign {
+            self.screen.say_number(NOT_CHOSEN.0, number, NOT_CHOSEN.1)?;
+        }
+        let has_news = self.seat.held() > self.shown;
+        if has_news {
+            self.show_news(round.going)?;
+        }
+        let is_told = self.tell_of_opponent()?;
+        if is_told || !has_news && (round.word.is_some() || round.foreign.is_some()) {
+            return self.prompt();
+        }
+        Ok(())
+    }
+
+    /// Says whether the referee is heard of: where it is not, why that may be, and what becomes of
+    /// a choice.
+    fn say_word(&self, word: Word) -> Result<(), Ending> {
+        let alloc = self.rt.alloc();
+        let line = if word == Word::Silent {
+            let why = Silence::of(self.rt, &self.seat.table);
+            format!(in alloc; "{word}: {why}{} {KEPT_MEANWHILE}", why.stop())
+        } else {
+            format!(in alloc; "{word}")
+        };
+        self.screen.say(allocated(self.rt, line)?.as_bytes())
+    }
+
+    /// Shows the entries that came, what a game or the match came to, and the board where they matter to the player.
+    fn show_news(&mut self, going: Going) -> Result<(), Ending> {
+        let Some(record) = self.seat.process.held() else {
+            return Ok(());
+        };
+        let rt = self.rt;
+        let mut text = Vec::new(rt.alloc());
+        written(rt, put_entries(&mut text, record, self.shown))?;
+        let acts = going == Going::Over || record.actor() == Actor::Seat(self.player);
+        let stood = self.stood;
+        if let Some(before) = stood {
+            let result = result_text(rt.alloc(), &before, &record.standing(), self.player);
+            allocated(rt, text.extend_from_slice(&allocated(rt, result)?))?;
+        }
+        self.screen.print(&text)?;
+        self.note_shown();
+        if acts {
+            self.show_table()?;
+        }
+        if self.plays_forced && self.claims_nothing() {
+            return self.play_forced();
+        }
+        Ok(())
+    }
+}
