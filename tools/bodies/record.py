@@ -17,14 +17,14 @@ A wrong body is a change of the code that the check must refuse: else a contract
 few (`crates/NAME/must-fail`), and holds these, which stand in `crates/NAME/wrong_bodies`, to their form. This page has
 what each came to when it was last tried, and `tools/each_wrong_body --write` writes it.
 
-A section's sum is one of all that its verdicts rest on: the crate's files below src, specs, proofs and wrong_bodies,
-its line of crates.txt, and of each crate below it the specs, and the sources without the bodies of functions. Comments
-in sources count for nothing, and neither do imports, since other names would be other lines too. Where it differs from
-that of the files, the crate is to be tried again: `tools/each_wrong_body --changed` tells and does so.
+A section's sum is taken over all that its verdicts rest on. That is the crate's files below src, specs, proofs and
+wrong_bodies, and its line of crates.txt. Of each crate below it, it is the specs, and the sources without the bodies of
+functions. Comments and imports in sources are left out: other names would show in other lines too. Where the sum
+differs from that of the files, the crate is to be tried again: `tools/each_wrong_body --changed` tells and does so.
 
-A row names the function whose proof fails and the goals that are open there, or the answer that is written by hand and
-fits no longer. "Not judged" is a wrong body that fails the check for another reason, as where only a proof misses a
-name, so it says little of a contract.
+A row names the function whose proof fails and the goals that are open there, or the handwritten answer that fits no
+longer. "Not judged" is a wrong body that fails the check for another reason, as where only a proof misses a name. So it
+says little of a contract.
 """
 # A `use` of sources, and of definitions and proofs; one under `pub` is seen by callers.
 IMPORTS = {

@@ -1,5 +1,5 @@
 """What the manual pages and the completions of an installation have, against the help texts, and what the tools that
-read them say; for tools/checks/check_install, with what it counts."""
+read them say; for tools/checks/check_install and check_release, with what they count and which program they try."""
 import os
 import pathlib
 import re
@@ -38,6 +38,32 @@ def runs(name, *words):
     """The command ends well, and prints nothing."""
     done = run(*words)
     right(done == (0, ""), f"{name}: status {done[0]}: {done[1][:400]}")
+
+
+def tree(folder):
+    """What lies below a folder: each path with what is there."""
+    return {str(path.relative_to(folder)): os.readlink(path) if path.is_symlink() else
+            path.read_bytes() if path.is_file() else None for path in pathlib.Path(folder).rglob("*")}
+
+
+def has_built():
+    """Whether the program that is tried is one that stands proved."""
+    return "BG_RELAY" not in os.environ and run(TOP / "bg_relay", "--version")[1].endswith(", proved)\n")
+
+
+def has_library():
+    """Whether the library for C stands proved."""
+    return run("bash", "-c", ". tools/program.sh; is_proved crates/bg_c/out/libbg_c.a bg_c")[0] == 0
+
+
+def program_here():
+    """The program that is tried."""
+    if "BG_RELAY" in os.environ:
+        return os.environ["BG_RELAY"]
+    if has_built():
+        return str(TOP / "crates/bg_relay/out/bg_relay")
+    subprocess.run(["bash", "-c", ". tools/program.sh; needs_compiled"], cwd=TOP, check=True)
+    return str(TOP / "crates/bg_relay/out/compiled/bg_relay")
 
 
 def plain(page):

@@ -18,9 +18,10 @@ MOST_SECONDS = 30
 WANT, CLAIM, ENTRIES = 1, 2, 3
 OPENING, ROLL, MOVE, RESIGN, REJECT = 1, 2, 6, 7, 9
 NORMAL, GAMMON, BACKGAMMON = 1, 2, 3
-# Which way a datagram goes, and the sign of life.
+# Which way a datagram goes, the sign of life, and what the referee tells a seat of the other one before it answers that.
 TO_REFEREE, FROM_REFEREE = 0, 1
 SIGN = b"\0"
+NOTICES = UNHEARD, HERE, AWAY = b"\0\0", b"\0\1", b"\0\2"
 
 
 def comes(holds, seconds=MOST_SECONDS):
@@ -46,8 +47,8 @@ class Match:
     """The match of a referee's folder: what its line says, its keys, and its packets, sealed or not."""
 
     def __init__(self, folder):
-        with open(f"{folder}/match", encoding="ascii") as file:
-            self.line = file.read()
+        with open(f"{folder}/match", encoding="utf-8") as file:
+            self.line = file.readline()
         self.number, self.length, self.rules, self.port = map(int, re.findall(r"\b\d+\b", self.line))
         with open(f"{folder}/key-secret", "rb") as file:
             self.secret = file.read()
@@ -117,14 +118,14 @@ class Party(Stranger):
         self.send(self.match.port + to, self.match.sealed(self.number, to, packet))
 
     def heard(self, seconds=MOST_SECONDS):
-        """A packet that comes in so many seconds, with the party that it is from; others are passed over."""
+        """A packet that comes in so many seconds, with the party that it is from; others, and notices, are passed over."""
         until = time.monotonic() + seconds
         while (found := self.received(until - time.monotonic())) is not None:
             datagram, port = found
             sender = port - self.match.port
             if 0 <= sender < 256 and (sender == 0) != (self.number == 0):
                 packet = self.match.opened(sender, self.number, datagram)
-                if packet is not None:
+                if packet is not None and packet not in NOTICES:
                     return packet, sender
         return None
 

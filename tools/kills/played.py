@@ -97,10 +97,10 @@ class Match:
 
     def command(self, name):
         if name == "referee":
-            return ["referee", "--dir", f"{self.top}/referee"]
+            return ["referee", "--quiet", "--dir", f"{self.top}/referee"]
         if name in PLAYERS:
             return ["auto", "--player", name, "--match", f"{self.top}/match-{name.lower()}", "--dir", f"{self.top}/{name}"]
-        return ["watch", "--match", f"{self.top}/match-watch", "--transcript", f"{self.top}/{name}.transcript"]
+        return ["watch", "--quiet", "--match", f"{self.top}/match-watch", "--transcript", f"{self.top}/{name}.transcript"]
 
     def environment(self, name):
         """What a process is started with: the driver's own environment, or more."""
