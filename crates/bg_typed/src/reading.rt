@@ -3,13 +3,14 @@ ghost use Rattle.std.specs.Prelude.{IfErr, IfOk};
 ghost use Rattle.bg_turns.specs.Turn.{IsLegalTurn};
 ghost use Rattle.bg_typed.specs.Meanings.{MeansTurn, TellsSteps};
 ghost use Rattle.bg_typed.specs.TypedFaults.{IsStepsFault, IsTypedFault};
+ghost use Rattle.bg_typed.specs.TypedWords.{TellsTyped};
 
 use crate::TypedFault;
 use crate::meanings::turn_of_legs;
 use crate::spelling::spell;
 use crate::words::{read_legs, skip_move};
 use bg_board::{Board, Player};
-use bg_mat::{LegFault, as_turn};
+use bg_mat::{LegFault, Legs, as_turn};
 use bg_turns::{Dice, Turn};
 use std::alloc::Global;
 
@@ -46,12 +47,8 @@ pub fn read_turn(
     ensures legal { IfOk result (λ turn. IsLegalTurn board.now player dice turn) }
     ensures fault { IfErr result (IsTypedFault board.now player dice typed.now) }
 {
-    let text = spell(alloc, typed)?;
-    match read_legs(skip_move(&text)) {
-        Ok(legs) => turn_of_legs(alloc, board, player, dice, legs.as_slice()),
-        Err(LegFault::NotAMovement) => Err(TypedFault::NotAMovement),
-        Err(LegFault::TooMany) => Err(TypedFault::TooManySteps),
-    }
+    let legs = typed_legs(alloc, typed)?;
+    turn_of_legs(alloc, board, player, dice, legs.as_slice())
 }
 
 /// Returns the steps of a typed movement as they are written, whether they can be played or not: for a program that says
@@ -67,9 +64,18 @@ pub fn typed_steps(alloc: Global, typed: &[u8]) -> Result<Turn, TypedFault>
     ensures steps { IfOk result (λ turn. TellsSteps typed.now turn) }
     ensures fault { IfErr result (IsStepsFault typed.now) }
 {
+    let legs = typed_legs(alloc, typed)?;
+    Ok(as_turn(legs.as_slice()))
+}
+
+/// Reads the legs of a typed movement, of which there are at most four.
+fn typed_legs(alloc: Global, typed: &[u8]) -> Result<Legs, TypedFault>
+    ensures told { IfOk result (λ legs. TellsTyped typed.now legs.items) }
+    ensures fault { IfErr result (IsStepsFault typed.now) }
+{
     let text = spell(alloc, typed)?;
     match read_legs(skip_move(&text)) {
-        Ok(legs) => Ok(as_turn(legs.as_slice())),
+        Ok(legs) => Ok(legs),
         Err(LegFault::NotAMovement) => Err(TypedFault::NotAMovement),
         Err(LegFault::TooMany) => Err(TypedFault::TooManySteps),
     }
