@@ -18,8 +18,8 @@ pub fn typed_turns_mean_one()
     ensures { TypedTurnsMeanOne }
 {}
 
-/// States that a typed text is refused for at most one reason, but for want of memory. Where turns
-/// hit otherwise, the refusal names one pair of them alone.
+/// States that a typed text is refused for at most one reason, but for want of memory. The two
+/// turns that an ambiguous text names are unique too.
 pub fn typed_faults_differ()
     ensures { TypedFaultsDiffer }
 {}
