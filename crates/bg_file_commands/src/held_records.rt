@@ -14,7 +14,7 @@ use std::rt::Files;
 /// The name for the standard input.
 const STANDARD_INPUT: &str = "-";
 
-/// What one of the sources holds of the match, with the name of the source.
+/// The record that one of the sources holds of the match, with the name of the source.
 #[derive(Drop)]
 pub(crate) struct Held<'a> {
     pub(crate) name: &'a str,

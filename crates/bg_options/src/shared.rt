@@ -15,7 +15,7 @@ const MOST_WATCHERS: u8 = LAST_WATCHER - FIRST_WATCHER + 1;
 /// out; it is there so that the message can say how to pass the file.
 const MISPLACED_FILE: &str = "FILE";
 
-/// How to begin a match between processes, for the help on each of its commands.
+/// The start of a match between processes, for the help on each of its commands.
 pub(crate) const THREE_TERMINALS: &str =
     "A match of length 3 between two people, in three terminals of one machine:
 

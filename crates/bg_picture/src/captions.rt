@@ -13,9 +13,9 @@ use std::alloc::AllocError;
 /// The subject of the words below a picture.
 #[derive(Clone, Copy)]
 pub(crate) enum Caption {
-    /// What happens next.
+    /// The next event of the match.
     Next,
-    /// How the game was won.
+    /// The way in which the game was won.
     Won(Win),
 }
 

@@ -1,5 +1,5 @@
-//! The program: judges backgammon matches, shows saved ones, and plays scripts and automatic matches, in
-//! memory or over sockets and files.
+//! The program: judges backgammon matches, shows saved ones, and plays scripts and automatic
+//! matches, in memory or over sockets and files.
 #![tactic(auto)]
 
 pub use bg_auto::{

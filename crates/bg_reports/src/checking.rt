@@ -22,9 +22,9 @@ const NO_NUMBER: u64 = 0;
 pub const MOST_SHOWN: usize = 1000;
 
 /// Returns the report on a file with this name, and its verdict. The report can't break a terminal,
-/// and fits a screen of this number of columns, if there is one (docs/FORMATS.md, "Checking
-/// files"). It has the verdict, and the line that is refused. Files are told apart by their
-/// contents: a match file of another program, or else a transcript.
+/// and fits a screen of this number of columns, if there is one (docs/FORMATS.md,
+/// "Checking files"). It has the verdict, and the line that is refused. Files are told apart by
+/// their contents: a match file of another program, or else a transcript.
 ///
 /// # Errors
 /// `AllocError` where memory runs out.

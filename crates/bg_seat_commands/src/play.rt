@@ -91,13 +91,13 @@ struct Table<'a, R> {
     shown: Number,
     /// The standing of the match when they were.
     stood: Option<Standing>,
-    /// What was typed of a turn so far.
+    /// The part of a turn that was typed so far.
     typed: Vec<u8>,
     /// Number of lines of the legal turns that were printed.
     listed: usize,
     /// Whether nothing is heard of the referee.
     is_silent: bool,
-    /// What was reported of the other player's coming and going.
+    /// The reports on the other player's coming and going.
     opponent: Opponent,
 }
 

@@ -1,4 +1,4 @@
-//! Why an action of a player can't be made, and what the player may do.
+//! The reasons why an action of a player can't be made, and what the player may do.
 ghost use Rattle.std.specs.Prelude.{◌≡◌, ◌++◌, IfOk, OnOk};
 ghost use Rattle.bg_table.specs.Grown.{Adds};
 ghost use Rattle.bg_table.specs.Refusals.{IsRefusal, IsWhy, no_double_words as words_without_double};

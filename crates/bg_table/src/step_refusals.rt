@@ -1,4 +1,4 @@
-//! Why a step can't be played.
+//! The reasons why a step can't be played.
 ghost use Rattle.std.specs.Prelude.{◌≡◌, ◌++◌, OnOk};
 ghost use Rattle.std.specs.Fmt.{decimal};
 ghost use Rattle.bg_board.specs.Die.{pips};

@@ -1,4 +1,4 @@
-//! Why a turn is refused, as a sentence.
+//! The reason why a turn is refused, as a sentence.
 ghost use Rattle.std.specs.Prelude.{◌≡◌, ◌++◌, IfOk, OnOk};
 ghost use Rattle.bg_board.specs.Die.{pips};
 ghost use Rattle.bg_table.specs.Grown.{Adds};

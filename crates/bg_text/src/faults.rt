@@ -1,4 +1,4 @@
-//! Why a line can't be read, or can't follow.
+//! The reasons why a line can't be read, or can't follow.
 ghost use Rattle.std.specs.Prelude.{◌≡◌};
 ghost use Rattle.bg_text.specs.Judge.Judging.{fault_reason};
 ghost use Rattle.bg_text.specs.Judge.Reason.{text_reason};
@@ -14,8 +14,8 @@ use std::fmt;
 pub enum TextFault {
     /// The line has none of the shapes of a line.
     NotALine,
-    /// The line has its shape, but a number has a leading zero or is out of its range (1 to 6 for a die, 1 to 24
-    /// for a point), or a step does not lead down.
+    /// The line has its shape, but a number has a leading zero or is out of its range, or a step
+    /// does not lead down. The range is 1 to 6 for a die, and 1 to 24 for a point.
     BadNumber,
     /// The line has its shape and its numbers are right, but there are more than four steps.
     TooManySteps,

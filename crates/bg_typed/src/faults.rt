@@ -1,4 +1,4 @@
-//! Why a typed turn is refused.
+//! The reasons why a typed turn is refused.
 
 use bg_turns::Turn;
 use std::alloc::AllocError;

@@ -38,7 +38,7 @@ impl Soundness {
     }
 }
 
-/// What is listed of a folder.
+/// The listing of a folder.
 #[derive(Drop)]
 pub(crate) struct Listed {
     pub(crate) path: String,
@@ -53,7 +53,7 @@ pub(crate) struct Listed {
     /// Whether a process has locked the folder.
     pub(crate) is_open: bool,
     pub(crate) soundness: Soundness,
-    /// What is wrong, where it is not sound.
+    /// The fault, where it is not sound.
     pub(crate) fault: String,
 }
 

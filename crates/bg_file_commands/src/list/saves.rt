@@ -12,7 +12,7 @@ pub(crate) struct Held {
     pub(crate) standing: Option<Standing>,
     pub(crate) entries: Number,
     pub(crate) soundness: Soundness,
-    /// What is wrong, where they are not sound.
+    /// The fault, where they are not sound.
     pub(crate) fault: String,
 }
 

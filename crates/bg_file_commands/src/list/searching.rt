@@ -12,7 +12,7 @@ const MOST_DEEP: u8 = 3;
 #[derive(Drop)]
 pub(crate) struct Place {
     pub(crate) path: String,
-    /// Why it can't be read.
+    /// The reason why it can't be read.
     pub(crate) fault: Option<io::Error>,
 }
 

@@ -29,9 +29,9 @@ const CLEAR_LINE: &[u8] = b"\x1b[K";
 
 const CLEAR_BELOW: &[u8] = b"\x1b[J";
 
-/// Returns the lines of a screen: a heading; the match, the score, the board from X's side and
-/// whose turn it is; as many of the newest entries as fit; and a foot. It leaves a line for the
-/// cursor.
+/// Returns the lines of a screen, which leave one for the cursor: a heading, the view of the match,
+/// as many of the newest entries as fit, and a foot. The view has the match, the score, the board
+/// from X's side and whose turn it is.
 ///
 /// # Errors
 /// An error where there is no memory for it.

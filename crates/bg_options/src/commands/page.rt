@@ -18,7 +18,7 @@ takes the title from one of these. A transcript that is refused is named on the 
 `check` names it, and nothing is printed. Ends with status 0; with 2 where the transcript is refused or
 FILE is no such file, and 1 where reading, writing or memory failed.";
 
-/// What a page has beside the positions.
+/// The contents of a page beside the positions.
 #[derive(Clone, Copy)]
 pub struct PageOptions<'a> {
     /// The title, if one is given.

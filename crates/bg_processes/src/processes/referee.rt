@@ -36,9 +36,9 @@ const MOST_PUSHES: u32 = 128;
 /// lacks an entry was heard of. A party that lacks one asks at least every 32 ticks.
 const QUIET_TICKS: u32 = 50;
 
-/// The referee of a match as a process runs it, over its own link and keeper, with a key that its
-/// dice are derived from (docs/PROTOCOL.md, "Parties in processes of their own"). A round takes
-/// what has come, adds what is due, saves, and sends. Between two rounds the process waits.
+/// The referee of a match as a process runs it, over its own link and keeper (docs/PROTOCOL.md,
+/// "Parties in processes of their own"). Its dice are derived from a key. A round takes what has
+/// come, adds what is due, saves, and sends. Between two rounds the process waits.
 #[derive(Drop)]
 pub struct RefereeProcess<L, K> {
     node: RefereeNode<K>,

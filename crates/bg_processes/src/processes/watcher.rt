@@ -15,9 +15,9 @@ use bg_match::{LengthFault, Record, Terms};
 use bg_world::{Event, Link, Outcome, WatcherNode};
 use std::alloc::Global;
 
-/// A watcher of a match as a process runs it, over its own link (docs/PROTOCOL.md, "Parties in
-/// processes of their own"). A round takes what has come, and sends. Between two rounds the process
-/// waits.
+/// A watcher of a match as a process runs it, over its own link (docs/PROTOCOL.md,
+/// "Parties in processes of their own"). A round takes what has come, and sends. Between two rounds
+/// the process waits.
 #[derive(Drop)]
 pub struct WatcherProcess<L> {
     party: u8,

@@ -17,7 +17,7 @@ pub enum Change {
     Returned,
 }
 
-/// What was last reported of a party.
+/// The last report on a party.
 #[derive(Clone, Copy)]
 enum Told {
     Nothing,

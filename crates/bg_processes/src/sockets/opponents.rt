@@ -24,7 +24,7 @@ pub enum OpponentChange {
     Returned,
 }
 
-/// What the player knows of the other one.
+/// The knowledge that the player has of the other one.
 #[derive(Clone, Copy)]
 enum Known {
     Nothing,

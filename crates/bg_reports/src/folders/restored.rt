@@ -10,8 +10,8 @@ use bg_text::transcript_text;
 use bg_wire::Saved;
 use std::alloc::{AllocError, Global};
 
-/// Returns the transcript of what two saved files of a party restore (docs/FORMATS.md, "Showing
-/// saved files"). Returns `None` where neither loads.
+/// Returns the transcript of what two saved files of a party restore (docs/FORMATS.md,
+/// "Showing saved files"). Returns `None` where neither loads.
 ///
 /// # Errors
 /// `AllocError` where memory runs out.

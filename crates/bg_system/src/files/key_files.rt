@@ -14,12 +14,12 @@ use std::fs::File;
 use std::rt::Files;
 use std::{fmt, io};
 
-/// What a party, or all watchers, know of their match, and only the referee knows besides: its key
+/// The secret that a party, or all watchers, share with the referee alone: the key of their match
 /// (docs/FORMATS.md, "Key files"). `Display` writes the text of the file, which no message may
 /// contain.
 #[derive(Debug, Drop)]
 pub struct KeyFile {
-    /// What all processes of the match agree on.
+    /// The match, as all its processes agree on it.
     pub table: MatchFile,
     /// The names of the players.
     pub names: Names,

@@ -1,4 +1,4 @@
-//! What all processes of a match agree on, and the file that says it.
+//! The match, as all its processes agree on it, and its file.
 ghost use Rattle.std.specs.Prelude.{◌≡◌, ◌↔◌, ℕ, List, ◌++◌, Some, IfSome, MatchOption};
 ghost use Rattle.std.specs.Int.{IsInRange};
 ghost use Rattle.bg_system.specs.Numbers.{rules_number};
@@ -24,8 +24,8 @@ pub const HIGHEST_PORT: u16 = 65_280;
 /// any valid one with both names.
 const MOST_BYTES: u64 = 512;
 
-/// What all processes of a match agree on (docs/FORMATS.md, "Match file"). `Display` writes the
-/// text of a file without names: `match ID length N rules R port P` on one line, with its line
+/// The match, as all its processes agree on it (docs/FORMATS.md, "Match file"). `Display` writes
+/// the text of a file without names: `match ID length N rules R port P` on one line, with its line
 /// feed.
 #[derive(Clone, Copy, Debug, PartialEq, Eq)]
 pub struct MatchFile {

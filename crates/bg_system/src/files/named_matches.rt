@@ -9,12 +9,12 @@ use std::fs::File;
 use std::rt::Files;
 use std::{fmt, io};
 
-/// A match and the names of its players: the contents of a match file (docs/FORMATS.md, "Match
-/// file"). `Display` writes the text of the file. Names are for people who look on: no process
-/// plays differently because of them.
+/// A match and the names of its players: the contents of a match file (docs/FORMATS.md,
+/// "Match file"). `Display` writes the text of the file. Names are for people who look on: no
+/// process plays differently because of them.
 #[derive(Clone, Copy, Debug, PartialEq, Eq)]
 pub struct NamedMatch {
-    /// What all processes of the match agree on.
+    /// The match, as all its processes agree on it.
     pub table: MatchFile,
     /// The names of the players.
     pub names: Names,

@@ -44,7 +44,7 @@ impl Model for Name {
     } };
 }
 
-/// Why a text is not a name: the first of these that holds.
+/// The first of these reasons why a text is not a name.
 #[derive(Clone, Copy, Debug, PartialEq, Eq)]
 pub enum NameFault {
     /// It is empty, or has more than 64 bytes.

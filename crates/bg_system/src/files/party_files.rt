@@ -46,8 +46,9 @@ impl<'a, R: Files<File = File> + AllocGlobal> PartyFiles<'a, R> {
     ///
     /// # Errors
     /// The system's error where the file can't be written or synced, or the folder can't be synced.
-    /// An error also where the file was there before in this process and is missing, or the folder
-    /// is missing or another one; and where an earlier write could not be taken back.
+    /// An error also where the file was there before in this process and is missing, and where the
+    /// folder is missing or another one. An error, too, where an earlier write could not be taken
+    /// back.
     pub fn write(&mut self, slot: Slot, bytes: &[u8]) -> io::Result<()> {
         match slot {
             Slot::Zero => self.zero.write(&mut self.folder, bytes),
@@ -61,8 +62,8 @@ impl<'a, R: Files<File = File> + AllocGlobal> PartyFiles<'a, R> {
     ///
     /// # Errors
     /// The system's error where the file can't be opened, synced or read, or the folder can't be
-    /// synced. An error also where the file was there before and is missing, or the folder is
-    /// missing or another one; and where an earlier write could not be taken back.
+    /// synced. An error also where the file was there before and is missing, and where the folder
+    /// is missing or another one. An error, too, where an earlier write could not be taken back.
     pub fn read(&mut self, slot: Slot) -> io::Result<Vec<u8>> {
         match slot {
             Slot::Zero => self.zero.read(&mut self.folder),

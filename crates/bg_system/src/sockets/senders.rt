@@ -56,9 +56,10 @@ fn is_word(bytes: &[u8], party: u8) -> bool
 }
 
 /// Returns the contents of a datagram that came to a party from an address, and the party that sent
-/// it, in the match that has this port. They are the sign of life or a packet. Returns `None` where
-/// the datagram is not from a party's address, was not sealed with one of these keys to go from
-/// that party to this one, or names another sender (docs/OPERATING.md, "Ports").
+/// it, in the match that has this port. They are the sign of life or a packet (docs/OPERATING.md,
+/// "Ports"). Returns `None` where the datagram is not from a party's address, or names another
+/// sender. Returns `None` also where it was not sealed with one of these keys to go from that party
+/// to this one.
 pub fn heard<'a>(
     keys: &Keyring,
     port: u16,

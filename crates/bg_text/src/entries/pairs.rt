@@ -148,8 +148,8 @@ pub(crate) fn read_dice(numbers: &[u8]) -> Result<(Die, Die), TextFault>
     }
 }
 
-/// Reads the number, 1 to 99, that one or two digits spell. A leading zero is a wrong number, as is
-/// 0.
+/// Reads the number, 1 to 99, that one or two digits spell. A leading zero is a wrong number, as
+/// is 0.
 pub(crate) fn read_two_digits(word: &[u8]) -> Result<u8, TextFault>
     ensures { IsNumberOf word.now result }
 {

@@ -57,8 +57,8 @@ fn is_heard(outcome: &Outcome) -> bool
     }
 }
 
-/// Returns, after an outcome, the number of ticks since a party that lacks an entry was last heard
-/// of.
+/// Returns the number of ticks since a party that lacks an entry was last heard of, after an
+/// outcome.
 fn quiet_after(quiet: u32, outcome: &Outcome) -> u32
     ensures { result ≡ (if is_heard_in outcome.now then 0 else quiet) }
 {
