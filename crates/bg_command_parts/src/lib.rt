@@ -1,5 +1,6 @@
-//! What the commands of one party share: its socket, who looks on and says why devices fail, its logbook, and what is said
-//! where the party can't go on. For the commands of a program.
+//! The common parts of the commands that run one party. They are its socket, the onlooker that
+//! reports failed devices, its log, and the messages where the party can't continue. For the
+//! commands of a program.
 //!
 //! ```
 //! // A party that can't save is down, and why is said on the standard error.

@@ -1,4 +1,4 @@
-//! What the process of a party says of how its match goes on.
+//! The log of a party's process.
 
 use crate::results::Results;
 use bg_console::{Pairing, say};
@@ -10,10 +10,10 @@ use std::fmt;
 use std::fmt::{Display, Formatter, Write};
 use std::time::Clock;
 
-/// On each tick of so many it is looked who came and went.
+/// Number of ticks between two looks at who came and went.
 const TICKS_TO_LOOK: u32 = 10;
 
-/// A party, as a logbook calls it.
+/// A party, as a log names it.
 #[derive(Clone, Copy)]
 struct Named(u8);
 
@@ -28,7 +28,7 @@ impl Display for Named {
     }
 }
 
-/// The players of a match, at the end of a line: nothing where none has a name.
+/// The players of a match, at the end of a line; nothing where none has a name.
 #[derive(Clone, Copy)]
 struct Players(Names);
 
@@ -41,13 +41,14 @@ impl Display for Players {
     }
 }
 
-/// Says on the standard error how the match of a party goes on (docs/OPERATING.md, "The log"); nothing where it is quiet.
+/// Logs the progress of a party's match on the standard error (docs/OPERATING.md, "The log"), and
+/// nothing if it is quiet.
 #[derive(Drop)]
 pub struct Logbook<'a, R> {
     rt: &'a R,
-    /// Whose logbook it is.
+    /// The party that logs.
     party: u8,
-    /// How the players are called.
+    /// The names of the players.
     names: Names,
     is_quiet: bool,
     ticks: u32,
@@ -56,7 +57,7 @@ pub struct Logbook<'a, R> {
 }
 
 impl<'a, R: Clock + Eprint> Logbook<'a, R> {
-    /// Says that a party of a match begins with this record, and returns its logbook.
+    /// Logs that a party of a match begins with this record, and returns its logbook.
     pub fn begin(
         rt: &'a R,
         is_quiet: bool,
@@ -84,14 +85,15 @@ impl<'a, R: Clock + Eprint> Logbook<'a, R> {
         logbook
     }
 
-    /// Says this, unless it is quiet.
+    /// Logs a line, unless it is quiet.
     fn say<D: Display + Drop>(&self, what: D) {
         if !self.is_quiet {
             say(self.rt, what);
         }
     }
 
-    /// Says which games have ended in the record, and who came and went, after a round in which a tick was due or not.
+    /// Logs the games that have ended in the record, and who came and went, after a round. `tick`
+    /// says whether a tick was due in it.
     pub fn after_round<C: Clock>(
         &mut self,
         socket: &PartySocket<'_, C>,
@@ -112,7 +114,7 @@ impl<'a, R: Clock + Eprint> Logbook<'a, R> {
         }
     }
 
-    /// Says which games have ended.
+    /// Logs the games that have ended.
     fn tell_results(&mut self, record: &Record) {
         for _ in 0..record.len() {
             let Some(result) = self.results.next(record, &self.names) else {
@@ -125,7 +127,7 @@ impl<'a, R: Clock + Eprint> Logbook<'a, R> {
         }
     }
 
-    /// Says who came and went.
+    /// Logs who came and went.
     fn look<C: Clock>(&mut self, socket: &PartySocket<'_, C>) {
         for party in REFEREE..=LAST_WATCHER {
             let named = Named(party);
@@ -138,7 +140,7 @@ impl<'a, R: Clock + Eprint> Logbook<'a, R> {
         }
     }
 
-    /// Says that the party ends, and that the match is over, or else that it was said why.
+    /// Logs that the party ends: that the match is over, or that the reason was reported.
     pub fn end(&self, is_over: bool) {
         let named = Named(self.party);
         if is_over {

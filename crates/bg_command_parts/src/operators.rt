@@ -1,4 +1,4 @@
-//! What the operator of a match over sockets and files is told while it is played.
+//! The messages to the operator of a match over sockets and files, while it is played.
 
 use crate::witnesses::Witness;
 use bg_auto::{Onlooker, party_at};
@@ -9,10 +9,10 @@ use bg_wire::REFEREE;
 use bg_world::{Event, Outcome};
 use std::time::Clock;
 
-/// The parties that save: the referee and the seats.
+/// Number of parties that save: the referee and the seats.
 const SAVING: usize = 3;
 
-/// What became of a party's saves so far.
+/// The results of a party's saves so far.
 #[derive(Clone, Copy, PartialEq, Eq)]
 enum Saves {
     Untried,
@@ -20,22 +20,23 @@ enum Saves {
     Succeeded,
 }
 
-/// The operator, who is told on the standard error how the match goes on (docs/OPERATING.md, "Messages").
+/// The operator, who is told on the standard error how the match proceeds (docs/OPERATING.md,
+/// "Messages").
 #[derive(Drop)]
 pub struct Operator<'a, R> {
     rt: &'a R,
     progress: Progress,
-    /// How many rounds there are in all.
+    /// Number of all rounds.
     rounds: u32,
-    /// How many entries the referee held last.
+    /// Number of entries that the referee last held.
     referee: Number,
     witness: Witness<'a, R>,
     saves: [Saves; SAVING],
 }
 
 impl<'a, R: Clock + Eprint> Operator<'a, R> {
-    /// Makes the operator of a match of so many rounds of which nothing happened yet; its devices note
-    /// their failures there, and its files lie in this folder.
+    /// Creates the operator of a match of `rounds` rounds in which nothing happened yet. Its
+    /// devices note their failures in `failures`, and its files are in `folder`.
     pub fn new(
         rt: &'a R,
         failures: &'a Failures,
@@ -53,8 +54,8 @@ impl<'a, R: Clock + Eprint> Operator<'a, R> {
         }
     }
 
-    /// Ends, as the match is over: says why devices failed, where that was not said yet, and names the
-    /// parties that saved, and never with success.
+    /// Finishes, as the match is over. Reports the failures of devices that were not reported yet,
+    /// and names the parties whose saves all failed.
     pub fn end(&self) {
         self.witness.say_failures();
         for (party, saves) in self.saves.iter().enumerate() {
@@ -64,7 +65,7 @@ impl<'a, R: Clock + Eprint> Operator<'a, R> {
         }
     }
 
-    /// What a save came to.
+    /// Notes the outcome of a save.
     fn saved(&mut self, party: u8, outcome: &Outcome) {
         let Some(saves) = self.saves.get_mut(usize::from(party)) else {
             return;
@@ -76,7 +77,7 @@ impl<'a, R: Clock + Eprint> Operator<'a, R> {
         }
     }
 
-    /// A party begins again with so many entries.
+    /// Notes that a party restarts with `held` entries.
     fn restarted(&mut self, party: u8, held: Number) {
         if held > self.referee {
             let referee = self.referee;

@@ -1,4 +1,4 @@
-//! What is said of a folder whose saves are not those of the party that begins over it.
+//! The messages on a folder whose saves are not those of the party that begins over it.
 
 use bg_board::Player;
 use bg_console::{say, wrong};
@@ -12,7 +12,7 @@ use std::fs::File;
 use std::rt::Files;
 use std::{fmt, fs};
 
-/// The owner of saves, as a message calls it.
+/// The owner of saves, as a message names it.
 #[derive(Clone, Copy)]
 struct Owner(u8);
 
@@ -27,7 +27,7 @@ impl Display for Owner {
     }
 }
 
-/// What a save or a match file says of its match, as a message has it.
+/// A match, as a message describes that of a save or a match file.
 #[derive(Clone, Copy)]
 struct MatchWords {
     id: u64,
@@ -60,8 +60,8 @@ impl Display for MatchWords {
     }
 }
 
-/// Refuses as the folder of this player's seat one that has saves of the other player, and none of
-/// this one's.
+/// Refuses a folder for this player's seat that has saves of the other player, and none of this
+/// one's.
 pub fn check_seat_folder<R>(rt: &R, folder: &str, player: Player) -> Result<(), Ending>
 where
     R: Files<File = File> + Eprint + AllocGlobal,
@@ -79,8 +79,8 @@ where
     ))
 }
 
-/// Says why a party of this match can't begin over a folder, where its saves are damaged, or are
-/// not its own: whose they are, and what is to be done.
+/// Reports why a party of this match can't begin over a folder, where its saves are damaged or are
+/// not its own. The message says whose saves they are, and what to do.
 pub fn say_whose_saves<R>(rt: &R, folder: &str, party: u8, table: &MatchFile, outcome: &Outcome)
 where
     R: Files<File = File> + Eprint + AllocGlobal,
@@ -102,7 +102,7 @@ where
     }
 }
 
-/// Says that a folder has a save which is not of this match, or not of this party.
+/// Reports that a folder has a save that isn't of this match, or isn't of this party.
 fn say_other_match(rt: &impl Eprint, folder: &str, party: u8, table: &MatchFile, saved: &Saved) {
     let (shown, whose) = (Printable(folder), Owner(saved.party));
     let (theirs, own) = (MatchWords::of_save(saved), MatchWords::of_table(table));
@@ -115,14 +115,14 @@ fn say_other_match(rt: &impl Eprint, folder: &str, party: u8, table: &MatchFile,
     );
 }
 
-/// What is to be done where the folder of a party has saves of another match or another party.
+/// The remedy where the folder of a party has saves of another match or another party.
 #[derive(Clone, Copy)]
 enum Remedy {
-    /// Of the referee, whose folder has files of the match of this number.
+    /// For the referee, whose folder has files of the match with this number.
     OfReferee(u64),
-    /// Of a seat, whose folder has saves of the match of this number.
+    /// For a seat, whose folder has saves of the match with this number.
     OtherMatch(u64),
-    /// Of a seat, whose folder has other saves of its match.
+    /// For a seat, whose folder has other saves of its match.
     OtherFolder,
 }
 
@@ -154,7 +154,7 @@ impl Display for Remedy {
     }
 }
 
-/// The save of a party in a folder that was made last; none where neither file is a save.
+/// Returns the latest save of a party in a folder; `None` where neither file holds a save.
 fn newest_save<R>(rt: &R, folder: &str, party: u8) -> Option<Saved>
 where
     R: Files<File = File> + AllocGlobal,
@@ -168,7 +168,7 @@ where
     }
 }
 
-/// What a file of a party in a folder has, if it is a save.
+/// Reads a party's file in a folder, if it holds a save.
 fn save_in<R>(rt: &R, folder: &str, party: u8, slot: Slot) -> Option<Saved>
 where
     R: Files<File = File> + AllocGlobal,
@@ -178,7 +178,7 @@ where
     load(rt.alloc(), &read_saved(rt, path.as_str()).ok()?).ok()
 }
 
-/// Whether one of the files of a party in a folder has a byte.
+/// Returns whether one of the files of a party in a folder has a byte.
 fn has_saves<R>(rt: &R, folder: &str, party: u8) -> bool
 where
     R: Files<File = File> + AllocGlobal,
@@ -190,7 +190,7 @@ where
     ))
 }
 
-/// Whether a file in a folder has a byte.
+/// Returns whether a file in a folder has a byte.
 fn has_bytes<R>(rt: &R, folder: &str, name: SlotName) -> bool
 where
     R: Files<File = File> + AllocGlobal,

@@ -7,8 +7,8 @@ use bg_system::Names;
 use std::fmt;
 use std::fmt::{Display, Formatter, Write};
 
-/// The result of a game, as it is said: `game 2: X wins 2 points, 3-1`, with the points of X before those of O. A winner
-/// with a name is called by it: `game 2: Anna (X) wins 2 points, 3-1`.
+/// The result of a game, as it is printed: `game 2: X wins 2 points, 3-1`, with the points of X
+/// before those of O. A winner with a name is called by it: `game 2: Anna (X) wins 2 points, 3-1`.
 #[derive(Clone, Copy)]
 pub struct GameResult {
     game: u8,
@@ -20,7 +20,7 @@ pub struct GameResult {
 }
 
 impl GameResult {
-    /// Returns the result of the game that ended from one standing to the next, if one did.
+    /// Returns the result of the game that ended between two standings, if one did.
     fn between(before: &Standing, after: &Standing, names: &Names) -> Option<GameResult> {
         let ((old_x, old_o), score) = (before.score(), after.score());
         let (x, o) = (score.0.saturating_sub(old_x), score.1.saturating_sub(old_o));
@@ -41,7 +41,7 @@ impl GameResult {
         })
     }
 
-    /// Returns that of the match, where it ended.
+    /// Returns the result of the match, if it ended.
     pub fn of_match(&self) -> Option<MatchResult> {
         let result = *self;
         if result.is_last {
@@ -66,7 +66,7 @@ impl Display for GameResult {
     }
 }
 
-/// The result of a match, as it is said: `the match is over: X wins, 7-3`.
+/// The result of a match, as it is printed: `the match is over: X wins, 7-3`.
 #[derive(Clone, Copy)]
 pub struct MatchResult(GameResult);
 
@@ -80,13 +80,13 @@ impl Display for MatchResult {
 /// Follows a record, and finds the games that end in it.
 #[derive(Drop)]
 pub struct Results {
-    /// Where the match stood after the entries that were followed.
+    /// The standing of the match after the entries that were followed.
     standing: Standing,
     followed: Number,
 }
 
 impl Results {
-    /// Follows a record from here on.
+    /// Begins to follow a record behind its entries so far.
     pub fn of(record: &Record) -> Results {
         Results {
             standing: record.standing(),
@@ -94,8 +94,8 @@ impl Results {
         }
     }
 
-    /// Returns the result of the next game that has ended, between players of these names. A record that begins again may
-    /// have less for a while.
+    /// Returns the result of the next game that has ended, between players with these names. A
+    /// record of a restarted party may hold less for a while.
     pub fn next(&mut self, record: &Record, names: &Names) -> Option<GameResult> {
         for before in self.followed..record.len() {
             let before_it = self.standing;

@@ -1,4 +1,4 @@
-//! Why nothing may be heard of a referee, as far as the machine tells.
+//! The reasons why nothing is heard of a referee, as far as the machine shows.
 
 use bg_processes::MatchFile;
 use std::fmt::{Display, Formatter, Write};
@@ -6,19 +6,19 @@ use std::fs::File;
 use std::rt::Files;
 use std::{fmt, fs};
 
-/// The file of the system that lists the UDP sockets of the machine, one a line behind a first line
-/// of names.
+/// The file of the system that lists the UDP sockets of the machine, one per line behind a line of
+/// headings.
 const SOCKETS: &str = "/proc/net/udp";
 
-/// Why nothing may be heard of a referee.
+/// The reason why nothing may be heard of a referee.
 #[derive(Clone, Copy, Debug, PartialEq, Eq)]
 pub enum Silence {
     /// No process has its port, which is this one.
     NoProcess(u16),
-    /// A process has its port, which is this one, and does not answer the parties of the match of
+    /// A process has its port, which is this one, and doesn't answer the parties of the match with
     /// this number.
     NoAnswer(u16, u64),
-    /// The system does not tell which ports are taken.
+    /// The system doesn't show which ports are taken.
     Unknown,
 }
 
@@ -37,7 +37,7 @@ impl Silence {
         }
     }
 
-    /// Returns what ends its words where a sentence follows.
+    /// Returns the punctuation behind its words where a sentence follows.
     pub fn stop(self) -> &'static str {
         match self {
             Silence::NoProcess(_) => ".",
@@ -46,13 +46,13 @@ impl Silence {
     }
 }
 
-/// Whether one of the sockets that the system lists has this port.
+/// Returns whether one of the sockets that the system lists has this port.
 fn has_port(listed: &str, port: u16) -> bool {
     listed.lines().any(|line| port_in(line) == Some(port))
 }
 
-/// The port of a socket by its line, whose second word is its address and its port, in hexadecimal
-/// digits.
+/// Reads the port of a socket from its line, whose second word is its address and its port, in
+/// hexadecimal digits.
 fn port_in(line: &str) -> Option<u16> {
     let (_, port) = line.split_ascii_whitespace().nth(1)?.rsplit_once(':')?;
     u16::from_str_radix(port, 16).ok()

@@ -1,4 +1,4 @@
-//! The sockets of parties, and why there is none.
+//! The sockets of parties, and the reasons why there is none.
 
 use bg_console::failed;
 use bg_processes::{Failures, Keyring, PartySocket};
@@ -8,11 +8,11 @@ use std::io::ErrorKind;
 use std::net::Net;
 use std::time::Clock;
 
-/// The number of the last party, so that a match has so many ports above its own.
+/// The number of the last party, and so the number of ports that a match has above its own.
 const LAST_PARTY: u32 = 255;
 
-/// Opens the socket of a party of the match that has this port, with its keys; why it fails later is noted there. Ends
-/// with `Failed` where the port is taken, or there is no socket.
+/// Opens the socket of a party of the match that has this port, with its keys. Later failures are
+/// noted in `failures`. Ends with `Failed` where the port is taken, or there is no socket.
 pub fn socket_of<'a, R: Net + Clock + Eprint>(
     rt: &'a R,
     port: u16,
@@ -36,7 +36,7 @@ pub fn socket_of<'a, R: Net + Clock + Eprint>(
     }
 }
 
-/// Says that the system gives a party no socket, and why.
+/// Reports that the system gives a party no socket, and why.
 pub fn no_socket(rt: &impl Eprint, party: u8, error: &io::Error) -> Ending {
     failed(
         rt,

@@ -1,4 +1,4 @@
-//! What is said while the process of one party runs.
+//! The messages while the process of one party runs.
 
 use bg_auto::{Onlooker, party_at};
 use bg_console::{failed, say, say_failures, say_number};
@@ -10,14 +10,14 @@ use bg_reports::Ending;
 use bg_world::{Event, Outcome, RestoreCause, outcome_text};
 use std::fmt::Display;
 
-/// Looks on, and says on the standard error why devices fail; and once that the parties can't go on together, and by
-/// what that was seen (docs/OPERATING.md, "Messages").
+/// An onlooker that reports failed devices on the standard error. It also reports, once, that the
+/// parties can't go on together, and the sign of that (docs/OPERATING.md, "Messages").
 #[derive(Drop)]
 pub struct Witness<'a, R> {
     rt: &'a R,
-    /// What the devices note.
+    /// The failures that the devices note.
     failures: &'a Failures,
-    /// Where their files lie.
+    /// The folder of the devices' files.
     folder: &'a str,
     warned: bool,
     /// Whether the party is down until its files can be read again.
@@ -25,8 +25,8 @@ pub struct Witness<'a, R> {
 }
 
 impl<'a, R: Eprint> Witness<'a, R> {
-    /// Makes a witness who has seen nothing yet; the devices note their failures there, and their files lie in this
-    /// folder.
+    /// Creates a witness that has seen nothing yet. The devices note their failures in `failures`,
+    /// and their files are in `folder`.
     pub fn new(rt: &'a R, failures: &'a Failures, folder: &'a str) -> Witness<'a, R> {
         Witness {
             rt,
@@ -37,12 +37,13 @@ impl<'a, R: Eprint> Witness<'a, R> {
         }
     }
 
-    /// Says why devices failed since the last call.
+    /// Reports the failures of devices since the last call.
     pub fn say_failures(&self) {
         say_failures(self.rt, self.failures, self.folder);
     }
 
-    /// Says that the files of the parties are not of one age, and by what that was seen, unless that was said.
+    /// Reports that the files of the parties are from different points in time, and the sign of
+    /// that, unless it was reported before.
     pub fn warn<D: Display + Drop>(&mut self, sign: D) {
         if !self.warned {
             say(
@@ -55,7 +56,8 @@ impl<'a, R: Eprint> Witness<'a, R> {
 }
 
 impl<'a, R: Eprint> Witness<'a, R> {
-    /// Says what an event shows of devices that fail, and of parties that can't go on together.
+    /// Reports the failures of devices in an event, and whether it shows that parties can't go on
+    /// together.
     pub fn saw(&mut self, event: &Event, outcome: &Outcome) {
         self.say_failures();
         if is_out_of_step(outcome) {
@@ -64,7 +66,7 @@ impl<'a, R: Eprint> Witness<'a, R> {
         }
     }
 
-    /// Says that the party stands still for its files, or goes on again, where that has changed.
+    /// Reports that the party is halted by its files, or continues, where that has changed.
     fn tell_of_files(&mut self, event: &Event, outcome: &Outcome) {
         let Event::Restart { party } = *event else {
             return;
@@ -90,8 +92,8 @@ impl<'a, R: Eprint> Witness<'a, R> {
         );
     }
 
-    /// Ends with `Failed` where the files of the party were given up, and says so: a write to one of them failed, and
-    /// could not be taken back.
+    /// Ends with `Failed` where the files of the party were given up, and reports it. A write to
+    /// one of them failed, and could not be taken back.
     pub fn check_files(&self) -> Result<(), Ending> {
         if !self.failures.are_final() {
             return Ok(());
@@ -113,8 +115,8 @@ impl<'a, R: Eprint> Onlooker for Witness<'a, R> {
     fn played(&mut self, _done: u32) {}
 }
 
-/// Returns whether a packet was refused that no party sends whose slots have what was last written
-/// to them.
+/// Returns whether a packet was refused that no party sends while its slots hold what was last
+/// written to them.
 pub fn is_out_of_step(outcome: &Outcome) -> bool {
     matches!(
         outcome,

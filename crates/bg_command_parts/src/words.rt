@@ -1,4 +1,4 @@
-//! What is said of a party and of its referee.
+//! The messages on a party and its referee.
 
 use crate::silences::Silence;
 use bg_console::{failed_barely, say};
@@ -8,13 +8,13 @@ use bg_world::{Outcome, outcome_text};
 use std::fs::File;
 use std::rt::Files;
 
-/// Says why the party is down, or can't save, in a line of its own.
+/// Reports why the party is down, or can't save, in a line of its own.
 pub fn stopped(rt: &impl Eprint, outcome: &Outcome) -> Ending {
     let line = outcome_text(outcome);
     failed_barely(rt, line.as_str())
 }
 
-/// Says on the standard error whether the referee of a match is heard of, where that has changed
+/// Reports on the standard error whether the referee of a match is heard of, where that has changed
 /// and somebody watches.
 pub fn tell_word<R>(rt: &R, table: &MatchFile, word: Option<Word>, is_watched: bool)
 where

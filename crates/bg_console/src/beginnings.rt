@@ -1,4 +1,4 @@
-//! What the commands of one party begin with, and why they don't begin or end early.
+//! The start of the commands that run one party, and the reasons why they don't start or end early.
 
 use crate::messages::says::say_of;
 use crate::messages::{failed, failed_at, failed_for, no_memory, wrong, wrong_at, wrong_for};
@@ -16,7 +16,8 @@ use std::rt::Files;
 use std::time::Clock;
 use std::{fs, io};
 
-/// Locks a folder, and returns the lock. Ends with `Failed` where another process plays over it, or it can't be locked.
+/// Locks a folder, and returns the lock. Ends with `Failed` where another process plays over it, or
+/// it can't be locked.
 pub fn lock_of(
     rt: &(impl Files<File = File> + Eprint),
     folder: &str,
@@ -33,12 +34,12 @@ pub fn lock_of(
     }
 }
 
-/// A folder that only its owner reads, writes and enters, whatever the umask.
+/// The mode of a folder that only its owner reads, writes and enters, whatever the umask.
 const OWNER_ALONE: u32 = 0o700;
 
-/// Makes a folder for its owner alone where there is none, and those above it, locks it, and returns the lock; says
-/// where one that is there is open to others. Ends with `WrongArguments` where there is none and none can be made, and
-/// else as [`lock_of`].
+/// Creates a folder for its owner alone where there is none, with its parents, and locks it.
+/// Returns the lock. Warns where an existing folder is open to others. Ends with `WrongArguments`
+/// where there is none and none can be created, and otherwise as [`lock_of`].
 pub fn own_folder(
     rt: &(impl Files<File = File> + Eprint),
     folder: &str,
@@ -51,7 +52,7 @@ pub fn own_folder(
         Err(error) if error.kind() != ErrorKind::AlreadyExists => {
             return Err(wrong_for(rt, folder, " can't be made", &error));
         }
-        // An empty name is made of nothing.
+        // An empty path creates nothing.
         _ => check_folder(rt, folder, " is no folder")?,
     }
     let lock = lock_of(rt, folder)?;
@@ -59,10 +60,10 @@ pub fn own_folder(
     Ok(lock)
 }
 
-/// The parts of a mode by which others than the owner may read, write or enter.
+/// The bits of a mode by which others than the owner may read, write or enter.
 const OTHERS: u32 = 0o077;
 
-/// Says where a folder is open to others than its owner.
+/// Warns where a folder is open to others than its owner.
 pub fn tell_if_open(rt: &(impl Files<File = File> + Eprint), folder: &str) {
     if let Ok(found) = fs::metadata(rt, folder) {
         if found.mode() & OTHERS != 0 {
@@ -71,7 +72,8 @@ pub fn tell_if_open(rt: &(impl Files<File = File> + Eprint), folder: &str) {
     }
 }
 
-/// Refuses what is no folder, with these words: ends with `WrongArguments`, also where nobody can look at it.
+/// Refuses what isn't a folder, with these words. Ends with `WrongArguments`, also where nobody can
+/// look at it.
 pub fn check_folder(
     rt: &(impl Files<File = File> + Eprint),
     folder: &str,
@@ -84,11 +86,11 @@ pub fn check_folder(
     }
 }
 
-/// The name of the folder that is made and removed again to see whether a folder can be written to.
-/// One that a killed process has left is removed by the next.
+/// The name of the folder that is created and removed again to see whether a folder can be written
+/// to. One that a killed process has left is removed by the next.
 const TRIAL: &str = ".bg_relay-trial";
 
-/// Refuses a folder in which the process may make nothing, as nothing could be saved there: ends
+/// Refuses a folder in which the process may create nothing, as nothing could be saved there. Ends
 /// with `WrongArguments`.
 pub fn check_writable(
     rt: &(impl Files<File = File> + Eprint + AllocGlobal),
@@ -113,7 +115,7 @@ pub fn check_writable(
                 &error,
             ))
         }
-        // Other reasons may pass, as a disk that is full; where a save fails that is said.
+        // Other reasons, such as a full disk, may pass; a failed save is reported.
         _ => {
             let _ = fs::remove_dir(rt, trial.as_str());
             Ok(())
@@ -121,8 +123,8 @@ pub fn check_writable(
     }
 }
 
-/// Returns what the match file at a path says. Ends with `WrongArguments` where it is none, and with `Failed` where it
-/// can't be read.
+/// Reads the match file at a path. Ends with `WrongArguments` where it isn't one, and with `Failed`
+/// where it can't be read.
 pub fn match_of(
     rt: &(impl Files<File = File> + Eprint + AllocGlobal),
     path: &str,
@@ -134,8 +136,8 @@ pub fn match_of(
     }
 }
 
-/// Returns what the key file of a party says: 1, 2, or 3 for all watchers. Ends with `WrongArguments` where it is that
-/// of another party or none, and with `Failed` where it can't be read.
+/// Reads the key file of a party at a path: 1, 2, or 3 for all watchers. Ends with `WrongArguments`
+/// where it is another party's or isn't one, and with `Failed` where it can't be read.
 pub fn key_file_of(
     rt: &(impl Files<File = File> + Eprint + AllocGlobal),
     path: &str,
@@ -156,8 +158,8 @@ pub fn key_file_of(
     }
 }
 
-/// Returns what any key file or match file at a path says of its match, with the names in it. Ends with `WrongArguments` where it is none,
-/// and with `Failed` where it can't be read.
+/// Reads the match, with its names, from any key file or match file at a path. Ends with
+/// `WrongArguments` where it is neither, and with `Failed` where it can't be read.
 pub fn table_of(
     rt: &(impl Files<File = File> + Eprint + AllocGlobal),
     path: &str,
@@ -168,7 +170,7 @@ pub fn table_of(
     }
 }
 
-/// Whose key file it is that has this number.
+/// Returns the holder of the key file with this number.
 fn holder(party: u8) -> &'static str {
     match party {
         SEAT_OF_X => "player X",
@@ -177,8 +179,8 @@ fn holder(party: u8) -> &'static str {
     }
 }
 
-/// Says what is wrong with a file that is no key file: one without a key, as older programs made them and as the
-/// referee has, is named so.
+/// Reports what is wrong with a file that is not a key file. For a match file without a key, such
+/// as older programs made and the referee has, it says so.
 fn no_key_file(rt: &(impl Files<File = File> + Eprint + AllocGlobal), path: &str) -> Ending {
     if let Ok(Some(_)) = MatchFile::read(rt, path) {
         return wrong_at(
@@ -190,7 +192,8 @@ fn no_key_file(rt: &(impl Files<File = File> + Eprint + AllocGlobal), path: &str
     wrong_at(rt, path, " is no key file")
 }
 
-/// Returns how a party waits for its socket, and for standard input if that is wanted, and when it ticks.
+/// Returns the wait for a party's socket, and for standard input if that is wanted, and the party's
+/// ticks.
 pub fn waiting_for(
     rt: &(impl Net + Clock + Eprint + AllocGlobal),
     socket: RawFd,
@@ -201,7 +204,7 @@ pub fn waiting_for(
     Ok((waiting, ticking))
 }
 
-/// Returns what waiting came to; says where the socket can't be waited for.
+/// Returns the result of waiting. Reports where the socket can't be waited for.
 pub fn waited<T>(rt: &impl Eprint, attempt: io::Result<T>) -> Result<T, Ending> {
     match attempt {
         Ok(next) => Ok(next),

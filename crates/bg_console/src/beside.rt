@@ -12,14 +12,14 @@ use std::{fs, io};
 /// A match in a folder beside another one.
 #[derive(Debug, Drop)]
 pub struct MatchBeside {
-    /// The name of its match file, as short as it can be told.
+    /// The path of its match file, as short as possible.
     pub path: String,
-    /// Its port.
+    /// The port of the match.
     pub port: u16,
 }
 
-/// Returns the matches in the folders beside a folder, its own among them, as far as they can be read. Ends with
-/// `Failed` where there is no memory for them.
+/// Returns the matches in the folders beside a folder, its own among them, as far as they can be
+/// read. Ends with `Failed` where there is no memory for them.
 pub fn matches_beside<R>(rt: &R, folder: &str) -> Result<Vec<MatchBeside>, Ending>
 where
     R: Files<File = File> + Eprint + AllocGlobal,
@@ -58,8 +58,9 @@ where
     Ok(matches)
 }
 
-/// Returns the folder that a folder lies in, or will where there is none yet, and an empty name for that in which the
-/// process runs: as its name says it where that is so, and else, as for `.` and a link, as the system finds it.
+/// Returns the parent of a folder, which need not exist yet; the empty path is the current folder
+/// of the process. The parent is taken from the path where that names it. Otherwise, as for `.` and
+/// for links, the system finds it.
 fn folder_above<R>(rt: &R, folder: &str) -> io::Result<String>
 where
     R: Files<File = File> + AllocGlobal,
@@ -75,7 +76,8 @@ where
     Ok(String::from_str(rt.alloc(), above.as_str())?)
 }
 
-/// Whether two paths lead to one folder. An empty one leads to that in which the process runs.
+/// Returns whether two paths lead to one folder. An empty one leads to the current folder of the
+/// process.
 fn is_one_folder(rt: &impl Files<File = File>, one: &str, other: &str) -> bool {
     let one = if one.is_empty() { "." } else { one };
     match (fs::metadata(rt, one), fs::metadata(rt, other)) {

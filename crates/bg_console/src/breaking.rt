@@ -1,9 +1,9 @@
-//! Lines that fit a screen.
+//! Breaking lines to fit a screen.
 
 use std::alloc::{AllocError, Global};
 
-/// Returns lines of so many columns at most, broken between words. A word that is longer has a line
-/// of its own.
+/// Returns the lines broken between words, each of at most this number of columns. A longer word
+/// has a line of its own.
 ///
 /// # Errors
 /// AllocError where there is no memory for them.
@@ -15,7 +15,7 @@ pub fn broken(alloc: Global, lines: &[u8], columns: usize) -> Result<Vec<u8>, Al
     Ok(text)
 }
 
-/// Adds a line of words, on as many lines as it takes.
+/// Appends a line of words, broken into as many lines as it takes.
 fn put_broken(text: &mut Vec<u8>, line: &[u8], columns: usize) -> Result<(), AllocError> {
     let mut column = 0usize;
     for word in line.split(|byte| *byte == b' ') {

@@ -1,11 +1,11 @@
-//! Colours for a terminal: of checkers, and of what a player is offered.
+//! Colours for a terminal: for checkers, and for what a player is offered.
 
 use bg_board::Player;
 use bg_text::letter;
 use std::alloc::{AllocError, Global};
 
-/// What a terminal takes for the beginning of bold letters, of magenta ones, and for the end of
-/// both. Magenta is as far from black as from white.
+/// The terminal sequences that begin bold letters, begin magenta ones, and end both. Magenta is as
+/// far from black as from white.
 const BOLD: &[u8] = b"\x1b[1m";
 
 const MAGENTA: &[u8] = b"\x1b[35m";
@@ -16,16 +16,16 @@ const USUAL: &[u8] = b"\x1b[0m";
 /// the bar.
 const OF_POINTS: &[u8] = b" .|XO0123456789";
 
-/// How the lines of the bar and of the checkers that are off begin.
+/// The starts of the lines for the bar and for the checkers that are borne off.
 const ASIDE: [&[u8]; 2] = [b"bar: ", b"off: "];
 
-/// How the line of a player's offers begins, and what stands before them.
+/// The start of the line of a player's offers, up to the offers.
 const TURN: &[u8] = b"your turn, ";
 
 const BEFORE_OFFERS: u8 = b':';
 
-/// Returns a text with the checkers of one player bold, and those of the other in magenta, in the
-/// lines of boards that it has. Without the sequences of the terminal it is the text as it was.
+/// Returns a text in which the lines of boards have the checkers of one player bold, and those of
+/// the other in magenta. Without the terminal sequences it is the text as it was.
 ///
 /// # Errors
 /// AllocError where there is no memory for it.
@@ -45,15 +45,15 @@ pub fn with_coloured_checkers(
     Ok(out)
 }
 
-/// Whether a line is one of a board.
+/// Returns whether a line is one of a board.
 fn shows_checkers(line: &[u8]) -> bool {
     let line = line.strip_suffix(b"\n").unwrap_or(line);
     ASIDE.iter().any(|start| line.starts_with(start))
         || line.iter().all(|byte| OF_POINTS.contains(byte))
 }
 
-/// Adds a line of a board, each mark of a checker with the number behind it in the look of its
-/// player.
+/// Appends a line of a board. Each mark of a checker has the look of its player, with the number
+/// behind it.
 fn put_checkers(out: &mut Vec<u8>, line: &[u8], bold: Player) -> Result<(), AllocError> {
     let bold_mark = letter(bold).as_bytes();
     let mut is_marked = false;
@@ -75,8 +75,8 @@ fn put_checkers(out: &mut Vec<u8>, line: &[u8], bold: Player) -> Result<(), Allo
     Ok(())
 }
 
-/// Returns a text with bold letters for what a player is offered: in it, from the line on that says
-/// that it is his turn. Without the sequences of the terminal it is the text as it was.
+/// Returns a text with what a player is offered in bold letters, from the line on that says that it
+/// is their turn. Without the terminal sequences it is the text as it was.
 ///
 /// # Errors
 /// AllocError where there is no memory for it.
@@ -96,7 +96,7 @@ pub fn with_bold_offers(alloc: Global, text: &[u8]) -> Result<Vec<u8>, AllocErro
     Ok(out)
 }
 
-/// Adds the line that says that it is a player's turn, with its offers bold.
+/// Appends the line that says that it is a player's turn, with its offers bold.
 fn put_turn(out: &mut Vec<u8>, line: &[u8]) -> Result<(), AllocError> {
     let colon = line.iter().position(|byte| *byte == BEFORE_OFFERS);
     let offers = colon.unwrap_or(line.len()).saturating_add(1);
@@ -104,7 +104,7 @@ fn put_turn(out: &mut Vec<u8>, line: &[u8]) -> Result<(), AllocError> {
     put_bold(out, line.get(offers..).unwrap_or_default())
 }
 
-/// Adds a line in bold letters, but its line feed.
+/// Appends a line in bold letters, except its line feed.
 fn put_bold(out: &mut Vec<u8>, line: &[u8]) -> Result<(), AllocError> {
     let words = line.strip_suffix(b"\n").unwrap_or(line);
     out.extend_from_slice(BOLD)?;

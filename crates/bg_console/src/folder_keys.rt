@@ -1,4 +1,4 @@
-//! The keys that a folder has: a secret which they are derived from, or the key files of all parties.
+//! The keys in a folder: a secret that they are derived from, or the key files of all parties.
 
 use crate::beginnings::key_file_of;
 use crate::messages::{no_memory, wrong};
@@ -20,9 +20,9 @@ where
     Ok(fs::symlink_metadata(rt, path.as_str()).is_ok())
 }
 
-/// Returns the key files in a referee's folder, which has no secret of them; none where there is not one of them. Ends
-/// with `WrongArguments` where some are missing, or one is of another party or another match, and with `Failed` where
-/// one can't be read.
+/// Returns the key files in a referee's folder without a secret of keys; `None` where it has no key
+/// files at all. Ends with `WrongArguments` where some are missing, or one is another party's or
+/// another match's, and with `Failed` where one can't be read.
 pub fn key_files_of<R>(rt: &R, folder: &str, table: &MatchFile) -> Result<Option<KeyFiles>, Ending>
 where
     R: Files<File = File> + Eprint + AllocGlobal,
@@ -39,8 +39,9 @@ where
     }
 }
 
-/// Returns the key files of a match in a folder to which they were copied, all of them. Ends with `WrongArguments`
-/// where one is of another party or another match, and with `Failed` where one can't be read.
+/// Returns the key files of a match in a folder to which they were all copied. Ends with
+/// `WrongArguments` where one is another party's or another match's, and with `Failed` where one
+/// can't be read.
 pub fn key_files_in<R>(rt: &R, folder: &str, table: &MatchFile) -> Result<KeyFiles, Ending>
 where
     R: Files<File = File> + Eprint + AllocGlobal,
@@ -52,7 +53,7 @@ where
     })
 }
 
-/// The key file of a party of this match in a folder.
+/// Returns the key file of a party of this match in a folder.
 fn key_file_in<R>(rt: &R, folder: &str, table: &MatchFile, party: u8) -> Result<KeyFile, Ending>
 where
     R: Files<File = File> + Eprint + AllocGlobal,
@@ -73,7 +74,7 @@ where
     ))
 }
 
-/// The same; none where it is missing.
+/// Returns the key file of a party of this match in a folder; `None` where it is missing.
 fn found_in<R>(
     rt: &R,
     folder: &str,
@@ -92,7 +93,7 @@ where
     Ok(Some(key_file_in(rt, folder, table, party)?))
 }
 
-/// Says that a folder without a secret of keys lacks the key file of a party, and what is to be done.
+/// Reports that a folder without a secret of keys lacks the key file of a party, and what to do.
 fn lacks(rt: &impl Eprint, folder: &str, party: u8) -> Ending {
     let (shown, name) = (Printable(folder), name_of_key_file(party));
     wrong(

@@ -1,6 +1,6 @@
-//! What the commands of the program share: how they say on the standard error what is wrong and how far they are, what
-//! they print of a record while it grows, the files that they keep for others, and what they begin with. For a program,
-//! whose commands end early with an [`Ending`](bg_reports::Ending) where it is said already why.
+//! The common parts of the program's commands: messages and progress on the standard error, output
+//! of a growing record, files kept for others, and startup. For a program whose commands end early
+//! with an [`Ending`](bg_reports::Ending) once the reason has been reported.
 //!
 //! ```
 //! // A record is printed as a transcript, entry by entry.

@@ -1,4 +1,5 @@
-//! What is said on the standard error (docs/OPERATING.md, "Messages"), and the ending that goes with it.
+//! The messages on the standard error (docs/OPERATING.md, "Messages"), and the endings that go with
+//! them.
 
 pub(crate) mod progress;
 pub(crate) mod says;
@@ -11,22 +12,23 @@ use std::fmt::Display;
 use std::io;
 use std::io::ErrorKind;
 
-/// The message where there is no memory.
+/// The message for want of memory.
 const NO_MEMORY: &str = "out of memory";
 
-/// Says that reading, writing or memory failed.
+/// Reports that reading, writing or memory failed.
 pub fn failed<D: Display + Drop>(rt: &impl Eprint, message: D) -> Ending {
     say(rt, message);
     Ending::Failed
 }
 
-/// Says the same by a line of its own kind, with nothing before it.
+/// Reports the same by a line of its own form, without the program's name.
 pub fn failed_barely<D: Display + Drop>(rt: &impl Eprint, line: D) -> Ending {
     let _ = rt.eprintln(line);
     Ending::Failed
 }
 
-/// Says that reading, writing or memory failed, and why, which the input and the output keep.
+/// Reports that reading, writing or memory failed, with the reason that the input or the output
+/// keeps.
 pub fn engine_failed(
     rt: &impl Eprint,
     fault: EngineFault,
@@ -44,12 +46,12 @@ pub fn engine_failed(
     }
 }
 
-/// Says that there was no memory.
+/// Reports that there was no memory.
 pub fn no_memory(rt: &impl Eprint) -> Ending {
     failed(rt, NO_MEMORY)
 }
 
-/// Returns what wanted memory; says where there was none.
+/// Returns the result of an attempt that needs memory. Reports where there was none.
 pub fn allocated<T>(rt: &impl Eprint, attempt: Result<T, AllocError>) -> Result<T, Ending> {
     match attempt {
         Ok(made) => Ok(made),
@@ -57,19 +59,20 @@ pub fn allocated<T>(rt: &impl Eprint, attempt: Result<T, AllocError>) -> Result<
     }
 }
 
-/// Says that this failed, and why.
+/// Reports that this failed, and why.
 pub fn failed_for(rt: &impl Eprint, what: &str, reason: &io::Error) -> Ending {
     failed(rt, format_args!("{what}: {reason}"))
 }
 
-/// Says that reading, writing or locking a file or a folder failed, by these words behind its name, and why.
+/// Reports that reading, writing or locking a file or a folder failed, with its name, these words
+/// and the reason.
 pub fn failed_at(rt: &impl Eprint, path: &str, words: &str, reason: &io::Error) -> Ending {
     say_why(rt, path, words, reason);
     Ending::Failed
 }
 
-/// Says that the output could not be written, and why. Where nobody reads it any more, as behind `head`, nothing is
-/// said.
+/// Reports that the output could not be written, and why. Nothing is reported where nobody reads it
+/// any more, as behind `head`.
 pub fn unwritten(rt: &impl Eprint, error: &io::Error) -> Ending {
     if error.kind() == ErrorKind::BrokenPipe {
         return Ending::Failed;
@@ -77,7 +80,7 @@ pub fn unwritten(rt: &impl Eprint, error: &io::Error) -> Ending {
     failed_for(rt, "the output could not be written", error)
 }
 
-/// Returns what was written; says where it could not be.
+/// Returns the result of writing. Reports where that failed.
 pub fn written<T>(rt: &impl Eprint, attempt: io::Result<T>) -> Result<T, Ending> {
     match attempt {
         Ok(done) => Ok(done),
@@ -85,24 +88,24 @@ pub fn written<T>(rt: &impl Eprint, attempt: io::Result<T>) -> Result<T, Ending>
     }
 }
 
-/// Says that the input could not be read, and why.
+/// Reports that the input could not be read, and why.
 pub fn unread(rt: &impl Eprint, error: &io::Error) -> Ending {
     failed_for(rt, "the input could not be read", error)
 }
 
-/// Says why the arguments are refused.
+/// Reports why the arguments are refused.
 pub fn wrong<D: Display + Drop>(rt: &impl Eprint, message: D) -> Ending {
     say(rt, message);
     Ending::WrongArguments
 }
 
-/// Says by these words, behind its name, why a file or a folder is refused.
+/// Reports why a file or a folder is refused, with its name and these words.
 pub fn wrong_at(rt: &impl Eprint, path: &str, words: &str) -> Ending {
     say_of(rt, path, words);
     Ending::WrongArguments
 }
 
-/// Says by these words, behind its name, that a folder can't be used, or made, and why.
+/// Reports that a folder can't be used or created, with its name, these words and the reason.
 pub fn wrong_for(rt: &impl Eprint, path: &str, words: &str, reason: &io::Error) -> Ending {
     say_why(rt, path, words, reason);
     Ending::WrongArguments

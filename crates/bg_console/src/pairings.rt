@@ -1,4 +1,4 @@
-//! How the players of a match are called where others look on.
+//! The names of a match's players, for people who look on.
 
 use crate::messages::allocated;
 use bg_reports::Ending;
@@ -6,10 +6,10 @@ use bg_system::{Name, Names};
 use std::fmt;
 use std::fmt::{Display, Formatter, Write};
 
-/// The title of a page that is given none, of a match whose players are not both named.
+/// The title of a page that is given none, for a match whose players don't both have names.
 const USUAL_TITLE: &str = "Backgammon match";
 
-/// A player by his name and his letter, `Anna (X)`, or by his letter where he has no name.
+/// A player by name and letter, `Anna (X)`, or by letter alone where there is no name.
 #[derive(Clone, Copy)]
 pub struct Called {
     letter: char,
@@ -44,12 +44,12 @@ impl Display for Called {
     }
 }
 
-/// Two players: `Anna against Otto`. One without a name is called by his letter.
+/// Two players: `Anna against Otto`. A player without a name is called by letter.
 #[derive(Clone, Copy)]
 pub struct Pairing(Names);
 
 impl Pairing {
-    /// Returns the players of a match where one of them has a name.
+    /// Returns the players of a match, if at least one of them has a name.
     pub fn of(names: &Names) -> Option<Pairing> {
         if names.x.is_none() && names.o.is_none() {
             return None;
@@ -65,7 +65,7 @@ impl Display for Pairing {
     }
 }
 
-/// The name of a player, or his letter where he has none.
+/// Returns the name of a player, or the letter where there is no name.
 fn word_for<'a>(name: &'a Option<Name>, letter: &'a str) -> &'a str {
     match name {
         Some(name) => name.as_str(),
@@ -73,8 +73,8 @@ fn word_for<'a>(name: &'a Option<Name>, letter: &'a str) -> &'a str {
     }
 }
 
-/// Returns the title of a page: the one that is given, or else the names of both players, or else the usual one. Ends
-/// with `Failed` where there is no memory for it.
+/// Returns the title of a page: the one that is given, else the names of both players, else the
+/// usual one. Ends with `Failed` where there is no memory for it.
 pub fn title_of<R>(rt: &R, given: Option<&str>, names: &Names) -> Result<String, Ending>
 where
     R: Eprint + AllocGlobal,

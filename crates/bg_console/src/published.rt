@@ -13,28 +13,31 @@ use std::path::Path;
 use std::rt::Files;
 use std::{fs, io};
 
-/// The files are written anew after so many ticks at least, since all of the transcript is.
+/// Number of ticks between two writes of the files, at least, since each write has the whole
+/// transcript.
 const PAUSE_TICKS: u32 = 10;
 
-/// After so many seconds a browser shows the page of a running match anew.
+/// Number of seconds after which a browser reloads the page of a running match.
 const PAGE_SECONDS: u16 = 5;
 
-/// What is kept for others, and how.
+/// The files that are kept for others, and how.
 #[derive(Clone, Copy)]
 pub struct Outputs<'a> {
-    /// The names of the files: of the board as text, of the transcript, and of the page.
+    /// The paths of the files: of the board as text, of the transcript, and of the page.
     pub board: Option<&'a str>,
     pub transcript: Option<&'a str>,
     pub page: Option<&'a str>,
     /// The title of the page.
     pub title: &'a str,
-    /// In whose numbers its points are.
+    /// The numbering of the page's points.
     pub numbering: Numbering,
-    /// Whether a file that can't be written is said once, and left alone until it can be; else nothing goes on.
+    /// Whether a file that can't be written is reported once, and left alone until it can be. If
+    /// not, the command ends.
     pub goes_on: bool,
 }
 
-/// Whether two paths name one file, which may be missing: they are the same, or have the same name in the same folder.
+/// Returns whether two paths name one file, which may be missing. They are the same, or have the
+/// same name in the same folder.
 pub fn is_one_file(rt: &impl Files<File = File>, one: &str, other: &str) -> bool {
     if one == other {
         return true;
@@ -50,7 +53,7 @@ pub fn is_one_file(rt: &impl Files<File = File>, one: &str, other: &str) -> bool
     }
 }
 
-/// The folder that a path leads to a file in.
+/// Returns the metadata of the folder of a path's file.
 fn folder_of(rt: &impl Files<File = File>, path: Path<'_>) -> io::Result<Metadata> {
     match path.parent() {
         Some(folder) if !folder.as_os_str().is_empty() => fs::metadata(rt, folder),
@@ -62,7 +65,7 @@ fn folder_of(rt: &impl Files<File = File>, path: Path<'_>) -> io::Result<Metadat
 #[derive(Drop)]
 pub struct Published<'a> {
     outputs: Outputs<'a>,
-    /// How many ticks ago they were written.
+    /// Number of ticks since they were written.
     age: u32,
     /// Whether there are entries that they lack.
     is_old: bool,
@@ -71,7 +74,7 @@ pub struct Published<'a> {
 }
 
 impl<'a> Published<'a> {
-    /// Makes the files as these outputs say; none is written yet.
+    /// Creates the state for these outputs, none of which is written yet.
     pub fn new(outputs: Outputs<'a>) -> Published<'a> {
         Published {
             outputs,
@@ -86,9 +89,9 @@ impl<'a> Published<'a> {
         self.is_failing
     }
 
-    /// Writes the files anew where they are old, and some time has passed since: behind each round, which brought news
-    /// or not, and in which a tick was due or not. Until the referee was heard, a file that is there is left as it is,
-    /// as it may have more.
+    /// Rewrites the files where they are old, and enough time has passed. It is called after each
+    /// round, which brought news or not, and in which a tick was due or not. Until the referee was
+    /// heard, an existing file is left as it is, as it may have more.
     pub fn after_round<R>(
         &mut self,
         rt: &R,
@@ -111,8 +114,8 @@ impl<'a> Published<'a> {
         self.write(rt, record, is_heard)
     }
 
-    /// Puts the record into the files that were asked for, where they lack some of it; into those alone that are not
-    /// there, where the referee was not heard.
+    /// Writes the record to the requested files, where they lack some of it. Where the referee was
+    /// not heard, it writes only those that don't exist.
     pub fn write<R>(&mut self, rt: &R, record: &Record, is_heard: bool) -> Result<(), Ending>
     where
         R: Files<File = File> + Eprint + AllocGlobal,
@@ -145,8 +148,8 @@ impl<'a> Published<'a> {
         Ok(())
     }
 
-    /// Puts a text into a file. Where it can't, that is said, but for files that failed the last time too; and it ends
-    /// there, unless it goes on.
+    /// Writes a text to a file. Reports where it can't, except for files that failed the last time
+    /// too. Then the command ends, unless `goes_on` is set.
     fn put<R>(&mut self, rt: &R, path: &str, text: &[u8], was_failing: bool) -> Result<(), Ending>
     where
         R: Files<File = File> + Eprint + AllocGlobal,
@@ -167,7 +170,7 @@ impl<'a> Published<'a> {
         }
     }
 
-    /// The page of a record, which browsers show anew by themselves until its match is over.
+    /// Returns the page of a record, which browsers reload by themselves until its match is over.
     fn page_of(&self, alloc: Global, record: &Record) -> Result<Vec<u8>, AllocError> {
         let seconds = match record.standing().phase() {
             Phase::Over(_) => 0,
@@ -183,7 +186,7 @@ impl<'a> Published<'a> {
     }
 }
 
-/// Returns the name of a file that is kept, unless it is there and the referee was not heard.
+/// Returns the path of a file that is kept, unless the file exists and the referee was not heard.
 fn writable<'a>(
     rt: &impl Files<File = File>,
     path: Option<&'a str>,

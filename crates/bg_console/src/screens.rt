@@ -1,10 +1,10 @@
-//! What is known of the terminal that is printed to.
+//! The terminal that is printed to.
 
 use std::env;
 use std::env::VarError;
 use std::io::IsTerminal;
 
-/// The columns and the lines of a screen of which nothing is known.
+/// The columns and the lines of a screen of unknown size.
 const USUAL_COLUMNS: usize = 80;
 
 const USUAL_LINES: usize = 24;
@@ -17,22 +17,22 @@ const DUMB: &str = "dumb";
 pub struct Terminal {
     pub columns: usize,
     pub lines: usize,
-    /// Whether it knows the sequences by which a screen is drawn anew in place.
+    /// Whether it knows the sequences by which a screen is redrawn in place.
     pub is_drawn_on: bool,
     /// Whether it is given colours.
     pub has_colours: bool,
 }
 
-/// Returns how many columns the standard output has, where it is a terminal: as many as the variable
-/// COLUMNS of the environment says, and else 80, since the standard library has no call that asks the
+/// Returns the number of columns of the standard output, where it is a terminal. It is that of the
+/// environment variable COLUMNS, and else 80, since the standard library has no call that asks the
 /// terminal.
 pub fn columns(rt: &HostRuntime) -> Option<usize> {
     Some(output_terminal(rt)?.columns)
 }
 
-/// Returns what the environment says of the standard output, where it is a terminal: its columns
-/// and lines by COLUMNS and LINES, and else 80 and 24. One of the kind `dumb`, by TERM, knows no
-/// sequences, and has no colours. No terminal has colours where NO_COLOR is not empty.
+/// Returns what the environment says of the standard output, where it is a terminal. Its columns
+/// and lines are those of COLUMNS and LINES, and else 80 and 24. One of the kind `dumb`, by TERM,
+/// knows no sequences, and has no colours. No terminal has colours where NO_COLOR is not empty.
 pub fn output_terminal(rt: &HostRuntime) -> Option<Terminal> {
     if !rt.stdout().is_terminal() {
         return None;
@@ -53,7 +53,7 @@ pub fn output_terminal(rt: &HostRuntime) -> Option<Terminal> {
     })
 }
 
-/// The number that a variable of the environment says, if it says one.
+/// Returns the number in an environment variable, if it has one.
 fn number_in(rt: &HostRuntime, name: &str) -> Option<usize> {
     env::var(rt, name).ok()?.parse().ok()
 }

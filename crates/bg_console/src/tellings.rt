@@ -1,4 +1,4 @@
-//! What is printed of a record while it grows.
+//! Output of a growing record.
 ghost use Rattle.std.specs.Prelude.{◌≤◌, length};
 ghost use Rattle.bg_match.specs.Match.{IsLegalRecord};
 
@@ -12,18 +12,18 @@ use std::io::Write;
 /// Prints a record as a transcript, entry by entry.
 #[derive(Drop)]
 pub struct Telling {
-    /// How many entries were printed, if the first line was.
+    /// Number of entries that were printed, if the first line was.
     told: Option<Number>,
 }
 
 impl Telling {
-    /// Begins, with nothing printed yet.
+    /// Creates the state in which nothing was printed yet.
     pub fn new() -> Telling {
         Telling { told: None }
     }
 
-    /// Prints the entries that were not printed yet, and the first line before the first of them, and returns whether
-    /// there were any. Where they can't be printed, it says why.
+    /// Prints the entries that were not printed yet, and the first line before the first of them.
+    /// Returns whether there were any. Reports why where they can't be printed.
     pub fn go_on<R>(&mut self, rt: &R, record: &Record) -> Result<bool, Ending>
     where
         R: Print + Eprint + AllocGlobal,
@@ -49,7 +49,7 @@ impl Telling {
     }
 }
 
-/// Adds the lines of the entries behind so many to a text.
+/// Appends the lines of the entries behind the first `behind` ones to a text.
 pub fn put_entries(text: &mut Vec<u8>, log: &Record, behind: Number) -> io::Result<()> {
     for before in behind..log.len() {
         put_line(text, log, before + 1)?;
@@ -57,7 +57,7 @@ pub fn put_entries(text: &mut Vec<u8>, log: &Record, behind: Number) -> io::Resu
     Ok(())
 }
 
-/// Adds the line of an entry.
+/// Appends the line of an entry.
 fn put_line(text: &mut Vec<u8>, log: &Record, number: Number) -> io::Result<()>
     requires first { 1 ≤ number }
     requires last { number ≤ length log.now.entries }
@@ -74,12 +74,12 @@ pub fn print_board<R: Print + AllocGlobal>(rt: &R, record: &Record) -> io::Resul
     write_out(rt, &text)
 }
 
-/// Prints a text; where it can't, it says why.
+/// Prints a text. Reports why where it can't.
 pub fn print_text(rt: &(impl Print + Eprint), text: &[u8]) -> Result<(), Ending> {
     written(rt, write_out(rt, text))
 }
 
-/// Prints bytes, at once.
+/// Prints bytes, and flushes them.
 pub fn write_out<R: Print>(rt: &R, text: &[u8]) -> io::Result<()> {
     let mut output = io::writer(rt);
     output.write_all(text)?;

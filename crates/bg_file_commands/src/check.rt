@@ -8,7 +8,8 @@ use std::fs::File;
 use std::rt::Files;
 use std::time::Clock;
 
-/// Judges the files that the options name. The standard output has so many columns, if it is a screen.
+/// Judges the files that the options name. `columns` is the width of the standard output, if it is
+/// a screen.
 pub fn run<R>(
     rt: &R,
     options: CheckOptions<'_, '_>,
@@ -39,7 +40,7 @@ where
     Ok(checker.end())
 }
 
-/// Refuses an empty name, and two uses of the standard input.
+/// Refuses an empty file name, and two uses of the standard input.
 fn check_names(rt: &impl Eprint, files: &[&str], list: Option<&str>) -> Result<(), Ending> {
     let mut inputs: usize = 0;
     for name in files.iter().copied().chain(list) {

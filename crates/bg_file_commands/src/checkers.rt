@@ -1,4 +1,4 @@
-//! How many files are judged, one after the other.
+//! Judging many files, one after the other.
 
 use crate::inputs::read_input;
 use bg_console::{
@@ -14,19 +14,19 @@ use std::io::{BufRead, BufReader, Read};
 use std::rt::Files;
 use std::time::Clock;
 
-/// The name of the standard input.
+/// The name for the standard input.
 pub(crate) const STANDARD_INPUT: &str = "-";
 
-/// The most bytes of a line in a list of files: more than the name of any file has.
+/// Number of bytes of a line in a list of files, at most: more than the name of any file has.
 const MOST_NAME_BYTES: u64 = 65_536;
 
-/// Goes through many files, prints what comes of each, and counts them.
+/// Goes through many files, prints the result of each, and counts them.
 #[derive(Drop)]
 pub(crate) struct Checker<'a, R> {
     rt: &'a R,
     /// The columns of the screen that the standard output is, if it is one.
     columns: Option<usize>,
-    /// Whether good files are passed over in silence.
+    /// Whether nothing is printed for good files.
     is_quiet: bool,
     progress: Progress,
     tally: Tally,
@@ -36,8 +36,8 @@ impl<'a, R> Checker<'a, R>
 where
     R: Input + Files<File = File> + Clock + Print + Eprint + AllocGlobal,
 {
-    /// Of which none was judged yet. The standard output has so many columns, if it is a screen; a quiet one passes
-    /// over good files in silence.
+    /// Creates a checker that has judged no file yet. `columns` is the width of the standard
+    /// output, if it is a screen. If `is_quiet` is set, nothing is printed for good files.
     pub(crate) fn new(
         rt: &'a R,
         columns: Option<usize>,
@@ -53,7 +53,7 @@ where
         }
     }
 
-    /// Judges the file of this name, or the standard input.
+    /// Judges the file with this name, or the standard input.
     pub(crate) fn check(&mut self, name: &str) -> Result<(), Ending> {
         if name == STANDARD_INPUT {
             let bytes = read_input(self.rt.alloc(), self.rt.reader());
@@ -62,7 +62,7 @@ where
         self.check_file(name)
     }
 
-    /// Judges the file of this name.
+    /// Judges the file with this name.
     fn check_file(&mut self, name: &str) -> Result<(), Ending> {
         let bytes = match File::open(self.rt, name) {
             Ok(file) => read_input(self.rt.alloc(), file),
@@ -71,7 +71,7 @@ where
         self.tell(name, bytes)
     }
 
-    /// Judges the files of a list, which has the name of one in each line.
+    /// Judges the files of a list, which has one name per line.
     pub(crate) fn check_list(&mut self, list: impl Read + Drop) -> Result<(), Ending> {
         let mut list = match BufReader::new(self.rt.alloc(), list) {
             Ok(list) => list,
@@ -114,7 +114,7 @@ where
         Ok(())
     }
 
-    /// Says that a file is not judged whose name is no text, and counts it.
+    /// Reports that a file is not judged because its name isn't text, and counts it.
     fn pass_over_bytes(&mut self, name: &[u8]) -> Result<(), Ending> {
         let shown = allocated(self.rt, harmless(self.rt.alloc(), name, MOST_SHOWN))?;
         let shown = str::from_utf8(&shown).unwrap_or_default();
@@ -126,7 +126,7 @@ where
         Ok(())
     }
 
-    /// Prints what comes of a file with these bytes, or says why it could not be read.
+    /// Prints the result of a file with these bytes, or reports why it could not be read.
     fn tell(&mut self, name: &str, bytes: io::Result<Vec<u8>>) -> Result<(), Ending> {
         match bytes {
             Ok(bytes) => self.judge(name, &bytes)?,
@@ -141,7 +141,7 @@ where
         Ok(())
     }
 
-    /// Judges a file with these bytes, and prints what comes of it.
+    /// Judges a file with these bytes, and prints the result.
     fn judge(&mut self, name: &str, bytes: &[u8]) -> Result<(), Ending> {
         let Ok((text, verdict)) = checked(self.rt.alloc(), name, bytes, self.columns) else {
             say_of(self.rt, name, " could not be judged: out of memory");
@@ -159,19 +159,19 @@ where
         print_text(self.rt, &text)
     }
 
-    /// Counts a file that is not judged; it was said why.
+    /// Counts a file that is not judged, after the reason was reported.
     fn pass_over(&mut self) {
         self.tally.unjudged = self.tally.unjudged.saturating_add(1);
     }
 
-    /// Says how many files were good and how many were not.
+    /// Reports the numbers of files that were good and that were not.
     pub(crate) fn end(self) -> Ending {
         say(self.rt, self.tally);
         Ending::Checked(self.tally.worst())
     }
 }
 
-/// What is printed of a file of this name, and its verdict.
+/// Returns the report on a file with this name, and its verdict.
 fn checked(
     alloc: Global,
     name: &str,
@@ -182,7 +182,7 @@ fn checked(
     check_text(alloc, name.as_str(), bytes, columns)
 }
 
-/// The list of files could not be read.
+/// Reports that the list of files could not be read.
 pub(crate) fn unread_list(rt: &impl Eprint, error: &io::Error) -> Ending {
     failed_for(rt, "the list of files could not be read", error)
 }

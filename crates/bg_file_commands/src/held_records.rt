@@ -1,4 +1,4 @@
-//! What seats and transcripts hold of a match.
+//! The records that seats and transcripts hold of a match.
 
 use crate::inputs::{read_input, record_in};
 use bg_board::Player;
@@ -11,10 +11,10 @@ use std::fs::File;
 use std::io;
 use std::rt::Files;
 
-/// The name of the standard input.
+/// The name for the standard input.
 const STANDARD_INPUT: &str = "-";
 
-/// What one of the sources holds of the match, which is called so.
+/// The record that one of the sources holds of the match, with the name of the source.
 #[derive(Drop)]
 pub(crate) struct Held<'a> {
     pub(crate) name: &'a str,
@@ -22,7 +22,7 @@ pub(crate) struct Held<'a> {
 }
 
 impl<'a> Held<'a> {
-    /// Makes a source that holds no entry.
+    /// Creates a source that holds no entry.
     pub(crate) fn nothing<R>(rt: &R, file: MatchFile, name: &'a str) -> Result<Held<'a>, Ending>
     where
         R: Eprint + AllocGlobal,
@@ -36,8 +36,8 @@ impl<'a> Held<'a> {
         }
     }
 
-    /// Returns the one of the two that holds more, this one where they hold as much. Ends with `WrongArguments` where
-    /// an entry of the one is another of the other, or they are of different matches.
+    /// Returns the one of the two that holds more, this one where they hold equally many. Ends with
+    /// `WrongArguments` where an entry differs, or they are of different matches.
     pub(crate) fn or<R: Eprint>(self, rt: &R, other: Held<'a>) -> Result<Held<'a>, Ending> {
         let (one, two) = (Printable(self.name), Printable(other.name));
         match compare(&self.saved, &other.saved) {
@@ -55,7 +55,7 @@ impl<'a> Held<'a> {
     }
 }
 
-/// A record as the referee saves it first.
+/// Returns a record as the referee's first save.
 pub(crate) fn saved_of(log: Record) -> Saved {
     Saved {
         party: REFEREE,
@@ -65,7 +65,8 @@ pub(crate) fn saved_of(log: Record) -> Saved {
     }
 }
 
-/// What the seat of this player has saved in its folder; none where it saved nothing, which is said.
+/// Returns what the seat of this player has saved in its folder. Returns `None`, and reports it,
+/// where the seat has saved nothing.
 pub(crate) fn seat_of<R>(
     rt: &R,
     file: MatchFile,
@@ -106,7 +107,7 @@ where
     }
 }
 
-/// Refuses, as the folder of this player's seat, one that has saves of the other's.
+/// Refuses a folder for this player's seat that has saves of the other seat.
 fn check_seat<R>(rt: &R, folder: &str, player: Player) -> Result<(), Ending>
 where
     R: Files<File = File> + Eprint + AllocGlobal,
@@ -126,7 +127,7 @@ where
     Ok(())
 }
 
-/// The bytes of a file of a party in a folder.
+/// Reads the bytes of a party's file in a folder.
 fn slot_of<R>(rt: &R, folder: &str, party: u8, slot: Slot) -> Result<Vec<u8>, Ending>
 where
     R: Files<File = File> + Eprint + AllocGlobal,
@@ -141,7 +142,7 @@ where
     }
 }
 
-/// The record of the transcript of this name, as one of the match.
+/// Reads the transcript with this name as a record of the match.
 pub(crate) fn transcript_of<R>(rt: &R, file: MatchFile, name: &str) -> Result<Record, Ending>
 where
     R: Input + Files<File = File> + Eprint + AllocGlobal,
@@ -161,7 +162,7 @@ where
     }
 }
 
-/// The bytes of a file, as far as one is judged.
+/// Reads the bytes of a file, up to the limit of what is judged.
 fn file_bytes(rt: &(impl Files<File = File> + AllocGlobal), name: &str) -> io::Result<Vec<u8>> {
     read_input(rt.alloc(), File::open(rt, name)?)
 }

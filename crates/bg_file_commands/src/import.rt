@@ -1,4 +1,4 @@
-//! The command that takes over a match file of another program.
+//! The command that imports a match file of another program.
 
 use crate::inputs::read_match_file;
 use bg_console::{allocated, print_text};
@@ -6,7 +6,7 @@ use bg_match::Rules;
 use bg_reports::Ending;
 use bg_text::transcript_text;
 
-/// Prints the transcript of the match file on the standard input, by these rules.
+/// Prints the transcript of the match file on the standard input, under these rules.
 pub fn run<R>(rt: &R, rules: Rules) -> Result<Ending, Ending>
 where
     R: Input + Print + Eprint + AllocGlobal,

@@ -1,4 +1,4 @@
-//! The bytes that are read of an input.
+//! Reading the bytes of an input.
 
 use bg_console::{no_memory, say, unread};
 use bg_mat::import_mat;
@@ -12,20 +12,21 @@ use std::io::Read;
 /// The number of a match that is read from a transcript or a match file, which have none.
 const NO_NUMBER: u64 = 0;
 
-/// What a transcript on the standard input is called in messages.
+/// The name of a transcript on the standard input, in messages.
 const TRANSCRIPT: &str = "the transcript";
 
-/// What a match file of another program is called there.
+/// The name of a match file of another program, in messages.
 const MATCH_FILE: &str = "the match file";
 
-/// The bytes of an input, as far as one is judged, and one more of a longer one.
+/// Reads the bytes of an input, up to the limit of what is judged, and one more of a longer one.
 pub(crate) fn read_input(alloc: Global, input: impl Read + Drop) -> io::Result<Vec<u8>> {
     let mut bytes = Vec::new(alloc);
     input.take(MOST_BYTES as u64 + 1).read_to_end(&mut bytes)?;
     Ok(bytes)
 }
 
-/// The bytes of the standard input, as far as one is judged. Where it can't be read, it is said why.
+/// Reads the bytes of the standard input, up to the limit of what is judged. Reports why where it
+/// can't be read.
 fn standard_input<R: Input + Eprint + AllocGlobal>(rt: &R) -> Result<Vec<u8>, Ending> {
     match read_input(rt.alloc(), rt.reader()) {
         Ok(bytes) => Ok(bytes),
@@ -33,7 +34,7 @@ fn standard_input<R: Input + Eprint + AllocGlobal>(rt: &R) -> Result<Vec<u8>, En
     }
 }
 
-/// The record of the transcript on the standard input. Where it has none, it is said why.
+/// Reads the record of the transcript on the standard input. Reports why where it has none.
 pub(crate) fn read_record<R>(rt: &R) -> Result<Record, Ending>
 where
     R: Input + Eprint + AllocGlobal,
@@ -42,7 +43,8 @@ where
     record_in(rt, TRANSCRIPT, NO_NUMBER, &bytes)
 }
 
-/// The record of a transcript that is called so, of the match of this number. Where it has none, it is said why.
+/// Returns the record of a transcript with this name, of the match with this number. Reports why
+/// where it has none.
 pub(crate) fn record_in<R>(rt: &R, name: &str, id: u64, bytes: &[u8]) -> Result<Record, Ending>
 where
     R: Eprint + AllocGlobal,
@@ -56,7 +58,8 @@ where
     }
 }
 
-/// The record of the match file on the standard input, by these rules. Where it has none, it is said why.
+/// Reads the record of the match file on the standard input, under these rules. Reports why where
+/// it has none.
 pub(crate) fn read_match_file<R>(rt: &R, rules: Rules) -> Result<Record, Ending>
 where
     R: Input + Eprint + AllocGlobal,
@@ -71,7 +74,7 @@ where
     }
 }
 
-/// Says why an input is refused, as `check` says it of a file.
+/// Reports why an input is refused, as `check` reports it of a file.
 fn refused(rt: &impl Eprint, said: Result<(Vec<u8>, Verdict), AllocError>) -> Ending {
     let Ok((text, verdict)) = said else {
         return no_memory(rt);

@@ -10,8 +10,8 @@ use std::fs::File;
 use std::random::RandomSource;
 use std::rt::Files;
 
-/// Makes the key files of the match in this folder: anew by the secret there, or with a new one where there is neither
-/// a secret nor a key file.
+/// Makes the key files of the match in this folder, from the secret there. Draws a new secret where
+/// there is neither a secret nor a key file.
 pub fn run<R>(rt: &R, folder: &str) -> Result<Ending, Ending>
 where
     R: Files<File = File> + RandomSource + Print + Eprint + AllocGlobal,
@@ -29,8 +29,8 @@ where
     Ok(Ending::Served)
 }
 
-/// Returns the keys that the folder has, of its secret or of its key files; new ones where it has none. The names are
-/// those of the match file.
+/// Returns the keys of the folder, from its secret or its key files; new ones where it has none.
+/// The names are those of the match file.
 fn keys_for<R>(rt: &R, folder: &str, file: &NamedMatch) -> Result<KeyFiles, Ending>
 where
     R: Files<File = File> + RandomSource + Eprint + AllocGlobal,

@@ -1,7 +1,7 @@
-//! The commands that need no other party: those that judge, show, draw and convert what files hold, and those that make
-//! a match, its keys, or a referee's folder anew. Each prints what it comes to, says on the standard error what is
-//! wrong, and gives what it came to, as an error where it ended early. For a program, which ends with the status of
-//! that.
+//! The commands that need no other party. They judge, show, draw and convert what files hold, or
+//! make a match, its keys, or a referee's folder anew. Each prints its result, reports errors on
+//! the standard error, and returns its ending, as an error where it ended early. For a program that
+//! exits with the status of that ending.
 //!
 //! ```
 //! let saved = ShowOptions {

@@ -22,7 +22,7 @@ use std::fs::File;
 use std::io;
 use std::rt::Files;
 
-/// What is said behind the name of a folder without a match.
+/// The message behind the name of a folder without a match.
 const NO_MATCH: &str = " has no match, nor has a folder at most three folders deep in it";
 
 /// Lists the matches in the folders that the options name, and below them.
@@ -53,7 +53,7 @@ struct Lister<'a, R> {
     rt: &'a R,
     format: ListFormat,
     locks: Locks,
-    /// The lines, whose parts do not stand below each other yet.
+    /// The lines, whose parts are not aligned yet.
     lines: Vec<u8>,
     worst: Soundness,
 }
@@ -62,7 +62,7 @@ impl<'a, R> Lister<'a, R>
 where
     R: Files<File = File> + Print + Eprint + AllocGlobal,
 {
-    /// Adds the matches in a folder and below it; says where there is none.
+    /// Appends the matches in a folder and below it. Reports where there is none.
     fn list(&mut self, folder: &str) -> Result<(), Ending> {
         let places = self.read(places_below(self.rt, folder))?;
         if places.is_empty() {
@@ -74,7 +74,7 @@ where
         Ok(())
     }
 
-    /// Adds the line of a place.
+    /// Appends the line of a place.
     fn add(&mut self, place: Place) -> Result<(), Ending> {
         let listed = match place.fault {
             Some(fault) => Listed::unread(self.rt.alloc(), place.path, fault),
@@ -89,7 +89,7 @@ where
         allocated(self.rt, put)
     }
 
-    /// Prints the lines, and ends by the worst that was found.
+    /// Prints the lines, and returns the ending for the worst that was found.
     fn end(self) -> Result<Ending, Ending> {
         match self.format {
             ListFormat::Text => {
@@ -105,7 +105,7 @@ where
         }))
     }
 
-    /// Returns what was read, which fails for want of memory alone; says where there was none.
+    /// Returns the result of reading, which fails for want of memory alone. Reports that failure.
     fn read<T>(&self, attempt: io::Result<T>) -> Result<T, Ending> {
         match attempt {
             Ok(found) => Ok(found),

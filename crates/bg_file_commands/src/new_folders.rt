@@ -1,4 +1,4 @@
-//! The folder of a referee that is made.
+//! Creating a referee's folder.
 
 use bg_console::{failed, failed_at, has_key_secret, no_memory, own_folder, written, wrong};
 use bg_reports::Ending;
@@ -12,12 +12,12 @@ use std::fs::File;
 use std::random::RandomSource;
 use std::rt::Files;
 
-/// The files of a folder of a match that is whole, or was begun: what has one of them is no new folder. Secrets and key
-/// files alone are those of a match that was never made whole.
+/// The files of a folder whose match is complete, or was begun: a folder with one of them is not
+/// new. Secrets and key files alone are those of a match that was never completed.
 const NAMES: [&str; 3] = ["match", "party-0.0", "party-0.1"];
 
-/// Makes the folder where it is missing, and locks it. Ends with `WrongArguments` where it has files of a match, and
-/// with `Failed` where it can't be locked.
+/// Creates the folder where it is missing, and locks it. Ends with `WrongArguments` where it has
+/// files of a match, and with `Failed` where it can't be locked.
 pub(crate) fn begin_folder<R>(rt: &R, folder: &str) -> Result<FolderLock, Ending>
 where
     R: Files<File = File> + Eprint + AllocGlobal,
@@ -27,7 +27,7 @@ where
     Ok(lock)
 }
 
-/// Puts a new secret in the folder that the dice go by.
+/// Writes a new secret of the dice to the folder.
 pub(crate) fn make_secret_of_dice<R>(rt: &R, folder: &str) -> Result<(), Ending>
 where
     R: Files<File = File> + RandomSource + Eprint + AllocGlobal,
@@ -38,7 +38,7 @@ where
     }
 }
 
-/// Puts a new secret in the folder that keys are derived from.
+/// Writes a new secret of the keys to the folder.
 pub(crate) fn make_secret_of_keys<R>(rt: &R, folder: &str) -> Result<(), Ending>
 where
     R: Files<File = File> + RandomSource + Eprint + AllocGlobal,
@@ -49,7 +49,8 @@ where
     }
 }
 
-/// Removes the secret that keys are derived from, where an attempt to make the folder has left one.
+/// Removes the secret that keys are derived from, where an earlier attempt to make the folder has
+/// left one.
 pub(crate) fn remove_secret_of_keys<R>(rt: &R, folder: &str) -> Result<(), Ending>
 where
     R: Files<File = File> + Eprint + AllocGlobal,
@@ -66,7 +67,8 @@ where
     }
 }
 
-/// Returns the key files of the match, with its names, whose keys are derived from the secret in the folder.
+/// Returns the key files of the match, with its names. Their keys are derived from the secret in
+/// the folder.
 pub(crate) fn derived_keys<R>(rt: &R, folder: &str, file: &NamedMatch) -> Result<KeyFiles, Ending>
 where
     R: Files<File = File> + Eprint + AllocGlobal,
@@ -77,8 +79,8 @@ where
     }
 }
 
-/// Puts the key files in the folder, and then the match file, the last of its files: where there is one, the match is
-/// whole.
+/// Writes the key files to the folder, and then the match file as the last of its files. So where
+/// there is a match file, the match is complete.
 pub(crate) fn end_folder<R>(
     rt: &R,
     folder: &str,
@@ -95,7 +97,7 @@ where
     }
 }
 
-/// Puts key files in the folder: those of the seats, and that of all who watch.
+/// Writes the key files to the folder: those of the seats, and that of all watchers.
 pub(crate) fn write_key_files<R>(rt: &R, folder: &str, keys: &KeyFiles) -> Result<(), Ending>
 where
     R: Files<File = File> + Eprint + AllocGlobal,
@@ -112,7 +114,7 @@ where
     Ok(())
 }
 
-/// Prints who is to be handed which of the key files in the folder.
+/// Prints who is to be given which of the key files in the folder.
 pub(crate) fn tell_key_files<R: Print + Eprint>(rt: &R, folder: &str) -> Result<(), Ending> {
     let folder = Printable(folder);
     let (x, o, watch) = (
@@ -126,7 +128,7 @@ pub(crate) fn tell_key_files<R: Print + Eprint>(rt: &R, folder: &str) -> Result<
     written(rt, told)
 }
 
-/// Prints that no key file is to be handed out.
+/// Prints that no key file needs to be handed out.
 pub(crate) fn tell_kept_keys<R: Print + Eprint>(rt: &R) -> Result<(), Ending> {
     let told = println!(rt;
         "the keys are kept: X, O and who watches go on with the key files that they have"

@@ -33,8 +33,9 @@ where
     Ok(Ending::Served)
 }
 
-/// Makes the secrets first, and the match file last, so that where there is one the match is whole. The port is looked
-/// at before the folder is made too, so that nothing is left of a match whose port is refused.
+/// Makes the secrets first, and the match file last, so that where there is one the match is
+/// complete. The port is checked before the folder is made, so that nothing is left of a match
+/// whose port is refused.
 fn make_match<R>(
     rt: &R,
     terms: Terms,
@@ -60,7 +61,7 @@ where
     Ok(file)
 }
 
-/// A number that nobody foresees.
+/// Returns a number that nobody can foresee.
 fn random_number(rt: &(impl RandomSource + Eprint)) -> Result<u64, Ending> {
     let mut bytes = [0; 8];
     match rt.fill_bytes(&mut bytes) {

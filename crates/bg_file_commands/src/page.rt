@@ -9,8 +9,8 @@ use bg_system::Names;
 use std::fs::File;
 use std::rt::Files;
 
-/// Prints the page of the transcript on the standard input, with the title and the points in the numbers that the options
-/// name. A match file or key file that they name says the title where they have none.
+/// Prints the page of the transcript on the standard input, with the title and the numbering that
+/// the options name. Where they have no title, the match file or key file that they name gives it.
 pub fn run<R>(rt: &R, options: PageOptions<'_>) -> Result<Ending, Ending>
 where
     R: Input + Files<File = File> + Print + Eprint + AllocGlobal,

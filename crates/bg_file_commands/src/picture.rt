@@ -1,4 +1,4 @@
-//! The command that draws where a match stands.
+//! The command that draws the standing of a match.
 
 use crate::inputs::read_record;
 use bg_console::{allocated, print_text};

@@ -6,11 +6,11 @@ use bg_system::Printable;
 use std::fs::File;
 use std::rt::Files;
 
-/// A match has so many ports, from its own on.
+/// Number of ports of a match, from its own on.
 const PORTS: u16 = 256;
 
-/// Refuses a port, of a match that is to be made in this folder, where the ports from it on meet those of a match in
-/// another folder beside it. What can't be read there counts as no match.
+/// Refuses the port of a match that is to be made in this folder, where its ports overlap those of
+/// a match in another folder beside it. What can't be read there counts as no match.
 pub(crate) fn check_ports<R>(rt: &R, folder: &str, port: u16) -> Result<(), Ending>
 where
     R: Files<File = File> + Eprint + AllocGlobal,
@@ -21,7 +21,7 @@ where
     Ok(())
 }
 
-/// Refuses a port that is not 256 apart from that of this match.
+/// Refuses a port that is less than 256 apart from that of this match.
 fn check_apart(rt: &impl Eprint, port: u16, other: &MatchBeside) -> Result<(), Ending> {
     if port.abs_diff(other.port) >= PORTS {
         return Ok(());

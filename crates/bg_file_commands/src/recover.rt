@@ -1,4 +1,4 @@
-//! The command that makes a referee's folder anew, of what others hold.
+//! The command that rebuilds a referee's folder from what others hold.
 
 use crate::held_records::{Held, saved_of, seat_of, transcript_of};
 use crate::new_folders::{
@@ -60,8 +60,9 @@ where
     make(rt, &file, options.folder, kept, &longest)
 }
 
-/// Makes the folder: a new secret of the dice, the first save with this record, the keys that are kept or new ones, and
-/// then the match file, so that where there is one the match is whole.
+/// Makes the folder: a new secret of the dice, the first save with this record, and the keys that
+/// are kept or new ones. The match file comes last, so that where there is one the match is
+/// complete.
 fn make<R>(
     rt: &R,
     file: &NamedMatch,
@@ -87,7 +88,8 @@ where
     Ok(Ending::Served)
 }
 
-/// Returns the keys that are kept, and leaves no secret of others in the folder; or new ones, with their secret.
+/// Returns the keys that are kept, and leaves no other secret in the folder. Without kept keys,
+/// returns new ones, with their secret.
 fn keys_for<R>(
     rt: &R,
     folder: &str,
@@ -109,7 +111,7 @@ where
     }
 }
 
-/// Puts the first save of the referee in the folder, with this record.
+/// Writes the referee's first save, with this record, to the folder.
 fn save_first<R>(rt: &R, folder: &str, log: &Record) -> Result<(), Ending>
 where
     R: Files<File = File> + Eprint + AllocGlobal,
@@ -127,7 +129,7 @@ where
     }
 }
 
-/// Says with what a new folder begins.
+/// Reports the entries that a new folder begins with.
 fn tell_made(rt: &impl Eprint, folder: &str, name: &str, entries: Number) {
     let (shown, name) = (Printable(folder), Printable(name));
     if entries == 0 {

@@ -9,7 +9,7 @@ use std::fs;
 use std::fs::File;
 use std::rt::Files;
 
-/// What is said behind the name of a file that is shown alone.
+/// The message behind the name of a file that is shown alone.
 const NO_FOLDER: &str = " is no folder: name the two files of a party, or a folder";
 
 /// Shows the saved files that the options name.
@@ -44,7 +44,8 @@ where
     Ok(Ending::Shown { loads })
 }
 
-/// Prints the transcript of what the two files of a party restore; where that is nothing, it says what they hold.
+/// Prints the transcript of what the two files of a party restore. Where that is nothing, it
+/// reports what they hold.
 fn print_transcript<R>(rt: &R, path0: &str, path1: &str) -> Result<Ending, Ending>
 where
     R: Files<File = File> + Print + Eprint + AllocGlobal,
@@ -63,7 +64,8 @@ where
     Ok(Ending::Shown { loads: false })
 }
 
-/// Shows the files of the parties in a folder, and those of a referee alone whose seats have theirs elsewhere.
+/// Shows the files of the parties in a folder. Shows the referee's alone where its seats have their
+/// own folders.
 fn show_folder<R>(rt: &R, folder: &str) -> Result<Ending, Ending>
 where
     R: Files<File = File> + Print + Eprint + AllocGlobal,
@@ -83,12 +85,12 @@ where
     Ok(Ending::Shown { loads })
 }
 
-/// Whether one of the two files of a party has a byte.
+/// Returns whether one of the two files of a party has a byte.
 fn has_bytes(slots: &SlotBytes) -> bool {
     !slots.zero.is_empty() || !slots.one.is_empty()
 }
 
-/// Whether a folder is that of a referee whose seats have folders of their own.
+/// Returns whether a folder is that of a referee whose seats have folders of their own.
 fn has_match<R>(rt: &R, folder: &str) -> Result<bool, Ending>
 where
     R: Files<File = File> + Eprint + AllocGlobal,
@@ -99,7 +101,7 @@ where
     }
 }
 
-/// The bytes of the two files of a party in a folder.
+/// Reads the bytes of the two files of a party in a folder.
 fn slots_of<R>(rt: &R, folder: &str, party: u8) -> Result<SlotBytes, Ending>
 where
     R: Files<File = File> + Eprint + AllocGlobal,
@@ -110,7 +112,7 @@ where
     })
 }
 
-/// The bytes of a file of a party in a folder.
+/// Reads the bytes of a party's file in a folder.
 fn slot_of<R>(rt: &R, folder: &str, party: u8, slot: Slot) -> Result<Vec<u8>, Ending>
 where
     R: Files<File = File> + Eprint + AllocGlobal,
@@ -122,7 +124,7 @@ where
     }
 }
 
-/// The bytes of a saved file.
+/// Reads the bytes of a saved file.
 fn bytes_of<R>(rt: &R, path: &str) -> Result<Vec<u8>, Ending>
 where
     R: Files<File = File> + Eprint + AllocGlobal,

@@ -1,6 +1,7 @@
-//! The commands that play, run or watch a whole match: in memory, over sockets and files, and those of the referee and
-//! of a watcher. Each prints what it comes to, says on the standard error what is wrong, and gives what it came to, as
-//! an error where it ended early. For a program, which ends with the status of that.
+//! The commands that play, run or watch a whole match: in memory, over sockets and files, and those
+//! of the referee and of a watcher. Each prints its result, reports errors on the standard error,
+//! and returns its ending, as an error where it ended early. For a program that exits with the
+//! status of that ending.
 //!
 //! ```
 //! // A match of no length is none.

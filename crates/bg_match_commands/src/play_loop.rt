@@ -50,7 +50,7 @@ where
     }
 }
 
-/// The match ended with a fault; writing failed for this reason, if it did.
+/// Reports that the match ended with a fault, and the reason if writing failed.
 fn loop_failed(rt: &impl Eprint, fault: LoopFault, reason: Option<&io::Error>) -> Ending {
     match (fault, reason) {
         (LoopFault::Write, Some(error)) => unwritten(rt, error),

@@ -57,7 +57,7 @@ where
     ended
 }
 
-/// What the match file of a folder says.
+/// Reads the match file of a folder.
 fn match_in<R>(rt: &R, folder: &str) -> Result<NamedMatch, Ending>
 where
     R: Files<File = File> + Eprint + AllocGlobal,
@@ -68,8 +68,8 @@ where
     }
 }
 
-/// The referee of the match in a folder, whose match file says this, and how it waits; its devices note their failures
-/// there.
+/// Begins the referee of the match in a folder, with this match file, and returns its ways to wait
+/// too. Its devices note their failures in `failures`.
 fn begin<'a, R>(
     rt: &'a R,
     folder: &str,
@@ -101,8 +101,8 @@ where
     Ok((process, waiting, ticking))
 }
 
-/// The keys of all parties: derived from the folder's secret, or those of its key files. Where it has neither, it is
-/// said how it gets some.
+/// Returns the keys of all parties: derived from the folder's secret, or those of its key files.
+/// Where it has neither, reports how to make some.
 fn keys_of<R>(rt: &R, folder: &str, file: &MatchFile) -> Result<Keyring, Ending>
 where
     R: Files<File = File> + Eprint + AllocGlobal,
@@ -123,7 +123,7 @@ where
     }
 }
 
-/// Rounds until the match is over.
+/// Runs rounds until the match is over.
 fn serve<R>(
     rt: &R,
     process: Referee<'_, R>,

@@ -10,7 +10,7 @@ use std::io;
 /// The number of the match that scripts play.
 const SCRIPTED_MATCH: u64 = 1;
 
-/// Plays the script on the standard input in a match that the options describe.
+/// Plays the script on the standard input, in a match that the options describe.
 pub fn run<R>(rt: &R, options: ScriptOptions) -> Result<Ending, Ending>
 where
     R: Input + Print + Eprint + AllocGlobal,

@@ -8,15 +8,15 @@ use bg_reports::Ending;
 use bg_world::{Event, Outcome};
 use std::time::Clock;
 
-/// After how many events of an automatic match the clock is looked at.
+/// Number of events of an automatic match between two looks at the clock.
 const BATCH: u32 = 1000;
 
-/// The operator, who is told on the standard error how far an automatic match is.
+/// The operator, who is told on the standard error how far an automatic match has got.
 #[derive(Drop)]
 struct Operator<'a, R> {
     rt: &'a R,
     progress: Progress,
-    /// How many events there are in all.
+    /// Number of all events.
     steps: u32,
 }
 
@@ -30,8 +30,8 @@ impl<'a, R: Clock + Eprint> Onlooker for Operator<'a, R> {
     }
 }
 
-/// Plays the automatic match that the options name, and prints what [`sim_text`](bg_auto::sim_text) gives of it. Says
-/// on the standard error how far it is.
+/// Plays the automatic match that the options name, and prints what [`sim_text`](bg_auto::sim_text)
+/// gives for it. Reports its progress on the standard error.
 pub fn run<R>(rt: &R, options: SimOptions, progress: Progress) -> Result<Ending, Ending>
 where
     R: Clock + Print + Eprint + AllocGlobal,

@@ -27,8 +27,8 @@ use std::rt::Files;
 use std::time::Clock;
 
 /// Watches the match that the options name, and keeps the files that were asked for. Draws its
-/// board on the terminal, if the standard output is one, and else prints its transcript.
-/// `is_watched` says whether the standard error is one.
+/// board on the terminal, if the standard output is one, and otherwise prints its transcript.
+/// `is_watched` says whether the standard error is a terminal.
 pub fn run<R>(
     rt: &R,
     options: WatchOptions<'_>,
@@ -65,7 +65,7 @@ where
     let (table, key) = (&file.table, &handed.key);
     let (party, process, waiting, ticking) = begin(rt, match_path, table, key, &failures)?;
     let drawn_on = terminal.filter(|terminal| terminal.is_drawn_on && !is_plain);
-    // What is said for a log would tear the board, where both are at one terminal.
+    // Log lines would tear the board, where both are at one terminal.
     let is_quiet = is_quiet || (is_watched && drawn_on.is_some());
     let mut logbook = Logbook::begin(rt, is_quiet, party, &file, process.held());
     let says_too = !is_watched;
@@ -77,7 +77,7 @@ where
         None => Showing::Lines(Lines {
             rt,
             telling: Telling::new(),
-            // No file is a device of a watcher, so there is no folder to name.
+            // A watcher has no file as a device, and so no folder to name.
             witness: Witness::new(rt, &failures, ""),
             table: file.table,
             is_quiet,
@@ -120,7 +120,7 @@ fn check_outputs(
 
 type Watcher<'a, R> = WatcherProcess<PartySocket<'a, R>>;
 
-/// The folder that a file of this name lies in.
+/// Returns the folder of the file with this path.
 fn folder_of(path: &str) -> &str {
     match path.rsplit_once('/') {
         Some(("", _)) => "/",
@@ -129,15 +129,16 @@ fn folder_of(path: &str) -> &str {
     }
 }
 
-/// Whether the ports of one of these matches begin at that of a party of the match that has this port.
+/// Returns whether the ports of one of these matches begin at that of a party of the match that has
+/// this port.
 fn begins_at(beside: &[MatchBeside], port: u16, party: u8) -> bool {
     let own = u32::from(port) + u32::from(party);
     beside.iter().any(|other| u32::from(other.port) == own)
 }
 
-/// A watcher of this match, whose key file has this path and this key, under the first number whose port is free, and not
-/// that of another referee, as far as the folders beside that of the key file tell; its socket notes its failures there.
-/// With his number.
+/// Begins a watcher of this match, and returns its number too. `path` and `key` are those of its
+/// key file. The number is the first whose port is free, and isn't another referee's as far as the
+/// folders beside that of the key file show. Its socket notes its failures in `failures`.
 fn begin<'a, R>(
     rt: &'a R,
     path: &str,
@@ -205,7 +206,7 @@ where
         let word = hearing.after_round(rt, process.link(), tick);
         let is_heard = process.link().heard() > 0;
         showing.tell_word(word, is_heard);
-        // Who is at a terminal is told sooner whether the referee is heard.
+        // A watcher at a terminal is told sooner whether the referee is heard.
         logbook.after_round(process.link(), Some(process.held()), tick && !is_watched);
         let news = showing.go_on(process.held(), word, is_heard)?;
         published.after_round(rt, process.held(), news, tick, is_heard)?;

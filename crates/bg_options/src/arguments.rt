@@ -1,24 +1,25 @@
-//! The arguments of commands as data, and the command line that is made of them.
+//! The arguments of commands as data, and the command line built from them.
 
 use clap::{Arg, ArgAction, Command, Error, value_parser};
 use std::alloc::Global;
 
-/// What an argument is, and what it takes.
+/// The kind of an argument, and its value.
 #[derive(Clone, Copy)]
 pub(crate) enum Kind {
     /// An option without a value.
     Flag,
-    /// An option whose value is any text, which help calls so.
+    /// An option whose value is any text. Help shows the value under this name.
     Text(&'static str),
-    /// An option whose value is a number from the one to the other, which help calls so.
+    /// An option whose value is a number between two limits, both included. Help shows the value
+    /// under this name.
     Number(&'static str, u32, u32),
     /// An option whose value is a number of 64 bits.
     LongNumber(&'static str),
-    /// An option whose value is one of these, which help calls so.
+    /// An option whose value is one of these texts. Help shows the value under this name.
     OneOf(&'static str, &'static [&'static str]),
     /// A file that is named without an option.
     File,
-    /// All words that are left, from none on.
+    /// All remaining words, which may be none.
     Words,
 }
 
@@ -34,22 +35,23 @@ pub(crate) enum Need {
 /// An argument of a command.
 #[derive(Clone, Copy)]
 pub(crate) struct Argument {
-    /// Its name, which an option has behind `--`.
+    /// The argument's name, which an option has behind `--`.
     pub(crate) name: &'static str,
     pub(crate) kind: Kind,
     pub(crate) need: Need,
-    /// What help says of it.
+    /// The help on the argument.
     pub(crate) about: &'static str,
 }
 
-/// An option whose value is a text. All others are made of it, and numbers are read as of one type, since the check
-/// takes long for each type and each call of the library that it meets for the first time.
+/// Returns an option whose value is a text. All others are built from it, and numbers are read as
+/// one type. The check takes long for each type and each call of the library that it meets for the
+/// first time.
 fn text_option<'a>(alloc: Global, name: &'a str, value_name: &'a str) -> Arg<'a> {
     Arg::new(alloc, name).long(name).value_name(value_name)
 }
 
 impl Argument {
-    /// Returns it as the parser of the command line has it, without its help.
+    /// Returns the argument as the parser of the command line takes it, without its help.
     fn unsaid<'a>(self, alloc: Global) -> Arg<'a> {
         match self.kind {
             Kind::Flag => Arg::new(alloc, self.name)
@@ -70,7 +72,7 @@ impl Argument {
         }
     }
 
-    /// Returns it as the parser of the command line has it.
+    /// Returns the argument as the parser of the command line takes it.
     pub(crate) fn described<'a>(self, alloc: Global) -> Arg<'a> {
         let argument = self.unsaid(alloc).help(self.about);
         match self.need {
@@ -81,7 +83,7 @@ impl Argument {
     }
 }
 
-/// A command with its help, and no arguments yet.
+/// Returns a command with its help, and no arguments yet.
 pub(crate) fn described<'a>(
     alloc: Global,
     name: &'a str,
@@ -93,13 +95,13 @@ pub(crate) fn described<'a>(
         .long_about(long_about)
 }
 
-/// The command with one argument more.
+/// Returns the command with one more argument.
 pub(crate) fn with<'a>(command: Command<'a>, argument: Arg<'a>) -> Result<Command<'a>, Error> {
     Ok(command.arg(argument)?)
 }
 
-/// The command with these arguments more. What a call of the library promises grows with each call in one function, and
-/// so does what the check takes; so a loop adds them.
+/// Returns the command with these further arguments, which a loop adds. The promises of the
+/// library's calls grow with each call in one function, and so does the time of the check.
 pub(crate) fn with_all<'a>(
     alloc: Global,
     mut command: Command<'a>,

@@ -1,4 +1,4 @@
-//! The options and help of each command, in a file of its own.
+//! The options and help of each command, each in a file of its own.
 
 pub(crate) mod act;
 pub(crate) mod auto;

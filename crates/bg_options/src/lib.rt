@@ -1,5 +1,5 @@
-//! The command line of the program: its commands, the options of each with their help, and what arguments ask for. For
-//! a program, which does it.
+//! The command line of the program: its commands, their options with help, and the requests that
+//! arguments make. For a program that carries them out.
 //!
 //! ```
 //! // The command line has the command that its first argument names, and its help all of them.

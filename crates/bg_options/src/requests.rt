@@ -1,4 +1,4 @@
-//! What the arguments ask for.
+//! The request that arguments make.
 
 use crate::commands::act::ActOptions;
 use crate::commands::check::CheckOptions;
@@ -22,7 +22,7 @@ use clap::ArgMatches;
 use std::fmt;
 use std::fmt::{Display, Formatter, Write};
 
-/// A command with its options, which are parts of the arguments and of what was parsed of them.
+/// A command with its options, which borrow from the arguments and from the result of parsing them.
 #[derive(Clone, Copy)]
 pub enum Request<'m, 'a> {
     Judge,
@@ -46,14 +46,15 @@ pub enum Request<'m, 'a> {
     Watch(WatchOptions<'a>),
 }
 
-/// Why options ask for nothing.
+/// The reason why options make no request.
 #[derive(Clone, Copy, Debug, PartialEq, Eq)]
 pub enum RequestFault {
-    /// A file is named to a command that reads the standard input. With the command, and the options that it needs.
+    /// A file is named to a command that reads the standard input. Holds the command with the
+    /// options that it needs.
     MisplacedFile(&'static str),
-    /// A name that a player is given is none. With the option, and why.
+    /// A player's name is not valid. Holds the option and the reason.
     Name(&'static str, NameFault),
-    /// An option is missing, which the parser of the command line lets none be that is needed.
+    /// An option is missing. The parser of the command line lets no needed option be missing.
     Missing,
 }
 
@@ -71,11 +72,12 @@ impl Display for RequestFault {
 }
 
 impl<'m, 'a> Request<'m, 'a> {
-    /// Returns what the parsed arguments ask for.
+    /// Reads the request from parsed arguments.
     ///
     /// # Errors
-    /// `MisplacedFile` where a file is named to a command that reads the standard input, `Name` where a name that a
-    /// player is given is none, and `Missing` where there is no command, or it lacks an option.
+    /// `MisplacedFile` where a file is named to a command that reads the standard input. `Name`
+    /// where a player's name is not valid. `Missing` where there is no command, or it lacks an
+    /// option.
     pub fn read(matches: &'m ArgMatches<'a>) -> Result<Request<'m, 'a>, RequestFault> {
         let (name, options) = matches.subcommand().ok_or(RequestFault::Missing)?;
         let task = Task::named(name).ok_or(RequestFault::Missing)?;
@@ -89,7 +91,7 @@ impl<'m, 'a> Request<'m, 'a> {
     }
 }
 
-/// What a task with these options is.
+/// Returns the request for a task with these options.
 fn of_task<'m, 'a>(task: Task, options: &'m ArgMatches<'a>) -> Option<Request<'m, 'a>> {
     Some(match task {
         Task::Judge => Request::Judge,

@@ -1,4 +1,4 @@
-//! The options that several commands have, and what they say.
+//! The options that several commands have, and their values.
 
 use crate::arguments::{Argument, Kind, Need};
 use bg_board::Player;
@@ -8,14 +8,14 @@ use bg_wire::{FIRST_WATCHER, LAST_WATCHER};
 use clap::{Arg, ArgMatches};
 use std::alloc::Global;
 
-/// The most watchers that a match has.
+/// Number of watchers of a match, at most.
 const MOST_WATCHERS: u8 = LAST_WATCHER - FIRST_WATCHER + 1;
 
-/// A file that is named to a command which reads the standard input. It is an argument that help leaves out, so that
-/// the answer can say how to hand the file in.
+/// The argument for a file that is named to a command that reads the standard input. Help leaves it
+/// out; it is there so that the message can say how to pass the file.
 const MISPLACED_FILE: &str = "FILE";
 
-/// How a match between processes begins, for the help of each of its commands.
+/// The start of a match between processes, for the help on each of its commands.
 pub(crate) const THREE_TERMINALS: &str =
     "A match of length 3 between two people, in three terminals of one machine:
 
@@ -27,12 +27,12 @@ pub(crate) const THREE_TERMINALS: &str =
 The first two go into one terminal. Anybody who has table/match-watch may watch:
 bg_relay watch --match table/match-watch. Each process may be ended and started again at any moment.";
 
-/// The number that an option says, if it is there.
+/// Returns the number that an option gives, if it is there.
 pub(crate) fn number_in(options: &ArgMatches<'_>, name: &str) -> Option<u32> {
     u32::try_from(seed_in(options, name)?).ok()
 }
 
-/// The same of an option whose number is at most 255.
+/// Returns the number that an option gives, if it is there and at most 255.
 pub(crate) fn byte_in(options: &ArgMatches<'_>, name: &str) -> Option<u8> {
     u8::try_from(number_in(options, name)?).ok()
 }
@@ -41,7 +41,7 @@ pub(crate) fn misplaced_file<'a>(alloc: Global) -> Arg<'a> {
     Arg::new(alloc, MISPLACED_FILE).hide(true)
 }
 
-/// Whether a file is named to a command which reads the standard input.
+/// Returns whether a file is named to a command that reads the standard input.
 pub(crate) fn has_misplaced_file(options: &ArgMatches<'_>) -> bool {
     options.contains_id(MISPLACED_FILE)
 }
@@ -53,7 +53,7 @@ pub(crate) const SEED: Argument = Argument {
     about: "What the random words go by, and the number of the match: 0 to 18446744073709551615",
 };
 
-/// The number of 64 bits that an option says, if it is there.
+/// Returns the number of 64 bits that an option gives, if it is there.
 pub(crate) fn seed_in(options: &ArgMatches<'_>, name: &str) -> Option<u64> {
     options.get_one(name)
 }
@@ -72,7 +72,7 @@ pub(crate) const RULES: Argument = Argument {
     about: "The rules: 1, or 2, by which the referee passes a turn that has no step",
 };
 
-/// The rules that the options name.
+/// Returns the rules that the options name.
 pub(crate) fn rules_in(options: &ArgMatches<'_>) -> Option<Rules> {
     match number_in(options, "rules")? {
         1 => Some(Rules::One),
@@ -95,7 +95,7 @@ pub(crate) const PLAYER: Argument = Argument {
     about: "The player: X or O",
 };
 
-/// The player that the options name.
+/// Returns the player that the options name.
 pub(crate) fn player_in(options: &ArgMatches<'_>) -> Option<Player> {
     match options.get_str("player")? {
         "X" => Some(Player::X),
@@ -111,7 +111,7 @@ pub(crate) const NUMBERING: Argument = Argument {
     about: "In whose numbers the points are: those of the player who moves, or always those of X",
 };
 
-/// In whose numbers the points are, by the options.
+/// Returns the numbering of the points that the options name.
 pub(crate) fn numbering_in(options: &ArgMatches<'_>) -> Numbering {
     match options.get_str("numbering") {
         Some("X") => Numbering::X,
@@ -126,7 +126,7 @@ pub(crate) const TITLE: Argument = Argument {
     about: "The title of the page; without it the names of both players, or else \"Backgammon match\"",
 };
 
-/// The title of a page, by the options, where one is given.
+/// Returns the title of a page, if the options give one.
 pub(crate) fn title_in<'a>(options: &ArgMatches<'a>) -> Option<&'a str> {
     options.get_str("title")
 }
@@ -138,7 +138,7 @@ pub(crate) const MATCH: Argument = Argument {
     about: "The key file that `new` made for the player, or for who watches",
 };
 
-/// The option to say nothing for a log.
+/// The option to log only errors.
 pub(crate) const QUIET_LOG: Argument = Argument {
     name: "quiet",
     kind: Kind::Flag,

@@ -1,4 +1,4 @@
-//! What the program can be asked to do.
+//! The tasks of the program.
 
 use crate::commands::{
     act, auto, check, export, import, judge, keys, list, new_match, page, picture, play, play_loop,
@@ -10,7 +10,7 @@ use std::alloc::Global;
 /// The version that `--version` prints.
 const VERSION: &str = "0.1.0";
 
-/// What a command of the program does.
+/// The task of a command of the program.
 #[derive(Clone, Copy, Debug, PartialEq, Eq)]
 pub enum Task {
     Judge,
@@ -58,7 +58,7 @@ pub const TASKS: [(&str, Task); 19] = [
 ];
 
 impl Task {
-    /// Returns the task of the command of this name, if there is one.
+    /// Returns the task of the command with this name, if there is one.
     pub fn named(name: &str) -> Option<Task> {
         for (other, task) in TASKS {
             if other == name {
@@ -68,7 +68,7 @@ impl Task {
         None
     }
 
-    /// Returns, where it reads the standard input alone, its command with the options that it needs.
+    /// Returns the command with the options that it needs, if it reads the standard input alone.
     pub(crate) fn reading(self) -> Option<&'static str> {
         match self {
             Task::Judge => Some("judge"),
@@ -81,7 +81,7 @@ impl Task {
         }
     }
 
-    /// Returns its options and help.
+    /// Returns the command with its options and help.
     fn command<'a>(self, alloc: Global) -> Result<Command<'a>, Error> {
         match self {
             Task::Judge => judge::command(alloc),
@@ -107,12 +107,12 @@ impl Task {
     }
 }
 
-/// Returns the command line of the program, with its help. Where the first argument names a command it
-/// has that one alone, as nothing is said of the others then, and making all of them takes longer than
-/// what most of them do.
+/// Returns the command line of the program, with its help. Where the first argument names a
+/// command, it has that command alone. The others don't matter then, and building all of them takes
+/// longer than most commands run.
 ///
 /// # Errors
-/// Fails where memory is refused.
+/// An error where there is no memory.
 pub fn command_line<'a>(alloc: Global, first: Option<&str>) -> Result<Command<'a>, Error> {
     let mut program = Command::new(alloc, "bg_relay")
         .about("A backgammon match relay, proved")

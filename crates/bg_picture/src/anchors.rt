@@ -1,4 +1,4 @@
-//! The names of a page's items, which can stand in its address.
+//! The names of a page's items, which its address can hold.
 ghost use Rattle.std.specs.Prelude.{◌≡◌, ◌++◌, OnOk};
 ghost use Rattle.std.specs.Fmt.{decimal};
 ghost use Rattle.bg_picture.specs.Items.{anchor_text, item_start};
@@ -7,14 +7,14 @@ use bg_match::Number;
 use bg_text::{put_number, put_text};
 use std::alloc::AllocError;
 
-/// Which item it is.
+/// The item that a name stands for.
 #[derive(Clone, Copy)]
 pub(crate) enum Anchor {
-    /// The start of the game of this number.
+    /// The start of the game with this number.
     Start(u8),
-    /// The entry of this number.
+    /// The entry with this number.
     Entry(Number),
-    /// The result of the game of this number.
+    /// The result of the game with this number.
     Result(u8),
 }
 
@@ -30,7 +30,7 @@ pub(crate) fn begin_item(out: &mut Vec<u8>, anchor: Anchor) -> Result<(), AllocE
     put_text(out, "'>")
 }
 
-/// Adds the name of an item.
+/// Appends the name of an item.
 #[tactic(auto, unfolding(crate::specs::Items::anchor_text))]
 fn put_anchor(out: &mut Vec<u8>, anchor: Anchor) -> Result<(), AllocError>
     ensures { OnOk result (out.new.items ≡ out.old.items ++ anchor_text anchor) }
@@ -42,7 +42,7 @@ fn put_anchor(out: &mut Vec<u8>, anchor: Anchor) -> Result<(), AllocError>
     }
 }
 
-/// Adds a word with a number.
+/// Appends a word and a number.
 fn put_name(out: &mut Vec<u8>, word: &str, number: u64) -> Result<(), AllocError>
     ensures { OnOk result (out.new.items ≡ out.old.items ++ word.now ++ decimal number) }
 {

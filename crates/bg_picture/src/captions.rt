@@ -1,4 +1,4 @@
-//! What is said below a picture, and of the end of a game.
+//! The words below a picture, and those for the end of a game.
 ghost use Rattle.std.specs.Prelude.{◌≡◌, ◌++◌, OnOk};
 ghost use Rattle.bg_picture.specs.Captions.{caption_words, level_words as words_of_level, match_words};
 ghost use Rattle.bg_picture.specs.Captions.{over_words, result_words, way_words, win_words, worth_words};
@@ -10,16 +10,16 @@ use bg_match::{Level, Phase, Standing};
 use bg_text::{letter, put_number, put_text};
 use std::alloc::AllocError;
 
-/// What is said below a picture.
+/// The subject of the words below a picture.
 #[derive(Clone, Copy)]
 pub(crate) enum Caption {
-    /// What is to happen next.
+    /// The next event of the match.
     Next,
-    /// How the game was won.
+    /// The way in which the game was won.
     Won(Win),
 }
 
-/// Adds what is said below the picture of a standing.
+/// Appends the words below the picture of a standing.
 #[tactic(auto, unfolding(crate::specs::Captions::caption_words))]
 pub(crate) fn put_caption(
     out: &mut Vec<u8>,
@@ -34,7 +34,7 @@ pub(crate) fn put_caption(
     }
 }
 
-/// Adds the result of a game, behind which the match stands so.
+/// Appends the result of a game, after which the match has this standing.
 #[tactic(auto, unfolding(crate::specs::Captions::result_words))]
 pub(crate) fn put_result(out: &mut Vec<u8>, win: Win, standing: &Standing) -> Result<(), AllocError>
     ensures { OnOk result (out.new.items ≡ out.old.items ++ result_words win standing.now) }
@@ -45,7 +45,7 @@ pub(crate) fn put_result(out: &mut Vec<u8>, win: Win, standing: &Standing) -> Re
     put_over(out, standing.phase())
 }
 
-/// Adds who won a game, and how.
+/// Appends who won a game, and how.
 #[tactic(auto, unfolding(crate::specs::Captions::win_words))]
 fn put_win(out: &mut Vec<u8>, win: Win) -> Result<(), AllocError>
     ensures { OnOk result (out.new.items ≡ out.old.items ++ win_words win) }
@@ -55,7 +55,7 @@ fn put_win(out: &mut Vec<u8>, win: Win) -> Result<(), AllocError>
     put_way(out, win.way)
 }
 
-/// Adds how a game was won.
+/// Appends how a game was won.
 #[tactic(auto, unfolding(crate::specs::Captions::way_words))]
 fn put_way(out: &mut Vec<u8>, way: Way) -> Result<(), AllocError>
     ensures { OnOk result (out.new.items ≡ out.old.items ++ way_words way) }
@@ -70,7 +70,7 @@ fn put_way(out: &mut Vec<u8>, way: Way) -> Result<(), AllocError>
     }
 }
 
-/// The words for the level of a win.
+/// Returns the words for the level of a win.
 fn level_words(level: Level) -> &'static str
     ensures { result.now ≡ words_of_level level }
 {
@@ -81,7 +81,7 @@ fn level_words(level: Level) -> &'static str
     }
 }
 
-/// Adds how many points a game counts.
+/// Appends the number of points that a game counts.
 #[tactic(auto, unfolding(crate::specs::Captions::worth_words))]
 fn put_worth(out: &mut Vec<u8>, points: u16) -> Result<(), AllocError>
     ensures { OnOk result (out.new.items ≡ out.old.items ++ worth_words points) }
@@ -94,7 +94,7 @@ fn put_worth(out: &mut Vec<u8>, points: u16) -> Result<(), AllocError>
     put_text(out, " points")
 }
 
-/// Adds the winner of the match, where it is over.
+/// Appends the winner of the match, if it is over.
 #[tactic(auto, unfolding(crate::specs::Captions::over_words))]
 fn put_over(out: &mut Vec<u8>, phase: Phase) -> Result<(), AllocError>
     ensures { OnOk result (out.new.items ≡ out.old.items ++ over_words phase) }
@@ -105,7 +105,7 @@ fn put_over(out: &mut Vec<u8>, phase: Phase) -> Result<(), AllocError>
     }
 }
 
-/// Adds who won the match.
+/// Appends the winner of the match.
 #[tactic(auto, unfolding(crate::specs::Captions::match_words))]
 fn put_match_winner(out: &mut Vec<u8>, player: Player) -> Result<(), AllocError>
     ensures { OnOk result (out.new.items ≡ out.old.items ++ match_words player) }

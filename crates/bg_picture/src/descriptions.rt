@@ -1,4 +1,4 @@
-//! What a picture shows, in words.
+//! The contents of a picture, in words.
 ghost use Rattle.std.specs.Prelude.{◌≡◌, ◌++◌, OnOk, IsTrue};
 ghost use Rattle.std.specs.List.{list_all};
 ghost use Rattle.bg_text.specs.Boards.BoardText.{is_point};
@@ -13,12 +13,12 @@ use bg_match::{Cube, Standing};
 use bg_text::{letter, put_number, put_phase, put_terms, put_text};
 use std::alloc::AllocError;
 
-/// The points of the board from a player's greatest on.
+/// A player's points, from the highest down.
 const POINTS_DOWN: [u8; 24] = [
     24, 23, 22, 21, 20, 19, 18, 17, 16, 15, 14, 13, 12, 11, 10, 9, 8, 7, 6, 5, 4, 3, 2, 1,
 ];
 
-/// Adds what is to happen next.
+/// Appends what happens next.
 #[tactic(auto, unfolding(crate::specs::Descriptions::phase_words))]
 pub(crate) fn put_phase_words(out: &mut Vec<u8>, standing: &Standing) -> Result<(), AllocError>
     ensures { OnOk result (out.new.items ≡ out.old.items ++ phase_words standing.now) }
@@ -26,7 +26,7 @@ pub(crate) fn put_phase_words(out: &mut Vec<u8>, standing: &Standing) -> Result<
     put_phase(out, standing)
 }
 
-/// Adds the description.
+/// Appends the description of a standing.
 #[tactic(auto, unfolding(crate::specs::Descriptions::description))]
 pub(crate) fn put_description(
     out: &mut Vec<u8>,
@@ -42,7 +42,7 @@ pub(crate) fn put_description(
     put_reader(out, reader)
 }
 
-/// Adds the game, the score and the cube.
+/// Appends the game, the score and the cube.
 #[tactic(auto, unfolding(crate::specs::Descriptions::terms_words))]
 pub(crate) fn put_standing(out: &mut Vec<u8>, standing: &Standing) -> Result<(), AllocError>
     ensures { OnOk result (out.new.items ≡ out.old.items ++ terms_words standing.now) }
@@ -52,7 +52,7 @@ pub(crate) fn put_standing(out: &mut Vec<u8>, standing: &Standing) -> Result<(),
     put_cube_words(out, standing.cube())
 }
 
-/// Adds the length of the match and the game.
+/// Appends the length of the match and the game.
 #[tactic(auto, unfolding(crate::specs::Descriptions::game_words))]
 pub(crate) fn put_game(out: &mut Vec<u8>, standing: &Standing) -> Result<(), AllocError>
     ensures { OnOk result (out.new.items ≡ out.old.items ++ game_words standing.now) }
@@ -63,14 +63,14 @@ pub(crate) fn put_game(out: &mut Vec<u8>, standing: &Standing) -> Result<(), All
     put_text(out, crawford_words(standing.crawford()))
 }
 
-/// What is said of a Crawford game.
+/// Returns the words for a Crawford game, which are empty for other games.
 pub(crate) fn crawford_words(crawford: bool) -> &'static str
     ensures { result.now ≡ crawford_mark crawford }
 {
     if crawford { ", Crawford" } else { "" }
 }
 
-/// Adds the score.
+/// Appends the score.
 #[tactic(auto, unfolding(crate::specs::Descriptions::score_words))]
 pub(crate) fn put_score(out: &mut Vec<u8>, standing: &Standing) -> Result<(), AllocError>
     ensures { OnOk result (out.new.items ≡ out.old.items ++ score_words standing.now) }
@@ -82,7 +82,7 @@ pub(crate) fn put_score(out: &mut Vec<u8>, standing: &Standing) -> Result<(), Al
     put_number(out, o.into())
 }
 
-/// Adds the cube.
+/// Appends the cube.
 #[tactic(auto, unfolding(crate::specs::Descriptions::cube_words))]
 fn put_cube_words(out: &mut Vec<u8>, cube: Cube) -> Result<(), AllocError>
     ensures { OnOk result (out.new.items ≡ out.old.items ++ cube_words cube) }
@@ -92,7 +92,7 @@ fn put_cube_words(out: &mut Vec<u8>, cube: Cube) -> Result<(), AllocError>
     put_text(out, owner(cube.owner))
 }
 
-/// Where the cube is.
+/// Returns the words for the place of the cube.
 fn owner(owner: Option<Player>) -> &'static str
     ensures { result.now ≡ owner_words owner }
 {
@@ -103,7 +103,7 @@ fn owner(owner: Option<Player>) -> &'static str
     }
 }
 
-/// Adds all checkers of a player.
+/// Appends all checkers of a player.
 #[tactic(auto, unfolding(crate::specs::Descriptions::checkers_words))]
 fn put_checkers_words(
     out: &mut Vec<u8>,
@@ -120,7 +120,7 @@ fn put_checkers_words(
     put_points(out, board, player, reader, &POINTS_DOWN)
 }
 
-/// Adds a player's checkers on the bar.
+/// Appends a player's checkers on the bar.
 #[tactic(auto, unfolding(crate::specs::Descriptions::bar_words))]
 fn put_bar(out: &mut Vec<u8>, board: &Board, player: Player) -> Result<(), AllocError>
     ensures { OnOk result (out.new.items ≡ out.old.items ++ bar_words board.now player) }
@@ -131,7 +131,7 @@ fn put_bar(out: &mut Vec<u8>, board: &Board, player: Player) -> Result<(), Alloc
     Ok(())
 }
 
-/// Adds a player's checkers that are off.
+/// Appends a player's checkers that are borne off.
 #[tactic(auto, unfolding(crate::specs::Descriptions::off_words))]
 fn put_off(out: &mut Vec<u8>, board: &Board, player: Player) -> Result<(), AllocError>
     ensures { OnOk result (out.new.items ≡ out.old.items ++ off_words board.now player) }
@@ -140,7 +140,7 @@ fn put_off(out: &mut Vec<u8>, board: &Board, player: Player) -> Result<(), Alloc
     put_text(out, " off")
 }
 
-/// Adds a player's checkers on some of his points.
+/// Appends a player's checkers on some of their points.
 #[tactic(auto, unfolding(crate::specs::Descriptions::points_words))]
 fn put_points(
     out: &mut Vec<u8>,
@@ -158,7 +158,7 @@ fn put_points(
     Ok(())
 }
 
-/// Adds a player's checkers on one of his points, where he has some.
+/// Appends a player's checkers on one of their points, if there are any.
 #[tactic(auto, unfolding(crate::specs::Descriptions::point_words))]
 fn put_point(
     out: &mut Vec<u8>,
@@ -180,7 +180,7 @@ fn put_point(
     Ok(())
 }
 
-/// A player's point in the numbers of a reader.
+/// Returns the number of a player's point in the numbering of a reader.
 fn number_for(player: Player, reader: Player, point: u8) -> u8
     requires { IsTrue (is_point point) }
     ensures { result ≡ number_of player reader point }
@@ -188,7 +188,7 @@ fn number_for(player: Player, reader: Player, point: u8) -> u8
     if player == reader { point } else { BAR - point }
 }
 
-/// Adds in whose numbers the points are named.
+/// Appends whose numbering names the points.
 #[tactic(auto, unfolding(crate::specs::Descriptions::reader_words))]
 fn put_reader(out: &mut Vec<u8>, reader: Player) -> Result<(), AllocError>
     ensures { OnOk result (out.new.items ≡ out.old.items ++ reader_words reader) }

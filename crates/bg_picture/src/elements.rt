@@ -7,7 +7,7 @@ ghost use Rattle.bg_picture.specs.Elements.Element.{Shape, Words};
 use bg_text::{put_number, put_text};
 use std::alloc::AllocError;
 
-/// Adds a shape at a place.
+/// Appends a shape at a place.
 #[tactic(auto, unfolding(crate::specs::Elements::element_text))]
 pub(crate) fn put_shape(out: &mut Vec<u8>, name: &str, x: u16, y: u16) -> Result<(), AllocError>
     ensures { OnOk result (out.new.items ≡ out.old.items ++ element_text (Shape name.now x y)) }
@@ -20,7 +20,7 @@ pub(crate) fn put_shape(out: &mut Vec<u8>, name: &str, x: u16, y: u16) -> Result
     Ok(())
 }
 
-/// Adds words at a place.
+/// Appends words at a place.
 #[tactic(auto, unfolding(crate::specs::Elements::element_text))]
 pub(crate) fn put_words(out: &mut Vec<u8>, x: u16, y: u16, words: &str) -> Result<(), AllocError>
     ensures { OnOk result (out.new.items ≡ out.old.items ++ element_text (Words x y words.now)) }
@@ -30,7 +30,7 @@ pub(crate) fn put_words(out: &mut Vec<u8>, x: u16, y: u16, words: &str) -> Resul
     end_words(out)
 }
 
-/// Adds a number at a place.
+/// Appends a number at a place.
 #[tactic(auto, unfolding(crate::specs::Elements::element_text))]
 pub(crate) fn put_count(out: &mut Vec<u8>, x: u16, y: u16, count: u16) -> Result<(), AllocError>
     ensures { OnOk result (out.new.items ≡ out.old.items ++ element_text (Words x y (decimal count))) }
@@ -40,7 +40,7 @@ pub(crate) fn put_count(out: &mut Vec<u8>, x: u16, y: u16, count: u16) -> Result
     end_words(out)
 }
 
-/// Adds what stands before words at a place.
+/// Appends what stands before words at a place.
 #[tactic(auto, unfolding(crate::specs::Elements::words_start))]
 pub(crate) fn begin_words(out: &mut Vec<u8>, x: u16, y: u16) -> Result<(), AllocError>
     ensures { OnOk result (out.new.items ≡ out.old.items ++ words_start x y) }
@@ -50,7 +50,7 @@ pub(crate) fn begin_words(out: &mut Vec<u8>, x: u16, y: u16) -> Result<(), Alloc
     put_text(out, ">")
 }
 
-/// Adds what stands behind words.
+/// Appends what stands behind words.
 #[tactic(auto, unfolding(crate::specs::Elements::words_end))]
 pub(crate) fn end_words(out: &mut Vec<u8>) -> Result<(), AllocError>
     ensures { OnOk result (out.new.items ≡ out.old.items ++ words_end) }
@@ -58,7 +58,7 @@ pub(crate) fn end_words(out: &mut Vec<u8>) -> Result<(), AllocError>
     put_text(out, "</text>")
 }
 
-/// Adds the attributes of a place.
+/// Appends the attributes of a place.
 #[tactic(auto, unfolding(crate::specs::Elements::place_text))]
 fn put_place(out: &mut Vec<u8>, x: u16, y: u16) -> Result<(), AllocError>
     ensures { OnOk result (out.new.items ≡ out.old.items ++ place_text x y) }
@@ -70,7 +70,7 @@ fn put_place(out: &mut Vec<u8>, x: u16, y: u16) -> Result<(), AllocError>
     put_text(out, "'")
 }
 
-/// Begins what is drawn in a class of the style.
+/// Begins a group of a class of the style.
 #[tactic(auto, unfolding(crate::specs::Elements::group_start))]
 pub(crate) fn begin_group(out: &mut Vec<u8>, class: &str) -> Result<(), AllocError>
     ensures { OnOk result (out.new.items ≡ out.old.items ++ group_start class.now) }
@@ -80,7 +80,7 @@ pub(crate) fn begin_group(out: &mut Vec<u8>, class: &str) -> Result<(), AllocErr
     put_text(out, "'>")
 }
 
-/// Ends what is drawn in a class.
+/// Ends a group.
 #[tactic(auto, unfolding(crate::specs::Elements::group_end))]
 pub(crate) fn end_group(out: &mut Vec<u8>) -> Result<(), AllocError>
     ensures { OnOk result (out.new.items ≡ out.old.items ++ group_end) }

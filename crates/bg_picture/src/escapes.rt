@@ -1,11 +1,12 @@
-//! Text from outside in a page.
+//! Escaping foreign text in a page.
 ghost use Rattle.std.specs.Prelude.{◌≡◌, ◌++◌, OnOk};
 ghost use Rattle.bg_picture.specs.Escapes.{escaped, escaped_byte};
 
 use bg_text::put_text;
 use std::alloc::AllocError;
 
-/// Adds a text from outside, so that no mark-up is read in it. A control character becomes a space.
+/// Appends a foreign text, escaped so that none of it is read as mark-up. A control character
+/// becomes a space.
 #[tactic(auto, unfolding(crate::specs::Escapes::escaped))]
 pub(crate) fn put_escaped(out: &mut Vec<u8>, text: &str) -> Result<(), AllocError>
     ensures { OnOk result (out.new.items ≡ out.old.items ++ escaped text.now) }
@@ -16,7 +17,7 @@ pub(crate) fn put_escaped(out: &mut Vec<u8>, text: &str) -> Result<(), AllocErro
     Ok(())
 }
 
-/// Adds a byte of such a text.
+/// Appends a byte of such a text.
 #[tactic(auto, unfolding(crate::specs::Escapes::escaped_byte))]
 fn put_byte(out: &mut Vec<u8>, byte: u8) -> Result<(), AllocError>
     ensures { OnOk result (out.new.items ≡ out.old.items ++ escaped_byte byte) }

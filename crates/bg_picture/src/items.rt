@@ -15,8 +15,8 @@ use bg_match::{Entry, Number, Phase, Standing};
 use bg_text::{entry_text, put_number, put_text};
 use std::alloc::AllocError;
 
-/// Adds the items of an entry that follows, and gives the standing after it: where it ends a game, the result of that
-/// and the start of the next game have items of their own behind it.
+/// Appends the items of an entry that follows, and returns the standing after it. Where the entry
+/// ends a game, the game's result and the start of the next game follow as items of their own.
 pub(crate) fn put_entry(
     out: &mut Vec<u8>,
     numbering: Numbering,
@@ -57,7 +57,7 @@ fn begin_entry(
     put_text(out, entry_text(seat, entry).as_str())
 }
 
-/// Adds the item of the result of a game, with the picture of its end.
+/// Appends the item of a game's result, with the picture of the game's end.
 #[tactic(auto, unfolding(crate::specs::Items::result_item))]
 fn put_result_item(out: &mut Vec<u8>, numbering: Numbering, end: &End) -> Result<(), AllocError>
     ensures { OnOk result (out.new.items ≡ out.old.items ++ result_item numbering end.now.win end.now.standing) }
@@ -67,7 +67,8 @@ fn put_result_item(out: &mut Vec<u8>, numbering: Numbering, end: &End) -> Result
     end_item(out, numbering, &end.standing, Caption::Won(end.win))
 }
 
-/// Ends the list of a game, and adds the start of the next one behind so many entries, where the match goes on.
+/// Ends the list of a game, and appends the start of the next one, where the match goes on.
+/// `number` entries come before that start.
 #[tactic(auto, unfolding(crate::specs::Items::next_start))]
 fn put_next_start(
     out: &mut Vec<u8>,
@@ -86,7 +87,8 @@ fn put_next_start(
     }
 }
 
-/// Adds the start of a game behind so many entries: its heading, and a list that begins with the item of its start.
+/// Appends the start of a game behind `number` entries: its heading, and a list that begins with
+/// the item of its start.
 #[tactic(auto, unfolding(crate::specs::Items::game_start))]
 pub(crate) fn put_game_start(
     out: &mut Vec<u8>,
@@ -101,7 +103,7 @@ pub(crate) fn put_game_start(
     put_start_item(out, numbering, start)
 }
 
-/// Adds the number of a game and the score before it.
+/// Appends the number of a game and the score before it.
 #[tactic(auto, unfolding(crate::specs::Items::game_heading))]
 fn put_game_heading(out: &mut Vec<u8>, standing: &Standing) -> Result<(), AllocError>
     ensures { OnOk result (out.new.items ≡ out.old.items ++ game_heading standing.now) }
@@ -124,7 +126,7 @@ fn begin_list(out: &mut Vec<u8>, number: Number) -> Result<(), AllocError>
     Ok(())
 }
 
-/// Adds the item of the start of a game.
+/// Appends the item of a game's start.
 #[tactic(auto, unfolding(crate::specs::Items::start_item))]
 fn put_start_item(
     out: &mut Vec<u8>,
@@ -154,7 +156,7 @@ fn end_item(
     put_text(out, "</li>\n")
 }
 
-/// Adds a picture whose shapes the page has.
+/// Appends a picture whose shapes the page has.
 #[tactic(auto, unfolding(crate::specs::Items::inner_picture))]
 fn put_picture(
     out: &mut Vec<u8>,

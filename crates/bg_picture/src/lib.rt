@@ -1,4 +1,5 @@
-//! Pictures of matches, for whoever shows them in a browser: a standing as an SVG file, and a match as an HTML page.
+//! Pictures of matches, for programs that show them in a browser: a standing as an SVG file, and a
+//! match as an HTML page.
 //!
 //! ```
 //! let record = Record::new(alloc, 1, 5, Rules::One)?;

@@ -1,21 +1,21 @@
-//! In whose numbers the points of a picture are named.
+//! The numbering of a picture's points.
 ghost use Rattle.std.specs.Prelude.{◌≡◌};
 ghost use Rattle.bg_picture.specs.Numberings.{mover as mover_of, reader_of};
 
 use bg_board::Player;
 use bg_match::Phase;
 
-/// In whose numbers the points of a picture are named.
+/// The player whose numbering names the points of a picture.
 #[derive(Clone, Copy, Debug, PartialEq, Eq)]
 pub enum Numbering {
-    /// In those of X.
+    /// X.
     X,
-    /// In those of the player who rolls, answers a double, moves or resigns; in those of X where nobody does.
+    /// The player who rolls, answers a double, moves or resigns; X where nobody does.
     Mover,
 }
 
 impl Numbering {
-    /// The player whose numbers the points have.
+    /// Returns the player whose numbering the points have.
     pub(crate) fn reader(self, phase: Phase) -> Player
         ensures { result ≡ reader_of self phase }
     {
@@ -26,7 +26,7 @@ impl Numbering {
     }
 }
 
-/// The player in whose numbers a move in this phase is written.
+/// Returns the player whose numbering a move in this phase has.
 fn mover(phase: Phase) -> Player
     ensures { result ≡ mover_of phase }
 {

@@ -1,11 +1,11 @@
-//! The parts of a page that stand as they are in each.
+//! The fixed parts of a page.
 ghost use Rattle.std.specs.Prelude.{◌≡◌, ◌++◌, OnOk};
 ghost use Rattle.bg_picture.specs.PageParts.{head_start, page_style, script, view};
 
 use bg_text::put_text;
 use std::alloc::AllocError;
 
-/// What stands before the title.
+/// The start of the page, up to the title.
 const HEAD: &str = "\
 <!DOCTYPE html>
 <html lang='en'>
@@ -30,7 +30,7 @@ li[id^=start],li[id^=result]{list-style:none}li[id^=result] a{font-weight:bold}
 @media(min-width:48rem){.js main{grid-template:minmax(0,1fr)/minmax(0,1fr) 20rem;gap:1rem}}
 ";
 
-/// Where the script shows one picture, and the buttons.
+/// The place where the script shows one picture, and the buttons.
 const VIEW: &str = "\
 <main>
 <div id='view'>
@@ -42,7 +42,7 @@ const VIEW: &str = "\
 <div id='list'>
 ";
 
-/// Keys, buttons and links choose an item, whose picture is shown.
+/// The script: keys, buttons and links choose an item, whose picture is shown.
 const SCRIPT: &str = "\
 const items = [...document.querySelectorAll('li')], last = items.length - 1;
 const named = name => document.getElementById(name);
@@ -79,7 +79,7 @@ if (seconds) setTimeout(() => location.reload(), 1000 * seconds);
 find();
 ";
 
-/// Adds what stands before the title.
+/// Appends what stands before the title.
 #[tactic(auto, unfolding(crate::specs::PageParts::head_start))]
 pub(crate) fn put_head_start(out: &mut Vec<u8>) -> Result<(), AllocError>
     ensures { OnOk result (out.new.items ≡ out.old.items ++ head_start) }
@@ -87,7 +87,7 @@ pub(crate) fn put_head_start(out: &mut Vec<u8>) -> Result<(), AllocError>
     put_text(out, HEAD)
 }
 
-/// Adds the style of the page.
+/// Appends the style of the page.
 #[tactic(auto, unfolding(crate::specs::PageParts::page_style))]
 pub(crate) fn put_page_style(out: &mut Vec<u8>) -> Result<(), AllocError>
     ensures { OnOk result (out.new.items ≡ out.old.items ++ page_style) }
@@ -95,7 +95,7 @@ pub(crate) fn put_page_style(out: &mut Vec<u8>) -> Result<(), AllocError>
     put_text(out, STYLE)
 }
 
-/// Adds where the script shows one picture, and what stands before the lists.
+/// Appends the place where the script shows one picture, and what stands before the lists.
 #[tactic(auto, unfolding(crate::specs::PageParts::view))]
 pub(crate) fn put_view(out: &mut Vec<u8>) -> Result<(), AllocError>
     ensures { OnOk result (out.new.items ≡ out.old.items ++ view) }
@@ -103,7 +103,7 @@ pub(crate) fn put_view(out: &mut Vec<u8>) -> Result<(), AllocError>
     put_text(out, VIEW)
 }
 
-/// Adds the script.
+/// Appends the script.
 #[tactic(auto, unfolding(crate::specs::PageParts::script))]
 pub(crate) fn put_script(out: &mut Vec<u8>) -> Result<(), AllocError>
     ensures { OnOk result (out.new.items ≡ out.old.items ++ script) }

@@ -18,9 +18,10 @@ use bg_match::{Record, Standing};
 use bg_text::{put_number, put_text};
 use std::alloc::{AllocError, Global};
 
-/// Returns the page of a match: one HTML file that has the start of each game, its entries and its result, each with a
-/// picture (docs/FORMATS.md, "Pages"). The title may be any text, as it is escaped. Where the number of seconds is not
-/// 0 a browser shows the page anew that often, from the last item on.
+/// Returns the page of a match: one HTML file with the start of each game, its entries and its
+/// result, each with a picture (docs/FORMATS.md, "Pages"). The title may be any text, as it is
+/// escaped. Unless `seconds` is 0, a browser reloads the page after that many seconds, and shows it
+/// from the last item on.
 ///
 /// # Errors
 /// AllocError where there is no memory for it.
@@ -41,14 +42,14 @@ pub fn page_text(
     Ok(out)
 }
 
-/// Where the match of a record starts.
+/// Returns the first standing of a record's match.
 fn start_of(log: &Record) -> Standing
     ensures { result ≡ start_of_terms log.now.terms }
 {
     Standing::start(log.length(), log.rules())
 }
 
-/// Adds the items of all entries.
+/// Appends the items of all entries.
 fn put_entries(out: &mut Vec<u8>, numbering: Numbering, log: &Record) -> Result<(), AllocError>
     ensures { OnOk result (PutsEntries numbering log.now out.old.items out.new.items) }
 {
@@ -60,7 +61,7 @@ fn put_entries(out: &mut Vec<u8>, numbering: Numbering, log: &Record) -> Result<
     Ok(())
 }
 
-/// Adds all that stands before the list.
+/// Appends all that stands before the list.
 #[tactic(auto, unfolding(crate::specs::Pages::page_start))]
 fn put_start(
     out: &mut Vec<u8>,
@@ -76,7 +77,7 @@ fn put_start(
     put_summary(out, standing)
 }
 
-/// Adds the start of the first game.
+/// Appends the start of the first game.
 #[tactic(auto, unfolding(crate::specs::Pages::first_start))]
 fn put_first(out: &mut Vec<u8>, numbering: Numbering, start: &Standing) -> Result<(), AllocError>
     ensures { OnOk result (out.new.items ≡ out.old.items ++ first_start numbering start.now) }
@@ -85,7 +86,7 @@ fn put_first(out: &mut Vec<u8>, numbering: Numbering, start: &Standing) -> Resul
     put_game_start(out, numbering, 0, start)
 }
 
-/// Adds the head of the page.
+/// Appends the head of the page.
 #[tactic(auto, unfolding(crate::specs::Pages::head_text))]
 fn put_head(out: &mut Vec<u8>, title: &str, seconds: u16) -> Result<(), AllocError>
     ensures { OnOk result (out.new.items ≡ out.old.items ++ head_text title.now seconds) }
@@ -97,7 +98,7 @@ fn put_head(out: &mut Vec<u8>, title: &str, seconds: u16) -> Result<(), AllocErr
     put_body(out, seconds)
 }
 
-/// Adds after how many seconds a browser without scripts shows the page anew.
+/// Appends the number of seconds after which a browser without scripts reloads the page.
 #[tactic(auto, unfolding(crate::specs::Pages::refresh_text))]
 fn put_refresh(out: &mut Vec<u8>, seconds: u16) -> Result<(), AllocError>
     ensures { OnOk result (out.new.items ≡ out.old.items ++ refresh_text seconds) }
@@ -110,7 +111,7 @@ fn put_refresh(out: &mut Vec<u8>, seconds: u16) -> Result<(), AllocError>
     put_text(out, "'></noscript>\n")
 }
 
-/// Adds the title.
+/// Appends the title.
 #[tactic(auto, unfolding(crate::specs::Pages::title_text))]
 fn put_title(out: &mut Vec<u8>, title: &str) -> Result<(), AllocError>
     ensures { OnOk result (out.new.items ≡ out.old.items ++ title_text title.now) }
@@ -120,7 +121,7 @@ fn put_title(out: &mut Vec<u8>, title: &str) -> Result<(), AllocError>
     put_text(out, "</title>\n")
 }
 
-/// Adds the styles, and ends the head.
+/// Appends the styles, and ends the head.
 #[tactic(auto, unfolding(crate::specs::Pages::styles_text))]
 fn put_styles(out: &mut Vec<u8>) -> Result<(), AllocError>
     ensures { OnOk result (out.new.items ≡ out.old.items ++ styles_text) }
@@ -134,7 +135,7 @@ fn put_styles(out: &mut Vec<u8>) -> Result<(), AllocError>
     )
 }
 
-/// Begins the body, and says after how many seconds a browser with scripts shows the page anew.
+/// Begins the body, and says after how many seconds a browser with scripts reloads the page.
 #[tactic(auto, unfolding(crate::specs::Pages::body_text))]
 fn put_body(out: &mut Vec<u8>, seconds: u16) -> Result<(), AllocError>
     ensures { OnOk result (out.new.items ≡ out.old.items ++ body_text seconds) }
@@ -146,7 +147,7 @@ fn put_body(out: &mut Vec<u8>, seconds: u16) -> Result<(), AllocError>
     }
 }
 
-/// Begins the body of a page that is shown anew.
+/// Begins the body of a page that is reloaded.
 #[tactic(auto, unfolding(crate::specs::Pages::live_body))]
 fn put_live_body(out: &mut Vec<u8>, seconds: u16) -> Result<(), AllocError>
     ensures { OnOk result (out.new.items ≡ out.old.items ++ live_body seconds) }
@@ -157,7 +158,7 @@ fn put_live_body(out: &mut Vec<u8>, seconds: u16) -> Result<(), AllocError>
     Ok(())
 }
 
-/// Adds the shapes that all pictures share.
+/// Appends the shapes that all pictures share.
 #[tactic(auto, unfolding(crate::specs::Pages::shared_shapes))]
 fn put_shared_shapes(out: &mut Vec<u8>) -> Result<(), AllocError>
     ensures { OnOk result (out.new.items ≡ out.old.items ++ shared_shapes) }
@@ -170,7 +171,7 @@ fn put_shared_shapes(out: &mut Vec<u8>) -> Result<(), AllocError>
     Ok(())
 }
 
-/// Adds the title as a heading.
+/// Appends the title as a heading.
 #[tactic(auto, unfolding(crate::specs::Pages::heading_text))]
 fn put_heading(out: &mut Vec<u8>, title: &str) -> Result<(), AllocError>
     ensures { OnOk result (out.new.items ≡ out.old.items ++ heading_text title.now) }
@@ -180,7 +181,7 @@ fn put_heading(out: &mut Vec<u8>, title: &str) -> Result<(), AllocError>
     put_text(out, "</bdi></h1>\n")
 }
 
-/// Adds where the match stands.
+/// Appends the standing of the match.
 #[tactic(auto, unfolding(crate::specs::Pages::summary_text))]
 fn put_summary(out: &mut Vec<u8>, standing: &Standing) -> Result<(), AllocError>
     ensures { OnOk result (out.new.items ≡ out.old.items ++ summary_text standing.now) }

@@ -17,8 +17,8 @@ use bg_match::Standing;
 use bg_text::{put_number, put_text};
 use std::alloc::{AllocError, Global};
 
-/// The picture of a standing as an SVG file, light and dark by the preference of its reader (docs/FORMATS.md,
-/// "Pictures").
+/// Returns the picture of a standing as an SVG file, light or dark as its reader prefers
+/// (docs/FORMATS.md, "Pictures").
 ///
 /// # Errors
 /// AllocError where there is no memory for it.
@@ -40,7 +40,7 @@ pub fn picture_text(
     Ok(out)
 }
 
-/// Adds the beginning of a picture, with its title and description.
+/// Appends the beginning of a picture, with its title and description.
 #[tactic(auto, unfolding(crate::specs::Pictures::picture_start))]
 fn put_start(out: &mut Vec<u8>, standing: &Standing, reader: Player) -> Result<(), AllocError>
     ensures { OnOk result (out.new.items ≡ out.old.items ++ picture_start standing.now reader) }
@@ -51,7 +51,7 @@ fn put_start(out: &mut Vec<u8>, standing: &Standing, reader: Player) -> Result<(
     Ok(())
 }
 
-/// Adds the title and the description of a picture whose points have the numbers of a player.
+/// Appends the title and the description of a picture whose points have a player's numbering.
 #[tactic(auto, unfolding(crate::specs::Pictures::titles_text))]
 pub(crate) fn put_titles(
     out: &mut Vec<u8>,
@@ -68,7 +68,7 @@ pub(crate) fn put_titles(
     put_text(out, "</desc>")
 }
 
-/// Adds the edges of a picture, and that it is one for whoever has it read aloud.
+/// Appends the edges of a picture, and the role that tells screen readers that it is one.
 #[tactic(auto, unfolding(crate::specs::Pictures::frame))]
 pub(crate) fn put_frame(out: &mut Vec<u8>) -> Result<(), AllocError>
     ensures { OnOk result (out.new.items ≡ out.old.items ++ frame) }
@@ -76,7 +76,7 @@ pub(crate) fn put_frame(out: &mut Vec<u8>) -> Result<(), AllocError>
     put_text(out, " viewBox='-8 0 616 560' role='img'>")
 }
 
-/// Adds the style of a picture.
+/// Appends the style of a picture.
 #[tactic(auto, unfolding(crate::specs::Pictures::style_text))]
 fn put_style_element(out: &mut Vec<u8>) -> Result<(), AllocError>
     ensures { OnOk result (out.new.items ≡ out.old.items ++ style_text) }
@@ -86,7 +86,7 @@ fn put_style_element(out: &mut Vec<u8>) -> Result<(), AllocError>
     put_text(out, "</style>\n")
 }
 
-/// Adds the shapes of a picture.
+/// Appends the shapes of a picture.
 #[tactic(auto, unfolding(crate::specs::Pictures::shapes_text))]
 fn put_definitions(out: &mut Vec<u8>, reader: Player) -> Result<(), AllocError>
     ensures { OnOk result (out.new.items ≡ out.old.items ++ shapes_text reader) }
@@ -97,7 +97,7 @@ fn put_definitions(out: &mut Vec<u8>, reader: Player) -> Result<(), AllocError>
     put_text(out, "</defs>\n")
 }
 
-/// Adds what is drawn of a standing.
+/// Appends the drawing of a standing.
 #[tactic(auto, unfolding(crate::specs::Pictures::drawing))]
 pub(crate) fn put_drawing(
     out: &mut Vec<u8>,
@@ -113,7 +113,7 @@ pub(crate) fn put_drawing(
     put_scores(out, standing)
 }
 
-/// Adds the board with the checkers and the cube.
+/// Appends the board with the checkers and the cube.
 #[tactic(auto, unfolding(crate::specs::Pictures::position_text))]
 fn put_position(out: &mut Vec<u8>, standing: &Standing, reader: Player) -> Result<(), AllocError>
     ensures { OnOk result (out.new.items ≡ out.old.items ++ position_text standing.now reader) }
@@ -125,7 +125,7 @@ fn put_position(out: &mut Vec<u8>, standing: &Standing, reader: Player) -> Resul
     put_cube(out, standing.phase(), standing.cube())
 }
 
-/// Adds the empty board, with the numbers of a player.
+/// Appends the empty board, with a player's numbering.
 #[tactic(auto, unfolding(crate::specs::Pictures::board_text))]
 fn put_board(out: &mut Vec<u8>, reader: Player) -> Result<(), AllocError>
     ensures { OnOk result (out.new.items ≡ out.old.items ++ board_text reader) }
@@ -134,7 +134,7 @@ fn put_board(out: &mut Vec<u8>, reader: Player) -> Result<(), AllocError>
     put_shape(out, numbers_name(reader), 0, 0)
 }
 
-/// Adds the words above and below the board.
+/// Appends the words above and below the board.
 #[tactic(auto, unfolding(crate::specs::Pictures::captions_text))]
 fn put_captions(out: &mut Vec<u8>, standing: &Standing, caption: Caption) -> Result<(), AllocError>
     ensures { OnOk result (out.new.items ≡ out.old.items ++ captions_text standing.now caption) }
@@ -145,7 +145,7 @@ fn put_captions(out: &mut Vec<u8>, standing: &Standing, caption: Caption) -> Res
     end_group(out)
 }
 
-/// Adds the length and the game.
+/// Appends the length and the game.
 #[tactic(auto, unfolding(crate::specs::Pictures::game_caption, crate::specs::Elements::element_text))]
 fn put_game_caption(out: &mut Vec<u8>, standing: &Standing) -> Result<(), AllocError>
     ensures { OnOk result (out.new.items ≡ out.old.items ++ game_caption standing.now) }
@@ -155,7 +155,7 @@ fn put_game_caption(out: &mut Vec<u8>, standing: &Standing) -> Result<(), AllocE
     end_words(out)
 }
 
-/// Adds what is to happen next, or how the game was won.
+/// Appends what happens next, or how the game was won.
 #[tactic(auto, unfolding(crate::specs::Pictures::lower_caption, crate::specs::Elements::element_text))]
 fn put_lower_caption(
     out: &mut Vec<u8>,
@@ -169,7 +169,7 @@ fn put_lower_caption(
     end_words(out)
 }
 
-/// Adds the scores, each on its player's side.
+/// Appends the scores, each on its player's side.
 #[tactic(auto, unfolding(crate::specs::Pictures::scores_text))]
 fn put_scores(out: &mut Vec<u8>, standing: &Standing) -> Result<(), AllocError>
     ensures { OnOk result (out.new.items ≡ out.old.items ++ scores_text standing.now) }
@@ -181,7 +181,7 @@ fn put_scores(out: &mut Vec<u8>, standing: &Standing) -> Result<(), AllocError>
     end_group(out)
 }
 
-/// Adds a score on its base line.
+/// Appends a score on its base line.
 #[tactic(auto, unfolding(crate::specs::Pictures::score_text, crate::specs::Elements::element_text))]
 fn put_score_at(out: &mut Vec<u8>, y: u16, player: &str, score: u16) -> Result<(), AllocError>
     ensures { OnOk result (out.new.items ≡ out.old.items ++ score_text y player.now score) }

@@ -1,4 +1,4 @@
-//! Where things stand in a picture, in its units.
+//! The places of things in a picture, in its units.
 ghost use Rattle.std.specs.Prelude.{◌≡◌, ◌≤◌};
 ghost use Rattle.bg_picture.specs.Places.{column as column_of, is_above as above_of};
 ghost use Rattle.bg_picture.specs.Places.{number_line as line_of_number, stack_top as top_of};
@@ -6,13 +6,13 @@ ghost use Rattle.bg_picture.specs.Places.{count_line as line_of_count, half as h
 
 use bg_board::Player;
 
-/// The x of a player's points, from 0, off, to 25, the bar.
+/// The x of a player's points, from 0 (off) to 25 (the bar).
 const COLUMNS: [u16; 26] = [
     580, 540, 500, 460, 420, 380, 340, 260, 220, 180, 140, 100, 60, //
     60, 100, 140, 180, 220, 260, 340, 380, 420, 460, 500, 540, 300,
 ];
 
-/// The x of a player's point.
+/// Returns the x of a player's point.
 pub(crate) fn column(point: u8) -> u16
     requires { point ≤ 25 }
     ensures { result ≡ column_of point }
@@ -20,7 +20,7 @@ pub(crate) fn column(point: u8) -> u16
     COLUMNS[usize::from(point)]
 }
 
-/// Whether a player's point is in the upper half.
+/// Returns whether a player's point is in the upper half.
 pub(crate) fn is_above(player: Player, point: u8) -> bool
     ensures { result ≡ above_of player point }
 {
@@ -31,14 +31,14 @@ pub(crate) fn is_above(player: Player, point: u8) -> bool
     }
 }
 
-/// The base line of the number of a point.
+/// Returns the base line of a point's number.
 pub(crate) fn number_line(above: bool) -> u16
     ensures { result ≡ line_of_number above }
 {
     if above { 58 } else { 516 }
 }
 
-/// The top of a stack.
+/// Returns the top of a stack.
 pub(crate) fn stack_top(above: bool, count: u8) -> u16
     ensures { result ≡ top_of above count }
 {
@@ -49,14 +49,14 @@ pub(crate) fn stack_top(above: bool, count: u8) -> u16
     }
 }
 
-/// The base line of the count on a stack.
+/// Returns the base line of the count on a stack.
 pub(crate) fn count_line(above: bool) -> u16
     ensures { result ≡ line_of_count above }
 {
     if above { 243 } else { 331 }
 }
 
-/// The middle of the half where a player's dice lie, and what is offered to him.
+/// Returns the middle of the half that holds a player's dice, and what the player is offered.
 pub(crate) fn half(player: Player) -> u16
     ensures { result ≡ half_of player }
 {
@@ -66,7 +66,7 @@ pub(crate) fn half(player: Player) -> u16
     }
 }
 
-/// The middle of the cube beside the board.
+/// Returns the middle of the cube beside the board.
 pub(crate) fn cube_height(owner: Option<Player>) -> u16
     ensures { result ≡ height_of owner }
 {

@@ -1,11 +1,11 @@
-//! The shapes of pictures and their style, as they stand in an SVG file and in a page.
+//! The shapes of pictures and their style, as an SVG file and a page have them.
 ghost use Rattle.std.specs.Prelude.{◌≡◌, ◌++◌, OnOk};
 ghost use Rattle.bg_picture.specs.Shapes.{shapes, style};
 
 use bg_text::put_text;
 use std::alloc::AllocError;
 
-/// The style, light and dark by the preference of the reader.
+/// The style, light or dark as the reader prefers.
 const STYLE: &str = "\
 :root{color-scheme:light dark;background:var(--page)}
 :root{--page:#fff;--ink:#1d1d1b;--board:#f1e7d3;--pale:#dcc59b;--deep:#b08a5a}
@@ -55,7 +55,7 @@ const SHAPES: &str = "\
 <rect id='tag' class='tag' x='-85' y='-20' width='170' height='40' rx='8'/>
 ";
 
-/// Adds the style.
+/// Appends the style.
 #[tactic(auto, unfolding(crate::specs::Shapes::style))]
 pub(crate) fn put_style(out: &mut Vec<u8>) -> Result<(), AllocError>
     ensures { OnOk result (out.new.items ≡ out.old.items ++ style) }
@@ -63,7 +63,7 @@ pub(crate) fn put_style(out: &mut Vec<u8>) -> Result<(), AllocError>
     put_text(out, STYLE)
 }
 
-/// Adds the shapes.
+/// Appends the shapes.
 #[tactic(auto, unfolding(crate::specs::Shapes::shapes))]
 pub(crate) fn put_shapes(out: &mut Vec<u8>) -> Result<(), AllocError>
     ensures { OnOk result (out.new.items ≡ out.old.items ++ shapes) }

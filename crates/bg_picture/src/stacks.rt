@@ -16,12 +16,12 @@ const ALL_POINTS: [u8; 26] = [
     0, 1, 2, 3, 4, 5, 6, 7, 8, 9, 10, 11, 12, 13, 14, 15, 16, 17, 18, 19, 20, 21, 22, 23, 24, 25,
 ];
 
-/// The points with a number.
+/// The points that have a number.
 const NUMBERED_POINTS: [u8; 24] = [
     1, 2, 3, 4, 5, 6, 7, 8, 9, 10, 11, 12, 13, 14, 15, 16, 17, 18, 19, 20, 21, 22, 23, 24,
 ];
 
-/// The class of what is a player's.
+/// Returns the class of a player's things.
 #[tactic(auto, unfolding(crate::specs::Stacks::class_of))]
 pub(crate) fn class(player: Player) -> &'static str
     ensures { result.now ≡ class_of player }
@@ -32,7 +32,7 @@ pub(crate) fn class(player: Player) -> &'static str
     }
 }
 
-/// Adds all checkers of a player.
+/// Appends all checkers of a player.
 #[tactic(auto, unfolding(crate::specs::Stacks::checkers_text))]
 pub(crate) fn put_checkers(
     out: &mut Vec<u8>,
@@ -46,7 +46,7 @@ pub(crate) fn put_checkers(
     end_group(out)
 }
 
-/// Adds the checkers of a player on some of his points.
+/// Appends a player's checkers on some of their points.
 #[tactic(auto, unfolding(crate::specs::Stacks::stacks_text))]
 fn put_stacks(
     out: &mut Vec<u8>,
@@ -68,7 +68,7 @@ fn put_stacks(
     Ok(())
 }
 
-/// Adds a stack of checkers, where there are some.
+/// Appends a stack of checkers, if there are any.
 #[tactic(auto, unfolding(crate::specs::Stacks::stack_text))]
 fn put_stack(out: &mut Vec<u8>, x: u16, above: bool, count: u8) -> Result<(), AllocError>
     ensures { OnOk result (out.new.items ≡ out.old.items ++ stack_text x above count) }
@@ -80,7 +80,7 @@ fn put_stack(out: &mut Vec<u8>, x: u16, above: bool, count: u8) -> Result<(), Al
     Ok(())
 }
 
-/// Adds how many checkers a stack has, where these are more than are drawn.
+/// Appends the number of checkers of a stack, if it is greater than the number drawn.
 #[tactic(auto, unfolding(crate::specs::Stacks::count_text))]
 fn put_stack_count(out: &mut Vec<u8>, x: u16, above: bool, count: u8) -> Result<(), AllocError>
     ensures { OnOk result (out.new.items ≡ out.old.items ++ count_text x above count) }
@@ -91,7 +91,7 @@ fn put_stack_count(out: &mut Vec<u8>, x: u16, above: bool, count: u8) -> Result<
     Ok(())
 }
 
-/// The name of the shape of a stack, of which five checkers are drawn at most.
+/// Returns the name of a stack's shape, which shows five checkers at most.
 fn stack_name(count: u8) -> &'static str
     requires { 0 < count }
     ensures { result.now ≡ name_of_stack count }
@@ -105,7 +105,7 @@ fn stack_name(count: u8) -> &'static str
     }
 }
 
-/// Adds the numbers of a player's points, as a shape.
+/// Appends the numbers of a player's points, as a shape.
 #[tactic(auto, unfolding(crate::specs::Stacks::numbers_text))]
 pub(crate) fn put_numbers(out: &mut Vec<u8>, player: Player) -> Result<(), AllocError>
     ensures { OnOk result (out.new.items ≡ out.old.items ++ numbers_text player) }
@@ -117,7 +117,7 @@ pub(crate) fn put_numbers(out: &mut Vec<u8>, player: Player) -> Result<(), Alloc
     put_text(out, "</g>\n")
 }
 
-/// The name of that shape.
+/// Returns the name of that shape.
 #[tactic(auto, unfolding(crate::specs::Stacks::numbers_name))]
 pub(crate) fn numbers_name(player: Player) -> &'static str
     ensures { result.now ≡ name_of_numbers player }
@@ -128,7 +128,7 @@ pub(crate) fn numbers_name(player: Player) -> &'static str
     }
 }
 
-/// Adds the numbers of some of a player's points.
+/// Appends the numbers of some of a player's points.
 #[tactic(auto, unfolding(crate::specs::Stacks::number_marks))]
 fn put_number_marks(out: &mut Vec<u8>, player: Player, points: &[u8]) -> Result<(), AllocError>
     requires { IsTrue (list_all is_place points.now) }

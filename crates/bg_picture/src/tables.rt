@@ -15,7 +15,7 @@ use bg_text::level_word;
 use bg_turns::Dice;
 use std::alloc::AllocError;
 
-/// Adds the cube.
+/// Appends the cube.
 #[tactic(auto, unfolding(crate::specs::Tables::cube_text))]
 pub(crate) fn put_cube(out: &mut Vec<u8>, phase: Phase, cube: Cube) -> Result<(), AllocError>
     ensures { OnOk result (out.new.items ≡ out.old.items ++ cube_text phase cube) }
@@ -26,7 +26,7 @@ pub(crate) fn put_cube(out: &mut Vec<u8>, phase: Phase, cube: Cube) -> Result<()
     }
 }
 
-/// Adds a cube that shows a value, around a place.
+/// Appends a cube that shows a value, centred at a place.
 #[tactic(auto, unfolding(crate::specs::Tables::cube_at))]
 fn put_cube_at(out: &mut Vec<u8>, x: u16, y: u16, value: u16) -> Result<(), AllocError>
     requires { y ≤ 560 }
@@ -38,7 +38,7 @@ fn put_cube_at(out: &mut Vec<u8>, x: u16, y: u16, value: u16) -> Result<(), Allo
     end_group(out)
 }
 
-/// Adds what lies on the board: the dice of a player, a pass, and an offer to resign.
+/// Appends what lies on the board: the dice of a player, a pass, and an offer to resign.
 #[tactic(auto, unfolding(crate::specs::Tables::table_text))]
 pub(crate) fn put_table(out: &mut Vec<u8>, standing: &Standing) -> Result<(), AllocError>
     ensures { OnOk result (out.new.items ≡ out.old.items ++ table_text standing.now.phase (passes standing.now)) }
@@ -57,7 +57,7 @@ pub(crate) fn put_table(out: &mut Vec<u8>, standing: &Standing) -> Result<(), Al
     }
 }
 
-/// Whether a player's dice are to be passed: then the referee acts.
+/// Returns whether a player's turn is to be passed, where the referee acts.
 fn is_passing(standing: &Standing) -> bool
     ensures { (player : Player) (dice : Dice) → standing.now.phase ≡ Phase.ToMove player dice
         → result ≡ passes standing.now }
@@ -65,7 +65,7 @@ fn is_passing(standing: &Standing) -> bool
     matches!(standing.actor(), Actor::Referee)
 }
 
-/// Adds the dice of a player.
+/// Appends the dice of a player.
 #[tactic(auto, unfolding(crate::specs::Tables::dice_text))]
 fn put_dice(out: &mut Vec<u8>, player: Player, dice: Dice) -> Result<(), AllocError>
     ensures { OnOk result (out.new.items ≡ out.old.items ++ dice_text player dice) }
@@ -77,7 +77,7 @@ fn put_dice(out: &mut Vec<u8>, player: Player, dice: Dice) -> Result<(), AllocEr
     end_group(out)
 }
 
-/// Adds a die, around a place.
+/// Appends a die, centred at a place.
 #[tactic(auto, unfolding(crate::specs::Tables::die_text))]
 fn put_die(out: &mut Vec<u8>, x: u16, die: Die) -> Result<(), AllocError>
     ensures { OnOk result (out.new.items ≡ out.old.items ++ die_text x die) }
@@ -85,7 +85,7 @@ fn put_die(out: &mut Vec<u8>, x: u16, die: Die) -> Result<(), AllocError>
     put_shape(out, die_name(die), x, 280)
 }
 
-/// The name of the shape of a die.
+/// Returns the name of a die's shape.
 fn die_name(die: Die) -> &'static str
     ensures { result.now ≡ name_of_die die }
 {
@@ -99,7 +99,7 @@ fn die_name(die: Die) -> &'static str
     }
 }
 
-/// Adds what stands beside the dice in the middle of a half, where the turn is to be passed.
+/// Appends the word beside the dice in the middle of a half, if the turn is to be passed.
 #[tactic(auto, unfolding(crate::specs::Tables::pass_text))]
 fn put_pass(out: &mut Vec<u8>, x: u16, passing: bool) -> Result<(), AllocError>
     requires { x ≤ 600 }
@@ -111,7 +111,7 @@ fn put_pass(out: &mut Vec<u8>, x: u16, passing: bool) -> Result<(), AllocError>
     Ok(())
 }
 
-/// Adds what a player is offered: the level at which the other one resigns.
+/// Appends what a player is offered: the level at which the other one resigns.
 #[tactic(auto, unfolding(crate::specs::Tables::offer_text))]
 fn put_offer(out: &mut Vec<u8>, player: Player, level: Level) -> Result<(), AllocError>
     ensures { OnOk result (out.new.items ≡ out.old.items ++ offer_text player level) }

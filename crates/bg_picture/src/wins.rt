@@ -1,4 +1,4 @@
-//! How games end.
+//! The ends of games.
 ghost use Rattle.std.specs.Prelude.{◌≡◌, Some, None, MatchOption};
 ghost use Rattle.bg_match.specs.Follows.{CanFollow, Follows};
 ghost use Rattle.bg_match.specs.State.{IsState};
@@ -9,18 +9,18 @@ use bg_board::{Board, Player};
 use bg_match::{Entry, Level, Phase, Standing, level_of};
 use bg_turns::judge_turn;
 
-/// How a player won a game.
+/// The way in which a player won a game.
 #[derive(Clone, Copy)]
 pub(crate) enum Way {
-    /// By bearing off his last checker.
+    /// Bearing off the last checker.
     BearingOff(Level),
-    /// By a double that the other player dropped.
+    /// A double that the other player dropped.
     Drop,
-    /// By a resignation at a level, which he accepted.
+    /// The other player's resignation at a level, which the winner accepted.
     Resignation(Level),
 }
 
-/// Who won a game, how many points, and how.
+/// The winner of a game, the number of points, and how it was won.
 #[derive(Clone, Copy)]
 pub(crate) struct Win {
     pub(crate) winner: Player,
@@ -35,7 +35,7 @@ pub(crate) struct End {
     pub(crate) standing: Standing,
 }
 
-/// Returns the end of the game, where an entry that leads from one standing to the next ends it.
+/// Returns the end of the game, if an entry that leads from one standing to the next ends it.
 pub(crate) fn end_of(standing: &Standing, entry: &Entry, next: &Standing) -> Option<End>
     requires { Follows standing.now entry.now next.now }
     ensures { MatchOption result (win_by standing.now entry.now ≡ None)
@@ -62,14 +62,14 @@ pub(crate) fn end_of(standing: &Standing, entry: &Entry, next: &Standing) -> Opt
     Some(End { win, standing })
 }
 
-/// Does nothing: its contract tells the check what holds of every standing.
+/// Does nothing. Its contract gives the check what holds of every standing.
 fn keeps_its_laws(standing: &Standing)
     ensures { IsState standing.now }
 {
     let _ = standing.length();
 }
 
-/// Whether an entry that leads to this phase ended a game.
+/// Returns whether an entry that leads to this phase ended a game.
 fn has_ended(phase: Phase) -> bool
     ensures { result ≡ is_behind_end phase }
 {

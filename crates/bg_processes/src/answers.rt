@@ -1,10 +1,11 @@
-//! What the system answers, as devices answer it.
+//! The system's results as results of devices.
 
 use bg_world::DeviceFault;
 use std::io;
 use std::io::ErrorKind;
 
-/// What the system answered to a call of a device, as the device answers it: want of memory, or any other failure.
+/// Converts the system's result of a call to a device's: its error is want of memory, or any other
+/// failure.
 pub(crate) fn answered<T>(answer: io::Result<T>) -> Result<T, DeviceFault> {
     match answer {
         Ok(value) => Ok(value),

@@ -1,5 +1,5 @@
-//! The parties of a match on one machine: their sockets and files as devices, and what a process of one party does. For
-//! hosts that carry a match over the loopback address and keep it in a folder.
+//! The parties of a match on one machine: their sockets and files as devices, and the process of
+//! one party. For hosts that carry a match over the loopback address and keep it in a folder.
 //!
 //! ```
 //! // What all processes of a match agree on is a line; this is one of a match to 3 points.

@@ -14,13 +14,14 @@ use std::fs::File;
 use std::net::Net;
 use std::rt::Files;
 
-/// Plays a match of automatic players as [`run_rounds`](bg_auto::run_rounds) does, over sockets on 127.0.0.1 and
-/// the files of a folder (docs/OPERATING.md). Over the same folder, with the same seed, length and rules, it goes on
-/// where it was left. The devices note in `failures` why their calls failed.
+/// Plays a match of automatic players as [`run_rounds`](bg_auto::run_rounds) does, over sockets on
+/// 127.0.0.1 and the files of a folder (docs/OPERATING.md). Over the same folder, with the same
+/// seed, length and rules, it resumes the match. The devices note in `failures` why their calls
+/// failed.
 ///
 /// # Errors
-/// `Socket` where a socket can't be had, `Memory` where there is no memory for the sockets and the names of the files;
-/// then those of `run_rounds`.
+/// `Socket` where a socket can't be opened, `Memory` where there is no memory for the sockets and
+/// the names of the files; then those of `run_rounds`.
 pub fn run_loop<R: Net + Files<File = File> + AllocGlobal, W: Sink>(
     rt: &R,
     seed: u64,
@@ -46,7 +47,8 @@ pub fn run_loop<R: Net + Files<File = File> + AllocGlobal, W: Sink>(
     )
 }
 
-/// The same, with one who looks on: when he is told of an event, `failures` has why the calls of devices in it failed.
+/// Plays as [`run_loop`] does, with an onlooker. When the onlooker is told of an event, `failures`
+/// holds the failed calls of devices in it.
 pub fn play_loop<R, W: Sink, O: Onlooker>(
     rt: &R,
     seed: u64,

@@ -1,4 +1,4 @@
-//! What the process of one party does.
+//! The processes of single parties.
 
 pub(crate) mod laws;
 pub(crate) mod referee;

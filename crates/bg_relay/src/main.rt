@@ -1,5 +1,5 @@
-//! The program: judges backgammon matches, shows saved ones, and plays scripts and automatic matches, in
-//! memory or over sockets and files.
+//! The program: judges backgammon matches, shows saved ones, and plays scripts and automatic
+//! matches, in memory or over sockets and files.
 #![tactic(auto)]
 
 pub use bg_auto::{
@@ -48,7 +48,7 @@ fn run(rt: &HostRuntime) -> Ending {
     }
 }
 
-/// Does what the parsed arguments ask for, if they do.
+/// Carries out the request of the parsed arguments, if they make one.
 fn obey_matches(rt: &HostRuntime, matches: &ArgMatches<'_>) -> Ending {
     match Request::read(matches) {
         Ok(request) => match obey(rt, request) {
@@ -58,7 +58,7 @@ fn obey_matches(rt: &HostRuntime, matches: &ArgMatches<'_>) -> Ending {
     }
 }
 
-/// Does what the arguments ask for. Where a command ended early, it is said already why.
+/// Carries out a request. Where a command ended early, the reason has been reported.
 fn obey(rt: &HostRuntime, request: Request<'_, '_>) -> Result<Ending, Ending> {
     let is_watched = rt.stderr().is_terminal();
     let progress = Progress::start(rt, is_watched);

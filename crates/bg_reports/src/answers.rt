@@ -1,4 +1,4 @@
-//! Whether an entry answers the action of a call.
+//! The result of a call of `act`, by the entry that answers its action.
 ghost use Rattle.std.specs.Prelude.{◌≡◌, ◌↔◌, true};
 ghost use Rattle.bg_match.specs.Answers.{IsAnswer};
 ghost use Rattle.bg_reports.specs.Acting.{IsActEnding};
@@ -6,7 +6,7 @@ ghost use Rattle.bg_reports.specs.Acting.{IsActEnding};
 use crate::endings::Ending;
 use bg_match::{Action, Entry, Number, Record};
 
-/// Whether an entry answers an action.
+/// Returns whether an entry answers an action.
 fn answers(action: &Action, entry: &Entry) -> bool
     ensures { (result ≡ true) ↔ IsAnswer action.now entry.now }
 {
@@ -23,8 +23,8 @@ fn answers(action: &Action, entry: &Entry) -> bool
     }
 }
 
-/// What a call came to whose action was claimed as the entry of this number, from 1: it is served where the record has
-/// that entry, and it answers the action.
+/// Returns the ending of a call whose action was claimed as the entry with this number, from 1. It
+/// is served where the record has that entry, and the entry answers the action.
 pub fn ending_of(log: &Record, action: &Action, number: Number) -> Ending
     ensures { IsActEnding log.now.entries action.now number result }
 {

@@ -1,4 +1,4 @@
-//! What is said of a file that was judged.
+//! The report on a file that was judged.
 ghost use Rattle.std.specs.Prelude.{◌≡◌, ◌++◌, [], Some, IfOk, OnOk, slice_index_or};
 ghost use Rattle.bg_text.specs.Judge.Judging.{fine_line, lines_of};
 ghost use Rattle.bg_mat.specs.FaultWords.{import_fault_words};
@@ -15,15 +15,16 @@ use bg_match::{Number, Rules};
 use bg_text::{TranscriptFault, Verdict, judge_text, put_number, put_text, split_line};
 use std::alloc::{AllocError, Global};
 
-/// The number of a match that is checked, which no file says.
+/// The number of a match that is checked, which no file gives.
 const NO_NUMBER: u64 = 0;
 
-/// So many columns of a refused line are shown where there is no screen.
+/// Number of columns of a refused line that are shown where there is no screen, at most.
 pub const MOST_SHOWN: usize = 1000;
 
-/// What is printed of a file of this name, which can't break a terminal, on a screen of so many columns, if there is
-/// one (docs/FORMATS.md, "Checking files"): its verdict, and the line that is refused. And the verdict. Files are told
-/// apart by what they hold: a match file of another program, or else a transcript.
+/// Returns the report on a file with this name, and its verdict. The report can't break a terminal,
+/// and fits a screen of this number of columns, if there is one (docs/FORMATS.md,
+/// "Checking files"). It has the verdict, and the line that is refused. Files are told apart by
+/// their contents: a match file of another program, or else a transcript.
 ///
 /// # Errors
 /// `AllocError` where memory runs out.
@@ -42,7 +43,7 @@ pub fn check_text(
     }
 }
 
-/// The same of a file that is a transcript.
+/// Returns the report on a transcript, and its verdict.
 fn said_of_transcript(
     alloc: Global,
     name: &str,
@@ -64,7 +65,7 @@ fn said_of_transcript(
     Ok((text, verdict))
 }
 
-/// The same of a file that is a match file of another program.
+/// Returns the report on a match file of another program, and its verdict.
 fn said_of_match_file(
     alloc: Global,
     name: &str,
@@ -78,7 +79,8 @@ fn said_of_match_file(
     Ok((text, verdict))
 }
 
-/// The verdict on a match file, in words and as such. It is read by the first rules, as no file says by which.
+/// Returns the verdict on a match file, in words and as a value. The file is read under the first
+/// rules, as no file names its own.
 fn verdict_on_match_file(alloc: Global, bytes: &[u8]) -> Result<(Vec<u8>, Verdict), AllocError>
     ensures { IfOk result (λ told. IsMatchFileVerdict bytes.now told.0.items told.1) }
 {
@@ -91,7 +93,7 @@ fn verdict_on_match_file(alloc: Global, bytes: &[u8]) -> Result<(Vec<u8>, Verdic
     }
 }
 
-/// What is said of a match of so many entries.
+/// Returns the words for a good match with this number of entries.
 fn fine_words(alloc: Global, entries: Number) -> Result<Vec<u8>, AllocError>
     ensures { IfOk result (λ words. words.items ≡ fine_line entries) }
 {
@@ -100,8 +102,9 @@ fn fine_words(alloc: Global, entries: Number) -> Result<Vec<u8>, AllocError>
     Ok(words)
 }
 
-/// What is printed of a match file of this name, with these bytes, that gives no record for this fault: what
-/// [`check_text`] gives where that is the fault by the first rules.
+/// Returns the report on a match file with this name and these bytes, which gives no record because
+/// of this fault, and its verdict. It is what [`check_text`] gives where that is the fault under
+/// the first rules.
 ///
 /// # Errors
 /// `AllocError` where memory runs out, also where that is the fault.
@@ -119,8 +122,8 @@ pub fn said_of_import_fault(
     Ok((text, verdict))
 }
 
-/// What is printed of a transcript of this name, with these bytes, that gives no record for this fault: what
-/// [`check_text`] gives where that is the fault.
+/// Returns the report on a transcript with this name and these bytes, which gives no record because
+/// of this fault, and its verdict. It is what [`check_text`] gives where that is the fault.
 ///
 /// # Errors
 /// `AllocError` where memory runs out, also where that is the fault.
@@ -143,12 +146,13 @@ pub fn said_of_transcript_fault(
     Ok((text, verdict))
 }
 
-/// What is said of a transcript by its fault is what is said of it without.
+/// States that the report on a transcript by its fault is the same as the one without.
 pub fn transcript_faults_are_said()
     ensures { TranscriptFaultsAreSaid }
 {}
 
-/// The verdict on a match file that gives no record for this fault, in words and as such.
+/// Returns the verdict on a match file that gives no record because of this fault, in words and as
+/// a value.
 fn verdict_of_import_fault(
     alloc: Global,
     fault: ImportFault,
@@ -165,7 +169,7 @@ fn verdict_of_import_fault(
     Ok((words.into_bytes(), verdict))
 }
 
-/// What is printed of a file of this name with a verdict in these words.
+/// Returns the report on a file with this name and a verdict in these words.
 fn said(
     alloc: Global,
     name: &str,
@@ -185,7 +189,7 @@ fn said(
     Ok(text)
 }
 
-/// The last line of a text, without its line feed; nothing where it has none.
+/// Returns the last line of a text, without its line feed; nothing where it has none.
 fn last_line(text: &[u8]) -> &[u8]
     ensures { result.now ≡ last_of [] (lines_of text.now) }
 {
@@ -198,7 +202,7 @@ fn last_line(text: &[u8]) -> &[u8]
     last
 }
 
-/// The line of a file that its verdict refuses, nothing where it refuses none.
+/// Returns the line of a file that its verdict refuses; nothing where it refuses none.
 fn refused_line(bytes: &[u8], verdict: Verdict) -> &[u8]
     ensures { result.now ≡ refused_in verdict (lines_of bytes.now) }
 {
@@ -208,7 +212,7 @@ fn refused_line(bytes: &[u8], verdict: Verdict) -> &[u8]
     }
 }
 
-/// The line of this index, from 0; nothing where there are fewer.
+/// Returns the line at this index, from 0; nothing where there are fewer lines.
 fn line_at(text: &[u8], index: u32) -> &[u8]
     ensures { result.now ≡ slice_index_or (lines_of text.now) index [] }
 {
@@ -225,7 +229,7 @@ fn line_at(text: &[u8], index: u32) -> &[u8]
     }
 }
 
-/// How many columns are left of a screen behind so many.
+/// Returns the number of columns of a screen that are left behind `taken` columns.
 fn room_behind(columns: Option<usize>, taken: usize) -> usize
     ensures { result ≡ room_in columns taken }
 {
@@ -235,7 +239,7 @@ fn room_behind(columns: Option<usize>, taken: usize) -> usize
     }
 }
 
-/// Adds a refused line behind its verdict.
+/// Appends a refused line behind its verdict.
 fn put_refused(alloc: Global, out: &mut Vec<u8>, line: &[u8], room: usize) -> Result<(), AllocError>
     ensures { OnOk result (out.new.items ≡ out.old.items ++ refused_part room line.now) }
 {

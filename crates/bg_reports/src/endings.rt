@@ -1,19 +1,20 @@
-//! What a command came to, and the exit status that says so.
+//! The ending of a command, and its exit status.
 ghost use Rattle.std.specs.Prelude.{◌≡◌};
 ghost use Rattle.bg_reports.specs.Ending.{status_of};
 
 use bg_text::Verdict;
 
-/// The status of a command that was done, and has nothing to refuse.
+/// The status of a command that succeeded, and refused nothing.
 pub const DONE: u8 = 0;
 
 /// The status where reading, writing or memory failed.
 pub const FAILED: u8 = 1;
 
-/// The status where the arguments, the transcript, the script, both saved files or one of many files are refused.
+/// The status where the arguments, the transcript, the script, both saved files or one of many
+/// files are refused.
 pub const REFUSED: u8 = 2;
 
-/// The worst that was found of many files.
+/// The worst result of many files.
 #[derive(Clone, Copy, Debug, PartialEq, Eq)]
 pub enum Found {
     /// All are good.
@@ -24,7 +25,7 @@ pub enum Found {
     Unjudged,
 }
 
-/// What a command came to.
+/// The ending of a command.
 #[derive(Clone, Copy, Debug, PartialEq, Eq)]
 pub enum Ending {
     /// Help or the version was asked for, and printed.
@@ -53,7 +54,7 @@ pub enum Ending {
 }
 
 impl Ending {
-    /// The exit status: [`DONE`], [`FAILED`] or [`REFUSED`].
+    /// Returns the exit status: [`DONE`], [`FAILED`] or [`REFUSED`].
     pub fn status(self) -> u8
         ensures { result ≡ status_of self }
     {

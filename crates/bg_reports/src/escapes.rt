@@ -1,32 +1,33 @@
-//! Bytes of others, shown so that they can't break a terminal, and no wider than it.
+//! Escaping foreign bytes, so that they can't break a terminal, and cutting them to its width.
 ghost use Rattle.std.specs.Prelude.{◌≡◌, ◌<◌, ◌++◌, IfOk, OnOk};
 ghost use Rattle.bg_reports.specs.Harmless.{cut, hex_digit, shown as shown_text, shown_byte};
 
 use bg_text::put_text;
 use std::alloc::{AllocError, Global};
 
-/// The mark of what was cut off.
+/// The mark that something was cut off.
 const DOTS: &str = "...";
 
-/// So many columns does it take.
+/// Number of columns of that mark.
 const DOTS_COLUMNS: usize = 3;
 
-/// Bytes as they are shown in so many columns (docs/FORMATS.md, "Checking files"): ASCII that can be printed as it is,
-/// and else escapes; what is longer is cut, and ends with three dots.
+/// Returns bytes as they are shown in this number of columns (docs/FORMATS.md, "Checking files").
+/// Printable ASCII stays as it is, other bytes are escaped, and a longer text is cut and ends with
+/// three dots.
 ///
 /// # Errors
 /// `AllocError` where memory runs out.
 pub fn harmless(alloc: Global, bytes: &[u8], room: usize) -> Result<Vec<u8>, AllocError>
     ensures { IfOk result (λ text. text.items ≡ cut room (shown_text bytes.now)) }
 {
-    // Each byte takes a column at least.
+    // Each byte takes at least one column.
     let seen = bytes.len().min(room.saturating_add(1));
     let mut text = shown(alloc, &bytes[..seen])?;
     cut_off(&mut text, room)?;
     Ok(text)
 }
 
-/// Cuts a text to so many columns.
+/// Cuts a text to this number of columns.
 fn cut_off(text: &mut Vec<u8>, room: usize) -> Result<(), AllocError>
     ensures { OnOk result (text.new.items ≡ cut room text.old.items) }
 {
@@ -40,7 +41,7 @@ fn cut_off(text: &mut Vec<u8>, room: usize) -> Result<(), AllocError>
     put_text(text, DOTS)
 }
 
-/// All of some bytes, as they are shown.
+/// Returns bytes as they are shown, without cutting.
 fn shown(alloc: Global, bytes: &[u8]) -> Result<Vec<u8>, AllocError>
     ensures { IfOk result (λ text. text.items ≡ shown_text bytes.now) }
 {
@@ -51,7 +52,7 @@ fn shown(alloc: Global, bytes: &[u8]) -> Result<Vec<u8>, AllocError>
     Ok(text)
 }
 
-/// Adds a byte, as it is shown.
+/// Appends a byte as it is shown.
 fn put_byte(out: &mut Vec<u8>, byte: u8) -> Result<(), AllocError>
     ensures { OnOk result (out.new.items ≡ out.old.items ++ shown_byte byte) }
 {
@@ -64,7 +65,7 @@ fn put_byte(out: &mut Vec<u8>, byte: u8) -> Result<(), AllocError>
     }
 }
 
-/// A digit to the base 16.
+/// Returns a digit to the base 16.
 fn hex(digit: u8) -> u8
     requires { digit < 16 }
     ensures { result ≡ hex_digit digit }

@@ -1,4 +1,4 @@
-//! What the saved files of a folder hold, and who is behind whom.
+//! The contents of a folder's saved files, and the progress of its parties.
 ghost use Rattle.std.specs.Prelude.{◌≡◌, ◌++◌, ◌||◌, ℕ, List, is_ok, IfOk, OnOk};
 ghost use Rattle.std.specs.Fmt.{decimal};
 ghost use Rattle.std.specs.Option.{option_copied};
@@ -24,21 +24,22 @@ use std::alloc::{AllocError, Global};
 /// The bytes of the two files of a party.
 #[derive(Drop)]
 pub struct SlotBytes {
-    /// Those of the even saves.
+    /// The file of the even saves.
     pub zero: Vec<u8>,
-    /// Those of the odd saves.
+    /// The file of the odd saves.
     pub one: Vec<u8>,
 }
 
-/// What the two files of a party hold.
+/// The contents of the two files of a party.
 #[derive(Drop)]
 struct HeldSlots {
     zero: Held,
     one: Held,
 }
 
-/// A line for each of the six saved files of a folder, one for each party, which says how far it is behind the one that
-/// holds most, and the board of that one; and whether a file loads (docs/FORMATS.md, "Showing saved files").
+/// Returns the report on the six saved files of a folder, and whether a file loads
+/// (docs/FORMATS.md, "Showing saved files"). It has a line for each file, and one for each party
+/// with how far it is behind the one that holds most. The board of that one follows.
 ///
 /// # Errors
 /// `AllocError` where memory runs out.
@@ -69,8 +70,9 @@ pub fn folder_text(
     Ok((text, one_loads(&held0, &held1, &held2)))
 }
 
-/// A line for each of the two files of a party alone, one which says how many entries they hold, and the board of what
-/// they restore; and whether one loads (docs/FORMATS.md, "Showing saved files").
+/// Returns the report on the two files of a party alone, and whether one loads (docs/FORMATS.md,
+/// "Showing saved files"). It has a line for each file, one with the number of entries that they
+/// hold, and the board of what they restore.
 ///
 /// # Errors
 /// `AllocError` where memory runs out.
@@ -91,7 +93,7 @@ pub fn party_text(
     Ok((text, held.loads()))
 }
 
-/// Whether one of the files loads.
+/// Returns whether one of the files loads.
 fn one_loads(held0: &HeldSlots, held1: &HeldSlots, held2: &HeldSlots) -> bool
     ensures { result ≡ is_ok (held_of held0.now.zero) || is_ok (held_of held0.now.one) || is_ok (held_of held1.now.zero)
         || is_ok (held_of held1.now.one) || is_ok (held_of held2.now.zero) || is_ok (held_of held2.now.one) }
@@ -99,7 +101,7 @@ fn one_loads(held0: &HeldSlots, held1: &HeldSlots, held2: &HeldSlots) -> bool
     held0.loads() || held1.loads() || held2.loads()
 }
 
-/// Adds the board of the party that holds most, if there is one.
+/// Appends the board of the party that holds most, if there is one.
 fn put_leader(alloc: Global, out: &mut Vec<u8>, leader: Option<&Saved>) -> Result<(), AllocError>
     ensures { OnOk result ((board : List ℕ) × IsBoardOf (parts_in (option_copied leader.entry)) board
         × (out.new.items ≡ out.old.items ++ board)) }
@@ -110,7 +112,7 @@ fn put_leader(alloc: Global, out: &mut Vec<u8>, leader: Option<&Saved>) -> Resul
     }
 }
 
-/// What the two files of a party hold.
+/// Reads the contents of the two files of a party.
 fn hold_slots(alloc: Global, slots: &SlotBytes) -> Result<HeldSlots, AllocError>
     ensures { IfOk result (λ held. AreHeldIn slots.now.zero.items slots.now.one.items
         (held_of held.zero) (held_of held.one) (loaded_of held.zero) (loaded_of held.one)) }
@@ -122,14 +124,14 @@ fn hold_slots(alloc: Global, slots: &SlotBytes) -> Result<HeldSlots, AllocError>
 }
 
 impl HeldSlots {
-    /// Whether one of the files loads.
+    /// Returns whether one of the files loads.
     fn loads(&self) -> bool
         ensures { result ≡ is_ok (held_of self.now.zero) || is_ok (held_of self.now.one) }
     {
         self.zero.is_ok() || self.one.is_ok()
     }
 
-    /// What the files restore, if it is a save of this party.
+    /// Returns what the files restore, if it is a save of this party.
     fn own_save(&self, party: u8) -> Option<&Saved>
         ensures { parts_in (option_copied result) ≡ own party
             (newer (loaded_of self.now.zero) (loaded_of self.now.one)) }
@@ -141,7 +143,7 @@ impl HeldSlots {
     }
 }
 
-/// Of two saves the one with more entries, and the first where they have as many.
+/// Returns the save with more entries, and the first one where they have as many.
 fn further<'a>(a: Option<&'a Saved>, b: Option<&'a Saved>) -> Option<&'a Saved>
     ensures { parts_in (option_copied result)
         ≡ further_of (parts_in (option_copied a.entry)) (parts_in (option_copied b.entry)) }
@@ -153,7 +155,7 @@ fn further<'a>(a: Option<&'a Saved>, b: Option<&'a Saved>) -> Option<&'a Saved>
     }
 }
 
-/// Adds the lines of the two files of a party.
+/// Appends the lines of the two files of a party.
 fn put_slots(
     out: &mut Vec<u8>,
     party: u8,
@@ -167,7 +169,7 @@ fn put_slots(
     put_slot(out, party, 1, &slots.one, &held.one)
 }
 
-/// Adds the line of a file.
+/// Appends the line of a file.
 fn put_slot(
     out: &mut Vec<u8>,
     party: u8,
@@ -191,7 +193,7 @@ fn put_slot(
     put_text(out, "\n")
 }
 
-/// Adds the line of a party with this save of its own, beside the one who holds most.
+/// Appends the line of a party with this save of its own, compared with the party that holds most.
 fn put_party(
     out: &mut Vec<u8>,
     party: u8,
@@ -212,7 +214,8 @@ fn put_party(
     put_text(out, "\n")
 }
 
-/// Adds how many entries a save has, and how it goes on beside the one of the party who holds most.
+/// Appends the number of entries of a save, and how it compares with that of the party that holds
+/// most.
 fn put_entries(out: &mut Vec<u8>, saved: &Saved, leader: Option<&Saved>) -> Result<(), AllocError>
     ensures { OnOk result ((line : List ℕ) × IsHolding (parts_of saved.now) (parts_in (option_copied leader.entry)) line
         × (out.new.items ≡ out.old.items ++ line)) }
@@ -225,7 +228,7 @@ fn put_entries(out: &mut Vec<u8>, saved: &Saved, leader: Option<&Saved>) -> Resu
     }
 }
 
-/// Adds how a match goes on beside that of another party.
+/// Appends how a match compares with that of another party.
 fn put_compared(out: &mut Vec<u8>, compared: Compared, other: u8) -> Result<(), AllocError>
     ensures { OnOk result (out.new.items ≡ out.old.items ++ compared_words compared other) }
 {
@@ -247,7 +250,7 @@ fn put_compared(out: &mut Vec<u8>, compared: Compared, other: u8) -> Result<(), 
     }
 }
 
-/// Adds words with a number behind them, and words with a party behind them.
+/// Appends words with a number behind them, and words with a party behind them.
 fn put_beside(
     out: &mut Vec<u8>,
     words: &str,

@@ -1,5 +1,5 @@
-//! What the program reports: what it prints of files that were judged and of saved files, and what a command came to,
-//! with the exit status that says so. For whoever shows the same elsewhere.
+//! The program's reports on files that were judged and on saved files, and the endings of commands
+//! with their exit status. For programs that show the same elsewhere.
 //!
 //! ```
 //! let (text, verdict) = check_text(alloc, "a.txt", b"length 1\nopen 3 1\n", None)?;

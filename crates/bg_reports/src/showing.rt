@@ -1,4 +1,4 @@
-//! What two saved files of a party hold.
+//! The contents of two saved files of a party.
 ghost use Rattle.std.specs.Prelude.{◌≡◌, ◌++◌, ℕ, List, Some, IfOk, OnOk};
 ghost use Rattle.bg_text.specs.Boards.BoardText.{line_text};
 ghost use Rattle.bg_wire.specs.FaultWords.{numbered};
@@ -12,11 +12,11 @@ use bg_text::{board_text, put_number, put_terms, put_text};
 use bg_wire::{LoadFault, Saved, load};
 use std::alloc::{AllocError, Global};
 
-/// What a file holds: what was saved, or why its bytes are no saved text.
+/// The contents of a file: what was saved, or why its bytes don't encode a save.
 pub(crate) type Held = Result<Saved, LoadFault>;
 
-/// A line for each of two saved files of a party, and the board of what the two restore; and whether one loads
-/// (docs/FORMATS.md, "Showing saved files").
+/// Returns the report on two saved files of a party, and whether one loads (docs/FORMATS.md,
+/// "Showing saved files"). It has a line for each file, and the board of what the two restore.
 ///
 /// # Errors
 /// AllocError where memory runs out.
@@ -32,7 +32,7 @@ pub fn show_text(alloc: Global, file0: &[u8], file1: &[u8]) -> Result<(Vec<u8>, 
     Ok((text, zero.is_ok() || one.is_ok()))
 }
 
-/// What a file holds.
+/// Reads the contents of a file.
 pub(crate) fn hold(alloc: Global, bytes: &[u8]) -> Result<Held, AllocError>
     ensures holds { IfOk result (λ held. IsHeld bytes.now (held_of held)) }
     ensures loads { IfOk result (λ held. LoadsAs bytes.now (loaded_of held)) }
@@ -43,7 +43,7 @@ pub(crate) fn hold(alloc: Global, bytes: &[u8]) -> Result<Held, AllocError>
     }
 }
 
-/// Adds the line of a file.
+/// Appends the line of a file.
 fn put_file(out: &mut Vec<u8>, file: u8, held: &Held) -> Result<(), AllocError>
     ensures { OnOk result (out.new.items ≡ out.old.items ++ line_text (file_line file (held_of held.now))) }
 {
@@ -55,7 +55,7 @@ fn put_file(out: &mut Vec<u8>, file: u8, held: &Held) -> Result<(), AllocError>
     Ok(())
 }
 
-/// Adds what is said of a file.
+/// Appends the description of a file.
 pub(crate) fn put_held(out: &mut Vec<u8>, held: &Held) -> Result<(), AllocError>
     ensures { OnOk result (out.new.items ≡ out.old.items ++ held_part (held_of held.now)) }
 {
@@ -71,7 +71,7 @@ pub(crate) fn put_held(out: &mut Vec<u8>, held: &Held) -> Result<(), AllocError>
     }
 }
 
-/// Adds whose the save is, and of which match.
+/// Appends the party of the save, and its match.
 fn put_match(out: &mut Vec<u8>, saved: &Saved) -> Result<(), AllocError>
     ensures { OnOk result (out.new.items ≡ out.old.items ++ match_part (parts_of saved.now)) }
 {
@@ -83,7 +83,7 @@ fn put_match(out: &mut Vec<u8>, saved: &Saved) -> Result<(), AllocError>
     put_terms(out, saved.log.length(), saved.log.rules())
 }
 
-/// Adds the number of the save, and what it has.
+/// Appends the number of the save, and its contents.
 fn put_save(out: &mut Vec<u8>, saved: &Saved) -> Result<(), AllocError>
     ensures { OnOk result (out.new.items ≡ out.old.items ++ save_part (parts_of saved.now)) }
 {
@@ -94,7 +94,7 @@ fn put_save(out: &mut Vec<u8>, saved: &Saved) -> Result<(), AllocError>
     put_claim(out, &saved.claim)
 }
 
-/// Adds the number of the claim, if one is kept.
+/// Appends the number of the claim, if one is kept.
 fn put_claim(out: &mut Vec<u8>, claim: &Option<(Number, Action)>) -> Result<(), AllocError>
     ensures { OnOk result (out.new.items ≡ out.old.items ++ part_of_claim claim.now) }
 {
@@ -107,7 +107,7 @@ fn put_claim(out: &mut Vec<u8>, claim: &Option<(Number, Action)>) -> Result<(), 
     }
 }
 
-/// Adds some words, and the number behind them, if there is one.
+/// Appends some words, and the number behind them, if there is one.
 pub(crate) fn put_numbered(
     out: &mut Vec<u8>,
     words: &str,
@@ -122,7 +122,7 @@ pub(crate) fn put_numbered(
     }
 }
 
-/// Adds the board of the newer file that loads, if there is one.
+/// Appends the board of the newer file that loads, if there is one.
 fn put_board(alloc: Global, out: &mut Vec<u8>, zero: &Held, one: &Held) -> Result<(), AllocError>
     ensures { OnOk result ((board : List ℕ) × IsBoardOf (newer (loaded_of zero.now) (loaded_of one.now)) board
         × (out.new.items ≡ out.old.items ++ board)) }
@@ -135,7 +135,7 @@ fn put_board(alloc: Global, out: &mut Vec<u8>, zero: &Held, one: &Held) -> Resul
     }
 }
 
-/// Adds the board of a saved match.
+/// Appends the board of a saved match.
 pub(crate) fn put_board_of(
     alloc: Global,
     out: &mut Vec<u8>,

@@ -1,8 +1,8 @@
-//! The two ways that a datagram goes.
+//! The two directions in which a datagram travels.
 ghost use Rattle.std.specs.Prelude.{◌≡◌};
 ghost use Rattle.bg_seals.specs.Datagrams.{direction_byte};
 
-/// Which way a datagram goes between a party and the referee.
+/// The direction in which a datagram travels between a party and the referee.
 #[derive(Clone, Copy, Debug, PartialEq, Eq)]
 pub enum Direction {
     /// From the party to the referee.
@@ -12,7 +12,7 @@ pub enum Direction {
 }
 
 impl Direction {
-    /// Returns the byte by which it is named: 0 to the referee, 1 from it.
+    /// Returns the byte that encodes the direction: 0 to the referee, 1 from it.
     pub(crate) fn byte(self) -> u8
         ensures { result ≡ direction_byte self }
     {

@@ -1,4 +1,4 @@
-//! HMAC-SHA-256, by the words of RFC 2104.
+//! HMAC-SHA-256, as RFC 2104 defines it.
 ghost use Rattle.std.specs.Prelude.{◌≡◌, ℕ, List, ◌≤◌, ◌++◌, [], length};
 ghost use Rattle.sha2.specs.Hashers.{Holds256};
 ghost use Rattle.bg_seals.specs.Hmac.{hmac_sha256, zero_padded, xored_with};
@@ -6,28 +6,28 @@ ghost use Rattle.bg_seals.specs.Hashers.{HoldsText};
 
 use sha2::{Digest, Sha256};
 
-/// How many bytes an HMAC-SHA-256 has.
+/// Number of bytes of an HMAC-SHA-256.
 pub const HMAC_BYTES: usize = 32;
 
-/// B: how many bytes a block of SHA-256 has.
+/// B in RFC 2104: the number of bytes of a block of SHA-256.
 const BLOCK_BYTES: usize = 64;
 
-/// What ipad repeats.
+/// The byte that ipad repeats.
 const IPAD_BYTE: u8 = 0x36;
 
-/// What opad repeats.
+/// The byte that opad repeats.
 const OPAD_BYTE: u8 = 0x5C;
 
-/// A hasher of HMAC-SHA-256, which has a key and takes a text piece by piece.
+/// A hasher of HMAC-SHA-256, which has a key and takes its text piece by piece.
 #[derive(Drop)]
 pub struct HmacSha256 {
-    /// It holds K XOR ipad, and the text so far.
+    /// Has hashed K XOR ipad, and the text so far.
     inner: Sha256,
-    /// It holds K XOR opad.
+    /// Has hashed K XOR opad.
     outer: Sha256,
 }
 
-/// Returns a key of at most 64 bytes with zeros appended up to 64.
+/// Returns a key of at most 64 bytes, padded with zeros to 64.
 fn zero_padded(key: &[u8]) -> [u8; BLOCK_BYTES]
     requires { length key.now ≤ BLOCK_BYTES }
     ensures { result ≡ zero_padded key.now }
@@ -37,7 +37,7 @@ fn zero_padded(key: &[u8]) -> [u8; BLOCK_BYTES]
     block
 }
 
-/// Returns a block of which each byte is XORed with this one.
+/// Returns the block with each of its bytes XORed with `pad_byte`.
 fn xored_with(pad_byte: u8, block: &[u8; BLOCK_BYTES]) -> [u8; BLOCK_BYTES]
     ensures { result ≡ xored_with pad_byte block.now }
 {
@@ -49,7 +49,7 @@ fn xored_with(pad_byte: u8, block: &[u8; BLOCK_BYTES]) -> [u8; BLOCK_BYTES]
 }
 
 impl HmacSha256 {
-    /// Returns the hasher of the empty text under a key of any length.
+    /// Returns a hasher of the empty text under a key of any length.
     #[tactic(auto, unfolding(crate::specs::Hmac::key_xor_ipad, crate::specs::Hmac::key_xor_opad))]
     pub fn new(key: &[u8]) -> HmacSha256
         ensures { HoldsText result key.now [] }
@@ -61,7 +61,7 @@ impl HmacSha256 {
         }
     }
 
-    /// Returns the hasher of the empty text under K, a key of a whole block.
+    /// Returns a hasher of the empty text under K, a key of a whole block.
     fn of_block(block: &[u8; BLOCK_BYTES]) -> HmacSha256
         ensures inner { Holds256 result.inner (xored_with IPAD_BYTE block.now) }
         ensures outer { Holds256 result.outer (xored_with OPAD_BYTE block.now) }

@@ -4,14 +4,15 @@ use crate::keyed_hashing::HmacSha256;
 use std::fmt;
 use std::marker::Model;
 
-/// How many bytes a key has.
+/// Number of bytes of a key.
 pub const KEY_BYTES: usize = 32;
 
-/// The key of a party, hashed once for all its datagrams. Contracts see it as its bytes, and it is shown without them.
+/// The key of a party, hashed once for all its datagrams. Contracts see it as its bytes; `Debug`
+/// output leaves them out.
 #[derive(Drop)]
 pub struct Key {
     bytes: [u8; KEY_BYTES],
-    /// It has the key, and holds the empty text.
+    /// A hasher with this key that holds the empty text.
     hasher: HmacSha256,
 }
 
@@ -41,7 +42,7 @@ impl Key {
     ghost use Rattle.std.specs.Prelude.{◌≡◌, []};
     ghost use Rattle.bg_seals.specs.Hashers.{HoldsText};
 
-    /// Returns the key of these bytes.
+    /// Returns the key with these bytes.
     pub fn new(bytes: &[u8; KEY_BYTES]) -> Key
         ensures { result ≡ bytes.now }
     {
@@ -51,14 +52,15 @@ impl Key {
         }
     }
 
-    /// Returns its bytes, to hand them to the party, or to keep them in a file that nobody else reads.
+    /// Returns the key's bytes, to hand them to the party or to keep them in a file that nobody
+    /// else reads.
     pub fn bytes(&self) -> &[u8; KEY_BYTES]
         ensures { result.now ≡ self.now }
     {
         &self.bytes
     }
 
-    /// Returns a hasher that has the key, and holds the empty text.
+    /// Returns a hasher with this key that holds the empty text.
     pub(crate) fn hasher(&self) -> HmacSha256
         ensures { HoldsText result self.now [] }
     {

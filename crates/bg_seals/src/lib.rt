@@ -1,4 +1,5 @@
-//! Seals the datagrams of a match, under a key for each party (docs/FORMATS.md, "Sealed datagrams").
+//! Seals the datagrams of a match, under a key for each party (docs/FORMATS.md,
+//! "Sealed datagrams").
 //!
 //! ```
 //! // The referee has the secret of its matches, and each party a key of it.

@@ -1,4 +1,4 @@
-//! Datagrams that are sealed, and opened.
+//! Sealing and opening datagrams.
 ghost use Rattle.std.specs.Prelude.{◌≡◌, ◌≤◌, length, MatchOption};
 ghost use Rattle.bg_seals.specs.Datagrams.{most_packet_bytes, tag, IsSealed, IsNotSealed};
 
@@ -7,13 +7,13 @@ use crate::keys::Key;
 use crate::tags::{TAG_BYTES, Tag};
 use arrayvec::ArrayVec;
 
-/// The most bytes of a packet that is sealed.
+/// Number of bytes of a packet that is sealed, at most.
 pub const MOST_PACKET_BYTES: usize = 128;
 
-/// The most bytes of a sealed datagram: a packet, and a tag of 16 bytes.
+/// Number of bytes of a sealed datagram, at most: a packet, and a tag of 16 bytes.
 pub const MOST_SEALED_BYTES: usize = 144;
 
-/// What the text that a tag is of begins with.
+/// The prefix of the text that a tag authenticates.
 const LABEL: &[u8] = b"bg_relay seal 1";
 
 /// The bytes of a sealed datagram.
@@ -31,8 +31,8 @@ impl Key {
         Tag::truncated(&hasher.finalize())
     }
 
-    /// Returns the datagram of a packet of at most 128 bytes, sealed under this key for a way between the referee and
-    /// this party.
+    /// Returns the datagram of a packet of at most 128 bytes. It is sealed under this key, for a
+    /// direction between the referee and this party.
     pub fn seal(&self, direction: Direction, party: u8, packet: &[u8]) -> SealedDatagram
         requires { length packet.now ≤ most_packet_bytes }
         ensures { IsSealed self.now direction party packet.now result.items }
@@ -44,8 +44,8 @@ impl Key {
         datagram
     }
 
-    /// Returns the packet that was sealed under this key, for this way and this party; `None` where the datagram is no
-    /// packet that was sealed so.
+    /// Returns the packet that was sealed under this key, for this direction and this party.
+    /// Returns `None` where the datagram is no packet that was sealed so.
     pub fn open<'a>(&self, direction: Direction, party: u8, datagram: &'a [u8]) -> Option<&'a [u8]>
         ensures { MatchOption result (IsNotSealed self.now direction party datagram.now)
             (λ packet. IsSealed self.now direction party packet.now datagram.now) }

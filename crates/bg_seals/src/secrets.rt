@@ -4,14 +4,14 @@ use crate::keys::{KEY_BYTES, Key};
 use std::fmt;
 use std::marker::Model;
 
-/// What the text that a key is derived by begins with.
+/// The prefix of the text that a key is derived from.
 const LABEL: &[u8] = b"bg_relay key 1";
 
-/// The master secret of a referee, which the key of each party is derived from. Contracts see it as its bytes, and it
-/// is shown without them.
+/// The master secret of a referee, from which the key of each party is derived. Contracts see it as
+/// its bytes; `Debug` output leaves them out.
 #[derive(Drop)]
 pub struct MasterSecret {
-    /// The key by which keys are derived.
+    /// The key that keys are derived with.
     key: Key,
 }
 
@@ -38,7 +38,7 @@ impl MasterSecret {
     ghost use Rattle.std.specs.Prelude.{◌≡◌};
     ghost use Rattle.bg_seals.specs.Keys.{party_key};
 
-    /// Returns the secret of these bytes, which nobody but the referee may know.
+    /// Returns the secret with these bytes, which nobody but the referee may know.
     pub fn new(bytes: &[u8; KEY_BYTES]) -> MasterSecret
         ensures { result ≡ bytes.now }
     {

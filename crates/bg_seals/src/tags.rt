@@ -1,10 +1,10 @@
-//! Tags, and how they are compared.
+//! Tags and their comparison.
 ghost use Rattle.std.specs.Prelude.{◌≡◌, ◌↔◌, take, IsTrue};
 ghost use Rattle.bg_seals.specs.Datagrams.{tag_bytes};
 
 use crate::keyed_hashing::HMAC_BYTES;
 
-/// How many bytes a tag has.
+/// Number of bytes of a tag.
 pub const TAG_BYTES: usize = 16;
 
 /// The tag of a packet.
@@ -23,8 +23,8 @@ impl Tag {
         Tag { bytes }
     }
 
-    /// Returns whether these bytes are the tag's. Each of them is compared, whichever differ; how long that takes, no
-    /// clause can say.
+    /// Returns whether the tag has these bytes. All 16 bytes are compared, whichever of them
+    /// differ. No clause can say how long that takes.
     pub(crate) fn is(&self, bytes: &[u8; TAG_BYTES]) -> bool
         ensures { IsTrue result ↔ (self.now.bytes ≡ bytes.now) }
     {

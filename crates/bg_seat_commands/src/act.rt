@@ -18,25 +18,27 @@ use std::net::Net;
 use std::rt::Files;
 use std::time::Clock;
 
-/// So many ticks pass before the seat claims, in which the referee may tell what this life of it does not know.
+/// Number of ticks before the seat claims, in which the referee may send what this process doesn't
+/// know yet.
 const TICKS_TO_LISTEN: u32 = 2;
 
-/// In one second there are so many ticks.
+/// Number of ticks in one second.
 const TICKS_A_SECOND: u32 = 10;
 
-/// What the call is to do.
+/// The task of the call.
 #[derive(Drop)]
 struct Wanted {
-    /// The action; with none it is waited for the player's turn.
+    /// The action; without one, the call waits for the player's turn.
     action: Option<Action>,
-    /// The entry, from 1, that the action is to be claimed as.
+    /// The number, from 1, of the entry that the action is to be claimed as.
     entry: Option<Number>,
-    /// How many ticks there are for it.
+    /// Number of ticks that the call may take.
     ticks: u32,
 }
 
 impl Wanted {
-    /// Whether the entry that the action is to be claimed as is there already, among so many.
+    /// Returns whether the first `held` entries include the one that the action is to be claimed
+    /// as.
     fn is_there(&self, held: Number) -> bool {
         match self.entry {
             Some(entry) => entry <= held,
@@ -45,7 +47,7 @@ impl Wanted {
     }
 }
 
-/// Where the call is.
+/// The stage of the call.
 #[derive(Clone, Copy, PartialEq, Eq)]
 enum Stage {
     /// It waits for its turn.
@@ -69,7 +71,7 @@ where
     act(rt, seat, &wanted, is_watched)
 }
 
-/// The action that some words say; none where there is no word.
+/// Returns the action that some words spell; `None` where there are no words.
 fn action_of<R: Eprint + AllocGlobal>(rt: &R, words: &[&str]) -> Result<Option<Action>, Ending> {
     let line = allocated(rt, joined(rt.alloc(), words))?;
     match parse_action(&line) {
@@ -123,7 +125,7 @@ where
     Ok(Ending::Failed)
 }
 
-/// Claims the action; the number of its entry, or none where there is nothing to claim.
+/// Claims the action. Returns the number of its entry, or `None` where there is nothing to claim.
 fn claim<R>(rt: &R, seat: &mut Seat<'_, R>, wanted: &Wanted) -> Result<Option<Number>, Ending>
 where
     R: Net + Files<File = File> + Clock + Print + Eprint + AllocGlobal,
@@ -150,7 +152,7 @@ where
     }
 }
 
-/// The time is over; what is claimed and saved goes out with the next call.
+/// Reports that the time is over. A claim that was saved is sent by the next call.
 fn out_of_time<R>(rt: &R, seat: &Seat<'_, R>) -> Ending
 where
     R: Net + Files<File = File> + Clock + Eprint + AllocGlobal,
@@ -177,7 +179,8 @@ where
     }
 }
 
-/// Prints the entries since the beginning and the board; and says whether the entry of this number answers the action.
+/// Prints the entries since the beginning and the board. Returns the ending, by whether the entry
+/// with this number answers the action.
 fn finish<R>(
     rt: &R,
     seat: &Seat<'_, R>,
@@ -202,7 +205,7 @@ where
     Ok(ending)
 }
 
-/// Prints the entries of a record behind so many, and its board.
+/// Prints the entries of a record behind the first `from`, and its board.
 fn print_news<R: Print + AllocGlobal>(rt: &R, record: &Record, from: Number) -> io::Result<()> {
     let mut text = Vec::new(rt.alloc());
     put_entries(&mut text, record, from)?;

@@ -1,6 +1,7 @@
-//! The commands that play for a player: at a terminal, one action for scripts, and an automatic player. Each plays in
-//! the process of the player's seat, and gives what it came to, as an error where it ended early, which it says on the
-//! standard error. For a program, which ends with the status of that.
+//! The commands that play for a player: at a terminal, one action for scripts, and an automatic
+//! player. Each plays in the process of the player's seat, and returns its ending. Where it ended
+//! early, it returns that as an error, and reports it on the standard error. For a program that
+//! exits with the status of that ending.
 //!
 //! ```
 //! let seat = SeatOptions {

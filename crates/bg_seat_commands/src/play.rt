@@ -25,10 +25,10 @@ use std::net::Net;
 use std::rt::Files;
 use std::time::Clock;
 
-/// So many typed lines are obeyed between two rounds at most.
+/// Number of typed lines that are obeyed between two rounds, at most.
 const MOST_LINES: u32 = 64;
 
-/// What may be typed.
+/// The help on what may be typed.
 const HELP: &str = "When it is your turn you type one of these:
   roll, double        or r, d
   take, drop          or t, p: after the other player's double
@@ -45,14 +45,14 @@ and at any time:
   quit                ends; the same command goes on later
 ";
 
-/// What is said to one who leaves.
+/// The message to a player who leaves.
 const GOES_ON: &[u8] = b"you left the table: the match goes on by the same command";
 
-/// What is asked of one who resigns.
+/// The question to a player who resigns.
 const WHICH_LEVEL: &[u8] =
     b"at which level? Type `resign normal`, `resign gammon` or `resign backgammon`";
 
-/// Lets a person play for the player that the options name, on this terminal if it is one.
+/// Lets a person play for the player that the options name, at this terminal if there is one.
 pub fn run<R>(
     rt: &R,
     options: PlayOptions<'_>,
@@ -78,7 +78,7 @@ where
     table.play()
 }
 
-/// A person's seat, and what he has been shown.
+/// A person's seat, and what they have been shown.
 #[derive(Drop)]
 struct Table<'a, R> {
     rt: &'a R,
@@ -87,17 +87,17 @@ struct Table<'a, R> {
     seat: Seat<'a, R>,
     /// Whether a turn that is the only one is played at once.
     plays_forced: bool,
-    /// How many entries were printed.
+    /// Number of entries that were printed.
     shown: Number,
-    /// Where the match stood when they were.
+    /// The standing of the match when they were.
     stood: Option<Standing>,
-    /// What was typed of a turn so far.
+    /// The part of a turn that was typed so far.
     typed: Vec<u8>,
-    /// How many lines of the legal turns were printed.
+    /// Number of lines of the legal turns that were printed.
     listed: usize,
     /// Whether nothing is heard of the referee.
     is_silent: bool,
-    /// What was said of the other player's coming and going.
+    /// The reports on the other player's coming and going.
     opponent: Opponent,
 }
 
@@ -124,7 +124,7 @@ where
         Ok(Ending::Failed)
     }
 
-    /// Takes what was typed; whether more may come.
+    /// Reads what was typed. Returns whether more may come.
     fn hear(&mut self, reader: &mut impl Read, lines: &mut TypedLines) -> Result<bool, Ending> {
         let mut buffer = [0; 256];
         match reader.read(&mut buffer) {
@@ -137,7 +137,7 @@ where
         }
     }
 
-    /// Obeys the lines that were typed; whether one of them ends the game.
+    /// Obeys the lines that were typed. Returns whether one of them ends the game.
     fn obey_all(&mut self, lines: &mut TypedLines) -> Result<bool, Ending> {
         for _ in 0..MOST_LINES {
             let Some(line) = allocated(self.rt, lines.next(self.rt.alloc()))? else {
@@ -150,7 +150,7 @@ where
         Ok(false)
     }
 
-    /// Does what a typed line says; whether it ends the game.
+    /// Obeys a typed line. Returns whether it ends the game.
     fn obey(&mut self, line: &[u8]) -> Result<bool, Ending> {
         match allocated(self.rt, wish_of(self.rt.alloc(), line))? {
             Wish::Quit => return Ok(true),

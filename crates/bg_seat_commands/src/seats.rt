@@ -22,31 +22,31 @@ use std::time::Clock;
 
 type Process<'a, R> = SeatProcess<PartySocket<'a, R>, FileKeeper<'a, R>>;
 
-/// A seat that plays, how it waits, and the lock of its folder.
+/// A seat that plays, with its ways to wait, and the lock of its folder.
 #[derive(Drop)]
 pub(crate) struct Seat<'a, R> {
     rt: &'a R,
-    /// What its key file says of the match.
+    /// The match of its key file.
     pub(crate) table: MatchFile,
     pub(crate) process: Process<'a, R>,
-    /// How the players are called.
+    /// The names of the players.
     pub(crate) names: Names,
     pub(crate) waiting: Waiting,
     witness: Witness<'a, R>,
     ticking: Ticking,
     hearing: Hearing,
     player: Player,
-    /// How many entries it has ever held.
+    /// Number of entries that it has ever held.
     known: Number,
     _lock: FolderLock,
 }
 
-/// What a round came to.
+/// The result of a round.
 #[derive(Clone, Copy)]
 pub(crate) struct Round {
-    /// Standard input can be read.
+    /// Whether standard input can be read.
     pub(crate) input: bool,
-    /// A tick was due.
+    /// Whether a tick was due.
     pub(crate) tick: bool,
     pub(crate) going: Going,
     /// Whether the referee is heard of, where that has changed.
@@ -59,8 +59,8 @@ impl<'a, R> Seat<'a, R>
 where
     R: Net + Files<File = File> + Clock + Eprint + AllocGlobal,
 {
-    /// The seat that the options name, over a folder of its own; its devices note their failures there. Standard input
-    /// is waited for too if that is wanted.
+    /// Opens the seat that the options name, over a folder of its own. Its devices note their
+    /// failures in `failures`. It waits for standard input too if `with_input` is set.
     pub(crate) fn open(
         rt: &'a R,
         failures: &'a Failures,
@@ -112,7 +112,8 @@ where
         })
     }
 
-    /// Waits, and lets the next round be. An entry in the player's name that the seat never claimed is said.
+    /// Waits, and runs the next round. Reports an entry in the player's name that the seat never
+    /// claimed.
     pub(crate) fn next_round(&mut self) -> Result<Round, Ending> {
         let next = self.ticking.next_round(self.rt, &mut self.waiting);
         let (ready, tick) = waited(self.rt, next)?;
@@ -131,8 +132,8 @@ where
         }
     }
 
-    /// Looks through the entries that came, and says which is the first in the player's name that does not answer this
-    /// claim, if one is.
+    /// Looks through the entries that came. Returns and reports the first in the player's name that
+    /// doesn't answer this claim, if there is one.
     fn news_of_others(&mut self, claim: &Option<(Number, Action)>) -> Option<Number> {
         let foreign = first_foreign(self.process.held(), self.player, self.known, claim);
         self.known = self.known.max(self.held());
@@ -142,7 +143,7 @@ where
         foreign
     }
 
-    /// Claims an action, and says what that came to.
+    /// Claims an action, and returns the outcome.
     pub(crate) fn choose(&mut self, action: Action) -> Result<Outcome, Ending> {
         match self.process.choose(action, &mut self.witness) {
             Ok(outcome) => Ok(outcome),
@@ -150,13 +151,13 @@ where
         }
     }
 
-    /// How many entries it holds.
+    /// Returns the number of entries that the seat holds.
     pub(crate) fn held(&self) -> Number {
         count_of(self.process.held())
     }
 }
 
-/// What is said of an entry that another made for the player, before its number and behind it.
+/// The words before and behind the number of an entry that somebody else made for the player.
 pub(crate) const NOT_CHOSEN: (&str, &str) = (
     "somebody else plays for you: entry ",
     " is in your name, and was not chosen here",
@@ -169,7 +170,8 @@ fn count_of(held: Option<&Record>) -> Number {
     }
 }
 
-/// Returns the number of the first entry behind so many that is in the player's name, and does not answer this claim.
+/// Returns the number of the first entry after entry `behind` that is in the player's name, and
+/// doesn't answer this claim.
 fn first_foreign(
     held: Option<&Record>,
     player: Player,
@@ -185,7 +187,7 @@ fn first_foreign(
     None
 }
 
-/// Whether the entry of this number answers this claim.
+/// Returns whether the entry with this number answers this claim.
 fn is_claimed(record: &Record, number: Number, claim: &Option<(Number, Action)>) -> bool {
     match claim {
         Some((claimed, action)) if *claimed == number => {

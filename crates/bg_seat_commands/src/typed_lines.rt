@@ -2,10 +2,10 @@
 
 use std::alloc::{AllocError, Global};
 
-/// A longer line is no action, and is cut.
+/// The length at which a line is cut. A longer line is not an action.
 const LONGEST_LINE: usize = 256;
 
-/// Words as one line, with a blank between two.
+/// Joins words to one line, with a blank between two.
 pub(crate) fn joined(alloc: Global, words: &[&str]) -> Result<Vec<u8>, AllocError> {
     let mut line = Vec::new(alloc);
     for word in words {
@@ -17,7 +17,7 @@ pub(crate) fn joined(alloc: Global, words: &[&str]) -> Result<Vec<u8>, AllocErro
     Ok(line)
 }
 
-/// Bytes as they come, and the lines that are whole.
+/// The bytes that have come, and the complete lines in them.
 #[derive(Drop)]
 pub(crate) struct TypedLines {
     bytes: Vec<u8>,
@@ -30,12 +30,12 @@ impl TypedLines {
         }
     }
 
-    /// More bytes came.
+    /// Appends bytes that have come.
     pub(crate) fn push(&mut self, bytes: &[u8]) -> Result<(), AllocError> {
         self.bytes.extend_from_slice(bytes)
     }
 
-    /// The oldest line that is whole, without its end, and cut where it is too long.
+    /// Takes the oldest complete line, without its end, and cut where it is too long.
     pub(crate) fn next(&mut self, alloc: Global) -> Result<Option<Vec<u8>>, AllocError> {
         let Some(end) = self.bytes.iter().position(|byte| *byte == b'\n') else {
             return Ok(None);

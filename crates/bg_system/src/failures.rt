@@ -1,4 +1,4 @@
-//! Why calls of devices failed, for whoever runs them to tell.
+//! The failures of devices, for the process that runs them to report.
 ghost use Rattle.std.specs.Iterator.{at_most};
 
 pub(crate) mod device_failures;
@@ -9,16 +9,17 @@ use arrayvec::ArrayVec;
 use std::cell::{Cell, RefCell};
 use std::io;
 
-/// So many failures are kept at most. No event notes more, so that none is lost where they are taken out after each: a
-/// tick of the referee sends to 255 parties at most, and of sends that fail one after the other the first alone is
-/// noted.
+/// Number of failures kept at most. No event notes more, so none is lost if they are taken out
+/// after each event. A tick of the referee sends to at most 255 parties, and only the first of
+/// consecutive failed sends is noted.
 const ROOM: usize = 128;
 
-/// Why calls of devices failed, until it is taken out. The devices of a process are lent it when they are made, and
-/// note their failures in it; whoever runs them takes these out, while they run too, and tells them as he likes.
+/// The failures of devices, kept until they are taken out. The devices of a process borrow it when
+/// they are made, and note their failures in it. The process that runs them takes these out, even
+/// while they run, and reports them as it likes.
 ///
-/// Of failures of one kind that follow each other, at one file, one socket or one folder, the first alone is noted, so
-/// that a device that stays out of order neither fills the screen nor hides another.
+/// Only the first of consecutive failures of one kind, at one file, one socket or one folder, is
+/// noted. So a device that stays broken neither fills the screen nor hides another.
 #[derive(Drop)]
 pub struct Failures {
     noted: RefCell<ArrayVec<Option<DeviceFailure>, ROOM>>,
@@ -26,7 +27,7 @@ pub struct Failures {
 }
 
 impl Failures {
-    /// Of devices that have not failed yet.
+    /// Creates the list of failures, which is empty.
     pub fn new() -> Failures {
         Failures {
             noted: RefCell::new(ArrayVec::new()),
@@ -34,25 +35,26 @@ impl Failures {
         }
     }
 
-    /// Notes why a call failed; where 128 failures were noted and not taken out, this one is left out.
+    /// Notes why a call failed. Leaves this failure out where 128 failures were noted and not taken
+    /// out.
     pub fn note(&self, call: FailedCall, error: io::Error) {
         if let Ok(mut noted) = self.noted.try_borrow_mut() {
             let _ = noted.try_push(Some(DeviceFailure { call, error }));
         }
     }
 
-    /// Returns whether a device failed for good: its files count no longer, and the process that uses it may as well
-    /// end.
+    /// Returns whether a device failed for good. Its files no longer count, and the process that
+    /// uses it may as well end.
     pub fn are_final(&self) -> bool {
         self.are_final.get()
     }
 
-    /// Says that a device failed for good.
+    /// Marks that a device failed for good.
     pub(crate) fn make_final(&self) {
         self.are_final.set(true);
     }
 
-    /// Takes the failures out, the oldest first, as they are asked for.
+    /// Takes the failures out, the oldest first, as the iterator is advanced.
     pub fn drain(&self) -> DrainedFailures<'_> {
         DrainedFailures {
             failures: self,
@@ -61,11 +63,11 @@ impl Failures {
     }
 }
 
-/// The failures that are taken out, the oldest first; those that are not asked for stay.
+/// An iterator that takes failures out, the oldest first. Failures that it has not reached stay.
 #[derive(Drop)]
 pub struct DrainedFailures<'a> {
     failures: &'a Failures,
-    /// So many may still come.
+    /// Number of failures that may still come.
     left: usize,
 }
 

@@ -24,13 +24,15 @@ use std::io;
 use std::io::Read;
 use std::rt::Files;
 
-/// The most bytes that are read of a saved file: one more than the longest saved text has.
+/// Number of bytes of a saved file that are read, at most: one more than the longest saved text
+/// has.
 const MOST_SAVED_BYTES: u64 = LONGEST_SAVED_TEXT as u64 + 1;
 
-/// Returns the bytes of a saved file, as far as a saved text goes, and none where it is missing.
+/// Returns the bytes of a saved file, up to the length of a saved text; none where it is missing.
 ///
 /// # Errors
-/// Why the file could not be opened or read; `InvalidInput` where it is no plain file.
+/// The system's error where the file can't be opened or read; `InvalidInput` where it isn't a plain
+/// file.
 pub fn read_saved(rt: &(impl Files<File = File> + AllocGlobal), path: &str) -> io::Result<Vec<u8>> {
     match open_plain(rt, path) {
         Ok(file) => saved_bytes(rt.alloc(), file),
@@ -39,7 +41,7 @@ pub fn read_saved(rt: &(impl Files<File = File> + AllocGlobal), path: &str) -> i
     }
 }
 
-/// Returns the bytes of an open file, as far as a saved text goes.
+/// Returns the bytes of an open file, up to the length of a saved text.
 fn saved_bytes(alloc: Global, file: File) -> io::Result<Vec<u8>> {
     let mut bytes = Vec::new(alloc);
     file.take(MOST_SAVED_BYTES).read_to_end(&mut bytes)?;

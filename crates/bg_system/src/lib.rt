@@ -1,5 +1,6 @@
-//! What the parties of a match have of the system: sockets on the loopback address, files in a folder, ways to wait,
-//! and notes of why a call of these failed. For whoever carries a match between processes of one machine.
+//! The system as the parties of a match use it: sockets on the loopback address, files in a folder,
+//! ways to wait, and notes of failed calls. For programs that carry a match between processes of
+//! one machine.
 //!
 //! ```
 //! // A socket that hears itself alone, as a party's in a match of one process.

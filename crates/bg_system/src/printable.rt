@@ -1,10 +1,11 @@
-//! Texts of others, shown so that they can't break a terminal.
+//! Escaping foreign texts, so that they can't break a terminal.
 
 use std::fmt;
 use std::fmt::{Display, Formatter, Write};
 
-/// The name of a file or a folder as messages show it: what can't be printed stands there as its escape, a line feed as
-/// `\n` and a terminal's escape character as `\u{1b}`. A backslash and a double quote have a backslash before them.
+/// The name of a file or a folder as messages show it. What can't be printed is escaped: a line
+/// feed as `\n`, a terminal's escape character as `\u{1b}`. A backslash and a double quote are
+/// preceded by a backslash.
 #[derive(Clone, Copy)]
 pub struct Printable<'a>(pub &'a str);
 
@@ -20,7 +21,7 @@ impl<'a> Display for Printable<'a> {
     }
 }
 
-/// Lines of which each is shown as a name is.
+/// Lines, each of which is escaped as a name is.
 #[derive(Clone, Copy)]
 pub struct PrintableLines<'a>(pub &'a str);
 

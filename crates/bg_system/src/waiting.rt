@@ -1,4 +1,4 @@
-//! Waits for a socket, and for standard input.
+//! Waiting for a socket, and for standard input.
 
 use mio::unix::SourceFd;
 use mio::{Events, Interest, Poll, Registry, Token};
@@ -14,7 +14,7 @@ const INPUT: Token = Token(1);
 
 const STANDARD_INPUT: RawFd = 0;
 
-/// What can be read without waiting.
+/// The sources that can be read without waiting.
 #[derive(Clone, Copy, Debug, PartialEq, Eq)]
 pub struct Ready {
     /// The socket has a datagram.
@@ -23,21 +23,21 @@ pub struct Ready {
     pub input: bool,
 }
 
-/// How standard input is waited for.
+/// The way in which standard input is waited for.
 #[derive(Clone, Copy, Debug, PartialEq, Eq)]
 enum Input {
-    /// It is not.
+    /// It is not waited for.
     Unused,
     /// It is a pipe or a terminal.
     Watched,
-    /// It is a file, or another thing that can always be read.
+    /// It is a file, or another source that can always be read.
     Always,
 }
 
-/// A socket, and perhaps standard input, for which a process waits without using the processor. The poll tells of what
-/// has become ready since its source was registered, so each wait registers them anew: then one read after each report
-/// never blocks, and what a read leaves is told again. Descriptor 0 stays as it is, since a shell and other processes
-/// share it.
+/// A socket, and perhaps standard input, for which a process waits without using the processor. The
+/// poll reports what has become ready since its source was registered, so each wait registers the
+/// sources anew. Then one read after each report never blocks, and what a read leaves is reported
+/// again. Descriptor 0 keeps its mode, since a shell and other processes share it.
 #[derive(Drop)]
 pub struct Waiting {
     poll: Poll,
@@ -55,10 +55,10 @@ fn watch_again(registry: &Registry, descriptor: RawFd, token: Token) -> io::Resu
 }
 
 impl Waiting {
-    /// For this socket, and for standard input if that is wanted.
+    /// Creates the poll for this socket, and for standard input if `with_input` is set.
     ///
     /// # Errors
-    /// Why the system gives no poll, or does not register one of them.
+    /// The system's error where it gives no poll, or doesn't register a source.
     pub fn new(
         rt: &(impl Net + AllocGlobal),
         socket: RawFd,
@@ -83,7 +83,7 @@ impl Waiting {
         })
     }
 
-    /// Standard input has ended, and is not waited for any more.
+    /// Stops waiting for standard input, which has ended.
     pub fn forget_input(&mut self) {
         if self.input == Input::Watched {
             let _ = self
@@ -94,10 +94,10 @@ impl Waiting {
         self.input = Input::Unused;
     }
 
-    /// Waits until something can be read, at most so long.
+    /// Waits until something can be read, for at most this long.
     ///
     /// # Errors
-    /// Why the system does not wait; a signal does not count.
+    /// The system's error where it doesn't wait; an interruption by a signal doesn't count.
     pub fn wait(&mut self, most: Duration) -> io::Result<Ready> {
         watch_again(self.poll.registry(), self.socket, SOCKET)?;
         if self.input == Input::Watched {

@@ -1,4 +1,4 @@
-//! The legal turns, of those that lead to one position the greatest alone.
+//! The legal turns, with the greatest alone of those that lead to one position.
 ghost use Rattle.std.specs.Prelude.{◌≡◌, ◌↔◌, Contains, IfOk, IsTrue};
 ghost use Rattle.bg_turns.specs.InOrder.{AreLegalSteps};
 ghost use Rattle.bg_turns.specs.Turn.{after_steps};
@@ -8,8 +8,8 @@ use bg_board::{Board, Player, Step};
 use bg_turns::{Dice, Turn, legal_turns};
 use std::alloc::{AllocError, Global};
 
-/// Returns the distinct turns, the greatest first: turns that lead to the same position, and so make the same hits, are
-/// told once, by the greatest of them.
+/// Returns the distinct turns, the greatest first. Turns that lead to the same position, and so
+/// make the same hits, are listed once, by the greatest of them.
 pub(crate) fn distinct_turns(
     alloc: Global,
     board: &Board,
@@ -32,7 +32,7 @@ pub(crate) fn distinct_turns(
     Ok(distinct)
 }
 
-/// Whether a board is among some.
+/// Returns whether a board is among some others.
 fn is_among(boards: &[Board], board: &Board) -> bool
     ensures { IsTrue result ↔ Contains boards.now board.now }
 {

@@ -1,4 +1,4 @@
-//! How the board is drawn on a screen.
+//! The ways to draw the board on a screen.
 ghost use Rattle.std.specs.Prelude.{◌≡◌, ◌++◌, OnOk};
 ghost use Rattle.bg_table.specs.DrawnBoards.{board_drawn, drawing_for};
 
@@ -8,26 +8,26 @@ use crate::seen_boards::put_seen_board;
 use bg_board::{Board, Player};
 use std::alloc::AllocError;
 
-/// The fewest columns on which the board has its seven lines.
+/// Number of columns from which the board has its seven lines.
 const COLUMNS_FOR_ROWS: usize = 50;
 
-/// The fewest columns on which checkers stand one above another.
+/// Number of columns from which checkers are stacked.
 const COLUMNS_FOR_STACKS: usize = 80;
 
-/// How the board is drawn on a screen.
+/// The way to draw the board on a screen.
 #[derive(Clone, Copy, Debug, PartialEq, Eq)]
 pub enum Drawing {
-    /// Its checkers stand one above another.
+    /// Checkers are stacked.
     Stacks,
     /// Each half is a row of numbers of checkers.
     Rows,
-    /// It is a list of the points where checkers stand.
+    /// A list of the points that have checkers.
     Points,
 }
 
 impl Drawing {
-    /// Returns how the board is drawn on a screen of so many columns: `Stacks` from 80 on, `Rows` from 50 on, and else
-    /// `Points`.
+    /// Returns the drawing for a screen of this number of columns: `Stacks` from 80 on, `Rows` from
+    /// 50 on, and `Points` below that.
     pub fn fitting(columns: usize) -> Drawing
         ensures { result ≡ drawing_for columns }
     {
@@ -40,7 +40,7 @@ impl Drawing {
         }
     }
 
-    /// Adds the board so, as the reader sees it.
+    /// Appends the board in this drawing, as the reader sees it.
     pub(crate) fn put_board(
         self,
         out: &mut Vec<u8>,

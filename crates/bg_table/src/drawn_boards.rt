@@ -1,4 +1,4 @@
-//! The board with its checkers one above another, as a player sees it.
+//! The board with its checkers stacked, as a player sees it.
 ghost use Rattle.std.specs.Prelude.{◌≡◌, ◌++◌, OnOk, IsTrue};
 ghost use Rattle.std.specs.List.{list_all};
 ghost use Rattle.bg_text.specs.Boards.BoardText.{in_four, is_point, line_text};
@@ -11,15 +11,16 @@ use bg_board::{BAR, Board, Player};
 use bg_text::{letter, put_text};
 use std::alloc::AllocError;
 
-/// The rows of the upper half, from its edge down, which are those of the lower half upwards.
+/// The rows of the upper half, from its edge down, which are those of the lower half from its edge
+/// up.
 const FROM_EDGE: [u8; 5] = [1, 2, 3, 4, 5];
 
 const TO_EDGE: [u8; 5] = [5, 4, 3, 2, 1];
 
-/// The last row of a stack, which shows how many checkers there are where they are more.
+/// The last row of a stack, which shows the number of checkers where there are more.
 const LAST_ROW: u8 = 5;
 
-/// Adds the board with its checkers one above another, as the reader sees it.
+/// Appends the board with its checkers stacked, as the reader sees it.
 #[tactic(auto, unfolding(crate::specs::DrawnBoards::drawn_board))]
 pub(crate) fn put_drawn_board(
     out: &mut Vec<u8>,
@@ -36,7 +37,7 @@ pub(crate) fn put_drawn_board(
     put_aside_line(out, board, reader)
 }
 
-/// Adds some rows of the points left and right of the bar.
+/// Appends some rows of the points left and right of the bar.
 fn put_rows(
     out: &mut Vec<u8>,
     board: &Board,
@@ -56,7 +57,7 @@ fn put_rows(
     Ok(())
 }
 
-/// Adds a row of the points left and right of the bar.
+/// Appends a row of the points left and right of the bar.
 #[tactic(auto, unfolding(crate::specs::DrawnBoards::drawn_line))]
 fn put_row(
     out: &mut Vec<u8>,
@@ -77,7 +78,7 @@ fn put_row(
     put_text(out, "\n")
 }
 
-/// Adds what some points show in a row.
+/// Appends what some points show in a row.
 fn put_drawn_cells(
     out: &mut Vec<u8>,
     board: &Board,
@@ -94,7 +95,7 @@ fn put_drawn_cells(
     Ok(())
 }
 
-/// Adds what a point shows in a row.
+/// Appends what a point shows in a row.
 fn put_drawn_cell(
     out: &mut Vec<u8>,
     board: &Board,
@@ -114,7 +115,7 @@ fn put_drawn_cell(
     }
 }
 
-/// Adds what a stack of so many checkers shows in a row.
+/// Appends what a stack of this number of checkers shows in a row.
 fn put_stacked(out: &mut Vec<u8>, mark: &str, checkers: u8, row: u8) -> Result<(), AllocError>
     ensures { OnOk result (out.new.items ≡ out.old.items ++ in_four (stacked mark.now checkers row)) }
 {

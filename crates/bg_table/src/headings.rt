@@ -12,7 +12,7 @@ use bg_match::{Cube, Phase, Standing};
 use bg_text::{put_number, put_terms, put_text};
 use std::alloc::AllocError;
 
-/// Adds the line of the match and the game.
+/// Appends the line of the match and the game.
 #[tactic(auto, unfolding(crate::specs::Headings::game_line))]
 pub(crate) fn put_game_line(out: &mut Vec<u8>, standing: &Standing) -> Result<(), AllocError>
     ensures { OnOk result (out.new.items ≡ out.old.items ++ line_text (game_line standing.now)) }
@@ -24,14 +24,14 @@ pub(crate) fn put_game_line(out: &mut Vec<u8>, standing: &Standing) -> Result<()
     put_text(out, "\n")
 }
 
-/// What is said of a Crawford game.
+/// Returns the words for a Crawford game, which are empty for other games.
 fn crawford_words(crawford: bool) -> &'static str
     ensures { result.now ≡ mark crawford }
 {
     if crawford { ", Crawford game" } else { "" }
 }
 
-/// Adds the line of the score, that of the reader first.
+/// Appends the line of the score, the reader's first.
 #[tactic(auto, unfolding(crate::specs::Headings::score_line))]
 pub(crate) fn put_score_line(
     out: &mut Vec<u8>,
@@ -47,7 +47,7 @@ pub(crate) fn put_score_line(
     put_text(out, "\n")
 }
 
-/// Adds how many of the points that the match is played to a player has.
+/// Appends a player's name and points, and the points that the match is played to.
 #[tactic(auto, unfolding(crate::specs::Headings::score_words))]
 fn put_score(
     out: &mut Vec<u8>,
@@ -64,7 +64,7 @@ fn put_score(
     put_number(out, standing.length().into())
 }
 
-/// The points of a player.
+/// Returns the points of a player.
 pub(crate) fn score_for(standing: &Standing, player: Player) -> u16
     ensures { result ≡ score_of standing.now player }
 {
@@ -75,7 +75,7 @@ pub(crate) fn score_for(standing: &Standing, player: Player) -> u16
     }
 }
 
-/// Adds the line of the pip counts, that of the reader first.
+/// Appends the line of the pip counts, the reader's first.
 #[tactic(auto, unfolding(crate::specs::Headings::pips_line))]
 pub(crate) fn put_pips_line(
     out: &mut Vec<u8>,
@@ -91,7 +91,7 @@ pub(crate) fn put_pips_line(
     put_text(out, "\n")
 }
 
-/// Adds the pip count of a player.
+/// Appends the pip count of a player.
 #[tactic(auto, unfolding(crate::specs::Headings::pips_words))]
 fn put_pips(
     out: &mut Vec<u8>,
@@ -106,7 +106,8 @@ fn put_pips(
     put_number(out, pip_count(board, player).into())
 }
 
-/// Adds the line of the cube: what it shows, whose it is, and what is offered while a double is answered.
+/// Appends the line of the cube: its value, its owner, and the value on offer while a double is
+/// answered.
 #[tactic(auto, unfolding(crate::specs::Headings::cube_line))]
 pub(crate) fn put_cube_line(
     out: &mut Vec<u8>,
@@ -120,7 +121,7 @@ pub(crate) fn put_cube_line(
     put_text(out, "\n")
 }
 
-/// Adds what the cube shows, and whose it is.
+/// Appends the value and the owner of the cube.
 #[tactic(auto, unfolding(crate::specs::Headings::cube_words))]
 fn put_cube(out: &mut Vec<u8>, cube: Cube, reader: Player) -> Result<(), AllocError>
     ensures { OnOk result (out.new.items ≡ out.old.items ++ cube_words cube reader) }
@@ -130,7 +131,7 @@ fn put_cube(out: &mut Vec<u8>, cube: Cube, reader: Player) -> Result<(), AllocEr
     put_owner(out, cube.owner, reader)
 }
 
-/// Adds whose the cube is.
+/// Appends the owner of the cube.
 #[tactic(auto, unfolding(crate::specs::Headings::owner_words))]
 fn put_owner(out: &mut Vec<u8>, owner: Option<Player>, reader: Player) -> Result<(), AllocError>
     ensures { OnOk result (out.new.items ≡ out.old.items ++ owner_words owner reader) }
@@ -144,7 +145,7 @@ fn put_owner(out: &mut Vec<u8>, owner: Option<Player>, reader: Player) -> Result
     }
 }
 
-/// Adds what a double offers, while it is answered.
+/// Appends what a double offers, while it is answered.
 #[tactic(auto, unfolding(crate::specs::Headings::offer_words))]
 fn put_offer(out: &mut Vec<u8>, phase: Phase, cube: Cube) -> Result<(), AllocError>
     ensures { OnOk result (out.new.items ≡ out.old.items ++ offer_words phase cube.value) }
@@ -155,7 +156,7 @@ fn put_offer(out: &mut Vec<u8>, phase: Phase, cube: Cube) -> Result<(), AllocErr
     }
 }
 
-/// Adds what the cube shows where the double is taken.
+/// Appends the value of the cube after the double is taken.
 #[tactic(auto, unfolding(crate::specs::Headings::doubled_words))]
 fn put_doubled(out: &mut Vec<u8>, value: u64) -> Result<(), AllocError>
     ensures { OnOk result (out.new.items ≡ out.old.items ++ doubled_words value) }

@@ -1,4 +1,4 @@
-//! What a player did last.
+//! A player's last entry.
 ghost use Rattle.std.specs.Prelude.{◌≡◌, ◌≤◌, ◌++◌, ◌↔◌, IsTrue, MatchOption, OnOk, length};
 ghost use Rattle.bg_match.specs.Match.{IsLegalRecord};
 ghost use Rattle.bg_table.specs.LastEntries.{AddsLastLine, HasMadeNone, IsLastOf, IsMadeBy, counted_words as note};
@@ -8,7 +8,7 @@ use bg_match::{Entry, Number, Record};
 use bg_text::{entry_text, letter, put_text};
 use std::alloc::AllocError;
 
-/// Adds the line of the last entry that a player made, if he has made one.
+/// Appends the line of the last entry that a player made, if there is one.
 pub(crate) fn put_last(out: &mut Vec<u8>, log: &Record, player: Player) -> Result<(), AllocError>
     ensures { OnOk result (AddsLastLine log.now player out.old.items out.new.items) }
 {
@@ -18,7 +18,7 @@ pub(crate) fn put_last(out: &mut Vec<u8>, log: &Record, player: Player) -> Resul
     }
 }
 
-/// The number of the last entry that a player made.
+/// Returns the number of the last entry that a player made.
 fn last_of(log: &Record, player: Player) -> Option<Number>
     ensures last { MatchOption result (HasMadeNone log.now player) (λ number. IsLastOf log.now player number) }
     ensures legal { IsLegalRecord log.now.terms log.now.entries }
@@ -32,7 +32,7 @@ fn last_of(log: &Record, player: Player) -> Option<Number>
     None
 }
 
-/// Whether the entry of this number is the player's.
+/// Returns whether the entry with this number is the player's.
 fn is_by(log: &Record, number: Number, player: Player) -> bool
     requires first { 1 ≤ number }
     requires last { number ≤ length log.now.entries }
@@ -41,14 +41,14 @@ fn is_by(log: &Record, number: Number, player: Player) -> bool
     is_seat(log.by(number), player)
 }
 
-/// Whether this is the seat of the player.
+/// Returns whether this is the player's seat.
 fn is_seat(seat: Option<Player>, player: Player) -> bool
     ensures { IsTrue result ↔ (seat ≡ Some player) }
 {
     seat == Some(player)
 }
 
-/// Adds the line of the last entry of a player, which has this number.
+/// Appends the line of a player's last entry, which has this number.
 fn put_last_line(
     out: &mut Vec<u8>,
     log: &Record,
@@ -66,7 +66,7 @@ fn put_last_line(
     put_text(out, "\n")
 }
 
-/// Adds in whose numbers the points of an entry are.
+/// Appends whose numbering the points of an entry have.
 #[tactic(auto, unfolding(crate::specs::LastEntries::counted_words))]
 fn put_counted(out: &mut Vec<u8>, player: Player, entry: &Entry) -> Result<(), AllocError>
     ensures { OnOk result (out.new.items ≡ out.old.items ++ note player entry.now) }

@@ -1,5 +1,6 @@
-//! What a person who plays at a terminal is shown: the board from his own side, with what he may do now, the turns that
-//! he may play, why what he chose is refused, and what a game came to. For a program that lets people play.
+//! The texts for a person who plays at a terminal, for programs that let people play. They show the
+//! board from the player's own side, what the player may do now and which turns are legal. They say
+//! why a choice is refused, and how a game ended.
 //!
 //! ```
 //! let mut record = Record::new(alloc, 1, 3, Rules::One)?;

@@ -11,12 +11,12 @@ use bg_board::{BAR, Board, OFF, Player};
 use bg_text::{letter, put_number, put_text};
 use std::alloc::AllocError;
 
-/// The points in the reader's numbers, from the farthest from his home down.
+/// The points in the reader's numbering, from the highest down.
 const POINTS_DOWN: [u8; 24] = [
     24, 23, 22, 21, 20, 19, 18, 17, 16, 15, 14, 13, 12, 11, 10, 9, 8, 7, 6, 5, 4, 3, 2, 1,
 ];
 
-/// Adds the board as a list of the points where checkers stand, as the reader sees it.
+/// Appends the board as a list of the points that have checkers, as the reader sees it.
 #[tactic(auto, unfolding(crate::specs::DrawnBoards::listed_board))]
 pub(crate) fn put_listed_board(
     out: &mut Vec<u8>,
@@ -30,7 +30,7 @@ pub(crate) fn put_listed_board(
     put_line_aside(out, "off: ", board, reader, OFF)
 }
 
-/// Adds those of all points where checkers stand.
+/// Appends the lines of all points that have checkers.
 #[tactic(auto, unfolding(crate::specs::DrawnBoards::all_points_listed))]
 fn put_all_points(out: &mut Vec<u8>, board: &Board, reader: Player) -> Result<(), AllocError>
     ensures { OnOk result (out.new.items ≡ out.old.items ++ all_points_listed board.now reader) }
@@ -38,7 +38,8 @@ fn put_all_points(out: &mut Vec<u8>, board: &Board, reader: Player) -> Result<()
     put_listed_points(out, board, reader, &POINTS_DOWN)
 }
 
-/// Adds a line of how many checkers each player has on one of his points, behind some words.
+/// Appends a line that begins with some words and has the number of checkers that each player has
+/// on one of their points.
 fn put_line_aside(
     out: &mut Vec<u8>,
     words: &str,
@@ -54,7 +55,7 @@ fn put_line_aside(
     put_text(out, "\n")
 }
 
-/// Adds those of some points where checkers stand.
+/// Appends the lines of those of some points that have checkers.
 fn put_listed_points(
     out: &mut Vec<u8>,
     board: &Board,
@@ -70,7 +71,7 @@ fn put_listed_points(
     Ok(())
 }
 
-/// Adds a point where checkers stand.
+/// Appends the line of a point, if it has checkers.
 fn put_listed_point(
     out: &mut Vec<u8>,
     board: &Board,
@@ -91,7 +92,8 @@ fn put_listed_point(
     }
 }
 
-/// Adds a line of a point and how many checkers stand there, behind the letter of their player.
+/// Appends a line with a point, the letter of the player whose checkers are there, and their
+/// number.
 fn put_stand(out: &mut Vec<u8>, point: u8, mark: &str, checkers: u8) -> Result<(), AllocError>
     ensures { OnOk result (out.new.items ≡ out.old.items
         ++ decimal point ++ codes " " ++ line_text (mark.now ++ decimal checkers)) }

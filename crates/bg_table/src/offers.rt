@@ -1,4 +1,4 @@
-//! What a player may do now.
+//! A player's choices now.
 ghost use Rattle.std.specs.Prelude.{◌↔◌, IsTrue};
 ghost use Rattle.bg_table.specs.Offering.{AreOffered, IsToMove, MayMake, MayResign, MayRoll};
 
@@ -6,34 +6,35 @@ use bg_board::{Die, Player};
 use bg_match::{Actor, Entry, Level, Phase, Standing};
 use bg_turns::Dice;
 
-/// What a player may do now: of each kind of action whether the match takes one from him.
+/// A player's choices now: for each kind of action, whether the match takes one from the player.
 #[derive(Clone, Copy, Debug, PartialEq, Eq)]
 pub struct Offers {
-    /// He may roll.
+    /// The player may roll.
     pub roll: bool,
-    /// He may double: nobody may in a Crawford game, where the other player owns the cube, or at 128.
+    /// The player may double. Nobody may in a Crawford game, where the other player owns the cube,
+    /// or at 128.
     pub double: bool,
-    /// He may take the double.
+    /// The player may take the double.
     pub take: bool,
-    /// He may drop the double.
+    /// The player may drop the double.
     pub drop: bool,
-    /// He may accept the offer to resign.
+    /// The player may accept the offer to resign.
     pub accept: bool,
-    /// He may reject the offer to resign.
+    /// The player may reject the offer to resign.
     pub reject: bool,
-    /// He may play a legal turn.
+    /// The player may play a legal turn.
     pub turn: bool,
-    /// He may offer to resign, at each level.
+    /// The player may offer to resign, at each level.
     pub resign: bool,
 }
 
-/// Dice that may be rolled: which ones is the same to whether a roll may follow.
+/// Dice that may be rolled. Whether a roll may follow doesn't depend on them.
 const SOME_DICE: Dice = Dice {
     first: Die::One,
     second: Die::One,
 };
 
-/// What a player may do where a match stands so.
+/// Returns what a player may do at this standing of the match.
 pub fn offered(standing: &Standing, player: Player) -> Offers
     ensures { AreOffered standing.now player result }
 {
@@ -49,28 +50,28 @@ pub fn offered(standing: &Standing, player: Player) -> Offers
     }
 }
 
-/// Whether an entry of a player may follow.
+/// Returns whether an entry of a player may follow.
 fn may_make(standing: &Standing, player: Player, entry: &Entry) -> bool
     ensures { IsTrue result ↔ MayMake standing.now player entry.now }
 {
     standing.actor() == Actor::Seat(player) && standing.next(entry).is_ok()
 }
 
-/// Whether a player may roll, whatever the dice.
+/// Returns whether a player may roll, whatever the dice.
 fn may_roll(standing: &Standing, player: Player) -> bool
     ensures { IsTrue result ↔ MayRoll standing.now player }
 {
     may_make(standing, player, &Entry::Rolled(SOME_DICE))
 }
 
-/// Whether a player may offer to resign, at each level.
+/// Returns whether a player may offer to resign, at each level.
 fn may_resign(standing: &Standing, player: Player) -> bool
     ensures { IsTrue result ↔ MayResign standing.now player }
 {
     may_make(standing, player, &Entry::Resigned(Level::Normal))
 }
 
-/// Whether a player is to move some dice.
+/// Returns whether a player is to move some dice.
 #[tactic(auto, using(crate::proofs::Followed::moves, crate::proofs::Followed::acts_to_move))]
 fn is_to_move(standing: &Standing, player: Player) -> bool
     ensures { IsTrue result ↔ IsToMove standing.now player }

@@ -1,4 +1,4 @@
-//! The line that says whose turn it is, and what may be done.
+//! The line that tells a player whose turn it is, and what the player may do.
 ghost use Rattle.std.specs.Prelude.{◌≡◌, ◌++◌, IfOk, OnOk};
 ghost use Rattle.bg_table.specs.Prompts.{IsPrompt, answers_words, prompt_words, said, turns_words};
 
@@ -8,8 +8,8 @@ use bg_match::{Actor, Standing};
 use bg_text::{letter, put_text};
 use std::alloc::{AllocError, Global};
 
-/// The line that says to a player whose turn it is and, where it is his, what he may do: as in
-/// `your turn, X: roll, double, resign normal, resign gammon, resign backgammon`.
+/// Returns the line that tells a player whose turn it is and, if it is theirs, what they may do.
+/// For example `your turn, X: roll, double, resign normal, resign gammon, resign backgammon`.
 ///
 /// # Errors
 /// AllocError where there is no memory for it.
@@ -26,7 +26,7 @@ pub fn prompt_text(
     Ok(out)
 }
 
-/// Adds that line.
+/// Appends that line.
 #[tactic(auto, unfolding(crate::specs::Prompts::prompt_words))]
 pub(crate) fn put_prompt(
     out: &mut Vec<u8>,
@@ -51,7 +51,8 @@ pub(crate) fn put_prompt(
     }
 }
 
-/// Adds what may be done before the dice are rolled, and what answers a double or an offer to resign.
+/// Appends what may be done before the dice are rolled, and what answers a double or an offer to
+/// resign.
 #[tactic(auto, unfolding(crate::specs::Prompts::answers_words))]
 fn put_answers(out: &mut Vec<u8>, offers: Offers) -> Result<(), AllocError>
     ensures { OnOk result (out.new.items ≡ out.old.items ++ answers_words offers) }
@@ -64,7 +65,7 @@ fn put_answers(out: &mut Vec<u8>, offers: Offers) -> Result<(), AllocError>
     put_where(out, offers.reject, "reject")
 }
 
-/// Adds whether a turn may be played, and whether the player may offer to resign; and ends the line.
+/// Appends whether a turn may be played, and whether the player may offer to resign. Ends the line.
 #[tactic(auto, unfolding(crate::specs::Prompts::turns_words))]
 fn put_turns(out: &mut Vec<u8>, offers: Offers) -> Result<(), AllocError>
     ensures { OnOk result (out.new.items ≡ out.old.items ++ turns_words offers) }
@@ -78,7 +79,7 @@ fn put_turns(out: &mut Vec<u8>, offers: Offers) -> Result<(), AllocError>
     put_text(out, "\n")
 }
 
-/// Adds a text where something is so.
+/// Appends a text if a condition holds.
 fn put_where(out: &mut Vec<u8>, holds: bool, text: &str) -> Result<(), AllocError>
     ensures { OnOk result (out.new.items ≡ out.old.items ++ said holds text.now) }
 {

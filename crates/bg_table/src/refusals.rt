@@ -1,4 +1,4 @@
-//! Why an action of a player can't be made, and what he may do.
+//! The reasons why an action of a player can't be made, and what the player may do.
 ghost use Rattle.std.specs.Prelude.{◌≡◌, ◌++◌, IfOk, OnOk};
 ghost use Rattle.bg_table.specs.Grown.{Adds};
 ghost use Rattle.bg_table.specs.Refusals.{IsRefusal, IsWhy, no_double_words as words_without_double};
@@ -14,10 +14,11 @@ use bg_text::{put_number, put_text};
 use bg_turns::{Dice, Turn, TurnFault};
 use std::alloc::{AllocError, Global};
 
-/// The lines that say to a player why an action of his can't be made where the match stands so, and then what he may
-/// do instead, as [`prompt_text`](crate::prompt_text) says it. The fault is the one that the action's entry comes to;
-/// of a turn it says what [`turn_refusal_text`](crate::turn_refusal_text) says. Where the match is over that alone is
-/// said.
+/// Returns the lines that tell a player why an action of theirs can't be made at this standing.
+/// Then they say what the player may do instead, as [`prompt_text`](crate::prompt_text) has it. The
+/// fault is the one of the action's entry; for a turn the text is that of
+/// [`turn_refusal_text`](crate::turn_refusal_text). Where the match is over, the text says that
+/// alone.
 ///
 /// # Errors
 /// AllocError where there is no memory for it, or for the list of legal turns.
@@ -37,8 +38,8 @@ pub fn refusal_text(
     Ok(out)
 }
 
-/// The line that says to a player that his choice waits for the referee: the action that he chose for the entry of
-/// this number. No other can be chosen before it is answered.
+/// Returns the line that tells a player that their choice waits for the referee: the action that
+/// they chose for the entry with this number. No other can be chosen before it is answered.
 ///
 /// # Errors
 /// AllocError where there is no memory for it.
@@ -50,7 +51,7 @@ pub fn waiting_text(alloc: Global, number: Number) -> Result<Vec<u8>, AllocError
     Ok(out)
 }
 
-/// Adds that line.
+/// Appends that line.
 #[tactic(auto, unfolding(crate::specs::Refusals::waiting_words))]
 fn put_waiting(out: &mut Vec<u8>, number: Number) -> Result<(), AllocError>
     ensures { OnOk result (out.new.items ≡ out.old.items ++ waiting_words number) }
@@ -61,7 +62,7 @@ fn put_waiting(out: &mut Vec<u8>, number: Number) -> Result<(), AllocError>
     Ok(())
 }
 
-/// Adds the line of why an action can't be made.
+/// Appends the line that says why an action can't be made.
 fn put_why(
     alloc: Global,
     out: &mut Vec<u8>,
@@ -86,7 +87,7 @@ fn put_why(
     }
 }
 
-/// A turn that is refused, whose it is and with which dice, and its fault.
+/// A refused turn, with its player, its dice and its fault.
 #[derive(Drop)]
 struct RefusedTurn {
     player: Player,
@@ -95,8 +96,8 @@ struct RefusedTurn {
     fault: TurnFault,
 }
 
-/// The turn that an action plays in a phase and that is refused; `None` of another action, in another phase or for
-/// another fault.
+/// Returns the refused turn that an action plays in a phase. Returns `None` for another action, in
+/// another phase or for another fault.
 fn refused_turn(phase: Phase, action: &Action, fault: EntryFault) -> Option<RefusedTurn>
     ensures { result ≡ turn_of phase action.now fault }
 {
@@ -113,7 +114,7 @@ fn refused_turn(phase: Phase, action: &Action, fault: EntryFault) -> Option<Refu
     }
 }
 
-/// Why an action can't be made, but for turns.
+/// Returns the words for why an action that is no turn can't be made.
 fn why_words(phase: Phase, reader: Player, action: &Action, fault: EntryFault) -> &'static str
     ensures { result.now ≡ words_of_fault phase reader action.now fault }
 {
@@ -128,7 +129,7 @@ fn why_words(phase: Phase, reader: Player, action: &Action, fault: EntryFault) -
     }
 }
 
-/// Why a player can't double.
+/// Returns the words for why a player can't double.
 fn no_double_words(why: NoDouble, reader: Player) -> &'static str
     ensures { result.now ≡ words_without_double why reader }
 {
@@ -140,7 +141,7 @@ fn no_double_words(why: NoDouble, reader: Player) -> &'static str
     }
 }
 
-/// Why a phase doesn't allow an action.
+/// Returns the words for why a phase doesn't allow an action.
 fn phase_words(phase: Phase, action: &Action) -> &'static str
     ensures { result.now ≡ words_of_phase phase action.now }
 {

@@ -1,4 +1,4 @@
-//! What a game came to.
+//! The result of a game.
 ghost use Rattle.std.specs.Prelude.{◌≡◌, ◌++◌, IfOk, OnOk};
 ghost use Rattle.bg_table.specs.Results.{gained as points_gained, points_words, result_words, scores_words, won_words};
 ghost use Rattle.bg_table.specs.Results.{winner_words, worth_words};
@@ -9,9 +9,10 @@ use bg_match::{Phase, Standing};
 use bg_text::{letter, put_number, put_text};
 use std::alloc::{AllocError, Global};
 
-/// The line that says to a player what a game came to, from where the match stood before its last entry and stands
-/// after it: who won how many points, and the score, that of the winner first. As in `you win 2 points: 3 to 1`, or
-/// `X wins the match 5 to 3`. It is empty where nobody's score is greater than before.
+/// Returns the line that tells a player the result of a game, from the standings of the match
+/// before and after its last entry. It gives the winner, the number of points won, and the score,
+/// the winner's first. For example `you win 2 points: 3 to 1`, or `X wins the match 5 to 3`. It is
+/// empty where no score has grown.
 ///
 /// # Errors
 /// AllocError where there is no memory for it.
@@ -28,7 +29,7 @@ pub fn result_text(
     Ok(out)
 }
 
-/// Adds that line.
+/// Appends that line.
 #[tactic(auto, unfolding(crate::specs::Results::result_words))]
 fn put_result(
     out: &mut Vec<u8>,
@@ -49,14 +50,14 @@ fn put_result(
     }
 }
 
-/// How much greater a player's score is than before.
+/// Returns the points by which a player's score has grown.
 fn gained(before: &Standing, after: &Standing, player: Player) -> u16
     ensures { result ≡ points_gained before.now after.now player }
 {
     score_for(after, player).saturating_sub(score_for(before, player))
 }
 
-/// Adds the line of a game that a player won with so many points.
+/// Appends the line of a game that a player won, with the number of points.
 #[tactic(auto, unfolding(crate::specs::Results::won_words))]
 fn put_won(
     out: &mut Vec<u8>,
@@ -73,7 +74,7 @@ fn put_won(
     put_text(out, "\n")
 }
 
-/// Adds who wins.
+/// Appends who wins.
 #[tactic(auto, unfolding(crate::specs::Results::winner_words))]
 fn put_winner(out: &mut Vec<u8>, winner: Player, reader: Player) -> Result<(), AllocError>
     ensures { OnOk result (out.new.items ≡ out.old.items ++ winner_words winner reader) }
@@ -87,7 +88,7 @@ fn put_winner(out: &mut Vec<u8>, winner: Player, reader: Player) -> Result<(), A
     }
 }
 
-/// Adds what is won.
+/// Appends what is won.
 fn put_worth(out: &mut Vec<u8>, phase: Phase, points: u16) -> Result<(), AllocError>
     ensures { OnOk result (out.new.items ≡ out.old.items ++ worth_words phase points) }
 {
@@ -97,7 +98,7 @@ fn put_worth(out: &mut Vec<u8>, phase: Phase, points: u16) -> Result<(), AllocEr
     }
 }
 
-/// Adds a number of points.
+/// Appends a number of points.
 #[tactic(auto, unfolding(crate::specs::Results::points_words))]
 fn put_points(out: &mut Vec<u8>, points: u16) -> Result<(), AllocError>
     ensures { OnOk result (out.new.items ≡ out.old.items ++ points_words points) }
@@ -109,7 +110,7 @@ fn put_points(out: &mut Vec<u8>, points: u16) -> Result<(), AllocError>
     put_text(out, " points: ")
 }
 
-/// Adds the score, that of the winner first.
+/// Appends the score, the winner's first.
 #[tactic(auto, unfolding(crate::specs::Results::scores_words))]
 fn put_scores(out: &mut Vec<u8>, after: &Standing, winner: Player) -> Result<(), AllocError>
     ensures { OnOk result (out.new.items ≡ out.old.items ++ scores_words after.now winner) }

@@ -1,4 +1,4 @@
-//! The board as a player sees it, in his own numbers.
+//! The board as a player sees it, in their own numbering.
 ghost use Rattle.std.specs.Prelude.{◌≡◌, ◌≤◌, ◌++◌, ◌-◌, replicate, OnOk, IsTrue};
 ghost use Rattle.std.specs.List.{list_all};
 ghost use Rattle.std.specs.Fmt.{decimal};
@@ -10,16 +10,16 @@ use bg_board::{BAR, Board, OFF, Player};
 use bg_text::{letter, put_number, put_text};
 use std::alloc::AllocError;
 
-/// The points of the upper half of the board, left of the bar and right of it, in the reader's numbers.
+/// The points of the upper half of the board, left and right of the bar, in the reader's numbering.
 pub(crate) const UPPER: ([u8; 6], [u8; 6]) = ([13, 14, 15, 16, 17, 18], [19, 20, 21, 22, 23, 24]);
 
-/// The points of the lower half of the board, left of the bar and right of it, in the reader's numbers.
+/// The points of the lower half of the board, left and right of the bar, in the reader's numbering.
 pub(crate) const LOWER: ([u8; 6], [u8; 6]) = ([12, 11, 10, 9, 8, 7], [6, 5, 4, 3, 2, 1]);
 
-/// What is drawn for the bar.
+/// The drawing of the bar.
 pub(crate) const BETWEEN: &str = "  |";
 
-/// Adds the board, in five lines, as the reader sees it.
+/// Appends the board, in five lines, as the reader sees it.
 #[tactic(auto, unfolding(crate::specs::SeenBoards::seen_board))]
 pub(crate) fn put_seen_board(
     out: &mut Vec<u8>,
@@ -35,7 +35,7 @@ pub(crate) fn put_seen_board(
     put_aside_line(out, board, reader)
 }
 
-/// Adds a line of the numbers of some points left and right of the bar.
+/// Appends a line with the numbers of some points left and right of the bar.
 #[tactic(auto, unfolding(crate::specs::SeenBoards::numbers_words))]
 pub(crate) fn put_numbers_line(
     out: &mut Vec<u8>,
@@ -50,7 +50,7 @@ pub(crate) fn put_numbers_line(
     put_text(out, "\n")
 }
 
-/// Adds the numbers of some points.
+/// Appends the numbers of some points.
 fn put_numbers(out: &mut Vec<u8>, points: &[u8]) -> Result<(), AllocError>
     ensures { OnOk result (out.new.items ≡ out.old.items ++ numbers_line points.now) }
 {
@@ -60,7 +60,7 @@ fn put_numbers(out: &mut Vec<u8>, points: &[u8]) -> Result<(), AllocError>
     Ok(())
 }
 
-/// Adds a line of what stands on some points left and right of the bar.
+/// Appends a line with the checkers on some points left and right of the bar.
 #[tactic(auto, unfolding(crate::specs::SeenBoards::seen_line))]
 fn put_cells_line(
     out: &mut Vec<u8>,
@@ -79,7 +79,7 @@ fn put_cells_line(
     put_text(out, "\n")
 }
 
-/// Adds what stands on some points.
+/// Appends the cells of some points.
 fn put_cells(
     out: &mut Vec<u8>,
     board: &Board,
@@ -95,7 +95,7 @@ fn put_cells(
     Ok(())
 }
 
-/// Adds what stands on a point.
+/// Appends the cell of a point: the checkers on it, or a dot.
 fn put_cell(out: &mut Vec<u8>, board: &Board, reader: Player, point: u8) -> Result<(), AllocError>
     requires { IsTrue (is_point point) }
     ensures { OnOk result (out.new.items ≡ out.old.items ++ in_four (seen_cell board.now reader point)) }
@@ -111,7 +111,7 @@ fn put_cell(out: &mut Vec<u8>, board: &Board, reader: Player, point: u8) -> Resu
     }
 }
 
-/// Adds a text of at most one letter and a number below 100, at the right of four places.
+/// Appends a mark of at most one letter and a number below 100, right-aligned in four columns.
 pub(crate) fn put_in_four(out: &mut Vec<u8>, mark: &str, number: u32) -> Result<(), AllocError>
     ensures { OnOk result (out.new.items ≡ out.old.items ++ in_four (mark.now ++ decimal number)) }
 {
@@ -122,7 +122,7 @@ pub(crate) fn put_in_four(out: &mut Vec<u8>, mark: &str, number: u32) -> Result<
     put_text(out, digits)
 }
 
-/// The spaces before a text of this length, so that it ends four places on.
+/// Returns the spaces that pad a text of this length to four columns.
 pub(crate) fn padding(length: usize) -> &'static str
     ensures { result.now ≡ replicate (4 - length) 32 }
 {
@@ -135,7 +135,7 @@ pub(crate) fn padding(length: usize) -> &'static str
     }
 }
 
-/// Adds the line of the checkers on the bar, and those off.
+/// Appends the line with the checkers on the bar and those borne off.
 #[tactic(auto, unfolding(crate::specs::SeenBoards::seen_aside))]
 pub(crate) fn put_aside_line(
     out: &mut Vec<u8>,
@@ -151,7 +151,7 @@ pub(crate) fn put_aside_line(
     put_text(out, "\n")
 }
 
-/// Adds how many checkers each player has on one of his points, the reader first.
+/// Appends the number of checkers that each player has on one of their points, the reader's first.
 #[tactic(auto, unfolding(crate::specs::SeenBoards::aside_words))]
 pub(crate) fn put_aside(
     out: &mut Vec<u8>,
@@ -167,7 +167,7 @@ pub(crate) fn put_aside(
     put_checkers(out, board, reader.opponent(), point)
 }
 
-/// Adds how many checkers a player has on one of his points.
+/// Appends the number of checkers that a player has on one of their points.
 #[tactic(auto, unfolding(crate::specs::SeenBoards::checkers_words))]
 fn put_checkers(
     out: &mut Vec<u8>,

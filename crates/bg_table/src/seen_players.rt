@@ -1,4 +1,4 @@
-//! How a player is named to another, or to himself.
+//! The name of a player, as a reader sees it.
 ghost use Rattle.std.specs.Prelude.{◌≡◌, ◌++◌, OnOk};
 ghost use Rattle.bg_table.specs.SeenPlayers.{name_text, you_mark as mark_of};
 
@@ -6,7 +6,7 @@ use bg_board::Player;
 use bg_text::{letter, put_text};
 use std::alloc::AllocError;
 
-/// Adds the name of a player, as the reader sees it.
+/// Appends the name of a player, as the reader sees it.
 #[tactic(auto, unfolding(crate::specs::SeenPlayers::name_text))]
 pub(crate) fn put_name(out: &mut Vec<u8>, player: Player, reader: Player) -> Result<(), AllocError>
     ensures { OnOk result (out.new.items ≡ out.old.items ++ name_text player reader) }
@@ -15,7 +15,7 @@ pub(crate) fn put_name(out: &mut Vec<u8>, player: Player, reader: Player) -> Res
     put_text(out, you_mark(player, reader))
 }
 
-/// What tells the reader that he is the player.
+/// Returns the mark that tells readers that they are the player.
 fn you_mark(player: Player, reader: Player) -> &'static str
     ensures { result.now ≡ mark_of player reader }
 {

@@ -1,4 +1,4 @@
-//! Why a step can't be played.
+//! The reasons why a step can't be played.
 ghost use Rattle.std.specs.Prelude.{◌≡◌, ◌++◌, OnOk};
 ghost use Rattle.std.specs.Fmt.{decimal};
 ghost use Rattle.bg_board.specs.Die.{pips};
@@ -11,16 +11,16 @@ use bg_text::{letter, put_number, put_text};
 use bg_turns::Dice;
 use std::alloc::AllocError;
 
-/// A step that can't be played, and why.
+/// A step that can't be played, and the reason.
 #[derive(Clone, Copy)]
 pub(crate) struct StepRefusal {
     pub(crate) step: Step,
-    /// The fault by the die that judges the step; `None` where that die is played already.
+    /// The fault by the die that judges the step; `None` where that die has been played.
     pub(crate) fault: Option<StepFault>,
 }
 
-/// Returns which of some steps is refused, where so many of them can be played and no more; `None` where there are no
-/// more.
+/// Returns the step that is refused, where `playable` of the steps can be played and no more.
+/// Returns `None` where there are no further steps.
 pub(crate) fn refused_step(
     board: Board,
     player: Player,
@@ -44,7 +44,7 @@ pub(crate) fn refused_step(
     }
 }
 
-/// The die by which a step is judged: the one that shows its pips, else the larger one.
+/// Returns the die that judges a step: the one that shows its pips, else the larger one.
 fn judging_die(step: Step, dice: Dice) -> Die
     ensures { pips result ≡ judging_pips step dice }
 {
@@ -58,7 +58,7 @@ fn judging_die(step: Step, dice: Dice) -> Die
     }
 }
 
-/// Adds the sentence that refuses a step, or a turn that has no such step.
+/// Appends the sentence that refuses a step, or a turn that has no such step.
 #[tactic(auto, unfolding(crate::specs::StepRefusals::refusal_words))]
 pub(crate) fn put_step_refusal(
     out: &mut Vec<u8>,
@@ -74,7 +74,7 @@ pub(crate) fn put_step_refusal(
     }
 }
 
-/// Adds the sentence that refuses a step.
+/// Appends the sentence that refuses a step.
 #[tactic(auto, unfolding(crate::specs::StepRefusals::refused_words))]
 fn put_refused(
     out: &mut Vec<u8>,
@@ -90,7 +90,7 @@ fn put_refused(
     Ok(())
 }
 
-/// Adds why a step can't be played.
+/// Appends why a step can't be played.
 fn put_reason(
     out: &mut Vec<u8>,
     player: Player,
@@ -113,7 +113,7 @@ fn put_reason(
     }
 }
 
-/// Adds that the player has no checker on one of his points.
+/// Appends that the player has no checker on one of their points.
 #[tactic(auto, unfolding(crate::specs::StepRefusals::missing_words))]
 fn put_missing(out: &mut Vec<u8>, point: u8) -> Result<(), AllocError>
     ensures { OnOk result (out.new.items ≡ out.old.items ++ missing_words point) }
@@ -125,7 +125,7 @@ fn put_missing(out: &mut Vec<u8>, point: u8) -> Result<(), AllocError>
     put_number(out, point.into())
 }
 
-/// Adds what the dice are.
+/// Appends what the dice show.
 #[tactic(auto, unfolding(crate::specs::StepRefusals::dice_words))]
 fn put_dice(out: &mut Vec<u8>, dice: Dice) -> Result<(), AllocError>
     ensures { OnOk result (out.new.items ≡ out.old.items ++ dice_words dice) }
@@ -137,14 +137,14 @@ fn put_dice(out: &mut Vec<u8>, dice: Dice) -> Result<(), AllocError>
     Ok(())
 }
 
-/// Adds what a die shows.
+/// Appends what a die shows.
 pub(crate) fn put_die(out: &mut Vec<u8>, die: Die) -> Result<(), AllocError>
     ensures { OnOk result (out.new.items ≡ out.old.items ++ decimal (pips die)) }
 {
     put_number(out, die.pips().into())
 }
 
-/// Adds who holds one of the player's points.
+/// Appends who holds one of the player's points.
 #[tactic(auto, unfolding(crate::specs::StepRefusals::held_words))]
 fn put_held(out: &mut Vec<u8>, player: Player, point: u8) -> Result<(), AllocError>
     ensures { OnOk result (out.new.items ≡ out.old.items ++ held_words player point) }

@@ -7,7 +7,7 @@ use bg_board::{BAR, OFF, Step};
 use bg_text::{put_number, put_text};
 use std::alloc::AllocError;
 
-/// Adds steps, each behind a blank.
+/// Appends steps, each behind a blank.
 pub(crate) fn put_steps(out: &mut Vec<u8>, steps: &[Step]) -> Result<(), AllocError>
     ensures { OnOk result (out.new.items ≡ out.old.items ++ steps_text steps.now) }
 {
@@ -17,7 +17,7 @@ pub(crate) fn put_steps(out: &mut Vec<u8>, steps: &[Step]) -> Result<(), AllocEr
     Ok(())
 }
 
-/// Adds a step behind a blank.
+/// Appends a step behind a blank.
 #[tactic(auto, unfolding(crate::specs::StepTexts::spaced_step))]
 pub(crate) fn put_spaced(out: &mut Vec<u8>, step: Step) -> Result<(), AllocError>
     ensures { OnOk result (out.new.items ≡ out.old.items ++ spaced_step step) }
@@ -26,7 +26,7 @@ pub(crate) fn put_spaced(out: &mut Vec<u8>, step: Step) -> Result<(), AllocError
     put_step(out, step)
 }
 
-/// Adds a step.
+/// Appends a step.
 pub(crate) fn put_step(out: &mut Vec<u8>, step: Step) -> Result<(), AllocError>
     ensures { OnOk result (out.new.items ≡ out.old.items ++ step_text step) }
 {
@@ -35,7 +35,7 @@ pub(crate) fn put_step(out: &mut Vec<u8>, step: Step) -> Result<(), AllocError>
     put_target(out, step.to())
 }
 
-/// Adds where a step begins.
+/// Appends the point where a step begins.
 fn put_source(out: &mut Vec<u8>, point: u8) -> Result<(), AllocError>
     ensures { OnOk result (out.new.items ≡ out.old.items ++ source_text point) }
 {
@@ -45,7 +45,7 @@ fn put_source(out: &mut Vec<u8>, point: u8) -> Result<(), AllocError>
     put_number(out, point.into())
 }
 
-/// Adds where a step ends.
+/// Appends the point where a step ends.
 fn put_target(out: &mut Vec<u8>, point: u8) -> Result<(), AllocError>
     ensures { OnOk result (out.new.items ≡ out.old.items ++ target_text point) }
 {

@@ -12,13 +12,15 @@ use bg_text::{put_number, put_text};
 use bg_turns::{Dice, Turn};
 use std::alloc::{AllocError, Global};
 
-/// The lines that list the turns that a player may play with some dice, the greatest first, in his own numbers. Turns
-/// that lead to the same position are told once, by the greatest of them; a `*` stands behind a step that hits.
+/// Returns the lines that list the turns that a player may play with these dice, the greatest
+/// first, in the player's own numbering. Turns that lead to the same position are listed once, by
+/// the greatest of them. A `*` stands behind a step that hits.
 ///
-/// The first line says how many there are, as in `3 turns:`. Below it they stand in columns, line by line: as many as
-/// fit into lines of so many letters, which is 20 to 400 at a terminal. Where a line is too short for a turn, each turn
-/// has a line of its own. A single turn is told in the first line, and of the turn without steps that line says how to
-/// play it. (Under rules two the referee plays that turn: then no player is asked for it.)
+/// The first line gives their number, as in `3 turns:`. Below it they stand in columns, line by
+/// line: as many as fit into lines of this number of letters, which is 20 to 400 at a terminal.
+/// Where a line is too short for a turn, each turn has a line of its own. A single turn is on the
+/// first line, and for the turn without steps that line says how to play it. (Under rules two the
+/// referee plays that turn: then no player is asked for it.)
 ///
 /// # Errors
 /// AllocError where there is no memory for it, or for the list of legal turns.
@@ -37,7 +39,7 @@ pub fn legal_turns_text(
     Ok(out)
 }
 
-/// Adds the list of some turns.
+/// Appends the list of some turns.
 fn put_list(
     alloc: Global,
     out: &mut Vec<u8>,
@@ -55,7 +57,7 @@ fn put_list(
     }
 }
 
-/// The only one of some turns; `None` where there are none, or more.
+/// Returns the only one of some turns; `None` where there are none, or more.
 fn only_of(turns: &[Turn]) -> Option<&Turn>
     ensures { MatchOption result (length turns.now ≢ 1) (λ only. turns.now ≡ only.now ∷ []) }
 {
@@ -65,7 +67,7 @@ fn only_of(turns: &[Turn]) -> Option<&Turn>
     }
 }
 
-/// Adds the line of the only turn.
+/// Appends the line of the only turn.
 fn put_only(
     out: &mut Vec<u8>,
     board: &Board,
@@ -81,7 +83,7 @@ fn put_only(
     put_one(out, board, player, steps)
 }
 
-/// Adds the line of the only turn, which has steps.
+/// Appends the line of the only turn, which has steps.
 #[tactic(auto, unfolding(crate::specs::TurnLists::one_text))]
 fn put_one(
     out: &mut Vec<u8>,
@@ -98,7 +100,7 @@ fn put_one(
     Ok(())
 }
 
-/// Adds the lines of some turns.
+/// Appends the lines of some turns.
 #[tactic(auto, unfolding(crate::specs::TurnLists::turns_text))]
 fn put_turns(
     alloc: Global,
@@ -118,7 +120,8 @@ fn put_turns(
     Ok(())
 }
 
-/// How many cells of a width fit into a line, the last of them without the blank at its end.
+/// Returns the number of cells of a width that fit into a line, the last of them without the blank
+/// at its end. It is at least 1.
 fn in_row(columns: u16, width: usize) -> usize
     requires { 1 ≤ width }
     ensures value { result ≡ cells_in_row columns width }
@@ -127,7 +130,7 @@ fn in_row(columns: u16, width: usize) -> usize
     ((usize::from(columns) + 1) / width).max(1)
 }
 
-/// Returns how wide the cells are: a blank wider than the longest text of a turn.
+/// Returns the width of the cells: one blank more than the longest text of a turn.
 fn cell_width(
     alloc: Global,
     board: &Board,
@@ -146,7 +149,7 @@ fn cell_width(
     Ok(width)
 }
 
-/// Adds the texts of turns in cells of this width, so many in a line.
+/// Appends the texts of turns in cells of this width, with `row` cells a line.
 fn put_cells(
     out: &mut Vec<u8>,
     board: &Board,
@@ -169,7 +172,8 @@ fn put_cells(
     Ok(())
 }
 
-/// Whether a line ends behind the cell of this number, from 1, where a line has so many, and so many stand behind it.
+/// Returns whether a line ends behind the cell with this number, counted from 1. A line has `row`
+/// cells, and `behind` cells follow this one.
 fn ends_line(number: usize, row: usize, behind: usize) -> bool
     requires { 1 ≤ row }
     ensures { result ≡ is_end number row behind }
@@ -177,7 +181,7 @@ fn ends_line(number: usize, row: usize, behind: usize) -> bool
     number % row == 0 || behind == 0
 }
 
-/// Adds what stands behind a cell: the end of a line, or so many blanks.
+/// Appends what stands behind a cell: the end of a line, or `spare` blanks.
 fn put_gap(out: &mut Vec<u8>, spare: usize, ends: bool) -> Result<(), AllocError>
     ensures { OnOk result (out.new.items ≡ out.old.items ++ gap spare ends) }
 {
@@ -187,7 +191,7 @@ fn put_gap(out: &mut Vec<u8>, spare: usize, ends: bool) -> Result<(), AllocError
     put_blanks(out, spare)
 }
 
-/// Adds so many blanks.
+/// Appends `count` blanks.
 fn put_blanks(out: &mut Vec<u8>, count: usize) -> Result<(), AllocError>
     ensures { OnOk result (out.new.items ≡ out.old.items ++ replicate count 32) }
 {
@@ -197,7 +201,7 @@ fn put_blanks(out: &mut Vec<u8>, count: usize) -> Result<(), AllocError>
     Ok(())
 }
 
-/// Adds steps that can be played, each behind a blank, with a mark behind those that hit.
+/// Appends steps that can be played, each behind a blank, with a mark behind those that hit.
 #[tactic(auto, unfolding(crate::specs::TurnLists::marked_steps))]
 fn put_marked(
     out: &mut Vec<u8>,
@@ -218,7 +222,7 @@ fn put_marked(
     put_marked(out, after, player, rest)
 }
 
-/// What is said of a step that hits.
+/// Returns the mark of a step that hits, which is empty for other steps.
 fn hit_mark(board: &Board, player: Player, step: Step) -> &'static str
     ensures { result.now ≡ mark_of_hit board.now player step }
 {

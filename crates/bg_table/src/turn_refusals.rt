@@ -1,4 +1,4 @@
-//! Why a turn is refused, as a sentence.
+//! The reason why a turn is refused, as a sentence.
 ghost use Rattle.std.specs.Prelude.{◌≡◌, ◌++◌, IfOk, OnOk};
 ghost use Rattle.bg_board.specs.Die.{pips};
 ghost use Rattle.bg_table.specs.Grown.{Adds};
@@ -13,16 +13,17 @@ use bg_text::{put_number, put_text};
 use bg_turns::{Dice, Turn, TurnFault, legal_turns};
 use std::alloc::{AllocError, Global};
 
-/// The line that says to a player why a turn is refused, in his own numbers, where [`judge_turn`](bg_turns::judge_turn)
-/// gives this fault:
+/// Returns the line that tells a player why a turn is refused, in the player's own numbering, where
+/// [`judge_turn`](bg_turns::judge_turn) gives this fault:
 ///
-/// - `StepIllegal`: which step can't be played, and why, as in `24-18 can't be played: point 18 is held by O`. The die
-///   that judges the step is the one that shows its pips, else the larger one;
-/// - `MoreCanBePlayed`, `LargerMustBePlayed`: what must be played, with the greatest legal turn, as in
-///   `you must play both dice: 24-18 13-11 can be played`.
+/// - `StepIllegal`: which step can't be played, and why, as in
+///   `24-18 can't be played: point 18 is held by O`. The die that judges the step is the one that
+///   shows its pips, else the larger one.
+/// - `MoreCanBePlayed`, `LargerMustBePlayed`: what must be played, with the greatest legal turn, as
+///   in `you must play both dice: 24-18 13-11 can be played`.
 ///
-/// Of a fault that the turn doesn't have it says the first step that its die can't play, or else the last one that the
-/// fault counts.
+/// For a fault that the turn doesn't have, it names the first step that its die can't play, or else
+/// the last one that the fault counts.
 ///
 /// # Errors
 /// AllocError where there is no memory for it, or for the list of legal turns.
@@ -41,7 +42,7 @@ pub fn turn_refusal_text(
     Ok(out)
 }
 
-/// Adds that line.
+/// Appends that line.
 pub(crate) fn put_turn_refusal(
     alloc: Global,
     out: &mut Vec<u8>,
@@ -62,7 +63,7 @@ pub(crate) fn put_turn_refusal(
     }
 }
 
-/// Adds the line that refuses the step behind so many that can be played.
+/// Appends the line that refuses the step behind the first `playable` steps, which can be played.
 fn put_illegal_step(
     out: &mut Vec<u8>,
     board: &Board,
@@ -79,7 +80,7 @@ fn put_illegal_step(
     Ok(())
 }
 
-/// Adds the line that more steps must be played.
+/// Appends the line that more steps must be played.
 fn put_more_line(
     alloc: Global,
     out: &mut Vec<u8>,
@@ -95,7 +96,7 @@ fn put_more_line(
     Ok(())
 }
 
-/// Adds the line that the larger die must be played.
+/// Appends the line that the larger die must be played.
 fn put_larger_line(
     alloc: Global,
     out: &mut Vec<u8>,
@@ -111,7 +112,7 @@ fn put_larger_line(
     Ok(())
 }
 
-/// Adds that more steps must be played, with the greatest of the legal turns.
+/// Appends that more steps must be played, with the greatest of the legal turns.
 fn put_more(out: &mut Vec<u8>, dice: Dice, turns: &[Turn]) -> Result<(), AllocError>
     ensures { OnOk result (out.new.items ≡ out.old.items ++ more_words dice turns.now) }
 {
@@ -121,7 +122,7 @@ fn put_more(out: &mut Vec<u8>, dice: Dice, turns: &[Turn]) -> Result<(), AllocEr
     }
 }
 
-/// Adds that as many steps as this turn has must be played.
+/// Appends that as many steps must be played as this turn has.
 #[tactic(auto, unfolding(crate::specs::TurnRefusals::must_play_words))]
 fn put_must_play(out: &mut Vec<u8>, dice: Dice, turn: &Turn) -> Result<(), AllocError>
     ensures { OnOk result (out.new.items ≡ out.old.items ++ must_play_words dice turn.now) }
@@ -132,7 +133,7 @@ fn put_must_play(out: &mut Vec<u8>, dice: Dice, turn: &Turn) -> Result<(), Alloc
     Ok(())
 }
 
-/// Adds how many steps must be played.
+/// Appends the number of steps that must be played.
 fn put_count(out: &mut Vec<u8>, dice: Dice, count: usize) -> Result<(), AllocError>
     ensures { OnOk result (out.new.items ≡ out.old.items ++ count_words dice count) }
 {
@@ -145,7 +146,7 @@ fn put_count(out: &mut Vec<u8>, dice: Dice, count: usize) -> Result<(), AllocErr
     }
 }
 
-/// Adds how many of four steps must be played.
+/// Appends how many of four steps must be played.
 #[tactic(auto, unfolding(crate::specs::TurnRefusals::of_four_words))]
 fn put_of_four(out: &mut Vec<u8>, count: u64) -> Result<(), AllocError>
     ensures { OnOk result (out.new.items ≡ out.old.items ++ of_four_words count) }
@@ -155,7 +156,7 @@ fn put_of_four(out: &mut Vec<u8>, count: u64) -> Result<(), AllocError>
     Ok(())
 }
 
-/// Adds that the larger die must be played, with the greatest of the legal turns.
+/// Appends that the larger die must be played, with the greatest of the legal turns.
 fn put_larger(out: &mut Vec<u8>, dice: Dice, turns: &[Turn]) -> Result<(), AllocError>
     ensures { OnOk result (out.new.items ≡ out.old.items ++ larger_words dice turns.now) }
 {
@@ -165,7 +166,7 @@ fn put_larger(out: &mut Vec<u8>, dice: Dice, turns: &[Turn]) -> Result<(), Alloc
     }
 }
 
-/// Adds that this die, the larger one, must be played, with a turn that plays it.
+/// Appends that this die, the larger one, must be played, with a turn that plays it.
 #[tactic(auto, unfolding(crate::specs::TurnRefusals::must_play_larger_words))]
 fn put_must_play_larger(out: &mut Vec<u8>, larger: Die, turn: &Turn) -> Result<(), AllocError>
     ensures { OnOk result (out.new.items ≡ out.old.items ++ must_play_larger_words (pips larger) turn.now) }
@@ -176,7 +177,7 @@ fn put_must_play_larger(out: &mut Vec<u8>, larger: Die, turn: &Turn) -> Result<(
     Ok(())
 }
 
-/// Adds a turn that can be played.
+/// Appends a turn that can be played.
 #[tactic(auto, unfolding(crate::specs::TurnRefusals::example_words))]
 fn put_example(out: &mut Vec<u8>, turn: &Turn) -> Result<(), AllocError>
     ensures { OnOk result (out.new.items ≡ out.old.items ++ example_words turn.now) }

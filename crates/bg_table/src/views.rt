@@ -1,4 +1,4 @@
-//! All that a player sees of a match.
+//! A player's view of a match.
 ghost use Rattle.std.specs.Prelude.{◌≡◌, ◌++◌, IfOk, OnOk};
 ghost use Rattle.bg_text.specs.Boards.BoardText.{line_text, phase_line};
 ghost use Rattle.bg_table.specs.Views.{IsSeatView, heading_text, table_text};
@@ -11,8 +11,9 @@ use bg_match::{Record, Standing};
 use bg_text::{put_phase, put_text};
 use std::alloc::{AllocError, Global};
 
-/// What a player sees of a match: the match and the game, the score, the board from his side and in his own numbers,
-/// drawn so, both pip counts, the cube, what the other player did last, and what is to happen next.
+/// Returns a player's view of a match: the match and the game, the score, and the board from the
+/// player's side and in their own numbering, in this drawing. Then both pip counts, the cube, what
+/// the other player did last, and what happens next.
 ///
 /// # Errors
 /// AllocError where there is no memory for it.
@@ -33,7 +34,7 @@ pub fn seat_view_text(
     Ok(out)
 }
 
-/// Adds the match, the game and the score.
+/// Appends the match, the game and the score.
 #[tactic(auto, unfolding(crate::specs::Views::heading_text))]
 fn put_heading(out: &mut Vec<u8>, standing: &Standing, reader: Player) -> Result<(), AllocError>
     ensures { OnOk result (out.new.items ≡ out.old.items ++ heading_text standing.now reader) }
@@ -42,7 +43,7 @@ fn put_heading(out: &mut Vec<u8>, standing: &Standing, reader: Player) -> Result
     put_score_line(out, standing, reader)
 }
 
-/// Adds the board, the pip counts and the cube.
+/// Appends the board, the pip counts and the cube.
 #[tactic(auto, unfolding(crate::specs::Views::table_text))]
 fn put_table(
     out: &mut Vec<u8>,
@@ -58,7 +59,7 @@ fn put_table(
     put_cube_line(out, standing, reader)
 }
 
-/// Adds the line of what is to happen next.
+/// Appends the line with what happens next.
 fn put_next(out: &mut Vec<u8>, standing: &Standing) -> Result<(), AllocError>
     ensures { OnOk result (out.new.items ≡ out.old.items ++ line_text (phase_line standing.now)) }
 {

@@ -1,4 +1,4 @@
-//! The picture of a standing.
+//! The board text of a standing.
 ghost use Rattle.std.specs.Prelude.{◌≡◌, ◌≤◌, ◌++◌, ◌-◌, replicate, IfOk, OnOk, IsTrue};
 ghost use Rattle.std.specs.List.{list_all};
 ghost use Rattle.std.specs.Fmt.{decimal};
@@ -24,7 +24,8 @@ const UPPER: [u8; 12] = [13, 14, 15, 16, 17, 18, 19, 20, 21, 22, 23, 24];
 /// The points of the lower half of the board, in X's numbering.
 const LOWER: [u8; 12] = [12, 11, 10, 9, 8, 7, 6, 5, 4, 3, 2, 1];
 
-/// The board text of a standing: seven lines, as docs/FORMATS.md, "Board text", says.
+/// Returns the board text of a standing: seven lines, as docs/FORMATS.md, "Board text", describes
+/// them.
 ///
 /// # Errors
 /// AllocError where there is no memory for it.
@@ -43,7 +44,7 @@ pub fn board_text(alloc: Global, standing: &Standing) -> Result<Vec<u8>, AllocEr
     Ok(out)
 }
 
-/// Adds the first line: length, rules, game, score and cube.
+/// Appends the first line: length, rules, game, score and cube.
 fn put_header(out: &mut Vec<u8>, standing: &Standing) -> Result<(), AllocError>
     ensures { OnOk result (out.new.items ≡ out.old.items ++ line_text (header_line standing.now)) }
 {
@@ -55,7 +56,7 @@ fn put_header(out: &mut Vec<u8>, standing: &Standing) -> Result<(), AllocError>
     Ok(())
 }
 
-/// Adds what the header says of the length, the rules and the number of the game.
+/// Appends the length, the rules and the number of the game, as the header has them.
 fn put_game(out: &mut Vec<u8>, standing: &Standing) -> Result<(), AllocError>
     ensures { OnOk result (out.new.items ≡ out.old.items ++ game_part standing.now) }
 {
@@ -64,7 +65,7 @@ fn put_game(out: &mut Vec<u8>, standing: &Standing) -> Result<(), AllocError>
     put_number(out, standing.game().into())
 }
 
-/// Adds what the header says of the score.
+/// Appends the score, as the header has it.
 fn put_score(out: &mut Vec<u8>, standing: &Standing) -> Result<(), AllocError>
     ensures { OnOk result (out.new.items ≡ out.old.items ++ score_part standing.now) }
 {
@@ -75,7 +76,7 @@ fn put_score(out: &mut Vec<u8>, standing: &Standing) -> Result<(), AllocError>
     put_number(out, o.into())
 }
 
-/// Adds what the header says of the cube.
+/// Appends the cube, as the header has it.
 fn put_cube(out: &mut Vec<u8>, cube: Cube) -> Result<(), AllocError>
     ensures { OnOk result (out.new.items ≡ out.old.items ++ cube_part cube) }
 {
@@ -85,7 +86,7 @@ fn put_cube(out: &mut Vec<u8>, cube: Cube) -> Result<(), AllocError>
     put_text(out, owner(cube.owner))
 }
 
-/// Who has the cube.
+/// Returns the word for the owner of the cube.
 fn owner(owner: Option<Player>) -> &'static str
     ensures { result.now ≡ owner_word owner }
 {
@@ -95,14 +96,14 @@ fn owner(owner: Option<Player>) -> &'static str
     }
 }
 
-/// What the header says of a Crawford game.
+/// Returns the header's mark of a Crawford game, which is empty for other games.
 fn crawford_mark(crawford: bool) -> &'static str
     ensures { result.now ≡ mark crawford }
 {
     if crawford { " crawford" } else { "" }
 }
 
-/// Adds a line of the numbers of some points.
+/// Appends the line with the numbers of these points.
 fn put_numbers(out: &mut Vec<u8>, points: &[u8]) -> Result<(), AllocError>
     ensures { OnOk result (out.new.items ≡ out.old.items ++ line_text (numbers_line points.now)) }
 {
@@ -112,7 +113,7 @@ fn put_numbers(out: &mut Vec<u8>, points: &[u8]) -> Result<(), AllocError>
     put_text(out, "\n")
 }
 
-/// Adds a line of what stands on some points.
+/// Appends the line with the checkers on these points.
 fn put_cells(out: &mut Vec<u8>, board: &Board, points: &[u8]) -> Result<(), AllocError>
     requires { IsTrue (list_all is_point points.now) }
     ensures { OnOk result (out.new.items ≡ out.old.items ++ line_text (cells_line board.now points.now)) }
@@ -123,7 +124,7 @@ fn put_cells(out: &mut Vec<u8>, board: &Board, points: &[u8]) -> Result<(), Allo
     put_text(out, "\n")
 }
 
-/// Adds what stands on a point.
+/// Appends the cell of a point: the checkers on it, or a dot.
 fn put_cell(out: &mut Vec<u8>, board: &Board, point: u8) -> Result<(), AllocError>
     requires { IsTrue (is_point point) }
     ensures { OnOk result (out.new.items ≡ out.old.items ++ in_four (cell board.now point)) }
@@ -139,7 +140,7 @@ fn put_cell(out: &mut Vec<u8>, board: &Board, point: u8) -> Result<(), AllocErro
     }
 }
 
-/// Adds a text of at most one letter and a number below 100, at the right of four places.
+/// Appends a mark of at most one letter and a number below 100, right-aligned in four columns.
 fn put_in_four(out: &mut Vec<u8>, mark: &str, number: u32) -> Result<(), AllocError>
     ensures { OnOk result (out.new.items ≡ out.old.items ++ in_four (mark.now ++ decimal number)) }
 {
@@ -150,7 +151,7 @@ fn put_in_four(out: &mut Vec<u8>, mark: &str, number: u32) -> Result<(), AllocEr
     put_text(out, digits)
 }
 
-/// The spaces before a text of this length, so that it ends four places on.
+/// Returns the spaces that pad a text of this length to four columns.
 fn padding(length: usize) -> &'static str
     ensures { result.now ≡ replicate (4 - length) 32 }
 {
@@ -163,7 +164,7 @@ fn padding(length: usize) -> &'static str
     }
 }
 
-/// Adds the line of the checkers on the bar, and those off.
+/// Appends the line with the checkers on the bar and those borne off.
 fn put_aside(out: &mut Vec<u8>, board: &Board) -> Result<(), AllocError>
     ensures { OnOk result (out.new.items ≡ out.old.items ++ line_text (aside_line board.now)) }
 {
@@ -174,7 +175,7 @@ fn put_aside(out: &mut Vec<u8>, board: &Board) -> Result<(), AllocError>
     put_text(out, "\n")
 }
 
-/// Adds how many checkers each player has on one of his points.
+/// Appends the number of checkers that each player has on a point of their own numbering.
 fn put_counts(out: &mut Vec<u8>, board: &Board, point: u8) -> Result<(), AllocError>
     requires { point ≤ 25 }
     ensures { OnOk result (out.new.items ≡ out.old.items ++ counts_part board.now point) }
@@ -185,7 +186,7 @@ fn put_counts(out: &mut Vec<u8>, board: &Board, point: u8) -> Result<(), AllocEr
     put_number(out, board.count(Player::O, point).into())
 }
 
-/// Adds the last line: what is to happen next.
+/// Appends the last line: what happens next.
 fn put_phase_line(out: &mut Vec<u8>, standing: &Standing) -> Result<(), AllocError>
     ensures { OnOk result (out.new.items ≡ out.old.items ++ line_text (phase_line standing.now)) }
 {
@@ -193,11 +194,11 @@ fn put_phase_line(out: &mut Vec<u8>, standing: &Standing) -> Result<(), AllocErr
     put_text(out, "\n")
 }
 
-/// Adds what is to happen next, as in `X to roll`: the last line of the board text, without its line feed
-/// (docs/FORMATS.md, "Board text").
+/// Appends what happens next, as in `X to roll`: the last line of the board text, without its line
+/// feed (docs/FORMATS.md, "Board text").
 ///
 /// # Errors
-/// AllocError where there is no memory; then some of it may be added.
+/// AllocError where there is no memory; then some of it may be appended.
 pub fn put_phase(out: &mut Vec<u8>, standing: &Standing) -> Result<(), AllocError>
     ensures { OnOk result (out.new.items ≡ out.old.items ++ phase_line standing.now) }
 {
@@ -230,7 +231,7 @@ pub fn put_phase(out: &mut Vec<u8>, standing: &Standing) -> Result<(), AllocErro
     }
 }
 
-/// What is to become of a turn: the referee, where he acts, passes it.
+/// Returns the words for what becomes of a turn: the referee passes it where it is the one to act.
 fn doing(standing: &Standing) -> &'static str
     ensures { (player : Player) (dice : Dice) → standing.now.phase ≡ Phase.ToMove player dice
         → result.now ≡ turn_words (passes standing.now) }

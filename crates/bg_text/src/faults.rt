@@ -1,4 +1,4 @@
-//! Why a line cannot be read, or cannot follow.
+//! The reasons why a line can't be read, or can't follow.
 ghost use Rattle.std.specs.Prelude.{◌≡◌};
 ghost use Rattle.bg_text.specs.Judge.Judging.{fault_reason};
 ghost use Rattle.bg_text.specs.Judge.Reason.{text_reason};
@@ -8,14 +8,14 @@ use arrayvec::ArrayString;
 use bg_match::EntryFault;
 use std::fmt;
 
-/// Why a line is not the text of an entry or an action, by the first of three tests that fails
+/// The first of three tests that a line fails, so that it is not the text of an entry or an action
 /// (docs/FORMATS.md, "Entry lines").
 #[derive(Clone, Copy, Debug, PartialEq, Eq)]
 pub enum TextFault {
     /// The line has none of the shapes of a line.
     NotALine,
-    /// The line has its shape, but a number has a leading zero or is out of its range (1 to 6 for a die, 1 to 24
-    /// for a point), or a step does not lead down.
+    /// The line has its shape, but a number has a leading zero or is out of its range, or a step
+    /// does not lead down. The range is 1 to 6 for a die, and 1 to 24 for a point.
     BadNumber,
     /// The line has its shape and its numbers are right, but there are more than four steps.
     TooManySteps,
@@ -24,7 +24,7 @@ pub enum TextFault {
 impl TextFault {
     ghost use Rattle.std.specs.Prelude.{◌≤◌, length};
 
-    /// The fault in words, as it is printed (docs/FORMATS.md, "Refusals").
+    /// Returns the fault in words, as it is printed (docs/FORMATS.md, "Refusals").
     pub fn reason(self) -> &'static str
         ensures words { result.now ≡ text_reason self }
         ensures fits { length result.now ≤ 14 }
@@ -50,14 +50,14 @@ impl fmt::Display for TextFault {
 
 impl std::error::Error for TextFault {}
 
-/// Why a line of a transcript is refused (docs/FORMATS.md, "The judge").
+/// The reason why a line of a transcript is refused (docs/FORMATS.md, "The judge").
 #[derive(Clone, Copy, Debug, PartialEq, Eq)]
 pub enum LineFault {
-    /// The first line is missing, or has not the shape of a length line.
+    /// The first line is missing, or lacks the shape of a length line.
     NotALengthLine,
     /// The length has a leading zero, or is not from 1 to 99.
     LengthOutOfRange,
-    /// The line is no entry's text.
+    /// The line is not the text of an entry.
     Text(TextFault),
     /// The line names a seat where the other seat must act.
     WrongPlayer,
@@ -66,7 +66,7 @@ pub enum LineFault {
 }
 
 impl LineFault {
-    /// The fault in words, as it is printed (docs/FORMATS.md, "Refusals").
+    /// Returns the fault in words, as it is printed (docs/FORMATS.md, "Refusals").
     pub fn reason(self) -> ArrayString<40>
         ensures { result.bytes ≡ fault_reason self }
     {
@@ -106,10 +106,10 @@ impl From<EntryFault> for LineFault {
     }
 }
 
-/// Why a transcript gives no record.
+/// The reason why a transcript gives no record.
 #[derive(Clone, Copy, Debug, PartialEq, Eq)]
 pub enum TranscriptFault {
-    /// The first line that is refused, from 1, and why.
+    /// The first line that is refused, counted from 1, and the reason.
     Refused { line: u32, why: LineFault },
     /// The input is longer than 41943040 bytes.
     TooLong,

@@ -21,8 +21,8 @@ use crate::{Judgement, Verdict};
 use bg_streams::{EngineFault, Sink, Source, write_text};
 use std::alloc::{AllocError, Global};
 
-/// What the judge says of an input: the board after its longest legal part, and the verdict, as docs/FORMATS.md,
-/// "The judge", says.
+/// Returns the judge's output for an input: the board after its longest legal part, and the
+/// verdict, as docs/FORMATS.md, "The judge", describes them.
 ///
 /// # Errors
 /// AllocError where there is no memory for the text or a line.
@@ -37,28 +37,32 @@ pub fn judge_text(alloc: Global, input: &[u8]) -> Result<Judgement, AllocError>
     judge.end(alloc)
 }
 
-/// An input has one judgement: no two texts, and no two verdicts, are both right.
+/// States that an input has one judgement: no two texts, and no two verdicts, are both right.
 pub fn judgements_agree()
     ensures { JudgementsAgree }
 {}
 
-/// What is said of a transcript is that it is fine: the board where its entries lead, and how many they are.
+/// States that the judge finds every transcript fine: it prints the board that the entries lead to,
+/// and their number.
 pub fn transcripts_are_fine()
     ensures { TranscriptsAreFine }
 {}
 
-/// Where a transcript gives no record for a line, the judge refuses it at that line, and says the reason last.
+/// States that where a transcript gives no record because of a line, the judge refuses it at that
+/// line and prints the reason last.
 pub fn transcript_faults_are_judged()
     ensures { TranscriptFaultsAreJudged }
 {}
 
-/// Judges a transcript: reads all of the input, writes the board and the verdict on what it read, and flushes them, as
-/// docs/FORMATS.md, "The judge", says. The input has at most 41943040 bytes, which take at most 41943041 reads; of a
-/// longer one 41943041 bytes are read, and it is TooLong. The sink is flushed once, at the end.
+/// Judges a transcript: reads all of the input, writes the board and the verdict, and flushes them,
+/// as docs/FORMATS.md, "The judge", describes it. The input has at most 41943040 bytes, which take
+/// at most 41943041 reads. Of a longer one 41943041 bytes are read, and it is TooLong. The sink is
+/// flushed once, at the end.
 ///
 /// # Errors
-/// Read exactly where the source failed, and Memory where memory runs out: nothing was written then. Write exactly
-/// where the sink failed, as it was written to or flushed: nothing is said of how much went out.
+/// Read exactly where the source failed, and Memory where memory runs out: then nothing was
+/// written. Write exactly where the sink failed while it was written to or flushed: how much it
+/// wrote is unspecified.
 pub fn judge<S: Source, T: Sink>(
     alloc: Global,
     source: &mut S,

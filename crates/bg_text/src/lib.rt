@@ -1,5 +1,5 @@
-//! The texts of a match: the lines of its entries, its board, and the judge of a whole transcript. For whoever reads or
-//! prints matches.
+//! The texts of a match: the lines of its entries, its board, and the judge of a whole transcript.
+//! For programs that read or print matches.
 //!
 //! ```
 //! let (player, entry) = parse_entry(b"X roll 3 1")?;

@@ -7,11 +7,11 @@ use crate::printing::{put_number, put_text};
 use bg_match::Rules;
 use std::alloc::AllocError;
 
-/// Adds the length of a match and its rules, where they are the second, to the end of a text: `length 5`, or
+/// Appends the length of a match to a text, and its rules where they are the second: `length 5`, or
 /// `length 5 rules 2` (docs/FORMATS.md, "Transcripts").
 ///
 /// # Errors
-/// AllocError where memory runs out. What `out` holds then is not said.
+/// AllocError where memory runs out. What `out` holds then is unspecified.
 pub fn put_terms(out: &mut Vec<u8>, length: u8, rules: Rules) -> Result<(), AllocError>
     ensures { OnOk result (out.new.items ≡ out.old.items ++ terms_text (terms_of length rules)) }
 {
@@ -20,7 +20,7 @@ pub fn put_terms(out: &mut Vec<u8>, length: u8, rules: Rules) -> Result<(), Allo
     put_text(out, rules_mark(rules))
 }
 
-/// What is written of the rules.
+/// Returns the words for the rules: none for the first.
 fn rules_mark(rules: Rules) -> &'static str
     ensures { result.now ≡ mark rules }
 {

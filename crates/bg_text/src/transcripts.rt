@@ -1,4 +1,4 @@
-//! The transcript of a log.
+//! The transcript of a record.
 ghost use Rattle.std.specs.Prelude.{◌≡◌, ◌≤◌, ◌++◌, length, IfOk, OnOk};
 ghost use Rattle.bg_match.specs.Match.{IsLegalRecord};
 ghost use Rattle.bg_text.specs.Boards.BoardText.{line_text};
@@ -11,7 +11,8 @@ use crate::terms_texts::put_terms;
 use bg_match::{Number, Record};
 use std::alloc::{AllocError, Global};
 
-/// The transcript of a record: its length line, and a line for each entry (docs/FORMATS.md, "Transcripts").
+/// Returns the transcript of a record: its length line, and a line for each entry (docs/FORMATS.md,
+/// "Transcripts").
 ///
 /// # Errors
 /// AllocError where memory runs out.
@@ -26,7 +27,7 @@ pub fn transcript_text(alloc: Global, log: &Record) -> Result<Vec<u8>, AllocErro
     Ok(text)
 }
 
-/// Adds the length line.
+/// Appends the length line.
 fn put_length(out: &mut Vec<u8>, log: &Record) -> Result<(), AllocError>
     ensures { OnOk result (out.new.items ≡ out.old.items ++ line_text (length_line log.now.terms)) }
 {
@@ -34,7 +35,7 @@ fn put_length(out: &mut Vec<u8>, log: &Record) -> Result<(), AllocError>
     put_text(out, "\n")
 }
 
-/// Adds the line of an entry.
+/// Appends the line of an entry.
 fn put_line(out: &mut Vec<u8>, log: &Record, number: Number) -> Result<(), AllocError>
     requires first { 1 ≤ number }
     requires last { number ≤ length log.now.entries }

@@ -1,26 +1,28 @@
-//! Why a typed turn is refused.
+//! The reasons why a typed turn is refused.
 
 use bg_turns::Turn;
 use std::alloc::AllocError;
 use std::fmt;
 
-/// Why a typed turn is refused, by the first of these tests that fails (docs/FORMATS.md, "Typed turns").
+/// The first of these tests that a typed turn fails (docs/FORMATS.md, "Typed turns").
 #[derive(Debug, PartialEq, Eq, Drop)]
 pub enum TypedFault {
-    /// A word is no part of a movement.
+    /// A word is not part of a movement.
     NotAMovement,
     /// The movement has more than four steps.
     TooManySteps,
     /// No legal turn has this movement.
     NoSuchTurn,
-    /// Legal turns have this movement, and hits are marked, but none of these turns has just these hits.
+    /// Legal turns have this movement, and hits are marked, but none of these turns has exactly
+    /// these hits.
     WrongHits,
-    /// No hit is marked, and legal turns of this movement hit on different points: the greatest of them, and the greatest
-    /// of those that hit otherwise.
+    /// No hit is marked, and legal turns with this movement hit on different points. Holds the
+    /// greatest of them, and the greatest of those that hit otherwise.
     Ambiguous(Turn, Turn),
-    /// No movement is typed, and there is not just one legal turn.
+    /// No movement is typed, and the number of legal turns is not one.
     SeveralTurns,
-    /// There is no memory for the text in match files' spelling, or for the list of legal turns.
+    /// There is no memory for the text in the spelling of match files, or for the list of legal
+    /// turns.
     Memory,
 }
 

@@ -1,5 +1,5 @@
-//! A turn as a person types it, read in the position that it is to be played in: `8/5 6/5`, `24-14`, `13/8(2)`, `b/20*`,
-//! or `move` alone. For a program that lets people play.
+//! A turn as a person types it, read in the position in which it is to be played: `8/5 6/5`,
+//! `24-14`, `13/8(2)`, `b/20*`, or `move` alone. For programs that let people play.
 //!
 //! ```
 //! let dice = Dice {

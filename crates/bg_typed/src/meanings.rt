@@ -11,7 +11,7 @@ use bg_mat::{Leg, MatFault, as_turn, find_turn, is_hit, same_movement, turn_faul
 use bg_turns::{Dice, Turn, judge_turn, legal_turns};
 use std::alloc::Global;
 
-/// Whether two lists of steps hit on the same points.
+/// Returns whether two lists of steps hit on the same points.
 fn hit_alike(board: &Board, player: Player, one: &[Step], other: &[Step]) -> bool
     ensures { IsTrue result ↔ HitAlike board.now player one.now other.now }
 {
@@ -23,14 +23,14 @@ fn hit_alike(board: &Board, player: Player, one: &[Step], other: &[Step]) -> boo
     true
 }
 
-/// Whether a leg marks a hit.
+/// Returns whether a leg marks a hit.
 fn has_marks(legs: &[Leg]) -> bool
     ensures { result ≡ is_marked legs.now }
 {
     legs.iter().any(|leg| leg.hits)
 }
 
-/// The only legal turn.
+/// Returns the only legal turn.
 fn only_turn(alloc: Global, board: &Board, player: Player, dice: Dice) -> Result<Turn, TypedFault>
     ensures means { IfOk result (λ turn. MeansLegs board.now player dice [] turn) }
     ensures fault { IfErr result (IsMeaningFault board.now player dice []) }
@@ -42,7 +42,7 @@ fn only_turn(alloc: Global, board: &Board, player: Player, dice: Dice) -> Result
     Ok(turns[0].copy())
 }
 
-/// The turn of a movement in which hits are marked.
+/// Returns the turn of a movement in which hits are marked.
 fn marked_turn(
     alloc: Global,
     board: &Board,
@@ -64,7 +64,7 @@ fn marked_turn(
     }
 }
 
-/// The turn of a movement in which no hit is marked.
+/// Returns the turn of a movement in which no hit is marked.
 fn unmarked_turn(
     alloc: Global,
     board: &Board,
@@ -92,7 +92,7 @@ fn unmarked_turn(
     }
 }
 
-/// The first of some turns that has this movement.
+/// Returns the first of some turns that has this movement.
 fn first_moved(written: &[Step], turns: &[Turn]) -> Option<Turn>
     requires few { length written.now ≤ 4 }
     ensures { MatchOption result (IsNone (SameMovement written.now) turns.now)
@@ -106,7 +106,7 @@ fn first_moved(written: &[Step], turns: &[Turn]) -> Option<Turn>
     None
 }
 
-/// The first of some turns that has this movement, and hits otherwise than these steps.
+/// Returns the first of some turns that has this movement, and hits otherwise than these steps.
 fn first_otherwise(
     board: &Board,
     player: Player,
@@ -126,7 +126,7 @@ fn first_otherwise(
     None
 }
 
-/// Whether a turn has this movement, and hits otherwise than these steps.
+/// Returns whether a turn has this movement, and hits otherwise than these steps.
 fn hits_otherwise(
     board: &Board,
     player: Player,
@@ -140,7 +140,7 @@ fn hits_otherwise(
     same_movement(written, turn.steps()) && !hit_alike(board, player, steps, turn.steps())
 }
 
-/// The turn that at most four legs mean.
+/// Returns the turn that at most four legs mean.
 pub(crate) fn turn_of_legs(
     alloc: Global,
     board: &Board,

@@ -5,7 +5,7 @@ ghost use Rattle.bg_typed.specs.Spelling.{spelled, spelled_byte, stands_for};
 
 use std::alloc::{AllocError, Global};
 
-/// A byte in lower case, with a slash for a hyphen, and a blank for a comma.
+/// Returns a byte in lower case, with a slash for a hyphen, and a blank for a comma.
 fn spell_byte(byte: u8) -> u8
     ensures { result ≡ spelled_byte byte }
 {
@@ -17,14 +17,15 @@ fn spell_byte(byte: u8) -> u8
     }
 }
 
-/// Whether a point may begin behind this byte: a blank or a slash.
+/// Returns whether a point may begin behind this byte: a blank or a slash.
 fn separates(byte: u8) -> bool
     ensures { result ≡ is_separator byte }
 {
     matches!(byte, b' ' | b'\t' | b'\r' | b'/')
 }
 
-/// Whether a point ends before these bytes: there are none, or a blank, a slash, the mark of a hit or a bracket comes.
+/// Returns whether a point ends before these bytes. There are none, or a blank, a slash, the mark
+/// of a hit or a bracket follows.
 fn ends_point(typed: &[u8]) -> bool
     ensures { result ≡ is_end (map spelled_byte typed.now) }
 {
@@ -37,7 +38,7 @@ fn ends_point(typed: &[u8]) -> bool
     }
 }
 
-/// Adds a byte, or what it stands for where it is alone.
+/// Appends a byte, or what it stands for where it is alone.
 fn put_byte(text: &mut Vec<u8>, byte: u8, alone: bool) -> Result<(), AllocError>
     ensures { OnOk result (text.new.items ≡ text.old.items ++ stands_for alone byte) }
 {
@@ -48,7 +49,7 @@ fn put_byte(text: &mut Vec<u8>, byte: u8, alone: bool) -> Result<(), AllocError>
     }
 }
 
-/// A typed text in the spelling of match files.
+/// Returns a typed text in the spelling of match files.
 pub(crate) fn spell(alloc: Global, typed: &[u8]) -> Result<Vec<u8>, AllocError>
     ensures { IfOk result (λ text. text.items ≡ spelled typed.now) }
 {

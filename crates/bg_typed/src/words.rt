@@ -6,14 +6,15 @@ ghost use Rattle.bg_typed.specs.TypedWords.{IsMoveWord, SkipsMove, TellsWords};
 use arrayvec::ArrayVec;
 use bg_mat::{LegFault, Legs, add_word, split_word};
 
-/// Whether a word says that a movement follows.
+/// Returns whether a word says that a movement follows.
 fn is_move(word: &[u8]) -> bool
     ensures { IsTrue result ↔ IsMoveWord word.now }
 {
     matches!(word, b"m" | b"move")
 }
 
-/// What follows the word `m` or `move` that a text begins with; the text, where it begins with another word or with none.
+/// Returns what follows the word `m` or `move` at the start of a text. Returns the whole text where
+/// it begins with another word or with none.
 pub(crate) fn skip_move(text: &[u8]) -> &[u8]
     ensures { SkipsMove text.now result.now }
 {
@@ -23,7 +24,7 @@ pub(crate) fn skip_move(text: &[u8]) -> &[u8]
     if is_move(word) { rest } else { text }
 }
 
-/// The legs that all words of a text tell.
+/// Reads the legs that all words of a text spell.
 pub(crate) fn read_legs(text: &[u8]) -> Result<Legs, LegFault>
     ensures told { IfOk result (λ legs. TellsWords text.now legs.items) }
     ensures fault { IfErr result (RefusesLegs (TellsWords text.now) []) }

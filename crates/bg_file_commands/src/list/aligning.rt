@@ -1,17 +1,17 @@
-//! Lines whose parts stand below each other.
+//! Aligning the parts of lines in columns.
 
 use crate::list::rows::NOTHING;
 use bg_text::put_text;
 use std::alloc::{AllocError, Global};
 
-/// What stands between the parts of a line, which are not aligned yet.
+/// The separator between the parts of a line that are not aligned yet.
 pub(crate) const BETWEEN: char = '\t';
 
-/// So many parts of a line have a width at most.
+/// Number of parts of a line that have a width, at most.
 const MOST_PARTS: usize = 10;
 
-/// Returns lines with their parts below each other, but for the last part of each, which is as wide as it is. Where no
-/// line has a part, its column is left out.
+/// Returns the lines with their parts aligned in columns, except the last part of each, which keeps
+/// its own width. A column that is empty in all lines is left out.
 pub(crate) fn aligned(alloc: Global, lines: &[u8]) -> Result<Vec<u8>, AllocError> {
     let lines = str::from_utf8(lines).unwrap_or_default();
     let widths = widths_of(lines);
@@ -38,7 +38,7 @@ pub(crate) fn aligned(alloc: Global, lines: &[u8]) -> Result<Vec<u8>, AllocError
     Ok(text)
 }
 
-/// Returns how wide each part is in the line in which it is the widest.
+/// Returns the width of each column: that of its widest part.
 fn widths_of(lines: &str) -> [usize; MOST_PARTS] {
     let mut widths = [0; MOST_PARTS];
     for line in lines.lines() {
@@ -52,7 +52,7 @@ fn widths_of(lines: &str) -> [usize; MOST_PARTS] {
     widths
 }
 
-/// Returns how many columns a part takes.
+/// Returns the number of columns that a part takes.
 fn columns_of(part: &str) -> usize {
     part.chars().count()
 }

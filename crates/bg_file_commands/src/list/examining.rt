@@ -1,4 +1,4 @@
-//! What the folder of a match has.
+//! Examining the folder of a match.
 
 use crate::list::locks::Locks;
 use crate::list::saves::{Held, held_in};
@@ -12,13 +12,14 @@ use std::os::unix::fs::MetadataExt;
 use std::rt::Files;
 use std::{fs, io};
 
-/// A save that is being written can look torn, so a folder that is not sound is read so often.
+/// Number of times that a folder is read, at most, until it is sound. A save that is being written
+/// can look torn.
 const MOST_READS: u8 = 3;
 
-/// How sound the files of a match are.
+/// The soundness of a match's files.
 #[derive(Clone, Copy, PartialEq, Eq)]
 pub(crate) enum Soundness {
-    /// All are.
+    /// All are sound.
     Sound,
     /// One is damaged, or of another match.
     Unsound,
@@ -37,27 +38,27 @@ impl Soundness {
     }
 }
 
-/// What is listed of a folder.
+/// The listing of a folder.
 #[derive(Drop)]
 pub(crate) struct Listed {
     pub(crate) path: String,
-    /// What its match file says.
+    /// The contents of its match file.
     pub(crate) file: Option<NamedMatch>,
-    /// Where the match stands that is saved.
+    /// The standing of the match in the saves.
     pub(crate) standing: Option<Standing>,
-    /// How many entries of it are saved.
+    /// Number of entries that are saved.
     pub(crate) entries: Number,
-    /// When a save was written last, in seconds since 1970.
+    /// The time of the last save, in seconds since 1970.
     pub(crate) changed: Option<u64>,
     /// Whether a process has locked the folder.
     pub(crate) is_open: bool,
     pub(crate) soundness: Soundness,
-    /// What is wrong, where it is not sound.
+    /// The fault, where it is not sound.
     pub(crate) fault: String,
 }
 
 impl Listed {
-    /// Returns a folder of which nothing is known but what is wrong.
+    /// Returns the listing of a folder of which only the fault is known.
     fn faulty(path: String, soundness: Soundness, fault: String) -> Listed {
         Listed {
             path,
@@ -71,7 +72,7 @@ impl Listed {
         }
     }
 
-    /// Returns a folder that can't be read for this reason.
+    /// Returns the listing of a folder that can't be read for this reason.
     ///
     /// # Errors
     /// `OutOfMemory` alone.
@@ -81,7 +82,7 @@ impl Listed {
     }
 }
 
-/// Returns what the folder of a match has, which may be locked.
+/// Returns the listing of a match's folder, which may be locked.
 ///
 /// # Errors
 /// `OutOfMemory` alone.
@@ -117,7 +118,7 @@ where
     })
 }
 
-/// Returns what the saves of a folder hold, and not what a save is that is being written.
+/// Returns what the saves of a folder hold, leaving out a save that is being written.
 fn settled<R>(rt: &R, folder: &str, table: &MatchFile) -> io::Result<Held>
 where
     R: Files<File = File> + AllocGlobal,
@@ -148,7 +149,7 @@ where
     Ok(held_in(rt.alloc(), table, &zero, &one)?)
 }
 
-/// Returns the bytes of one of the referee's files, or why it can't be read.
+/// Reads the bytes of one of the referee's files, or returns why it can't be read.
 fn bytes_of<R>(rt: &R, folder: &str, slot: Slot) -> io::Result<Result<Vec<u8>, String>>
 where
     R: Files<File = File> + AllocGlobal,
@@ -167,7 +168,7 @@ where
     }
 }
 
-/// Returns when the newer of the referee's files was written, in seconds since 1970.
+/// Returns the time when the newer of the referee's files was written, in seconds since 1970.
 fn change_of<R>(rt: &R, folder: &str) -> io::Result<Option<u64>>
 where
     R: Files<File = File> + AllocGlobal,

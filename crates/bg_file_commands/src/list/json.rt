@@ -1,4 +1,4 @@
-//! The line of a match for programs: an object of JSON.
+//! The line of a match for programs: a JSON object.
 
 use crate::list::examining::Listed;
 use crate::list::times::Moment;
@@ -9,7 +9,7 @@ use std::alloc::{AllocError, Global};
 use std::fmt;
 use std::fmt::{Display, Formatter, Write};
 
-/// A text as JSON has it, between its quotes.
+/// A text as JSON writes it between quotes.
 #[derive(Clone, Copy)]
 struct Quoted<'a>(&'a str);
 
@@ -30,7 +30,7 @@ impl<'a> Display for Quoted<'a> {
     }
 }
 
-/// Adds the line of a folder (docs/FORMATS.md, "Lists of matches"). What is not known is left out.
+/// Appends the line of a folder (docs/FORMATS.md, "Lists of matches"). What is unknown is left out.
 pub(crate) fn put_object(
     alloc: Global,
     out: &mut Vec<u8>,
@@ -64,7 +64,7 @@ pub(crate) fn put_object(
     put_text(out, "}\n")
 }
 
-/// Adds the names that players have.
+/// Appends the names that players have.
 fn put_names(alloc: Global, out: &mut Vec<u8>, names: &Names) -> Result<(), AllocError> {
     if names.x.is_none() && names.o.is_none() {
         return Ok(());
@@ -82,7 +82,7 @@ fn put_names(alloc: Global, out: &mut Vec<u8>, names: &Names) -> Result<(), Allo
     put_text(out, "}")
 }
 
-/// Adds the score, the game, and what is to happen next.
+/// Appends the score, the game, and what happens next.
 fn put_standing(out: &mut Vec<u8>, standing: &Standing) -> Result<(), AllocError> {
     let (x, o) = standing.score();
     put_numbered(out, ",\"score\":{\"x\":", x.into())?;
@@ -94,19 +94,19 @@ fn put_standing(out: &mut Vec<u8>, standing: &Standing) -> Result<(), AllocError
     put_flag(out, "\",\"over\":", is_over)
 }
 
-/// Adds words, and a number behind them.
+/// Appends words, and a number behind them.
 fn put_numbered(out: &mut Vec<u8>, words: &str, number: u64) -> Result<(), AllocError> {
     put_text(out, words)?;
     put_number(out, number)
 }
 
-/// Adds words, and whether something is so behind them.
+/// Appends words, and a truth value behind them.
 fn put_flag(out: &mut Vec<u8>, words: &str, is_so: bool) -> Result<(), AllocError> {
     put_text(out, words)?;
     put_text(out, if is_so { "true" } else { "false" })
 }
 
-/// Adds words, and a text behind them.
+/// Appends words, and a text behind them.
 fn put_quoted(alloc: Global, out: &mut Vec<u8>, words: &str, text: &str) -> Result<(), AllocError> {
     let text = format!(in alloc; "{words}{}", Quoted(text))?;
     put_text(out, text.as_str())

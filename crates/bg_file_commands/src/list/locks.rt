@@ -1,22 +1,23 @@
-//! Which folders are locked.
+//! The folders that are locked.
 
 use std::fs::File;
 use std::os::unix::fs::MetadataExt;
 use std::rt::Files;
 use std::{fs, io};
 
-/// The file in which the system tells its locks.
+/// The file in which the system lists its locks.
 const LOCKS: &str = "/proc/locks";
 
-/// The locks of the machine, as far as the system tells them.
+/// The locks of the machine, as far as the system lists them.
 #[derive(Drop)]
 pub(crate) struct Locks {
-    /// A line for each: its number, its kind, who holds it, and then the device, the file and the part that it is of.
+    /// A line for each lock: its number, its kind, its holder, and then the device, the file and
+    /// the part that it covers.
     told: String,
 }
 
 impl Locks {
-    /// Reads them; there are none where the system does not tell them.
+    /// Reads the locks; there are none where the system doesn't list them.
     pub(crate) fn read<R>(rt: &R) -> Locks
     where
         R: Files<File = File> + AllocGlobal,
@@ -46,12 +47,12 @@ impl Locks {
     }
 }
 
-/// Returns the higher part of the number of a device.
+/// Returns the major part of the number of a device.
 fn major_of(device: u64) -> u64 {
     ((device >> 32) & 0xffff_f000) | ((device >> 8) & 0xfff)
 }
 
-/// Returns the lower part of the number of a device.
+/// Returns the minor part of the number of a device.
 fn minor_of(device: u64) -> u64 {
     ((device >> 12) & 0xffff_ff00) | (device & 0xff)
 }

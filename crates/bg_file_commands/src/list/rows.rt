@@ -8,10 +8,10 @@ use bg_system::{MatchFile, NamedMatch, Names, Printable};
 use bg_text::{put_number, put_phase, put_text};
 use std::alloc::{AllocError, Global};
 
-/// What stands where there is nothing to tell.
+/// The mark in place of an empty part.
 pub(crate) const NOTHING: &str = "-";
 
-/// Adds the line of a folder. Its parts are to be aligned.
+/// Appends the line of a folder, whose parts are still to be aligned.
 pub(crate) fn put_row(alloc: Global, out: &mut Vec<u8>, listed: &Listed) -> Result<(), AllocError> {
     let path = format!(in alloc; "{}\t", Printable(listed.path.as_str()))?;
     put_text(out, path.as_str())?;
@@ -30,7 +30,7 @@ pub(crate) fn put_row(alloc: Global, out: &mut Vec<u8>, listed: &Listed) -> Resu
     put_text(out, "\n")
 }
 
-/// Returns what is said of the saves.
+/// Returns the word for the state of the saves.
 fn state_of(listed: &Listed) -> &str {
     if !listed.fault.is_empty() {
         listed.fault.as_str()
@@ -41,7 +41,7 @@ fn state_of(listed: &Listed) -> &str {
     }
 }
 
-/// Adds how the players are called, and no text where neither has a name.
+/// Appends the names of the players, and no text where neither has a name.
 fn put_names(alloc: Global, out: &mut Vec<u8>, names: &Names) -> Result<(), AllocError> {
     if let Some(pairing) = Pairing::of(names) {
         let text = format!(in alloc; "{pairing}")?;
@@ -50,7 +50,7 @@ fn put_names(alloc: Global, out: &mut Vec<u8>, names: &Names) -> Result<(), Allo
     put_text(out, "\t")
 }
 
-/// Adds the score, the game, and what is to happen next.
+/// Appends the score, the game, and what happens next.
 fn put_standing(
     out: &mut Vec<u8>,
     table: &MatchFile,
@@ -65,7 +65,7 @@ fn put_standing(
     put_text(out, "\t")
 }
 
-/// Adds when a save was written last.
+/// Appends the time of the last save.
 fn put_changed(alloc: Global, out: &mut Vec<u8>, changed: Option<u64>) -> Result<(), AllocError> {
     match changed {
         Some(seconds) => {
@@ -77,7 +77,7 @@ fn put_changed(alloc: Global, out: &mut Vec<u8>, changed: Option<u64>) -> Result
     put_text(out, "\t")
 }
 
-/// Adds a number between these words.
+/// Appends a number between these words.
 fn put_numbered(
     out: &mut Vec<u8>,
     before: &str,

@@ -1,4 +1,4 @@
-//! What the two saves of a referee hold, and whether they are sound.
+//! The contents of a referee's two saves, and their soundness.
 
 use crate::list::examining::Soundness;
 use bg_match::{Number, Record, Standing};
@@ -6,18 +6,18 @@ use bg_system::{MatchFile, SlotName};
 use bg_wire::{FIRST_SAVE, LoadFault, REFEREE, RestoreRefusal, Saved, Slot, load, restore};
 use std::alloc::{AllocError, Global};
 
-/// What the saves of a referee hold.
+/// The contents of a referee's saves.
 #[derive(Drop)]
 pub(crate) struct Held {
     pub(crate) standing: Option<Standing>,
     pub(crate) entries: Number,
     pub(crate) soundness: Soundness,
-    /// What is wrong, where they are not sound.
+    /// The fault, where they are not sound.
     pub(crate) fault: String,
 }
 
 impl Held {
-    /// Returns that one can't be read, and why.
+    /// Returns the result for a save that can't be read, with the reason.
     pub(crate) fn unread(fault: String) -> Held {
         Held {
             standing: None,
@@ -27,7 +27,7 @@ impl Held {
         }
     }
 
-    /// Returns saves that hold this, and are sound where there is no fault.
+    /// Returns the contents of saves, which are sound where there is no fault.
     fn with(standing: Option<Standing>, entries: Number, fault: String) -> Held {
         Held {
             standing,
@@ -79,8 +79,8 @@ pub(crate) fn held_in(
     }
 }
 
-/// Returns what is wrong with the save beside the one that counts: it should be the one before, and is the next one where
-/// that was cut short. An empty text where nothing is.
+/// Returns what is wrong with the save beside the one that counts. It should be the one before, and
+/// is the next one where writing that was cut short. Returns an empty text where nothing is wrong.
 fn fault_beside(
     alloc: Global,
     saved: &Saved,
@@ -98,7 +98,8 @@ fn fault_beside(
     fault_of(alloc, slot, bytes)
 }
 
-/// Returns why the bytes of a slot are no saved text, behind its name; an empty text where they are one.
+/// Returns why the bytes of a slot don't encode a save, behind the slot's name; an empty text where
+/// they do.
 fn fault_of(alloc: Global, slot: Slot, bytes: &[u8]) -> Result<String, AllocError> {
     let name = SlotName {
         party: REFEREE,

@@ -1,30 +1,30 @@
-//! Where matches lie.
+//! Searching for the folders of matches.
 
 use std::fs::File;
 use std::io::ErrorKind;
 use std::rt::Files;
 use std::{fs, io};
 
-/// Folders are searched so many folders deep below the one that is named.
+/// Number of levels that are searched below a folder that is named.
 const MOST_DEEP: u8 = 3;
 
 /// A folder that has a match, or can't be read.
 #[derive(Drop)]
 pub(crate) struct Place {
     pub(crate) path: String,
-    /// Why it can't be read.
+    /// The reason why it can't be read.
     pub(crate) fault: Option<io::Error>,
 }
 
-/// What a folder has.
+/// The contents of a folder.
 enum Content {
     Match,
     NoMatch,
     Unread(io::Error),
 }
 
-/// Returns the folders with a match among a folder and those below it, and those that can't be read, by their names. A
-/// folder with a match is not searched, and links to folders are not followed.
+/// Returns the folders that have a match or can't be read, among a folder and those below it,
+/// sorted by name. A folder with a match is not searched, and links to folders are not followed.
 ///
 /// # Errors
 /// `OutOfMemory` alone.
@@ -52,7 +52,8 @@ fn without_slashes(rt: &impl AllocGlobal, folder: &str) -> io::Result<String> {
     Ok(String::from_str(rt.alloc(), if name.is_empty() { "/" } else { name })?)
 }
 
-/// Adds a folder to the places where it is one; else, where it is to be searched, the folders in it to those below.
+/// Appends a folder to the places where it is one. Otherwise appends the folders in it to `below`,
+/// where it is to be searched.
 fn search<R>(
     rt: &R,
     path: String,
@@ -95,7 +96,7 @@ where
     })
 }
 
-/// Adds the folders in a folder to others, but for those whose names are no text.
+/// Appends the folders in a folder to others, except those whose names are not text.
 fn add_folders<R>(rt: &R, path: &str, folders: &mut Vec<String>) -> io::Result<()>
 where
     R: Files<File = File> + AllocGlobal,
@@ -113,7 +114,10 @@ where
     Ok(())
 }
 
-/// Returns an error that is not want of memory.
+/// Returns the error, unless it is want of memory.
+///
+/// # Errors
+/// `OutOfMemory` alone.
 pub(crate) fn not_memory(error: io::Error) -> io::Result<io::Error> {
     match error.kind() {
         ErrorKind::OutOfMemory => Err(error),

@@ -1,14 +1,15 @@
-//! When something happened.
+//! The time of an event.
 
 use std::fmt;
 use std::fmt::{Display, Formatter, Write};
 
 const SECONDS_OF_DAY: u64 = 86_400;
 
-/// The last year that is told by its own number.
+/// The last year that is written by its own number.
 const LAST_YEAR: u64 = 9999;
 
-/// A time in seconds since 1970. It is shown as its date and time of day by UTC, as in `2026-11-27T09:21:40Z`.
+/// A time in seconds since 1970. `Display` writes its date and time of day in UTC, as in
+/// `2026-11-27T09:21:40Z`.
 #[derive(Clone, Copy)]
 pub(crate) struct Moment(pub(crate) u64);
 
@@ -24,7 +25,7 @@ impl Display for Moment {
     }
 }
 
-/// Returns the year, the month and the day on which so many days are over since 1970 began.
+/// Returns the year, the month and the day of the date this number of days after the start of 1970.
 fn date_of(days: u64) -> (u64, u64, u64) {
     let mut left = days;
     for year in 1970..LAST_YEAR {
@@ -38,7 +39,7 @@ fn date_of(days: u64) -> (u64, u64, u64) {
     (LAST_YEAR, 12, 31)
 }
 
-/// Returns how many days each month of a year has.
+/// Returns the number of days of each month of a year.
 fn months_of(year: u64) -> [u64; 12] {
     let is_leap = year % 4 == 0 && (year % 100 != 0 || year % 400 == 0);
     let february = if is_leap { 29 } else { 28 };

@@ -14,16 +14,16 @@ use std::fs::File;
 use std::rt::Files;
 use std::{fmt, io};
 
-/// What is said where parties can't go on together.
+/// The message where parties can't go on together.
 const APART: &str = "the files of the parties do not belong together";
 
-/// What is said where a file that is kept for others can't be written.
+/// The message where a file that is kept for others can't be written.
 const UNWRITTEN: &str = "a file that is kept can't be written: `--plain` says which, and why";
 
 /// Whether the referee is heard.
 #[derive(Clone, Copy, PartialEq, Eq)]
 enum Referee {
-    /// Nothing was heard yet, for less than three seconds.
+    /// Nothing has been heard yet, for less than three seconds.
     Awaited,
     Heard,
     Silent(Silence),
@@ -39,35 +39,35 @@ impl Display for Referee {
     }
 }
 
-/// The board of a match on a terminal, with the newest entries below it, which is drawn anew when
-/// something changes. What is wrong stands in a line of it, so that nothing tears the screen.
+/// The board of a match on a terminal, with the newest entries below it, which is redrawn when
+/// something changes. Errors are shown in a line of it, so that nothing tears the screen.
 #[derive(Drop)]
 pub(super) struct LiveBoard<'a, R> {
     rt: &'a R,
     terminal: Terminal,
     failures: &'a Failures,
-    /// Whether the standard error is another place than the terminal, which is told what is wrong
-    /// too.
+    /// Whether the standard error is another place than the terminal, so that errors are printed
+    /// there too.
     says_too: bool,
-    /// What the key file says of the match and its players.
+    /// The match and its players, as the key file has them.
     file: NamedMatch,
     referee: Referee,
     results: Results,
-    /// What the game before came to.
+    /// The result of the game before.
     result: Option<GameResult>,
-    /// What was wrong since there was news.
+    /// The error since the last news, if there was one.
     trouble: Option<String>,
     /// Whether a file that is kept for others can't be written.
     is_unwritten: bool,
-    /// How many entries were drawn.
+    /// Number of entries that were drawn.
     shown: Number,
     /// Whether there is something that was not drawn.
     is_old: bool,
 }
 
 impl<'a, R: Files<File = File> + Print + Eprint + AllocGlobal> LiveBoard<'a, R> {
-    /// Makes the board of this record on a terminal, where nothing is drawn yet. Devices note their
-    /// failures there, and the key file says this.
+    /// Creates the board of this record on a terminal, where nothing is drawn yet. Devices note
+    /// their failures in `failures`, and `file` is the contents of the key file.
     pub(super) fn new(
         rt: &'a R,
         terminal: Terminal,
@@ -92,9 +92,9 @@ impl<'a, R: Files<File = File> + Print + Eprint + AllocGlobal> LiveBoard<'a, R> 
         }
     }
 
-    /// Draws the board anew where something has changed: behind each round, with what changed of
-    /// the referee, and whether anything was ever heard of it. Returns whether there were new
-    /// entries.
+    /// Redraws the board where something has changed. It is called after each round, with the
+    /// change in the referee's liveness, and whether anything was ever heard of it. Returns whether
+    /// there were new entries.
     pub(super) fn go_on(
         &mut self,
         record: &Record,
@@ -115,7 +115,7 @@ impl<'a, R: Files<File = File> + Print + Eprint + AllocGlobal> LiveBoard<'a, R> 
         Ok(is_news)
     }
 
-    /// Keeps what the last game came to that has ended.
+    /// Keeps the result of the last game that has ended.
     fn note_results(&mut self, record: &Record) {
         for _ in 0..record.len() {
             match self.results.next(record, &self.file.names) {
@@ -145,7 +145,7 @@ impl<'a, R: Files<File = File> + Print + Eprint + AllocGlobal> LiveBoard<'a, R> 
         write_out(self.rt, &drawn_in_place(alloc, &text, self.terminal)?)
     }
 
-    /// Who plays, where a player has a name: what stands above the board.
+    /// Returns the line above the board: who plays, where a player has a name.
     fn heading(&self, alloc: Global) -> io::Result<Vec<u8>> {
         let names = &self.file.names;
         if Pairing::of(names).is_none() {
@@ -156,8 +156,8 @@ impl<'a, R: Files<File = File> + Print + Eprint + AllocGlobal> LiveBoard<'a, R> 
         Ok(broken(alloc, line.as_bytes(), self.terminal.columns)?)
     }
 
-    /// The lines below the entries: what the game before came to, and whether the referee is heard;
-    /// at the end of the match what it came to.
+    /// Returns the lines below the entries: the result of the game before, and whether the referee
+    /// is heard. At the end of the match they give its result.
     fn foot(&self, alloc: Global, record: &Record) -> io::Result<String> {
         let mut foot = String::new(alloc);
         if let Some(result) = self.result {
@@ -178,7 +178,7 @@ impl<'a, R: Files<File = File> + Print + Eprint + AllocGlobal> LiveBoard<'a, R> 
         Ok(format!(in alloc; "{foot}{}\n", self.referee)?)
     }
 
-    /// Keeps for the screen what is wrong, and says it where the standard error is another place.
+    /// Keeps an error for the screen, and prints it where the standard error is another place.
     fn note_trouble(&mut self, words: String) {
         if self.trouble.as_ref() == Some(&words) {
             return;
@@ -190,7 +190,7 @@ impl<'a, R: Files<File = File> + Print + Eprint + AllocGlobal> LiveBoard<'a, R> 
         self.is_old = true;
     }
 
-    /// Notes whether a file that is kept for others can't be written; its name was said on the
+    /// Notes whether a file that is kept for others can't be written. Its name was reported on the
     /// standard error.
     pub(super) fn note_files(&mut self, is_unwritten: bool) {
         self.is_old = self.is_old || is_unwritten != self.is_unwritten;

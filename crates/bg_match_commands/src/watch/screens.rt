@@ -1,4 +1,4 @@
-//! The screen on which a match is watched, as text, and how it is drawn anew in place.
+//! The screen on which a match is watched, as text, and its redrawing in place.
 
 use bg_board::Player;
 use bg_console::{Terminal, put_entries, with_coloured_checkers};
@@ -8,32 +8,33 @@ use bg_text::put_text;
 use std::alloc::Global;
 use std::io;
 
-/// Whose side is seen, and in whose numbers the points are.
+/// The player whose side is seen, and whose numbering the points have.
 const SEEN_FROM: Player = Player::X;
 
-/// The fewest lines on which checkers stand one above another, with an entry, a line below it, and
-/// that of the cursor.
+/// Number of lines from which checkers are stacked, with an entry, a line below it, and that of the
+/// cursor.
 const LINES_FOR_STACKS: usize = 22;
 
-/// The words that speak to a player, and the beginning of the line that says what the other one did
-/// last: who watches sees neither, as the entries stand below the board.
+/// The words that address a player, and the start of the line that says what the other one did
+/// last. A watcher sees neither, as the entries are below the board.
 const SPEAKS_TO_PLAYER: &str = " (you)";
 
 const LAST: &str = "last: ";
 
-/// What a terminal takes for: go to the upper left corner, clear the rest of the line, clear the
-/// rest of the screen.
+/// The terminal sequences that go to the upper left corner, clear the rest of the line, and clear
+/// the rest of the screen.
 const HOME: &[u8] = b"\x1b[H";
 
 const CLEAR_LINE: &[u8] = b"\x1b[K";
 
 const CLEAR_BELOW: &[u8] = b"\x1b[J";
 
-/// Returns the lines of a screen: a heading; the match, the score, the board from X's side and whose
-/// turn it is; as many of the newest entries as fit; and a foot. It leaves a line for the cursor.
+/// Returns the lines of a screen, which leave one for the cursor: a heading, the view of the match,
+/// as many of the newest entries as fit, and a foot. The view has the match, the score, the board
+/// from X's side and whose turn it is.
 ///
 /// # Errors
-/// Where there is no memory for it.
+/// An error where there is no memory for it.
 pub(super) fn screen_text(
     alloc: Global,
     record: &Record,
@@ -52,7 +53,7 @@ pub(super) fn screen_text(
     Ok(text)
 }
 
-/// How many lines of a terminal are drawn on.
+/// Returns the number of lines of a terminal that are drawn on.
 fn room_of(terminal: Terminal) -> usize {
     terminal.lines.saturating_sub(1)
 }
@@ -61,7 +62,7 @@ fn lines_in(text: &[u8]) -> usize {
     text.iter().filter(|byte| **byte == b'\n').count()
 }
 
-/// What X sees, without the words that speak to X and without O's last entry.
+/// Returns X's view, without the words that address X and without O's last entry.
 fn table_text(alloc: Global, record: &Record, terminal: Terminal) -> io::Result<Vec<u8>> {
     let view = seat_view_text(alloc, record, SEEN_FROM, drawing_on(terminal))?;
     let mut text = Vec::new(alloc);
@@ -76,7 +77,7 @@ fn table_text(alloc: Global, record: &Record, terminal: Terminal) -> io::Result<
     Ok(text)
 }
 
-/// How the board is drawn on a terminal.
+/// Returns the way to draw the board on a terminal.
 fn drawing_on(terminal: Terminal) -> Drawing {
     match Drawing::fitting(terminal.columns) {
         Drawing::Stacks if terminal.lines < LINES_FOR_STACKS => Drawing::Rows,
@@ -84,11 +85,11 @@ fn drawing_on(terminal: Terminal) -> Drawing {
     }
 }
 
-/// Returns what draws the lines of a screen in the place of those that were drawn before. What
-/// doesn't fit the terminal is cut off.
+/// Returns the bytes that draw the lines of a screen in place of those drawn before. What does not
+/// fit the terminal is cut off.
 ///
 /// # Errors
-/// Where there is no memory for it.
+/// An error where there is no memory for it.
 pub(super) fn drawn_in_place(
     alloc: Global,
     text: &[u8],

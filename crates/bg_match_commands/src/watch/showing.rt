@@ -1,4 +1,4 @@
-//! How a match that is watched is shown.
+//! The ways to show a match that is watched.
 
 use crate::watch::live_boards::LiveBoard;
 use bg_auto::Onlooker;
@@ -17,15 +17,15 @@ pub(super) struct Lines<'a, R> {
     pub(super) rt: &'a R,
     pub(super) telling: Telling,
     pub(super) witness: Witness<'a, R>,
-    /// What the key file says of the match.
+    /// The match of the key file.
     pub(super) table: MatchFile,
-    /// Whether only what is wrong is said.
+    /// Whether only errors are reported.
     pub(super) is_quiet: bool,
     /// Whether somebody watches the standard error.
     pub(super) is_watched: bool,
 }
 
-/// How a match is shown: by its transcript, or by a board that is drawn anew.
+/// The way in which a match is shown: its transcript, or a board that is redrawn.
 #[derive(Drop)]
 pub(super) enum Showing<'a, R> {
     Lines(Lines<'a, R>),
@@ -33,8 +33,9 @@ pub(super) enum Showing<'a, R> {
 }
 
 impl<'a, R: Files<File = File> + Print + Eprint + AllocGlobal> Showing<'a, R> {
-    /// Says whether the referee is heard of, where that has changed: to somebody who watches, and
-    /// for a log until it was heard once, as it may be another match's. A board shows it.
+    /// Reports whether the referee is heard of, where that has changed. Somebody who watches is
+    /// always told. A log is told until the referee was heard once, as it may be another match's. A
+    /// board shows it.
     pub(super) fn tell_word(&self, word: Option<Word>, is_heard: bool) {
         if let Showing::Lines(lines) = self {
             let is_told = !lines.is_quiet && (lines.is_watched || !is_heard);
@@ -55,7 +56,7 @@ impl<'a, R: Files<File = File> + Print + Eprint + AllocGlobal> Showing<'a, R> {
         }
     }
 
-    /// Notes whether a file that is kept for others can't be written; its name was said on the
+    /// Notes whether a file that is kept for others can't be written. Its name was reported on the
     /// standard error.
     pub(super) fn note_files(&mut self, is_unwritten: bool) {
         if let Showing::Board(board) = self {

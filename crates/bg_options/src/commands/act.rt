@@ -7,7 +7,7 @@ use bg_match::{MOST_ENTRIES, Number};
 use clap::{ArgMatches, Command, Error};
 use std::alloc::Global;
 
-/// What `act` does.
+/// The help on `act`.
 const ABOUT_ACT: &str =
     "Make one action when it is the player's turn, and wait for its entry; with no ACTION wait for\n\
              the turn. Prints the entries since the call before, and the board.\n\
@@ -16,18 +16,18 @@ const ABOUT_ACT: &str =
              answers the action; with 2 where it is refused, and nothing is claimed, or the entry is another;\n\
              with 1 where the time is over, or as `play`.";
 
-/// The most seconds that one action may have.
+/// Number of seconds that one action may take, at most.
 const MOST_SECONDS: u32 = 1_000_000;
 
-/// The one action that is to be made.
+/// The one action to make.
 #[derive(Clone, Copy)]
 pub struct ActOptions<'m, 'a> {
     pub seat: SeatOptions<'a>,
-    /// The words of the action; with none it is waited for the player's turn.
+    /// The words of the action; without any, the command waits for the player's turn.
     pub words: &'m [&'a str],
-    /// The entry, from 1 to 1000000, that the action is to be claimed as.
+    /// The number, from 1 to 1000000, of the entry that the action is to be claimed as.
     pub entry: Option<Number>,
-    /// How long it may take, from 1 to 1000000.
+    /// Number of seconds that it may take, from 1 to 1000000.
     pub seconds: u32,
 }
 
@@ -63,7 +63,7 @@ const ACTION: Argument = Argument {
     about: "The action, as in transcripts: roll, double, take, drop, move 8-5 6-5, resign normal, ..",
 };
 
-/// Its options and help.
+/// Returns the command with its options and help.
 pub(crate) fn command<'a>(alloc: Global) -> Result<Command<'a>, Error> {
     let command = described(alloc, "act", "Make one action, for scripts", ABOUT_ACT);
     let arguments = [PLAYER, MATCH, FOLDER, SECONDS, ENTRY, ACTION];

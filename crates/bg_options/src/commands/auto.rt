@@ -5,14 +5,14 @@ use crate::shared::{FOLDER, MATCH, PLAYER, THREE_TERMINALS};
 use clap::{Command, Error};
 use std::alloc::Global;
 
-/// What `auto` does.
+/// The help on `auto`.
 const ABOUT_AUTO: &str =
     "Let an automatic player play a match until it is over, and print its transcript.\n\
              \n\
              Keeps what it claims in DIR, a folder of this player alone, which is made where it is missing.\n\
              Ends with the statuses of `play`.";
 
-/// Its options and help.
+/// Returns the command with its options and help.
 pub(crate) fn command<'a>(alloc: Global) -> Result<Command<'a>, Error> {
     let command = described(
         alloc,

@@ -4,7 +4,7 @@ use crate::arguments::{Argument, Kind, Need, described, with, with_all};
 use clap::{Arg, ArgMatches, Command, Error};
 use std::alloc::Global;
 
-/// What `check` does, with an example.
+/// The help on `check`, with an example.
 const ABOUT_CHECK: &str =
     "Judge many files, transcripts as `judge` reads them and match files as `import` does: a line for
 each, in the order given.
@@ -26,13 +26,13 @@ and the others are judged all the same. Where the standard error is a terminal, 
 second how far it is. Ends with status 0 where all are good, 2 where one is refused, and 1 where one
 can't be read, also where another is refused, or writing failed.";
 
-/// The files that are to be judged.
+/// The files to judge.
 #[derive(Clone, Copy)]
 pub struct CheckOptions<'m, 'a> {
     pub files: &'m [&'a str],
     /// A file with the names of further files.
     pub list: Option<&'a str>,
-    /// Whether good files are passed over in silence.
+    /// Whether nothing is printed for good files.
     pub is_quiet: bool,
 }
 
@@ -60,7 +60,7 @@ const LIST: Argument = Argument {
     about: "A file with the names of further files, one in each line; - is the standard input",
 };
 
-/// Its options and help.
+/// Returns the command with its options and help.
 pub(crate) fn command<'a>(alloc: Global) -> Result<Command<'a>, Error> {
     let files = Arg::new(alloc, "FILE")
         .num_args(1..)

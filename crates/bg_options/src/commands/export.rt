@@ -5,7 +5,7 @@ use crate::shared::misplaced_file;
 use clap::{Command, Error};
 use std::alloc::Global;
 
-/// What `export` does, with an example.
+/// The help on `export`, with an example.
 const ABOUT_EXPORT: &str =
     "Write the transcript on the standard input for other programs: bg_relay export < TRANSCRIPT
 
@@ -28,7 +28,7 @@ the match and its rules. A transcript that is refused is named on the standard e
 it, and nothing is printed. Ends with status 0; with 2 where the transcript is refused, and 1 where
 reading, writing or memory failed.";
 
-/// Its options and help.
+/// Returns the command with its options and help.
 pub(crate) fn command<'a>(alloc: Global) -> Result<Command<'a>, Error> {
     let command = described(
         alloc,

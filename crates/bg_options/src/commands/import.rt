@@ -1,11 +1,11 @@
-//! The options and help of the command that takes over a match file of another program.
+//! The options and help of the command that imports a match file of another program.
 
 use crate::arguments::{described, with, with_all};
 use crate::shared::{RULES, misplaced_file};
 use clap::{Command, Error};
 use std::alloc::Global;
 
-/// What `import` does, with an example.
+/// The help on `import`, with an example.
 const ABOUT_IMPORT: &str = "Take over a match file of another program: bg_relay import < FILE.mat
 
 Reads a match file as most backgammon programs write it, `.mat`, and prints the transcript of its
@@ -27,7 +27,7 @@ A file that is none, or that the match rules don't have, as a money game or a cu
 refused with its line on the standard error, and nothing is printed. Ends with status 0; with 2 where
 the file is refused, and 1 where reading, writing or memory failed.";
 
-/// Its options and help.
+/// Returns the command with its options and help.
 pub(crate) fn command<'a>(alloc: Global) -> Result<Command<'a>, Error> {
     let command = described(
         alloc,

@@ -5,7 +5,7 @@ use crate::shared::misplaced_file;
 use clap::{Command, Error};
 use std::alloc::Global;
 
-/// What `judge` does, with a transcript and what it prints of it.
+/// The help on `judge`, with a transcript and what it prints for it.
 const ABOUT_JUDGE: &str = "Judge the transcript of a match on standard input: bg_relay judge < FILE
 
 A transcript has a line with the length of the match, and then one for each entry:
@@ -30,7 +30,7 @@ Where line 1 is refused it prints that line alone, and for an input of more than
 `refused: input too long`. Ends with status 0 where the transcript is good, 2 where it is refused,
 and 1 where reading, writing or memory failed.";
 
-/// Its options and help.
+/// Returns the command with its options and help.
 pub(crate) fn command<'a>(alloc: Global) -> Result<Command<'a>, Error> {
     let command = described(
         alloc,

@@ -5,7 +5,7 @@ use crate::shared::{FOLDER, THREE_TERMINALS};
 use clap::{Command, Error};
 use std::alloc::Global;
 
-/// What `keys` does.
+/// The help on `keys`.
 const ABOUT_KEYS: &str = "Make the key files of a match.\n\
              \n\
              Writes `match-x`, `match-o` and `match-watch` into DIR, the folder of the referee, as `new` does:\n\
@@ -16,7 +16,7 @@ const ABOUT_KEYS: &str = "Make the key files of a match.\n\
              match, or some key files and no `key-secret`; with 1 where another process plays over DIR, or\n\
              reading, writing or memory failed.";
 
-/// Its options and help.
+/// Returns the command with its options and help.
 pub(crate) fn command<'a>(alloc: Global) -> Result<Command<'a>, Error> {
     let command = described(alloc, "keys", "Make the key files of a match", ABOUT_KEYS);
     with_all(alloc, command.after_help(THREE_TERMINALS), &[FOLDER])

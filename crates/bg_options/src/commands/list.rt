@@ -4,7 +4,7 @@ use crate::arguments::{Argument, Kind, Need, described, with, with_all};
 use clap::{Arg, ArgMatches, Command, Error};
 use std::alloc::Global;
 
-/// What `list` does, with an example.
+/// The help on `list`, with an example.
 const ABOUT_LIST: &str =
     "List matches between processes: a line for each folder of a referee among those that are named, and
 those at most three folders deep in one of them.
@@ -23,16 +23,16 @@ followed. It takes no lock and writes nothing, so all may run meanwhile. Ends wi
 is well; with 2 where a match file or a save is damaged, or of another match; and with 1 where a folder
 or a file can't be read, or writing or memory failed.";
 
-/// How matches are listed.
+/// The format of a list of matches.
 #[derive(Clone, Copy, Debug, PartialEq, Eq)]
 pub enum ListFormat {
-    /// In lines for people, whose parts stand below each other.
+    /// Lines for people, with aligned columns.
     Text,
-    /// An object of JSON in each line.
+    /// One JSON object per line.
     Json,
 }
 
-/// The folders whose matches are listed.
+/// The folders whose matches are listed, and the format.
 #[derive(Clone, Copy)]
 pub struct ListOptions<'m, 'a> {
     pub folders: &'m [&'a str],
@@ -58,7 +58,7 @@ const FORMAT: Argument = Argument {
     about: "How: text for people, or an object of JSON in each line for programs",
 };
 
-/// Its options and help.
+/// Returns the command with its options and help.
 pub(crate) fn command<'a>(alloc: Global) -> Result<Command<'a>, Error> {
     let folders = Arg::new(alloc, "DIR")
         .num_args(1..)

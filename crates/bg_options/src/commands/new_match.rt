@@ -8,7 +8,7 @@ use bg_system::{HIGHEST_PORT, LOWEST_PORT, Name, Names};
 use clap::{ArgMatches, Command, Error};
 use std::alloc::Global;
 
-/// What `new` does.
+/// The help on `new`.
 const ABOUT_NEW: &str = "Make a match between processes.\n\
              \n\
              Writes the files of the referee into DIR, which is made where it is missing, and prints the line of\n\
@@ -24,13 +24,13 @@ const ABOUT_NEW: &str = "Make a match between processes.\n\
              Ends with status 0; with 2 where a name is refused, DIR has a match already, or another match beside it\n\
              has one of these ports; with 1 where reading, writing or memory failed.";
 
-/// What a match between processes is to be, and where its files are to be made.
+/// A new match between processes, and the place of its files.
 #[derive(Clone, Copy)]
 pub struct NewOptions<'a> {
     pub terms: Terms,
     /// The referee's port, from 1024 to 65280.
     pub port: u16,
-    /// The names of X and of O, of those who have one.
+    /// The names of X and of O, as far as they have any.
     pub name_x: Option<&'a str>,
     pub name_o: Option<&'a str>,
     pub folder: &'a str,
@@ -50,7 +50,7 @@ impl<'a> NewOptions<'a> {
         })
     }
 
-    /// Returns how the players are called.
+    /// Returns the names of the players.
     pub fn names(&self) -> Names {
         Names {
             x: named(self.name_x),
@@ -59,10 +59,10 @@ impl<'a> NewOptions<'a> {
     }
 }
 
-/// Refuses a name that options give to a player and that is none. A command without such options gives none.
+/// Refuses a player's name that is not valid. A command without such options gives none.
 ///
 /// # Errors
-/// `Name`, of the first of the two.
+/// `Name`, for the first of the two that is not valid.
 pub(crate) fn check_names(options: &ArgMatches<'_>) -> Result<(), RequestFault> {
     for option in [NAME_X.name, NAME_O.name] {
         if let Some(text) = options.get_str(option) {
@@ -74,7 +74,7 @@ pub(crate) fn check_names(options: &ArgMatches<'_>) -> Result<(), RequestFault> 
     Ok(())
 }
 
-/// The name that a text is, which was looked at before.
+/// Returns the name that a text is, which was checked before.
 fn named(text: Option<&str>) -> Option<Name> {
     match Name::new(text?) {
         Ok(name) => Some(name),
@@ -103,7 +103,7 @@ const PORT: Argument = Argument {
     about: "The port of the referee on 127.0.0.1, below those of all others: 1024 to 65280",
 };
 
-/// Its options and help.
+/// Returns the command with its options and help.
 pub(crate) fn command<'a>(alloc: Global) -> Result<Command<'a>, Error> {
     let command = described(alloc, "new", "Make a match between processes", ABOUT_NEW);
     let arguments = [LENGTH, RULES, PORT, FOLDER, NAME_X, NAME_O];

@@ -6,7 +6,7 @@ use bg_picture::Numbering;
 use clap::{ArgMatches, Command, Error};
 use std::alloc::Global;
 
-/// What `page` does, with an example.
+/// The help on `page`, with an example.
 const ABOUT_PAGE: &str = "Make a page for browsers of the transcript on the standard input.
 
     $ bg_relay page --title \"Anna against Otto\" < transcript.txt > match.html
@@ -18,14 +18,14 @@ takes the title from one of these. A transcript that is refused is named on the 
 `check` names it, and nothing is printed. Ends with status 0; with 2 where the transcript is refused or
 FILE is no such file, and 1 where reading, writing or memory failed.";
 
-/// What a page says beside the positions.
+/// The contents of a page beside the positions.
 #[derive(Clone, Copy)]
 pub struct PageOptions<'a> {
-    /// Its title, where one is given.
+    /// The title, if one is given.
     pub title: Option<&'a str>,
-    /// The name of the match file or key file that says the names of the players.
+    /// The path of the match file or key file that has the names of the players.
     pub match_path: Option<&'a str>,
-    /// In whose numbers the points are.
+    /// The numbering of the points.
     pub numbering: Numbering,
 }
 
@@ -46,7 +46,7 @@ const MATCH: Argument = Argument {
     about: "A match file or a key file, whose names of both players are the title where none is given",
 };
 
-/// Its options and help.
+/// Returns the command with its options and help.
 pub(crate) fn command<'a>(alloc: Global) -> Result<Command<'a>, Error> {
     let command = described(
         alloc,

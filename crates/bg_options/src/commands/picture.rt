@@ -1,11 +1,11 @@
-//! The options and help of the command that draws where a match stands.
+//! The options and help of the command that draws the standing of a match.
 
 use crate::arguments::{described, with, with_all};
 use crate::shared::{NUMBERING, misplaced_file};
 use clap::{Command, Error};
 use std::alloc::Global;
 
-/// What `picture` does, with an example.
+/// The help on `picture`, with an example.
 const ABOUT_PICTURE: &str =
     "Draw where the match stands whose transcript is on the standard input, as an SVG file.
 
@@ -17,7 +17,7 @@ score, and what is to happen next. A transcript that is refused is named on the 
 `check` names it, and nothing is printed. Ends with status 0; with 2 where the transcript is refused,
 and 1 where reading, writing or memory failed.";
 
-/// Its options and help.
+/// Returns the command with its options and help.
 pub(crate) fn command<'a>(alloc: Global) -> Result<Command<'a>, Error> {
     let command = described(alloc, "picture", "Draw where a match stands", ABOUT_PICTURE);
     with(

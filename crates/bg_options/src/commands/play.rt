@@ -6,7 +6,7 @@ use bg_board::Player;
 use clap::{ArgMatches, Command, Error};
 use std::alloc::Global;
 
-/// What `play` does.
+/// The help on `play`.
 const ABOUT_PLAY: &str = "Play a match at this terminal, until it is over or you quit.\n\
              \n\
              Draws the board when you are to act, and takes the lines that you type: `help` lists them. What\n\
@@ -16,16 +16,16 @@ const ABOUT_PLAY: &str = "Play a match at this terminal, until it is over or you
              damaged or of another match, or reading, writing or memory failed; with 2 where the match file or DIR\n\
              is none, or DIR is the other player's or can't be written to.";
 
-/// The fewest columns of a screen that are taken for its width, and the most.
+/// The least and the greatest number of columns that a screen may be given.
 const FEWEST_COLUMNS: u32 = 20;
 
 const MOST_COLUMNS: u32 = 400;
 
-/// Whose seat it is, in which match, and where what he claims is kept.
+/// The seat's player, its match, and the folder of its claims.
 #[derive(Clone, Copy)]
 pub struct SeatOptions<'a> {
     pub player: Player,
-    /// The name of the match file.
+    /// The path of the match file.
     pub match_path: &'a str,
     pub folder: &'a str,
 }
@@ -40,11 +40,11 @@ impl<'a> SeatOptions<'a> {
     }
 }
 
-/// A person's seat, and what he wants of the screen.
+/// A person's seat, and their wishes for the screen.
 #[derive(Clone, Copy)]
 pub struct PlayOptions<'a> {
     pub seat: SeatOptions<'a>,
-    /// How many columns the screen has, from 20 to 400, where that is said.
+    /// Number of columns of the screen, from 20 to 400, if it is given.
     pub columns: Option<u32>,
     /// Whether a turn that is the only legal one is played at once.
     pub plays_forced: bool,
@@ -74,7 +74,7 @@ const FORCED: Argument = Argument {
     about: "Play a turn at once where it is the only legal one",
 };
 
-/// Its options and help.
+/// Returns the command with its options and help.
 pub(crate) fn command<'a>(alloc: Global) -> Result<Command<'a>, Error> {
     let command = described(alloc, "play", "Play a match at this terminal", ABOUT_PLAY);
     with_all(

@@ -6,7 +6,7 @@ use bg_match::Rules;
 use clap::{ArgMatches, Command, Error};
 use std::alloc::Global;
 
-/// What `loop` does.
+/// The help on `loop`.
 const ABOUT_LOOP: &str = "Play an automatic match over UDP sockets and files.\n\
              \n\
              A referee, two seats and one watcher send each other packets over sockets on 127.0.0.1, and save\n\
@@ -17,18 +17,18 @@ const ABOUT_LOOP: &str = "Play an automatic match over UDP sockets and files.\n\
              can't be had, the files can't be read or are of another match or damaged, or writing or memory\n\
              failed; with 2 where DIR is no folder.";
 
-/// The most rounds that a match over sockets may have.
+/// Number of rounds of a match over sockets, at most.
 const MOST_ROUNDS: u32 = 1_000_000;
 
-/// What an automatic match over sockets and files is to be.
+/// An automatic match over sockets and files.
 #[derive(Clone, Copy)]
 pub struct LoopOptions<'a> {
-    /// What the random words go by, and the number of the match.
+    /// The seed of the random words, and the number of the match.
     pub seed: u64,
-    /// In points, from 1 to 99.
+    /// The length in points, from 1 to 99.
     pub length: u8,
     pub rules: Rules,
-    /// At most 1000000.
+    /// Number of rounds, at most 1000000.
     pub rounds: u32,
     pub folder: &'a str,
 }
@@ -59,7 +59,7 @@ const FOLDER: Argument = Argument {
     about: "The folder of the saved files, which must exist",
 };
 
-/// Its options and help.
+/// Returns the command with its options and help.
 pub(crate) fn command<'a>(alloc: Global) -> Result<Command<'a>, Error> {
     let command = described(
         alloc,

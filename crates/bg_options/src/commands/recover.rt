@@ -1,11 +1,11 @@
-//! The options and help of the command that makes a referee's folder from what others hold.
+//! The options and help of the command that rebuilds a referee's folder from what others hold.
 
 use crate::arguments::{Argument, Kind, Need, described, with, with_all};
 use crate::shared::FOLDER;
 use clap::{Arg, ArgMatches, Command, Error};
 use std::alloc::Global;
 
-/// What `recover` does, with an example.
+/// The help on `recover`, with an example.
 const ABOUT_RECOVER: &str =
     "Make a referee's folder anew, where it was lost, from what the seats and others hold.
 
@@ -27,20 +27,20 @@ Where two records differ, or a key file is of another match or another party, no
 with status 0; with 2 where a file or a folder is none, something does not belong together, or DIR has
 a match already; with 1 where a process plays over a folder, or reading, writing or memory failed.";
 
-/// Of what the folder is made, and where.
+/// The sources of the folder, and its place.
 #[derive(Clone, Copy)]
 pub struct RecoverOptions<'m, 'a> {
-    /// The name of the match file.
+    /// The path of the match file.
     pub match_path: &'a str,
     /// The folder of the key files that are kept.
     pub keys: Option<&'a str>,
-    /// The folder that is to be made.
+    /// The folder to make.
     pub folder: &'a str,
     /// The folder of the seat of X.
     pub x: &'a str,
-    /// That of the seat of O.
+    /// The folder of the seat of O.
     pub o: &'a str,
-    /// The names of transcripts.
+    /// The paths of transcripts.
     pub transcripts: &'m [&'a str],
 }
 
@@ -85,7 +85,7 @@ const O: Argument = Argument {
     about: "The folder of the seat of O",
 };
 
-/// Its options and help.
+/// Returns the command with its options and help.
 pub(crate) fn command<'a>(alloc: Global) -> Result<Command<'a>, Error> {
     let transcripts = Arg::new(alloc, "TRANSCRIPT")
         .num_args(0..)

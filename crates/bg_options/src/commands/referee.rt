@@ -5,7 +5,7 @@ use crate::shared::{FOLDER, QUIET_LOG, THREE_TERMINALS};
 use clap::{ArgMatches, Command, Error};
 use std::alloc::Global;
 
-/// What `referee` does.
+/// The help on `referee`.
 const ABOUT_REFEREE: &str = "Run the referee of the match in DIR until it is over.\n\
              \n\
              Says on the standard error, for a log, that it begins, the result of each game, who comes and goes,\n\
@@ -18,7 +18,7 @@ const ABOUT_REFEREE: &str = "Run the referee of the match in DIR until it is ove
 pub struct RefereeOptions<'a> {
     /// The folder of the match.
     pub folder: &'a str,
-    /// Whether nothing is said but what is wrong.
+    /// Whether only errors are reported.
     pub is_quiet: bool,
 }
 
@@ -31,7 +31,7 @@ impl<'a> RefereeOptions<'a> {
     }
 }
 
-/// Its options and help.
+/// Returns the command with its options and help.
 pub(crate) fn command<'a>(alloc: Global) -> Result<Command<'a>, Error> {
     let command = described(
         alloc,

@@ -6,7 +6,7 @@ use bg_match::Terms;
 use clap::{ArgMatches, Command, Error};
 use std::alloc::Global;
 
-/// What `script` does.
+/// The help on `script`.
 const ABOUT_SCRIPT: &str = "Let the events on standard input happen to a match in memory.\n\
              \n\
              Each line is one event: `due WORD`, `take PARTY PICK WORD`, `choose PLAYER ACTION`,\n\
@@ -17,11 +17,11 @@ const ABOUT_SCRIPT: &str = "Let the events on standard input happen to a match i
              `refused: input too long`. Ends with status 0 where the script is good, 2 where it is refused,\n\
              and 1 where reading, writing or memory failed.";
 
-/// The match that a script happens to.
+/// The match that a script is played on.
 #[derive(Clone, Copy)]
 pub struct ScriptOptions {
     pub terms: Terms,
-    /// At most 253.
+    /// Number of watchers, at most 253.
     pub watchers: u8,
 }
 
@@ -37,7 +37,7 @@ impl ScriptOptions {
     }
 }
 
-/// Its options and help.
+/// Returns the command with its options and help.
 pub(crate) fn command<'a>(alloc: Global) -> Result<Command<'a>, Error> {
     let command = described(
         alloc,

@@ -4,7 +4,7 @@ use crate::arguments::{Argument, Kind, Need, described, with, with_all};
 use clap::{ArgMatches, Command, Error};
 use std::alloc::Global;
 
-/// What `show` does.
+/// The help on `show`.
 const ABOUT_SHOW: &str = "Show what saved files hold: the two of a party, or the six of a folder.
 
 A party saves its match in two files by turns: saves with even numbers in the one, with odd
@@ -22,7 +22,7 @@ With --transcript it prints the transcript of what the two files restore, and no
 Ends with status 0 where a file loads, 2 where none does, and 1 where reading, writing or memory
 failed.";
 
-/// The saved files that are to be shown.
+/// The saved files to show.
 #[derive(Clone, Copy)]
 pub struct ShowOptions<'a> {
     /// The file of the even saves, or a folder.
@@ -64,7 +64,7 @@ const FILE1: Argument = Argument {
     about: "The file of the odd saves",
 };
 
-/// Its options and help.
+/// Returns the command with its options and help.
 pub(crate) fn command<'a>(alloc: Global) -> Result<Command<'a>, Error> {
     let transcript = TRANSCRIPT.described(alloc).requires_arg(FILE1.name)?;
     let command = described(alloc, "show", "Show what saved files hold", ABOUT_SHOW);

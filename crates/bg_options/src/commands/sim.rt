@@ -6,7 +6,7 @@ use bg_match::Rules;
 use clap::{ArgMatches, Command, Error};
 use std::alloc::Global;
 
-/// What `sim` does.
+/// The help on `sim`.
 const ABOUT_SIM: &str = "Play an automatic match in memory.\n\
              \n\
              Random events happen to a referee, two seats and watchers, over a network that loses, repeats\n\
@@ -16,20 +16,20 @@ const ABOUT_SIM: &str = "Play an automatic match in memory.\n\
              each second how far it is, where the standard error is a terminal. Ends with status 0, and 1\n\
              where writing or memory failed.";
 
-/// The most events that an automatic match may have.
+/// Number of events of an automatic match, at most.
 const MOST_STEPS: u32 = 1_000_000;
 
-/// What an automatic match in memory is to be.
+/// An automatic match in memory.
 #[derive(Clone, Copy)]
 pub struct SimOptions {
-    /// What the random words go by, and the number of the match.
+    /// The seed of the random words, and the number of the match.
     pub seed: u64,
-    /// In points, from 1 to 99.
+    /// The length in points, from 1 to 99.
     pub length: u8,
     pub rules: Rules,
-    /// At most 253.
+    /// Number of watchers, at most 253.
     pub watchers: u8,
-    /// How many events happen: at most 1000000.
+    /// Number of events, at most 1000000.
     pub steps: u32,
 }
 
@@ -52,7 +52,7 @@ const STEPS: Argument = Argument {
     about: "How many events happen: 0 to 1000000",
 };
 
-/// Its options and help.
+/// Returns the command with its options and help.
 pub(crate) fn command<'a>(alloc: Global) -> Result<Command<'a>, Error> {
     let command = described(alloc, "sim", "Play an automatic match in memory", ABOUT_SIM);
     with_all(alloc, command, &[SEED, LENGTH, RULES, WATCHERS, STEPS])

@@ -6,7 +6,7 @@ use bg_picture::Numbering;
 use clap::{ArgMatches, Command, Error};
 use std::alloc::Global;
 
-/// What `watch` does.
+/// The help on `watch`.
 const ABOUT_WATCH: &str =
     "Watch a match until it is over: its board at a terminal, its transcript elsewhere.\n\
              \n\
@@ -20,23 +20,23 @@ const ABOUT_WATCH: &str =
              too and the board is drawn. Ends with status 0; with 1 where no port is free, or reading, writing or\n\
              memory failed; with 2 where the match file is none.";
 
-/// The match that is watched, and the files that are kept of it.
+/// The match to watch, and the files that are kept of it.
 #[derive(Clone, Copy)]
 pub struct WatchOptions<'a> {
-    /// The name of the match file.
+    /// The path of the match file.
     pub match_path: &'a str,
     pub board: Option<&'a str>,
     pub transcript: Option<&'a str>,
     pub page: Option<&'a str>,
-    /// The title of the page, where one is given.
+    /// The title of the page, if one is given.
     pub title: Option<&'a str>,
-    /// In whose numbers its points are.
+    /// The numbering of the page's points.
     pub numbering: Numbering,
-    /// Whether it goes on where one of these files can't be written.
+    /// Whether it continues where one of these files can't be written.
     pub goes_on: bool,
     /// Whether the transcript is printed at a terminal too, in place of the board.
     pub is_plain: bool,
-    /// Whether nothing is said but what is wrong.
+    /// Whether only errors are reported.
     pub is_quiet: bool,
 }
 
@@ -56,7 +56,7 @@ impl<'a> WatchOptions<'a> {
     }
 }
 
-/// An option that names a file which is kept of the match.
+/// Returns an option for the path of a file that is kept of the match.
 const fn kept(name: &'static str, about: &'static str) -> Argument {
     Argument {
         name,
@@ -66,7 +66,7 @@ const fn kept(name: &'static str, about: &'static str) -> Argument {
     }
 }
 
-/// The option not to end for a file.
+/// The option to continue where a file can't be written.
 const GO_ON: Argument = Argument {
     name: "go-on",
     kind: Kind::Flag,
@@ -82,7 +82,7 @@ const PLAIN: Argument = Argument {
     about: "Print the transcript at a terminal too, in place of the board",
 };
 
-/// Its options and help.
+/// Returns the command with its options and help.
 pub(crate) fn command<'a>(alloc: Global) -> Result<Command<'a>, Error> {
     let board = kept("board", "A file that has the board, always whole");
     let transcript = kept("transcript", "A file that has the transcript, always whole");

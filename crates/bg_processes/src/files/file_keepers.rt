@@ -11,10 +11,10 @@ use std::alloc::AllocError;
 use std::fs::File;
 use std::rt::Files;
 
-/// The two files of a party in a folder: slot S of party P is `party-P.S` (docs/OPERATING.md, "Files"). It says nothing
-/// of honesty: others may write to these files.
+/// The two files of a party in a folder: slot S of party P is `party-P.S` (docs/OPERATING.md,
+/// "Files"). Nothing is claimed of their honesty: others may write to these files.
 ///
-/// It notes why a call failed, with the file, in the [`Failures`] that it is lent.
+/// It notes why a call failed, with the file, in the [`Failures`] that it borrows.
 #[derive(Drop)]
 pub struct FileKeeper<'a, R> {
     files: PartyFiles<'a, R>,
@@ -25,10 +25,11 @@ pub struct FileKeeper<'a, R> {
 }
 
 impl<'a, R: Files<File = File> + AllocGlobal> FileKeeper<'a, R> {
-    /// The keeper of a party in a folder, which notes its failures there. It opens nothing.
+    /// Creates the keeper of a party in a folder, without opening anything. It notes its failures
+    /// in `failures`.
     ///
     /// # Errors
-    /// Where there is no memory for the names of the files.
+    /// AllocError where there is no memory for the names of the files.
     pub fn new(
         rt: &'a R,
         folder: &str,
@@ -46,7 +47,7 @@ impl<'a, R: Files<File = File> + AllocGlobal> FileKeeper<'a, R> {
 }
 
 impl<'a, R: Files<File = File> + AllocGlobal> Keeper for FileKeeper<'a, R> {
-    // Nothing is said of honesty: so nothing of what the slots have either.
+    // Nothing is claimed of honesty, and so nothing of the contents of the slots either.
     ghost is_honest = { ⊥ };
 
     ghost plan = { λ _. None };

@@ -7,10 +7,11 @@ ghost use Rattle.bg_processes.specs.RefereeRounds.{RefereeHappens};
 ghost use Rattle.bg_processes.specs.SeatRounds.{SeatHappens};
 ghost use Rattle.bg_processes.specs.WatcherRounds.{WatcherHappens};
 
-/// Whatever happens at the process of a party, over an honest network and honest keepers, is calls of processes as
-/// [`processes_agree`](bg_world::processes_agree) speaks of them, in a world of 256 parties whose party it runs; the
-/// others stay as they are (docs/PROTOCOL.md, "Parties in processes of their own"). What happens in a round, and when a
-/// player chooses, the calls of the processes say.
+/// States that whatever happens at the process of a party, over an honest network and honest
+/// keepers, is calls of processes in the sense of [`processes_agree`](bg_world::processes_agree).
+/// They belong to a world of 256 parties whose party the process runs; the other parties stay as
+/// they are (docs/PROTOCOL.md, "Parties in processes of their own"). The contracts of the
+/// processes' calls say what happens in a round, and when a player chooses.
 pub fn processes_are_instances()
     ensures referee { IsInstance (RefereeHappens ⊤ ⊤) RunsReferee roles.Referee }
     ensures seat { (player : APlayer) → IsInstance (SeatHappens ⊤ ⊤) (RunsSeat player) (roles.Seat player) }

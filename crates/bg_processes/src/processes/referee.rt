@@ -26,19 +26,19 @@ use bg_referee::DueFault;
 use bg_world::{Keeper, Link, Outcome, RefereeNode, RestoreCause};
 use std::alloc::Global;
 
-/// So many words are tried in a round for an opening that the referee owes.
+/// Number of random words that a round tries for an opening that is due, at most.
 const MOST_DUE: u32 = 16;
 
-/// What a tick sends is sent on in the same round, so often at most.
+/// Number of times that one round forwards what a tick sends, at most.
 const MOST_PUSHES: u32 = 128;
 
-/// The process ends when the match is over and nobody was heard of that lacks an entry for so many ticks. Who lacks one
-/// asks every 32 ticks at least.
+/// Number of quiet ticks after which the process ends. The match is over then, and no party that
+/// lacks an entry was heard of. A party that lacks one asks at least every 32 ticks.
 const QUIET_TICKS: u32 = 50;
 
-/// The referee of a match as a process runs it: over its own link and keeper, with a key that its dice go by
-/// (docs/PROTOCOL.md, "Parties in processes of their own"). A round takes what has come, adds what is due, saves, and
-/// sends; between two of them the process waits.
+/// The referee of a match as a process runs it, over its own link and keeper (docs/PROTOCOL.md,
+/// "Parties in processes of their own"). Its dice are derived from a key. A round takes what has
+/// come, adds what is due, saves, and sends. Between two rounds the process waits.
 #[derive(Drop)]
 pub struct RefereeProcess<L, K> {
     node: RefereeNode<K>,
@@ -48,8 +48,9 @@ pub struct RefereeProcess<L, K> {
 }
 
 impl<L: Link + Drop, K: Keeper + Drop> RefereeProcess<L, K> {
-    /// The referee that goes on from what its keeper's slots restore, and what that came to: where it is not
-    /// `Restarted`, the referee is down, and there is nothing to run.
+    /// Creates the referee that resumes from what its keeper's slots restore, and returns the
+    /// outcome of that. If the outcome is not `Restarted`, the referee is down, and there is
+    /// nothing to run.
     ///
     /// # Errors
     /// `LengthOutOfRange` where the length is not from 1 to 99.
@@ -82,21 +83,21 @@ impl<L: Link + Drop, K: Keeper + Drop> RefereeProcess<L, K> {
 }
 
 impl<L: Link, K: Keeper> RefereeProcess<L, K> {
-    /// Its record; `None` exactly where it is down.
+    /// Returns the referee's record; `None` exactly where it is down.
     pub fn held(&self) -> Option<&Record>
         ensures { option_copied result ≡ log_of (referee_moment L.Link K.Keeper self.now) }
     {
         self.node.held()
     }
 
-    /// Its link, as for waiting.
+    /// Returns the referee's link, for instance to wait for it.
     pub fn link(&self) -> &L
         ensures { result.now ≡ self.now.link }
     {
         &self.link
     }
 
-    /// One round; `tick` says whether a tick is due. What happens is told to the onlooker.
+    /// Runs one round; `tick` says whether a tick is due. The onlooker is told what happens.
     ///
     /// # Errors
     /// The outcome for which the referee is down for good, or can't save.
@@ -109,7 +110,7 @@ impl<L: Link, K: Keeper> RefereeProcess<L, K> {
         self.play(tick, onlooker)
     }
 
-    /// The same, part by part.
+    /// Runs the parts of one round.
     fn play<O: Onlooker>(&mut self, tick: bool, onlooker: &mut O) -> Result<Going, Outcome>
         ensures { PlaysRefereeRound L.is_honest K.is_honest (referee_moment L.Link K.Keeper self.old) tick
             result (referee_moment L.Link K.Keeper self.new) }
@@ -145,8 +146,8 @@ impl<L: Link, K: Keeper> RefereeProcess<L, K> {
         }
     }
 
-    /// Saves where the record has grown, and begins again where the save failed, or the referee is down; whether
-    /// something was saved.
+    /// Saves where the record has grown, and restarts where the save failed or the referee is down.
+    /// Returns whether something was saved.
     fn save_news<O: Onlooker>(&mut self, onlooker: &mut O) -> Result<bool, Outcome>
         ensures { SavesNews L.is_honest K.is_honest (referee_moment L.Link K.Keeper self.old) result
             (referee_moment L.Link K.Keeper self.new) }
@@ -159,7 +160,7 @@ impl<L: Link, K: Keeper> RefereeProcess<L, K> {
         }
         match self.save(onlooker) {
             Outcome::Saved(_) => Ok(true),
-            // It is tried again in the next round.
+            // The next round tries it again.
             Outcome::Memory => Ok(false),
             Outcome::SaveFault => self.begin_again(onlooker),
             outcome => Err(outcome),
@@ -171,7 +172,7 @@ impl<L: Link, K: Keeper> RefereeProcess<L, K> {
             (referee_moment L.Link K.Keeper self.old) result (referee_moment L.Link K.Keeper self.new) }
     {
         match self.restart(onlooker) {
-            // Its slots may be read again later: the next round tries it.
+            // Its slots may be readable again later: the next round tries them.
             Outcome::Restarted | Outcome::RestoreFault(RestoreCause::Device) => Ok(false),
             outcome => Err(outcome),
         }
@@ -187,7 +188,7 @@ impl<L: Link, K: Keeper> RefereeProcess<L, K> {
         self.going()
     }
 
-    /// Sends what is to be sent unasked, so often at most.
+    /// Sends what is to be sent unasked, at most `most` times.
     fn push_all<O: Onlooker>(&mut self, most: u32, onlooker: &mut O)
         ensures { RefereeRepeats L.is_honest K.is_honest tick_at is_last_push most
             (referee_moment L.Link K.Keeper self.old) (referee_moment L.Link K.Keeper self.new) }
@@ -199,7 +200,7 @@ impl<L: Link, K: Keeper> RefereeProcess<L, K> {
         }
     }
 
-    /// It ends where the match is over, all of it is saved, and nobody was heard of for long.
+    /// Returns `Over` where the match is over, all of it is saved, and the quiet ticks have passed.
     fn going(&self) -> Going
         ensures { GoesWhere (IsServed (referee_moment L.Link K.Keeper self.now)) result }
     {
@@ -214,7 +215,7 @@ impl<L: Link, K: Keeper> RefereeProcess<L, K> {
     }
 }
 
-/// Whether no word is wanted any more.
+/// Returns whether no further word is needed.
 fn ends_dues(outcome: &Outcome) -> bool
     ensures { result ≡ is_last_due outcome.now }
 {
@@ -224,7 +225,7 @@ fn ends_dues(outcome: &Outcome) -> bool
     )
 }
 
-/// Whether nothing more is to be sent.
+/// Returns whether nothing more is to be sent.
 fn ends_pushes(outcome: &Outcome) -> bool
     ensures { result ≡ is_last_push outcome.now }
 {
@@ -234,14 +235,15 @@ fn ends_pushes(outcome: &Outcome) -> bool
     }
 }
 
-/// How often what a tick sends is sent on in a round, in which a tick is due or not, and something was saved or not.
+/// Returns how many times a round forwards what a tick sends, given whether a tick is due and
+/// whether something was saved.
 fn pushes(tick: bool, saved: bool) -> u32
     ensures { result ≡ (if tick || saved then most_pushes else 0) }
 {
     if tick || saved { MOST_PUSHES } else { 0 }
 }
 
-/// A tick more without a word of who lacks an entry, if one was due.
+/// Counts one more quiet tick, if one was due.
 fn quiet_later(quiet: u32, tick: bool) -> u32
     ensures { result ≡ quiet_after quiet tick }
 {

@@ -1,4 +1,4 @@
-//! What the processes of all parties have in common.
+//! The common parts of the processes of all parties.
 ghost use Rattle.std.specs.Prelude.{◌≡◌, is_none, option_copied};
 ghost use Rattle.bg_auto.specs.Attempts.{held_entries};
 ghost use Rattle.bg_match.specs.Match.{ActsAfter};
@@ -10,22 +10,23 @@ use bg_board::Player;
 use bg_match::{Actor, Number, Record};
 use bg_world::{Event, Outcome};
 
-/// How many parties a match may have: the referee, two seats, and up to 253 that watch.
+/// Number of parties of a match, at most: the referee, two seats, and up to 253 watchers.
 pub const MOST_PARTIES: usize = 256;
 
-/// So many datagrams are taken in a round at most, so that what came is saved and answered in between.
+/// Number of datagrams that a round takes, at most, so that what came is saved and answered in
+/// between.
 pub(crate) const MOST_TAKEN: u32 = 64;
 
-/// How a process goes on after a round.
+/// Whether a process continues after a round.
 #[derive(Clone, Copy, Debug, PartialEq, Eq)]
 pub enum Going {
-    /// It waits for the next one.
+    /// It waits for the next round.
     On,
     /// The match is over, and the process has nothing left to do.
     Over,
 }
 
-/// How many entries a party holds that is up.
+/// Returns the number of entries that a party holds, if it is up.
 pub(crate) fn entries_of(held: Option<&Record>) -> Option<Number>
     ensures { result ≡ held_entries (option_copied held.entry) }
 {
@@ -35,7 +36,7 @@ pub(crate) fn entries_of(held: Option<&Record>) -> Option<Number>
     }
 }
 
-/// How many entries a party holds: none where it is down.
+/// Returns the number of entries that a party holds: 0 where it is down.
 pub(crate) fn count_of(held: Option<&Record>) -> Number
     ensures { result ≡ count_of (held_entries (option_copied held.entry)) }
 {
@@ -45,14 +46,14 @@ pub(crate) fn count_of(held: Option<&Record>) -> Number
     }
 }
 
-/// Whether a party is down.
+/// Returns whether a party is down.
 pub(crate) fn is_down(held: Option<&Record>) -> bool
     ensures { result ≡ is_none (option_copied held.entry) }
 {
     held.is_none()
 }
 
-/// Whether the seat of this player acts after a record.
+/// Returns whether the seat of this player acts after a record.
 pub(crate) fn seat_acts(record: &Record, player: Player) -> bool
     ensures { Tells result (ActsAfter «record».now.terms «record».now.entries (acting.Seat player)) }
 {
@@ -63,7 +64,7 @@ pub(crate) fn seat_acts(record: &Record, player: Player) -> bool
     }
 }
 
-/// Whether nobody acts after a record: the match is over.
+/// Returns whether nobody acts after a record, so that the match is over.
 fn nobody_acts(record: &Record) -> bool
     ensures { Tells result (ActsAfter «record».now.terms «record».now.entries acting.Nobody) }
 {
@@ -73,7 +74,7 @@ fn nobody_acts(record: &Record) -> bool
     }
 }
 
-/// Whether a party knows that the match is over.
+/// Returns whether a party knows that the match is over.
 pub(crate) fn is_over(held: Option<&Record>) -> bool
     ensures { Tells result (IsOver (option_copied held.entry)) }
 {
@@ -83,7 +84,7 @@ pub(crate) fn is_over(held: Option<&Record>) -> bool
     }
 }
 
-/// Whether a party knows that the match is over, and so many entries, which are saved, are all.
+/// Returns whether a party knows that the match is over, and holds exactly the `saved` entries.
 pub(crate) fn is_over_and_saved(held: Option<&Record>, saved: Number) -> bool
     ensures { Tells result (IsOverAndSaved (option_copied held.entry) saved) }
 {
@@ -93,7 +94,7 @@ pub(crate) fn is_over_and_saved(held: Option<&Record>, saved: Number) -> bool
     }
 }
 
-/// Whether a take is the last of its round: nothing has come, or nothing can be taken.
+/// Returns whether a take is the last of its round: nothing has come, or nothing can be taken.
 pub(crate) fn ends_takes(outcome: &Outcome) -> bool
     ensures { result ≡ is_last_take outcome.now }
 {
@@ -103,7 +104,7 @@ pub(crate) fn ends_takes(outcome: &Outcome) -> bool
     )
 }
 
-/// Whether the slots have what the party holds after an event: it was saved, or given back.
+/// Returns whether the slots hold what the party holds after an event: it was saved, or restored.
 pub(crate) fn keeps_all(event: &Event, outcome: &Outcome) -> bool
     ensures { result ≡ has_all_kept event.now outcome.now }
 {
@@ -114,7 +115,8 @@ pub(crate) fn keeps_all(event: &Event, outcome: &Outcome) -> bool
     }
 }
 
-/// How many entries are saved after an event, where the party then holds so many.
+/// Returns the number of entries that are saved after an event, where the party then holds `held`
+/// entries.
 pub(crate) fn saved_after(
     saved: Number,
     event: &Event,

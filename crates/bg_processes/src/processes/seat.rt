@@ -24,12 +24,13 @@ use bg_match::{Action, LengthFault, Number, Record, Terms};
 use bg_world::{Keeper, Link, Outcome, SeatNode};
 use std::alloc::Global;
 
-/// The seat of a player as a process runs it: over its own link and keeper (docs/PROTOCOL.md, "Parties in processes of
-/// their own"). A round takes what has come, saves where that is worth it, and sends; between two of them the process
-/// waits, and its player may choose.
+/// The seat of a player as a process runs it, over its own link and keeper (docs/PROTOCOL.md,
+/// "Parties in processes of their own"). A round takes what has come, saves where that is
+/// worthwhile, and sends. Between two rounds the process waits, and its player may choose.
 ///
-/// It saves each claim before it sends it; once more when the claim is answered, so that the next process does not ask
-/// for the answer again; and when the match is over, so that its files have the whole.
+/// It saves each claim before it sends it. It saves once more when the claim is answered, so that
+/// the next process doesn't ask for the answer again. It saves also when the match is over, so that
+/// its files have the whole match.
 #[derive(Drop)]
 pub struct SeatProcess<L, K> {
     player: Player,
@@ -39,8 +40,9 @@ pub struct SeatProcess<L, K> {
 }
 
 impl<L: Link + Drop, K: Keeper + Drop> SeatProcess<L, K> {
-    /// The seat of a player that goes on from what its keeper's slots restore, and what that came to: where it is not
-    /// `Restarted`, the seat is down, and there is nothing to run.
+    /// Creates the seat of a player that resumes from what its keeper's slots restore, and returns
+    /// the outcome of that. If the outcome is not `Restarted`, the seat is down, and there is
+    /// nothing to run.
     ///
     /// # Errors
     /// `LengthOutOfRange` where the length is not from 1 to 99.
@@ -72,28 +74,28 @@ impl<L: Link + Drop, K: Keeper + Drop> SeatProcess<L, K> {
 }
 
 impl<L: Link, K: Keeper> SeatProcess<L, K> {
-    /// Its record; `None` exactly where it is down.
+    /// Returns the seat's record; `None` exactly where it is down.
     pub fn held(&self) -> Option<&Record>
         ensures { option_copied result ≡ log_of (seat_moment L.Link K.Keeper self.now) }
     {
         self.node.held()
     }
 
-    /// Its link, as for waiting.
+    /// Returns the seat's link, for instance to wait for it.
     pub fn link(&self) -> &L
         ensures { result.now ≡ self.now.link }
     {
         &self.link
     }
 
-    /// The number, from 1, and the action of a claim that the record does not answer yet.
+    /// Returns the number, from 1, and the action of a claim that the record doesn't answer yet.
     pub fn open_claim(&self) -> Option<(Number, Action)>
         ensures { result ≡ open_claim_at (seat_moment L.Link K.Keeper self.now) }
     {
         unanswered(count_of(self.node.held()), self.node.claim())
     }
 
-    /// Whether its player is to act by its record, and has no claim under way.
+    /// Returns whether the player is to act by the seat's record, and has no open claim.
     pub fn acts(&self) -> bool
         ensures { Tells result (IsToAct (seat_moment L.Link K.Keeper self.now)) }
     {
@@ -106,7 +108,7 @@ impl<L: Link, K: Keeper> SeatProcess<L, K> {
         seat_acts(record, self.player)
     }
 
-    /// One round; `tick` says whether a tick is due. What happens is told to the onlooker.
+    /// Runs one round; `tick` says whether a tick is due. The onlooker is told what happens.
     ///
     /// # Errors
     /// The outcome for which the seat is down for good, or can't save.
@@ -119,8 +121,9 @@ impl<L: Link, K: Keeper> SeatProcess<L, K> {
         self.play(tick, onlooker)
     }
 
-    /// Claims what its player chooses, saves and sends the claim, and says what the choice came to: a save that failed
-    /// is what it came to, and then nothing is claimed. Where there is no memory for the save, the next round saves.
+    /// Claims the player's choice, saves and sends the claim, and returns the outcome of the
+    /// choice. A failed save is such an outcome, and then nothing is claimed. Where there is no
+    /// memory for the save, the next round saves.
     ///
     /// # Errors
     /// The outcome for which the seat is down for good, or can't save.
@@ -137,7 +140,7 @@ impl<L: Link, K: Keeper> SeatProcess<L, K> {
         self.play_choice(action, onlooker)
     }
 
-    /// The same as [`round`](Self::round), part by part.
+    /// Runs the parts of a [`round`](Self::round).
     fn play<O: Onlooker>(&mut self, tick: bool, onlooker: &mut O) -> Result<Going, Outcome>
         ensures { PlaysSeatRound L.is_honest K.is_honest (seat_moment L.Link K.Keeper self.old) tick
             result (seat_moment L.Link K.Keeper self.new) }
@@ -152,7 +155,7 @@ impl<L: Link, K: Keeper> SeatProcess<L, K> {
         }
     }
 
-    /// The same as [`choose`](Self::choose), part by part.
+    /// Runs the parts of [`choose`](Self::choose).
     fn play_choice<O: Onlooker>(
         &mut self,
         action: Action,
@@ -168,7 +171,7 @@ impl<L: Link, K: Keeper> SeatProcess<L, K> {
         self.save_claim(outcome, onlooker)
     }
 
-    /// Saves and sends a claim of this outcome.
+    /// Saves and sends a claim, whose choice had this outcome.
     fn save_claim<O: Onlooker>(
         &mut self,
         chosen: Outcome,
@@ -208,7 +211,7 @@ impl<L: Link, K: Keeper> SeatProcess<L, K> {
         }
     }
 
-    /// It ends where the match is over, and all of it is saved.
+    /// Returns `Over` where the match is over, and all of it is saved.
     fn going(&self) -> Going
         ensures { GoesWhere (IsOverAndSaved (log_of (seat_moment L.Link K.Keeper self.now)) self.now.notes.saved) result }
     {
@@ -220,7 +223,7 @@ impl<L: Link, K: Keeper> SeatProcess<L, K> {
     }
 }
 
-/// A claim that a record of so many entries does not answer.
+/// Returns the claim, if a record of `held` entries doesn't answer it.
 fn unanswered(held: Number, claim: Option<(Number, Action)>) -> Option<(Number, Action)>
     ensures { result ≡ not_answered held claim }
 {

@@ -1,4 +1,4 @@
-//! One who watches a match, in a process of his own.
+//! A watcher of a match, in a process of its own.
 ghost use Rattle.std.specs.Prelude.{◌≡◌, ◌≤◌, ◌↔◌, IsOk, IfOk};
 ghost use Rattle.bg_match.specs.Limits.{IsMatchLength};
 ghost use Rattle.bg_match.specs.Terms.{match_length};
@@ -15,8 +15,9 @@ use bg_match::{LengthFault, Record, Terms};
 use bg_world::{Event, Link, Outcome, WatcherNode};
 use std::alloc::Global;
 
-/// One who watches a match as a process runs it, over its own link (docs/PROTOCOL.md, "Parties in processes of their
-/// own"). A round takes what has come, and sends; between two of them the process waits.
+/// A watcher of a match as a process runs it, over its own link (docs/PROTOCOL.md,
+/// "Parties in processes of their own"). A round takes what has come, and sends. Between two rounds
+/// the process waits.
 #[derive(Drop)]
 pub struct WatcherProcess<L> {
     party: u8,
@@ -25,7 +26,7 @@ pub struct WatcherProcess<L> {
 }
 
 impl<L: Link + Drop> WatcherProcess<L> {
-    /// A watcher who holds no entry. `party` is its number, from 3.
+    /// Creates a watcher that holds no entry. `party` is its number, from 3.
     ///
     /// # Errors
     /// `LengthOutOfRange` where the length is not from 1 to 99.
@@ -50,21 +51,21 @@ impl<L: Link + Drop> WatcherProcess<L> {
 }
 
 impl<L: Link> WatcherProcess<L> {
-    /// Its record.
+    /// Returns the watcher's record.
     pub fn held(&self) -> &Record
         ensures { result.now ≡ log_of (watcher_moment L.Link self.now) }
     {
         self.node.held()
     }
 
-    /// Its link, as for waiting.
+    /// Returns the watcher's link, for instance to wait for it.
     pub fn link(&self) -> &L
         ensures { result.now ≡ self.now.link }
     {
         &self.link
     }
 
-    /// One round; `tick` says whether a tick is due. What happens is told to the onlooker.
+    /// Runs one round; `tick` says whether a tick is due. The onlooker is told what happens.
     pub fn round<O: Onlooker>(&mut self, tick: bool, onlooker: &mut O) -> Going
         ensures parts { PlaysWatcherRound L.is_honest (watcher_moment L.Link self.old) tick result
             (watcher_moment L.Link self.new) }
@@ -73,7 +74,7 @@ impl<L: Link> WatcherProcess<L> {
         self.play(tick, onlooker)
     }
 
-    /// The same, part by part.
+    /// Runs the parts of one round.
     fn play<O: Onlooker>(&mut self, tick: bool, onlooker: &mut O) -> Going
         ensures { PlaysWatcherRound L.is_honest (watcher_moment L.Link self.old) tick result
             (watcher_moment L.Link self.new) }

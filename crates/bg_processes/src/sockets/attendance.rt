@@ -1,12 +1,12 @@
-//! Which parties come and go, as another one hears of them.
+//! The parties that come and go, as another one hears of them.
 
 use crate::sockets::party_sockets::PartySocket;
 use std::time::Clock;
 
-/// How many parties there are.
+/// Number of parties.
 const PARTIES: usize = 256;
 
-/// What has changed of a party.
+/// A change in a party's attendance.
 #[derive(Clone, Copy, Debug, PartialEq, Eq)]
 pub enum Change {
     /// It is heard for the first time.
@@ -17,7 +17,7 @@ pub enum Change {
     Returned,
 }
 
-/// What was told of a party last.
+/// The last report on a party.
 #[derive(Clone, Copy)]
 enum Told {
     Nothing,
@@ -25,22 +25,22 @@ enum Told {
     Away,
 }
 
-/// Knows what was told of each party. As a minute of silence counts as leaving, each change of a party is told at most
-/// once a minute.
+/// Keeps what was reported of each party. As a minute of silence counts as leaving, each change of
+/// a party is reported at most once a minute.
 #[derive(Drop)]
 pub struct Attendance {
     told: [Told; PARTIES],
 }
 
 impl Attendance {
-    /// Of parties of which nothing was told yet.
+    /// Creates the attendance of parties of which nothing was reported yet.
     pub fn new() -> Attendance {
         Attendance {
             told: [Told::Nothing; PARTIES],
         }
     }
 
-    /// Returns what has changed of a party since the last call that was made for it, by what this socket hears.
+    /// Returns the change of a party since the last call for it, by what this socket hears.
     pub fn change<C: Clock>(&mut self, socket: &PartySocket<'_, C>, party: u8) -> Option<Change> {
         let told = &mut self.told[usize::from(party)];
         let (now, change) = match (*told, socket.hears(party)) {

@@ -1,17 +1,17 @@
-//! Whether a party hears of its referee.
+//! The liveness of the referee, as a party hears of it.
 
 use crate::sockets::party_sockets::PartySocket;
 use std::fmt;
 use std::fmt::{Display, Formatter, Write};
 use std::time::{Clock, Instant};
 
-/// A party asks the referee whether it is there on each tick of so many.
+/// Number of ticks after which a party asks again whether the referee is there.
 const TICKS_TO_ASK: u32 = 10;
 
-/// After so many seconds without a word the referee counts as away.
+/// Number of seconds without a sign of the referee after which it counts as away.
 const SILENCE: u64 = 3;
 
-/// What has changed.
+/// A change in the referee's liveness.
 #[derive(Clone, Copy, Debug, PartialEq, Eq)]
 pub enum Word {
     /// Nothing was heard of the referee for three seconds.
@@ -29,20 +29,20 @@ impl Display for Word {
     }
 }
 
-/// Asks the referee each second whether it is there, and knows since when nothing was heard of it (docs/OPERATING.md,
-/// "Ports").
+/// Asks the referee once a second whether it is there, and keeps the time since which nothing was
+/// heard of it (docs/OPERATING.md, "Ports").
 #[derive(Drop)]
 pub struct Hearing {
     ticks: u32,
-    /// What the socket had counted last.
+    /// The socket's last count.
     heard: u32,
-    /// When something was heard last, or the process began.
+    /// The time when something was last heard, or the process began.
     since: Option<Instant>,
     silent: bool,
 }
 
 impl Hearing {
-    /// Of a process that begins.
+    /// Creates the state of a process that begins.
     pub fn new(rt: &impl Clock) -> Hearing {
         Hearing {
             ticks: 0,
@@ -52,7 +52,8 @@ impl Hearing {
         }
     }
 
-    /// After a round over this socket, in which a tick was due or not: what has changed, if anything has.
+    /// Returns what has changed after a round over this socket, if anything has. `tick` says
+    /// whether a tick was due in it.
     pub fn after_round<C: Clock>(
         &mut self,
         rt: &C,

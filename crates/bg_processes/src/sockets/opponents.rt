@@ -1,29 +1,30 @@
-//! Whether the other player is there, as a seat hears from its referee.
+//! The presence of the other player, as a seat hears of it from its referee.
 
 use crate::sockets::party_sockets::PartySocket;
 use bg_system::Presence;
 use std::time::{Clock, Instant};
 
-/// So many seconds a seat that begins gives the other one to come.
+/// Number of seconds that a seat that begins gives the other one to come.
 const SECONDS_TO_COME: u64 = 3;
 
-/// So many seconds a seat that was there has, to be heard by a referee that begins again.
+/// Number of seconds within which a seat that was there is to be heard by a referee that begins
+/// again.
 const SECONDS_TO_RETURN: u64 = 10;
 
-/// What is to be said of the other player.
+/// A report on the other player.
 #[derive(Clone, Copy, Debug, PartialEq, Eq)]
 pub enum OpponentChange {
-    /// He was not there yet since the referee began.
+    /// They have not been there since the referee began.
     Missing,
-    /// He is there, of whom that was said.
+    /// They are there, after they were reported missing.
     Came,
-    /// Nothing was heard of him for ten seconds.
+    /// Nothing was heard of them for ten seconds.
     Left,
-    /// He is there again, of whom that was said.
+    /// They are there again, after they were reported to have left.
     Returned,
 }
 
-/// What the player knows of the other one.
+/// The knowledge that the player has of the other one.
 #[derive(Clone, Copy)]
 enum Known {
     Nothing,
@@ -33,8 +34,8 @@ enum Known {
 }
 
 impl Known {
-    /// Returns what the player knows after the referee has told this of the other one for so many
-    /// seconds, and what is to be said of that, if anything is; none where nothing changes.
+    /// Returns what the player knows after the referee has told this of the other one for `seconds`
+    /// seconds, with the report on that, if there is one. Returns `None` where nothing changes.
     fn after(
         self,
         told: Presence,
@@ -62,19 +63,19 @@ impl Known {
     }
 }
 
-/// Knows what was said of the other player, and so what is to be said. Whoever is on turn is not
-/// told that he leaves or returns, as the match doesn't wait for him.
+/// Keeps what was reported of the other player, and so what is to be reported. A player on turn
+/// isn't told that the other one leaves or returns, as the match doesn't wait for that one.
 #[derive(Drop)]
 pub struct Opponent {
     known: Known,
-    /// What the referee tells.
+    /// The presence that the referee tells.
     told: Option<Presence>,
-    /// Since when it tells that.
+    /// The time since which it tells that.
     since: Option<Instant>,
 }
 
 impl Opponent {
-    /// Of a seat that begins.
+    /// Creates the state of a seat that begins.
     pub fn new() -> Opponent {
         Opponent {
             known: Known::Nothing,
@@ -83,9 +84,9 @@ impl Opponent {
         }
     }
 
-    /// Returns what is to be said of the other player after a round over this socket of a seat, if
-    /// anything is. The match waits for him then, or does not. Where the referee is silent, nothing
-    /// is to be said.
+    /// Returns the report on the other player after a round over this socket of a seat, if there is
+    /// one. `is_awaited` says whether the match waits for the other player. Where the referee is
+    /// silent, there is nothing to report.
     pub fn after_round<C: Clock>(
         &mut self,
         rt: &C,

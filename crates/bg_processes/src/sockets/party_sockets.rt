@@ -1,4 +1,4 @@
-//! The UDP socket of one party, which knows the others by their ports.
+//! The UDP socket of one party, which identifies the others by their ports.
 ghost use Rattle.std.specs.Prelude.{length};
 
 use crate::answers::answered;
@@ -11,17 +11,17 @@ use std::net::Net;
 use std::os::fd::RawFd;
 use std::time::Clock;
 
-/// The non-blocking UDP socket of one party on 127.0.0.1 (docs/OPERATING.md, "Ports"). Party P of a match has the port
-/// of the match and P more; only one process has a port at a time, so that no two run one party. Its datagrams are
-/// sealed, and those that were not sealed for it by the party whose port they come from are passed over. It says
-/// nothing of honesty: the system may lose datagrams, and that nobody else has the keys of a party is no fact of the
-/// code.
+/// The non-blocking UDP socket of one party on 127.0.0.1 (docs/OPERATING.md, "Ports"). Party P of a
+/// match has the port of the match plus P. Only one process has a port at a time, so no two
+/// processes run one party. Its datagrams are sealed. It passes over those that were not sealed for
+/// it by the party whose port they come from. Nothing is claimed of its honesty: the system may
+/// lose datagrams, and the code can't ensure that nobody else has the keys of a party.
 ///
 /// The referee's socket answers the sign of life by which a party [asks](Self::ask) whether it is
-/// there. What it is to send to a party that was not heard for a minute is lost. Before it answers
-/// a seat, it tells it how the other one stands.
+/// there. It drops what it is to send to a party that was not heard for a minute. Before it answers
+/// a seat, it tells it the other one's presence.
 ///
-/// It notes why a call failed in the [`Failures`] that it is lent.
+/// It notes why a call failed in the [`Failures`] that it borrows.
 #[derive(Drop)]
 pub struct PartySocket<'a, C> {
     end: PartyEnd<'a, C>,
@@ -32,11 +32,12 @@ pub struct PartySocket<'a, C> {
 }
 
 impl<'a, C: Clock> PartySocket<'a, C> {
-    /// The socket of a party of the match that has this port, with its keys; why it fails later is noted there. By the
-    /// clock it knows when each party was heard last.
+    /// Binds the socket of a party of the match that has this port, with its keys. Later failures
+    /// are noted in `failures`. The clock tells when each party was last heard.
     ///
     /// # Errors
-    /// `AddrInUse` where another process has the party's port; else why the system gives no socket.
+    /// `AddrInUse` where another process has the party's port; otherwise the system's error where
+    /// it gives no socket.
     pub fn bind(
         net: &impl Net,
         clock: &'a C,
@@ -54,19 +55,20 @@ impl<'a, C: Clock> PartySocket<'a, C> {
         })
     }
 
-    /// Its descriptor, to wait for.
+    /// Returns the socket's descriptor, to wait for.
     pub fn descriptor(&self) -> RawFd {
         self.end.descriptor()
     }
 
-    /// Asks the referee whether it is there, by the sign of life. Where that can't be sent, no answer comes.
+    /// Asks the referee whether it is there, by the sign of life. Where that can't be sent, no
+    /// answer comes.
     pub fn ask(&self) {
         self.end.ask();
     }
 
-    /// How many datagrams its takes have read that came from the referee, answers to
-    /// [`ask`](Self::ask) among them, and notices of the other seat not; the count begins anew
-    /// after 4,294,967,295.
+    /// Returns the number of datagrams from the referee that `take` has read. It includes answers
+    /// to [`ask`](Self::ask), but not notices of the other seat. The count wraps around after
+    /// 4,294,967,295.
     pub fn heard(&self) -> u32 {
         self.end.heard()
     }
@@ -76,9 +78,9 @@ impl<'a, C: Clock> PartySocket<'a, C> {
         self.end.hears(party)
     }
 
-    /// Returns how the other seat stands, where the referee told this seat so within the last three
-    /// seconds. It does with each answer to [`ask`](Self::ask), but for a referee of an older
-    /// version. It is there to be shown alone.
+    /// Returns the other seat's presence, where the referee told it to this seat within the last
+    /// three seconds. The referee does so with each answer to [`ask`](Self::ask), unless it is of
+    /// an older version. The presence is for display alone.
     pub fn other_seat(&self) -> Option<Presence> {
         self.end.other_seat()
     }
@@ -88,7 +90,7 @@ impl<'a, C: Clock> Link for PartySocket<'a, C> {
     ghost use Rattle.std.specs.Prelude.{None, []};
     ghost use Rattle.bg_world.specs.Devices.Handed.{noted_answer};
 
-    // Nothing is said of honesty: so nothing of what was sent either.
+    // Nothing is claimed of honesty, and so nothing of what was sent either.
     ghost is_honest = { ⊥ };
 
     ghost plan = { λ _. None };

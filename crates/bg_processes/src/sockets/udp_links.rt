@@ -9,11 +9,12 @@ use bg_wire::Datagram;
 use bg_world::{DeviceFault, Link, Taken, count_failed, note_taken};
 use std::net::Net;
 
-/// A non-blocking UDP socket on 127.0.0.1 for each party, the party of a socket being its place (docs/OPERATING.md,
-/// "Sockets"). A datagram goes out of the socket of the party that it goes to, and none comes from elsewhere. It says
-/// nothing of honesty: the system may lose datagrams.
+/// A non-blocking UDP socket on 127.0.0.1 for each party, whose index is the party
+/// (docs/OPERATING.md, "Sockets"). A datagram leaves from the socket of the party that it goes to,
+/// and none is accepted from elsewhere. Nothing is claimed of honesty: the system may lose
+/// datagrams.
 ///
-/// It notes why a call failed, with the party, in the [`Failures`] that it is lent.
+/// It notes why a call failed, with the party, in the [`Failures`] that it borrows.
 #[derive(Drop)]
 pub struct UdpLink<'a> {
     sockets: OwnSockets<'a>,
@@ -24,12 +25,12 @@ pub struct UdpLink<'a> {
 }
 
 impl<'a> UdpLink<'a> {
-    /// Sockets for the parties below `parties`, on ports of 127.0.0.1 that the system chooses. A take for another party
-    /// gives nothing, and a send to one fails.
+    /// Binds sockets for the parties below `parties`, on ports of 127.0.0.1 that the system
+    /// chooses. A take for another party gives nothing, and a send to one fails.
     ///
     /// # Errors
-    /// `Socket` where one could not be opened or made non-blocking, and why is noted; `Memory` where there is no memory
-    /// for them.
+    /// `Socket` where one could not be opened or made non-blocking, which is noted in `failures`;
+    /// `Memory` where there is no memory for them.
     pub fn bind(
         rt: &(impl Net + AllocGlobal),
         parties: u8,
@@ -54,7 +55,7 @@ impl<'a> Link for UdpLink<'a> {
     ghost use Rattle.std.specs.Prelude.{None, []};
     ghost use Rattle.bg_world.specs.Devices.Handed.{noted_answer};
 
-    // Nothing is said of honesty: so nothing of what was sent either.
+    // Nothing is claimed of honesty, and so nothing of what was sent either.
     ghost is_honest = { ⊥ };
 
     ghost plan = { λ _. None };

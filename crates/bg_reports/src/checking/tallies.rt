@@ -1,4 +1,4 @@
-//! What was found of many files.
+//! The results of many files.
 ghost use Rattle.std.specs.Prelude.{◌≡◌};
 ghost use Rattle.bg_reports.specs.Ending.{worst_of};
 
@@ -6,26 +6,27 @@ use crate::endings::Found;
 use std::fmt;
 use std::fmt::{Display, Formatter, Write};
 
-/// How many files are good, how many are refused, and how many could not be judged. It is shown in words.
+/// The numbers of files that are good, that are refused, and that could not be judged. `Display`
+/// writes them in words.
 #[derive(Clone, Copy, Default)]
 pub struct Tally {
-    /// So many are good.
+    /// Number of good files.
     pub good: u64,
-    /// So many are refused.
+    /// Number of refused files.
     pub refused: u64,
-    /// So many could not be judged.
+    /// Number of files that could not be judged.
     pub unjudged: u64,
 }
 
 impl Tally {
-    /// How many files there were.
+    /// Returns the number of files.
     pub fn files(self) -> u64 {
         self.good
             .saturating_add(self.refused)
             .saturating_add(self.unjudged)
     }
 
-    /// The worst of it: a file that could not be judged before one that is refused.
+    /// Returns the worst result. A file that could not be judged is worse than one that is refused.
     pub fn worst(self) -> Found
         ensures { result ≡ worst_of self.refused self.unjudged }
     {

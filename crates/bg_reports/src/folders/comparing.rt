@@ -1,4 +1,4 @@
-//! How one saved match goes on beside another.
+//! Comparing a saved match with another one.
 ghost use Rattle.std.specs.Prelude.{◌≡◌, ◌≤◌, ◌↔◌, IsTrue, MatchOption, length};
 ghost use Rattle.bg_match.specs.Match.{at_number};
 ghost use Rattle.bg_wire.specs.Saved.SavedText.{parts_of};
@@ -7,18 +7,18 @@ ghost use Rattle.bg_reports.specs.Folder.{Agree, IsCompared, IsFirstDifference, 
 use bg_match::{Number, Record};
 use bg_wire::Saved;
 
-/// How a saved match goes on beside another.
+/// The result of comparing a saved match with another one.
 #[derive(Clone, Copy, Debug, PartialEq, Eq)]
 pub enum Compared {
     /// They are of different matches.
     OtherMatch,
-    /// The entries of this number are the first that differ.
+    /// The entries with this number are the first that differ.
     Differs(Number),
-    /// They agree as far as both go, and the other has so many entries more.
+    /// They agree as far as both go, and the other one has this number of further entries.
     Behind(Number),
 }
 
-/// Returns how a saved match goes on beside another (docs/FORMATS.md, "Showing saved files").
+/// Compares a saved match with another one (docs/FORMATS.md, "Showing saved files").
 pub fn compare(saved: &Saved, other: &Saved) -> Compared
     ensures { IsCompared result (parts_of saved.now) (parts_of other.now) }
 {
@@ -32,7 +32,7 @@ pub fn compare(saved: &Saved, other: &Saved) -> Compared
     }
 }
 
-/// Whether two saved matches have one number, one length and the same rules.
+/// Returns whether two saved matches have the same number, length and rules.
 fn is_same_match(saved: &Saved, other: &Saved) -> bool
     ensures { IsTrue result ↔ IsSameMatch (parts_of saved.now) (parts_of other.now) }
 {
@@ -41,7 +41,7 @@ fn is_same_match(saved: &Saved, other: &Saved) -> bool
         && saved.log.rules() == other.log.rules()
 }
 
-/// The least number whose entries differ, of those that both hold.
+/// Returns the least number whose entries differ, of those that both hold.
 fn first_difference(log: &Record, others: &Record) -> Option<Number>
     ensures { MatchOption result
         (Agree log.now.entries others.now.entries)
@@ -55,7 +55,7 @@ fn first_difference(log: &Record, others: &Record) -> Option<Number>
     None
 }
 
-/// Whether the entries of this number are the same.
+/// Returns whether the entries with this number are the same.
 fn is_same_at(log: &Record, others: &Record, number: Number) -> bool
     requires first { 1 ≤ number }
     requires held { number ≤ length log.now.entries }

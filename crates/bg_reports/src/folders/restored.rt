@@ -1,4 +1,4 @@
-//! What two saved files of a party restore.
+//! The match that two saved files of a party restore.
 ghost use Rattle.std.specs.Prelude.{◌≡◌, IfOk};
 ghost use Rattle.std.specs.Option.{option_copied};
 ghost use Rattle.bg_wire.specs.Saved.Restoring.{newer, parts_in};
@@ -10,8 +10,8 @@ use bg_text::transcript_text;
 use bg_wire::Saved;
 use std::alloc::{AllocError, Global};
 
-/// The transcript of what two saved files of a party restore (docs/FORMATS.md, "Showing saved files"); none where
-/// neither loads.
+/// Returns the transcript of what two saved files of a party restore (docs/FORMATS.md,
+/// "Showing saved files"). Returns `None` where neither loads.
 ///
 /// # Errors
 /// `AllocError` where memory runs out.
@@ -30,7 +30,8 @@ pub fn restored_transcript(
     }
 }
 
-/// Of what two files hold the save with the greater number, and that of file 0 where they are equal.
+/// Returns the save with the greater number of those that two files hold, and that of file 0 where
+/// they are equal.
 pub(crate) fn newer_of<'a>(zero: &'a Held, one: &'a Held) -> Option<&'a Saved>
     ensures { parts_in (option_copied result) ≡ newer (loaded_of zero.now) (loaded_of one.now) }
 {

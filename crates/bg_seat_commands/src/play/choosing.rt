@@ -1,4 +1,4 @@
-//! What a person at a terminal chooses, and why not.
+//! A person's choices at a terminal, and the reasons for refusing them.
 
 use crate::play::Table;
 use bg_console::allocated;
@@ -12,7 +12,8 @@ use std::net::Net;
 use std::rt::Files;
 use std::time::Clock;
 
-/// What is said of a choice that can't be sent yet, that could not be saved, and that can't be made.
+/// The messages on a choice that can't be sent yet, that could not be saved, and that can't be
+/// made.
 const KEPT: &[u8] = b"your choice is kept, and sent when the referee is heard again";
 
 const UNSAVED: &[u8] = b"your choice could not be saved, and was not made: choose again";
@@ -23,12 +24,12 @@ impl<'a, R> Table<'a, R>
 where
     R: Input + Net + Files<File = File> + Clock + Print + Eprint + AllocGlobal,
 {
-    /// Whether no choice waits for the referee.
+    /// Returns whether no choice waits for the referee.
     pub(super) fn claims_nothing(&self) -> bool {
         self.seat.process.open_claim().is_none()
     }
 
-    /// Claims an action, or says why not.
+    /// Claims an action, or prints why it can't be claimed.
     pub(super) fn choose(&mut self, action: Action) -> Result<(), Ending> {
         self.typed.clear();
         match self.seat.choose(action.copy())? {
@@ -41,7 +42,7 @@ where
         }
     }
 
-    /// Says why an action can't be claimed, and what the player may do instead.
+    /// Prints why an action can't be claimed, and what the player may do instead.
     fn refuse(&self, action: &Action, fault: ChooseFault) -> Result<(), Ending> {
         let rt = self.rt;
         let (ChooseFault::Illegal(fault), Some(record)) = (fault, self.seat.process.held()) else {

@@ -1,4 +1,4 @@
-//! A turn as a person types it, whole or step by step, and the list of those that are legal.
+//! A turn as a person types it, whole or step by step, and the list of legal turns.
 
 use crate::play::Table;
 use crate::play::turn_words::{forced, lines_behind, only_way, so_far, together, which_of};
@@ -14,16 +14,16 @@ use std::net::Net;
 use std::rt::Files;
 use std::time::Clock;
 
-/// As many lines of legal turns are printed at once.
+/// Number of lines of legal turns that are printed at once.
 const LINES_AT_ONCE: usize = 16;
 
 /// The columns of a screen that is wider than any.
 const MOST_COLUMNS: u16 = 400;
 
-/// What is said where there is nothing to move.
+/// The message where there is nothing to move.
 const NO_DICE: &[u8] = b"you have no dice to move now";
 
-/// What is said of a line that is none of those that may be typed.
+/// The message on a line that is none of those that may be typed.
 const NOT_UNDERSTOOD: &str = "that is not understood: `help` lists what may be typed";
 
 /// The faults of a typed movement, in words.
@@ -34,20 +34,21 @@ const WRONG_HITS: &str =
 
 const SEVERAL_TURNS: &[u8] = b"several turns are legal: `legal` lists them";
 
-/// What is said to one who takes back what he typed of a turn, and to one who typed nothing of it.
+/// The messages to a player who takes back what was typed of a turn, and to one who typed nothing
+/// of it.
 const TAKEN_BACK: &[u8] = b"what you typed of this turn is taken back";
 
 const NOTHING_TYPED: &[u8] =
     b"nothing of a turn is typed: a turn that was sent can't be taken back";
 
-/// What is said where not all legal turns were printed.
+/// The message where not all legal turns were printed.
 const THERE_IS_MORE: &[u8] = b"`more` lists further turns";
 
 impl<'a, R> Table<'a, R>
 where
     R: Input + Net + Files<File = File> + Clock + Print + Eprint + AllocGlobal,
 {
-    /// The board and the dice that the player is to move, if he is.
+    /// Returns the board and the dice that the player is to move, if there are any.
     fn to_move(&self) -> Option<(Board, Dice)> {
         let standing = self.seat.process.held()?.standing();
         match standing.phase() {
@@ -74,7 +75,7 @@ where
         }
     }
 
-    /// The greatest legal turn, where all legal turns lead to one position.
+    /// Returns the greatest legal turn, where all legal turns lead to one position.
     fn only_way(&self) -> Result<Option<Turn>, Ending> {
         match self.to_move() {
             Some((board, dice)) => {
@@ -97,7 +98,7 @@ where
         }
     }
 
-    /// Says why a line is no move now.
+    /// Prints why a line is not a move now.
     fn refuse_move(&mut self, line: &[u8]) -> Result<(), Ending> {
         match typed_steps(self.rt.alloc(), line) {
             Ok(turn) => self.choose(Action::Move(turn)),
@@ -105,7 +106,8 @@ where
         }
     }
 
-    /// Keeps what was typed of a turn, where its steps can be played and more have to be; else says why they can't.
+    /// Keeps what was typed of a turn, where its steps can be played and more must be. Otherwise
+    /// prints why they can't.
     fn go_on(&mut self, typed: Vec<u8>, board: &Board, dice: Dice) -> Result<(), Ending> {
         let rt = self.rt;
         let turn = match typed_steps(rt.alloc(), &typed) {
@@ -123,7 +125,7 @@ where
         self.screen.say(&allocated(rt, text)?)
     }
 
-    /// Says why what was typed is no turn.
+    /// Prints why what was typed is not a turn.
     fn tell_fault(&self, fault: &TypedFault) -> Result<(), Ending> {
         let words = match fault {
             TypedFault::NotAMovement => NOT_UNDERSTOOD,
@@ -141,7 +143,7 @@ where
         self.screen.say(words.as_bytes())
     }
 
-    /// Says what was typed of a turn, if anything was.
+    /// Prints what was typed of a turn, if anything was.
     pub(super) fn tell_typed(&self) -> Result<(), Ending> {
         let rt = self.rt;
         if self.typed.is_empty() {
@@ -164,7 +166,7 @@ where
         self.prompt()
     }
 
-    /// Prints the lines of the legal turns behind so many.
+    /// Prints the lines of the legal turns behind the first `behind`.
     pub(super) fn list_turns(&mut self, behind: usize) -> Result<(), Ending> {
         let rt = self.rt;
         let Some((board, dice)) = self.to_move() else {

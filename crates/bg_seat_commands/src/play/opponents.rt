@@ -1,4 +1,4 @@
-//! What a person at a terminal is told of the other player's coming and going.
+//! The messages on the other player's coming and going.
 
 use crate::play::Table;
 use bg_board::Player;
@@ -17,8 +17,8 @@ impl<'a, R> Table<'a, R>
 where
     R: Input + Net + Files<File = File> + Clock + Print + Eprint + AllocGlobal,
 {
-    /// Says whether the other player has come, left or returned, where there is news of that.
-    /// Answers whether there was.
+    /// Prints whether the other player has come, left or returned, where there is news of that.
+    /// Returns whether there was.
     pub(super) fn tell_of_opponent(&mut self) -> Result<bool, Ending> {
         let opponent = self.player.opponent();
         let is_awaited = match self.seat.process.held() {
@@ -36,7 +36,7 @@ where
     }
 }
 
-/// What is said of the other player, behind his letter.
+/// Returns the words on the other player, which stand behind their letter.
 fn words_of(change: OpponentChange) -> &'static str {
     match change {
         OpponentChange::Missing => " is not here yet",
@@ -48,7 +48,7 @@ fn words_of(change: OpponentChange) -> &'static str {
     }
 }
 
-/// The letter of a player, and words behind it.
+/// Returns the letter of a player, and words behind it.
 fn line_of(alloc: Global, player: Player, words: &str) -> Result<Vec<u8>, AllocError> {
     let mut line = Vec::new(alloc);
     put_text(&mut line, letter(player))?;

@@ -1,12 +1,13 @@
-//! How a person at a terminal is told who plays.
+//! The message on who plays.
 
 use bg_board::Player;
 use bg_console::{Called, Pairing};
 use bg_processes::Names;
 use std::alloc::{AllocError, Global};
 
-/// Returns the players of a match where one of them has a name, as this one is told: `Anna (X, you) against Otto (O)`. A
-/// player without a name is called by his letter. An empty text where none has a name.
+/// Returns the players of a match in which one has a name, as this player is told:
+/// `Anna (X, you) against Otto (O)`. A player without a name is called by letter. Returns an empty
+/// text where none has a name.
 pub(super) fn players_text(
     alloc: Global,
     names: &Names,

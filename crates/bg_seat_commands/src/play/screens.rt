@@ -1,4 +1,4 @@
-//! What is printed for a person, on lines that fit his screen.
+//! Output for a person, in lines that fit their screen.
 
 use bg_board::Player;
 use bg_console::{
@@ -9,10 +9,10 @@ use bg_reports::Ending;
 use bg_text::{put_number, put_text};
 use std::alloc::{AllocError, Global};
 
-/// The columns of a screen of which nothing is known.
+/// The columns of a screen of unknown size.
 const USUAL_COLUMNS: usize = 80;
 
-/// A screen, how many columns it has, and whether it has colours.
+/// A screen, its number of columns, and whether it has colours.
 #[derive(Drop)]
 pub(crate) struct Screen<'a, R> {
     rt: &'a R,
@@ -21,8 +21,8 @@ pub(crate) struct Screen<'a, R> {
 }
 
 impl<'a, R: Print + Eprint + AllocGlobal> Screen<'a, R> {
-    /// Makes a screen of as many columns as the options say, or else as the terminal has, if it is
-    /// one.
+    /// Creates a screen with as many columns as the options say, or else as the terminal has, if it
+    /// is one.
     pub(crate) fn new(rt: &'a R, said: Option<u32>, terminal: Option<Terminal>) -> Screen<'a, R> {
         let found = terminal.map_or(USUAL_COLUMNS, |terminal| terminal.columns);
         Screen {
@@ -43,7 +43,7 @@ impl<'a, R: Print + Eprint + AllocGlobal> Screen<'a, R> {
         self.print(&text)
     }
 
-    /// Prints a text with a board, on which the checkers of this player are bold where there are
+    /// Prints a text with a board, on which the checkers of this player are bold if there are
     /// colours.
     pub(crate) fn show_board(&self, text: &[u8], own: Player) -> Result<(), Ending> {
         if !self.has_colours {
@@ -54,7 +54,7 @@ impl<'a, R: Print + Eprint + AllocGlobal> Screen<'a, R> {
     }
 
     /// Prints the line that says whose turn it is as [`say`](Self::say) does, with the offers bold
-    /// where there are colours.
+    /// if there are colours.
     pub(crate) fn say_turn(&self, line: &[u8]) -> Result<(), Ending> {
         let text = allocated(self.rt, broken(self.rt.alloc(), line, self.columns))?;
         if !self.has_colours {
@@ -76,7 +76,7 @@ impl<'a, R: Print + Eprint + AllocGlobal> Screen<'a, R> {
     }
 }
 
-/// A number between some words.
+/// Returns a number between some words.
 fn numbered(
     alloc: Global,
     before: &str,

@@ -1,4 +1,4 @@
-//! What a person at a terminal is shown.
+//! The views of a person at a terminal.
 
 use crate::play::Table;
 use crate::play::players::players_text;
@@ -14,14 +14,14 @@ use std::net::Net;
 use std::rt::Files;
 use std::time::Clock;
 
-/// What is said behind why nothing is heard of the referee.
+/// The message behind the reason why nothing is heard of the referee.
 const KEPT_MEANWHILE: &str = "What you choose now is kept, and sent when it is heard again";
 
 impl<'a, R> Table<'a, R>
 where
     R: Input + Net + Files<File = File> + Clock + Print + Eprint + AllocGlobal,
 {
-    /// Shows where the match stands as far as the seat knows it.
+    /// Shows the standing of the match as far as the seat knows it.
     pub(super) fn greet(&mut self) -> Result<(), Ending> {
         self.note_shown();
         self.look_at_table()
@@ -47,7 +47,7 @@ where
         }
     }
 
-    /// Shows the board, and what the player may do or that his choice waits.
+    /// Shows the board, and what the player may do or that their choice waits.
     pub(super) fn show_table(&self) -> Result<(), Ending> {
         let rt = self.rt;
         let Some(record) = self.seat.process.held() else {
@@ -59,7 +59,7 @@ where
         self.prompt()
     }
 
-    /// Says whose turn it is and what the player may do, or that his choice waits.
+    /// Prints whose turn it is and what the player may do, or that their choice waits.
     pub(super) fn prompt(&self) -> Result<(), Ending> {
         let rt = self.rt;
         if let Some((number, _)) = self.seat.process.open_claim() {
@@ -95,8 +95,8 @@ where
         Ok(())
     }
 
-    /// Says whether the referee is heard of: where it is not, why that may be, and what becomes of
-    /// a choice.
+    /// Prints whether the referee is heard of. If it isn't, prints why that may be, and what
+    /// becomes of a choice.
     fn say_word(&self, word: Word) -> Result<(), Ending> {
         let alloc = self.rt.alloc();
         let line = if word == Word::Silent {
@@ -108,7 +108,8 @@ where
         self.screen.say(allocated(self.rt, line)?.as_bytes())
     }
 
-    /// Shows the entries that came, what a game or the match came to, and the board where they matter to the player.
+    /// Shows the entries that came, the result of a game or the match, and the board where they
+    /// matter to the player.
     fn show_news(&mut self, going: Going) -> Result<(), Ending> {
         let Some(record) = self.seat.process.held() else {
             return Ok(());

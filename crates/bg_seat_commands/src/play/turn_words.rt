@@ -1,4 +1,4 @@
-//! The words of turns: as they are typed, told, and listed.
+//! The words for turns: typed, printed and listed ones.
 
 use bg_board::{Board, Player};
 use bg_match::Entry;
@@ -6,7 +6,7 @@ use bg_text::{entry_text, split_player};
 use bg_turns::{Dice, Turn, judge_turn, legal_turns};
 use std::alloc::{AllocError, Global};
 
-/// The greatest legal turn, where all legal turns lead to one position.
+/// Returns the greatest legal turn, where all legal turns lead to one position.
 pub(super) fn only_way(
     alloc: Global,
     board: &Board,
@@ -26,7 +26,7 @@ pub(super) fn only_way(
     Ok(Some(greatest.copy()))
 }
 
-/// The line that says which turn is played, as it is the only one.
+/// Returns the line that says which turn is played, as it is the only one.
 pub(super) fn forced(alloc: Global, player: Player, turn: &Turn) -> Result<Vec<u8>, AllocError> {
     let mut line = Vec::new(alloc);
     line.extend_from_slice(b"the only turn is played:")?;
@@ -37,7 +37,7 @@ pub(super) fn forced(alloc: Global, player: Player, turn: &Turn) -> Result<Vec<u
     Ok(line)
 }
 
-/// What was typed of a turn, and a line more.
+/// Returns what was typed of a turn, with one more line.
 pub(super) fn together(alloc: Global, typed: &[u8], line: &[u8]) -> Result<Vec<u8>, AllocError> {
     let mut whole = Vec::new(alloc);
     whole.extend_from_slice(typed)?;
@@ -50,7 +50,7 @@ pub(super) fn together(alloc: Global, typed: &[u8], line: &[u8]) -> Result<Vec<u
     Ok(whole)
 }
 
-/// A line without the word `m` or `move` at its beginning.
+/// Returns a line without the word `m` or `move` at its beginning.
 fn without_move(line: &[u8]) -> &[u8] {
     let line = line.trim_ascii();
     match line {
@@ -63,7 +63,7 @@ fn without_move(line: &[u8]) -> &[u8] {
     }
 }
 
-/// The line that says what was typed of a turn.
+/// Returns the line that says what was typed of a turn.
 pub(super) fn so_far(alloc: Global, player: Player, turn: &Turn) -> Result<Vec<u8>, AllocError> {
     let mut line = Vec::new(alloc);
     line.extend_from_slice(b"so far")?;
@@ -72,7 +72,7 @@ pub(super) fn so_far(alloc: Global, player: Player, turn: &Turn) -> Result<Vec<u
     Ok(line)
 }
 
-/// The line that asks which of two turns is meant.
+/// Returns the line that asks which of two turns is meant.
 pub(super) fn which_of(
     alloc: Global,
     player: Player,
@@ -87,7 +87,7 @@ pub(super) fn which_of(
     Ok(line)
 }
 
-/// Adds the steps of a turn, each behind a blank.
+/// Appends the steps of a turn, each behind a blank.
 fn put_steps(line: &mut Vec<u8>, player: Player, turn: &Turn) -> Result<(), AllocError> {
     let text = entry_text(Some(player), &Entry::Moved(turn.copy()));
     let Some((_, typed)) = split_player(text.as_str().as_bytes()) else {
@@ -96,7 +96,8 @@ fn put_steps(line: &mut Vec<u8>, player: Player, turn: &Turn) -> Result<(), Allo
     line.extend_from_slice(typed.strip_prefix(b"move").unwrap_or(typed))
 }
 
-/// As many lines of a text at most, behind so many of them; and whether there are no more.
+/// Returns at most `most` lines of a text, behind the first `behind`, and whether there are no
+/// more.
 pub(super) fn lines_behind(text: &[u8], behind: usize, most: usize) -> (&[u8], bool) {
     let rest = skip_lines(text, behind);
     let left = skip_lines(rest, most);
@@ -104,7 +105,7 @@ pub(super) fn lines_behind(text: &[u8], behind: usize, most: usize) -> (&[u8], b
     (rest.get(..end).unwrap_or(rest), left.is_empty())
 }
 
-/// A text without so many lines at its beginning.
+/// Returns a text without its first `lines` lines.
 fn skip_lines(text: &[u8], lines: usize) -> &[u8] {
     let mut rest = text;
     for _ in 0..lines {

@@ -1,12 +1,12 @@
-//! What a line that a person types asks for.
+//! The requests that a person types.
 
 use bg_match::{Action, Level};
 use std::alloc::{AllocError, Global};
 
-/// What a typed line asks for.
+/// The request that a typed line makes.
 #[derive(Drop)]
 pub(crate) enum Wish {
-    /// An empty line.
+    /// Nothing: an empty line.
     Nothing,
     Help,
     Board,
@@ -14,17 +14,18 @@ pub(crate) enum Wish {
     Legal,
     /// The legal turns that were not shown yet.
     More,
-    /// To take back what was typed of a turn.
+    /// Taking back what was typed of a turn.
     Undo,
     Quit,
-    /// To offer to resign, at a level that is not said.
+    /// Offering to resign, at a level that is not given.
     Resign,
     Act(Action),
-    /// To move: all else, as the library of typed turns reads it.
+    /// Moving: all else, as the library of typed turns reads it.
     Move,
 }
 
-/// Returns what a line asks for: its words, in small or capital letters, with any blanks around them.
+/// Returns the request of a line: its words, in small or capital letters, with any blanks around
+/// them.
 pub(crate) fn wish_of(alloc: Global, line: &[u8]) -> Result<Wish, AllocError> {
     let words = plain(alloc, line)?;
     Ok(match words.as_slice() {
@@ -43,7 +44,7 @@ pub(crate) fn wish_of(alloc: Global, line: &[u8]) -> Result<Wish, AllocError> {
     })
 }
 
-/// The action that some words ask for, where it is no move.
+/// Returns the action that some words ask for, unless it is a move.
 fn action_of(words: &[u8]) -> Option<Action> {
     match words {
         b"r" | b"roll" => Some(Action::Roll),
@@ -56,7 +57,7 @@ fn action_of(words: &[u8]) -> Option<Action> {
     }
 }
 
-/// The level that a word names.
+/// Returns the level that a word names.
 fn level_of(word: &[u8]) -> Option<Level> {
     match word {
         b"n" | b"normal" | b"single" | b"1" => Some(Level::Normal),
@@ -66,7 +67,7 @@ fn level_of(word: &[u8]) -> Option<Level> {
     }
 }
 
-/// The words of a line in small letters, with one blank between two.
+/// Returns the words of a line in small letters, separated by single blanks.
 fn plain(alloc: Global, line: &[u8]) -> Result<Vec<u8>, AllocError> {
     let mut words = Vec::new(alloc);
     for byte in line.trim_ascii() {

@@ -1,43 +1,43 @@
-//! A call of a device that failed, and the words for it.
+//! A failed call of a device, and the words for it.
 
 use crate::files::slot_names::SlotName;
 use crate::printable::Printable;
 use std::fmt::{Display, Formatter, Write};
 use std::{fmt, io};
 
-/// A call of a device, by what it was to do.
+/// A call of a device, named by its purpose.
 #[derive(Clone, Copy, Debug, PartialEq, Eq)]
 pub enum FailedCall {
-    /// A socket was to be opened for a party.
+    /// Opening a socket for a party.
     Open { party: u8 },
-    /// A datagram was to be sent to a party.
+    /// Sending a datagram to a party.
     Send { to: u8 },
-    /// The socket of a party was to be read.
+    /// Reading the socket of a party.
     Receive { party: u8 },
-    /// The file of a slot was to be written.
+    /// Writing the file of a slot.
     Write(SlotName),
-    /// The file of a slot was to be read.
+    /// Reading the file of a slot.
     Read(SlotName),
-    /// The folder of the files was to be synced.
+    /// Syncing the folder of the files.
     Sync,
-    /// The folder of the files was to be found where it was.
+    /// Finding the folder of the files where it was.
     Find,
-    /// The file of a slot was to be emptied, as what was written to it could not be synced.
+    /// Emptying the file of a slot, as what was written to it could not be synced.
     TakeBack(SlotName),
 }
 
-/// Why a call of a device failed.
+/// A call of a device that failed, and the system's reason.
 #[derive(Clone, Copy, Debug)]
 pub struct DeviceFailure {
-    /// What was to be done.
+    /// The call that failed.
     pub call: FailedCall,
     /// The system's reason.
     pub error: io::Error,
 }
 
 impl DeviceFailure {
-    /// The failure in words, where the files of the devices lie in this folder (docs/OPERATING.md, "Messages"). No
-    /// folder is named for a socket.
+    /// Returns the failure in words, where the files of the devices are in this folder
+    /// (docs/OPERATING.md, "Messages"). No folder is named for a socket.
     pub fn in_folder(self, folder: &str) -> FailureText<'_> {
         FailureText {
             failure: self,
@@ -46,7 +46,8 @@ impl DeviceFailure {
     }
 }
 
-/// A failure in words, with the name of the file or the folder and the system's words for the reason.
+/// A failure in words, with the name of the file or the folder and the system's words for the
+/// reason.
 #[derive(Clone, Copy)]
 pub struct FailureText<'a> {
     failure: DeviceFailure,

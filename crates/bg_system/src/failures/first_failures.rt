@@ -1,4 +1,4 @@
-//! How a device notes that its calls fail.
+//! Noting failed calls of a device.
 ghost use Rattle.std.specs.Prelude.{◌≡◌, ◌+◌, ◌||◌, false, true, length, if◌then◌else◌, is_err, is_ok};
 
 use crate::failures::Failures;
@@ -6,20 +6,20 @@ use crate::failures::device_failures::FailedCall;
 use bg_streams::History;
 use std::io;
 
-/// Notes why calls of one kind fail at a device: of failures that follow each other the first alone.
+/// Notes why calls of one kind fail at a device: only the first of consecutive failures.
 ///
-/// Contracts see whether the last call failed, and how many failures it has noted.
+/// Contracts see whether the last call failed, and the number of failures noted.
 #[derive(Drop)]
 pub struct FirstFailures<'a> {
     failures: &'a Failures,
     /// Whether the last call failed.
     failing: bool,
-    /// A mark for each failure that it has noted.
+    /// A mark for each failure noted.
     noted: History,
 }
 
 impl<'a> FirstFailures<'a> {
-    /// Of calls of which none has failed yet.
+    /// Creates notes of calls of which none has failed yet.
     pub fn new(failures: &'a Failures) -> FirstFailures<'a>
         ensures failing { result.failing ≡ false }
         ensures noted { length result.noted.bytes ≡ 0 }
@@ -31,7 +31,8 @@ impl<'a> FirstFailures<'a> {
         }
     }
 
-    /// Gives what the system answered to a call, and notes why the call failed, if it is the first that did.
+    /// Returns the system's result of a call. Notes why the call failed, unless the call before it
+    /// failed too.
     pub fn after<T>(&mut self, call: FailedCall, answer: io::Result<T>) -> io::Result<T>
         ensures answer { result ≡ answer }
         ensures failing { self.new.failing ≡ is_err answer }
@@ -51,7 +52,7 @@ impl<'a> FirstFailures<'a> {
         }
     }
 
-    /// A call failed: why is noted where the call before did not.
+    /// Notes why a call failed, unless the call before it failed too.
     fn note_first(&mut self, call: FailedCall, error: io::Error)
         ensures failing { self.new.failing ≡ true }
         ensures noted { length self.new.noted.bytes

@@ -5,10 +5,10 @@ ghost use Rattle.hex.specs.Hex.{IsBytes, encode_lower};
 use bg_seals::KEY_BYTES;
 use hex::FromHex;
 
-/// How many digits a key has.
+/// Number of digits of a key.
 pub(crate) const KEY_DIGITS: usize = 2 * KEY_BYTES;
 
-/// Returns the digits of a key: two for each byte, with small letters.
+/// Returns the digits of a key: two for each byte, in lower case.
 pub(crate) fn digits_of(key: &[u8; KEY_BYTES]) -> [u8; KEY_DIGITS]
     ensures { result ≡ encode_lower key.now }
 {
@@ -17,14 +17,14 @@ pub(crate) fn digits_of(key: &[u8; KEY_BYTES]) -> [u8; KEY_DIGITS]
     digits
 }
 
-/// Whether these are the digits of a key.
+/// Returns whether these are the digits of a key.
 fn are_digits_of(digits: &str, key: &[u8; KEY_BYTES]) -> bool
     ensures { IsTrue result ↔ (digits.now ≡ encode_lower key.now) }
 {
     digits.as_bytes() == digits_of(key).as_slice()
 }
 
-/// Returns the key whose digits, and a line feed behind them, are this text, and nothing of any other.
+/// Returns the key that a text of its digits and a line feed encodes; `None` for any other text.
 pub(crate) fn key_in(text: &str) -> Option<[u8; KEY_BYTES]>
     ensures bytes { IfSome result IsBytes }
     ensures only { IfSome result (λ key. text.now ≡ encode_lower key ++ codes "\n") }

@@ -1,4 +1,4 @@
-//! The files that a match is handed to its parties by, with the key of each.
+//! The files that hand a match to its parties, with the key of each.
 ghost use Rattle.std.specs.Prelude.{◌≡◌, ◌↔◌, Some};
 
 use crate::files::key_digits::{digits_of, key_in};
@@ -14,22 +14,23 @@ use std::fs::File;
 use std::rt::Files;
 use std::{fmt, io};
 
-/// What a party, or whoever watches, knows of its match and nobody else does but the referee: its key (docs/FORMATS.md,
-/// "Key files"). It is shown as the text of its file, which no message may have.
+/// The secret that a party, or all watchers, share with the referee alone: the key of their match
+/// (docs/FORMATS.md, "Key files"). `Display` writes the text of the file, which no message may
+/// contain.
 #[derive(Debug, Drop)]
 pub struct KeyFile {
-    /// What all processes of the match agree on.
+    /// The match, as all its processes agree on it.
     pub table: MatchFile,
-    /// How its players are called.
+    /// The names of the players.
     pub names: Names,
     /// The party: 1 or 2, or 3 for all watchers.
     pub party: u8,
-    /// Its key.
+    /// The party's key.
     pub key: Key,
 }
 
-/// Returns the name of the key file of a party, as which the referee's folder has it: `match-x`, `match-o`, or
-/// `match-watch` for all who watch.
+/// Returns the name of a party's key file in the referee's folder: `match-x`, `match-o`, or
+/// `match-watch` for all watchers.
 pub fn name_of_key_file(party: u8) -> &'static str {
     match party {
         SEAT_OF_X => "match-x",
@@ -62,7 +63,7 @@ impl Display for KeyFile {
 impl KeyFile {
     ghost use Rattle.bg_system.specs.KeyFiles.{IsKeyFile, key_file_of, key_file_text, with_names};
 
-    /// Returns what a text says that is that of a key file, and none of any other text.
+    /// Parses the text of a key file. Returns `None` for any other text.
     pub fn parse(text: &str) -> Option<KeyFile>
         ensures { (file : KeyFile) → (result ≡ Some file) ↔ (IsKeyFile file × (text.now ≡ key_file_text file)) }
     {
@@ -81,8 +82,8 @@ impl KeyFile {
         })
     }
 
-    /// Returns the file of a party of a match, 1, 2, or 3 for all watchers, whose keys are derived from this secret. It
-    /// has no names.
+    /// Returns the key file of a party of a match: 1, 2, or 3 for all watchers. Its key is derived
+    /// from this secret, and it has no names.
     pub fn derive(table: MatchFile, secret: &MasterSecret, party: u8) -> KeyFile
         ensures { result ≡ key_file_of table secret.now party }
     {
@@ -96,7 +97,7 @@ impl KeyFile {
         }
     }
 
-    /// Returns it with these names in place of those that it has.
+    /// Returns the file with these names in place of its own.
     fn named(self, names: &Names) -> KeyFile
         ensures { result ≡ with_names names.now self }
     {
@@ -124,10 +125,11 @@ impl KeyFile {
         }
     }
 
-    /// Returns what the file at a path says; `None` where it is no key file.
+    /// Reads the key file at a path. Returns `None` where it isn't a key file.
     ///
     /// # Errors
-    /// Why the file could not be opened or read; `InvalidInput` where it is no plain file.
+    /// The system's error where the file can't be opened or read; `InvalidInput` where it isn't a
+    /// plain file.
     pub fn read(
         rt: &(impl Files<File = File> + AllocGlobal),
         path: &str,
@@ -135,10 +137,11 @@ impl KeyFile {
         Ok(KeyFile::parse(front_of_file(rt, path)?.as_str()))
     }
 
-    /// Writes it into a folder, by its name, as a file that only its owner reads.
+    /// Writes the file into a folder, under its name, readable by its owner alone.
     ///
     /// # Errors
-    /// Why the file could not be written. Then there is none, unless its folder could not be synced.
+    /// The system's error where the file can't be written. Then there is no file, unless its folder
+    /// could not be synced.
     pub fn write(
         &self,
         rt: &(impl Files<File = File> + AllocGlobal),
@@ -148,7 +151,7 @@ impl KeyFile {
     }
 }
 
-/// The key files of a match: that of each player, and that of all who watch.
+/// The key files of a match: one for each player, and one for all watchers.
 #[derive(Debug, Drop)]
 pub struct KeyFiles {
     pub x: KeyFile,
@@ -159,7 +162,8 @@ pub struct KeyFiles {
 impl KeyFiles {
     ghost use Rattle.bg_system.specs.KeyFiles.{key_files_of, with_names};
 
-    /// Returns those of a match whose keys are derived from this secret. They have no names.
+    /// Returns the key files of a match, whose keys are derived from this secret. They have no
+    /// names.
     pub fn derive(table: MatchFile, secret: &MasterSecret) -> KeyFiles
         ensures { result ≡ key_files_of table secret.now }
     {
@@ -169,7 +173,7 @@ impl KeyFiles {
             watchers: KeyFile::derive(table, secret, FIRST_WATCHER),
         }
     }
-    /// Returns them with these names, each in place of those that it has.
+    /// Returns the files with these names in place of their own.
     pub fn named(self, names: &Names) -> KeyFiles
         ensures { result ≡ record {
           x = with_names names.now self.x;

@@ -1,4 +1,4 @@
-//! What all processes of a match agree on, and the file that says it.
+//! The match, as all its processes agree on it, and its file.
 ghost use Rattle.std.specs.Prelude.{◌≡◌, ◌↔◌, ℕ, List, ◌++◌, Some, IfSome, MatchOption};
 ghost use Rattle.std.specs.Int.{IsInRange};
 ghost use Rattle.bg_system.specs.Numbers.{rules_number};
@@ -17,21 +17,23 @@ use std::{fmt, io};
 /// The lowest port that a match may have.
 pub const LOWEST_PORT: u16 = 1024;
 
-/// The highest port that a match may have: so each of its 256 parties has one.
+/// The highest port that a match may have, so that each of its 256 parties has a port.
 pub const HIGHEST_PORT: u16 = 65_280;
 
-/// The most bytes that are read of a match file or a key file: more than any good one has, also with both names.
+/// Number of bytes of a match file or a key file that are read, at most. It exceeds the length of
+/// any valid one with both names.
 const MOST_BYTES: u64 = 512;
 
-/// What all processes of a match agree on (docs/FORMATS.md, "Match file"). It is shown as the text of a file without
-/// names: `match ID length N rules R port P` in one line, which a line feed ends.
+/// The match, as all its processes agree on it (docs/FORMATS.md, "Match file"). `Display` writes
+/// the text of a file without names: `match ID length N rules R port P` on one line, with its line
+/// feed.
 #[derive(Clone, Copy, Debug, PartialEq, Eq)]
 pub struct MatchFile {
     /// The number of the match.
     pub id: u64,
-    /// What its players agree on.
+    /// The length and the rules of the match.
     pub terms: Terms,
-    /// The port of its referee; party P has the port P higher.
+    /// The port of the referee. Party P has the port P higher.
     pub port: u16,
 }
 
@@ -49,7 +51,7 @@ impl Display for MatchFile {
     }
 }
 
-/// Returns the number by which rules are named: 1 or 2.
+/// Returns the number that names the rules: 1 or 2.
 pub fn number_of_rules(rules: Rules) -> u8
     ensures { result ≡ rules_number rules }
 {
@@ -59,7 +61,7 @@ pub fn number_of_rules(rules: Rules) -> u8
     }
 }
 
-/// The rules that a number names, 1 or 2.
+/// Returns the rules that a number names, 1 or 2.
 fn rules_of(number: u64) -> Rules
     requires { IsInRange 1 2 number }
     ensures { rules_number result ≡ number }
@@ -67,8 +69,8 @@ fn rules_of(number: u64) -> Rules
     if number == 1 { Rules::One } else { Rules::Two }
 }
 
-/// Returns the first text of a file, as far as a match file or a key file goes; an empty one, which is neither's, where
-/// it is no text.
+/// Returns the text at the start of a file, up to the length of a match file or a key file. Returns
+/// an empty text, which is neither's, where the file isn't text.
 pub(crate) fn front_of_file(
     rt: &(impl Files<File = File> + AllocGlobal),
     path: &str,
@@ -85,9 +87,9 @@ impl MatchFile {
     ghost use Rattle.bg_system.specs.NameLines.{IsNames, names_text};
     ghost use Rattle.bg_system.specs.declared.files.name_lines.Names.{Names};
 
-    /// Returns what a text says that is that of a match file, whatever names are in it. None where it is no match
-    /// file's, as with a sign or a zero before a number, with more than a space between two words, without its line
-    /// feed, or with anything behind but names.
+    /// Parses the text of a match file, whatever names it has. Returns `None` where it isn't one.
+    /// That includes a sign or a zero before a number, more than one space between two words, a
+    /// missing line feed, and anything but names behind it.
     pub fn parse(text: &str) -> Option<MatchFile>
         ensures { (file : MatchFile) → (result ≡ Some file)
             ↔ (IsMatchFile file × ((names : Names) × IsNames names × (text.now ≡ match_text file ++ names_text names))) }
@@ -102,8 +104,8 @@ impl MatchFile {
         Some(file)
     }
 
-    /// Returns what a text says that begins with the line of a match file, and what stands behind it. None where the
-    /// text does not begin so.
+    /// Parses the line of a match file at the start of a text, and returns what stands behind it
+    /// too. Returns `None` where the text doesn't begin with such a line.
     pub(crate) fn parse_front(text: &str) -> Option<(MatchFile, &str)>
         ensures only { IfSome result (λ found. IsMatchFile found.0
             × (text.now ≡ match_text found.0 ++ found.1.now)) }
@@ -124,10 +126,12 @@ impl MatchFile {
         Some((MatchFile { id, terms, port }, rest))
     }
 
-    /// What the file at a path says, but for names; `None` where it is no match file.
+    /// Reads the match file at a path, leaving its names out. Returns `None` where it isn't a match
+    /// file.
     ///
     /// # Errors
-    /// Why the file could not be opened or read; `InvalidInput` where it is no plain file.
+    /// The system's error where the file can't be opened or read; `InvalidInput` where it isn't a
+    /// plain file.
     pub fn read(
         rt: &(impl Files<File = File> + AllocGlobal),
         path: &str,
@@ -135,10 +139,11 @@ impl MatchFile {
         Ok(MatchFile::parse(front_of_file(rt, path)?.as_str()))
     }
 
-    /// Writes it into a folder, without names, as the file `match` that only its owner reads.
+    /// Writes it into a folder, without names, as the file `match`, readable by its owner alone.
     ///
     /// # Errors
-    /// Why the file could not be written. Then there is none, unless its folder could not be synced.
+    /// The system's error where the file can't be written. Then there is no file, unless its folder
+    /// could not be synced.
     pub fn write(
         &self,
         rt: &(impl Files<File = File> + AllocGlobal),

@@ -1,4 +1,4 @@
-//! The lines that say how the players of a match are called.
+//! The lines that name the players of a match.
 ghost use Rattle.std.specs.Prelude.{◌≡◌, ◌++◌, ℕ, List, Option, IfSome, IfNone, MatchOption};
 ghost use Rattle.bg_system.specs.Names.{IsName};
 ghost use Rattle.bg_system.specs.NameLines.{LacksWord, name_line};
@@ -7,21 +7,22 @@ use crate::files::names::Name;
 use std::fmt;
 use std::fmt::{Display, Formatter, Write};
 
-/// What the line of the name of X begins with.
+/// The start of the line that names X.
 const WORD_OF_X: &str = "name-x ";
 
-/// The same of O.
+/// The start of the line that names O.
 const WORD_OF_O: &str = "name-o ";
 
-/// How the players of a match are called, where that is said (docs/FORMATS.md, "Match file"). It is shown as the lines
-/// that say it, `name-x NAME` and `name-o NAME`, each with its line feed; nothing is shown of a player without a name.
+/// The names of the players of a match, as far as they have any (docs/FORMATS.md, "Match file").
+/// `Display` writes them as lines, `name-x NAME` and `name-o NAME`, each with its line feed. It
+/// writes nothing for a player without a name.
 #[derive(Clone, Copy, Debug, PartialEq, Eq)]
 pub struct Names {
     pub x: Option<Name>,
     pub o: Option<Name>,
 }
 
-/// The line of a name behind a word, and nothing where there is no name.
+/// The line of a name behind a word; nothing where there is no name.
 #[derive(Clone, Copy)]
 struct NameLine<'a> {
     word: &'a str,
@@ -62,8 +63,8 @@ impl Display for Names {
     }
 }
 
-/// Returns the name in the line that a text begins with, where that begins with a word, and what stands behind the
-/// line. None where the line has no end, or says no name.
+/// Splits off the first line of a text, where it begins with a word, and returns its name with what
+/// stands behind the line. Returns `None` where the line has no end, or holds no valid name.
 fn split_name<'a>(text: &'a str, word: &str) -> Option<(Option<Name>, &'a str)>
     ensures only { IfSome result (λ found. IfSome found.0 IsName
         × (text.now ≡ name_line word.now found.0 ++ found.1.now)) }
@@ -85,22 +86,22 @@ impl Names {
     ghost use Rattle.std.specs.Prelude.{None};
     ghost use Rattle.bg_system.specs.NameLines.{IsNames, IsPastNames, names_text};
 
-    /// Returns those of a match whose players have none.
+    /// Returns the names of a match whose players have none.
     pub fn none() -> Names
         ensures { result ≡ record { x = None; o = None } }
     {
         Names { x: None, o: None }
     }
 
-    /// Returns the names that a text begins with, and what stands behind them. None where a line that begins as that
-    /// of a name says none.
+    /// Parses the names at the start of a text, and returns what stands behind them too. Returns
+    /// `None` where a line that begins like a name line holds no valid name.
     pub(crate) fn parse_front(text: &str) -> Option<(Names, &str)>
         ensures only { IfSome result (λ found. IsNames found.0 × (text.now ≡ names_text found.0 ++ found.1.now)) }
         ensures all { (names : Names) (rest : List ℕ) → IsNames names → IsPastNames rest
             → text.now ≡ names_text names ++ rest
             → MatchOption result ⊥ (λ found. (found.0 ≡ names) × (found.1.now ≡ rest)) }
     {
-        // Matches, as the check takes no `?` of a name beside a text.
+        // A `let` with `else`, as the check accepts no `?` of a name beside a text.
         let Some((x, rest)) = split_name(text, WORD_OF_X) else {
             return None;
         };

@@ -1,4 +1,4 @@
-//! What a match file says.
+//! The contents of a match file.
 ghost use Rattle.std.specs.Prelude.{◌≡◌, ◌↔◌, ◌++◌, ℕ, List, Some, IfSome, MatchOption};
 
 use crate::files::match_files::{MatchFile, front_of_file};
@@ -9,13 +9,14 @@ use std::fs::File;
 use std::rt::Files;
 use std::{fmt, io};
 
-/// A match, and how its players are called: what a match file says (docs/FORMATS.md, "Match file"). It is shown as the
-/// text of its file. Names are for those who look on: no process plays otherwise for them.
+/// A match and the names of its players: the contents of a match file (docs/FORMATS.md,
+/// "Match file"). `Display` writes the text of the file. Names are for people who look on: no
+/// process plays differently because of them.
 #[derive(Clone, Copy, Debug, PartialEq, Eq)]
 pub struct NamedMatch {
-    /// What all processes of the match agree on.
+    /// The match, as all its processes agree on it.
     pub table: MatchFile,
-    /// How its players are called.
+    /// The names of the players.
     pub names: Names,
 }
 
@@ -35,8 +36,8 @@ impl NamedMatch {
     ghost use Rattle.bg_system.specs.NameLines.{IsPastNames};
     ghost use Rattle.bg_system.specs.NamedMatches.{IsNamedMatch, named_match_text};
 
-    /// Returns what a text says that is that of a match file. None where it is no match file's, as with a line of a
-    /// name that says none, with the lines in another order, or with anything behind them.
+    /// Parses the text of a match file. Returns `None` where it isn't one. That includes a name
+    /// line without a valid name, lines in another order, and anything behind them.
     pub fn parse(text: &str) -> Option<NamedMatch>
         ensures { (file : NamedMatch) → (result ≡ Some file) ↔ (IsNamedMatch file × (text.now ≡ named_match_text file)) }
     {
@@ -49,8 +50,8 @@ impl NamedMatch {
         Some(file)
     }
 
-    /// Returns what a text says that begins with that of a match file, and what stands behind it. None where the text
-    /// does not begin so.
+    /// Parses the text of a match file at the start of a text, and returns what stands behind it
+    /// too. Returns `None` where the text doesn't begin so.
     pub(crate) fn parse_front(text: &str) -> Option<(NamedMatch, &str)>
         ensures only { IfSome result (λ found. IsNamedMatch found.0
             × (text.now ≡ named_match_text found.0 ++ found.1.now)) }
@@ -65,10 +66,11 @@ impl NamedMatch {
         Some((NamedMatch { table, names }, rest))
     }
 
-    /// Returns what the file at a path says; `None` where it is no match file.
+    /// Reads the match file at a path. Returns `None` where it isn't a match file.
     ///
     /// # Errors
-    /// Why the file could not be opened or read; `InvalidInput` where it is no plain file.
+    /// The system's error where the file can't be opened or read; `InvalidInput` where it isn't a
+    /// plain file.
     pub fn read(
         rt: &(impl Files<File = File> + AllocGlobal),
         path: &str,
@@ -76,10 +78,11 @@ impl NamedMatch {
         Ok(NamedMatch::parse(front_of_file(rt, path)?.as_str()))
     }
 
-    /// Writes it into a folder, as the file `match` that only its owner reads.
+    /// Writes it into a folder, as the file `match`, readable by its owner alone.
     ///
     /// # Errors
-    /// Why the file could not be written. Then there is none, unless its folder could not be synced.
+    /// The system's error where the file can't be written. Then there is no file, unless its folder
+    /// could not be synced.
     pub fn write(
         &self,
         rt: &(impl Files<File = File> + AllocGlobal),

@@ -1,4 +1,4 @@
-//! How a player of a match is called.
+//! The name of a player of a match.
 ghost use Rattle.std.specs.Prelude.{◌≡◌, Some, None, MatchResult};
 ghost use Rattle.std.specs.List.{list_any};
 ghost use Rattle.std.specs.Str.{chars};
@@ -8,17 +8,17 @@ use std::fmt::{Debug, Display, Formatter, Write};
 use std::marker::Model;
 use std::{fmt, str};
 
-/// The most bytes that a name has.
+/// Number of bytes of a name, at most.
 pub const MOST_NAME_BYTES: usize = 64;
 
-/// The name of a player, for those who look on: a text of 1 to 64 bytes, without control characters, characters that
-/// end a line, and such as turn the direction of a text, and with no blank at its beginning or its end. Contracts see
-/// it as the bytes of its text.
+/// The name of a player, for people who look on: a text of 1 to 64 bytes. It has no control
+/// characters, no characters that end a line, none that change the direction of text, and no blank
+/// at either end. Contracts see it as the bytes of its text.
 #[derive(Clone, Copy)]
 pub struct Name {
-    /// The bytes of the text, and zeros behind them.
+    /// The bytes of the text, padded with zeros.
     bytes: [u8; MOST_NAME_BYTES],
-    /// How many bytes the text has.
+    /// Number of bytes of the text.
     count: usize,
 }
 
@@ -44,12 +44,13 @@ impl Model for Name {
     } };
 }
 
-/// Why a text is no name, the first of these.
+/// The first of these reasons why a text is not a name.
 #[derive(Clone, Copy, Debug, PartialEq, Eq)]
 pub enum NameFault {
     /// It is empty, or has more than 64 bytes.
     Length,
-    /// It has a control character, one that ends a line, or one that turns the direction of a text.
+    /// It has a control character, a character that ends a line, or one that changes the direction
+    /// of text.
     Character,
     /// It begins or ends with a blank.
     Blank,
@@ -67,7 +68,8 @@ impl Display for NameFault {
     }
 }
 
-/// Whether a character can't be seen in a name, or changes how what stands beside it is seen.
+/// Returns whether a character can't be seen in a name, or changes how its neighbours are
+/// displayed.
 fn is_unseen(c: char) -> bool
     ensures { result ≡ is_unseen c }
 {
@@ -78,21 +80,21 @@ fn is_unseen(c: char) -> bool
         || ('\u{2066}'..='\u{2069}').contains(&c)
 }
 
-/// Whether a text has such a character.
+/// Returns whether a text has such a character.
 fn has_unseen(text: &str) -> bool
     ensures { result ≡ list_any is_unseen (chars text.now) }
 {
     text.chars().any(is_unseen)
 }
 
-/// Whether a text begins or ends with a blank.
+/// Returns whether a text begins or ends with a blank.
 fn has_outer_blank(text: &str) -> bool
     ensures { result ≡ has_outer_blank text.now }
 {
     text.starts_with(' ') || text.ends_with(' ')
 }
 
-/// Returns the first reason why a text is no name, if there is one.
+/// Returns the first reason why a text is not a name, if there is one.
 fn fault_of(text: &str) -> Option<NameFault>
     ensures { result ≡ name_fault text.now }
 {
@@ -108,10 +110,10 @@ fn fault_of(text: &str) -> Option<NameFault>
 }
 
 impl Name {
-    /// Returns a text as a name.
+    /// Creates a name from a text.
     ///
     /// # Errors
-    /// The first reason why it is none.
+    /// The first reason why it is not a name.
     pub fn new(text: &str) -> Result<Name, NameFault>
         ensures { MatchResult result (λ name. IsName text.now × (name ≡ text.now))
             (λ fault. name_fault text.now ≡ Some fault) }
@@ -122,7 +124,7 @@ impl Name {
         }
     }
 
-    /// Returns the name of this text, which is one.
+    /// Returns the name with this text, which is valid.
     fn of(text: &str) -> Name
         requires { name_fault text.now ≡ None }
         ensures { result ≡ text.now }
@@ -135,7 +137,7 @@ impl Name {
         }
     }
 
-    /// Returns its text.
+    /// Returns the text of the name.
     pub fn as_str(&self) -> &str
         ensures value { result.now ≡ self.now }
         ensures named { IsName result.now }

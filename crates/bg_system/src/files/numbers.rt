@@ -6,7 +6,7 @@ ghost use Rattle.bg_system.specs.Numbers.{BeginsWith};
 
 use itoa::Buffer;
 
-/// Whether these are the digits that a number is written with: no sign, and no zero before them.
+/// Returns whether a number is written with these digits: without a sign and without leading zeros.
 fn is_written(digits: &str, number: u64) -> bool
     ensures { IsTrue result ↔ (digits.now ≡ decimal number) }
 {
@@ -14,7 +14,7 @@ fn is_written(digits: &str, number: u64) -> bool
     buffer.format(number).as_bytes() == digits.as_bytes()
 }
 
-/// The number that digits write.
+/// Reads the number that digits spell.
 fn read_number(digits: &str) -> Option<u64>
     ensures only { IfSome result (λ number. digits.now ≡ decimal number) }
     ensures all { (n : ℕ) → n < 2 ^ 64 → digits.now ≡ decimal n → result ≡ Some n }
@@ -23,8 +23,8 @@ fn read_number(digits: &str) -> Option<u64>
     is_written(digits, number).then_some(number)
 }
 
-/// The number behind a word, where it is from one number to another, and what follows the mark that ends it. None where
-/// the text does not begin so.
+/// Splits off the number behind a word, where it is in the range `from` to `to`, and returns it
+/// with what follows the mark that ends it. Returns `None` where the text doesn't begin so.
 pub(crate) fn split_number<'a>(
     text: &'a str,
     word: &str,

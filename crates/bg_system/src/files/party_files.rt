@@ -10,9 +10,10 @@ use std::fs::File;
 use std::io;
 use std::rt::Files;
 
-/// The two files of a party in a folder: slot S of party P is `party-P.S` (docs/OPERATING.md, "Files").
+/// The two files of a party in a folder: slot S of party P is `party-P.S` (docs/OPERATING.md,
+/// "Files").
 ///
-/// It notes why a call failed, with the file, in the [`Failures`] that it is lent.
+/// It notes why a call failed, with the file, in the [`Failures`] that it borrows.
 #[derive(Drop)]
 pub struct PartyFiles<'a, R> {
     folder: SlotFolder<'a, R>,
@@ -21,10 +22,11 @@ pub struct PartyFiles<'a, R> {
 }
 
 impl<'a, R: Files<File = File> + AllocGlobal> PartyFiles<'a, R> {
-    /// Makes the files of a party in a folder; why one fails later is noted there. It opens nothing.
+    /// Creates the files of a party in a folder, without opening any. Later failures are noted in
+    /// `failures`.
     ///
     /// # Errors
-    /// Where there is no memory for the names of the files.
+    /// AllocError where there is no memory for the names of the files.
     pub fn new(
         rt: &'a R,
         folder: &str,
@@ -39,12 +41,13 @@ impl<'a, R: Files<File = File> + AllocGlobal> PartyFiles<'a, R> {
         })
     }
 
-    /// Puts bytes in the place of those that a slot's file has, and writes them through to the device; where its name
-    /// may be new, the folder is synced too. What the device did not take is taken back: the file is empty then.
+    /// Replaces the bytes of a slot's file, and makes them durable. Where its name may be new, the
+    /// folder is synced too. Bytes that are not durable are taken back: the file is empty then.
     ///
     /// # Errors
-    /// Why the file could not be written or synced, or the folder synced; where the file was there before in this
-    /// process and is missing, or the folder is missing or another one; and where an earlier write could not be taken
+    /// The system's error where the file can't be written or synced, or the folder can't be synced.
+    /// An error also where the file was there before in this process and is missing, and where the
+    /// folder is missing or another one. An error, too, where an earlier write could not be taken
     /// back.
     pub fn write(&mut self, slot: Slot, bytes: &[u8]) -> io::Result<()> {
         match slot {
@@ -53,12 +56,14 @@ impl<'a, R: Files<File = File> + AllocGlobal> PartyFiles<'a, R> {
         }
     }
 
-    /// Returns the bytes that a slot's file has, as far as a saved text goes, after they were written through to the
-    /// device, and none where it is missing and was not there before in this process.
+    /// Returns the bytes of a slot's file, up to the length of a saved text, after making them
+    /// durable. Returns no bytes where the file is missing and was not there before in this
+    /// process.
     ///
     /// # Errors
-    /// Why the file could not be opened, synced or read, or the folder synced; where the file was there before and is
-    /// missing, or the folder is missing or another one; and where an earlier write could not be taken back.
+    /// The system's error where the file can't be opened, synced or read, or the folder can't be
+    /// synced. An error also where the file was there before and is missing, and where the folder
+    /// is missing or another one. An error, too, where an earlier write could not be taken back.
     pub fn read(&mut self, slot: Slot) -> io::Result<Vec<u8>> {
         match slot {
             Slot::Zero => self.zero.read(&mut self.folder),

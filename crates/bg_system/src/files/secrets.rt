@@ -1,4 +1,5 @@
-//! The secrets of a referee: that which the dice of its match go by, and that which keys are derived from.
+//! The secrets of a referee: one that the dice of its match are derived from, and one that keys are
+//! derived from.
 ghost use Rattle.std.specs.IoError.{error_kind};
 ghost use Rattle.std.specs.Prelude.{◌≡◌, ◌≢◌, length, IfOk, IfSome, MatchResult};
 
@@ -15,17 +16,17 @@ use std::rt::Files;
 /// The name of the file of the dice's secret in the referee's folder.
 const NAME: &str = "secret";
 
-/// That of the file of the keys' secret.
+/// The name of the file of the keys' secret in the referee's folder.
 const NAME_OF_KEYS: &str = "key-secret";
 
-/// The most bytes that are read of the file: one more than a secret has.
+/// Number of bytes of the file that are read, at most: one more than a secret has.
 const MOST_BYTES: u64 = 33;
 
-/// Draws a secret of 32 bytes from the system, and writes it into a folder, as the file `secret` that only its owner
-/// reads, before anything goes by it. It is printed nowhere.
+/// Draws a secret of 32 bytes from the system, and writes it into a folder before anything depends
+/// on it. It is the file `secret`, readable by its owner alone. The secret is never printed.
 ///
 /// # Errors
-/// Why the system gives no bytes, or the file could not be written.
+/// The system's error where it gives no bytes, or the file can't be written.
 pub fn make_secret(
     rt: &(impl Files<File = File> + AllocGlobal + RandomSource),
     folder: &str,
@@ -33,11 +34,11 @@ pub fn make_secret(
     make(rt, folder, NAME)
 }
 
-/// Draws the secret that the keys of a match are derived from, and writes it into a folder, as the file `key-secret`
-/// that only its owner reads. It is printed nowhere.
+/// Draws the secret that the keys of a match are derived from, and writes it into a folder. It is
+/// the file `key-secret`, readable by its owner alone. The secret is never printed.
 ///
 /// # Errors
-/// Why the system gives no bytes, or the file could not be written.
+/// The system's error where it gives no bytes, or the file can't be written.
 pub fn make_key_secret(
     rt: &(impl Files<File = File> + AllocGlobal + RandomSource),
     folder: &str,
@@ -55,11 +56,11 @@ fn make(
     write_whole(rt, folder, name, &bytes)
 }
 
-/// The secret in a folder.
+/// Reads the secret in a folder.
 ///
 /// # Errors
-/// Why it could not be read; `InvalidInput` where it is no plain file, and `InvalidData` where it does not have 32
-/// bytes.
+/// The system's error where it can't be read; `InvalidInput` where it isn't a plain file, and
+/// `InvalidData` where it doesn't have 32 bytes.
 pub fn read_secret(
     rt: &(impl Files<File = File> + AllocGlobal),
     folder: &str,
@@ -67,7 +68,7 @@ pub fn read_secret(
     read(rt, folder, NAME)
 }
 
-/// The secret in a folder that the keys of its match are derived from.
+/// Reads the secret in a folder that the keys of its match are derived from.
 ///
 /// # Errors
 /// Those of [`read_secret`].
@@ -87,10 +88,10 @@ fn read(
     secret_of(rt.alloc(), open_plain(rt, path.as_str())?)
 }
 
-/// The secret that the bytes of a reader are, all of them.
+/// Reads all bytes of a reader as a secret.
 ///
 /// # Errors
-/// Why they could not be read; `InvalidData` where they are not 32.
+/// The reader's error where they can't be read; `InvalidData` where they are not 32.
 pub fn secret_of<R: Read + Drop>(alloc: Global, reader: R) -> io::Result<[u8; 32]>
     ensures { IfOk result (λ secret. IfSome (R.remaining reader) (λ bytes. secret ≡ bytes)) }
 {
@@ -99,7 +100,7 @@ pub fn secret_of<R: Read + Drop>(alloc: Global, reader: R) -> io::Result<[u8; 32
     secret_in(&bytes)
 }
 
-/// The secret that these bytes are.
+/// Returns these bytes as a secret.
 fn secret_in(bytes: &[u8]) -> io::Result<[u8; 32]>
     ensures { MatchResult result (λ secret. (secret ≡ bytes.now) × (length bytes.now ≡ 32))
         (λ error. (length bytes.now ≢ 32) × (error_kind error ≡ ErrorKind.InvalidData)) }

@@ -15,16 +15,18 @@ use std::io::{ErrorKind, Write};
 use std::os::unix::fs::OpenOptionsExt;
 use std::rt::Files;
 
-/// The file of a slot (docs/OPERATING.md, "Files"). What it gives stands on the device, and what could not be brought
-/// there does not count.
+/// The file of a slot (docs/OPERATING.md, "Files"). The bytes that it gives are durable, and bytes
+/// that could not be made durable don't count.
 #[derive(Drop)]
 pub(crate) struct SlotFile<'a, R> {
     rt: &'a R,
     name: SlotName,
     path: String,
-    /// Whether it was there when it was read or written last: then a file that is missing is no empty one.
+    /// Whether the file was there when it was last read or written. If so, a missing file doesn't
+    /// count as empty.
     is_known: bool,
-    /// Whether its name was synced since it was first read or written, so that it lasts too.
+    /// Whether the folder was synced since the file was first read or written, so that its name is
+    /// durable too.
     is_entered: bool,
     writes: FirstFailures<'a>,
     syncs: FirstFailures<'a>,
@@ -32,7 +34,7 @@ pub(crate) struct SlotFile<'a, R> {
 }
 
 impl<'a, R: Files<File = File> + AllocGlobal> SlotFile<'a, R> {
-    /// Makes the file of this name in a folder. It opens nothing.
+    /// Creates the file with this name in a folder, without opening it.
     pub(crate) fn new(
         rt: &'a R,
         folder: &str,
@@ -51,8 +53,8 @@ impl<'a, R: Files<File = File> + AllocGlobal> SlotFile<'a, R> {
         })
     }
 
-    /// Puts bytes in the place of those that the file has, and writes them through to the device, with its name where
-    /// that may be new. Where the device did not take them, the file is emptied again.
+    /// Replaces the bytes of the file, and makes them durable, with its name where that may be new.
+    /// Empties the file again where the device didn't take the bytes.
     pub(crate) fn write(&mut self, folder: &mut SlotFolder<'a, R>, bytes: &[u8]) -> io::Result<()> {
         folder.check()?;
         let put = self.put(bytes);
@@ -64,21 +66,21 @@ impl<'a, R: Files<File = File> + AllocGlobal> SlotFile<'a, R> {
         lasting
     }
 
-    /// Makes or empties the file, and puts bytes in it.
+    /// Creates or empties the file, and writes bytes to it.
     fn put(&mut self, bytes: &[u8]) -> io::Result<File> {
         let mut file = self.emptied()?;
         file.write_all(bytes)?;
         Ok(file)
     }
 
-    /// Writes what the file has through to the device, with its name where that may be new.
+    /// Makes the contents of the file durable, with its name where that may be new.
     fn sync(&mut self, folder: &mut SlotFolder<'a, R>, file: &File) -> io::Result<()> {
         self.syncs
             .after(FailedCall::Write(self.name), file.sync_all())?;
         self.enter(folder)
     }
 
-    /// Makes or empties the file. One that was there before isn't made anew.
+    /// Creates or empties the file. One that was there before is not created anew.
     fn emptied(&mut self) -> io::Result<File> {
         self.check_plain()?;
         let file = OpenOptions::new()
@@ -91,7 +93,7 @@ impl<'a, R: Files<File = File> + AllocGlobal> SlotFile<'a, R> {
         Ok(file)
     }
 
-    /// Empties the file, whose bytes the device may not have, so that nothing goes by them.
+    /// Empties the file, whose bytes may not be durable, so that nothing depends on them.
     fn take_back(&self, folder: &SlotFolder<'a, R>, file: &File) {
         let answer = match file.set_len(0) {
             Ok(()) => file.sync_all(),
@@ -102,7 +104,7 @@ impl<'a, R: Files<File = File> + AllocGlobal> SlotFile<'a, R> {
         }
     }
 
-    /// Syncs the folder where the file's name may not last yet.
+    /// Syncs the folder where the file's name may not be durable yet.
     fn enter(&mut self, folder: &mut SlotFolder<'a, R>) -> io::Result<()> {
         if !self.is_entered {
             folder.sync()?;
@@ -111,8 +113,9 @@ impl<'a, R: Files<File = File> + AllocGlobal> SlotFile<'a, R> {
         Ok(())
     }
 
-    /// Returns the bytes that the file has, none where it is missing and was never there. They are on the device before
-    /// they are given: a process that was killed between a write and its sync leaves bytes that may not last.
+    /// Returns the bytes of the file; none where it is missing and was never there. They are made
+    /// durable first, as a process that was killed between a write and its sync leaves bytes that
+    /// may not last.
     pub(crate) fn read(&mut self, folder: &mut SlotFolder<'a, R>) -> io::Result<Vec<u8>> {
         folder.check()?;
         let bytes = self.synced_bytes();
@@ -123,7 +126,7 @@ impl<'a, R: Files<File = File> + AllocGlobal> SlotFile<'a, R> {
         Ok(bytes)
     }
 
-    /// Returns the bytes of the file after a sync, none where it is missing and was never there.
+    /// Returns the bytes of the file after a sync; none where it is missing and was never there.
     fn synced_bytes(&mut self) -> io::Result<Vec<u8>> {
         match self.opened()? {
             None => Ok(Vec::new(self.rt.alloc())),
@@ -134,7 +137,7 @@ impl<'a, R: Files<File = File> + AllocGlobal> SlotFile<'a, R> {
         }
     }
 
-    /// Opens the file to be read; `None` where it is missing and was never there.
+    /// Opens the file for reading. Returns `None` where it is missing and was never there.
     fn opened(&mut self) -> io::Result<Option<File>> {
         self.check_plain()?;
         match File::open(self.rt, self.path.as_str()) {
@@ -147,7 +150,7 @@ impl<'a, R: Files<File = File> + AllocGlobal> SlotFile<'a, R> {
         }
     }
 
-    /// Refuses what is no plain file. A missing one is refused where it was there before.
+    /// Refuses what isn't a plain file. A missing file is refused where it was there before.
     fn check_plain(&self) -> io::Result<()> {
         match check_plain(self.rt, &self.path) {
             Err(error) if error.kind() == ErrorKind::NotFound && self.is_known => {

@@ -1,4 +1,4 @@
-//! The folder that the files of a party lie in.
+//! The folder of a party's files.
 
 use crate::failures::Failures;
 use crate::failures::device_failures::FailedCall;
@@ -11,14 +11,14 @@ use std::os::unix::fs::MetadataExt;
 use std::rt::Files;
 use std::{fs, io};
 
-/// Which folder of the machine it is.
+/// The identity of a folder on this machine.
 #[derive(Clone, Copy, PartialEq, Eq)]
 struct Place {
     device: u64,
     inode: u64,
 }
 
-/// Returns which folder stands at a path.
+/// Returns the identity of the folder at a path.
 fn place_of(rt: &impl Files<File = File>, path: &str) -> io::Result<Place> {
     let found = fs::metadata(rt, path)?;
     Ok(Place {
@@ -27,25 +27,25 @@ fn place_of(rt: &impl Files<File = File>, path: &str) -> io::Result<Place> {
     })
 }
 
-/// Why a folder or a file can't be used that was used before in this process.
+/// The error text for a folder or a file that was used before in this process and is missing.
 pub(crate) const WAS_THERE: &str = "it was there before, and is missing now";
 
-/// The folder that the files of a party lie in. What stands at its path counts only while it is the folder that was
-/// there at the first use: neither one that was put in its place nor the empty one that an unmounted disk leaves. Where
-/// there is none at the first use, it is waited for.
+/// The folder of a party's files. What is at its path counts only while it is the folder that was
+/// there at the first use. Neither a folder put in its place nor the empty one that an unmounted
+/// disk leaves counts. Where there is none at the first use, it is waited for.
 #[derive(Drop)]
 pub(crate) struct SlotFolder<'a, R> {
     rt: &'a R,
     name: String,
     failures: &'a Failures,
-    /// Which folder it was at the first use.
+    /// The identity of the folder at the first use.
     place: Option<Place>,
     finds: FirstFailures<'a>,
     syncs: FirstFailures<'a>,
 }
 
 impl<'a, R: Files<File = File> + AllocGlobal> SlotFolder<'a, R> {
-    /// Makes the folder of this name. It opens nothing.
+    /// Creates the folder with this name, without opening it.
     pub(crate) fn new(
         rt: &'a R,
         name: &str,
@@ -61,10 +61,12 @@ impl<'a, R: Files<File = File> + AllocGlobal> SlotFolder<'a, R> {
         })
     }
 
-    /// Checks, before a file in it is used, that it is the folder that it was, and that its files still count.
+    /// Checks, before a file in the folder is used, that it is the same folder, and that its files
+    /// still count.
     ///
     /// # Errors
-    /// Where another folder stands at its path, or none, and where [`give_up`](SlotFolder::give_up) was called.
+    /// An error where another folder is at its path, or none, and where
+    /// [`give_up`](SlotFolder::give_up) was called.
     pub(crate) fn check(&mut self) -> io::Result<()> {
         if self.failures.are_final() {
             return Err(io::Error::other("an earlier write could not be taken back"));
@@ -73,7 +75,8 @@ impl<'a, R: Files<File = File> + AllocGlobal> SlotFolder<'a, R> {
         self.finds.after(FailedCall::Find, answer)
     }
 
-    /// Finds the folder that it was at the first use. One that is missing then is away too, and has no empty files.
+    /// Checks that the folder of the first use is at its path. One that is missing at the first use
+    /// is an error too, as it doesn't count as having empty files.
     fn find(&mut self) -> io::Result<()> {
         let found = match place_of(self.rt, &self.name) {
             Err(error) if error.kind() == ErrorKind::NotFound && self.place.is_some() => {
@@ -88,27 +91,27 @@ impl<'a, R: Files<File = File> + AllocGlobal> SlotFolder<'a, R> {
         Err(io::Error::new(ErrorKind::NotFound, why))
     }
 
-    /// Writes the names in it through to the device.
+    /// Makes the names in the folder durable.
     ///
     /// # Errors
-    /// Why that failed.
+    /// The system's error.
     pub(crate) fn sync(&mut self) -> io::Result<()> {
         self.syncs
             .after(FailedCall::Sync, sync_names(self.rt, &self.name))
     }
 
-    /// Gives the files up, as a write to this one failed, and could not be taken back: what it has now may be lost with
-    /// the next loss of power, so nothing may go by it.
+    /// Gives the files up, as a write to this one failed and could not be taken back. What the file
+    /// has now may be lost with the next loss of power, so nothing may depend on it.
     pub(crate) fn give_up(&self, file: SlotName, error: io::Error) {
         self.failures.note(FailedCall::TakeBack(file), error);
         self.failures.make_final();
     }
 }
 
-/// Writes the names in a folder through to the device, where the file system has that.
+/// Makes the names in a folder durable, where the file system supports that.
 ///
 /// # Errors
-/// Why the folder could not be opened or synced.
+/// The system's error where the folder can't be opened or synced.
 pub(crate) fn sync_names(rt: &impl Files<File = File>, folder: &str) -> io::Result<()> {
     match File::open(rt, folder)?.sync_all() {
         Err(error) if error.kind() == ErrorKind::InvalidInput => Ok(()),

@@ -4,12 +4,13 @@ use bg_wire::Slot;
 use std::fmt;
 use std::fmt::{Display, Formatter, Write};
 
-/// The file of a slot of a party in its folder; that of slot S of party P is `party-P.S` (docs/OPERATING.md, "Files").
+/// The name of a slot's file in its folder; that of slot S of party P is `party-P.S`
+/// (docs/OPERATING.md, "Files").
 #[derive(Clone, Copy, Debug, PartialEq, Eq)]
 pub struct SlotName {
     /// The number of the party.
     pub party: u8,
-    /// Its slot.
+    /// The slot of the file.
     pub slot: Slot,
 }
 

@@ -1,4 +1,4 @@
-//! Files that are there whole, or not at all.
+//! Files that are complete, or not there at all.
 
 use crate::files::slot_folders::sync_names;
 use std::fmt::Display;
@@ -8,17 +8,17 @@ use std::os::unix::fs::OpenOptionsExt;
 use std::rt::Files;
 use std::{fs, io};
 
-/// A file that only its owner reads and writes.
+/// The mode of a file that only its owner reads and writes.
 pub(crate) const OWNER_ALONE: u32 = 0o600;
 
-/// A file that anybody reads.
+/// The mode of a file that anybody reads.
 const FOR_ALL: u32 = 0o644;
 
-/// Makes a file in a folder that only its owner reads: it is written under another name, through to the device, and
-/// then takes its own, so that no kill leaves a part of it.
+/// Creates a file in a folder that only its owner reads. It is written under another name and made
+/// durable, and then takes its own name, so that no kill leaves a part of it.
 ///
 /// # Errors
-/// Why one of these steps failed.
+/// The system's error in the step that failed.
 pub fn write_whole(
     rt: &(impl Files<File = File> + AllocGlobal),
     folder: &str,
@@ -30,7 +30,7 @@ pub fn write_whole(
     sync_names(rt, folder)
 }
 
-/// Makes such a file of what a value is shown as.
+/// Creates such a file with what `Display` writes of a value.
 ///
 /// # Errors
 /// Those of [`write_whole`]; `OutOfMemory` where there is no memory for the text.
@@ -44,11 +44,11 @@ pub(crate) fn write_shown<D: Display>(
     write_whole(rt, folder, name, text.as_bytes())
 }
 
-/// Puts bytes in the place of those that a published file has, which others may read at any moment: they see it as it
-/// was, or as it is then.
+/// Replaces the bytes of a published file, which others may read at any moment. They see the old
+/// contents or the new ones, complete.
 ///
 /// # Errors
-/// Why the file could not be written, or put in its place.
+/// The system's error where the file can't be written, or can't be put in its place.
 pub fn publish(
     rt: &(impl Files<File = File> + AllocGlobal),
     path: &str,
@@ -57,7 +57,7 @@ pub fn publish(
     put(rt, path, bytes, FOR_ALL, false)
 }
 
-/// Writes bytes into a new file beside the one at a path, and puts it in its place.
+/// Writes bytes into a new file beside the one at a path, and renames it to that path.
 fn put(
     rt: &(impl Files<File = File> + AllocGlobal),
     path: &str,
@@ -74,11 +74,12 @@ fn put(
     fs::rename(rt, name.as_str(), path)
 }
 
-/// How many files may be written for one path at once; what a kill leaves of one counts too.
+/// Number of files that may be written for one path at once, at most. Those that a kill left behind
+/// count too.
 const MOST_NEW: u8 = 100;
 
-/// Makes a file `PATH.new`, or `PATH.new1` and so on where there are such files: it follows no link that stands there,
-/// and of two processes that write for the same path each has its own.
+/// Creates a file `PATH.new`, or `PATH.new1` and so on where such files exist. It follows no link
+/// that is there, and of two processes that write for the same path each has its own file.
 fn new_file(
     rt: &(impl Files<File = File> + AllocGlobal),
     path: &str,

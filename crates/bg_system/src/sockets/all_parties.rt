@@ -10,14 +10,15 @@ use std::io;
 use std::io::ErrorKind;
 use std::net::Net;
 
-/// A non-blocking UDP socket on 127.0.0.1 for each party, the party of a socket being its place (docs/OPERATING.md,
-/// "Sockets"). A datagram goes out of the socket of the party that it goes to, and none comes from elsewhere.
+/// A non-blocking UDP socket on 127.0.0.1 for each party, whose index is the party
+/// (docs/OPERATING.md, "Sockets"). A datagram leaves from the socket of the party that it goes to,
+/// and none is accepted from elsewhere.
 ///
-/// It notes why a call failed, with the party, in the [`Failures`] that it is lent.
+/// It notes why a call failed, with the party, in the [`Failures`] that it borrows.
 #[derive(Drop)]
 pub struct OwnSockets<'a> {
     ends: Vec<End<'a>>,
-    /// Of sends to parties that have no socket.
+    /// The failures of sends to parties that have no socket.
     misdirected: FirstFailures<'a>,
 }
 
@@ -46,7 +47,7 @@ impl<'a> End<'a> {
         self.sends.after(call, self.socket.send(bytes))
     }
 
-    /// What has come for the party.
+    /// Returns the next datagram for the party, if one has come.
     fn take(&mut self) -> Received {
         let call = FailedCall::Receive { party: self.party };
         self.takes.after(call, self.socket.receive())
@@ -54,11 +55,11 @@ impl<'a> End<'a> {
 }
 
 impl<'a> OwnSockets<'a> {
-    /// Sockets for the parties below `parties`, on ports of 127.0.0.1 that the system chooses; `None` where one could
-    /// not be opened or made non-blocking, and why is noted.
+    /// Opens sockets for the parties below `parties`, on ports of 127.0.0.1 that the system
+    /// chooses. Returns `None` where one could not be opened or made non-blocking, and notes why.
     ///
     /// # Errors
-    /// Where there is no memory for them.
+    /// AllocError where there is no memory for them.
     pub fn open(
         rt: &(impl Net + AllocGlobal),
         parties: u8,
@@ -83,7 +84,8 @@ impl<'a> OwnSockets<'a> {
     /// Sends a datagram to its party.
     ///
     /// # Errors
-    /// Why the system does not send it; `AddrNotAvailable` where the party has no socket.
+    /// The system's error where it doesn't send it; `AddrNotAvailable` where the party has no
+    /// socket.
     pub fn send(&mut self, datagram: &Datagram) -> io::Result<()> {
         if let Some(end) = self.ends.get_mut(usize::from(datagram.to)) {
             return end.send(datagram.bytes.bytes.as_slice());
@@ -93,10 +95,10 @@ impl<'a> OwnSockets<'a> {
             .after(FailedCall::Send { to: datagram.to }, Err(error))
     }
 
-    /// What has come for a party; nothing for one that has no socket.
+    /// Returns the next datagram for a party; nothing for a party without a socket.
     ///
     /// # Errors
-    /// Why the socket could not be read.
+    /// The system's error where the socket can't be read.
     pub fn take(&mut self, party: u8) -> Received {
         match self.ends.get_mut(usize::from(party)) {
             Some(end) => end.take(),

@@ -1,18 +1,19 @@
-//! When each party was heard last.
+//! The times when each party was last heard.
 
 use crate::sockets::notices::Presence;
 use std::time::{Clock, Duration, Instant};
 
-/// Who was heard within so many seconds is there.
+/// Number of seconds after it was last heard for which a party counts as there.
 const MOST_SECONDS: u64 = 60;
 
-/// Who was heard within so many seconds is here, as the other seat is told.
+/// Number of seconds after it was last heard for which a party counts as here, as the other seat is
+/// told.
 const MOST_SECONDS_HERE: u64 = 10;
 
-/// How many parties there are.
+/// Number of parties.
 const PARTIES: usize = 256;
 
-/// When each party was heard last, by a clock.
+/// The times when each party was last heard, by a clock.
 #[derive(Drop)]
 pub(crate) struct HearingTimes<'a, C> {
     clock: &'a C,
@@ -20,7 +21,7 @@ pub(crate) struct HearingTimes<'a, C> {
 }
 
 impl<'a, C: Clock> HearingTimes<'a, C> {
-    /// Of parties of which none was heard yet.
+    /// Creates the times of parties of which none was heard yet.
     pub(crate) fn new(clock: &'a C) -> HearingTimes<'a, C> {
         HearingTimes {
             clock,
@@ -28,17 +29,17 @@ impl<'a, C: Clock> HearingTimes<'a, C> {
         }
     }
 
-    /// A party is heard now.
+    /// Notes that a party is heard now.
     pub(crate) fn note(&mut self, party: u8) {
         self.times[usize::from(party)] = Instant::now(self.clock).ok();
     }
 
-    /// Whether a party was heard within the last minute.
+    /// Returns whether a party was heard within the last minute.
     pub(crate) fn is_there(&self, party: u8) -> bool {
         self.is_heard_within(party, MOST_SECONDS)
     }
 
-    /// Returns how a party stands, as the other seat is told.
+    /// Returns the presence of a party, as the other seat is told.
     pub(crate) fn presence(&self, party: u8) -> Presence {
         let heard = self.times[usize::from(party)];
         if heard.is_none() {
@@ -50,7 +51,7 @@ impl<'a, C: Clock> HearingTimes<'a, C> {
         }
     }
 
-    /// Whether a party was heard within the last so many seconds.
+    /// Returns whether a party was heard within the last `seconds` seconds.
     fn is_heard_within(&self, party: u8, seconds: u64) -> bool {
         let (Some(heard), Ok(now)) = (self.times[usize::from(party)], Instant::now(self.clock))
         else {

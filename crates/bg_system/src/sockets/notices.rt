@@ -1,16 +1,16 @@
-//! How the other seat stands, as the referee tells a seat of it.
+//! The presence of the other seat, as the referee tells a seat.
 ghost use Rattle.std.specs.Prelude.{◌≡◌, MatchOption};
 
 use bg_wire::{SEAT_OF_O, SEAT_OF_X};
 use std::time::{Clock, Duration, Instant};
 
-/// A notice counts for so many seconds.
+/// Number of seconds for which a notice counts.
 const MOST_SECONDS: u64 = 3;
 
-/// How a seat stands, as far as the referee has heard of it.
+/// The presence of a seat, as far as the referee has heard of it.
 #[derive(Clone, Copy, Debug, PartialEq, Eq)]
 pub enum Presence {
-    /// It was never heard since the referee began.
+    /// It has not been heard since the referee began.
     Unheard,
     /// It was heard within the last ten seconds.
     Here,
@@ -21,8 +21,8 @@ pub enum Presence {
 impl Presence {
     ghost use Rattle.bg_system.specs.Notices.{IsNoNotice, notice_text};
 
-    /// Returns the notice by which the referee tells a seat that the other one stands so: no
-    /// packet, and no sign of life.
+    /// Returns the notice that tells a seat the other one's presence. It is neither a packet nor a
+    /// sign of life.
     pub fn notice(self) -> [u8; 2]
         ensures { result ≡ notice_text self }
     {
@@ -33,7 +33,8 @@ impl Presence {
         }
     }
 
-    /// Returns how the other seat stands by a notice; none where the bytes are no notice.
+    /// Reads the other seat's presence from a notice. Returns `None` where the bytes are not a
+    /// notice.
     pub(crate) fn of_notice(bytes: &[u8]) -> Option<Presence>
         ensures { MatchOption result (IsNoNotice bytes.now)
             (λ presence. bytes.now ≡ notice_text presence) }
@@ -47,7 +48,7 @@ impl Presence {
     }
 }
 
-/// Returns the other seat, where a party is one.
+/// Returns the other seat, where a party is a seat.
 pub(crate) fn other_seat(party: u8) -> Option<u8> {
     match party {
         SEAT_OF_X => Some(SEAT_OF_O),
@@ -64,12 +65,12 @@ pub(crate) struct LastNotice<'a, C> {
 }
 
 impl<'a, C: Clock> LastNotice<'a, C> {
-    /// Of a party to which none came yet.
+    /// Creates the record of a party to which no notice came yet.
     pub(crate) fn new(clock: &'a C) -> LastNotice<'a, C> {
         LastNotice { clock, last: None }
     }
 
-    /// A notice comes now.
+    /// Notes that a notice comes now.
     pub(crate) fn note(&mut self, presence: Presence) {
         self.last = match Instant::now(self.clock) {
             Ok(now) => Some((presence, now)),
@@ -77,7 +78,7 @@ impl<'a, C: Clock> LastNotice<'a, C> {
         };
     }
 
-    /// Returns what it said, where it came within the last three seconds.
+    /// Returns what the last notice said, where it came within the last three seconds.
     pub(crate) fn presence(&self) -> Option<Presence> {
         let (presence, came) = self.last?;
         let now = Instant::now(self.clock).ok()?;

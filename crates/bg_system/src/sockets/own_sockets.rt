@@ -5,39 +5,41 @@ use std::io;
 use std::io::ErrorKind;
 use std::net::{Ipv4Addr, Net, SocketAddr, UdpSocket};
 
-/// The most bytes that are taken of a datagram. No packet's text has as many; what goes beyond them is cut.
+/// Number of bytes of a datagram that are taken, at most. Every packet is shorter; what goes beyond
+/// is cut off.
 pub(crate) const MOST_BYTES: usize = 256;
 
-/// What a socket is read for: the bytes of a datagram, at most 256, or that none has come.
+/// The result of reading a socket: the bytes of a datagram, at most 256, or `None` where none has
+/// come.
 pub type Received = io::Result<Option<ArrayVec<u8, MOST_BYTES>>>;
 
-/// So many datagrams of others are passed over in one call at most.
+/// Number of foreign datagrams that one call passes over, at most.
 const MOST_PASSED_OVER: u32 = 1000;
 
-/// A non-blocking socket on 127.0.0.1 that is connected to itself, so that the system hands it nothing that was sent
-/// from another one (docs/OPERATING.md, "Sockets").
+/// A non-blocking socket on 127.0.0.1 that is connected to itself. So the system hands it nothing
+/// that another socket sent (docs/OPERATING.md, "Sockets").
 #[derive(Drop)]
 pub struct OwnSocket {
     socket: UdpSocket,
-    /// Where it is reached.
+    /// The address of the socket.
     pub address: SocketAddr,
 }
 
 impl OwnSocket {
-    /// A socket with a port that the system chooses.
+    /// Opens a socket on a port that the system chooses.
     ///
     /// # Errors
-    /// Why the system gives no socket.
+    /// The system's error where it gives no socket.
     pub fn open(rt: &impl Net) -> io::Result<OwnSocket> {
         let own = OwnSocket::bind(rt)?;
         own.hear_only(own.address)?;
         Ok(own)
     }
 
-    /// A socket to which any socket can send.
+    /// Opens a socket to which any socket can send.
     ///
     /// # Errors
-    /// Why the system gives no socket.
+    /// The system's error where it gives no socket.
     pub fn bind(rt: &impl Net) -> io::Result<OwnSocket> {
         let socket = UdpSocket::bind(rt, (Ipv4Addr::LOCALHOST, 0))?;
         socket.set_nonblocking(true)?;
@@ -45,29 +47,29 @@ impl OwnSocket {
         Ok(OwnSocket { socket, address })
     }
 
-    /// From now on the socket sends to this one, and the system drops what others send to it. What they sent before may
-    /// still wait.
+    /// Connects the socket to this address: it sends there from now on, and the system drops what
+    /// others send to it. What they sent before may still be queued.
     ///
     /// # Errors
-    /// Why the system does not connect the two.
+    /// The system's error where it doesn't connect the two.
     pub fn hear_only(&self, peer: SocketAddr) -> io::Result<()> {
         self.socket.connect(peer)
     }
 
-    /// Sends a datagram to itself.
+    /// Sends a datagram to the socket itself.
     ///
     /// # Errors
-    /// Why the system does not send it.
+    /// The system's error where it doesn't send it.
     pub fn send(&self, bytes: &[u8]) -> io::Result<()> {
         self.socket.send(bytes)?;
         Ok(())
     }
 
-    /// The bytes of the datagram that has waited longest, if one has that the socket sent itself. Others are passed
-    /// over.
+    /// Returns the oldest datagram in the queue that the socket sent itself, if there is one.
+    /// Others are passed over.
     ///
     /// # Errors
-    /// Why the socket could not be read.
+    /// The system's error where the socket can't be read.
     pub fn receive(&self) -> Received {
         for _ in 0..MOST_PASSED_OVER {
             let mut buffer = [0; MOST_BYTES];

@@ -1,4 +1,4 @@
-//! The UDP socket of one party, which knows the others by their ports and by their keys.
+//! The UDP socket of one party, which identifies the others by their ports and their keys.
 ghost use Rattle.std.specs.Prelude.{◌≤◌, length};
 ghost use Rattle.bg_seals.specs.Datagrams.{most_packet_bytes};
 
@@ -18,19 +18,20 @@ use std::net::{Net, SocketAddr, UdpSocket};
 use std::os::fd::{AsRawFd, RawFd};
 use std::time::Clock;
 
-/// So many datagrams from elsewhere are passed over in one take at most, so that a stranger can't hold a round up.
+/// Number of foreign datagrams that one take passes over, at most, so that a stranger can't hold up
+/// a round.
 const MOST_PASSED_OVER: u32 = 64;
 
-/// A party's end of the match that has this port: a non-blocking UDP socket on 127.0.0.1 (docs/OPERATING.md, "Ports").
-/// What it sends is sealed by its keys, and what was not sealed so for this party by the party whose port it comes from
-/// is passed over ([`heard`]).
+/// A party's end of the match that has this port: a non-blocking UDP socket on 127.0.0.1
+/// (docs/OPERATING.md, "Ports"). It seals what it sends with its keys. It passes over each datagram
+/// that was not sealed for this party by the party whose port it comes from ([`heard`]).
 ///
 /// The referee's end answers the sign of life by which a party [asks](Self::ask) whether it is
-/// there; and what it is to send to a party that was not heard for a minute is lost, as in a
-/// network: another process may have that port. Before it answers a seat, it tells it how the other
-/// one stands.
+/// there. It drops what it is to send to a party that was not heard for a minute, as a network may:
+/// another process may have that port by now. Before it answers a seat, it tells it the other one's
+/// presence.
 ///
-/// It notes why a call failed in the [`Failures`] that it is lent.
+/// It notes why a call failed in the [`Failures`] that it borrows.
 #[derive(Drop)]
 pub struct PartyEnd<'a, C> {
     socket: UdpSocket,
@@ -38,7 +39,7 @@ pub struct PartyEnd<'a, C> {
     party: u8,
     keys: Keyring,
     times: HearingTimes<'a, C>,
-    /// How many datagrams came from the referee.
+    /// Number of datagrams that came from the referee.
     heard: u32,
     notice: LastNotice<'a, C>,
     sends: FirstFailures<'a>,
@@ -46,10 +47,12 @@ pub struct PartyEnd<'a, C> {
 }
 
 impl<'a, C: Clock> PartyEnd<'a, C> {
-    /// The end of a party of the match that has this port, with its keys; why it fails later is noted there.
+    /// Binds the end of a party of the match that has this port, with its keys. Later failures are
+    /// noted in `failures`.
     ///
     /// # Errors
-    /// `AddrInUse` where another process has the party's port; else why the system gives no socket.
+    /// `AddrInUse` where another process has the party's port; otherwise the system's error where
+    /// it gives no socket.
     pub fn bind(
         net: &impl Net,
         clock: &'a C,
@@ -73,19 +76,20 @@ impl<'a, C: Clock> PartyEnd<'a, C> {
         })
     }
 
-    /// Its descriptor, to wait for.
+    /// Returns the socket's descriptor, to wait for.
     pub fn descriptor(&self) -> RawFd {
         self.socket.as_raw_fd()
     }
 
-    /// Asks the referee whether it is there, by the sign of life. Where that can't be sent, no answer comes.
+    /// Asks the referee whether it is there, by the sign of life. Where that can't be sent, no
+    /// answer comes.
     pub fn ask(&self) {
         self.send_sign(REFEREE);
     }
 
-    /// How many datagrams its takes have read that came from the referee, answers to
-    /// [`ask`](Self::ask) among them, and notices of the other seat not; the count begins anew
-    /// after 4,294,967,295.
+    /// Returns the number of datagrams from the referee that `take` has read. It includes answers
+    /// to [`ask`](Self::ask), but not notices of the other seat. The count wraps around after
+    /// 4,294,967,295.
     pub fn heard(&self) -> u32 {
         self.heard
     }
@@ -95,18 +99,19 @@ impl<'a, C: Clock> PartyEnd<'a, C> {
         self.times.is_there(party)
     }
 
-    /// Returns how the other seat stands, where the referee told this seat so within the last three
-    /// seconds. It does with each answer to [`ask`](Self::ask), but for a referee of an older
-    /// version. It is there to be shown alone.
+    /// Returns the other seat's presence, where the referee told it to this seat within the last
+    /// three seconds. The referee does so with each answer to [`ask`](Self::ask), unless it is of
+    /// an older version. The presence is for display alone.
     pub fn other_seat(&self) -> Option<Presence> {
         self.notice.presence()
     }
 
-    /// Sends a datagram to the port of its party, sealed; the referee's end sends none to a party that was not heard for
-    /// a minute.
+    /// Sends a datagram to the port of its party, sealed. The referee's end sends none to a party
+    /// that was not heard for a minute.
     ///
     /// # Errors
-    /// Why the system does not send it; `InvalidInput` where nothing goes from this party to that one.
+    /// The system's error where it doesn't send it; `InvalidInput` where nothing goes from this
+    /// party to that one.
     pub fn send(&mut self, datagram: &Datagram) -> io::Result<()> {
         let to = datagram.to;
         if self.party == REFEREE && !self.times.is_there(to) {
@@ -116,10 +121,10 @@ impl<'a, C: Clock> PartyEnd<'a, C> {
         self.sends.after(FailedCall::Send { to }, answer)
     }
 
-    /// What has come for a party: nothing for another than this end's.
+    /// Returns the next packet for a party; nothing for another party than this end's.
     ///
     /// # Errors
-    /// Why the socket could not be read.
+    /// The system's error where the socket can't be read.
     pub fn take(&mut self, party: u8) -> Received {
         if party != self.party {
             return Ok(None);
@@ -142,13 +147,13 @@ impl<'a, C: Clock> PartyEnd<'a, C> {
         Ok(())
     }
 
-    /// Sends the sign of life to a party, unless that fails.
+    /// Sends the sign of life to a party, ignoring failures.
     fn send_sign(&self, to: u8) {
         let _ = self.send_sealed(to, SIGN_OF_LIFE);
     }
 
-    /// Answers a party's sign of life by the same. A seat is told before how the other one stands,
-    /// unless that fails: so it knows that when it hears of the referee again.
+    /// Answers a party's sign of life with the sign of life. A seat is first told the other one's
+    /// presence, ignoring failures, so that it knows that when it hears of the referee again.
     fn answer(&self, party: u8) {
         if let Some(other) = other_seat(party) {
             let _ = self.send_sealed(party, &self.times.presence(other).notice());
@@ -156,7 +161,7 @@ impl<'a, C: Clock> PartyEnd<'a, C> {
         self.send_sign(party);
     }
 
-    /// Notes how the other seat stands, where a datagram tells this seat so.
+    /// Notes the other seat's presence, where a datagram tells it to this seat.
     fn note_told(&mut self, datagram: &[u8], from: SocketAddr) {
         if other_seat(self.party).is_none() {
             return;
@@ -166,7 +171,7 @@ impl<'a, C: Clock> PartyEnd<'a, C> {
         }
     }
 
-    /// The packet that has waited longest of those that a party sent to this one.
+    /// Returns the oldest packet in the queue that a party sent to this one.
     fn receive(&mut self) -> Received {
         for _ in 0..MOST_PASSED_OVER {
             let mut buffer = [0; MOST_BYTES];
@@ -183,7 +188,8 @@ impl<'a, C: Clock> PartyEnd<'a, C> {
         Ok(None)
     }
 
-    /// The packet of a datagram, if it has one of a party for this one. A sign of life is answered by the referee.
+    /// Returns the packet of a datagram, if a party sent it to this one. The referee answers a sign
+    /// of life.
     fn packet_in(&mut self, datagram: &[u8], from: SocketAddr) -> Option<ArrayVec<u8, MOST_BYTES>> {
         let found = heard(&self.keys, self.port, self.party, datagram, from);
         let Some((party, bytes)) = found else {

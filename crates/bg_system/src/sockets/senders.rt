@@ -1,4 +1,4 @@
-//! Where the parties of a match are, and which of them a datagram is from.
+//! The addresses of the parties of a match, and the senders of its datagrams.
 ghost use Rattle.std.specs.Prelude.{◌≡◌, ◌↔◌, true, IfOk, MatchOption};
 ghost use Rattle.bg_system.specs.Notices.{IsNotTold, IsTold};
 ghost use Rattle.bg_system.specs.Senders.{HasNoParty, IsAddressOf, IsHeard, IsNotHeard, IsWord};
@@ -11,11 +11,11 @@ use std::io;
 use std::io::ErrorKind;
 use std::net::{IpAddr, Ipv4Addr, SocketAddr};
 
-/// The sign of life: the one byte that a party asks the referee by whether it is there, and that the referee answers.
-/// No packet has this text.
+/// The sign of life: the one byte by which a party asks the referee whether it is there, and by
+/// which the referee answers. No packet has these bytes.
 pub const SIGN_OF_LIFE: &[u8] = &[0];
 
-/// The address of a party of the match that has this port.
+/// Returns the address of a party of the match that has this port.
 pub(crate) fn address_of(port: u16, party: u8) -> io::Result<SocketAddr>
     ensures { IfOk result (IsAddressOf port party) }
 {
@@ -25,7 +25,7 @@ pub(crate) fn address_of(port: u16, party: u8) -> io::Result<SocketAddr>
     }
 }
 
-/// The party of the match that has this port whose address it is, if it is one's.
+/// Returns the party with this address in the match that has this port, if there is one.
 fn party_at(address: SocketAddr, port: u16) -> Option<u8>
     ensures { MatchOption result (HasNoParty port address) (λ party. IsAddressOf port party address) }
 {
@@ -35,7 +35,7 @@ fn party_at(address: SocketAddr, port: u16) -> Option<u8>
     u8::try_from(address.port().checked_sub(port)?).ok()
 }
 
-/// The party that a packet says it is from.
+/// Returns the party that a packet names as its sender.
 fn sender_of(packet: &Packet) -> u8
     ensures { result ≡ party_in packet.now }
 {
@@ -45,7 +45,7 @@ fn sender_of(packet: &Packet) -> u8
     }
 }
 
-/// Whether bytes are the sign of life, or a packet that says it is from this party.
+/// Returns whether bytes are the sign of life, or a packet that names this party as its sender.
 fn is_word(bytes: &[u8], party: u8) -> bool
     ensures { (result ≡ true) ↔ IsWord bytes.now party }
 {
@@ -55,9 +55,11 @@ fn is_word(bytes: &[u8], party: u8) -> bool
     }
 }
 
-/// Returns what a datagram says that came to a party from an address, and which party it is from, in the match that has
-/// this port: the sign of life, or a packet. Nothing where it is not from a party's address, was not sealed by one of
-/// these keys to go from that party to this one, or says another sender (docs/OPERATING.md, "Ports").
+/// Returns the contents of a datagram that came to a party from an address, and the party that sent
+/// it, in the match that has this port. They are the sign of life or a packet (docs/OPERATING.md,
+/// "Ports"). Returns `None` where the datagram is not from a party's address, or names another
+/// sender. Returns `None` also where it was not sealed with one of these keys to go from that party
+/// to this one.
 pub fn heard<'a>(
     keys: &Keyring,
     port: u16,
@@ -76,9 +78,9 @@ pub fn heard<'a>(
     Some((party, bytes))
 }
 
-/// Returns how the other seat stands by a datagram that came to a seat from an address, in the
-/// match that has this port. Nothing where it is no notice of that, is not from the referee's
-/// address, or was not sealed by one of these keys to go from the referee to that seat.
+/// Returns the other seat's presence from a datagram that came to a seat from an address, in the
+/// match that has this port. Returns `None` where it isn't such a notice, isn't from the referee's
+/// address, or was not sealed with one of these keys to go from the referee to that seat.
 pub fn told(
     keys: &Keyring,
     port: u16,

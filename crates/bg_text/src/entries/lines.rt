@@ -15,7 +15,7 @@ use bg_board::Player;
 use bg_match::{Action, Entry, Level};
 use bg_turns::{Dice, Turn};
 
-/// What follows the start of a line.
+/// Returns what follows the start of a line.
 fn rest_after<'a>(line: &'a [u8], start: &[u8]) -> Option<&'a [u8]>
     ensures { MatchOption result ((rest : List ℕ) → line.now ≡ start.now ++ rest → ⊥)
         (λ rest. line.now ≡ start.now ++ rest.now) }
@@ -23,7 +23,7 @@ fn rest_after<'a>(line: &'a [u8], start: &[u8]) -> Option<&'a [u8]>
     line.strip_prefix(start)
 }
 
-/// The level that a word names.
+/// Returns the level that a word names.
 fn read_level(word: &[u8]) -> Option<Level>
     ensures { MatchOption result ((level : Level) → word.now ≡ level_word level → ⊥)
         (λ level. word.now ≡ level_word level) }
@@ -36,7 +36,7 @@ fn read_level(word: &[u8]) -> Option<Level>
     }
 }
 
-/// The reply that a line gives to an offer.
+/// Returns the reply to an offer that a line gives.
 fn read_reply(line: &[u8]) -> Option<Action>
     ensures { MatchOption result ((action : Action) → IsReply action → line.now ≡ action_text action → ⊥)
         (λ action. IsReply action × (line.now ≡ action_text action)) }
@@ -50,7 +50,7 @@ fn read_reply(line: &[u8]) -> Option<Action>
     }
 }
 
-/// The action of a line without numbers.
+/// Returns the action of a line without numbers.
 fn read_fixed(line: &[u8]) -> Option<Action>
     ensures { MatchOption result ((action : Action) → IsFixed action → line.now ≡ action_text action → ⊥)
         (λ action. IsFixed action × (line.now ≡ action_text action)) }
@@ -66,7 +66,7 @@ fn read_fixed(line: &[u8]) -> Option<Action>
     }
 }
 
-/// The action of a line, or what is wrong with the line.
+/// Returns the action of a line, or the fault of the line.
 fn read_action(line: &[u8]) -> Result<Action, TextFault>
     ensures { IsActionOf line.now result }
 {
@@ -79,8 +79,8 @@ fn read_action(line: &[u8]) -> Result<Action, TextFault>
     }
 }
 
-/// The entry of a line behind this player's letter, with the player, or what is wrong with the line. Each is made where
-/// it is answered, so that no entry is moved.
+/// Returns the entry of the line behind this player's letter, with the player, or the fault of the
+/// line. Each entry is built where it is returned, so that none is moved.
 fn read_seat_entry(player: Player, line: &[u8]) -> Result<(Option<Player>, Entry), TextFault>
     ensures { IsEntryOf (letter player ++ 32 ∷ line.now) result }
 {
@@ -96,19 +96,20 @@ fn read_seat_entry(player: Player, line: &[u8]) -> Result<(Option<Player>, Entry
         Some(Action::Double) => Ok((seat, Entry::Doubled)),
         Some(Action::Take) => Ok((seat, Entry::Taken)),
         Some(Action::Drop) => Ok((seat, Entry::Dropped)),
-        // without a pair
+        // a move without pairs
         Some(Action::Move(_)) => Ok((seat, Entry::Moved(Turn::new()))),
         Some(Action::Resign(level)) => Ok((seat, Entry::Resigned(level))),
         Some(Action::Accept) => Ok((seat, Entry::Accepted)),
         Some(Action::Reject) => Ok((seat, Entry::Rejected)),
-        // a roll without dice is an action, and no entry
+        // a roll without dice is an action, not an entry
         Some(Action::Roll) => Err(TextFault::NotALine),
         None => Err(TextFault::NotALine),
     }
 }
 
-/// The player whose letter a line begins with, and what follows the letter and its space (docs/FORMATS.md, "Entry
-/// lines"). None where the line begins with no player's letter and a space.
+/// Returns the player whose letter a line begins with, and what follows the letter and its space
+/// (docs/FORMATS.md, "Entry lines"). Returns `None` where the line doesn't begin with a player's
+/// letter and a space.
 pub fn split_player(line: &[u8]) -> Option<(Player, &[u8])>
     ensures { MatchOption result
         ((player : Player) (rest : List ℕ) → line.now ≡ letter player ++ 32 ∷ rest → ⊥)
@@ -121,14 +122,14 @@ pub fn split_player(line: &[u8]) -> Option<(Player, &[u8])>
     }
 }
 
-/// Whether a line passes a turn.
+/// Returns whether a line passes a turn.
 fn is_pass(line: &[u8]) -> bool
     ensures { IsTrue result ↔ (line.now ≡ codes "pass") }
 {
     matches!(line, b"pass")
 }
 
-/// The entry of a line and the seat that made it, or what is wrong with the line.
+/// Returns the entry of a line and the seat that made it, or the fault of the line.
 fn read_entry(line: &[u8]) -> Result<(Option<Player>, Entry), TextFault>
     ensures { IsEntryOf line.now result }
 {
@@ -145,12 +146,13 @@ fn read_entry(line: &[u8]) -> Result<(Option<Player>, Entry), TextFault>
     }
 }
 
-/// Reads the text of an action: an entry's line without the player's letter and its space, where `roll` stands
-/// without dice, and `open` and `pass` are no actions (docs/FORMATS.md, "Actions").
+/// Reads the text of an action: an entry's line without the player's letter and its space, where
+/// `roll` has no dice. `open` and `pass` are not actions (docs/FORMATS.md, "Actions").
 ///
-/// It is `Ok` exactly on the texts of actions. The points of a move are in the player's own numbering, 25 standing
-/// for the bar and 0 for off; each step leads down. The faults are those of [`parse_entry`], in the same order.
-/// It takes no memory, and time linear in the line's length.
+/// It returns `Ok` exactly for the texts of actions. The points of a move are in the player's own
+/// numbering, with 25 for the bar and 0 for off; each step leads down. The faults are those of
+/// [`parse_entry`], in the same order. It allocates nothing, and takes time linear in the line's
+/// length.
 pub fn parse_action(line: &[u8]) -> Result<Action, TextFault>
     ensures found { IfOk result (λ action. IsAction action × (line.now ≡ action_text action)) }
     ensures only { (action : Action) → IsAction action → line.now ≡ action_text action → result ≡ Ok action }
@@ -159,18 +161,19 @@ pub fn parse_action(line: &[u8]) -> Result<Action, TextFault>
     read_action(line)
 }
 
-/// Reads the line of an entry, without its line feed (docs/FORMATS.md, "Entry lines"). It gives the entry, and the
-/// seat that made it or none for an opening or a pass, which are the referee's.
+/// Reads the line of an entry, without its line feed (docs/FORMATS.md, "Entry lines"). Returns the
+/// entry and the seat that made it. An opening and a pass are the referee's, and have no seat.
 ///
-/// It is `Ok` exactly on the texts of [`entry_text`](crate::entry_text), and gives what was written. The points of a
-/// move are in the numbering of the player whose letter begins the line, 25 standing for the bar and 0 for off; each
-/// step leads down. It takes no memory, and time linear in the line's length.
+/// It returns `Ok` exactly for the texts of [`entry_text`](crate::entry_text), and gives what was
+/// written. The points of a move are in the numbering of the player whose letter begins the line,
+/// with 25 for the bar and 0 for off; each step leads down. It allocates nothing, and takes time
+/// linear in the line's length.
 ///
-/// The whole line is tested for its shape, then for its numbers, then for the count of its steps:
-/// - [`TextFault::NotALine`]: the line has none of the shapes of an entry's line. A space more or less, and any byte
-///   that stands in no shape, make it another shape.
-/// - [`TextFault::BadNumber`]: a number has a leading zero or is out of its range, or a pair does not lead down, also
-///   behind the fourth pair.
+/// The whole line is tested for its shape, then for its numbers, then for the number of its steps:
+/// - [`TextFault::NotALine`]: the line has none of the shapes of an entry's line. One space more or
+///   less, or any byte that belongs to no shape, makes it another shape.
+/// - [`TextFault::BadNumber`]: a number has a leading zero or is out of its range, or a pair does
+///   not lead down, even behind the fourth pair.
 /// - [`TextFault::TooManySteps`]: a move has more than four pairs.
 pub fn parse_entry(line: &[u8]) -> Result<(Option<Player>, Entry), TextFault>
     ensures found { IfOk result (λ found. IsSeatOf found.0 found.1 × IsEntry found.1

@@ -5,7 +5,7 @@ ghost use Rattle.bg_text.specs.Entries.EntryText.{letter as letter_of, level_wor
 use bg_board::Player;
 use bg_match::Level;
 
-/// The player's letter: `X` or `O` (docs/FORMATS.md, "Entry lines").
+/// Returns the player's letter: `X` or `O` (docs/FORMATS.md, "Entry lines").
 pub fn letter(player: Player) -> &'static str
     ensures word { result.now ≡ letter_of player }
     ensures fits { length result.now ≤ 1 }
@@ -16,7 +16,8 @@ pub fn letter(player: Player) -> &'static str
     }
 }
 
-/// The word for a level of an offer to resign: `normal`, `gammon` or `backgammon` (docs/FORMATS.md, "Entry lines").
+/// Returns the word for a level of an offer to resign: `normal`, `gammon` or `backgammon`
+/// (docs/FORMATS.md, "Entry lines").
 pub fn level_word(level: Level) -> &'static str
     ensures word { result.now ≡ word_of_level level }
     ensures fits { length result.now ≤ 10 }

@@ -14,7 +14,8 @@ use crate::entries::words::{Pieces, halves};
 use bg_board::{BAR, Die, OFF, Step};
 use bg_turns::Turn;
 
-/// The turn that the pairs of a move write, one space between each two. A wrong number comes before too many steps.
+/// Reads the turn that the pairs of a move spell, separated by single spaces. A wrong number takes
+/// precedence over too many steps.
 pub(crate) fn read_turn(pairs: &[u8]) -> Result<Turn, TextFault>
     ensures { IsTurnOf (words_of pairs.now) result }
 {
@@ -26,7 +27,7 @@ pub(crate) fn read_turn(pairs: &[u8]) -> Result<Turn, TextFault>
             Ok(step) => fault = add_step(&mut turn, fault, step),
             Err(TextFault::NotALine) => return Err(TextFault::NotALine),
             Err(TextFault::BadNumber) => fault = Some(TextFault::BadNumber),
-            // no pair alone is too many
+            // no single pair is too many
             Err(TextFault::TooManySteps) => fault = Some(TextFault::TooManySteps),
         }
     }
@@ -36,8 +37,8 @@ pub(crate) fn read_turn(pairs: &[u8]) -> Result<Turn, TextFault>
     }
 }
 
-/// Adds one more pair's step to the turn of some pairs, unless there is something wrong with these already. Says what
-/// is wrong with all of them.
+/// Appends the step of one more pair to a turn, unless an earlier pair has a fault. Returns the
+/// fault of all these pairs, if there is one.
 fn add_step(turn: &mut Turn, fault: Option<TextFault>, step: Step) -> Option<TextFault>
     requires { length turn.old ≤ 4 }
     ensures turn { (pairs : List (List ℕ)) (pair : List ℕ) → AllByRecursion IsPairShape pairs
@@ -55,7 +56,7 @@ fn add_step(turn: &mut Turn, fault: Option<TextFault>, step: Step) -> Option<Tex
     None
 }
 
-/// The step of a pair.
+/// Reads the step of a pair.
 fn read_pair(word: &[u8]) -> Result<Step, TextFault>
     ensures { IsPairOf word.now result }
 {
@@ -69,7 +70,7 @@ fn read_pair(word: &[u8]) -> Result<Step, TextFault>
     }
 }
 
-/// The point where a step begins, 25 for the bar.
+/// Reads the point where a step begins, 25 for the bar.
 fn read_source(word: &[u8]) -> Result<u8, TextFault>
     ensures { IsSourceOf word.now result }
 {
@@ -79,7 +80,7 @@ fn read_source(word: &[u8]) -> Result<u8, TextFault>
     }
 }
 
-/// The point where a step ends, 0 for off.
+/// Reads the point where a step ends, 0 for off.
 fn read_target(word: &[u8]) -> Result<u8, TextFault>
     ensures { IsTargetOf word.now result }
 {
@@ -89,7 +90,7 @@ fn read_target(word: &[u8]) -> Result<u8, TextFault>
     }
 }
 
-/// The point that a numeral names, 1 to 24.
+/// Reads the point that a numeral names, 1 to 24.
 fn read_point(word: &[u8]) -> Result<u8, TextFault>
     ensures { IsPointOf word.now result }
 {
@@ -101,7 +102,8 @@ fn read_point(word: &[u8]) -> Result<u8, TextFault>
     }
 }
 
-/// Both numbers, or the graver of the faults: another shape of one word comes before a wrong number in the other.
+/// Returns both numbers, or the graver of the faults: a wrong shape of one word takes precedence
+/// over a wrong number in the other.
 fn both(first: Result<u8, TextFault>, second: Result<u8, TextFault>) -> Result<(u8, u8), TextFault>
     ensures { result ≡ both_of first second }
 {
@@ -111,14 +113,14 @@ fn both(first: Result<u8, TextFault>, second: Result<u8, TextFault>) -> Result<(
     }
 }
 
-/// The die that a digit names.
+/// Returns the die that a digit names.
 fn die_of(digit: u8) -> Option<Die>
     ensures { IfSome result (λ die. digit ≡ 48 + pips die) }
 {
     Die::new(digit.checked_sub(b'0')?)
 }
 
-/// The dice that two digits name, one space between them.
+/// Reads the dice that two digits name, separated by one space.
 fn read_digits(numbers: &[u8]) -> Option<(Die, Die)>
     ensures { IfSome result (λ dice. words_of numbers.now ≡ dice_words dice.0 dice.1) }
 {
@@ -128,7 +130,7 @@ fn read_digits(numbers: &[u8]) -> Option<(Die, Die)>
     }
 }
 
-/// The dice that two numbers write, one space between them.
+/// Reads the dice that two numbers name, separated by one space.
 pub(crate) fn read_dice(numbers: &[u8]) -> Result<(Die, Die), TextFault>
     ensures { MatchResult result (λ dice. words_of numbers.now ≡ dice_words dice.0 dice.1)
         (λ fault. IsDiceFault fault (words_of numbers.now)) }
@@ -146,7 +148,8 @@ pub(crate) fn read_dice(numbers: &[u8]) -> Result<(Die, Die), TextFault>
     }
 }
 
-/// The number, 1 to 99, that one or two digits write. A leading zero is a wrong number, as is 0.
+/// Reads the number, 1 to 99, that one or two digits spell. A leading zero is a wrong number, as
+/// is 0.
 pub(crate) fn read_two_digits(word: &[u8]) -> Result<u8, TextFault>
     ensures { IsNumberOf word.now result }
 {

@@ -1,10 +1,10 @@
-//! The pieces of a text.
+//! Splitting a text at its separators.
 ghost use Rattle.std.specs.Prelude.{◌≡◌, ◌≢◌, ◌==◌, ℕ, List, [], ◌∷◌, ◌++◌, MatchOption};
 ghost use Rattle.std.specs.List.{All, slice_split};
 
 use std::marker::Model;
 
-/// The pieces of a text around each of its separators. Contracts see the pieces that are left.
+/// The pieces of a text between its separators. Contracts see the pieces that are left.
 #[derive(Drop)]
 pub(crate) struct Pieces<'a> {
     rest: &'a [u8],
@@ -22,7 +22,7 @@ impl<'a> Model for Pieces<'a> {
 }
 
 impl<'a> Pieces<'a> {
-    /// The pieces of a text. Between two separators in a row stands an empty piece.
+    /// Splits a text into its pieces. Two separators in a row have an empty piece between them.
     pub(crate) fn new(text: &'a [u8], separator: u8) -> Pieces<'a>
         ensures { result ≡ slice_split (λ byte. byte == separator) text.now }
     {
@@ -33,7 +33,7 @@ impl<'a> Pieces<'a> {
         }
     }
 
-    /// The first piece that is left, which is then taken.
+    /// Takes and returns the first of the pieces that are left.
     pub(crate) fn next_piece(&mut self) -> Option<&'a [u8]>
         ensures { MatchOption result ((self.old ≡ []) × (self.new ≡ []))
             (λ piece. self.old ≡ piece.now ∷ self.new) }
@@ -54,7 +54,7 @@ impl<'a> Pieces<'a> {
     }
 }
 
-/// What stands before and after the first separator of a text.
+/// Returns what stands before and after the first separator of a text.
 fn split_once(text: &[u8], separator: u8) -> Option<(&[u8], &[u8])>
     ensures { MatchOption result (All (λ byte. byte ≢ separator) text.now)
         (λ parts. All (λ byte. byte ≢ separator) parts.0.now
@@ -64,7 +64,7 @@ fn split_once(text: &[u8], separator: u8) -> Option<(&[u8], &[u8])>
     Some((&text[..place], &text[place + 1..]))
 }
 
-/// The two pieces of a text around its only separator.
+/// Returns the two pieces of a text around its only separator.
 pub(crate) fn halves(text: &[u8], separator: u8) -> Option<(&[u8], &[u8])>
     ensures { MatchOption result
         ((first second : List ℕ) → slice_split (λ byte. byte == separator) text.now ≡ first ∷ second ∷ [] → ⊥)
@@ -79,7 +79,8 @@ pub(crate) fn halves(text: &[u8], separator: u8) -> Option<(&[u8], &[u8])>
     }
 }
 
-/// The three pieces of a text around its only two separators. None where it has more separators, or fewer.
+/// Returns the three pieces of a text around its only two separators. Returns `None` where it has
+/// more separators, or fewer.
 pub fn thirds(text: &[u8], separator: u8) -> Option<(&[u8], &[u8], &[u8])>
     ensures { MatchOption result
         ((first second third : List ℕ)

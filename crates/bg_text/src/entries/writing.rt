@@ -14,9 +14,10 @@ use bg_match::Entry;
 use bg_turns::Turn;
 use itoa::Buffer;
 
-/// The line of an entry, without a line feed, with the seat that made it (docs/FORMATS.md, "Entry lines"). An opening
-/// and a pass are the referee's and have no seat, and every other entry has one. The points of a move are in the
-/// numbering of that seat. The longest line has 34 bytes, a move of four steps from the bar to points above 9.
+/// Returns the line of an entry, without a line feed, with the seat that made it (docs/FORMATS.md,
+/// "Entry lines"). An opening and a pass are the referee's and have no seat; every other entry has
+/// one. The points of a move are in the numbering of that seat. The longest line has 34 bytes: a
+/// move of four steps from the bar to points above 9.
 pub fn entry_text(seat: Option<Player>, entry: &Entry) -> ArrayString<40>
     requires { IsSeatOf seat entry.now }
     ensures { result.bytes ≡ entry_text seat entry.now }
@@ -31,7 +32,8 @@ pub fn entry_text(seat: Option<Player>, entry: &Entry) -> ArrayString<40>
     line
 }
 
-/// One line is the line of one entry: two entries with the same line are equal, and so are their seats.
+/// States that one line is the line of one entry: two entries with the same line are equal, and so
+/// are their seats.
 pub fn entry_texts_differ()
     ensures { EntryTextsDiffer }
 {}
@@ -79,7 +81,7 @@ fn put_turn(line: &mut ArrayString<40>, turn: &Turn)
     }
 }
 
-/// A space, and the text of a step.
+/// Appends a space and the text of a step.
 fn put_step(line: &mut ArrayString<40>, step: Step)
     requires { array_string_len line.old ≤ 32 }
     ensures bytes { line.new.bytes ≡ line.old.bytes ++ 32 ∷ step_text step }

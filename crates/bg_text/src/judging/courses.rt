@@ -1,4 +1,4 @@
-//! Where the lines of a transcript lead, one after the other.
+//! Replaying the lines of a transcript, one after the other.
 ghost use Rattle.std.specs.Prelude.{◌≡◌, ℕ, List, [], ◌∷◌, ◌++◌, None, IfSome, IsSome, IfOk, OnOk, OnErr, IfErr};
 ghost use Rattle.bg_text.specs.Judge.Hearing.{AreAll, Continues, IsHeardAs, Keeps, Stops};
 ghost use Rattle.bg_text.specs.Judge.Judging.{IsAnswerTo, IsLengthFault};
@@ -11,7 +11,7 @@ use crate::judging::reading::is_wrong_seat;
 use bg_match::{EntryFault, MOST_ENTRIES, Number, Standing, Terms};
 use std::alloc::{AllocError, Global};
 
-/// Where entries led, and how many they were.
+/// The standing that entries lead to, and the number of entries.
 #[derive(Clone, Copy, Debug, PartialEq, Eq)]
 pub(crate) struct Course {
     pub(crate) standing: Standing,
@@ -19,7 +19,7 @@ pub(crate) struct Course {
 }
 
 impl Course {
-    /// Lets the entry of a line follow. A refusal changes nothing.
+    /// Applies the entry of a line. A refusal changes nothing.
     fn follow(&mut self, line: &[u8]) -> Result<(), LineFault>
         ensures added { OnOk result (Continues self.old self.new line.now) }
         ensures refused { IfErr result (λ why. Stops why self.old line.now) }
@@ -42,16 +42,17 @@ impl Course {
     }
 }
 
-/// What the lines of a transcript come to: where those that are good lead, and why the one behind them is refused.
+/// The result of the lines of a transcript so far: where the good lines lead, and why the line
+/// behind them is refused.
 #[derive(Clone, Copy, Debug, PartialEq, Eq)]
 pub(crate) struct Heard {
-    /// Nothing before line 1.
+    /// `None` before line 1.
     pub(crate) course: Option<Course>,
     pub(crate) refusal: Option<LineFault>,
 }
 
 impl Heard {
-    /// No line so far.
+    /// Returns the result of no lines.
     pub(crate) fn nothing() -> Heard
         ensures { Keeps result.course result.refusal [] }
     {
@@ -61,7 +62,7 @@ impl Heard {
         }
     }
 
-    /// Hears one more line, where none was refused.
+    /// Reads one more line, where none was refused.
     pub(crate) fn hear(&mut self, line: &[u8])
         ensures { self.old.refusal ≡ None → (lines : List (List ℕ)) → Keeps self.old.course None lines
             → Keeps self.new.course self.new.refusal (lines ++ line.now ∷ []) }
@@ -75,7 +76,7 @@ impl Heard {
         }
     }
 
-    /// The judgement on lines of which this was heard.
+    /// Returns the judgement on the lines so far.
     pub(crate) fn judgement(&self, alloc: Global) -> Result<Judgement, AllocError>
         ensures { IfOk result (λ judgement. (lines all : List (List ℕ)) → Keeps self.now.course self.now.refusal lines
             → AreAll self.now.refusal lines all → IsAnswerTo all judgement.text.items judgement.verdict) }
@@ -88,7 +89,7 @@ impl Heard {
         }
     }
 
-    /// Hears line 1.
+    /// Reads line 1.
     fn begin(&mut self, line: &[u8]) -> Result<(), LineFault>
         ensures begun { OnOk result (IfSome self.new.course (IsHeardAs (line.now ∷ [])) × IsSome self.new.course) }
         ensures refused { IfErr result (λ why. IsLengthFault why (line.now ∷ [])) }

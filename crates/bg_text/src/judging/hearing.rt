@@ -1,4 +1,4 @@
-//! A transcript that is judged as its bytes come.
+//! Judging a transcript while its bytes arrive.
 ghost use Rattle.std.specs.Prelude.{◌≡◌, ◌≤◌, ◌+◌, ℕ, List, [], ◌∷◌, ◌++◌, None, IfOk, OnOk};
 ghost use Rattle.bg_streams.specs.EngineFault.{ReadsFailOnce};
 ghost use Rattle.bg_streams.specs.Transfers.{ReadsInput};
@@ -12,8 +12,8 @@ use crate::judging::judgements::Judgement;
 use bg_streams::{EngineFault, Source};
 use std::alloc::{AllocError, Global};
 
-/// A judge who is told a transcript part by part. It keeps where the lines lead, and of a line whose end has not come
-/// its bytes; what comes behind a line that is refused it does not keep.
+/// A judge that is fed a transcript part by part. It keeps where the lines lead, and the bytes of a
+/// line whose end has not come. It keeps nothing of what follows a refused line.
 #[derive(Debug, Drop)]
 pub(crate) struct Judge {
     heard: Heard,
@@ -21,7 +21,7 @@ pub(crate) struct Judge {
 }
 
 impl Judge {
-    /// Who was told nothing yet.
+    /// Returns a judge with no input.
     pub(crate) fn new(alloc: Global) -> Judge
         ensures { HasHeard [] result.heard result.unended.items }
     {
@@ -31,7 +31,7 @@ impl Judge {
         }
     }
 
-    /// Tells the bytes that come next.
+    /// Feeds the judge the next bytes.
     pub(crate) fn tell(&mut self, bytes: &[u8]) -> Result<(), AllocError>
         ensures { OnOk result ((told : List ℕ) → HasHeard told self.old.heard self.old.unended.items
             → HasHeard (told ++ bytes.now) self.new.heard self.new.unended.items) }
@@ -47,7 +47,7 @@ impl Judge {
         Ok(())
     }
 
-    /// Tells the bytes up to the end of a line, where none was refused.
+    /// Feeds the bytes up to the end of a line, where none was refused.
     fn end_line(&mut self, bytes: &[u8]) -> Result<(), AllocError>
         ensures { OnOk result (IsUnended bytes.now → self.old.heard.refusal ≡ None → (told : List ℕ)
             → HasHeard told self.old.heard self.old.unended.items
@@ -63,7 +63,7 @@ impl Judge {
         Ok(())
     }
 
-    /// The judgement on all that was told.
+    /// Returns the judgement on the whole input.
     pub(crate) fn end(self, alloc: Global) -> Result<Judgement, AllocError>
         ensures { IfOk result (λ judgement. (told : List ℕ) → HasHeard told self.heard self.unended.items
             → IsAnswerTo (lines_of told) judgement.text.items judgement.verdict) }
@@ -78,11 +78,11 @@ impl Judge {
     }
 }
 
-/// How many bytes are read at once.
+/// Number of bytes that are read at once.
 const CHUNK: usize = 65_536;
 
-/// Who was told all of an input, up to the source's end. None where the input is longer than the limit: then one byte
-/// more than that is read.
+/// Returns a judge that was fed all of an input, up to the source's end. Returns `None` where the
+/// input is longer than the limit; it has then read one byte more than that.
 ///
 /// # Errors
 /// Read exactly where the source failed, and Memory where memory runs out.

@@ -1,4 +1,4 @@
-//! What the judge says of an input: a board, and the verdict line.
+//! The judge's output for an input: a board, and the verdict line.
 ghost use Rattle.std.specs.Prelude.{◌≡◌, ◌≤◌, ◌++◌, ◌+◌, OnOk, IfOk};
 ghost use Rattle.bg_match.specs.Limits.{most_entries};
 ghost use Rattle.bg_text.specs.Boards.BoardText.{line_text, board_text as text_of_board};
@@ -11,16 +11,16 @@ use crate::judging::courses::Course;
 use crate::printing::{put_number, put_text};
 use std::alloc::{AllocError, Global};
 
-/// What the judge says of an input.
+/// The judge's output for an input.
 #[derive(Debug, PartialEq, Eq, Drop)]
 pub struct Judgement {
     /// The board text of the standing after the good lines, and the verdict line.
     pub text: Vec<u8>,
-    /// The verdict that the text ends with.
+    /// The verdict at the end of the text.
     pub verdict: Verdict,
 }
 
-/// Adds the verdict line of a refusal.
+/// Appends the verdict line of a refusal.
 fn put_refused(out: &mut Vec<u8>, number: u32, why: LineFault) -> Result<(), AllocError>
     ensures { OnOk result (out.new.items ≡ out.old.items ++ line_text (refused_line number why)) }
 {
@@ -31,7 +31,7 @@ fn put_refused(out: &mut Vec<u8>, number: u32, why: LineFault) -> Result<(), All
     put_text(out, "\n")
 }
 
-/// Adds the verdict line of a good transcript.
+/// Appends the verdict line of a good transcript.
 fn put_fine(out: &mut Vec<u8>, entries: u32) -> Result<(), AllocError>
     ensures { OnOk result (out.new.items ≡ out.old.items ++ line_text (fine_line entries)) }
 {
@@ -40,7 +40,7 @@ fn put_fine(out: &mut Vec<u8>, entries: u32) -> Result<(), AllocError>
     put_text(out, "\n")
 }
 
-/// The judgement where the line behind those of the course is refused.
+/// Returns the judgement where the line behind those of the course is refused.
 pub(crate) fn refused(
     alloc: Global,
     course: &Course,
@@ -60,7 +60,7 @@ pub(crate) fn refused(
     })
 }
 
-/// The judgement where all lines are those of the course.
+/// Returns the judgement where all lines are those of the course.
 pub(crate) fn fine(alloc: Global, course: &Course) -> Result<Judgement, AllocError>
     ensures text { IfOk result (λ judgement. judgement.text.items
         ≡ text_of_board course.now.standing ++ line_text (fine_line course.now.entries)) }
@@ -74,7 +74,7 @@ pub(crate) fn fine(alloc: Global, course: &Course) -> Result<Judgement, AllocErr
     })
 }
 
-/// The judgement where line 1 is refused.
+/// Returns the judgement where line 1 is refused.
 pub(crate) fn refused_at_once(alloc: Global, why: LineFault) -> Result<Judgement, AllocError>
     ensures { IfOk result (λ judgement. (judgement.text.items ≡ line_text (refused_line 1 why))
         × (judgement.verdict ≡ Verdict.Refused 1)) }
@@ -87,7 +87,7 @@ pub(crate) fn refused_at_once(alloc: Global, why: LineFault) -> Result<Judgement
     })
 }
 
-/// The judgement on an input that is longer than the limit (docs/FORMATS.md, "The judge").
+/// Returns the judgement on an input that is longer than the limit (docs/FORMATS.md, "The judge").
 ///
 /// # Errors
 /// `AllocError` where there is no memory for the text.

@@ -13,7 +13,7 @@ use crate::entries::pairs::read_two_digits;
 use crate::faults::LineFault;
 use bg_match::{LONGEST_MATCH, Rules, SHORTEST_MATCH, Terms};
 
-/// The length and the rules that line 1 says.
+/// Reads the length and the rules from line 1.
 pub(crate) fn read_terms(line: &[u8]) -> Result<Terms, LineFault>
     ensures found { IfOk result (λ terms. IsMatchLength (match_length terms) × (line.now ≡ length_line terms)) }
     ensures fault { IfErr result (λ fault. IsLengthFault fault (line.now ∷ [])) }
@@ -26,7 +26,7 @@ pub(crate) fn read_terms(line: &[u8]) -> Result<Terms, LineFault>
     Ok(Terms { length, rules })
 }
 
-/// The digits of a length and the rules behind them.
+/// Returns the digits of a length and the rules behind them.
 fn split_rules(words: &[u8]) -> (&[u8], Rules)
     ensures whole { words.now ≡ result.0.now ++ rules_mark result.1 }
     ensures only { (digits : List ℕ) (rules : Rules) → AreLengthDigits digits
@@ -38,7 +38,7 @@ fn split_rules(words: &[u8]) -> (&[u8], Rules)
     }
 }
 
-/// The length that one to three digits say.
+/// Reads the length that one to three digits spell.
 fn read_digits(digits: &[u8]) -> Result<u8, LineFault>
     ensures found { IfOk result (λ length. IsMatchLength length × (digits.now ≡ decimal length)) }
     ensures fault { IfErr result (λ fault. IsDigitsFault fault digits.now) }

@@ -1,4 +1,4 @@
-//! How a transcript is read: its longest legal part, as a record.
+//! Reading a transcript: its longest legal part, as a record.
 ghost use Rattle.std.specs.Prelude.{◌≡◌, ◌↔◌, ℕ, Ok, IsTrue, OnOk, OnErr, IfOk, IfErr};
 ghost use Rattle.bg_match.specs.Limits.{IsMatchLength};
 ghost use Rattle.bg_match.specs.Terms.{match_length};
@@ -15,7 +15,7 @@ use bg_board::Player;
 use bg_match::{Entry, EntryFault, Record, Standing, Terms};
 use std::alloc::{AllocError, Global};
 
-/// Whether a line names a seat where the other seat must act.
+/// Returns whether a line names a seat where the other seat must act.
 pub(crate) fn is_wrong_seat(seat: Option<Player>, standing: &Standing) -> bool
     ensures { IsTrue result ↔ IsWrongSeat seat standing.now }
 {
@@ -25,7 +25,7 @@ pub(crate) fn is_wrong_seat(seat: Option<Player>, standing: &Standing) -> bool
     }
 }
 
-/// The entry of a line, unless it names the wrong seat.
+/// Reads the entry of a line, unless it names the wrong seat.
 fn read_line(standing: &Standing, line: &[u8]) -> Result<Entry, LineFault>
     ensures found { IfOk result (IsReadAs standing.now line.now) }
     ensures only { (entry : Entry) → IsLineAt standing.now line.now entry → result ≡ Ok entry }
@@ -38,7 +38,7 @@ fn read_line(standing: &Standing, line: &[u8]) -> Result<Entry, LineFault>
     Ok(entry)
 }
 
-/// Why a line was not added.
+/// The reason why a line was not appended.
 #[derive(Drop)]
 enum AddFault {
     Refused(LineFault),
@@ -70,7 +70,7 @@ impl From<EntryFault> for AddFault {
     }
 }
 
-/// Adds the entry of a line.
+/// Appends the entry of a line.
 fn add_line(log: &mut Record, line: &[u8]) -> Result<(), AddFault>
     ensures added { OnOk result (AddsLine log.old log.new line.now) }
     ensures fault { IfErr result (λ fault. RefusesLine fault log.old line.now) }
@@ -81,8 +81,8 @@ fn add_line(log: &mut Record, line: &[u8]) -> Result<(), AddFault>
     Ok(())
 }
 
-/// Reads the lines after line 1 of a match of these terms: the record of the longest legal part, and why the line
-/// behind it is refused, if there is one.
+/// Reads the lines after line 1 of a match on these terms. Returns the record of the longest legal
+/// part, and why the line behind it is refused, if there is one.
 fn read_lines(
     alloc: Global,
     id: u64,
@@ -104,7 +104,7 @@ fn read_lines(
     Ok((log, None))
 }
 
-/// Why no line behind line 1 is read.
+/// The reason why no line behind line 1 is read.
 #[derive(Drop)]
 pub(crate) enum ReadFault {
     /// The input is longer than the limit.
@@ -130,7 +130,8 @@ impl From<ReadFault> for TranscriptFault {
     }
 }
 
-/// Reads an input: the record of its longest legal part, and why the line behind it is refused, if there is one.
+/// Reads an input. Returns the record of its longest legal part, and why the line behind it is
+/// refused, if there is one.
 pub(crate) fn read_whole(
     alloc: Global,
     id: u64,
@@ -149,12 +150,12 @@ pub(crate) fn read_whole(
     read_lines(alloc, id, terms, lines).map_err(|_| ReadFault::Memory)
 }
 
-/// Returns the record of a transcript that the judge finds fine, as the match of this number (docs/FORMATS.md,
-/// "Transcripts").
+/// Returns the record of a transcript that the judge finds fine, as the match with this number
+/// (docs/FORMATS.md, "Transcripts").
 ///
 /// # Errors
-/// `Refused` with the line and the reason, or `TooLong`, exactly where the judge says so; `Memory` where memory runs
-/// out.
+/// `Refused` with the line and the reason, or `TooLong`, exactly where the judge says so; `Memory`
+/// where memory runs out.
 pub fn read_transcript(alloc: Global, id: u64, input: &[u8]) -> Result<Record, TranscriptFault>
     ensures read { IfOk result (ReadsTranscript id input.now) }
     ensures refused { IfErr result (λ why. RefusesTranscript why input.now) }

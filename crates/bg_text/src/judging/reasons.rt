@@ -1,4 +1,4 @@
-//! Why an entry is refused, in words.
+//! The reasons for refusing an entry, in words.
 ghost use Rattle.std.specs.Prelude.{◌≡◌, ◌≤◌, length};
 ghost use Rattle.bg_text.specs.Judge.Reason.{reason, turn_reason, no_double_reason};
 
@@ -7,8 +7,8 @@ use bg_match::{EntryFault, NoDouble};
 use bg_turns::TurnFault;
 use itoa::Buffer;
 
-/// Why an entry is refused, as it is printed (docs/FORMATS.md, "Refusals"). A step that cannot be played is named by
-/// its place in the turn, counted from 1.
+/// Returns the reason why an entry is refused, as it is printed (docs/FORMATS.md, "Refusals"). A
+/// step that can't be played is named by its place in the turn, counted from 1.
 pub fn reason_text(fault: &EntryFault) -> ArrayString<40>
     ensures { result.bytes ≡ reason fault.now }
 {

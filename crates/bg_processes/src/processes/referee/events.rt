@@ -10,7 +10,7 @@ use bg_wire::REFEREE;
 use bg_world::{Event, Keeper, Link, Outcome};
 
 impl<L: Link, K: Keeper> RefereeProcess<L, K> {
-    /// The word for its next entry.
+    /// Returns the random word for the next entry.
     fn word(&self) -> u32
         ensures { result ≡ word_at (referee_moment L.Link K.Keeper self.now) }
     {

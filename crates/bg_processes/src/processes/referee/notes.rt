@@ -1,4 +1,4 @@
-//! What the process of a referee notes.
+//! The notes that a referee's process takes.
 ghost use Rattle.std.specs.Prelude.{◌≡◌, if◌then◌else◌};
 ghost use Rattle.bg_auto.specs.Attempts.{restarts_referee as is_restart};
 ghost use Rattle.bg_processes.specs.RefereeRounds.{NotesOfReferee, is_heard as is_heard_in};
@@ -10,18 +10,19 @@ use bg_referee::TakeOutcome;
 use bg_wire::REFEREE;
 use bg_world::{Event, Outcome};
 
-/// What the process of a referee notes of the events at its node.
+/// The notes that a referee's process takes of the events at its node.
 #[derive(Drop)]
 pub(crate) struct RefereeNotes {
     pub(crate) dice: DiceAttempts,
-    /// How many entries are saved.
+    /// Number of entries that are saved.
     pub(crate) saved: Number,
-    /// For how many ticks nobody was heard of that lacks an entry.
+    /// Number of ticks since a party that lacks an entry was last heard of.
     pub(crate) quiet: u32,
 }
 
 impl RefereeNotes {
-    /// Notes what came of an event, after which the referee holds so many entries, and tells who looks on.
+    /// Notes the outcome of an event, after which the referee holds `held` entries, and tells the
+    /// onlooker.
     pub(crate) fn note<O: Onlooker>(
         &mut self,
         onlooker: &mut O,
@@ -38,14 +39,14 @@ impl RefereeNotes {
     }
 }
 
-/// Whether an event restarts the referee.
+/// Returns whether an event restarts the referee.
 fn restarts_referee(event: &Event) -> bool
     ensures { result ≡ is_restart event.now }
 {
     matches!(event, Event::Restart { party: REFEREE })
 }
 
-/// Whether who lacks an entry is heard of, or sent to.
+/// Returns whether a party that lacks an entry is heard of, or sent to.
 fn is_heard(outcome: &Outcome) -> bool
     ensures { result ≡ is_heard_in outcome.now }
 {
@@ -56,7 +57,8 @@ fn is_heard(outcome: &Outcome) -> bool
     }
 }
 
-/// For how many ticks nobody was heard of that lacks an entry, after an outcome.
+/// Returns the number of ticks since a party that lacks an entry was last heard of, after an
+/// outcome.
 fn quiet_after(quiet: u32, outcome: &Outcome) -> u32
     ensures { result ≡ (if is_heard_in outcome.now then 0 else quiet) }
 {

@@ -1,4 +1,4 @@
-//! What the process of a seat notes.
+//! The notes that a seat's process takes.
 ghost use Rattle.std.specs.Prelude.{◌≡◌};
 ghost use Rattle.bg_processes.specs.SeatRounds.{NotesOfSeat, is_chosen as is_claimed, waits_after as waits_then};
 
@@ -7,17 +7,18 @@ use bg_auto::Onlooker;
 use bg_match::Number;
 use bg_world::{Event, Outcome};
 
-/// What the process of a seat notes of the events at its node.
+/// The notes that a seat's process takes of the events at its node.
 #[derive(Drop)]
 pub(crate) struct SeatNotes {
-    /// How many entries are saved.
+    /// Number of entries that are saved.
     pub(crate) saved: Number,
-    /// Whether its last claim is to be saved still, since there was no memory.
+    /// Whether its last claim is still to be saved, since there was no memory.
     pub(crate) claim_waits: bool,
 }
 
 impl SeatNotes {
-    /// Notes what came of an event, after which the seat holds so many entries, and tells who looks on.
+    /// Notes the outcome of an event, after which the seat holds `held` entries, and tells the
+    /// onlooker.
     pub(crate) fn note<O: Onlooker>(
         &mut self,
         onlooker: &mut O,
@@ -33,14 +34,14 @@ impl SeatNotes {
     }
 }
 
-/// Whether an action was claimed.
+/// Returns whether an action was claimed.
 pub(crate) fn is_chosen(outcome: &Outcome) -> bool
     ensures { result ≡ is_claimed outcome.now }
 {
     matches!(outcome, Outcome::Chose(Ok(_)))
 }
 
-/// Whether the last claim is to be saved still, after an event.
+/// Returns whether the last claim is still to be saved after an event.
 fn waits_after(waits: bool, event: &Event, outcome: &Outcome) -> bool
     ensures { result ≡ waits_then waits event.now outcome.now }
 {

@@ -1,4 +1,4 @@
-//! When the process of a seat saves.
+//! The times when a seat's process saves.
 ghost use Rattle.std.specs.Prelude.{◌≡◌};
 ghost use Rattle.bg_wire.specs.Parties.{party_of as party_for};
 ghost use Rattle.bg_processes.specs.Runs.{Restarts, Saves};
@@ -12,7 +12,7 @@ use bg_match::{Action, Number};
 use bg_world::{Keeper, Link, Outcome, RestoreCause};
 
 impl<L: Link, K: Keeper> SeatProcess<L, K> {
-    /// Whether a save is worth it.
+    /// Returns whether a save is worthwhile.
     fn wants_save(&self) -> bool
         ensures { WantsSave (seat_moment L.Link K.Keeper self.now) result }
     {
@@ -22,7 +22,8 @@ impl<L: Link, K: Keeper> SeatProcess<L, K> {
         self.notes.claim_waits || is_answered || (is_over && held != self.notes.saved)
     }
 
-    /// Begins again where the seat is down, and else saves where that is worth it; whether something was written.
+    /// Restarts where the seat is down, and otherwise saves where that is worthwhile. Returns
+    /// whether something was written.
     pub(crate) fn restart_or_save<O: Onlooker>(&mut self, onlooker: &mut O) -> Result<bool, Outcome>
         ensures { RestartsOrSaves L.is_honest K.is_honest (seat_moment L.Link K.Keeper self.old) result
             (seat_moment L.Link K.Keeper self.new) }
@@ -33,7 +34,7 @@ impl<L: Link, K: Keeper> SeatProcess<L, K> {
         self.save_worth(onlooker)
     }
 
-    /// Saves where that is worth it; whether that was written.
+    /// Saves where that is worthwhile. Returns whether it was written.
     fn save_worth<O: Onlooker>(&mut self, onlooker: &mut O) -> Result<bool, Outcome>
         ensures { SavesWorth L.is_honest K.is_honest (seat_moment L.Link K.Keeper self.old) result
             (seat_moment L.Link K.Keeper self.new) }
@@ -44,14 +45,14 @@ impl<L: Link, K: Keeper> SeatProcess<L, K> {
         self.save_all(onlooker)
     }
 
-    /// Saves, and begins again where that failed; whether it was written.
+    /// Saves, and restarts where that failed. Returns whether it was written.
     pub(crate) fn save_all<O: Onlooker>(&mut self, onlooker: &mut O) -> Result<bool, Outcome>
         ensures { Saves (SeatHappens L.is_honest K.is_honest) (party_for self.old.player)
             (seat_moment L.Link K.Keeper self.old) result (seat_moment L.Link K.Keeper self.new) }
     {
         match self.save(onlooker) {
             Outcome::Saved(_) => Ok(true),
-            // It is tried again in the next round.
+            // The next round tries it again.
             Outcome::Memory => Ok(false),
             Outcome::SaveFault => self.begin_again(onlooker),
             outcome => Err(outcome),
@@ -63,14 +64,15 @@ impl<L: Link, K: Keeper> SeatProcess<L, K> {
             (seat_moment L.Link K.Keeper self.old) result (seat_moment L.Link K.Keeper self.new) }
     {
         match self.restart(onlooker) {
-            // Its slots may be read again later: the next round tries it.
+            // Its slots may be readable again later: the next round tries them.
             Outcome::Restarted | Outcome::RestoreFault(RestoreCause::Device) => Ok(false),
             outcome => Err(outcome),
         }
     }
 }
 
-/// Whether a record of so many entries answers a claim, which the last save, with so many, has as an open one.
+/// Returns whether a record of `held` entries answers a claim that is open in the last save, which
+/// has `saved` entries.
 fn is_answered(held: Number, saved: Number, claim: Option<(Number, Action)>) -> bool
     ensures { result ≡ is_answered_by held saved claim }
 {
