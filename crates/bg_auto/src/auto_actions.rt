@@ -1,4 +1,4 @@
-//! What an automatic player does.
+//! The actions of automatic players.
 ghost use Rattle.std.specs.Prelude.{◌≡◌, IfErr, IfOk, IfSome};
 ghost use Rattle.std.specs.Bool.{OnFalse, OnTrue};
 ghost use Rattle.bg_match.specs.Answers.{IsAnswer};
@@ -12,17 +12,18 @@ use bg_match::{Action, Actor, Entry, MOST_ENTRIES, Phase, Record};
 use bg_turns::{Dice, Turn, legal_turns};
 use std::alloc::{AllocError, Global};
 
-/// A player doubles, where he may, as an entry whose number this divides.
+/// A player doubles, where that is allowed, as an entry whose number this divides.
 const DOUBLES_EVERY: u32 = 16;
 
 /// A player drops a double as an entry whose number this divides.
 const DROPS_EVERY: u32 = 5;
 
-/// What an automatic player does after a record, which is a function of the record (docs/FORMATS.md, "Automatic
-/// players"). `None` exactly where the player does not act, or the record is full.
+/// Returns the action of an automatic player after a record, which is a function of the record
+/// (docs/FORMATS.md, "Automatic players"). `None` exactly where the player does not act, or the
+/// record is full.
 ///
 /// # Errors
-/// AllocError where there is no memory for the list of legal turns of a player who is to move.
+/// `AllocError` where there is no memory for the list of legal turns of a player who is to move.
 pub fn auto_action(
     alloc: Global,
     record: &Record,
@@ -40,7 +41,7 @@ pub fn auto_action(
     action_in_turn(alloc, record)
 }
 
-/// Whether the seat of the player acts.
+/// Returns whether the seat of the player acts.
 fn acts(record: &Record, player: Player) -> bool
     ensures yes { OnTrue result (ActsAfter «record».now.terms «record».now.entries (acting.Seat player)) }
     ensures no { OnFalse result (ActsAfter «record».now.terms «record».now.entries (acting.Seat player) → ⊥) }
@@ -52,7 +53,7 @@ fn acts(record: &Record, player: Player) -> bool
     }
 }
 
-/// What the player does who acts, if one does.
+/// Returns the action of the player who acts, if one does.
 fn action_in_turn(alloc: Global, record: &Record) -> Result<Option<Action>, AllocError>
     ensures plays { IfOk result (λ chosen. Plays «record».now chosen) }
     ensures memory { IfErr result (λ _. (player : Player) × IsToMove «record».now player) }
@@ -72,7 +73,7 @@ fn action_in_turn(alloc: Global, record: &Record) -> Result<Option<Action>, Allo
     }
 }
 
-/// Doubles or rolls, as the entry of this number.
+/// Returns the action to double or to roll, as the entry of this number.
 fn double_or_roll(record: &Record, number: u32) -> Action
     requires { number ≡ next_number «record».now.entries }
     ensures { DoublesOrRolls «record».now.terms «record».now.entries result }
@@ -84,7 +85,7 @@ fn double_or_roll(record: &Record, number: u32) -> Action
     }
 }
 
-/// The legal turn that is played as the entry of this number.
+/// Returns the legal turn that is played as the entry of this number.
 fn turn_of(
     alloc: Global,
     board: &Board,

@@ -1,4 +1,4 @@
-//! At which attempt the referee is handed a word for its next entry.
+//! The attempt at which the referee gets a word for its next entry.
 ghost use Rattle.std.specs.Prelude.{◌≡◌, option_copied};
 ghost use Rattle.bg_auto.specs.Attempts.{Notes, held_entries, restarts_referee as is_restart};
 ghost use Rattle.bg_auto.specs.Attempts.{keyed_word_for, was_in_vain as is_in_vain, word_for};
@@ -13,31 +13,34 @@ use bg_referee::{DueFault, TakeOutcome};
 use bg_wire::REFEREE;
 use bg_world::{Event, Keeper, Link, Outcome, World};
 
-/// How many words in a row gave the referee nothing for its next entry (docs/FORMATS.md, "Random words").
+/// The number of words in a row that gave the referee nothing for its next entry (docs/FORMATS.md,
+/// "Random words").
 #[derive(Clone, Copy, Debug, PartialEq, Eq)]
 pub struct DiceAttempts {
-    /// How many entries the referee holds; `None` where it is down.
+    /// The number of entries that the referee holds, or `None` where it is down.
     pub held: Option<Number>,
     /// The attempt at the next entry, from 0.
     pub attempt: u16,
 }
 
 impl DiceAttempts {
-    /// The first attempt where the referee holds so many entries.
+    /// Returns the first attempt where the referee holds this number of entries.
     pub fn first(held: Option<Number>) -> DiceAttempts
         ensures { result ≡ record { held = held; attempt = 0 } }
     {
         DiceAttempts { held, attempt: 0 }
     }
 
-    /// The word that the referee is handed: that of its next entry at this attempt, or 0 where it is down.
+    /// Returns the word that the referee gets: that of its next entry at this attempt, or 0 where
+    /// it is down.
     pub fn word(self, seed: u64) -> u32
         ensures { result ≡ word_for seed self.held self.attempt }
     {
         self.keyed_word(&key_of_seed(seed))
     }
 
-    /// The same, by the bytes of a key that is no seed's: of a match whose dice nobody can foresee, the key is a secret
+    /// Returns the word that the referee gets, as [`DiceAttempts::word`], by the bytes of a key
+    /// that is no seed's. In a match whose dice nobody can foresee, the key is a secret
     /// (docs/FORMATS.md, "Random words").
     pub fn keyed_word(self, key: &[u8; 32]) -> u32
         ensures { result ≡ keyed_word_for key.now self.held self.attempt }
@@ -48,8 +51,9 @@ impl DiceAttempts {
         }
     }
 
-    /// The attempt after an event: the first where it restarted the referee, or the referee holds another number of
-    /// entries, else the next (the first after the last) where the word was in vain, else the same.
+    /// Returns the attempt after an event. It is the first where the event restarted the referee,
+    /// or the referee holds another number of entries. Else it is the next one where the word was
+    /// in vain (the first after the last), and the same one where it was not.
     pub fn after(self, restarted: bool, outcome: &Outcome, held: Option<Number>) -> DiceAttempts
         ensures { Notes self restarted outcome.now held result }
     {
@@ -65,7 +69,7 @@ impl DiceAttempts {
         }
     }
 
-    /// Lets an event happen to a world, and notes the attempt after it.
+    /// Runs an event in a world, and notes the attempt after it.
     pub fn step<L: Link, K: Keeper>(&mut self, world: &mut World<L, K>, event: Event) -> Outcome
         ensures calls { Calls L.is_honest K.is_honest (view_of L.Link K.Keeper world.old) event result
             (view_of L.Link K.Keeper world.new) }
@@ -79,14 +83,14 @@ impl DiceAttempts {
     }
 }
 
-/// Whether the event restarts the referee.
+/// Returns whether the event restarts the referee.
 fn restarts_referee(event: &Event) -> bool
     ensures { result ≡ is_restart event.now }
 {
     matches!(event, Event::Restart { party: REFEREE })
 }
 
-/// How many entries a party holds that is up.
+/// Returns the number of entries that a party holds, if it is up.
 pub(crate) fn entries_of(held: Option<&Record>) -> Option<Number>
     ensures { result ≡ held_entries (option_copied held.entry) }
 {
@@ -96,7 +100,8 @@ pub(crate) fn entries_of(held: Option<&Record>) -> Option<Number>
     }
 }
 
-/// Whether the word that was handed in gave no entry: it has no dice, or they are equal and open no game.
+/// Returns whether the word that was handed in gave no entry: it has no dice, or they are equal and
+/// open no game.
 fn was_in_vain(outcome: &Outcome) -> bool
     ensures { result ≡ is_in_vain outcome.now }
 {

@@ -1,10 +1,11 @@
-//! The word of the dice, kept from event to event.
+//! The word of the dice, cached from event to event.
 ghost use Rattle.std.specs.Prelude.{◌≡◌};
 ghost use Rattle.bg_auto.specs.Attempts.{word_for as right_word};
 
 use crate::dice_attempts::DiceAttempts;
 
-/// The word that the referee is handed, and what it is the word of: it is made anew only where that changed.
+/// The word that the referee gets, with the attempt that it is the word of. It is computed anew
+/// only where that changed.
 #[derive(Drop)]
 pub(crate) struct KeptWord {
     seed: u64,
@@ -14,7 +15,7 @@ pub(crate) struct KeptWord {
 }
 
 impl KeptWord {
-    /// The word of this seed for the referee's next entry at its attempt.
+    /// Returns the word of this seed for the referee's next entry at its attempt.
     pub(crate) fn new(seed: u64, dice: DiceAttempts) -> KeptWord
         ensures seed { result.seed ≡ seed }
         ensures of { result.of ≡ dice }
@@ -26,7 +27,7 @@ impl KeptWord {
         }
     }
 
-    /// The same word as [`DiceAttempts::word`] gives.
+    /// Returns the same word as [`DiceAttempts::word`].
     pub(crate) fn word_for(&mut self, dice: DiceAttempts) -> u32
         ensures word { result ≡ right_word self.old.seed dice.held dice.attempt }
         ensures seed { self.new.seed ≡ self.old.seed }

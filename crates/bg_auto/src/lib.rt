@@ -1,6 +1,6 @@
-//! Automatic players and their matches: what a player does after a record, the random words of a match, the schedule of
-//! a match in memory, and a match in rounds over any link and any keepers. For hosts that want a player, or a match to
-//! try something on.
+//! Automatic players and their matches. It has the action of a player after a record, the random
+//! words of a match, and the schedule of a match in memory. It also plays a match in rounds over
+//! any link and any keepers. For hosts that want a player, or a match to try something on.
 //!
 //! ```
 //! // Match 7, of length 3 and with one watcher, after 2,000 events in memory.

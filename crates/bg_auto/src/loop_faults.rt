@@ -1,4 +1,4 @@
-//! Why a match in rounds ends before its last round.
+//! The reasons why a match in rounds ends before its last round.
 ghost use Rattle.std.specs.Prelude.{◌≡◌};
 ghost use Rattle.bg_auto.specs.Rounds.{ends};
 ghost use Rattle.bg_auto.specs.declared.loop_faults.LoopFault.TheVariants.{Memory, World, Write};
@@ -9,15 +9,17 @@ use std::alloc::{AllocError, AllocFailed};
 use std::fmt;
 use thiserror::Error;
 
-/// Why a match in rounds ends before its last round, or begins with none (docs/OPERATING.md, "Messages").
+/// The reason why a match in rounds ends before its last round, or begins with none
+/// (docs/OPERATING.md, "Messages").
 #[derive(Debug, PartialEq, Eq, Drop, Error)]
 pub enum LoopFault {
     /// There is no such match.
     World(WorldFault),
-    /// A socket could not be opened on 127.0.0.1, or not be made non-blocking: for who plays over sockets. A match over
-    /// devices that it is handed never ends so.
+    /// A socket could not be opened on 127.0.0.1, or could not be made non-blocking, in a match
+    /// over sockets. A match over devices that it is handed never ends so.
     Socket,
-    /// An event came to this outcome: the slots of a party could not be restored, or there was no memory.
+    /// An event had this outcome: the slots of a party could not be restored, or there was no
+    /// memory.
     Stopped(Outcome),
     /// The output could not be written.
     Write,
@@ -74,7 +76,7 @@ impl From<WorldFault> for LoopFault {
     }
 }
 
-/// Whether the outcome ends the match: slots can't be restored, or there was no memory.
+/// Returns whether the outcome ends the match: slots can't be restored, or there was no memory.
 pub(crate) fn ends_match(outcome: &Outcome) -> bool
     ensures { result ≡ ends outcome.now }
 {

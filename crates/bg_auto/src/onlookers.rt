@@ -1,20 +1,22 @@
-//! Who looks on while a match is played.
+//! Observers of a match while it is played.
 
 use bg_match::Number;
 use bg_wire::{REFEREE, party_of};
 use bg_world::{Event, Outcome};
 
-/// Looks on while a match is played round by round: it is told what happens, in order, and changes nothing of it.
+/// An observer of a match that is played round by round. It is told what happens, in order, and
+/// changes nothing of it.
 pub trait Onlooker {
-    /// The event came to this outcome, which may be one that ends the match. `held` is how many entries the party of
-    /// the event holds then; `None` where it is down.
+    /// Notes an event and its outcome, which may be one that ends the match. `held` is the number
+    /// of entries that the party of the event then holds, or `None` where it is down.
     fn happened(&mut self, event: &Event, outcome: &Outcome, held: Option<Number>);
 
-    /// So many rounds are played, from 1; in an automatic match, which has none, so many events.
+    /// Notes the number of rounds that are played, from 1. In an automatic match, which has no
+    /// rounds, it is the number of events.
     fn played(&mut self, done: u32);
 }
 
-/// Nobody looks on.
+/// An observer that does nothing.
 #[derive(Drop)]
 pub struct NoOnlooker;
 
@@ -24,8 +26,8 @@ impl Onlooker for NoOnlooker {
     fn played(&mut self, _done: u32) {}
 }
 
-/// The party at which an event happens: the number that the event names, the referee's for a word of an opening, or
-/// that of the seat which chooses.
+/// Returns the party at which an event happens: the number that the event names, the referee's for
+/// a word of an opening, or that of the seat which chooses.
 pub fn party_at(event: &Event) -> u8 {
     match event {
         Event::Due { word: _ } => REFEREE,

@@ -5,26 +5,26 @@ ghost use Rattle.bg_auto.specs.Rounds.{follow_up as follow_up_of};
 use bg_board::Player;
 use bg_world::{Event, Outcome};
 
-/// How many watch.
+/// The number of watchers.
 pub(crate) const WATCHERS: u8 = 1;
 
 /// The party that only watches.
 const WATCHER: u8 = 3;
 
-/// A part of a match: an event, but for the words and the actions that it hands in.
+/// A part of a match: an event without the words and the actions that it hands in.
 #[derive(Clone, Copy, Debug, PartialEq, Eq)]
 pub(crate) enum Part {
-    /// The referee is handed a word for an opening.
+    /// The referee gets a word for an opening.
     Due,
     /// This party takes a datagram.
     Take(u8),
-    /// The player's seat chooses what an automatic player does, if it acts.
+    /// The player's seat chooses the action of an automatic player, if it acts.
     Choose(Player),
     /// This party saves.
     Save(u8),
     /// This party sends what it has to send.
     Tick(u8),
-    /// This party begins again from what its slots restore.
+    /// This party restarts from what its slots restore.
     Restart(u8),
 }
 
@@ -55,8 +55,8 @@ pub(crate) const ROUND: [Part; 20] = [
     Part::Tick(WATCHER),
 ];
 
-/// What happens at once after a part came to this outcome: a party whose save failed is down, and begins again from
-/// what its slots restore.
+/// Returns the event that happens at once after a part with this outcome. A party whose save failed
+/// is down, and restarts from what its slots restore.
 pub(crate) fn follow_up(part: Part, outcome: &Outcome) -> Option<Event>
     ensures { result ≡ follow_up_of part outcome.now }
 {

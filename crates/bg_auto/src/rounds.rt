@@ -20,24 +20,29 @@ use bg_wire::{REFEREE, party_of};
 use bg_world::{Event, Keeper, Keepers, Link, Outcome, Setup, World, WorldFault, final_text};
 use std::alloc::{AllocError, Global};
 
-/// How many parties a match in rounds has: the referee, two seats and one watcher, with the numbers from 0 to 3.
+/// The number of parties in a match in rounds: the referee, two seats and one watcher, with the
+/// numbers from 0 to 3.
 pub const PARTIES: u8 = 3 + WATCHERS;
 
-/// The link hands over what it has; what a pick would name is its own affair.
+/// The pick in each take. The link hands over what it has, whatever a pick would name.
 const NO_PICK: u32 = 0;
 
-/// Plays a match of automatic players with one watcher, whose number is the seed: the referee and the seats begin again
-/// from their slots, so many rounds follow (docs/PROTOCOL.md, "Rounds"), and the output gets the final text
-/// (docs/FORMATS.md, "Final text"). The length is from 1 to 99. The words come from the seed (docs/FORMATS.md, "Random
-/// words").
+/// Plays a match of automatic players with one watcher, whose number is the seed. The referee and
+/// the seats restart from their slots, then `rounds` rounds follow (docs/PROTOCOL.md, "Rounds").
+/// The output gets the final text (docs/FORMATS.md, "Final text"). The length is from 1 to 99. The
+/// words come from the seed (docs/FORMATS.md, "Random words").
 ///
-/// A save that fails is followed by a restart of that party, and any other outcome by the next event, but for those
-/// that `Stopped` names.
+/// A save that fails is followed by a restart of that party. Any other outcome is followed by the
+/// next event, but for those that `Stopped` names.
 ///
 /// # Errors
-/// The first that is met: `World` where there is no such match; `Stopped` where slots can't be restored, or there is no
-/// memory for an event; `Memory` where there is none for a choice or the final text; `Write` exactly where the output
-/// fails. But for `Write` the output is as it was.
+/// The first that is met:
+/// - `World` where there is no such match;
+/// - `Stopped` where slots can't be restored, or there is no memory for an event;
+/// - `Memory` where there is none for a choice or the final text;
+/// - `Write` exactly where the output fails.
+///
+/// But for `Write` the output is as it was.
 pub fn run_rounds<L: Link + Drop, K: Keeper + Drop, W: Sink>(
     alloc: Global,
     seed: u64,
@@ -65,10 +70,10 @@ pub fn run_rounds<L: Link + Drop, K: Keeper + Drop, W: Sink>(
     )
 }
 
-/// The same as [`run_rounds`], with one who looks on.
+/// Plays the same match as [`run_rounds`], with an observer.
 ///
 /// # Errors
-/// Those of [`run_rounds`].
+/// The same as those of [`run_rounds`].
 pub fn play_rounds<L: Link + Drop, K: Keeper + Drop, W: Sink, O: Onlooker>(
     alloc: Global,
     seed: u64,
@@ -99,7 +104,7 @@ pub(crate) struct Rounds<L, K> {
 }
 
 impl<L: Link + Drop, K: Keeper + Drop> Rounds<L, K> {
-    /// A match where nothing has happened yet.
+    /// Returns a match where nothing has happened yet.
     fn new(
         alloc: Global,
         seed: u64,
@@ -129,7 +134,7 @@ impl<L: Link + Drop, K: Keeper + Drop> Rounds<L, K> {
         })
     }
 
-    /// Plays so many rounds, from the start.
+    /// Plays `rounds` rounds, from the start.
     fn run<O: Onlooker>(&mut self, rounds: u32, onlooker: &mut O) -> Result<(), LoopFault>
         ensures played { OnOk result (PlaysParts L.is_honest K.is_honest (moment_of L.Link K.Keeper self.old)
             (match_parts rounds) (moment_of L.Link K.Keeper self.new)) }
@@ -173,7 +178,7 @@ impl<L: Link + Drop, K: Keeper + Drop> Rounds<L, K> {
         Ok(())
     }
 
-    /// The event of a part; none where it is a choice of a player who does not act.
+    /// Returns the event of a part, or `None` where it is a choice of a player who does not act.
     fn event(&self, part: Part) -> Result<Option<Event>, AllocError>
         ensures event { IfOk result (IsEventOf (moment_of L.Link K.Keeper self.now) part) }
         ensures memory { OnErr result (MayLackMemory (moment_of L.Link K.Keeper self.now) part) }
@@ -193,7 +198,7 @@ impl<L: Link + Drop, K: Keeper + Drop> Rounds<L, K> {
         Ok(Some(event))
     }
 
-    /// What an automatic player chooses, if it acts by its own record.
+    /// Returns the choice of an automatic player, if it acts by its own record.
     fn choice(&self, player: Player) -> Result<Option<Event>, AllocError>
         ensures chosen { IfOk result (IsChosen (moment_of L.Link K.Keeper self.now) player) }
         ensures memory { OnErr result (MayLackMemory (moment_of L.Link K.Keeper self.now) (Part.Choose player)) }
@@ -210,14 +215,14 @@ impl<L: Link + Drop, K: Keeper + Drop> Rounds<L, K> {
         }))
     }
 
-    /// The word for the referee's next entry.
+    /// Returns the word for the referee's next entry.
     fn word(&self) -> u32
         ensures { result ≡ next_word (moment_of L.Link K.Keeper self.now) }
     {
         self.attempts.word(self.seed)
     }
 
-    /// Lets an event happen.
+    /// Runs an event.
     ///
     /// # Errors
     /// `Stopped` where its outcome ends the match.

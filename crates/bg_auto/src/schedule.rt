@@ -14,11 +14,11 @@ use std::alloc::{AllocError, Global};
 /// A world over devices in memory.
 pub type MemoryWorld = World<MemoryNet, MemoryKeeper>;
 
-/// The event that the words `a` and `b` choose in a world with so many watchers, at most 253, where `word` is handed to
-/// the referee (docs/PROTOCOL.md, "Automatic matches").
+/// Returns the event that the words `a` and `b` choose in a world with this number of watchers, at
+/// most 253. `word` is the word that the referee gets (docs/PROTOCOL.md, "Automatic matches").
 ///
 /// # Errors
-/// AllocError where there is no memory for the list of legal turns.
+/// `AllocError` where there is no memory for the list of legal turns.
 pub fn event_of(
     alloc: Global,
     world: &MemoryWorld,
@@ -49,8 +49,8 @@ pub fn event_of(
     }
 }
 
-/// Of so many datagrams the one that lies so far back, from 0 for the last; where there is none, a pick that names
-/// none.
+/// Returns the index, among `count` datagrams, of the one that lies `back` places before the last.
+/// Where there is none, returns a pick that names none.
 fn late_pick(count: u32, back: u32) -> u32
     ensures { result ≡ pick_of count back }
 {
@@ -61,14 +61,15 @@ fn late_pick(count: u32, back: u32) -> u32
     }
 }
 
-/// The player whose turn to choose a word makes it.
+/// Returns the player whose turn to choose a word makes it.
 fn named_player(b: u32) -> Player
     ensures { result ≡ player_of b }
 {
     if b % 2 == 0 { Player::X } else { Player::O }
 }
 
-/// What an automatic player chooses; where he chooses nothing, his seat ticks.
+/// Returns the choice of an automatic player. Where the player chooses nothing, it is a tick of the
+/// player's seat.
 fn choice_of(alloc: Global, world: &MemoryWorld, player: Player) -> Result<Event, AllocError>
     ensures { IfOk result (λ event. IsChoice (memory_view world.now) player event) }
 {

@@ -23,10 +23,10 @@ use bg_world::{Outcome, Plan, ScriptFault, Setup, WorldFault, final_text, simula
 use std::alloc::{AllocError, Global};
 
 impl Simulation {
-    /// The start of the match that has the seed as its number.
+    /// Returns the start of the match that has the seed as its number.
     ///
     /// # Errors
-    /// As of [`World::new`](bg_world::World::new).
+    /// The same as those of [`World::new`](bg_world::World::new).
     pub fn new(
         alloc: Global,
         seed: u64,
@@ -59,10 +59,10 @@ impl Simulation {
         })
     }
 
-    /// Lets the event of this index happen, from 0 (docs/PROTOCOL.md, "Automatic matches").
+    /// Runs the event of this index, from 0 (docs/PROTOCOL.md, "Automatic matches").
     ///
     /// # Errors
-    /// AllocError where memory was wanted: the match can't go on.
+    /// `AllocError` where memory ran out: the match can't go on.
     pub fn step(&mut self, index: u32) -> Result<(), AllocError>
         ensures { OnOk result (HappensAs self.old index self.new) }
     {
@@ -70,7 +70,7 @@ impl Simulation {
         self.happen(self.dice.word(self.seed), (a, b))
     }
 
-    /// Lets the event happen that these words of the schedule choose, with this word for the referee.
+    /// Runs the event that these words of the schedule choose, with this word for the referee.
     fn happen(&mut self, word: u32, words: (u32, u32)) -> Result<(), AllocError>
         ensures { (index : ℕ) → word ≡ word_for self.old.seed self.old.dice.held self.old.dice.attempt
             → words ≡ words_of_event self.old.seed index → OnOk result (HappensAs self.old index self.new) }
@@ -84,10 +84,10 @@ impl Simulation {
         Ok(())
     }
 
-    /// Lets so many events happen, in order.
+    /// Runs `steps` events, in order.
     ///
     /// # Errors
-    /// AllocError where memory was wanted: the match can't go on.
+    /// `AllocError` where memory ran out: the match can't go on.
     fn run<O: Onlooker>(&mut self, steps: u32, onlooker: &mut O) -> Result<(), AllocError>
         ensures { OnOk result (Runs steps self.old self.new) }
     {
@@ -101,7 +101,7 @@ impl Simulation {
         Ok(())
     }
 
-    /// The text after so many events.
+    /// Returns the text after `steps` events.
     fn text_after<O: Onlooker>(
         &mut self,
         steps: u32,
@@ -114,10 +114,10 @@ impl Simulation {
         self.text()
     }
 
-    /// The transcript of the referee's record, and then the final text.
+    /// Returns the transcript of the referee's record, followed by the final text.
     ///
     /// # Errors
-    /// AllocError where memory runs out.
+    /// `AllocError` where memory runs out.
     pub fn text(&self) -> Result<Vec<u8>, AllocError>
         ensures { IfOk result (λ text. IsPrinted (memory_view self.now.world) text.items) }
     {
@@ -130,7 +130,8 @@ impl Simulation {
     }
 }
 
-/// Whether memory was wanted: over devices in memory that never fail, a save fails for nothing else.
+/// Returns whether memory ran out. Over devices in memory that never fail, a save fails for nothing
+/// else.
 fn wants_memory(outcome: &Outcome) -> bool
     ensures { result ≡ is_wanting outcome.now }
 {
@@ -140,12 +141,14 @@ fn wants_memory(outcome: &Outcome) -> bool
     }
 }
 
-/// What an automatic match prints that has the seed as its number, after so many events: the transcript of the
-/// referee's record, and then the final text (docs/PROTOCOL.md, "Automatic matches").
+/// Returns the text that an automatic match with the seed as its number prints after `steps`
+/// events. It is the transcript of the referee's record, followed by the final text
+/// (docs/PROTOCOL.md, "Automatic matches").
 ///
 /// # Errors
-/// `World` where there is no such world, by the first test that fails of [`World::new`](bg_world::World::new). `Engine`
-/// with `Memory` where memory runs out after the world is made.
+/// `World` where there is no such world, by the first test that fails of
+/// [`World::new`](bg_world::World::new). `Engine` with `Memory` where memory runs out after the
+/// world is made.
 pub fn sim_text(
     alloc: Global,
     seed: u64,
@@ -161,10 +164,11 @@ pub fn sim_text(
     play_sim(alloc, seed, length, rules, watchers, steps, &mut NoOnlooker)
 }
 
-/// The same as [`sim_text`], with one who looks on: who is told how many events are played, and not what they came to.
+/// Returns the same text as [`sim_text`], with an observer. It is told the number of events played,
+/// and not their outcomes.
 ///
 /// # Errors
-/// Those of [`sim_text`].
+/// The same as those of [`sim_text`].
 pub fn play_sim<O: Onlooker>(
     alloc: Global,
     seed: u64,

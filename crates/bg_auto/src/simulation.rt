@@ -1,4 +1,4 @@
-//! What an automatic match has.
+//! The state of an automatic match.
 ghost use Rattle.std.specs.Prelude.{◌≤◌};
 ghost use Rattle.bg_world.specs.Protocol.State.{most_watchers};
 

@@ -15,24 +15,25 @@ const DICE_STREAM: u64 = 1;
 /// The stream of the schedule.
 const SCHEDULE_STREAM: u64 = 2;
 
-/// How many places of the dice's stream each entry has: one for each attempt.
+/// The number of places of the dice's stream that each entry has: one for each attempt.
 const ATTEMPTS: u128 = 65536;
 
-/// The word whose dice are handed in for the entry of this number, at this attempt (docs/FORMATS.md, "Random words").
+/// Returns the word whose dice are handed in for the entry of this number, at this attempt
+/// (docs/FORMATS.md, "Random words").
 pub fn dice_word(seed: u64, n: u32, attempt: u16) -> u32
     ensures { result ≡ word_of_dice seed n attempt }
 {
     dice_word_at(&key_of_seed(seed), n.into(), attempt)
 }
 
-/// The word for the entry behind so many, at this attempt, by the bytes of a key.
+/// Returns the word for the entry behind `entries` others, at this attempt, by the bytes of a key.
 pub(crate) fn next_dice_word(key: &[u8; 32], entries: Number, attempt: u16) -> u32
     ensures { result ≡ keyed_dice_word key.now (entries + 1) attempt }
 {
     dice_word_at(key, u64::from(entries) + 1, attempt)
 }
 
-/// The word for the entry of a number that may be one above those of 32 bits.
+/// Returns the word for the entry of a number that may be one above those of 32 bits.
 fn dice_word_at(key: &[u8; 32], n: u64, attempt: u16) -> u32
     requires { n ≤ 2 ^ 32 }
     ensures { result ≡ keyed_dice_word key.now n attempt }
@@ -41,21 +42,23 @@ fn dice_word_at(key: &[u8; 32], n: u64, attempt: u16) -> u32
     words_from(key, DICE_STREAM, place).next_word()
 }
 
-/// The two words that choose the event of this index, from 0 (docs/FORMATS.md, "Random words").
+/// Returns the two words that choose the event of this index, from 0 (docs/FORMATS.md,
+/// "Random words").
 pub fn event_words(seed: u64, index: u32) -> (u32, u32)
     ensures { result ≡ words_of_event seed index }
 {
     next_event_words(&mut schedule_from(seed, index))
 }
 
-/// The schedule's generator before the event of this index, from 0.
+/// Returns the schedule's generator before the event of this index, from 0.
 pub(crate) fn schedule_from(seed: u64, index: u32) -> ChaCha20Rng
     ensures { result ≡ schedule_at seed index }
 {
     words_from(&key_of_seed(seed), SCHEDULE_STREAM, 2 * u128::from(index))
 }
 
-/// The two words that choose the next event, and the schedule's generator goes on behind them.
+/// Returns the two words that choose the next event, and advances the schedule's generator past
+/// them.
 pub(crate) fn next_event_words(schedule: &mut ChaCha20Rng) -> (u32, u32)
     ensures words { (seed index : ℕ) → index < 2 ^ 32 → schedule.old ≡ schedule_at seed index
         → result ≡ words_of_event seed index }
@@ -67,7 +70,7 @@ pub(crate) fn next_event_words(schedule: &mut ChaCha20Rng) -> (u32, u32)
     (a, b)
 }
 
-/// The bytes of the key of a seed.
+/// Returns the bytes of the key of a seed.
 pub(crate) fn key_of_seed(seed: u64) -> [u8; 32]
     ensures { result ≡ key_bytes seed }
 {
@@ -76,7 +79,7 @@ pub(crate) fn key_of_seed(seed: u64) -> [u8; 32]
     key
 }
 
-/// The words of a stream of a key, from a place on.
+/// Returns the words of a stream of a key, from a place on.
 fn words_from(key: &[u8; 32], stream: u64, place: u128) -> ChaCha20Rng
     requires { place < 2 ^ 68 }
     ensures { result ≡ record { key = key_of key.now; stream = stream; word_pos = place } }

@@ -9,7 +9,7 @@ ghost use Rattle.bg_board.specs.Step.{carried, hit_by};
 use crate::{Die, Player, Step, StepFault};
 use std::marker::Model;
 
-/// Why counts are no board (docs/RULES.md, "The board").
+/// The reason why counts are no board (docs/RULES.md, "The board").
 #[derive(Clone, Copy, Debug, PartialEq, Eq)]
 pub enum BoardFault {
     /// A player does not have fifteen checkers.
@@ -18,23 +18,23 @@ pub enum BoardFault {
     SharedPoint,
 }
 
-/// Where a player's checkers are borne off to, in his own numbering.
+/// The place of checkers that are borne off, in the player's own numbering.
 pub const OFF: u8 = 0;
 
-/// A player's bar, in his own numbering.
+/// The bar of a player, in the player's own numbering.
 pub const BAR: u8 = 25;
 
-/// How many checkers each player has.
+/// The number of checkers of each player.
 pub const CHECKERS: u8 = 15;
 
 /// The highest point of a player's home board.
 pub const HOME: u8 = 6;
 
-/// Where each player's fifteen checkers stand (docs/RULES.md, "The board").
+/// The fifteen checkers of each player, by point (docs/RULES.md, "The board").
 ///
-/// Each player numbers the points his own way: 24 down to 1, then 0 for checkers that are off, and
-/// 25 for the bar. Point `p` of one player is point `25 - p` of the other, and no point from 1 to 24
-/// holds checkers of both.
+/// Each player numbers the points in their own way: 24 down to 1, then 0 for checkers that are off,
+/// and 25 for the bar. Point `p` of one player is point `25 - p` of the other. No point from 1 to
+/// 24 holds checkers of both.
 #[derive(Clone, Copy, Debug, PartialEq, Eq)]
 pub struct Board {
     x: [u8; 26],
@@ -55,8 +55,8 @@ impl Board {
     ghost use Rattle.bg_board.specs.BoardFault.{IsBoardFault};
     ghost use Rattle.bg_board.specs.Step.{IsStep, IsLegalStep, after_step, IsStepFault};
 
-    /// The board at the start of a game: for each player two checkers on 24, five on 13, three on 8
-    /// and five on 6.
+    /// Returns the board at the start of a game: for each player two checkers on 24, five on 13,
+    /// three on 8 and five on 6.
     pub fn start() -> Board
         ensures { result ≡ start_position }
     {
@@ -66,15 +66,15 @@ impl Board {
         Board { x: START, o: START }
     }
 
-    /// The board with these checkers of X and of O, each list by the player's own numbering: how many
-    /// stand on point 0 (off), 1, .., 25 (the bar).
+    /// Returns the board with these checkers of X and of O. Each list is in the player's own
+    /// numbering: the number of checkers on point 0 (off), 1, .., 25 (the bar).
     ///
     /// # Errors
     ///
     /// Tested in this order:
     /// 1. [`BoardFault::NotFifteen`]: one of the lists does not add up to fifteen.
-    /// 2. [`BoardFault::SharedPoint`]: for a point `p` from 1 to 24, X has a checker on his `p` and O
-    ///    one on his `25 - p`.
+    /// 2. [`BoardFault::SharedPoint`]: for a point `p` from 1 to 24, X has a checker on their `p`
+    ///    and O has one on their `25 - p`.
     pub fn from_counts(x: [u8; 26], o: [u8; 26]) -> Result<Board, BoardFault>
         ensures ok { IsOk result ↔ IsPosition (record { x = x; o = o }) }
         ensures value { IfOk result (λ board. board ≡ record { x = x; o = o }) }
@@ -89,8 +89,8 @@ impl Board {
         Ok(Board { x, o })
     }
 
-    /// How many checkers, 0 to 15, the player has on a point of his own numbering: 0 is off, 25 is the
-    /// bar.
+    /// Returns the number of checkers, 0 to 15, that the player has on a point of their own
+    /// numbering: 0 is off, 25 is the bar.
     pub fn count(&self, player: Player, point: u8) -> u8
         requires { point ≤ 25 }
         ensures value { result ≡ count self.now player point }
@@ -99,8 +99,8 @@ impl Board {
         self.checkers(player)[usize::from(point)]
     }
 
-    /// How many checkers, 0 to 15, the player has above a point of his own numbering, 0 to 25, those on
-    /// the bar included.
+    /// Returns the number of checkers, 0 to 15, that the player has above a point of their own
+    /// numbering, 0 to 25. Those on the bar are included.
     pub fn count_above(&self, player: Player, point: u8) -> u8
         requires { point ≤ 25 }
         ensures value { result ≡ count_above self.now player point }
@@ -110,28 +110,31 @@ impl Board {
         total(&self.checkers(player)[above..]) as u8
     }
 
-    /// Whether the player has borne off his fifteen checkers.
+    /// Returns whether the player has borne off all fifteen checkers.
     pub fn has_all_off(&self, player: Player) -> bool
         ensures { IsTrue result ↔ HasAllOff self.now player }
     {
         self.count(player, OFF) == CHECKERS
     }
 
-    /// Plays one checker's step by this die, and gives the board after it: the checker stands on its
-    /// landing point, and a single opposing checker there has gone to its bar (docs/RULES.md, "A step").
+    /// Plays one checker's step by this die, and returns the board after it. The checker stands on
+    /// its landing point, and a single opposing checker there has gone to its bar (docs/RULES.md,
+    /// "A step").
     ///
     /// # Errors
     ///
     /// Tested in this order:
     /// 1. [`StepFault::NoChecker`]: the player has no checker where the step begins.
-    /// 2. [`StepFault::BarFirst`]: he has a checker on the bar, and the step begins elsewhere.
-    /// 3. [`StepFault::WrongLanding`]: the step does not end as many points lower as the die shows, or
-    ///    at 0 where that would be 0 or less.
-    /// 4. [`StepFault::Blocked`]: the step ends on a point from 1 to 24 that holds two or more opposing
-    ///    checkers.
-    /// 5. [`StepFault::NotAllHome`]: the step bears off, and one of his checkers stands above 6.
-    /// 6. [`StepFault::HigherChecker`]: the step bears off from below the die's number, and one of his
-    ///    checkers stands above the point where it begins.
+    /// 2. [`StepFault::BarFirst`]: the player has a checker on the bar, and the step begins
+    ///    elsewhere.
+    /// 3. [`StepFault::WrongLanding`]: the step does not end as many points lower as the die shows,
+    ///    or at 0 where that would be 0 or less.
+    /// 4. [`StepFault::Blocked`]: the step ends on a point from 1 to 24 that holds two or more
+    ///    opposing checkers.
+    /// 5. [`StepFault::NotAllHome`]: the step bears off, and one of the player's checkers stands
+    ///    above 6.
+    /// 6. [`StepFault::HigherChecker`]: the step bears off from below the die's number, and one of
+    ///    the player's checkers stands above the point where it begins.
     pub fn play_step(&self, player: Player, step: Step, die: Die) -> Result<Board, StepFault>
         ensures ok { IsOk result ↔ IsStep self.now player step (pips die) }
         ensures after { IfOk result (λ board. board ≡ after_step self.now player step) }
@@ -163,8 +166,8 @@ impl Board {
         Ok(after)
     }
 
-    /// Plays a step that is legal by some die, where [`Board::play_step`] gives the board after it: for a caller
-    /// who has tested the step already.
+    /// Plays a step that is legal by some die, in place. The board becomes the one that
+    /// [`Board::play_step`] returns; this call is for a caller who has already tested the step.
     pub fn play(&mut self, player: Player, step: Step)
         requires { IsLegalStep self.old player step }
         ensures { self.new ≡ after_step self.old player step }
@@ -175,7 +178,8 @@ impl Board {
         }
     }
 
-    /// The player's checkers by point of his own numbering: how many, 0 to 15, stand on 0 (off), 1, .., 25 (the bar).
+    /// Returns the player's checkers by point of their own numbering: the number, 0 to 15, on 0
+    /// (off), 1, .., 25 (the bar).
     pub fn checkers(&self, player: Player) -> &[u8; 26]
         ensures value { result.now ≡ checkers self.now player }
         ensures board { IsPosition self.now }
@@ -187,7 +191,7 @@ impl Board {
     }
 }
 
-/// Whether both players have checkers on one point.
+/// Returns whether both players have checkers on one point.
 fn share_a_point(own: &[u8; 26], other: &[u8; 26]) -> bool
     ensures shared { OnTrue result (SharesPoint own.now other.now) }
     ensures apart { OnFalse result (AreApart own.now other.now) }
@@ -196,7 +200,7 @@ fn share_a_point(own: &[u8; 26], other: &[u8; 26]) -> bool
     (1..bar).any(|point| own[point] > 0 && other[bar - point] > 0)
 }
 
-/// How many checkers there are.
+/// Returns the total number of checkers.
 fn total(counts: &[u8]) -> u32
     requires { length counts.now ≤ 26 }
     ensures { result ≡ sum counts.now }
@@ -204,7 +208,8 @@ fn total(counts: &[u8]) -> u32
     counts.iter().map(|count| u32::from(*count)).sum()
 }
 
-/// A player's checker is carried by a step, and a single checker of the other where it lands goes to the bar.
+/// Moves a player's checker by a step, and sends a single opposing checker on its landing point to
+/// the bar.
 fn carry_and_hit(own: &mut [u8; 26], other: &mut [u8; 26], step: Step)
     requires checker { 0 < slice_index own.old step.from }
     requires fifteen { sum own.old ≡ 15 }

@@ -1,4 +1,4 @@
-//! The words of faults.
+//! `Display` of the faults.
 
 use crate::{BoardFault, StepFault};
 use std::fmt;

@@ -1,4 +1,4 @@
-//! What is refused, as the status that a call answers.
+//! Refusals as the statuses that calls return.
 ghost use Rattle.std.specs.Prelude.{◌≡◌};
 
 use crate::statuses::Status;

@@ -1,4 +1,4 @@
-//! Packets on their way, as C sees them.
+//! Datagrams to send, as C sees them.
 ghost use Rattle.std.specs.Prelude.{◌≡◌, ◌≤◌, None, Some, All, length, slice_get};
 ghost use Rattle.bg_wire.specs.Entries.Codes.{longest_datagram};
 ghost use Rattle.bg_wire.specs.Packets.PacketText.{IsPacket};
@@ -9,19 +9,20 @@ use bg_parties::Taken;
 use bg_referee::TakeOutcome;
 use bg_wire::{MOST_DATAGRAM_BYTES, Packet, encode};
 
-/// A packet on its way, `bg_datagram` of the header.
+/// A packet to send, `bg_datagram` of the header.
 #[repr(C)]
 #[derive(Clone, Copy, Debug, PartialEq, Eq)]
 pub struct Datagram {
     /// The party that it goes to, from 0 to 255.
     pub to: u32,
-    /// How many bytes the packet has, from 18 to 98; 0 where nothing is sent, and then `to` is 0.
+    /// The length of the packet in bytes, from 18 to 98, or 0 where nothing is sent; then `to`
+    /// is 0.
     pub length: u32,
-    /// The packet at the front, and 0 behind it.
+    /// The packet at the front, followed by 0.
     pub bytes: [u8; MOST_DATAGRAM_BYTES],
 }
 
-/// A text at the front of the bytes of a datagram, and 0 behind it.
+/// Returns an encoding at the front of the bytes of a datagram, followed by 0.
 fn padded(text: &[u8]) -> [u8; MOST_DATAGRAM_BYTES]
     requires { length text.now ≤ longest_datagram }
     ensures { result ≡ padded longest_datagram text.now }
@@ -32,7 +33,7 @@ fn padded(text: &[u8]) -> [u8; MOST_DATAGRAM_BYTES]
 }
 
 impl Datagram {
-    /// Nothing is sent.
+    /// Returns the datagram where nothing is sent.
     fn none() -> Datagram
         ensures { result ≡ datagram_of None }
     {
@@ -43,7 +44,7 @@ impl Datagram {
         }
     }
 
-    /// A packet goes to a party.
+    /// Returns the datagram of a packet to a party.
     fn new(to: u8, packet: &Packet) -> Datagram
         requires { IsPacket packet.now }
         ensures { result ≡ datagram_of (Some (to, packet.now)) }
@@ -57,7 +58,8 @@ impl Datagram {
         }
     }
 
-    /// The one of these packets that has this index, each beside the party that it goes to.
+    /// Returns the datagram of the packet with this index, or the one where nothing is sent. Each
+    /// packet stands beside the party that it goes to.
     pub(crate) fn at(sent: &[(u8, Packet)], index: usize) -> Datagram
         requires { All (λ one. IsPacket one.1) sent.now }
         ensures { result ≡ datagram_of (slice_get sent.now index) }
@@ -68,7 +70,7 @@ impl Datagram {
         }
     }
 
-    /// What a party answers to a packet that it took.
+    /// Returns the answer of a party to a packet that it took.
     pub(crate) fn reply(taken: &Taken) -> Datagram
         requires { ReplyFits taken.now }
         ensures { result ≡ datagram_of (reply_of taken.now) }

@@ -9,8 +9,8 @@ use std::marker::Model;
 use std::mem::replace;
 use std::ptr::null_mut;
 
-/// A place for a party, `bg_party` of the header. C sees a pointer, which is null where there is none, so that a place
-/// of zero bytes is an empty one. Contracts see the party.
+/// A place for a party, `bg_party` of the header. C sees a pointer, which is null where there is
+/// none, so that a place of zero bytes is an empty one. Contracts see the party.
 #[repr(C)]
 pub struct Handle {
     at: *mut u8,
@@ -23,7 +23,7 @@ impl Model for Handle {
 }
 
 impl Handle {
-    /// Without a party.
+    /// Returns a handle without a party.
     pub fn empty(alloc: Global) -> Handle
         ensures { result.value ≡ None }
     {
@@ -33,14 +33,14 @@ impl Handle {
         }
     }
 
-    /// With a party.
+    /// Returns a handle with a party.
     pub fn full(party: Box<Party>) -> Handle
         ensures { result.value ≡ Some party.value }
     {
         Handle::of_loose(Loose::of(party))
     }
 
-    /// The party that it has.
+    /// Returns the party that the handle has.
     pub fn into_box(self) -> Option<Box<Party>>
         ensures { option_map (λ party. party.value) result ≡ self.value }
     {
@@ -50,7 +50,7 @@ impl Handle {
         }
     }
 
-    /// Takes the party that it has, and leaves it without one.
+    /// Takes the party that the handle has, and leaves the handle without one.
     pub fn take(&mut self, alloc: Global) -> Option<Box<Party>>
         ensures taken { option_map (λ party. party.value) result ≡ self.old.value }
         ensures empty { self.new.value ≡ None }
@@ -58,14 +58,14 @@ impl Handle {
         replace(self, Handle::empty(alloc)).into_box()
     }
 
-    /// Puts a party in. What it has is let go.
+    /// Puts a party into the handle. The party that it has is dropped.
     pub fn put(&mut self, party: Box<Party>)
         ensures { self.new.value ≡ Some party.value }
     {
         *self = Handle::full(party);
     }
 
-    /// Of the pointer of a box, which is the handle's from here on.
+    /// Returns a handle of the pointer of a box, which is the handle's from here on.
     fn of_loose(loose: Loose<Party, Global>) -> Handle
         ensures { result.value ≡ Some loose.value }
     {
@@ -76,7 +76,7 @@ impl Handle {
         }
     }
 
-    /// The pointer of its box, where it is not null.
+    /// Returns the pointer of the handle's box, where it is not null.
     fn into_loose(self) -> Option<Loose<Party, Global>>
         ensures { option_map (λ loose. loose.value) result ≡ self.value }
     {
@@ -97,5 +97,6 @@ impl Drop for Handle {
     }
 }
 
-// The pointer is its box's own: whoever has the handle has the whole party, and nobody else has a part of it.
+// The pointer is that of a box of the handle's own: whoever has the handle has the whole party, and
+// nobody else has a part of it.
 unsafe impl Send for Handle {}

@@ -19,12 +19,13 @@ use std::alloc::Global;
 pub struct VerdictFields {
     /// 0 fine, 1 refused, 2 longer than 41943040 bytes.
     pub kind: u32,
-    /// Of entries where it is fine; of the refused line, from 1, where it is refused; else 0.
+    /// The number of entries where it is fine, that of the refused line, from 1, where it is
+    /// refused, and 0 otherwise.
     pub number: u32,
 }
 
 impl VerdictFields {
-    /// The parts of a verdict.
+    /// Returns the parts of a verdict.
     fn of(verdict: Verdict) -> VerdictFields
         ensures { result ≡ verdict_fields verdict }
     {
@@ -37,8 +38,8 @@ impl VerdictFields {
     }
 }
 
-/// Judges a transcript: writes the board after its longest legal part, and the line of the verdict. `verdict` is set
-/// where the answer is BG_OK or BG_NO_ROOM. BG_MEMORY where there was no memory.
+/// Judges a transcript: writes the board after its longest legal part, and the line of the verdict.
+/// `verdict` is set where the result is BG_OK or BG_NO_ROOM. BG_MEMORY where there was no memory.
 #[unsafe(no_mangle)]
 pub extern "C" fn bg_judge(
     alloc: Global,

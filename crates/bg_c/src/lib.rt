@@ -1,10 +1,11 @@
-//! The relay for programs in C, and in languages that call C: the calls of the header bg_relay.h, which says what a
-//! caller owes.
+//! The relay for programs in C, and in languages that call C: the calls of the header bg_relay.h,
+//! which states the obligations of a caller.
 //!
-//! A call answers the number of a [`Status`]. What it sets is set where it is done, and else it is as before; of a text
-//! that does not fit into its room the length is told. A party stands behind a [`Handle`](handle::Handle): a call takes
-//! it out, and puts it back, so that no party is in two calls at once. Contracts see the party that a handle has. They
-//! say of each call what `bg_parties` says of it, the status that it answers, and what it sets.
+//! A call returns the number of a [`Status`]. It sets its results where it succeeds; otherwise they
+//! are as before. Where a text does not fit into its room, its length is set. A party stands behind
+//! a [`Handle`](handle::Handle): a call takes it out, and puts it back, so that no party is in two
+//! calls at once. Contracts see the party that a handle has. They state for each call what
+//! `bg_parties` states of it, the status that it returns, and what it sets.
 #![tactic(auto)]
 
 mod answers;
@@ -35,7 +36,7 @@ use statuses::Status;
 /// The version of the calls, `BG_VERSION` of the header.
 const VERSION: u32 = 1;
 
-/// The version of the calls.
+/// Returns the version of the calls.
 #[unsafe(no_mangle)]
 pub extern "C" fn bg_version() -> u32
     ensures { result ≡ 1 }
@@ -43,7 +44,8 @@ pub extern "C" fn bg_version() -> u32
     VERSION
 }
 
-/// Writes what a status says, in English, without a line feed. BG_BAD_ARGUMENT where there is no such status.
+/// Writes the description of a status, in English, without a line feed. BG_BAD_ARGUMENT where there
+/// is no such status.
 #[unsafe(no_mangle)]
 pub extern "C" fn bg_status_text(status: u32, out: &mut [u8], needed: &mut usize) -> u32
     ensures text { (of : AStatus) → status ≡ status_code of → (answer : AStatus) × (result ≡ status_code answer)

@@ -7,9 +7,9 @@ use std::marker::Model;
 
 /// A box as its pointer. Contracts see what it points to.
 pub struct Loose<T, A: Allocator> {
-    /// Where the value is.
+    /// The address of the value.
     pub at: *mut T,
-    /// What frees its place.
+    /// The allocator that frees its place.
     pub alloc: A,
     pub ghost value: { T },
 }

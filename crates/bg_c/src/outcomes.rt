@@ -1,4 +1,5 @@
-//! What C is told of a packet that a party took, of why an entry does not follow, and of who acts.
+//! The outcomes that C sees: of a packet that a party took, of an entry that does not follow, and
+//! of the question who acts.
 ghost use Rattle.std.specs.Prelude.{◌≡◌};
 ghost use Rattle.bg_c.specs.Outcomes.{actor_code, took_code, why_code};
 ghost use Rattle.bg_c.specs.Outcomes.{follower_outcome, outcome_of, referee_outcome, told};
@@ -13,7 +14,7 @@ use bg_turns::TurnFault;
 /// The number where there is no reason.
 const NO_WHY: u32 = 0;
 
-/// What a party made of a packet, in the order of the numbers.
+/// The outcome of a packet that a party took, in the order of the numbers.
 #[derive(Clone, Copy, Debug, PartialEq, Eq)]
 pub enum Took {
     /// There is nothing to do, or nothing new.
@@ -22,13 +23,13 @@ pub enum Took {
     OtherMatch,
     /// The referee: the answer is to be sent.
     Answered,
-    /// The referee: what was claimed is an entry now.
+    /// The referee: the claimed action is an entry now.
     Accepted,
     /// The referee: the party holds more than is saved, or claims too high a number.
     Ahead,
     /// The referee: the seat does not act.
     NotYourTurn,
-    /// The referee: what is claimed does not follow.
+    /// The referee: the claimed action does not follow.
     Illegal,
     /// The referee: the word has no dice.
     WordRefused,
@@ -43,7 +44,7 @@ pub enum Took {
 }
 
 impl Took {
-    /// Its number, from 0.
+    /// Returns its number, from 0.
     pub fn code(self) -> u32
         ensures { result ≡ took_code self }
     {
@@ -64,7 +65,8 @@ impl Took {
     }
 }
 
-/// The number of a reason. That of an illegal step is 11 and as many as can be played before it, from 0 to 3.
+/// Returns the number of a reason. That of an illegal step is 11 plus the number of steps that can
+/// be played before it, from 0 to 3.
 pub fn why_code(why: EntryFault) -> u32
     ensures { result ≡ why_code why }
 {
@@ -83,7 +85,7 @@ pub fn why_code(why: EntryFault) -> u32
     }
 }
 
-/// The number of the one who acts: 0 the referee, 1 X, 2 O, 3 nobody.
+/// Returns the number of the one who acts: 0 for the referee, 1 for X, 2 for O, 3 for nobody.
 pub fn actor_code(actor: Actor) -> u32
     ensures { result ≡ actor_code actor }
 {
@@ -95,20 +97,20 @@ pub fn actor_code(actor: Actor) -> u32
     }
 }
 
-/// What C is told of a packet that a party took, `bg_outcome` of the header.
+/// The outcome of a packet that a party took, `bg_outcome` of the header.
 #[repr(C)]
 #[derive(Clone, Copy, Debug, PartialEq, Eq)]
 pub struct Outcome {
-    /// What the party made of it: the number of a [`Took`].
+    /// The kind of the outcome: the number of a [`Took`].
     pub kind: u32,
-    /// Of the entry, or how many were learned; 0 where the kind has no number.
+    /// The number of the entry, or of entries learned; 0 where the kind has no number.
     pub number: u32,
-    /// Why what is claimed does not follow; else 0.
+    /// The reason why the claimed action does not follow; else 0.
     pub why: u32,
 }
 
 impl Outcome {
-    /// Of this kind, with a number.
+    /// Returns an outcome of this kind, with a number.
     fn numbered(kind: Took, number: u32) -> Outcome
         ensures { result ≡ told kind number 0 }
     {
@@ -119,14 +121,14 @@ impl Outcome {
         }
     }
 
-    /// Of this kind.
+    /// Returns an outcome of this kind.
     fn plain(kind: Took) -> Outcome
         ensures { result ≡ told kind 0 0 }
     {
         Outcome::numbered(kind, 0)
     }
 
-    /// What is told of what the referee answers; `None` where there was no memory.
+    /// Returns the outcome of the referee's answer, or `None` where there was no memory.
     fn of_referee(outcome: &TakeOutcome) -> Option<Outcome>
         ensures { result ≡ referee_outcome outcome.now }
     {
@@ -147,7 +149,7 @@ impl Outcome {
         })
     }
 
-    /// What is told of what a follower learns; `None` where there was no memory.
+    /// Returns the outcome of what a follower learns, or `None` where there was no memory.
     fn of_follower(learned: Learned) -> Option<Outcome>
         ensures { result ≡ follower_outcome learned }
     {
@@ -162,7 +164,7 @@ impl Outcome {
         })
     }
 
-    /// What is told of what a party made of a packet; `None` where there was no memory.
+    /// Returns the outcome of a packet that a party took, or `None` where there was no memory.
     pub(crate) fn of(taken: &Taken) -> Option<Outcome>
         ensures { result ≡ outcome_of taken.now }
     {

@@ -1,4 +1,4 @@
-//! What is read of packets, to route them.
+//! The parts of packets by which they are routed.
 ghost use Rattle.std.specs.Prelude.{◌≡◌, Result};
 ghost use Rattle.bg_c.specs.Packets.{ReadsPacket, packet_fields};
 ghost use Rattle.bg_c.specs.Sets.{Sets};
@@ -24,13 +24,13 @@ pub struct PacketFields {
     pub kind: u32,
     /// The party, from 1 to 255, that wants or claims; 0 where entries are told.
     pub sender: u32,
-    /// How many entries are held, the number of the claimed entry, or of the first entry that is told.
+    /// The number of entries held, of the claimed entry, or of the first entry that is told.
     pub number: u32,
-    /// How many entries are told, from 1 to 8; else 0.
+    /// The number of entries that are told, from 1 to 8; else 0.
     pub count: u32,
 }
 
-/// The number of rules.
+/// Returns the number of the rules.
 fn rules_code(rules: Rules) -> u32
     ensures { result ≡ rules_code rules }
 {
@@ -41,7 +41,7 @@ fn rules_code(rules: Rules) -> u32
 }
 
 impl PacketFields {
-    /// The parts of a packet.
+    /// Returns the parts of a packet.
     fn of(packet: &Packet) -> PacketFields
         requires { IsPacket packet.now }
         ensures { result ≡ packet_fields packet.now }
@@ -62,7 +62,7 @@ impl PacketFields {
     }
 }
 
-/// The parts of the packet whose text the bytes are.
+/// Reads the parts of the packet whose encoding the bytes are.
 fn read(bytes: &[u8]) -> Result<PacketFields, Status>
     ensures { ReadsPacket bytes.now result }
 {

@@ -1,4 +1,4 @@
-//! Parties behind handles: how they are opened and let go, and what they have.
+//! Parties behind handles: opening and closing them, and reading what they have.
 ghost use Rattle.std.specs.Prelude.{◌≡◌, None, Some, length, unwrap_or};
 ghost use Rattle.bg_match.specs.Actor.{actor_of};
 ghost use Rattle.bg_match.specs.State.{State};
@@ -22,7 +22,7 @@ use bg_match::Terms;
 use bg_parties::Party;
 use std::alloc::Global;
 
-/// A party of a match, as its slots restore it.
+/// Opens a party of a match, as its slots restore it.
 fn open(
     alloc: Global,
     number: u8,
@@ -40,13 +40,14 @@ fn open(
     Ok(Party::open(alloc, number, id, Terms { length, rules }, slot0, slot1)?)
 }
 
-/// Opens a party of a match, which begins as its two slots restore it, or afresh where they are empty: number 0 is the
-/// referee, 1 and 2 are the seats of X and of O. A watcher, 3 to 255, begins afresh whatever the slots have. What the
-/// handle had is let go. Where the answer is not BG_OK the handle is as before.
+/// Opens a party of a match, which begins as its two slots restore it, or afresh where they are
+/// empty. Number 0 is the referee, 1 and 2 are the seats of X and of O. A watcher, 3 to 255, begins
+/// afresh whatever the slots have. The party that the handle had is dropped. Where the result is
+/// not BG_OK the handle is as before.
 ///
-/// BG_BAD_ARGUMENT where there are no such rules (1 or 2), and then where there is no such length (1 to 99);
-/// BG_DAMAGED, BG_WRONG_MATCH or BG_MEMORY with what [`restore`](bg_wire::restore) refuses; BG_MEMORY at last where
-/// there is no place for the party.
+/// BG_BAD_ARGUMENT where there are no such rules (1 or 2), and then where there is no such length
+/// (1 to 99). BG_DAMAGED, BG_WRONG_MATCH or BG_MEMORY with what [`restore`](bg_wire::restore)
+/// refuses. Last, BG_MEMORY where there is no place for the party.
 #[unsafe(no_mangle)]
 pub extern "C" fn bg_party_open(
     alloc: Global,
@@ -71,7 +72,7 @@ pub extern "C" fn bg_party_open(
     Status::Ok.code()
 }
 
-/// Lets the party go. A handle without one stays so.
+/// Closes the handle and drops its party. A handle without one stays so.
 #[unsafe(no_mangle)]
 pub extern "C" fn bg_party_close(alloc: Global, handle: &mut Handle)
     ensures { handle.new.value ≡ None }
@@ -79,7 +80,7 @@ pub extern "C" fn bg_party_close(alloc: Global, handle: &mut Handle)
     *handle = Handle::empty(alloc);
 }
 
-/// How many entries the record of a party has; 0 where the handle holds none.
+/// Returns the number of entries in the record of a party, or 0 where the handle holds none.
 #[unsafe(no_mangle)]
 pub extern "C" fn bg_party_entries(alloc: Global, handle: &mut Handle) -> u32
     ensures same { handle.new.value ≡ handle.old.value }
@@ -94,7 +95,8 @@ pub extern "C" fn bg_party_entries(alloc: Global, handle: &mut Handle) -> u32
     entries
 }
 
-/// How many of them the referee has saved: it tells no others. 0 of another party, and where the handle holds none.
+/// Returns the number of entries that the referee has saved: it tells the parties no others.
+/// Returns 0 for another party, and where the handle holds none.
 #[unsafe(no_mangle)]
 pub extern "C" fn bg_party_saved(alloc: Global, handle: &mut Handle) -> u32
     ensures same { handle.new.value ≡ handle.old.value }
@@ -109,7 +111,8 @@ pub extern "C" fn bg_party_saved(alloc: Global, handle: &mut Handle) -> u32
     saved
 }
 
-/// Says who acts by the record of a party: 0 the referee, 1 X, 2 O, 3 nobody, as the match is over.
+/// Sets `actor` to the one who acts by the record of a party: 0 the referee, 1 X, 2 O, 3 nobody, as
+/// the match is over.
 #[unsafe(no_mangle)]
 pub extern "C" fn bg_party_actor(alloc: Global, handle: &mut Handle, actor: &mut u32) -> u32
     ensures same { handle.new.value ≡ handle.old.value }

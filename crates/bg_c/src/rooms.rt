@@ -1,4 +1,4 @@
-//! What a call sets, and the room that a caller gives for a text.
+//! The results that a call sets, and the room that a caller gives for a text.
 ghost use Rattle.std.specs.Prelude.{◌≡◌, ◌≤◌, ◌++◌, drop, length};
 ghost use Rattle.bg_c.specs.Rooms.{PutsText};
 ghost use Rattle.bg_c.specs.Sets.{Gives, Sets};
@@ -13,8 +13,8 @@ pub(crate) fn put_front(text: &[u8], room: &mut [u8])
     room[..text.len()].copy_from_slice(text);
 }
 
-/// Puts a text at the front of a room where it fits, and says how many bytes it has. A text that does not fit is not
-/// put, not even a part of it.
+/// Puts a text at the front of a room where it fits, and sets `needed` to its length in bytes. A
+/// text that does not fit is not put, not even a part of it.
 pub(crate) fn put(text: &[u8], room: &mut [u8], needed: &mut usize) -> Status
     ensures { PutsText text.now room.old result room.new needed.new }
 {
@@ -26,7 +26,7 @@ pub(crate) fn put(text: &[u8], room: &mut [u8], needed: &mut usize) -> Status
     Status::Ok
 }
 
-/// Puts the text that was made; else the status says why there is none.
+/// Puts the text that was made into the room, or returns the status that says why there is none.
 pub(crate) fn give(made: Result<Vec<u8>, Status>, room: &mut [u8], needed: &mut usize) -> Status
     ensures { Gives made room.old needed.old result room.new needed.new }
 {
@@ -36,7 +36,7 @@ pub(crate) fn give(made: Result<Vec<u8>, Status>, room: &mut [u8], needed: &mut 
     }
 }
 
-/// Sets a place to what was made, where something was, and gives the number of the status.
+/// Sets a place to the value that was made, if one was, and returns the number of the status.
 pub(crate) fn set<T: Copy>(made: Result<T, Status>, place: &mut T) -> u32
     ensures { Sets made place.old result place.new }
 {

@@ -1,4 +1,4 @@
-//! What the slots of a party restore.
+//! The saved state that the slots of a party restore.
 ghost use Rattle.std.specs.Prelude.{◌≡◌, Result};
 ghost use Rattle.bg_c.specs.Packets.{ReadsOfMatch, ReadsSlots, rules_numbered, saved_fields};
 ghost use Rattle.bg_c.specs.Sets.{Sets};
@@ -11,7 +11,7 @@ use bg_match::{LONGEST_MATCH, Rules, SHORTEST_MATCH, Terms};
 use bg_wire::{FIRST_WATCHER, Saved, restore};
 use std::alloc::Global;
 
-/// What slots restore, `bg_saved` of the header.
+/// The saved state that slots restore, `bg_saved` of the header.
 #[repr(C)]
 #[derive(Clone, Copy, Debug, PartialEq, Eq)]
 pub struct SavedFields {
@@ -19,14 +19,14 @@ pub struct SavedFields {
     pub found: u32,
     /// The number of the save, from 1.
     pub save: u32,
-    /// How many entries it has.
+    /// The number of its entries.
     pub entries: u32,
     /// The number of the last claim; 0 where there is none.
     pub claim: u32,
 }
 
 impl SavedFields {
-    /// The parts of what is saved, where something is.
+    /// Returns the parts of what is saved, where something is.
     fn of(found: &Option<Saved>) -> SavedFields
         ensures { result ≡ saved_fields found.now }
     {
@@ -50,7 +50,7 @@ impl SavedFields {
     }
 }
 
-/// The rules of a number, 1 or 2.
+/// Returns the rules of a number, 1 or 2.
 pub(crate) fn rules_numbered(number: u8) -> Option<Rules>
     ensures { result ≡ rules_numbered number }
 {
@@ -61,7 +61,7 @@ pub(crate) fn rules_numbered(number: u8) -> Option<Rules>
     }
 }
 
-/// What the slots of a party in a match of these terms restore.
+/// Reads what the slots of a party restore, in a match of these terms.
 fn read_in_match(
     alloc: Global,
     party: u8,
@@ -79,7 +79,7 @@ fn read_in_match(
     Ok(SavedFields::of(&found))
 }
 
-/// What the slots of a party restore, where there are such rules.
+/// Reads what the slots of a party restore, where there are such rules.
 fn read(
     alloc: Global,
     party: u8,
@@ -97,11 +97,11 @@ fn read(
     read_in_match(alloc, party, id, Terms { length, rules }, slot0, slot1)
 }
 
-/// Reads what the two slots of the referee (party 0) or of a seat (1 X, 2 O) restore. A slot that was never written is
-/// empty. `saved` is set where the answer is BG_OK.
+/// Reads what the two slots of the referee (party 0) or of a seat (1 X, 2 O) restore. A slot that
+/// was never written is empty. `saved` is set where the result is BG_OK.
 ///
-/// BG_BAD_ARGUMENT where there are no such rules (1 or 2), no such party or no such length of a match (1 to 99);
-/// BG_DAMAGED, BG_WRONG_MATCH or BG_MEMORY with what [`restore`] refuses.
+/// BG_BAD_ARGUMENT where there are no such rules (1 or 2), no such party or no such length of a
+/// match (1 to 99). BG_DAMAGED, BG_WRONG_MATCH or BG_MEMORY with what [`restore`] refuses.
 #[unsafe(no_mangle)]
 pub extern "C" fn bg_slots_read(
     alloc: Global,

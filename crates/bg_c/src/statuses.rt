@@ -1,8 +1,8 @@
-//! What calls answer.
+//! The statuses of calls.
 ghost use Rattle.std.specs.Prelude.{◌≡◌, IfNone, IfSome};
 ghost use Rattle.bg_c.specs.Status.{status_code, status_text};
 
-/// What a call answers, `bg_status` of the header, in the order of the numbers.
+/// The status that a call returns, `bg_status` of the header, in the order of the numbers.
 #[derive(Clone, Copy, Debug, PartialEq, Eq)]
 pub enum Status {
     /// It is done.
@@ -23,7 +23,7 @@ pub enum Status {
     NotAnAction,
     /// Neither slot has a saved text, and slot 0 is not empty.
     Damaged,
-    /// What the slots have saved is another party's, or of another match.
+    /// The saved text in the slots is another party's, or of another match.
     WrongMatch,
     /// No save of this number is under way.
     WrongSave,
@@ -48,7 +48,7 @@ pub enum Status {
 impl Status {
     ghost use Rattle.bg_c.specs.declared.statuses.Status.{Status as AStatus};
 
-    /// Its number, from 0.
+    /// Returns its number, from 0.
     pub fn code(self) -> u32
         ensures { result ≡ status_code self }
     {
@@ -75,7 +75,7 @@ impl Status {
         }
     }
 
-    /// The status of a number; `None` where there is none.
+    /// Returns the status of a number, or `None` where there is none.
     pub fn of_code(code: u32) -> Option<Status>
         ensures some { IfSome result (λ status. code ≡ status_code status) }
         ensures none { IfNone result ((status : AStatus) → code ≡ status_code status → ⊥) }
@@ -104,7 +104,7 @@ impl Status {
         })
     }
 
-    /// What it says, in English.
+    /// Returns its description, in English.
     pub fn text(self) -> &'static str
         ensures { result.now ≡ status_text self }
     {

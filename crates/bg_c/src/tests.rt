@@ -55,7 +55,7 @@ const REFUSED: u32 = 18;
 /// A word that opens a game with 3 1, for X.
 const THREE_ONE: u32 = 12;
 
-/// What party 3 wants, who holds nothing of match 1.
+/// A Want of party 3, which holds nothing of match 1.
 const WANT: &[u8] = b"\x42\x47\x02\x01\0\0\0\0\0\0\0\x01\x01\x03\0\0\0\0";
 
 /// The seat of X claims that entry 2 of match 1 is the move 8-5 6-5.
@@ -73,14 +73,14 @@ const ENTRIES: &[u8] =
 const SAVE_2: &[u8] =
     b"\x42\x47\x53\x32\0\0\0\0\0\0\0\0\x01\x01\x01\0\0\0\x02\0\0\0\0\x02\x01\x03\x01\x06\x02\x08\x05\x06\x05";
 
-/// A party of match 1, of one point by the first rules, which begins afresh.
+/// Returns a party of match 1, of one point by the first rules, which begins afresh.
 fn fresh(alloc: Global, number: u8) -> Handle {
     let mut handle = Handle::empty(alloc);
     let _ = bg_party_open(alloc, &mut handle, number, 1, 1, 1, b"", b"");
     handle
 }
 
-/// The referee of that match, who has opened its game.
+/// Returns the referee of that match, which has opened its game.
 fn opened(alloc: Global) -> Handle {
     let mut referee = fresh(alloc, 0);
     let mut number = 0;
@@ -88,7 +88,7 @@ fn opened(alloc: Global) -> Handle {
     referee
 }
 
-/// Saves a party, and gives the number of the save; 0 where it is not saved.
+/// Saves a party, and returns the number of the save, or 0 where it is not saved.
 fn saved(alloc: Global, handle: &mut Handle) -> u32 {
     let (mut slot, mut save) = (0, 0);
     let (mut room, mut needed) = ([0; 128], 0);
@@ -121,7 +121,7 @@ const NOTHING: Datagram = Datagram {
     bytes: [0; 128],
 };
 
-/// Whether a datagram sends these bytes to a party, and has 0 behind them.
+/// Returns whether a datagram sends these bytes to a party, followed by 0.
 fn sends(datagram: &Datagram, to: u32, bytes: &[u8]) -> bool {
     let mut wanted = [0; 128];
     match wanted.get_mut(..bytes.len()) {
@@ -131,7 +131,7 @@ fn sends(datagram: &Datagram, to: u32, bytes: &[u8]) -> bool {
     datagram.to == to && datagram.length as usize == bytes.len() && datagram.bytes == wanted
 }
 
-/// Whether a text is at the front of a room, and has so many bytes.
+/// Returns whether a text is at the front of a room, and `needed` is its length.
 fn holds(room: &[u8], needed: usize, text: &[u8]) -> bool {
     needed == text.len() && room.starts_with(text)
 }

@@ -1,4 +1,4 @@
-//! What is read of transcripts.
+//! The calls that read transcripts.
 ghost use Rattle.std.specs.Prelude.{◌≡◌, IfErr, IfOk};
 ghost use Rattle.bg_text.specs.Judge.Transcripts.{ReadsTranscript};
 ghost use Rattle.bg_c.specs.Sets.{Writes};
@@ -24,7 +24,7 @@ impl From<TranscriptFault> for Status {
     }
 }
 
-/// The record of a transcript.
+/// Returns the record of a transcript.
 fn record(alloc: Global, transcript: &[u8]) -> Result<Record, Status>
     ensures read { IfOk result (ReadsTranscript 0 transcript.now) }
     ensures refused { IfErr result (IsNotFine transcript.now) }
@@ -32,7 +32,7 @@ fn record(alloc: Global, transcript: &[u8]) -> Result<Record, Status>
     Ok(read_transcript(alloc, 0, transcript)?)
 }
 
-/// The board after a transcript.
+/// Returns the board after a transcript.
 fn board(alloc: Global, transcript: &[u8]) -> Result<Vec<u8>, Status>
     ensures { MakesBoardAfter transcript.now result }
 {
@@ -40,7 +40,7 @@ fn board(alloc: Global, transcript: &[u8]) -> Result<Vec<u8>, Status>
     Ok(board_text(alloc, &log.standing())?)
 }
 
-/// The legal turns of the player to move after a transcript.
+/// Returns the legal turns of the player to move after a transcript.
 fn turns(alloc: Global, transcript: &[u8]) -> Result<Vec<u8>, Status>
     ensures { MakesTurnsAfter transcript.now result }
 {
@@ -51,7 +51,8 @@ fn turns(alloc: Global, transcript: &[u8]) -> Result<Vec<u8>, Status>
     }
 }
 
-/// Writes the board after a transcript. BG_REFUSED where [`bg_judge`](crate::judge::bg_judge) does not find it fine.
+/// Writes the board after a transcript. BG_REFUSED where [`bg_judge`](crate::judge::bg_judge) does
+/// not find it fine.
 #[unsafe(no_mangle)]
 pub extern "C" fn bg_transcript_board(
     alloc: Global,
@@ -64,8 +65,9 @@ pub extern "C" fn bg_transcript_board(
     give(board(alloc, transcript), out, needed).code()
 }
 
-/// Writes each legal turn after a transcript, a line each, such as `move 8-5 6-5`, the greatest first. BG_REFUSED where
-/// [`bg_judge`](crate::judge::bg_judge) does not find it fine; BG_NOT_TO_MOVE where no player is to move.
+/// Writes each legal turn after a transcript, one to a line, such as `move 8-5 6-5`, the greatest
+/// first. BG_REFUSED where [`bg_judge`](crate::judge::bg_judge) does not find it fine;
+/// BG_NOT_TO_MOVE where no player is to move.
 #[unsafe(no_mangle)]
 pub extern "C" fn bg_transcript_turns(
     alloc: Global,

@@ -11,10 +11,10 @@ use bg_text::{entry_text, put_text};
 use bg_turns::{Dice, Turn, legal_turns};
 use std::alloc::{AllocError, Global};
 
-/// How many bytes stand before an entry in its line: the player's letter, and a space.
+/// The number of bytes before an entry in its line: the player's letter, and a space.
 const LETTER: usize = 2;
 
-/// The player to move, with his dice. A turn that is to be passed is the referee's.
+/// Returns the player to move, with the dice. A turn that is to be passed is the referee's.
 fn mover(standing: &Standing) -> Option<(Player, Dice)>
     ensures { result ≡ mover_of standing.now }
 {
@@ -33,7 +33,7 @@ fn put_turn(out: &mut Vec<u8>, player: Player, turn: &Turn) -> Result<(), AllocE
     put_text(out, "\n")
 }
 
-/// The lines of turns.
+/// Returns the lines of turns.
 fn put_turns(alloc: Global, player: Player, turns: &[Turn]) -> Result<Vec<u8>, AllocError>
     ensures { IfOk result (λ text. text.items ≡ turns_text turns.now) }
 {
@@ -44,11 +44,11 @@ fn put_turns(alloc: Global, player: Player, turns: &[Turn]) -> Result<Vec<u8>, A
     Ok(text)
 }
 
-/// Each legal turn of the player to move as a line, such as `move 8-5 6-5`, in the order of
+/// Returns each legal turn of the player to move as a line, such as `move 8-5 6-5`, in the order of
 /// [`legal_turns`]. `None` where no player is to move.
 ///
 /// # Errors
-/// AllocError where memory runs out.
+/// `AllocError` where memory runs out.
 pub(crate) fn turns_text(alloc: Global, standing: &Standing) -> Result<Option<Vec<u8>>, AllocError>
     ensures { IfOk result (FindsTurns standing.now) }
 {

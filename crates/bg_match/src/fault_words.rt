@@ -1,4 +1,4 @@
-//! The words of faults.
+//! `Display` of the faults.
 
 use crate::{EntryFault, ExtendFault, LengthFault, NoDouble};
 use std::fmt;

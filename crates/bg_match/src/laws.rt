@@ -1,16 +1,17 @@
-//! Laws of the definitions, for the crates above: each is the contract of a function that does nothing.
+//! Laws of the definitions, for the crates above. Each is the contract of a function that does
+//! nothing.
 ghost use Rattle.bg_match.specs.Match.{MarksCrawford};
 ghost use Rattle.bg_match.specs.Laws.{MayBegin, HasLegalFronts, HasOneStanding, HasEntriesInRange, ActsItself};
 ghost use Rattle.bg_match.specs.Laws.{MadeWithoutSeat};
 ghost use Rattle.bg_match.specs.Laws.{AnswersWithDice, AnswersOneAction, OwnAnswersNone, AnswersInRange};
 ghost use Rattle.bg_match.specs.Laws.{RollsAnyDice, ComparesEntries, ComparesActions};
 
-/// The Crawford mark of a standing is that of the scores before the games of its match.
+/// States that the Crawford mark of a standing is that of the scores before the games of its match.
 pub fn crawford_by_scores()
     ensures { MarksCrawford }
 {}
 
-/// What holds of every legal record.
+/// States what holds of every legal record.
 pub fn laws_of_records()
     ensures empty { MayBegin }
     ensures fronts { HasLegalFronts }
@@ -20,7 +21,7 @@ pub fn laws_of_records()
     ensures seats { MadeWithoutSeat }
 {}
 
-/// What holds of the entries that answer actions.
+/// States what holds of the entries that answer actions.
 pub fn laws_of_answers()
     ensures answer { AnswersWithDice }
     ensures one_action { AnswersOneAction }
@@ -29,7 +30,7 @@ pub fn laws_of_answers()
     ensures any_dice { RollsAnyDice }
 {}
 
-/// What `==` of entries and of actions says.
+/// States what `==` means for entries and for actions.
 pub fn laws_of_equality()
     ensures entries { ComparesEntries }
     ensures actions { ComparesActions }

@@ -6,13 +6,13 @@ pub type Number = u32;
 /// The rules that a match is played by (docs/RULES.md, "A turn without steps").
 #[derive(Clone, Copy, Debug, PartialEq, Eq)]
 pub enum Rules {
-    /// Who can play no step plays a turn without steps.
+    /// A player who can play no step plays a turn without steps.
     One,
     /// The referee passes the turn of a player who can play no step.
     Two,
 }
 
-/// What the players agree on before a match.
+/// The terms on which the players agree before a match.
 #[derive(Clone, Copy, Debug, PartialEq, Eq)]
 pub struct Terms {
     /// The length of the match, in points, from 1 to 99.
@@ -21,7 +21,7 @@ pub struct Terms {
     pub rules: Rules,
 }
 
-/// The most entries of a match.
+/// The greatest number of entries of a match.
 pub const MOST_ENTRIES: Number = 1_000_000;
 
 /// The length of the shortest match, in points.
@@ -30,8 +30,9 @@ pub const SHORTEST_MATCH: u8 = 1;
 /// The length of the longest match, in points.
 pub const LONGEST_MATCH: u8 = 99;
 
-/// What the cube shows at most.
+/// The greatest number that the cube shows.
 pub const GREATEST_CUBE: u8 = 128;
 
-/// The greatest score: one point short of the longest match, and then a backgammon with the greatest cube.
+/// The greatest score: one point short of the longest match, and then a backgammon with the
+/// greatest cube.
 pub const GREATEST_SCORE: u16 = 482;

@@ -16,15 +16,15 @@ pub(crate) struct Made {
 // A record holds up to a million of these.
 const _: () = prove!(size_of::<Made>() == 12);
 
-/// The entry of this number, from 1.
+/// Returns the entry of this number, from 1.
 pub(crate) fn made_at(made: &[Made], number: Number) -> Option<&Made>
     ensures { option_copied result ≡ at_number made.now number }
 {
     made.get((number as usize).checked_sub(1)?)
 }
 
-/// Makes room for this many more entries, and for as many again as there are. Where there is room for this many already
-/// nothing is done.
+/// Makes room for this many more entries, and for as many again as there are. Does nothing where
+/// there is room for this many already.
 pub(crate) fn make_room(made: &mut Vec<Made>, count: usize) -> Result<(), AllocError>
     ensures items { made.new.items ≡ made.old.items }
     ensures len { vec_len made.new ≡ vec_len made.old }

@@ -18,16 +18,18 @@ use bg_board::Player;
 use std::alloc::{AllocError, Global};
 use std::marker::Model;
 
-/// Why there is no match of this length.
+/// The reason why there is no match of this length.
 #[derive(Clone, Copy, Debug, PartialEq, Eq)]
 pub enum LengthFault {
     /// The length is not from 1 to 99.
     LengthOutOfRange,
 }
 
-/// The entries of a match, which are legal so far (docs/RULES.md, "Entries and phases"). Entries are numbered from 1.
+/// The entries of a match, which are legal so far (docs/RULES.md, "Entries and phases"). Entries
+/// are numbered from 1.
 ///
-/// Contracts see the match id, the length of the match, the list of entries, and how many more there is room for.
+/// Contracts see the match id, the length of the match, the list of entries, and the number of
+/// entries that there is still room for.
 #[derive(Debug, Drop)]
 pub struct Record {
     id: u64,
@@ -58,7 +60,7 @@ impl Record {
     ghost use Rattle.bg_match.specs.Match.{StandsAt, IsLegalRecord, IsNext, empty_log, ActsAfter, SeatAfter};
     ghost use Rattle.bg_match.specs.Match.{IsMarkedByScores, IsRecordFault, IsLog};
 
-    /// A match with no entry.
+    /// Returns the record of a match with no entry.
     ///
     /// # Errors
     /// `LengthOutOfRange` where the length is not from 1 to 99.
@@ -78,7 +80,7 @@ impl Record {
         })
     }
 
-    /// How many entries there are, which is the number of the last one.
+    /// Returns the number of entries, which is the number of the last one.
     pub fn len(&self) -> Number
         ensures value { result ≡ length self.now.entries }
         ensures legal { IsLegalRecord self.now.terms self.now.entries }
@@ -88,14 +90,14 @@ impl Record {
         self.made.len() as Number
     }
 
-    /// Whether there is no entry.
+    /// Returns whether there is no entry.
     pub fn is_empty(&self) -> bool
         ensures { IsTrue result ↔ (self.now.entries ≡ []) }
     {
         self.made.is_empty()
     }
 
-    /// The entry of this number, from 1; `None` for 0 and above the number of entries.
+    /// Returns the entry of this number, from 1, or `None` for 0 and above the number of entries.
     pub fn entry(&self, number: Number) -> Option<&Entry>
         ensures { option_copied result ≡ at_number self.now.entries number }
     {
@@ -103,8 +105,8 @@ impl Record {
         Some(&made.entry)
     }
 
-    /// The player whose seat made the entry of this number, from 1. `None` for an entry of the referee, for 0 and above
-    /// the number of entries.
+    /// Returns the player whose seat made the entry of this number, from 1. `None` for an entry of
+    /// the referee, for 0 and above the number of entries.
     pub fn by(&self, number: Number) -> Option<Player>
         ensures seat { 1 ≤ number → number ≤ length self.now.entries →
             SeatAfter self.now.terms (take (number - 1) self.now.entries) result }
@@ -114,14 +116,14 @@ impl Record {
         made.seat
     }
 
-    /// The number of the match.
+    /// Returns the number of the match.
     pub fn id(&self) -> u64
         ensures { result ≡ self.now.id }
     {
         self.id
     }
 
-    /// The length of the match in points, from 1 to 99.
+    /// Returns the length of the match in points, from 1 to 99.
     pub fn length(&self) -> u8
         ensures value { result ≡ match_length self.now.terms }
         ensures shortest { shortest_match ≤ result }
@@ -131,14 +133,14 @@ impl Record {
         self.terms.length
     }
 
-    /// The rules of the match.
+    /// Returns the rules of the match.
     pub fn rules(&self) -> Rules
         ensures { result ≡ rules_of self.now.terms }
     {
         self.terms.rules
     }
 
-    /// Where the match stands after its entries.
+    /// Returns the standing of the match after its entries.
     pub fn standing(&self) -> Standing
         ensures stands { StandsAt self.now.terms self.now.entries result }
         ensures length { result.terms ≡ self.now.terms }
@@ -147,14 +149,14 @@ impl Record {
         self.standing
     }
 
-    /// Who acts next.
+    /// Returns the one who acts next.
     pub fn actor(&self) -> Actor
         ensures { ActsAfter self.now.terms self.now.entries result }
     {
         self.standing.actor()
     }
 
-    /// Whether an entry may follow. The answer is that of `push`, but never `Memory`.
+    /// Checks whether an entry may follow. The answer is that of `push`, but never `Memory`.
     ///
     /// # Errors
     /// `RecordFull` where there are 1000000 entries, else as [`Standing::next`].
@@ -167,12 +169,12 @@ impl Record {
         Ok(())
     }
 
-    /// Appends an entry. A refusal changes nothing. Where there was no room, room is made for as many entries again, so
-    /// that a record of any length is written in linear time.
+    /// Appends an entry. A refusal changes nothing. Where there is no room, the record makes room
+    /// for as many entries again, so that a record of any length is written in linear time.
     ///
     /// # Errors
-    /// `RecordFull` where there are 1000000 entries, else as [`Standing::next`]; at last `Memory` where there is no
-    /// room, and no memory for more.
+    /// `RecordFull` where there are 1000000 entries, else as [`Standing::next`]; last, `Memory`
+    /// where there is no room, and no memory for more.
     pub fn push(&mut self, entry: Entry) -> Result<(), EntryFault>
         ensures ok { result ≢ Err EntryFault.Memory → (IsOk result ↔ IsNext self.old.terms self.old.entries entry) }
         ensures appended { OnOk result (self.new ≡ record self.old {
@@ -193,11 +195,11 @@ impl Record {
         }
     }
 
-    /// Makes room for this many more entries, and for as many again as there are. Where there is room for this many
-    /// already nothing is done.
+    /// Makes room for this many more entries, and for as many again as there are. Does nothing
+    /// where there is room for this many already.
     ///
     /// # Errors
-    /// `AllocError` where there is no memory for it, and then nothing has changed.
+    /// `AllocError` where there is no memory for it; then nothing has changed.
     pub fn reserve(&mut self, count: Number) -> Result<(), AllocError>
         ensures room { OnOk result (count ≤ self.new.spare) }
         ensures again { OnOk result (self.old.spare < count → length self.old.entries ≤ self.new.spare) }
@@ -209,10 +211,10 @@ impl Record {
         make_room(&mut self.made, count as usize)
     }
 
-    /// The same record, with room for its entries alone.
+    /// Returns the same record, with room for its entries alone.
     ///
     /// # Errors
-    /// AllocError where there is no memory for its entries.
+    /// `AllocError` where there is no memory for its entries.
     pub fn copy(&self) -> Result<Record, AllocError>
         ensures value { IfOk result (λ copy. copy ≡ record self.now { spare = 0 }) }
         ensures log { IfOk result (λ copy. IsLog copy) }
@@ -232,7 +234,7 @@ impl Record {
         })
     }
 
-    /// Where the match would stand after an entry.
+    /// Returns the standing that the match would have after an entry.
     fn after(&self, entry: &Entry) -> Result<Standing, EntryFault>
         ensures ok { IsOk result ↔ IsNext self.now.terms self.now.entries entry.now }
         ensures after { IfOk result (λ after. (length self.now.entries < most_entries)

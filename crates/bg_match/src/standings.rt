@@ -1,4 +1,4 @@
-//! Where a match stands.
+//! The standing of a match.
 ghost use Rattle.std.specs.Prelude.{◌≡◌, ◌≤◌, false, MatchOption};
 ghost use Rattle.bg_match.specs.Terms.{match_length, rules_of, terms_of};
 ghost use Rattle.bg_match.specs.Limits.{longest_match, shortest_match};
@@ -12,8 +12,9 @@ use bg_board::{Board, Player};
 use bg_turns::can_step;
 use std::marker::Model;
 
-/// Where a match stands: its length, the board, the phase and the cube of the game that is played, the scores of X and
-/// of O, whether that game is the Crawford game, and its number, from 1.
+/// The standing of a match: its length, the scores of X and of O, and what the current game has.
+/// These are the board, the phase, the cube, whether it is the Crawford game, and its number,
+/// from 1.
 #[derive(Clone, Copy, Debug, PartialEq, Eq)]
 pub struct Standing {
     terms: Terms,
@@ -49,7 +50,8 @@ impl Standing {
     ghost use Rattle.bg_match.specs.State.{IsState, start_of};
     ghost use Rattle.bg_match.specs.Actor.{actor_of, passes, IsPassOf};
 
-    /// Where a match of this length, which is from 1 to 99 points, and of these rules starts.
+    /// Returns the standing at the start of a match of this length, from 1 to 99 points, and of
+    /// these rules.
     pub fn start(length: u8, rules: Rules) -> Standing
         requires shortest { shortest_match ≤ length }
         requires longest { length ≤ longest_match }
@@ -66,7 +68,7 @@ impl Standing {
         }
     }
 
-    /// The length of the match in points, from 1 to 99.
+    /// Returns the length of the match in points, from 1 to 99.
     pub fn length(&self) -> u8
         ensures value { result ≡ match_length self.now.terms }
         ensures standing { IsState self.now }
@@ -74,14 +76,15 @@ impl Standing {
         self.terms.length
     }
 
-    /// The rules of the match.
+    /// Returns the rules of the match.
     pub fn rules(&self) -> Rules
         ensures { result ≡ rules_of self.now.terms }
     {
         self.terms.rules
     }
 
-    /// The player whose turn is to be passed: under rules two he is to move, and has no step.
+    /// Returns the player whose turn is to be passed: under rules two, a player who is to move and
+    /// has no step.
     #[tactic(auto, unfolding(crate::specs::Actor::passes, crate::specs::Actor::passes_in))]
     fn passing(&self) -> Option<Player>
         ensures { MatchOption result (passes self.now ≡ false) (λ player. IsPassOf self.now player) }
@@ -94,49 +97,50 @@ impl Standing {
         }
     }
 
-    /// The board of the game that is played, or of the last game where the match is over.
+    /// Returns the board of the current game, or of the last game where the match is over.
     pub fn board(&self) -> Board
         ensures { result ≡ self.now.board }
     {
         self.board
     }
 
-    /// What is to happen next.
+    /// Returns the phase, which says what is to happen next.
     pub fn phase(&self) -> Phase
         ensures { result ≡ self.now.phase }
     {
         self.phase
     }
 
-    /// The doubling cube.
+    /// Returns the doubling cube.
     pub fn cube(&self) -> Cube
         ensures { result ≡ self.now.cube }
     {
         self.cube
     }
 
-    /// The points of X and of O.
+    /// Returns the points of X and of O.
     pub fn score(&self) -> (u16, u16)
         ensures { result ≡ (self.now.x_score, self.now.o_score) }
     {
         self.score
     }
 
-    /// Whether the game is the Crawford game, which is played without the cube (docs/RULES.md, "The Crawford game").
+    /// Returns whether the game is the Crawford game, which is played without the cube
+    /// (docs/RULES.md, "The Crawford game").
     pub fn crawford(&self) -> bool
         ensures { result ≡ self.now.crawford }
     {
         self.crawford
     }
 
-    /// The number of the game, from 1.
+    /// Returns the number of the game, from 1.
     pub fn game(&self) -> u8
         ensures { result ≡ self.now.game }
     {
         self.game
     }
 
-    /// Who acts next.
+    /// Returns the one who acts next.
     pub fn actor(&self) -> Actor
         ensures { result ≡ actor_of self.now }
     {

@@ -29,7 +29,7 @@ pub(crate) enum Core {
     Watcher(Watcher),
 }
 
-/// What the slots of a party restore.
+/// Returns the state that the slots of a party restore.
 fn restored(
     alloc: Global,
     party: u8,
@@ -49,7 +49,7 @@ impl Core {
     ghost use Rattle.bg_parties.specs.Party.{Opens, next_save_of};
     ghost use Rattle.bg_parties.specs.Calls.{PartyChooses, PartyDues, PartySaves, PartyTakes, PartyTicks, after_save};
 
-    /// The core of the party of this number, as its slots restore it.
+    /// Returns the core of the party of this number, as its slots restore it.
     pub(crate) fn open(
         alloc: Global,
         number: u8,
@@ -68,7 +68,7 @@ impl Core {
         }
     }
 
-    /// The referee that the slots restore, or a fresh one.
+    /// Returns the referee that the slots restore, or a fresh one.
     fn referee(
         alloc: Global,
         id: u64,
@@ -88,7 +88,7 @@ impl Core {
         }
     }
 
-    /// The seat of a player that the slots restore, or a fresh one.
+    /// Returns the seat of a player that the slots restore, or a fresh one.
     fn seat(
         alloc: Global,
         player: Player,
@@ -109,7 +109,7 @@ impl Core {
         }
     }
 
-    /// A fresh watcher. `number` is its party, from 3.
+    /// Returns a fresh watcher. `number` is its party, from 3.
     fn watcher(alloc: Global, number: u8, id: u64, terms: Terms) -> Result<Core, OpenFault>
         requires { first_watcher ≤ number }
         ensures { (slot0 slot1 : List ℕ) → Opens slot0 slot1 number id terms result }
@@ -120,7 +120,7 @@ impl Core {
         }
     }
 
-    /// The referee adds an entry of its own.
+    /// Adds an entry of the referee's own.
     pub(crate) fn due(&mut self, word: u32) -> Result<Number, RoleFault<DueFault>>
         ensures { PartyDues self.old word result self.new }
     {
@@ -133,7 +133,7 @@ impl Core {
         }
     }
 
-    /// A seat claims an action.
+    /// Claims an action for a seat.
     pub(crate) fn choose(&mut self, action: Action) -> Result<Number, RoleFault<ChooseFault>>
         ensures { PartyChooses self.old action result self.new }
     {
@@ -146,7 +146,7 @@ impl Core {
         }
     }
 
-    /// It takes a packet.
+    /// Takes a packet.
     pub(crate) fn take(&mut self, packet: &Packet, word: u32) -> Taken
         requires { IsPacket packet.now }
         ensures { PartyTakes self.old packet.now word result self.new }
@@ -158,7 +158,7 @@ impl Core {
         }
     }
 
-    /// What is to be sent without having been asked for.
+    /// Returns the packets to send without being asked.
     pub(crate) fn tick(&mut self) -> ArrayVec<(u8, Packet), MOST_SENT>
         ensures { PartyTicks self.old result.items self.new }
     {
@@ -169,7 +169,7 @@ impl Core {
         }
     }
 
-    /// The slot, the number and the text of the next save.
+    /// Returns the slot, the number and the text of the next save.
     pub(crate) fn to_save(&self) -> Result<(Slot, u32, Vec<u8>), SaveFault>
         ensures saves { PartySaves self.now result }
         ensures next { IfOk result (λ next. next.1 ≡ next_save_of self.now) }
@@ -185,7 +185,7 @@ impl Core {
         }
     }
 
-    /// The next save, of this number, was written.
+    /// Marks the next save, of this number, as written.
     pub(crate) fn mark_saved(&mut self, save: u32)
         requires { save ≡ next_save_of self.old }
         ensures { self.new ≡ after_save self.old save }
@@ -198,7 +198,7 @@ impl Core {
     }
 }
 
-/// What a follower sends goes to the referee.
+/// Addresses what a follower sends to the referee.
 fn to_referee(packet: Option<Packet>) -> ArrayVec<(u8, Packet), MOST_SENT>
     ensures { result.items ≡ to_referee packet }
 {

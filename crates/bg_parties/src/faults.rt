@@ -1,8 +1,8 @@
-//! Why a party does not do what it is asked for.
+//! The reasons why a party does not do what it is asked for.
 
 use bg_wire::{RestoreRefusal, SaveRefusal};
 
-/// Why a party is not opened, in the order of the tests.
+/// The reason why a party is not opened, in the order of the tests.
 #[derive(Clone, Copy, Debug, PartialEq, Eq)]
 pub enum OpenFault {
     /// The length of the match is not from 1 to 99.
@@ -11,16 +11,16 @@ pub enum OpenFault {
     Restore(RestoreRefusal),
 }
 
-/// Why a call of one role comes to nothing: it is not this party's, or its core refuses it.
+/// The reason why a call of one role fails: it is not this party's, or its core refuses it.
 #[derive(Clone, Copy, Debug, PartialEq, Eq)]
 pub enum RoleFault<F> {
     /// The party has another role.
     OtherRole,
-    /// Why the core refuses it.
+    /// The reason why the core refuses it.
     Core(F),
 }
 
-/// Why there is no save to be written.
+/// The reason why there is no save to write.
 pub type SaveFault = RoleFault<SaveRefusal>;
 
 /// No save of this number is under way.

@@ -1,5 +1,5 @@
-//! The parties of a match for a host that keeps their slots and carries their packets: one type for the referee, a seat
-//! and a watcher, which knows of the save that is under way.
+//! The parties of a match for a host that keeps their slots and carries their packets. One type
+//! stands for the referee, a seat and a watcher, and knows of the save that is under way.
 //!
 //! ```
 //! let terms = Terms {

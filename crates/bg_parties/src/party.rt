@@ -14,22 +14,22 @@ use bg_referee::{DueFault, TakeOutcome};
 use bg_wire::{Packet, Slot};
 use std::alloc::Global;
 
-/// The most packets that a party sends on a tick.
+/// The greatest number of packets that a party sends on a tick.
 pub const MOST_SENT: usize = 2;
 
-/// What a party makes of a packet.
+/// The outcome of a packet that a party takes.
 #[derive(Debug, PartialEq, Eq, Drop)]
 pub enum Taken {
-    /// The referee: what it answers.
+    /// The referee, with its answer.
     Referee(TakeOutcome),
-    /// A seat or a watcher: what it learns.
+    /// A seat or a watcher, with what it learns.
     Follower(Learned),
 }
 
 impl Taken {
     ghost use Rattle.bg_parties.specs.Calls.{grows as record_grows};
 
-    /// Whether the record has grown.
+    /// Returns whether the record has grown.
     pub fn grows(&self) -> bool
         ensures { result ≡ record_grows self.now }
     {
@@ -40,12 +40,12 @@ impl Taken {
     }
 }
 
-/// The referee, a seat or a watcher of one match, for a host that keeps its slots and carries its packets
-/// (docs/USING.md).
+/// The referee, a seat or a watcher of one match, for a host that keeps its slots and carries its
+/// packets (docs/USING.md).
 ///
-/// A save that is under way is part of it: [`to_save`](Party::to_save) begins one, what changes the record or the claim
-/// ends it, and [`mark_saved`](Party::mark_saved) is refused where it is not that save's number. So no entry counts as
-/// saved that no slot has, whatever order the calls come in.
+/// A save that is under way is part of it. [`to_save`](Party::to_save) begins one, and a change of
+/// the record or the claim ends it. [`mark_saved`](Party::mark_saved) is refused for any number but
+/// that save's. So no entry counts as saved that no slot has, whatever the order of the calls.
 ///
 /// Contracts see the core, and the number of the save that is under way.
 #[derive(Debug, Drop)]
@@ -58,12 +58,13 @@ pub struct Party {
 impl Party {
     ghost use Rattle.bg_parties.specs.Calls.{after_save, grows};
 
-    /// The party of this number in a match, as its two slots restore it: 0 the referee, 1 and 2 the seats of X and of
-    /// O; each is fresh where they are empty. A watcher, 3 to 255, is fresh whatever they have. No save is under way.
+    /// Opens the party of this number in a match, as its two slots restore it: 0 is the referee, 1
+    /// and 2 are the seats of X and of O. Each is fresh where its slots are empty. A watcher, 3 to
+    /// 255, is fresh whatever they have. No save is under way.
     ///
     /// # Errors
-    /// `LengthOutOfRange` where the length is not from 1 to 99; then, of the referee and of seats, `Restore` with what
-    /// [`restore`] refuses.
+    /// `LengthOutOfRange` where the length is not from 1 to 99; then, for the referee and for
+    /// seats, `Restore` with what [`restore`] refuses.
     pub fn open(
         alloc: Global,
         number: u8,
@@ -83,7 +84,7 @@ impl Party {
         })
     }
 
-    /// Its record.
+    /// Returns the record.
     pub fn held(&self) -> &Record
         ensures { result.now ≡ log_of self.now.core }
     {
@@ -94,7 +95,8 @@ impl Party {
         }
     }
 
-    /// Of the referee how many entries are saved, which is the number of the last one that is; it tells no others.
+    /// Returns the number of saved entries of the referee, which is the number of the last one that
+    /// is saved. It tells the parties no others.
     pub fn saved(&self) -> Option<Number>
         ensures { result ≡ saved_of self.now.core }
     {
@@ -104,7 +106,8 @@ impl Party {
         }
     }
 
-    /// Of a seat its last claim: the number of the entry that shall answer the action, from 1, and the action.
+    /// Returns the last claim of a seat: the number of the entry that shall answer the action, from
+    /// 1, and the action.
     pub fn claim(&self) -> Option<(Number, Action)>
         ensures { result ≡ claim_of self.now.core }
     {
@@ -114,11 +117,13 @@ impl Party {
         }
     }
 
-    /// The referee opens a game with the dice of a random word, or passes a turn, and gives the number of that entry
-    /// (docs/PROTOCOL.md, "What the referee adds itself"). A refusal changes nothing.
+    /// Opens a game with the dice of a random word, or passes a turn, where the party is the
+    /// referee. Returns the number of that entry (docs/PROTOCOL.md,
+    /// "What the referee adds itself"). A refusal changes nothing.
     ///
     /// # Errors
-    /// `OtherRole` where the party is not the referee; else `Core` with what [`Referee::due`] refuses.
+    /// `OtherRole` where the party is not the referee; else `Core` with what [`Referee::due`]
+    /// refuses.
     pub fn due(&mut self, word: u32) -> Result<Number, RoleFault<DueFault>>
         ensures dues { PartyDues self.old.core word result self.new.core }
         ensures save { self.new.under_way ≡ kept_save self.old.under_way (is_ok result) }
@@ -128,8 +133,8 @@ impl Party {
         Ok(number)
     }
 
-    /// A seat claims an action as the next entry, and gives its number (docs/PROTOCOL.md, "Claims"). A refusal changes
-    /// nothing.
+    /// Claims an action as the next entry, where the party is a seat, and returns its number
+    /// (docs/PROTOCOL.md, "Claims"). A refusal changes nothing.
     ///
     /// # Errors
     /// `OtherRole` where the party is no seat; else `Core` with what [`Seat::choose`] refuses.
@@ -142,9 +147,10 @@ impl Party {
         Ok(number)
     }
 
-    /// Takes a packet: the referee answers it, and accepts a roll with the dice of the random word; a seat or a watcher
-    /// learns from it (docs/PROTOCOL.md, "What the referee answers", "What a follower learns"). The packet is one that
-    /// has a text, as each that `decode` gives.
+    /// Takes a packet. The referee answers it, and accepts a roll with the dice of the random word.
+    /// A seat or a watcher learns from it (docs/PROTOCOL.md, "What the referee answers",
+    /// "What a follower learns"). The packet must have an encoding, as each that `decode` returns
+    /// does.
     pub fn take(&mut self, packet: &Packet, word: u32) -> Taken
         requires { IsPacket packet.now }
         ensures takes { PartyTakes self.old.core packet.now word result self.new.core }
@@ -157,9 +163,9 @@ impl Party {
         taken
     }
 
-    /// What is to be sent without having been asked for, each packet beside the party that it goes to
-    /// (docs/PROTOCOL.md, "What the referee sends unasked", "When a follower sends"). A save that is under way stays
-    /// so.
+    /// Returns the packets to send without being asked, each beside the party that it goes to
+    /// (docs/PROTOCOL.md, "What the referee sends unasked", "When a follower sends"). A save that
+    /// is under way stays so.
     pub fn tick(&mut self) -> ArrayVec<(u8, Packet), MOST_SENT>
         ensures ticks { PartyTicks self.old.core result.items self.new.core }
         ensures save { self.new.under_way ≡ self.old.under_way }
@@ -167,12 +173,14 @@ impl Party {
         self.core.tick()
     }
 
-    /// Begins the next save: the slot that it goes to, its number and its text (docs/PROTOCOL.md, "Saving"). Once the
-    /// text is written, [`mark_saved`](Party::mark_saved) says so. A refusal changes nothing.
+    /// Begins the next save, and returns its slot, its number and its text (docs/PROTOCOL.md,
+    /// "Saving"). Once the text is durable, call [`mark_saved`](Party::mark_saved). A refusal
+    /// changes nothing.
     ///
     /// # Errors
-    /// `OtherRole` where the party is a watcher, which saves nothing; else `Core` with `SavesSpent` where the last save
-    /// was that of number 4294967295, or `Memory` where there is no memory for the text.
+    /// `OtherRole` where the party is a watcher, which saves nothing. Else `Core` with `SavesSpent`
+    /// where the last save was that of number 4294967295, or `Memory` where there is no memory for
+    /// the text.
     pub fn to_save(&mut self) -> Result<(Slot, u32, Vec<u8>), SaveFault>
         ensures saves { PartySaves self.old.core result }
         ensures same { self.new.core ≡ self.old.core }
@@ -183,7 +191,8 @@ impl Party {
         Ok((slot, save, text))
     }
 
-    /// Gives up the save that is under way, as where its text could not be kept: none is under way any more.
+    /// Abandons the save that is under way, as where its text could not be kept. Then no save is
+    /// under way.
     pub fn abandon_save(&mut self)
         ensures same { self.new.core ≡ self.old.core }
         ensures save { self.new.under_way ≡ None }
@@ -191,11 +200,12 @@ impl Party {
         self.under_way.take();
     }
 
-    /// The save that is under way was written: what its text has is saved, and no save is under way any more.
+    /// Marks the save that is under way as written: what its text has is saved, and no save is
+    /// under way any more.
     ///
     /// # Errors
-    /// Exactly where no save of this number is under way: none was begun, or the record or the claim has changed since,
-    /// so that another has to be begun. Nothing changes then.
+    /// `NotUnderWay` exactly where no save of this number is under way: none was begun, or the
+    /// record or the claim has changed since. Then another has to be begun, and nothing changes.
     pub fn mark_saved(&mut self, save: u32) -> Result<(), NotUnderWay>
         ensures ok { IsOk result ↔ (self.old.under_way ≡ Some save) }
         ensures saved { IfOk result (λ done. (self.new.core ≡ after_save self.old.core save)

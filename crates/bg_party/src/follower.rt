@@ -1,4 +1,4 @@
-//! What seats and watchers have in common: a record that grows by what the referee tells.
+//! The part that seats and watchers have in common: a record that grows by what the referee tells.
 ghost use Rattle.std.specs.Prelude.{◌≡◌, ◌≤◌, ◌+◌, ◌↔◌, ◌++◌, [], length, IsOk, IfOk};
 ghost use Rattle.bg_party.specs.Retry.{at_once, is_due};
 ghost use Rattle.bg_party.specs.Window.{early_behind, window_size};
@@ -17,7 +17,8 @@ use bg_wire::Packet;
 use std::alloc::Global;
 use std::marker::Model;
 
-/// The record of a match, as far as the referee told it, the early entries that are kept, and when to send.
+/// The record of a match, as far as the referee told it, the reorder buffer of early entries, and
+/// the time of the next send.
 ///
 /// Contracts see the three.
 #[derive(Debug, Drop)]
@@ -43,7 +44,7 @@ impl Follower {
     ghost use Rattle.bg_party.specs.Takes.{IsAfter, Appends, LearnsNew, FollowerTakes};
     ghost use Rattle.bg_party.specs.Claims.{want_of, ticked};
 
-    /// Of a match with no entry.
+    /// Returns the follower of a match with no entry.
     pub(crate) fn fresh(
         alloc: Global,
         id: u64,
@@ -56,12 +57,13 @@ impl Follower {
         Ok(Follower::starting(Record::new(alloc, id, length, rules)?))
     }
 
-    /// That begins with this record, keeps no early entry, and sends on the next tick.
+    /// Returns a follower that begins with this record, keeps no early entry, and sends on the next
+    /// tick.
     pub(crate) fn starting(log: Record) -> Follower
         ensures value { result ≡ starting_follower log }
         ensures follower { IsFollower result }
     {
-        // What a record promises is said by its calls.
+        // The promises of a record are stated by its calls.
         let _count = log.len();
         Follower {
             log,
@@ -70,7 +72,7 @@ impl Follower {
         }
     }
 
-    /// The record.
+    /// Returns the record.
     pub(crate) fn held(&self) -> &Record
         ensures value { result.now ≡ self.now.log }
         ensures follower { IsFollower self.now }
@@ -78,7 +80,7 @@ impl Follower {
         &self.log
     }
 
-    /// What this party asks the referee for.
+    /// Returns the packet by which this party asks the referee for entries.
     pub(crate) fn want(&self, sender: u8) -> Packet
         ensures { result ≡ want_of sender self.now.log }
     {
@@ -90,7 +92,7 @@ impl Follower {
         }
     }
 
-    /// A tick: whether it sends on this one.
+    /// Advances by a tick, and returns whether the follower sends on it.
     pub(crate) fn tick(&mut self) -> bool
         ensures due { result ≡ is_due self.old.retry }
         ensures after { self.new ≡ ticked self.old }
@@ -98,7 +100,7 @@ impl Follower {
         self.retry.tick()
     }
 
-    /// It sends on the next tick, and its gaps begin anew.
+    /// Makes the follower send on the next tick, and resets its backoff.
     pub(crate) fn send_anew(&mut self)
         ensures { self.new ≡ record self.old { retry = at_once } }
     {
@@ -114,7 +116,7 @@ impl Follower {
         self.learn_from(packet)
     }
 
-    /// Learns from a packet.
+    /// Learns from a packet of its match.
     fn learn_from(&mut self, packet: &Packet) -> Learned
         requires { IsPacket packet.now }
         ensures learns { Learns self.old packet.now result }
@@ -192,8 +194,8 @@ impl Follower {
         self.grow(new, early.as_slice(), count)
     }
 
-    /// Appends new entries that follow, and the first ones of those that are kept right behind them, so many as follow,
-    /// where there is room or memory for all.
+    /// Appends new entries that follow, and the first `count` of the early ones kept right behind
+    /// them, as far as they follow. There must be room or memory for all of them.
     fn grow(&mut self, new: &[Entry], early: &[Entry], count: usize) -> Learned
         requires few { length new.now ≤ most_in_packet }
         requires room { length early.now ≤ window_size }

@@ -1,5 +1,5 @@
-//! Those who follow a match through its referee: the two seats and the watchers. For a host that carries packets itself
-//! (docs/USING.md).
+//! The followers of a match, who learn it from its referee: the two seats and the watchers. For a
+//! host that carries packets itself (docs/USING.md).
 //!
 //! ```
 //! let mut seat = Seat::fresh(alloc, Player::X, 1, 5, Rules::One)?;

@@ -1,11 +1,11 @@
-//! Whose seat a party is.
+//! The players of the parties that are seats.
 ghost use Rattle.std.specs.Prelude.{◌≡◌};
 ghost use Rattle.bg_party.specs.Views.{player_of};
 
 use bg_board::Player;
 use bg_wire::SEAT_OF_X;
 
-/// The player whose seat the party is.
+/// Returns the player whose seat the party is.
 pub(crate) fn player_of(party: u8) -> Player
     ensures { result ≡ player_of party }
 {

@@ -1,14 +1,14 @@
-//! When a follower sends.
+//! The times at which a follower sends.
 ghost use Rattle.std.specs.Prelude.{◌≡◌};
 ghost use Rattle.bg_party.specs.Retry.{at_once, is_due, after_tick};
 
 use std::marker::Model;
 
-/// From one tick on which a follower sends to the next there are at most so many.
+/// The greatest number of ticks from one on which a follower sends to the next.
 const LONGEST_GAP: u8 = 32;
 
-/// When a follower sends: on its first tick, and again after 1, 2, 4, 8, 16, 32, 32 and so on (docs/PROTOCOL.md, "When
-/// a follower sends").
+/// The backoff of a follower. It sends on its first tick, and again after 1, 2, 4, 8, 16, 32, 32
+/// and so on (docs/PROTOCOL.md, "When a follower sends").
 #[derive(Debug, Drop)]
 pub(crate) struct Retry {
     wait: u8,
@@ -26,14 +26,14 @@ impl Model for Retry {
 }
 
 impl Retry {
-    /// That sends on the next tick.
+    /// Returns the backoff that sends on the next tick.
     pub(crate) fn at_once() -> Retry
         ensures { result ≡ at_once }
     {
         Retry { wait: 0, gap: 1 }
     }
 
-    /// A tick: whether it sends on this one.
+    /// Advances by a tick, and returns whether the follower sends on it.
     pub(crate) fn tick(&mut self) -> bool
         ensures due { result ≡ is_due self.old }
         ensures after { self.new ≡ after_tick self.old }

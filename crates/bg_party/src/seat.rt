@@ -24,11 +24,12 @@ const TRIAL_DICE: Dice = Dice {
     second: Die::One,
 };
 
-/// The seat of a player: it follows the match, and claims his actions, one under each number (docs/PROTOCOL.md,
-/// "Claims").
+/// The seat of a player: it follows the match, and claims the player's actions, one under each
+/// number (docs/PROTOCOL.md, "Claims").
 ///
-/// Contracts see its player, what it has as a follower (its record, the early entries that it keeps, and when it
-/// sends), its last claim, whether that is saved, and the number of the next save.
+/// Contracts see its player, its last claim, whether that is saved, and the number of the next
+/// save. They also see what it has as a follower: its record, the early entries that it keeps, and
+/// when it sends.
 #[derive(Debug, Drop)]
 pub struct Seat {
     alloc: Global,
@@ -67,7 +68,7 @@ impl Seat {
     ghost use Rattle.bg_party.specs.Takes.{FollowerTakes};
     ghost use Rattle.bg_party.specs.Claims.{MayClaim, SeatChooses, SeatTicks, claim_number, packet_of_seat};
 
-    /// The seat of a player with the empty record and no claim, which counts as saved.
+    /// Returns the seat of a player with the empty record and no claim, which counts as saved.
     ///
     /// # Errors
     /// `LengthOutOfRange` where the length is not from 1 to 99.
@@ -91,8 +92,9 @@ impl Seat {
         })
     }
 
-    /// The seat that goes on from what was saved, which is of party 1 or 2 (docs/PROTOCOL.md, "Restarting"). Its
-    /// claim counts as saved; it keeps no early entry, and sends on the next tick.
+    /// Returns the seat that goes on from what was saved, which is of party 1 or 2
+    /// (docs/PROTOCOL.md, "Restarting"). Its claim counts as saved. It keeps no early entry, and
+    /// sends on the next tick.
     pub fn resume(alloc: Global, saved: Saved) -> Seat
         requires party { seat_of_x ≤ saved.party }
         requires savable { IsSavable (parts_of saved) }
@@ -108,15 +110,15 @@ impl Seat {
         }
     }
 
-    /// The record, as far as the seat knows it.
+    /// Returns the record, as far as the seat knows it.
     pub fn held(&self) -> &Record
         ensures { result.now ≡ self.now.follower.log }
     {
         self.follower.held()
     }
 
-    /// The last claim: the number of the entry that shall answer the action, from 1, and the action. It stays until
-    /// another one takes its place.
+    /// Returns the last claim: the number of the entry that shall answer the action, from 1, and
+    /// the action. It stays until another one takes its place.
     pub fn claim(&self) -> Option<(Number, Action)>
         ensures value { result ≡ self.now.claim }
         ensures seat { IsSeat self.now }
@@ -127,8 +129,9 @@ impl Seat {
         }
     }
 
-    /// Learns from a packet (docs/PROTOCOL.md, "What a follower learns"). Only `Grew` changes the record, and only
-    /// `Gap` keeps entries; the claim stays. The packet is one that has a text, as each that `decode` gives.
+    /// Learns from a packet (docs/PROTOCOL.md, "What a follower learns"). Only `Grew` changes the
+    /// record, and only `Gap` keeps entries; the claim stays. The packet must have an encoding, as
+    /// each that `decode` returns does.
     pub fn take(&mut self, packet: &Packet) -> Learned
         requires { IsPacket packet.now }
         ensures takes { FollowerTakes self.old.follower packet.now result self.new.follower }
@@ -137,12 +140,16 @@ impl Seat {
         self.follower.take(packet)
     }
 
-    /// Claims an action as the next entry, and gives its number (docs/PROTOCOL.md, "Claims"). The claim takes the
-    /// place of the last one, and is sent once it is saved. A refusal changes nothing.
+    /// Claims an action as the next entry, and returns its number (docs/PROTOCOL.md, "Claims"). The
+    /// claim takes the place of the last one, and is sent once it is saved. A refusal changes
+    /// nothing.
     ///
     /// # Errors
-    /// The first that holds: `NotYourTurn` where another party acts, or nobody; `AlreadyClaimed` where the seat has
-    /// a claim whose number is above the length of its record; `Illegal` where the action does not follow.
+    /// The first that holds:
+    /// - `NotYourTurn` where another party acts, or nobody;
+    /// - `AlreadyClaimed` where the seat has a claim whose number is above the length of its
+    ///   record;
+    /// - `Illegal` where the action does not follow.
     pub fn choose(&mut self, action: Action) -> Result<Number, ChooseFault>
         ensures { SeatChooses self.old action result self.new }
     {
@@ -152,7 +159,7 @@ impl Seat {
         Ok(number)
     }
 
-    /// The number under which an action can be claimed.
+    /// Returns the number under which an action can be claimed.
     fn next_claim(&self, action: &Action) -> Result<Number, ChooseFault>
         ensures { MayClaim self.now.follower.log self.now.player self.now.claim action.now result }
     {
@@ -173,7 +180,7 @@ impl Seat {
         Ok(log.len() + 1)
     }
 
-    /// The number of the last claim, 0 where there is none.
+    /// Returns the number of the last claim, or 0 where there is none.
     fn claim_number(&self) -> Number
         ensures { result ≡ claim_number self.now.claim }
     {
@@ -183,12 +190,13 @@ impl Seat {
         }
     }
 
-    /// The slot, the number and the text of the next save, which holds the record and the claim (docs/PROTOCOL.md,
-    /// "Saving"). It changes nothing: once the text is written, `mark_saved` says so.
+    /// Returns the slot, the number and the text of the next save, which holds the record and the
+    /// claim (docs/PROTOCOL.md, "Saving"). It changes nothing. Once the text is durable, call
+    /// `mark_saved`.
     ///
     /// # Errors
-    /// `SavesSpent` where the last save was that of number 4294967295, else `Memory` where there is no memory for
-    /// the text.
+    /// `SavesSpent` where the last save was that of number 4294967295, else `Memory` where there is
+    /// no memory for the text.
     pub fn to_save(&self) -> Result<(Slot, u32, Vec<u8>), SaveRefusal>
         ensures { IsNextSave
             (parts_with (party_of self.now.player) self.now.next_save self.now.claim self.now.follower.log) result }
@@ -203,8 +211,9 @@ impl Seat {
         )
     }
 
-    /// The next save was written: the claim is saved, and one that was not is sent on the next tick. `save` is the
-    /// number that `to_save` gave, and no other call may come between the two (docs/PROTOCOL.md, "Saving").
+    /// Marks the next save as written, so that the claim is saved. A claim that was not saved
+    /// before is sent on the next tick. `save` is the number that `to_save` returned, and no other
+    /// call may come between the two (docs/PROTOCOL.md, "Saving").
     pub fn mark_saved(&mut self, save: u32)
         requires { save ≡ self.old.next_save }
         ensures { self.new ≡ seat_after_save self.old save }
@@ -216,9 +225,9 @@ impl Seat {
         self.last_save = save;
     }
 
-    /// What is to be sent to the referee, where this tick is one to send on (docs/PROTOCOL.md, "When a follower
-    /// sends"): the claim, once it is saved and until the record answers it; else that the seat wants the entries
-    /// after its own.
+    /// Returns the packet to send to the referee, where this tick is one to send on
+    /// (docs/PROTOCOL.md, "When a follower sends"). It is the claim, once that is saved and until
+    /// the record answers it; else a Want of the entries after the seat's own.
     pub fn tick(&mut self) -> Option<Packet>
         ensures { SeatTicks self.old result self.new }
     {
@@ -226,7 +235,7 @@ impl Seat {
         self.follower.tick().then_some(packet)
     }
 
-    /// What the seat sends, where it does.
+    /// Returns the packet that the seat sends, where it sends one.
     fn packet(&self) -> Packet
         ensures value { result ≡ packet_of_seat self.now }
         ensures fits { IsPacket (packet_of_seat self.now) }

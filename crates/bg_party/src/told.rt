@@ -1,4 +1,5 @@
-//! Entries that a packet tells, beside a record: whether they agree with it, and whether they follow.
+//! The entries that a packet tells, compared with a record: whether they agree with it, and whether
+//! they follow.
 ghost use Rattle.std.specs.Prelude.{◌≡◌, ◌≤◌, ◌<◌, ◌+◌, ◌++◌, length, MatchOption};
 ghost use Rattle.bg_match.specs.Limits.{most_entries};
 ghost use Rattle.bg_match.specs.Match.{IsLegalRecord, StandsAt};
@@ -6,8 +7,8 @@ ghost use Rattle.bg_party.specs.Learns.{Agrees, IsConflict, FollowsFor, new_entr
 
 use bg_match::{Entry, Number, Record, Standing};
 
-/// The least number under which the list, whose first entry has the number `start`, tells another entry than the
-/// one that is held.
+/// Returns the least number under which the list tells another entry than the one that is held. The
+/// first entry of the list has the number `start`.
 pub(crate) fn first_conflict(log: &Record, start: Number, list: &[Entry]) -> Option<Number>
     requires first { 1 ≤ start }
     requires last { start + length list.now ≤ most_entries + 1 }
@@ -25,7 +26,8 @@ pub(crate) fn first_conflict(log: &Record, start: Number, list: &[Entry]) -> Opt
     None
 }
 
-/// The entries of the list that are not held yet; `None` where it begins behind the entry that comes next.
+/// Returns the entries of the list that are not held yet, or `None` where it begins behind the
+/// entry that comes next.
 pub(crate) fn not_held<'a>(log: &Record, start: Number, list: &'a [Entry]) -> Option<&'a [Entry]>
     ensures { MatchOption result
         (length log.now.entries + 1 < start)
@@ -36,7 +38,8 @@ pub(crate) fn not_held<'a>(log: &Record, start: Number, list: &'a [Entry]) -> Op
     Some(&list[held.min(list.len())..])
 }
 
-/// How many entries of the list follow behind those of the record and the new ones, which lead to this standing.
+/// Returns the number of entries of the list that follow behind those of the record and the new
+/// ones, which lead to this standing.
 pub(crate) fn count_that_follow(
     log: &Record,
     new: &[Entry],

@@ -12,11 +12,11 @@ use bg_wire::Packet;
 use std::alloc::Global;
 use std::marker::Model;
 
-/// One who watches a match (docs/PROTOCOL.md, "Followers"). A watcher saves nothing: after a restart it begins
-/// afresh.
+/// A party that only watches a match (docs/PROTOCOL.md, "Followers"). A watcher saves nothing:
+/// after a restart it begins afresh.
 ///
-/// Contracts see its party, and what it has as a follower: its record, the early entries that it keeps, and when it
-/// sends.
+/// Contracts see its party, and what it has as a follower: its record, the early entries that it
+/// keeps, and when it sends.
 #[derive(Debug, Drop)]
 pub struct Watcher {
     party: u8,
@@ -38,7 +38,7 @@ impl Watcher {
     ghost use Rattle.bg_party.specs.Takes.{FollowerTakes};
     ghost use Rattle.bg_party.specs.Claims.{WatcherTicks};
 
-    /// A watcher with the empty record. `party` is its number, from 3.
+    /// Returns a watcher with the empty record. `party` is its number, from 3.
     ///
     /// # Errors
     /// `LengthOutOfRange` where the length is not from 1 to 99.
@@ -59,7 +59,7 @@ impl Watcher {
         })
     }
 
-    /// The record, as far as the watcher knows it.
+    /// Returns the record, as far as the watcher knows it.
     pub fn held(&self) -> &Record
         ensures value { result.now ≡ self.now.follower.log }
         ensures watcher { IsWatcher self.now }
@@ -67,8 +67,9 @@ impl Watcher {
         self.follower.held()
     }
 
-    /// Learns from a packet (docs/PROTOCOL.md, "What a follower learns"). Only `Grew` changes the record, and only
-    /// `Gap` keeps entries. The packet is one that has a text, as each that `decode` gives.
+    /// Learns from a packet (docs/PROTOCOL.md, "What a follower learns"). Only `Grew` changes the
+    /// record, and only `Gap` keeps entries. The packet must have an encoding, as each that
+    /// `decode` returns does.
     pub fn take(&mut self, packet: &Packet) -> Learned
         requires { IsPacket packet.now }
         ensures takes { FollowerTakes self.old.follower packet.now result self.new.follower }
@@ -77,8 +78,9 @@ impl Watcher {
         self.follower.take(packet)
     }
 
-    /// What is to be sent to the referee, where this tick is one to send on (docs/PROTOCOL.md, "When a follower
-    /// sends"): the watcher wants the entries after its own.
+    /// Returns the packet to send to the referee, where this tick is one to send on
+    /// (docs/PROTOCOL.md, "When a follower sends"). It is a Want of the entries after the watcher's
+    /// own.
     pub fn tick(&mut self) -> Option<Packet>
         ensures { WatcherTicks self.old result self.new }
     {

@@ -1,4 +1,4 @@
-//! Early entries, which are kept until those before them come.
+//! The reorder buffer: early entries, which are kept until those before them come.
 ghost use Rattle.std.specs.Prelude.{◌≡◌, ◌≢◌, ◌+◌, ◌<◌, ◌≤◌, ◌↔◌, ◌^◌, ℕ, Some, [], length, drop, max, IsTrue};
 ghost use Rattle.std.specs.Prelude.{if◌then◌else◌};
 ghost use Rattle.bg_party.specs.Window.{at_place, early_behind, window_size, KeepsFrom};
@@ -7,12 +7,12 @@ use arrayvec::ArrayVec;
 use bg_match::Entry;
 use std::marker::Model;
 
-/// How far behind the last entry of a record an early one may be to be kept, in entries (docs/PROTOCOL.md, "The
-/// window").
+/// The size of the reorder buffer: how far behind the last entry of a record an early one may be to
+/// be kept, in entries (docs/PROTOCOL.md, "The window").
 pub const WINDOW: usize = 32;
 
-/// Early entries. The first place is that of the number behind the last one of the record (docs/PROTOCOL.md, "The
-/// window").
+/// The reorder buffer. Its first place is for the number behind the last one of the record
+/// (docs/PROTOCOL.md, "The window").
 ///
 /// Contracts see its places.
 #[derive(Debug, Drop)]
@@ -30,7 +30,7 @@ impl Model for Window {
 }
 
 impl Window {
-    /// That keeps nothing.
+    /// Returns a buffer that keeps nothing.
     pub(crate) fn empty() -> Window
         ensures { result ≡ [] }
     {
@@ -39,7 +39,8 @@ impl Window {
         }
     }
 
-    /// Keeps entries from a place on, as far as there are places, in place of those that are kept there.
+    /// Keeps entries from a place on, as far as there are places, in place of those that are kept
+    /// there.
     pub(crate) fn keep(&mut self, first: usize, list: &[Entry])
         requires few { length self.old ≤ window_size }
         requires fits { first + length list.now < 2 ^ 64 }
@@ -70,7 +71,7 @@ impl Window {
         self.places.as_mut_slice()[place] = Some(entry);
     }
 
-    /// The entries right behind the first places, so many, up to the first that is missing.
+    /// Returns the entries right behind the first `count` places, up to the first that is missing.
     pub(crate) fn behind(&self, count: usize) -> ArrayVec<Entry, WINDOW>
         ensures { result.items ≡ early_behind self.now count }
     {
@@ -87,14 +88,15 @@ impl Window {
         entries
     }
 
-    /// Whether no entry is kept right behind the first places, so many.
+    /// Returns whether no entry is kept right behind the first `count` places.
     pub(crate) fn is_empty_behind(&self, count: usize) -> bool
         ensures { IsTrue result ↔ (early_behind self.now count ≡ []) }
     {
         !matches!(self.places.as_slice().get(count), Some(Some(_)))
     }
 
-    /// The first places leave, so many; where the entry behind them does not follow, all that is kept is dropped.
+    /// Removes the first `count` places. Where the entry behind them does not follow, drops all
+    /// that is kept.
     pub(crate) fn pass(&mut self, count: usize, stuck: bool)
         ensures { self.new ≡ (if stuck then [] else drop count self.old) }
     {
@@ -105,7 +107,7 @@ impl Window {
         }
     }
 
-    /// The first places leave, so many.
+    /// Removes the first `count` places.
     fn leave(&mut self, count: usize)
         ensures { self.new ≡ drop count self.old }
     {

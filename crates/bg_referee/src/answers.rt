@@ -1,4 +1,4 @@
-//! What the referee answers to packets.
+//! The referee's answers to packets.
 ghost use Rattle.std.specs.Prelude.{◌≡◌, ◌≤◌, List};
 ghost use Rattle.std.specs.List.{AllByRecursion};
 ghost use Rattle.bg_match.specs.Entry.{IsEntry};
@@ -16,8 +16,10 @@ impl Referee {
     ghost use Rattle.bg_referee.specs.Referee.{IsShown};
     ghost use Rattle.bg_referee.specs.Takes.{RefereeTakes, TellsSaved};
 
-    /// Takes a packet (docs/PROTOCOL.md, "What the referee answers"). The word gives the dice where a roll is
-    /// claimed. Only `Accepted` changes the record. The packet is one that has a text, as each that `decode` gives.
+    /// Takes a packet, and returns what becomes of it (docs/PROTOCOL.md,
+    /// "What the referee answers"). The word gives the dice where a roll is claimed. Only
+    /// `Accepted` changes the record. The packet must have an encoding, as each that `decode`
+    /// returns does.
     pub fn take(&mut self, packet: &Packet, word: u32) -> TakeOutcome
         requires { IsPacket packet.now }
         ensures { RefereeTakes self.old packet.now word result self.new }
@@ -37,7 +39,7 @@ impl Referee {
         }
     }
 
-    /// The packet that tells the saved entries from a number on.
+    /// Returns the packet that tells the saved entries from a number on.
     #[inline(never)]
     pub(crate) fn packet_from(&self, start: Number) -> Packet
         requires first { 1 ≤ start }
@@ -55,7 +57,7 @@ impl Referee {
         }
     }
 
-    /// The saved entries from a number on, eight at most.
+    /// Returns the saved entries from a number on, at most eight.
     fn saved_from(&self, start: Number) -> EntryList
         requires first { 1 ≤ start }
         requires last { start ≤ self.now.saved }

@@ -1,5 +1,5 @@
-//! The referee of a match: which entries it has, and what it answers to the parties. For a host that carries packets
-//! itself (docs/USING.md).
+//! The referee of a match: it decides which entries the match has, and answers the parties. For a
+//! host that carries packets itself (docs/USING.md).
 //!
 //! ```
 //! let mut referee = Referee::fresh(alloc, 1, 5, Rules::One)?;

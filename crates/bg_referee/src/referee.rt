@@ -14,13 +14,15 @@ use bg_wire::Saved;
 use std::alloc::Global;
 use std::marker::Model;
 
-/// The referee of a match: it alone decides which entries the match has (docs/PROTOCOL.md, "The referee").
+/// The referee of a match: it alone decides which entries the match has (docs/PROTOCOL.md,
+/// "The referee").
 ///
-/// It has no input or output of its own: it is handed packets, and answers what is to be sent and what is to be
-/// saved. It tells the parties saved entries alone, so that a restart never takes back what anybody has seen.
+/// It does no input or output of its own: it takes packets, and returns what to send and what to
+/// save. It tells the parties durable entries only, so that a restart never takes back what anybody
+/// has seen.
 ///
-/// Contracts see the record, how many of its entries are saved, the number of the next save, and what the parties are
-/// known to have.
+/// Contracts see the record, the number of its entries that are saved, the number of the next save,
+/// and what the parties are known to have.
 #[derive(Debug, Drop)]
 pub struct Referee {
     pub(crate) alloc: Global,
@@ -47,7 +49,7 @@ impl Referee {
     ghost use Rattle.bg_referee.specs.Dues.{Dues, RefereeDues, IsDueFault};
     ghost use Rattle.bg_referee.specs.Owning.{IsOwn};
 
-    /// The referee of a match with no entry, who has saved nothing.
+    /// Returns the referee of a match with no entry. It has saved nothing.
     ///
     /// # Errors
     /// `LengthOutOfRange` where the length is not from 1 to 99.
@@ -64,8 +66,8 @@ impl Referee {
         })
     }
 
-    /// The referee that goes on from what was saved, which is of party 0 (docs/PROTOCOL.md, "Restarting"). All of
-    /// its entries count as saved, and nothing is known of any party.
+    /// Returns the referee that goes on from what was saved, which is of party 0 (docs/PROTOCOL.md,
+    /// "Restarting"). All of its entries count as saved, and nothing is known of any party.
     pub fn resume(alloc: Global, saved: Saved) -> Referee
         requires party { saved.party ≡ referee }
         requires savable { IsSavable (parts_of saved) }
@@ -81,14 +83,14 @@ impl Referee {
         }
     }
 
-    /// The record of the match, saved or not.
+    /// Returns the record of the match, saved or not.
     pub fn held(&self) -> &Record
         ensures { result.now ≡ self.now.log }
     {
         &self.log
     }
 
-    /// How many entries are saved, which is the number of the last one that is.
+    /// Returns the number of saved entries, which is the number of the last one that is saved.
     pub fn saved(&self) -> Number
         ensures value { result ≡ self.now.saved }
         ensures referee { IsReferee self.now }
@@ -96,13 +98,17 @@ impl Referee {
         self.saved
     }
 
-    /// Opens a game with the dice of a random word, X's die first, or passes a turn whatever the word, and gives the
-    /// number of that entry (docs/PROTOCOL.md, "What the referee adds itself"). A refusal changes nothing.
+    /// Opens a game with the dice of a random word, X's die first, or passes a turn whatever the
+    /// word. Returns the number of that entry (docs/PROTOCOL.md, "What the referee adds itself"). A
+    /// refusal changes nothing.
     ///
     /// # Errors
-    /// The first that holds: `NothingDue` where no game is to be opened and no turn to be passed; where a game is to
-    /// be opened, `WordRefused` where the word has no dice and `EqualOpening` where they are equal; `RecordFull` where
-    /// there are 1000000 entries, `Memory` where there is no room and no memory for more.
+    /// The first that holds:
+    /// - `NothingDue` where no game is to be opened and no turn to be passed;
+    /// - where a game is to be opened, `WordRefused` where the word has no dice, and `EqualOpening`
+    ///   where they are equal;
+    /// - `RecordFull` where there are 1000000 entries;
+    /// - `Memory` where there is no room and no memory for more.
     pub fn due(&mut self, word: u32) -> Result<Number, DueFault>
         ensures { RefereeDues self.old word result self.new }
     {
@@ -123,7 +129,8 @@ impl Referee {
         Ok(self.log.len())
     }
 
-    /// The entry of the referee's own where he acts: an opening with the dice of the word, or a pass.
+    /// Returns the referee's own entry where it acts: an opening with the dice of the word, or a
+    /// pass.
     fn own_entry(&self, word: u32) -> Result<Entry, DueFault>
         requires { ActsAfter self.now.log.terms self.now.log.entries Actor.Referee }
         ensures own { IfOk result (λ entry. IsOwn self.now.log word entry) }

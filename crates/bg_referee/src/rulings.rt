@@ -1,4 +1,4 @@
-//! What packets come to, before the entries of an answer are read.
+//! The rulings on packets, before the entries of an answer are read.
 ghost use Rattle.std.specs.Prelude.{◌≤◌, ℕ};
 ghost use Rattle.bg_wire.specs.Packets.PacketText.{IsPacket};
 
@@ -7,8 +7,8 @@ use bg_match::{Action, Actor, EntryFault, Number, entry_of};
 use bg_turns::dice_of;
 use bg_wire::{Packet, party_of};
 
-/// What a packet comes to: its outcome, but that the entries of an answer are still to be read. It is small, unlike an
-/// answer.
+/// The ruling on a packet: its outcome, with the entries of an answer still to be read. It is
+/// small, unlike an answer.
 #[derive(Clone, Copy)]
 pub(crate) enum Ruling {
     /// The packet is of another match.
@@ -36,7 +36,7 @@ impl Referee {
     ghost use Rattle.bg_referee.specs.Takes.{reply_to_want};
     ghost use Rattle.bg_turns.specs.Dice.{dice_of};
 
-    /// What a packet comes to. The word gives the dice where a roll is claimed.
+    /// Rules on a packet. The word gives the dice where a roll is claimed.
     pub(crate) fn rule(&mut self, packet: &Packet, word: u32) -> Ruling
         requires { IsPacket packet.now }
         ensures rules { RulesOn self.old word packet.now result self.new }
@@ -59,7 +59,7 @@ impl Referee {
         }
     }
 
-    /// What it comes to that a party holds so many entries.
+    /// Rules on a Want of a party that holds this number of entries.
     fn rule_want(&self, sender: u8, held: Number) -> Ruling
         ensures rules { (word : ℕ) → Rules self.now word (reply_to_want self.now sender held) result self.now }
         ensures showable { IsShowable self.now.saved result }
@@ -73,7 +73,7 @@ impl Referee {
         }
     }
 
-    /// What it comes to that a seat claims an action under a number.
+    /// Rules on a seat's claim of an action under a number.
     fn rule_claim(&mut self, sender: u8, number: Number, action: &Action, word: u32) -> Ruling
         requires { 1 ≤ number }
         ensures rules { RulesOnClaim self.old word sender number action.now result self.new }
@@ -95,7 +95,7 @@ impl Referee {
         self.act(action, word)
     }
 
-    /// Whether a party sits for the player who acts.
+    /// Returns whether a party sits for the player who acts.
     fn is_on_turn(&self, party: u8) -> bool
         ensures { TellsTurn self.now party result }
     {

@@ -1,4 +1,5 @@
-//! What the parties are known to have, so that the referee can send them what they lack without having been asked.
+//! The progress of each peer: what the parties are known to have, so that the referee can send them
+//! what they lack without being asked.
 ghost use Rattle.std.specs.Prelude.{◌≡◌, ◌<◌, ◌+◌, ◌++◌, ◌∷◌, [], All, take, min};
 ghost use Rattle.bg_wire.specs.Entries.Codes.{most_in_packet};
 ghost use Rattle.bg_referee.specs.Sessions.{IsSessions, no_sessions, tell, hear_sender, behind};
@@ -11,20 +12,20 @@ use bg_match::Number;
 use bg_wire::{LAST_WATCHER, MOST_ENTRIES_IN_PACKET, Packet, SEAT_OF_X};
 use std::marker::Model;
 
-/// How many parties one tick sends entries, at most.
+/// The number of parties to which one tick sends entries, at most.
 pub(crate) const MOST_PUSHES: usize = 2;
 
 /// The first party that is told of entries.
 const FIRST_PARTY: u8 = SEAT_OF_X;
 
-/// The last one.
+/// The last party that is told of entries.
 const LAST_PARTY: u8 = LAST_WATCHER;
 
 /// A place for each number of a party.
 const PLACES: usize = LAST_PARTY as usize + 1;
 
-/// The number of the last entry that each party is known to have, and the party with which the next round begins
-/// (docs/PROTOCOL.md, "What the referee sends unasked").
+/// The number of the last entry that each party is known to have, and the party with which the next
+/// round begins (docs/PROTOCOL.md, "What the referee sends unasked").
 ///
 /// Contracts see both.
 #[derive(Debug, Drop)]
@@ -44,7 +45,7 @@ impl Model for Sessions {
 }
 
 impl Sessions {
-    /// Nothing is known of any party.
+    /// Returns the state where nothing is known of any party.
     pub(crate) fn none() -> Sessions
         ensures value { result ≡ no_sessions }
         ensures sessions { IsSessions result }
@@ -55,7 +56,7 @@ impl Sessions {
         }
     }
 
-    /// Learns from the ruling on a packet, while so many entries are saved.
+    /// Learns from the ruling on a packet, while `saved` entries are saved.
     pub(crate) fn hear(&mut self, saved: Number, packet: &Packet, ruling: Ruling)
         requires { IsShowable saved ruling }
         ensures { self.new ≡ hear_ruling self.old saved packet.now ruling }
@@ -67,7 +68,7 @@ impl Sessions {
         }
     }
 
-    /// The sender of a packet has all that is saved.
+    /// Notes that the sender of a packet has all that is saved.
     fn hear_sender(&mut self, saved: Number, packet: &Packet)
         ensures { self.new ≡ hear_sender self.old saved packet.now }
     {
@@ -77,7 +78,8 @@ impl Sessions {
         }
     }
 
-    /// A party is sent the saved entries behind this number, eight at most, and has them.
+    /// Notes that a party was sent the saved entries behind this number, at most eight, and has
+    /// them.
     fn tell_next(&mut self, party: u8, number: Number, saved: Number)
         requires { number < saved }
         ensures { self.new ≡ tell self.old party (min saved (number + most_in_packet)) }
@@ -86,15 +88,15 @@ impl Sessions {
         self.tell(party, number + count);
     }
 
-    /// From now on a party is known to have the entries up to this number.
+    /// Notes that a party has the entries up to this number.
     fn tell(&mut self, party: u8, number: Number)
         ensures { self.new ≡ tell self.old party number }
     {
         self.told[usize::from(party)] = Some(number);
     }
 
-    /// The first two parties, once round from the cursor on, that are known to have less than is saved, each beside
-    /// the number of its last entry.
+    /// Returns the first two parties, once round from the cursor on, that are known to have less
+    /// than is saved. Each stands beside the number of its last entry.
     pub(crate) fn pushed(&self, saved: Number) -> ArrayVec<(u8, Number), MOST_PUSHES>
         ensures pushed { result.items ≡ pushed self.now saved }
         ensures behind { All (λ one. one.1 < saved) result.items }
@@ -109,7 +111,7 @@ impl Sessions {
         found
     }
 
-    /// Adds a party, if it is known to have less than is saved, and there is room.
+    /// Adds a party, if it is known to have less than is saved and there is room.
     fn add_if_behind(
         &self,
         found: &mut ArrayVec<(u8, Number), MOST_PUSHES>,
@@ -129,7 +131,7 @@ impl Sessions {
         }
     }
 
-    /// Each of these was sent the entries behind its last one, eight at most.
+    /// Notes that each of these parties was sent the entries behind its last one, at most eight.
     pub(crate) fn push(&mut self, saved: Number, some: &[(u8, Number)])
         requires { All (λ one. one.1 < saved) some.now }
         ensures { self.new ≡ after_pushes self.old saved some.now }
@@ -141,7 +143,7 @@ impl Sessions {
     }
 }
 
-/// The party of the next number; the last one is followed by the first.
+/// Returns the party of the next number; the last one is followed by the first.
 fn party_after(party: u8) -> u8
     ensures { result ≡ party_after party }
 {

@@ -1,4 +1,4 @@
-//! What the referee sends without having been asked for.
+//! The packets that the referee sends without being asked.
 ghost use Rattle.std.specs.Prelude.{◌≤◌, ◌<◌, All, length};
 ghost use Rattle.bg_match.specs.Limits.{most_entries};
 ghost use Rattle.bg_wire.specs.Packets.PacketText.{IsPacket};
@@ -15,9 +15,9 @@ use bg_wire::Packet;
 impl Referee {
     ghost use Rattle.bg_referee.specs.Ticks.{RefereeTicks};
 
-    /// What is to be sent without having been asked for, each packet beside the party that it goes to, at most two
-    /// (docs/PROTOCOL.md, "What the referee sends unasked"): to parties that are known to have less than is saved, the
-    /// saved entries that they lack, eight at most.
+    /// Returns the packets to send without being asked, each beside the party that it goes to, at
+    /// most two (docs/PROTOCOL.md, "What the referee sends unasked"). Parties that are known to
+    /// have less than is saved get the saved entries that they lack, at most eight.
     pub fn tick(&mut self) -> ArrayVec<(u8, Packet), MOST_PUSHES>
         ensures { RefereeTicks self.old result.items self.new }
     {
@@ -27,7 +27,7 @@ impl Referee {
         pushes
     }
 
-    /// A packet for each of these parties, with the saved entries behind its last one.
+    /// Returns a packet for each of these parties, with the saved entries behind its last one.
     fn pushes(&self, parties: &[(u8, Number)]) -> ArrayVec<(u8, Packet), MOST_PUSHES>
         requires few { length parties.now ≤ most_pushes }
         requires saved { self.now.saved ≤ most_entries }

@@ -1,4 +1,4 @@
-//! What bytes come from and go to: devices whose bytes and failures contracts see.
+//! Sources and sinks of bytes: devices whose bytes and failures contracts see.
 ghost use Rattle.std.specs.Prelude.{◌≡◌, ℕ, ◌+◌, List, [], Option, None, Some, OnOk, option_copied};
 ghost use Rattle.std.specs.Io.{ReadsAtMost};
 ghost use Rattle.std.specs.Io.KnownBytes.{Appends, Keeps, ReadConsumes};
@@ -8,7 +8,7 @@ use crate::{History, StreamFault};
 use std::io;
 use std::io::{Read, Write};
 
-/// Keeps why a device failed, in the place of what was kept of an earlier failure.
+/// Keeps the reason why a device failed, in place of that of an earlier failure.
 fn keep_error(last: &mut Option<io::Error>, error: io::Error) -> StreamFault
     ensures { last.new ≡ Some error }
 {
@@ -16,7 +16,8 @@ fn keep_error(last: &mut Option<io::Error>, error: io::Error) -> StreamFault
     StreamFault
 }
 
-/// What bytes come from. Contracts see what it gave, how often it was asked and how often it failed.
+/// A source of bytes. Contracts see what it gave, the number of times it was asked, and the number
+/// of times it failed.
 pub trait Source {
     /// The bytes that are left, where they are known.
     ghost remaining: { Self → Option (List ℕ) };
@@ -24,16 +25,16 @@ pub trait Source {
     /// All bytes that its reads gave, in order.
     ghost given: { Self → List ℕ };
 
-    /// How often it said that nothing is left: gave nothing, though there was room.
+    /// The number of times it said that nothing is left: gave nothing, though there was room.
     ghost ends: { Self → ℕ };
 
-    /// How often it was asked for bytes.
+    /// The number of times it was asked for bytes.
     ghost reads: { Self → ℕ };
 
-    /// How often it failed.
+    /// The number of times it failed.
     ghost failures: { Self → ℕ };
 
-    /// Reads some bytes into the buffer, and says how many; none at the end.
+    /// Reads some bytes into the buffer, and returns their number: 0 at the end.
     fn read(&mut self, buffer: &mut [u8]) -> Result<usize, StreamFault>
         ensures bound { ReadsAtMost result buffer.new }
         ensures bytes { ReadConsumes (remaining self.old) (remaining self.new) result buffer.new }
@@ -43,7 +44,7 @@ pub trait Source {
         ensures cause { CountsFailure (failures self.old) (failures self.new) result };
 }
 
-/// What bytes go to. Contracts see what it took and how often it failed.
+/// A sink of bytes. Contracts see what it took, and the number of times it failed.
 pub trait Sink {
     /// The bytes that it holds, where they are known.
     ghost contents: { Self → Option (List ℕ) };
@@ -51,16 +52,17 @@ pub trait Sink {
     /// All bytes of its writes that succeeded, in order. It may still hold some of them back.
     ghost written: { Self → List ℕ };
 
-    /// All bytes that it has let go of: those that were written when it was last flushed, and the flush succeeded.
+    /// All bytes that it has flushed: those that were written when it was last flushed, and the
+    /// flush succeeded.
     ghost taken: { Self → List ℕ };
 
-    /// How often it was flushed.
+    /// The number of times it was flushed.
     ghost flushes: { Self → ℕ };
 
-    /// How often it failed.
+    /// The number of times it failed.
     ghost failures: { Self → ℕ };
 
-    /// Writes all of the bytes. After a failure nothing is said of how many went out.
+    /// Writes all of the bytes. After a failure it is not known how many of them went out.
     fn write_all(&mut self, bytes: &[u8]) -> Result<(), StreamFault>
         ensures bytes { OnOk result (Appends (contents self.old) (contents self.new) bytes.now) }
         ensures written { WritesBytes (written self.old) (written self.new) result bytes.now }
@@ -68,8 +70,8 @@ pub trait Sink {
         ensures flushes { flushes self.new ≡ flushes self.old }
         ensures cause { CountsFailure (failures self.old) (failures self.new) result };
 
-    /// Lets go of all that was written, so that nothing is held back. After a failure nothing is said of how many bytes
-    /// went out.
+    /// Flushes all that was written, so that nothing is held back. After a failure it is not known
+    /// how many bytes went out.
     fn flush(&mut self) -> Result<(), StreamFault>
         ensures bytes { OnOk result (Keeps (contents self.old) (contents self.new)) }
         ensures written { written self.new ≡ written self.old }
@@ -78,7 +80,7 @@ pub trait Sink {
         ensures cause { CountsFailure (failures self.old) (failures self.new) result };
 }
 
-/// Any reader as a source.
+/// A source that reads from any reader.
 #[derive(Drop)]
 pub struct Reading<R> {
     reader: R,
@@ -93,7 +95,8 @@ impl<R: Read> Reading<R> {
     ghost use Rattle.bg_streams.specs.DeviceParts.{read_error_of, reader_of, given_of, ends_of, reads_of};
     ghost use Rattle.bg_streams.specs.DeviceParts.{read_failures_of};
 
-    /// Reads from this reader. It has not been asked yet, so it has given nothing and has not failed.
+    /// Returns a source that reads from this reader. It has not been asked yet, so it has given
+    /// nothing and has not failed.
     pub fn new(reader: R) -> Reading<R>
         ensures reader { reader_of result ≡ reader }
         ensures error { read_error_of result ≡ None }
@@ -112,7 +115,7 @@ impl<R: Read> Reading<R> {
         }
     }
 
-    /// Why the reader failed last, if it did.
+    /// Returns the error of the reader's last failure, if it failed.
     pub fn error(&self) -> Option<&io::Error>
         ensures { option_copied result ≡ read_error_of self.now }
     {
@@ -151,7 +154,7 @@ impl<R: Read> Source for Reading<R> {
     }
 }
 
-/// Any writer as a sink.
+/// A sink that writes to any writer.
 #[derive(Drop)]
 pub struct Writing<W> {
     writer: W,
@@ -166,7 +169,7 @@ impl<W: Write> Writing<W> {
     ghost use Rattle.bg_streams.specs.DeviceParts.{write_error_of, writer_of, written_of, taken_of, flushes_of};
     ghost use Rattle.bg_streams.specs.DeviceParts.{write_failures_of};
 
-    /// Writes to this writer. It has taken nothing yet, and has not failed.
+    /// Returns a sink that writes to this writer. It has taken nothing yet, and has not failed.
     pub fn new(writer: W) -> Writing<W>
         ensures writer { writer_of result ≡ writer }
         ensures error { write_error_of result ≡ None }
@@ -185,7 +188,7 @@ impl<W: Write> Writing<W> {
         }
     }
 
-    /// Why the writer failed last, if it did.
+    /// Returns the error of the writer's last failure, if it failed.
     pub fn error(&self) -> Option<&io::Error>
         ensures { option_copied result ≡ write_error_of self.now }
     {

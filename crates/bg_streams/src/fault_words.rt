@@ -1,4 +1,4 @@
-//! The words of faults.
+//! `Display` of the faults.
 
 use crate::{EngineFault, StreamFault};
 use std::fmt;

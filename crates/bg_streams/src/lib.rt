@@ -1,5 +1,6 @@
-//! Bytes in and out: sources and sinks, of which contracts see what they gave and took, how often they were asked and
-//! how often they failed. For whoever reads a whole input or writes a whole text, and has to prove what came of it.
+//! Bytes in and out: sources and sinks, of which contracts see what they gave and took, and how
+//! often they were asked and failed. For callers that read a whole input or write a whole text, and
+//! have to prove what came of it.
 //!
 //! ```
 //! let mut source = Reading::new("some bytes".as_bytes());

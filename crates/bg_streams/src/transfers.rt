@@ -7,8 +7,9 @@ ghost use Rattle.bg_streams.specs.Transfers.{ReadsInput, WritesText};
 use crate::{EngineFault, Sink, Source, StreamFault};
 use std::alloc::Global;
 
-/// Reads all of an input, up to the source's end, or of a longer one so many bytes and one more, by which a caller sees
-/// that it is too long; in at most as many reads.
+/// Reads all of an input, up to the source's end. Of an input longer than `most` bytes it reads
+/// `most` bytes and one more, by which a caller sees that it is too long. It makes at most
+/// `most + 1` reads.
 ///
 /// # Errors
 /// Read exactly where the source failed, and Memory where memory runs out. Write never comes.
@@ -37,11 +38,11 @@ pub fn read_input<S: Source>(
     Ok(input)
 }
 
-/// Writes a text to a sink, and lets it go: behind what the sink held.
+/// Writes a text to a sink, behind what the sink held, and flushes it.
 ///
 /// # Errors
-/// `StreamFault` exactly where the sink failed, as it was written to or flushed: it has taken no more, and nothing is
-/// said of how much went out.
+/// `StreamFault` exactly where the sink failed as it was written to or flushed. It has taken no
+/// more, and it is not known how much went out.
 pub fn write_text<T: Sink>(sink: &mut T, text: &[u8]) -> Result<(), StreamFault>
     ensures written { OnOk result (WritesText T.Sink sink.old sink.new text.now) }
     ensures untaken { OnErr result (T.taken sink.new ≡ T.taken sink.old) }

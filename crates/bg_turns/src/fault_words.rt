@@ -1,4 +1,4 @@
-//! The words of faults.
+//! `Display` of the faults.
 
 use crate::TurnFault;
 use std::fmt;

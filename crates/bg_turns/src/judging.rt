@@ -1,4 +1,4 @@
-//! The judge of a turn, who plays it as far as it goes.
+//! The judge of a turn, which plays it as far as it goes.
 ghost use Rattle.std.specs.Prelude.{◌≡◌, ◌≤◌, ◌↔◌, IsOk, IfOk, IfErr, OnOk, OnErr, IsTrue, length, map};
 ghost use Rattle.bg_board.specs.Die.{pips};
 ghost use Rattle.bg_board.specs.Position.{Position, HasAllOff};
@@ -14,17 +14,18 @@ use crate::search::can_play_more;
 use crate::{Dice, Turn, TurnFault};
 use bg_board::{Board, Die, Player, Step};
 
-/// Judges a turn of the player with the dice, and gives the board after it. A turn that bears off the
-/// player's fifteenth checker is complete whatever dice are left (docs/RULES.md, "A turn").
+/// Judges a turn of the player with the dice, and returns the board after it. A turn that bears off
+/// the player's fifteenth checker is complete whatever dice are left (docs/RULES.md, "A turn").
 ///
 /// # Errors
 ///
 /// Tested in this order:
-/// 1. [`TurnFault::StepIllegal`]: the steps cannot all be played, each with a die of its own, in any
-///    order of the dice. It gives the number of steps, from the first on, that can be played at most.
+/// 1. [`TurnFault::StepIllegal`]: the steps cannot all be played, each with a die of its own, in
+///    any order of the dice. It carries the number of steps, from the first on, that can be played
+///    at most.
 /// 2. [`TurnFault::MoreCanBePlayed`]: another turn plays more dice.
-/// 3. [`TurnFault::LargerMustBePlayed`]: of two different dice only one can be played, the turn plays
-///    it by the smaller die, and there is a step by the larger one.
+/// 3. [`TurnFault::LargerMustBePlayed`]: of two different dice only one can be played, the turn
+///    plays it by the smaller die, and there is a step by the larger one.
 pub fn judge_turn(
     board: &Board,
     player: Player,
@@ -40,12 +41,13 @@ pub fn judge_turn(
     Ok(after)
 }
 
-/// Plays a turn of the player with the dice on a board, which a refusal leaves as it was: for a caller who keeps no
-/// board before the turn (docs/RULES.md, "A turn").
+/// Plays a turn of the player with the dice on a board, in place. A refused turn leaves the board
+/// as it was (docs/RULES.md, "A turn"). It is for a caller who does not keep the board before the
+/// turn.
 ///
 /// # Errors
 ///
-/// As [`judge_turn`].
+/// The same as those of [`judge_turn`].
 pub fn play_turn(
     board: &mut Board,
     player: Player,
@@ -83,7 +85,7 @@ fn judge_steps(board: &Board, player: Player, dice: Dice, steps: &[Step]) -> Res
     Ok(())
 }
 
-/// Whether steps that can be played bear off the last of the player's checkers.
+/// Returns whether these steps, which can be played, bear off the last of the player's checkers.
 fn bears_all_off(board: &Board, player: Player, steps: &[Step]) -> bool
     requires { AreLegalSteps board.now player steps.now }
     ensures { IsTrue result ↔ HasAllOff (after_steps board.now player steps.now) player }
@@ -93,7 +95,8 @@ fn bears_all_off(board: &Board, player: Player, steps: &[Step]) -> bool
     after.has_all_off(player)
 }
 
-/// Whether a single step with two different dice is one by the larger die, if there is one.
+/// Returns whether a single step with two different dice is one by the larger die, if there is such
+/// a step.
 fn uses_larger(board: &Board, player: Player, dice: Dice, steps: &[Step]) -> bool
     ensures { IsTrue result ↔ UsesLarger board.now player dice steps.now }
 {
@@ -110,14 +113,14 @@ fn uses_larger(board: &Board, player: Player, dice: Dice, steps: &[Step]) -> boo
     board.play_step(player, *step, larger).is_ok()
 }
 
-/// Whether the player has a step by this die.
+/// Returns whether the player has a step by this die.
 fn can_step(board: &Board, player: Player, die: Die) -> bool
     ensures { IsTrue result ↔ CanStep board.now player (pips die) }
 {
     Masks::of(board, player).can_step(die.pips())
 }
 
-/// How many of the steps, from the first on, can be played with some choice of the dice.
+/// Returns the number of steps, from the first on, that can be played with some choice of the dice.
 fn longest_part(board: &Board, player: Player, dice: Dice, steps: &[Step]) -> usize
     ensures { IsPlayablePart board.now player (dice_list dice) steps.now result }
 {
@@ -134,7 +137,8 @@ fn longest_part(board: &Board, player: Player, dice: Dice, steps: &[Step]) -> us
     forth.max(part_in_order(&mut mover, &[second, first], steps))
 }
 
-/// Plays the steps with the dice in this order on the mover's counts, as far as they go, and counts them.
+/// Plays the steps with the dice in this order on the mover's counts, as far as they go, and
+/// returns the number played.
 fn part_in_order(mover: &mut MoverCounts, dice: &[Die], steps: &[Step]) -> usize
     requires { IsMoverCounts mover.old }
     ensures part { (b : Position) (p : SeenPlayer) → Stands mover.old b p
@@ -151,7 +155,7 @@ fn part_in_order(mover: &mut MoverCounts, dice: &[Die], steps: &[Step]) -> usize
     1 + part_in_order(mover, dice, steps)
 }
 
-/// Plays steps that can be played.
+/// Plays steps that are known to be playable.
 fn play_all(board: &mut Board, player: Player, steps: &[Step])
     requires { AreLegalSteps board.old player steps.now }
     ensures { board.new ≡ after_steps board.old player steps.now }

@@ -1,5 +1,6 @@
-//! The mover's side of a position, on which turns are searched: a board that is copied for each step takes most of the
-//! time of a search, and the other player's counts decide nothing within a turn but which points are blocked.
+//! The mover's side of a position, on which turns are searched. Copying a board for each step would
+//! take most of the time of a search. Within a turn, the other player's counts decide only which
+//! points are blocked.
 ghost use Rattle.std.specs.Prelude.{◌≡◌, ◌≤◌, ◌<◌, ◌↔◌, IsTrue, slice_index};
 ghost use Rattle.std.specs.Bool.{OnTrue};
 ghost use Rattle.bg_board.specs.Position.{Position, IsPosition, checkers, opponent};
@@ -11,7 +12,7 @@ ghost use Rattle.bg_turns.specs.MoverCounts.{IsMoverCounts, IsHighest, Stands, c
 use bg_board::{BAR, Board, CHECKERS, HOME, OFF, Player, Step};
 
 /// The mover's checkers by point, which a search moves, and the other player's as they stood at the
-/// beginning of the turn: within a turn they change only where one stands alone.
+/// beginning of the turn. Within a turn the latter change only where one stands alone.
 #[derive(Clone, Copy)]
 pub(crate) struct MoverCounts {
     pub(crate) own: [u8; 26],
@@ -19,7 +20,7 @@ pub(crate) struct MoverCounts {
 }
 
 impl MoverCounts {
-    /// The player's side of a board.
+    /// Returns the player's side of a board.
     pub(crate) fn of(board: &Board, player: Player) -> MoverCounts
         ensures own { result.own ≡ checkers board.now player }
         ensures other { result.other ≡ checkers board.now (opponent player) }
@@ -32,14 +33,14 @@ impl MoverCounts {
         }
     }
 
-    /// Whether all checkers are off.
+    /// Returns whether all checkers are off.
     pub(crate) fn is_off(&self) -> bool
         ensures { result ≡ is_off self.now }
     {
         self.own[usize::from(OFF)] == CHECKERS
     }
 
-    /// The highest point with a checker, 0 where all are off.
+    /// Returns the highest point with a checker, or 0 where all are off.
     pub(crate) fn highest(&self) -> u8
         ensures highest { IsHighest self.now.own result }
         ensures within { result ≤ 25 }
@@ -51,7 +52,7 @@ impl MoverCounts {
         point
     }
 
-    /// Whether the mover can play a step by a die from a point.
+    /// Returns whether the mover can play a step by a die from a point.
     fn can_play(&self, from: u8, die: u8) -> bool
         requires mover { IsMoverCounts self.now }
         requires low { 1 ≤ from }
@@ -72,7 +73,7 @@ impl MoverCounts {
         highest <= HOME && (from == die || from == highest)
     }
 
-    /// Whether a step by a die can be played.
+    /// Returns whether a step by a die can be played.
     pub(crate) fn can_play_step(&self, step: Step, die: u8) -> bool
         requires mover { IsMoverCounts self.now }
         requires die { 1 ≤ die }

@@ -1,4 +1,4 @@
-//! The fields of layouts, read and written.
+//! The fields of the layouts, read and written.
 
 pub(crate) mod codes;
 pub(crate) mod entry_reading;

@@ -1,4 +1,4 @@
-//! The words of faults, for the texts that name them.
+//! The descriptions of faults, for the messages that name them.
 ghost use Rattle.std.specs.Prelude.{◌≡◌, ◌≤◌, length};
 ghost use Rattle.bg_wire.specs.FaultWords.{numbered, wire_fault_words, load_fault_words};
 
@@ -6,7 +6,7 @@ use crate::{LoadFault, RestoreRefusal, SaveRefusal, WireFault};
 use std::fmt;
 
 impl WireFault {
-    /// The fault in words, and the number that stands behind them, if there is one.
+    /// Returns a description of the fault, and the number that follows it, if there is one.
     pub fn words(self) -> (&'static str, Option<u64>)
         ensures words { numbered result.0.now result.1 ≡ wire_fault_words self }
         ensures fits { length result.0.now ≤ 13 }
@@ -23,7 +23,7 @@ impl WireFault {
 }
 
 impl LoadFault {
-    /// The fault in words, and the number that stands behind them, if there is one.
+    /// Returns a description of the fault, and the number that follows it, if there is one.
     pub fn words(self) -> (&'static str, Option<u64>)
         ensures words { numbered result.0.now result.1 ≡ load_fault_words self }
         ensures fits { length result.0.now ≤ 14 }

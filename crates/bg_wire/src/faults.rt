@@ -1,27 +1,29 @@
-//! Why bytes are no packet, and no saved text; why there is no text to save.
+//! The reasons why bytes are no packet or no saved text, why nothing is restored, and why there is
+//! no text to save.
 use bg_match::Number;
 
-/// Why bytes are no packet's text. Bytes are read from left to right, a field is tested once all its bytes are there,
-/// and the first fault met is named (docs/FORMATS.md, "Packets").
+/// The reason why bytes are not the encoding of a packet. Bytes are read from left to right, and a
+/// field is tested once all its bytes are there. The first fault met is named (docs/FORMATS.md,
+/// "Packets").
 #[derive(Clone, Copy, Debug, PartialEq, Eq)]
 pub enum WireFault {
     /// A byte that is needed is missing.
     Short,
     /// The bytes do not begin as a packet does.
     Magic,
-    /// This is no version that is read.
+    /// The version is not one that is read.
     Version,
     /// There is no packet of this kind.
     Kind,
     /// A field is out of its range. Its first byte stands at this offset, from 0.
     Field(usize),
-    /// The packet ends, and more bytes follow.
+    /// More bytes follow the end of the packet.
     Extra,
 }
 
-/// Why bytes are no saved text. Bytes are read from left to right, a field is tested once all its bytes are there,
-/// and the first fault met is named; the entries are tried once the whole layout holds (docs/FORMATS.md, "Saved
-/// files").
+/// The reason why bytes are no saved text. Bytes are read from left to right, and a field is tested
+/// once all its bytes are there. The first fault met is named. The entries are tried once the whole
+/// layout holds (docs/FORMATS.md, "Saved files").
 #[derive(Clone, Copy, Debug, PartialEq, Eq)]
 pub enum LoadFault {
     /// A byte that is needed is missing.
@@ -30,15 +32,17 @@ pub enum LoadFault {
     Magic,
     /// A field is out of its range. Its first byte stands at this offset, from 0.
     Field(usize),
-    /// The saved text ends, and more bytes follow.
+    /// More bytes follow the end of the saved text.
     Extra,
-    /// The layout holds, and the entry of this number, from 1, is the first that does not follow the ones before it.
+    /// The layout holds, and the entry of this number, from 1, is the first that does not follow
+    /// the ones before it.
     Illegal(Number),
     /// There is no memory for the entries.
     Memory,
 }
 
-/// Why a party has no text to save, in the order in which the refusals are tested (docs/PROTOCOL.md, "Saving").
+/// The reason why a party has no text to save, in the order in which the refusals are tested
+/// (docs/PROTOCOL.md, "Saving").
 #[derive(Clone, Copy, Debug, PartialEq, Eq)]
 pub enum SaveRefusal {
     /// The last save had the greatest number, 4294967295.
@@ -47,8 +51,8 @@ pub enum SaveRefusal {
     Memory,
 }
 
-/// Why nothing is restored of two slots, in the order in which the refusals are tested; want of memory comes in
-/// place of any other answer (docs/FORMATS.md, "Saved files").
+/// The reason why nothing is restored from two slots, in the order in which the refusals are
+/// tested. `Memory` may come in place of any other answer (docs/FORMATS.md, "Saved files").
 #[derive(Clone, Copy, Debug, PartialEq, Eq)]
 pub enum RestoreRefusal {
     /// Neither slot has a saved text, and slot 0 is not empty.

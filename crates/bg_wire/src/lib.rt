@@ -1,5 +1,5 @@
-//! The bytes of the relay: packets and saved texts, read and written exactly. For whoever carries packets or keeps
-//! saved files.
+//! The encodings of the relay: packets and saved texts, read and written exactly. For callers that
+//! carry packets or keep saved files.
 //!
 //! ```
 //! let packet = Packet::Want {

@@ -9,16 +9,16 @@ use arrayvec::ArrayVec;
 use bg_match::{Action, Entry, Number, Rules};
 use std::marker::Model;
 
-/// The most entries of one packet.
+/// The greatest number of entries in one packet.
 pub const MOST_ENTRIES_IN_PACKET: u8 = 8;
 
 /// The room of an [`EntryList`].
 const ENTRY_ROOM: usize = MOST_ENTRIES_IN_PACKET as usize;
 
-/// The most bytes of a datagram.
+/// The greatest length of a datagram in bytes.
 pub const MOST_DATAGRAM_BYTES: usize = 128;
 
-/// The most bytes of a packet's text.
+/// The greatest length of the encoding of a packet in bytes.
 pub const LONGEST_PACKET: usize = 98;
 
 /// At most eight entries that follow each other. Contracts see it as the list of its entries.
@@ -39,8 +39,8 @@ impl Model for EntryList {
     ghost inverse = { λ entries. record { entries = record { items = entries } } };
 }
 
-/// What the parties of a match send each other (docs/FORMATS.md, "Packets"). Parties are numbered: 0 is the
-/// referee, 1 the seat of X, 2 the seat of O, and the others watch.
+/// A message from one party of a match to another (docs/FORMATS.md, "Packets"). Parties are
+/// numbered: 0 is the referee, 1 the seat of X, 2 the seat of O, and the others watch.
 #[derive(Debug, PartialEq, Eq, Drop)]
 pub enum Packet {
     /// A party asks the referee for the entries after those that it holds.
@@ -51,7 +51,7 @@ pub enum Packet {
         rules: Rules,
         /// The party that asks, from 1 to 255.
         sender: u8,
-        /// How many entries it holds, from 0 to 1000000.
+        /// The number of entries it holds, from 0 to 1000000.
         held: Number,
     },
     /// A seat claims an action.
@@ -64,7 +64,7 @@ pub enum Packet {
         sender: u8,
         /// The number of the entry that shall answer the action, from 1 to 1000000.
         number: Number,
-        /// What the seat does.
+        /// The action of the seat.
         action: Action,
     },
     /// The referee tells entries.
@@ -73,7 +73,8 @@ pub enum Packet {
         id: u64,
         /// The rules of the match.
         rules: Rules,
-        /// The number of the first of these entries, from 1 to 1000000. The number of the last is at most 1000000.
+        /// The number of the first of these entries, from 1 to 1000000. The number of the last is
+        /// at most 1000000.
         start: Number,
         /// The entries, from 1 to 8.
         list: EntryList,
@@ -83,7 +84,7 @@ pub enum Packet {
 impl Packet {
     ghost use Rattle.bg_wire.specs.Packets.PacketText.{id_of, packet_rules, IsOfMatch, is_of_match};
 
-    /// The number of the match that it is of.
+    /// Returns the number of the match that the packet is of.
     pub fn id(&self) -> u64
         ensures { result ≡ id_of self.now }
     {
@@ -92,7 +93,7 @@ impl Packet {
         }
     }
 
-    /// The rules of that match.
+    /// Returns the rules of that match.
     pub fn rules(&self) -> Rules
         ensures { result ≡ packet_rules self.now }
     {
@@ -103,7 +104,7 @@ impl Packet {
         }
     }
 
-    /// Whether it is of the match with this number and these rules.
+    /// Returns whether the packet is of the match with this number and these rules.
     pub fn is_of(&self, id: u64, rules: Rules) -> bool
         ensures value { result ≡ is_of_match id rules self.now }
         ensures of { IsTrue result ↔ IsOfMatch id rules self.now }
@@ -112,7 +113,8 @@ impl Packet {
     }
 }
 
-/// A place in a list that is not full holds a Want of party 1 in match 0, by the first rules, which holds nothing.
+/// The default fills the unused places of a list. It is a Want of party 1 in match 0, by the first
+/// rules, which holds no entry.
 impl Default for Packet {
     ghost use Rattle.std.specs.Prelude.{◌≡◌};
     ghost use Rattle.bg_match.specs.declared.limits.Rules.TheVariants.{One};
@@ -152,12 +154,12 @@ impl Model for PacketBytes {
 pub struct Datagram {
     /// The party that they go to, from 0 to 255.
     pub to: u8,
-    /// What is sent.
+    /// The bytes to send.
     pub bytes: PacketBytes,
 }
 
 impl Datagram {
-    /// The same datagram. It takes no memory.
+    /// Returns the same datagram. It allocates nothing.
     pub fn copy(&self) -> Datagram
         ensures { result ≡ self.now }
     {

@@ -15,7 +15,7 @@ pub const FIRST_WATCHER: u8 = 3;
 /// The last party that may watch.
 pub const LAST_WATCHER: u8 = u8::MAX;
 
-/// The party of a player's seat: 1 of X, 2 of O.
+/// Returns the party of a player's seat: 1 for X, 2 for O.
 pub fn party_of(player: Player) -> u8
     ensures { result ≡ party_of player }
 {

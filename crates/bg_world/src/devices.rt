@@ -26,7 +26,7 @@ use bg_wire::{Datagram, Slot};
 use std::alloc::{AllocError, AllocFailed};
 use thiserror::Error;
 
-/// Why a device did not do what it was asked.
+/// The reason why a device did not do what it was asked to do.
 #[derive(Clone, Copy, Debug, PartialEq, Eq, Error)]
 pub enum DeviceFault {
     /// It failed by itself.
@@ -51,37 +51,40 @@ impl<T: Drop> From<AllocFailed<T>> for DeviceFault {
     }
 }
 
-/// What a take answers: the bytes of a datagram, at most 256, or that the link has none for the party.
+/// The result of a take: the bytes of a datagram, at most 256, or `None` where the link has none
+/// for the party.
 pub type Taken = Result<Option<ArrayVec<u8, 256>>, DeviceFault>;
 
-/// Carries datagrams between the parties (docs/PROTOCOL.md, "Devices"). It may lose them, repeat them and change their
-/// order.
+/// Carries datagrams between the parties (docs/PROTOCOL.md, "Devices"). It may lose them, repeat
+/// them and change their order.
 pub trait Link {
-    /// It is honest, in all of its calls: what it hands over to a party was sent to that party, or is no packet's text.
+    /// The link is honest, in all of its calls: what it hands over to a party was sent to that
+    /// party, or is no packet's encoding.
     ghost is_honest: { Type 0 };
 
-    /// Which of its sends fail, where that is known.
+    /// The sends that fail, where they are known.
     ghost plan: { Self → Option (List FailSend) };
 
-    /// The datagrams that were ever sent, the oldest first.
+    /// All datagrams that were sent, the oldest first.
     ghost sent: { Self → List Sent };
 
-    /// How often it has failed by itself.
+    /// The number of times that it has failed by itself.
     ghost faults: { Self → ℕ };
 
-    /// How often a take was asked.
+    /// The number of takes asked of it.
     ghost takes: { Self → ℕ };
 
-    /// How often a send was asked.
+    /// The number of sends asked of it.
     ghost sends: { Self → ℕ };
 
-    /// What the last take answered.
+    /// The result of the last take.
     ghost taken: { Self → Result (Option (Items ℕ)) Fault };
 
     /// Sends a datagram.
     ///
     /// # Errors
-    /// `Failed` where the link failed, `Memory` where there was no memory. Then the datagram may have gone out or not.
+    /// `Failed` where the link failed, `Memory` where there was no memory. In both cases the
+    /// datagram may have gone out or not.
     fn send(&mut self, datagram: &Datagram) -> Result<(), DeviceFault>
         ensures sends { sends self.new ≡ sends self.old + 1 }
         ensures takes { takes self.new ≡ takes self.old }
@@ -93,10 +96,11 @@ pub trait Link {
             SendsBy (failure_at failing (sends self.new)) (sent self.old) datagram.now (sent self.new) result) }
         ensures counted { IfSome (plan self.old) (λ _. CountsFailed (faults self.old) (faults self.new) result) };
 
-    /// Takes a datagram for the party, if there is one. A link in memory hands over the one that `pick` names.
+    /// Takes a datagram for the party, if there is one. A link in memory hands over the one that
+    /// `pick` names.
     ///
     /// # Errors
-    /// `Failed` where the link failed; `Memory` where there was no memory.
+    /// `Failed` where the link failed, `Memory` where there was no memory.
     fn take(&mut self, party: u8, pick: u32) -> Taken
         ensures takes { takes self.new ≡ takes self.old + 1 }
         ensures sends { sends self.new ≡ sends self.old }
@@ -112,33 +116,33 @@ pub trait Link {
 
 /// Keeps the saved texts of one party in two slots (docs/PROTOCOL.md, "Devices").
 pub trait Keeper {
-    /// It is honest, in all of its calls: a slot has what was last written to it, and reads give that; of a write that
-    /// failed it may have the first bytes, or nothing.
+    /// The keeper is honest, in all of its calls: a slot has what was last written to it, and reads
+    /// return that. After a failed write it may have the first bytes, or nothing.
     ghost is_honest: { Type 0 };
 
-    /// Whose keeper it is, and which of its calls fail, where that is known.
+    /// The party whose keeper it is, and the calls that fail, where they are known.
     ghost plan: { Self → Option KeeperPlan };
 
     /// The bytes of its slots.
     ghost slots: { Self → Slots };
 
-    /// How often it has failed by itself.
+    /// The number of times that it has failed by itself.
     ghost faults: { Self → ℕ };
 
-    /// How often a write was asked.
+    /// The number of writes asked of it.
     ghost writes: { Self → ℕ };
 
-    /// How often a read was asked.
+    /// The number of reads asked of it.
     ghost reads: { Self → ℕ };
 
-    /// What the last write answered.
+    /// The result of the last write.
     ghost written: { Self → Result (Unit {0}) Fault };
 
-    /// Writes bytes to a slot, in the place of those that it has.
+    /// Writes bytes to a slot, in place of those that it has.
     ///
     /// # Errors
-    /// `Failed` where the keeper failed, `Memory` where there was no memory. Then the slot may have what it had, or any
-    /// number of the first of these bytes.
+    /// `Failed` where the keeper failed, `Memory` where there was no memory. In both cases the slot
+    /// may have what it had, or any number of the first of these bytes.
     fn write(&mut self, slot: Slot, bytes: &[u8]) -> Result<(), DeviceFault>
         ensures writes { writes self.new ≡ writes self.old + 1 }
         ensures reads { reads self.new ≡ reads self.old }

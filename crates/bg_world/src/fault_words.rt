@@ -1,4 +1,4 @@
-//! The words of faults.
+//! `Display` of the faults.
 
 use crate::{DeviceFault, ScriptFault, WorldFault};
 use std::fmt;

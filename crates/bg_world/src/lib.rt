@@ -1,5 +1,6 @@
-//! All parties of a match together, over a link and keepers: what each event comes to, the protocol that every event
-//! is a step of, and what holds after any run. For whoever tries schedules, or runs a match with devices of his own.
+//! All parties of a match together, over a link and keepers. It has the outcome of each event, the
+//! protocol that every event is a step of, and what holds after any run. For callers that try
+//! schedules, or run a match over devices of their own.
 //!
 //! ```
 //! let setup = Setup {

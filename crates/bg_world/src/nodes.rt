@@ -1,8 +1,9 @@
-//! The parties of a match, each by itself: its core, while it is up, and the keeper of its saved texts.
+//! The parties of a match, each by itself: its core, while it is up, and the keeper of its saved
+//! texts.
 //!
-//! A process that runs one party makes the calls of its node, and a [`World`](crate::World) is made of the same nodes
-//! (docs/PROTOCOL.md, "Parties in processes of their own"). Their fields are private: whoever holds a node can only
-//! make its events.
+//! A process that runs one party makes the calls of its node, and a [`World`](crate::World) is made
+//! of the same nodes (docs/PROTOCOL.md, "Parties in processes of their own"). Their fields are
+//! private: a caller that holds a node can only make its events.
 
 pub(crate) mod keeper_calls;
 pub(crate) mod link_calls;

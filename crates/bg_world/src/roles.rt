@@ -1,4 +1,4 @@
-//! Which party has which role.
+//! The roles of the parties.
 ghost use Rattle.std.specs.Prelude.{◌≡◌, ◌+◌, ℕ};
 ghost use Rattle.bg_board.specs.declared.players.Player.{Player};
 ghost use Rattle.bg_wire.specs.Entries.Codes.{first_watcher};
@@ -22,8 +22,8 @@ pub enum Role {
 impl Role {
     ghost use Rattle.bg_world.specs.Protocol.Roles.{role};
 
-    /// The role of the party of this number: 0 is the referee, 1 the seat of X, 2 the seat of O, and the others
-    /// watch.
+    /// Returns the role of the party of this number: 0 is the referee, 1 the seat of X, 2 the seat
+    /// of O, and the others watch.
     pub fn of(party: u8) -> Role
         ensures value { result ≡ role party }
         ensures seat { (player : Player) → result ≡ roles.Seat player → party ≡ party_of player }

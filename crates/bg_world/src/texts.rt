@@ -1,4 +1,5 @@
-//! What is read and written of worlds: the lines of events and of outcomes, the final text, and scripts.
+//! The texts of worlds, read and written: the lines of events and of outcomes, the final text, and
+//! scripts.
 
 pub(crate) mod event_lines;
 pub(crate) mod final_texts;

@@ -20,8 +20,8 @@ use bg_match::{Record, Terms};
 use bg_wire::FIRST_WATCHER;
 use std::alloc::Global;
 
-/// A referee, two seats and those who watch, with a link between them and a keeper for each party that saves
-/// (docs/PROTOCOL.md, "The state and its steps").
+/// A world: a referee, two seats and the watchers, with a link between them and a keeper for each
+/// party that saves (docs/PROTOCOL.md, "The state and its steps").
 ///
 /// Contracts see the match, the link, the keepers, and the core of each party that is up.
 #[derive(Drop)]
@@ -45,12 +45,17 @@ impl<L: Link + Drop, K: Keeper + Drop> World<L, K> {
     ghost use Rattle.bg_world.specs.Worlds.World.{view_of};
     ghost use Rattle.bg_world.specs.Worlds.WorldState.{IsReachedWorld};
 
-    /// A world where nothing has happened yet: all parties are fresh and up (docs/PROTOCOL.md, "The state and its
-    /// steps"). It asks nothing of the link and of the keepers.
+    /// Returns a world where nothing has happened yet: all parties are fresh and up
+    /// (docs/PROTOCOL.md, "The state and its steps"). It asks nothing of the link and of the
+    /// keepers.
     ///
     /// # Errors
-    /// The first that holds: `TooManyWatchers` where more than 253 watch, `LengthOutOfRange` where the length is not
-    /// from 1 to 99, `Memory` where there is no memory for the watchers. A refusal drops the link and the keepers.
+    /// The first that holds:
+    /// - `TooManyWatchers` where more than 253 watch;
+    /// - `LengthOutOfRange` where the length is not from 1 to 99;
+    /// - `Memory` where there is no memory for the watchers.
+    ///
+    /// A refusal drops the link and the keepers.
     pub fn new(
         alloc: Global,
         setup: Setup,
@@ -60,7 +65,8 @@ impl<L: Link + Drop, K: Keeper + Drop> World<L, K> {
         ensures start { IfOk result (λ world. view_of L.Link K.Keeper world ≡ fresh_world setup
             (link_view L.Link link) (keeper_view K.Keeper keepers.referee) (keeper_view K.Keeper keepers.x)
             (keeper_view K.Keeper keepers.o)) }
-        // Over a link that nothing was sent over, and empty slots, it is a world that a run leads to.
+        // Over a link that nothing was sent over, and empty slots, it is a world that a run leads
+        // to.
         ensures reached { IfOk result (λ world. AreUnused (link_view L.Link link) (keeper_view K.Keeper keepers.referee)
             (keeper_view K.Keeper keepers.x) (keeper_view K.Keeper keepers.o)
             → IsReachedWorld (view_of L.Link K.Keeper world)) }
@@ -70,7 +76,7 @@ impl<L: Link + Drop, K: Keeper + Drop> World<L, K> {
         World::begin(alloc, setup, link, keepers)
     }
 
-    /// A world where nothing has happened yet.
+    /// Returns a world where nothing has happened yet.
     fn begin(
         alloc: Global,
         setup: Setup,
@@ -107,14 +113,14 @@ impl<L: Link, K: Keeper> World<L, K> {
     ghost use Rattle.bg_world.specs.Worlds.Views.{link_view, parties};
     ghost use Rattle.bg_world.specs.Worlds.World.{view_of};
 
-    /// The link.
+    /// Returns the link.
     pub fn link(&self) -> &L
         ensures { link_view L.Link result.now ≡ (view_of L.Link K.Keeper self.now).link }
     {
         &self.link
     }
 
-    /// How many parties there are; they have the numbers from 0.
+    /// Returns the number of parties; they have the numbers from 0.
     pub(crate) fn parties(&self) -> usize
         ensures value { result ≡ parties (view_of L.Link K.Keeper self.now) }
         ensures some { 1 ≤ result }
@@ -123,7 +129,8 @@ impl<L: Link, K: Keeper> World<L, K> {
         usize::from(FIRST_WATCHER) + self.watchers.len()
     }
 
-    /// The record of a party, from 0; `None` exactly where there is no such party, or it is down.
+    /// Returns the record of a party, from 0, or `None` exactly where there is no such party, or it
+    /// is down.
     pub fn held(&self, party: u8) -> Option<&Record>
         ensures { option_copied result ≡ held_of (view_of L.Link K.Keeper self.now) (role party) }
     {

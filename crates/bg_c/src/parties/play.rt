@@ -1,4 +1,4 @@
-//! What parties do: entries of their own, packets, claims, and what they send.
+//! The play of parties: entries of their own, packets, claims, and what they send.
 ghost use Rattle.std.specs.Prelude.{◌≡◌, ℕ, List, None, Some, Result, slice_get};
 ghost use Rattle.bg_wire.specs.declared.packets.Packet.{Packet as APacket};
 ghost use Rattle.bg_c.specs.Answers.{due_status, role_status};
@@ -24,11 +24,12 @@ use bg_text::parse_action;
 use bg_wire::decode;
 use std::alloc::Global;
 
-/// The referee adds what is its to add: it opens a game with the dice of a random word, or passes a turn without steps.
-/// `number` is that entry's where the answer is BG_OK, and else as before. Save after BG_OK.
+/// Adds the entry that is the referee's to add: opens a game with the dice of a random word, or
+/// passes a turn without steps. `number` is that entry's where the result is BG_OK, and else as
+/// before. Save after BG_OK.
 ///
-/// BG_WRONG_PARTY where the party is not the referee; else BG_NOT_DUE, BG_WORD_REFUSED or BG_MEMORY with what
-/// [`Party::due`] refuses.
+/// BG_WRONG_PARTY where the party is not the referee; else BG_NOT_DUE, BG_WORD_REFUSED or BG_MEMORY
+/// with what [`Party::due`] refuses.
 #[unsafe(no_mangle)]
 pub extern "C" fn bg_referee_due(
     alloc: Global,
@@ -50,7 +51,7 @@ pub extern "C" fn bg_referee_due(
     set(made, number)
 }
 
-/// The referee of a party adds what is its to add.
+/// Adds the entry that is the referee's to add.
 fn due(party: &mut Party, word: u32) -> Result<Number, Status>
     ensures { (answer : DueAnswer) × HeldDues party.old word answer party.new
         × (result ≡ with_status (role_status due_status) answer) }
@@ -58,8 +59,9 @@ fn due(party: &mut Party, word: u32) -> Result<Number, Status>
     Ok(party.due(word)?)
 }
 
-/// The party takes a packet. The random word, a new one for each call, gives the dice where the referee accepts a roll;
-/// followers do not read it. `outcome` and `answer` are set where the answer is BG_OK.
+/// Takes a packet. The random word, a new one for each call, gives the dice where the referee
+/// accepts a roll; followers do not read it. `outcome` and `answer` are set where the result is
+/// BG_OK.
 ///
 /// BG_NOT_A_PACKET where the bytes are none, and BG_MEMORY; then everything is as before.
 #[unsafe(no_mangle)]
@@ -92,7 +94,7 @@ pub extern "C" fn bg_party_take(
     }
 }
 
-/// What a party makes of the packet whose text the bytes are, and what is to be sent back.
+/// Takes the packet whose encoding the bytes are, and returns the outcome and what to send back.
 fn take(party: &mut Party, bytes: &[u8], word: u32) -> Result<(Outcome, Datagram), Status>
     ensures { TakesBytes party.old bytes.now word result party.new }
 {
@@ -104,12 +106,12 @@ fn take(party: &mut Party, bytes: &[u8], word: u32) -> Result<(Outcome, Datagram
     }
 }
 
-/// A seat claims an action, such as `roll` or `move 8-5 6-5`. `number` is that of the entry that shall answer it where
-/// the answer is BG_OK; `why` is set where it is BG_ILLEGAL; else they are as before. Save after BG_OK: a claim is sent
-/// once it is saved.
+/// Claims an action for a seat, such as `roll` or `move 8-5 6-5`. Where the result is BG_OK,
+/// `number` is that of the entry that shall answer it. `why` is set where it is BG_ILLEGAL. Else
+/// they are as before. Save after BG_OK: a claim is sent once it is saved.
 ///
-/// BG_NOT_AN_ACTION where the text is no action's; else BG_WRONG_PARTY where the party is no seat; else
-/// BG_NOT_YOUR_TURN, BG_ALREADY_CLAIMED or BG_ILLEGAL with what [`Party::choose`] refuses.
+/// BG_NOT_AN_ACTION where the text is no action's; else BG_WRONG_PARTY where the party is no seat;
+/// else BG_NOT_YOUR_TURN, BG_ALREADY_CLAIMED or BG_ILLEGAL with what [`Party::choose`] refuses.
 #[unsafe(no_mangle)]
 pub extern "C" fn bg_seat_choose(
     alloc: Global,
@@ -132,7 +134,7 @@ pub extern "C" fn bg_seat_choose(
     set(made, number)
 }
 
-/// A seat claims the action whose text this is.
+/// Claims the action whose text this is, for a seat.
 fn choose(party: &mut Party, text: &[u8], why: &mut u32) -> Result<Number, Status>
     ensures { ChoosesText party.old text.now why.old result why.new party.new }
 {
@@ -142,7 +144,8 @@ fn choose(party: &mut Party, text: &[u8], why: &mut u32) -> Result<Number, Statu
     Ok(chosen?)
 }
 
-/// Why the action of a claim does not follow, where it does not; else what the reason was before.
+/// Returns the reason why the action of a claim does not follow, where it does not; else the reason
+/// that was there before.
 fn why_after(chosen: Result<Number, RoleFault<ChooseFault>>, before: u32) -> u32
     ensures { result ≡ why_after chosen before }
 {
@@ -152,8 +155,8 @@ fn why_after(chosen: Result<Number, RoleFault<ChooseFault>>, before: u32) -> u32
     }
 }
 
-/// What is to be sent now, at most two packets; to be called about once a second. Both are set where the answer is
-/// BG_OK.
+/// Sets the packets to send now, at most two; call it about once a second. Both are set where the
+/// result is BG_OK.
 #[unsafe(no_mangle)]
 pub extern "C" fn bg_party_tick(
     alloc: Global,

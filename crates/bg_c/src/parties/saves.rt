@@ -1,4 +1,4 @@
-//! How parties are saved.
+//! The saves of parties.
 ghost use Rattle.std.specs.Prelude.{◌≡◌, None, Some};
 ghost use Rattle.bg_parties.specs.Calls.{after_save};
 ghost use Rattle.bg_c.specs.Handle.{Held};
@@ -15,7 +15,7 @@ use bg_parties::Party;
 use bg_wire::Slot;
 use std::alloc::Global;
 
-/// The number of a slot.
+/// Returns the number of a slot.
 fn slot_code(slot: Slot) -> u32
     ensures { result ≡ slot_code slot }
 {
@@ -25,8 +25,8 @@ fn slot_code(slot: Slot) -> u32
     }
 }
 
-/// Begins the next save of a party where its text fits into the room, and sets the numbers of its slot and of itself.
-/// Where the text does not fit no save is under way.
+/// Begins the next save of a party where its text fits into the room, and sets the numbers of its
+/// slot and of itself. Where the text does not fit, no save is under way.
 fn begin_save(
     party: &mut Party,
     slot: &mut u32,
@@ -51,12 +51,13 @@ fn begin_save(
     Status::Ok
 }
 
-/// Begins the next save of a referee or a seat, and sets `slot` and `save`: write the text whole to slot `slot` (0 or
-/// 1), make sure that it is there, and then call [`bg_party_mark_saved`] with `save`. What changes the record or the
-/// claim in between ends the save: begin again. Where the answer is BG_NO_ROOM no save is under way, and `slot` and
-/// `save` are as before.
+/// Begins the next save of a referee or a seat, and sets `slot` and `save`. Write the whole text to
+/// slot `slot` (0 or 1), make sure that it is durable, and then call [`bg_party_mark_saved`] with
+/// `save`. A change of the record or the claim in between ends the save: begin again. Where the
+/// result is BG_NO_ROOM no save is under way, and `slot` and `save` are as before.
 ///
-/// BG_WRONG_PARTY where the party is a watcher; else BG_SAVES_SPENT or BG_MEMORY with what [`Party::to_save`] refuses.
+/// BG_WRONG_PARTY where the party is a watcher; else BG_SAVES_SPENT or BG_MEMORY with what
+/// [`Party::to_save`] refuses.
 #[unsafe(no_mangle)]
 pub extern "C" fn bg_party_to_save(
     alloc: Global,
@@ -81,7 +82,8 @@ pub extern "C" fn bg_party_to_save(
     status.code()
 }
 
-/// The save of this number was written. BG_WRONG_SAVE where it is not under way; a watcher has none.
+/// Marks the save of this number as written. BG_WRONG_SAVE where it is not under way; a watcher has
+/// none.
 #[unsafe(no_mangle)]
 pub extern "C" fn bg_party_mark_saved(alloc: Global, handle: &mut Handle, save: u32) -> u32
     ensures closed { handle.old.value ≡ None → (result ≡ status_code status.NotOpen) × (handle.new.value ≡ None) }

@@ -14,21 +14,21 @@ use bg_parties::Party;
 use bg_text::{board_text, transcript_text};
 use std::alloc::Global;
 
-/// The board of a party's record.
+/// Returns the board of a party's record.
 fn board(alloc: Global, party: &Party) -> Result<Vec<u8>, Status>
     ensures { MakesBoard party.now result }
 {
     Ok(board_text(alloc, &party.held().standing())?)
 }
 
-/// The transcript of a party's record.
+/// Returns the transcript of a party's record.
 fn transcript(alloc: Global, party: &Party) -> Result<Vec<u8>, Status>
     ensures { MakesTranscript party.now result }
 {
     Ok(transcript_text(alloc, party.held())?)
 }
 
-/// The legal turns of the player to move by a party's record.
+/// Returns the legal turns of the player to move by a party's record.
 fn turns(alloc: Global, party: &Party) -> Result<Vec<u8>, Status>
     ensures { MakesTurns party.now result }
 {
@@ -82,8 +82,8 @@ pub extern "C" fn bg_party_transcript(
     give(made, out, needed).code()
 }
 
-/// Writes each legal turn of the player to move by a party's record, a line each, such as `move 8-5 6-5`, the greatest
-/// first. BG_NOT_TO_MOVE where no player is to move.
+/// Writes each legal turn of the player to move by a party's record, one to a line, such as
+/// `move 8-5 6-5`, the greatest first. BG_NOT_TO_MOVE where no player is to move.
 #[unsafe(no_mangle)]
 pub extern "C" fn bg_party_turns(
     alloc: Global,

@@ -1,14 +1,14 @@
-//! Transcripts that are judged.
+//! The judging of transcripts.
 use crate::judge::{VerdictFields, bg_judge};
 use crate::tests::{NO_ROOM, OK};
 
-/// What a verdict is set to, where it was another before.
+/// The earlier value of a verdict, before it is set.
 const OTHER: VerdictFields = VerdictFields {
     kind: 99,
     number: 99,
 };
 
-/// Whether the text of so many bytes at the front of a room ends so.
+/// Returns whether the text of `needed` bytes at the front of a room ends with this.
 fn ends(room: &[u8], needed: usize, end: &[u8]) -> bool {
     match room.get(..needed) {
         Some(text) => text.ends_with(end),

@@ -1,4 +1,4 @@
-//! How parties are opened, and why they are not.
+//! Parties that are opened, and refusals to open them.
 use crate::handle::Handle;
 use crate::parties::{bg_party_entries, bg_party_open, bg_party_saved};
 use crate::slots::{SavedFields, bg_slots_read};

@@ -1,4 +1,4 @@
-//! What is read of packets.
+//! The reading of packets.
 use crate::packets::{PacketFields, bg_packet_read};
 use crate::tests::{CLAIM, ENTRIES, NOT_A_PACKET, OK, WANT};
 

@@ -1,4 +1,4 @@
-//! The referee and a seat play.
+//! The play of the referee and a seat.
 use crate::outcomes::Outcome;
 use crate::parties::bg_party_entries;
 use crate::parties::play::{bg_party_take, bg_party_tick, bg_referee_due, bg_seat_choose};
@@ -7,7 +7,7 @@ use crate::tests::{
     NOT_DUE, NOTHING, OK, OPENING, THREE_ONE, WANT, WORD_REFUSED, fresh, opened, saved, sends,
 };
 
-/// An outcome without a reason.
+/// Returns an outcome without a reason.
 fn outcome_of(kind: u32, number: u32) -> Outcome {
     Outcome {
         kind,
@@ -21,7 +21,7 @@ fn a_referee_opens_one_game(rt: HostRuntime) {
     let alloc = rt.alloc();
     let mut referee = fresh(alloc, 0);
     let mut number = 99;
-    // the word 0 has the dice 1 1
+    // The word 0 has the dice 1 1.
     assert!(rt; bg_referee_due(alloc, &mut referee, 0, &mut number) == WORD_REFUSED);
     assert!(rt; number == 99);
     assert!(rt; bg_referee_due(alloc, &mut referee, THREE_ONE, &mut number) == OK && number == 1);
@@ -106,10 +106,10 @@ fn a_seat_is_told_why_an_action_does_not_follow(rt: HostRuntime) {
     let (mut outcome, mut answer) = (NO_OUTCOME, NO_DATAGRAM);
     assert!(rt; bg_party_take(alloc, &mut seat, OPENING, 0, &mut outcome, &mut answer) == OK);
     let (mut number, mut why) = (99, 99);
-    // X has rolled, so the phase is another one
+    // X has rolled, so the phase is another one.
     assert!(rt; bg_seat_choose(alloc, &mut seat, b"roll", &mut number, &mut why) == ILLEGAL);
     assert!(rt; number == 99 && why == 3);
-    // neither die shows 4
+    // Neither die shows 4.
     let status = bg_seat_choose(alloc, &mut seat, b"move 8-5 6-2", &mut number, &mut why);
     assert!(rt; status == ILLEGAL && number == 99 && why == 12);
     let status = bg_seat_choose(alloc, &mut seat, b"move 8-5", &mut number, &mut why);

@@ -1,4 +1,4 @@
-//! What is read of parties.
+//! The reading of parties.
 use crate::handle::Handle;
 use crate::parties::texts::{bg_party_board, bg_party_transcript, bg_party_turns};
 use crate::parties::{bg_party_actor, bg_party_entries, bg_party_saved};
@@ -15,7 +15,7 @@ bar X 0 O 0 off X 0 O 0
 opening
 ";
 
-/// Who acts by a party's record; 99 where it does not say so.
+/// Returns the one who acts by a party's record, or 99 where the call fails.
 fn actor(alloc: Global, handle: &mut Handle) -> u32 {
     let mut actor = 99;
     let _ = bg_party_actor(alloc, handle, &mut actor);
@@ -63,7 +63,7 @@ fn the_turns_are_listed_greatest_first(rt: HostRuntime) {
     let (mut room, mut needed) = ([0; 4096], 0);
     let status = bg_party_turns(rt.alloc(), &mut referee, &mut room, &mut needed);
     assert!(rt; status == OK && room.starts_with(b"move 24-23 24-21\nmove 24-23 23-20\n"));
-    // no other turn begins below 6
+    // No other turn begins below 6.
     let Some(text) = room.get(..needed) else {
         assert!(rt; false);
         return;

@@ -1,4 +1,4 @@
-//! What is another role's, and what is another seat's.
+//! Calls that are another role's, and claims that are another seat's.
 use crate::parties::play::{bg_referee_due, bg_seat_choose};
 use crate::parties::saves::{bg_party_mark_saved, bg_party_to_save};
 use crate::tests::{NOT_YOUR_TURN, THREE_ONE, WRONG_PARTY, WRONG_SAVE, fresh};

@@ -12,7 +12,7 @@ fn a_text_that_does_not_fit_is_not_written(rt: HostRuntime) {
     assert!(rt; bg_party_board(alloc, &mut referee, &mut room, &mut needed) == NO_ROOM);
     assert!(rt; bg_party_turns(alloc, &mut referee, &mut room, &mut needed) == NO_ROOM);
     assert!(rt; bg_status_text(4, &mut room, &mut needed) == NO_ROOM && needed == 25);
-    // one byte is missing
+    // One byte is missing.
     let status = bg_party_transcript(alloc, &mut referee, &mut room, &mut needed);
     assert!(rt; status == NO_ROOM && needed == 18 && room == [7; 17]);
     let mut room = [7; 18];

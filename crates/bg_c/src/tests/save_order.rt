@@ -1,4 +1,4 @@
-//! The order of saves: what comes between a text and its mark.
+//! The order of saves, with events between a text and its mark.
 use crate::parties::bg_party_saved;
 use crate::parties::play::bg_party_take;
 use crate::parties::saves::{bg_party_mark_saved, bg_party_to_save};
@@ -7,8 +7,8 @@ use crate::tests::{
     saved, sends,
 };
 
-/// An entry that is accepted while a save is written is not in its text: that save can't be marked, and nothing is told
-/// before the next one is.
+/// Checks that a save can't be marked where an entry was accepted while it was written, as the
+/// entry is not in its text. Nothing is told before the next save is marked.
 #[test]
 fn a_stale_save_is_not_marked(rt: HostRuntime) {
     let alloc = rt.alloc();
@@ -35,7 +35,7 @@ fn a_stale_save_is_not_marked(rt: HostRuntime) {
     assert!(rt; bg_party_saved(alloc, &mut referee) == 2);
 }
 
-/// A packet that brings nothing new leaves the save under way.
+/// Checks that a packet which brings nothing new leaves the save under way.
 #[test]
 fn a_save_is_marked_once(rt: HostRuntime) {
     let alloc = rt.alloc();

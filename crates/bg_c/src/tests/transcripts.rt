@@ -1,4 +1,4 @@
-//! What is read of transcripts.
+//! The reading of transcripts.
 use crate::tests::{NO_ROOM, NOT_TO_MOVE, OK, REFUSED, holds};
 use crate::transcripts::{bg_transcript_board, bg_transcript_turns};
 

@@ -8,11 +8,11 @@ use crate::{Entry, ExtendFault, MOST_ENTRIES, Number, Standing};
 impl Record {
     ghost use Rattle.bg_match.specs.Match.{StandsAt, IsLegalRecord, IsFirstIllegal, IsExtendFault, IsLog};
 
-    /// Where the match would stand after these entries, one after the other.
+    /// Returns the standing that the match would have after these entries, one after the other.
     ///
     /// # Errors
-    /// The number, from 1, of the first entry that does not follow those before it: as [`Record::check`] says of it,
-    /// so none follows 1000000 entries.
+    /// The number, from 1, of the first entry that does not follow those before it, as
+    /// [`Record::check`] judges it. So no entry follows 1000000 entries.
     pub fn after_all(&self, entries: &[Entry]) -> Result<Standing, Number>
         ensures ok { IsOk result ↔ IsLegalRecord self.now.terms (self.now.entries ++ entries.now) }
         ensures after { IfOk result (λ after. StandsAt self.now.terms (self.now.entries ++ entries.now) after) }
@@ -28,12 +28,12 @@ impl Record {
         Ok(standing)
     }
 
-    /// Appends all of these entries, one after the other, or none: a refusal changes nothing. Where there is room for
-    /// them each is judged once; else room is made as by [`Record::reserve`].
+    /// Appends all of these entries, one after the other, or none: a refusal changes nothing. Where
+    /// there is room for them, each is judged once; else room is made as by [`Record::reserve`].
     ///
     /// # Errors
-    /// `Illegal` as [`Record::after_all`]; at last `Memory` where the room is too small, and there is no memory for
-    /// more.
+    /// `Illegal` as [`Record::after_all`]; last, `Memory` where the room is too small, and there is
+    /// no memory for more.
     pub fn extend(&mut self, entries: &[Entry]) -> Result<(), ExtendFault>
         ensures ok { result ≢ Err ExtendFault.Memory →
             (IsOk result ↔ IsLegalRecord self.old.terms (self.old.entries ++ entries.now)) }
@@ -86,7 +86,7 @@ impl Record {
         Ok(())
     }
 
-    /// Puts the record back to where it had so many entries, and stood so.
+    /// Puts the record back to where it had `held` entries and this standing.
     fn put_back(&mut self, held: Number, standing: Standing)
         requires within { held ≤ length self.old.entries }
         requires stands { StandsAt self.old.terms (take held self.old.entries) standing }

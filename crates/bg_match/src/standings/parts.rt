@@ -13,10 +13,13 @@ use bg_board::{Board, Player};
 impl Standing {
     ghost use Rattle.bg_match.specs.State.{IsState, state_of};
 
-    /// The standing of these parts, the score of X first. `None` unless all of these hold: the length is from 1 to 99;
-    /// the cube is a power of two up to 128, below 128 while a double is answered, and in the middle exactly where it
-    /// is 1; both scores are below the length, but for the winner's, which is from the length to 482; the number of the
-    /// game is from 1 to one more than the points scored.
+    /// Returns the standing of these parts, with the score of X first. `None` unless all of these
+    /// hold:
+    /// - the length is from 1 to 99;
+    /// - the cube is a power of two up to 128, below 128 while a double is answered, and in the
+    ///   middle exactly where it is 1;
+    /// - both scores are below the length, but for the winner's, which is from the length to 482;
+    /// - the number of the game is from 1 to one more than the points scored.
     pub fn from_parts(
         length: u8,
         rules: Rules,
@@ -52,7 +55,7 @@ impl Standing {
     }
 }
 
-/// Whether the cube is as the phase allows.
+/// Returns whether the cube is as the phase allows.
 #[tactic(auto, using(crate::proofs::States::power_of_two))]
 fn is_cube(cube: Cube, phase: Phase) -> bool
     ensures { IsTrue result ↔ (IsPowerOfTwo cube.value × IsCubeOf phase cube.value
@@ -63,7 +66,7 @@ fn is_cube(cube: Cube, phase: Phase) -> bool
         && cube.owner.is_none() == (cube.value == 1)
 }
 
-/// Whether the cube may show this in the phase.
+/// Returns whether the cube may show this value in the phase.
 fn is_within_limit(value: u8, phase: Phase) -> bool
     ensures { IsTrue result ↔ IsCubeOf phase value }
 {
@@ -73,7 +76,7 @@ fn is_within_limit(value: u8, phase: Phase) -> bool
     }
 }
 
-/// Whether the scores are as the phase allows.
+/// Returns whether the scores are as the phase allows.
 fn are_scores(phase: Phase, match_length: u16, score: (u16, u16)) -> bool
     ensures { IsTrue result ↔ AreScoresOf phase match_length score.0 score.1 }
 {

@@ -1,4 +1,4 @@
-//! Where an entry leads.
+//! The standings to which entries lead.
 ghost use Rattle.std.specs.Prelude.{false, ◌≡◌, ◌≢◌, ◌↔◌, IfOk, IfErr, OnOk, OnErr, MatchOption, IsOk};
 ghost use Rattle.bg_board.specs.Die.{pips};
 ghost use Rattle.bg_board.specs.Position.{opponent};
@@ -15,12 +15,12 @@ impl Standing {
     ghost use Rattle.bg_match.specs.Follows.{MovedFault, after_turn};
     ghost use Rattle.bg_turns.specs.Turn.{IsLegalTurn, after_steps};
 
-    /// Where the match stands after an entry.
+    /// Returns the standing of the match after an entry.
     ///
     /// # Errors
-    /// The first that holds: `MatchOver`; `WrongPhase` where the phase does not allow such an entry; `EqualOpening`
-    /// where the dice of an opening are equal; `Turn` where a turn is not legal; `NoDouble` where the player may not
-    /// double.
+    /// The first that holds: `MatchOver`; `WrongPhase` where the phase does not allow such an
+    /// entry; `EqualOpening` where the dice of an opening are equal; `Turn` where a turn is not
+    /// legal; `NoDouble` where the player may not double.
     pub fn next(&self, entry: &Entry) -> Result<Standing, EntryFault>
         ensures ok { IsOk result ↔ CanFollow self.now entry.now }
         ensures after { IfOk result (λ after. Follows self.now entry.now after) }
@@ -31,7 +31,7 @@ impl Standing {
         Ok(after)
     }
 
-    /// Changes to where the match stands after an entry. A refusal changes nothing.
+    /// Changes the standing to the one after an entry. A refusal changes nothing.
     ///
     /// # Errors
     /// As [`Standing::next`].
@@ -47,7 +47,7 @@ impl Standing {
         }
     }
 
-    /// Where no turn is to be passed: applies an entry, or says why it may not follow.
+    /// Applies an entry where no turn is to be passed, or returns the reason why it may not follow.
     fn play(&mut self, entry: &Entry) -> Result<(), EntryFault>
         requires { passes self.old ≡ false }
         ensures ok { IsOk result ↔ CanFollow self.old entry.now }
@@ -83,7 +83,7 @@ impl Standing {
         }
     }
 
-    /// Where a turn is to be passed: passes it, or says that this is another entry.
+    /// Passes the turn that is to be passed, or reports that this is another entry.
     fn pass(&mut self, player: Player, entry: &Entry) -> Result<(), EntryFault>
         requires { IsPassOf self.old player }
         ensures ok { IsOk result ↔ CanFollow self.old entry.now }
@@ -97,7 +97,7 @@ impl Standing {
         }
     }
 
-    /// Opens a game, or says that its dice are equal.
+    /// Opens a game, or reports that its dice are equal.
     fn open(&mut self, x: Die, o: Die) -> Result<(), EntryFault>
         requires { self.old.phase ≡ Phase.Opening }
         ensures ok { IsOk result ↔ (pips x ≢ pips o) }
@@ -117,7 +117,7 @@ impl Standing {
         Ok(self.enter(Phase::ToMove(opener(x, o), dice)))
     }
 
-    /// Doubles, or says why the player may not.
+    /// Doubles, or returns the reason why the player may not.
     fn double_by(&mut self, player: Player) -> Result<(), EntryFault>
         requires { self.old.phase ≡ Phase.ToAct player }
         ensures ok { IsOk result ↔ MayDouble self.old player }
@@ -131,7 +131,7 @@ impl Standing {
         }
     }
 
-    /// Why the player may not double; `None` where he may.
+    /// Returns the reason why the player may not double, or `None` where they may.
     fn no_double(&self, player: Player) -> Option<NoDouble>
         ensures { MatchOption result (MayDouble self.now player) (λ why. IsNoDouble why self.now player) }
     {
@@ -146,7 +146,7 @@ impl Standing {
         }
     }
 
-    /// Plays a legal turn, or says why it is none.
+    /// Plays a legal turn, or returns the reason why it is not legal.
     fn move_by(&mut self, player: Player, dice: Dice, turn: &Turn) -> Result<(), EntryFault>
         requires { self.old.phase ≡ Phase.ToMove player dice }
         ensures ok { IsOk result ↔ IsLegalTurn self.old.board player dice turn.now }
@@ -171,7 +171,7 @@ impl Standing {
     }
 }
 
-/// The player who moves first.
+/// Returns the player who moves first.
 fn opener(x: Die, o: Die) -> Player
     ensures { result ≡ opening_player x o }
 {
@@ -182,7 +182,7 @@ fn opener(x: Die, o: Die) -> Player
     }
 }
 
-/// The phase in which an offer to resign was made.
+/// Returns the phase in which an offer to resign was made.
 fn phase_back(player: Player, back: Option<Dice>) -> Phase
     ensures { result ≡ back_phase player back }
 {

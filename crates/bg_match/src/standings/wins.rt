@@ -1,4 +1,4 @@
-//! What a won game counts, and where a taken double and a won game lead.
+//! The points of a won game, and the phases to which a taken double and a won game lead.
 ghost use Rattle.std.specs.Prelude.{◌≡◌, ◌≤◌, ◌*◌};
 ghost use Rattle.bg_board.specs.Position.{opponent};
 ghost use Rattle.bg_match.specs.Limits.{greatest_win};
@@ -10,7 +10,7 @@ impl Standing {
     ghost use Rattle.bg_match.specs.State.{after_win, IsRunning};
     ghost use Rattle.bg_match.specs.Level.{multiple};
 
-    /// What a win at this level counts.
+    /// Returns the number of points that a win at this level counts.
     pub(super) fn worth(&self, level: Level) -> u16
         ensures value { result ≡ multiple level * self.now.cube.value }
         ensures least { 1 ≤ result }
@@ -19,7 +19,7 @@ impl Standing {
         level.multiple() * u16::from(self.cube.value)
     }
 
-    /// The player takes a double.
+    /// Takes a double for the player.
     pub(super) fn take_by(&mut self, player: Player)
         requires { self.old.phase ≡ Phase.Doubled player }
         ensures { self.new ≡ record self.old {
@@ -34,7 +34,7 @@ impl Standing {
         };
     }
 
-    /// The player wins so many points.
+    /// Gives the player a win of this number of points.
     pub(super) fn win(&mut self, winner: Player, points: u16)
         requires running { IsRunning self.old.phase }
         requires least { 1 ≤ points }

@@ -1,10 +1,10 @@
-//! The first steps of a turn, while its lists are sought.
+//! The first steps of a turn, during the search for its lists.
 ghost use Rattle.std.specs.Prelude.{◌≡◌, ◌≤◌, ◌<◌, take, slice_set};
 
 use crate::Turn;
 use bg_board::Step;
 
-/// The turn of the first of these steps.
+/// Returns the turn of the first `count` of these steps.
 pub(crate) fn turn_of(steps: [Step; 4], count: usize) -> Turn
     requires { count ≤ 4 }
     ensures { result ≡ take count steps }
@@ -12,8 +12,8 @@ pub(crate) fn turn_of(steps: [Step; 4], count: usize) -> Turn
     Turn::of(steps, count as u8)
 }
 
-/// The steps with another one at a place. Each place is written out, so that the four steps stay in one
-/// register.
+/// Returns the steps with another one at a place. Each place is written out, so that the four steps
+/// stay in one register.
 pub(crate) fn with_step(steps: [Step; 4], place: usize, step: Step) -> [Step; 4]
     requires { place < 4 }
     ensures { result ≡ slice_set steps place step }

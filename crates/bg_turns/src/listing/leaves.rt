@@ -1,5 +1,5 @@
-//! The last steps of turns: nearly all the time of a list goes where turns are written, so that this loop is made anew
-//! for each number of steps before the last, which then costs no test.
+//! The last steps of turns. Writing turns takes nearly all the time of a list, so this loop is
+//! compiled separately for each number of steps before the last, which then costs no test.
 ghost use Rattle.std.specs.Prelude.{◌≡◌, ◌≤◌, ◌<◌, ◌++◌, take, OnOk};
 ghost use Rattle.bg_turns.specs.declared.mover_counts.MoverCounts.{MoverCounts as SeenCounts};
 ghost use Rattle.bg_turns.specs.MoverCounts.{IsMoverCounts, one_die, tree, at_each, behind};
@@ -11,7 +11,8 @@ use crate::masks::Masks;
 use bg_board::{BAR, Step};
 use std::alloc::AllocError;
 
-/// Adds the lists of one step by a die, behind the first steps of a turn, or these alone where all checkers are off.
+/// Adds the lists of one step by a die, behind the first steps of a turn. Where all checkers are
+/// off, adds the first steps alone.
 pub(crate) fn add_last(
     turns: &mut Vec<Turn>,
     masks: Masks,
@@ -33,8 +34,8 @@ pub(crate) fn add_last(
     add_leaves(turns, masks.open(die), front, played, die)
 }
 
-/// Adds a turn for each of these places, which ends with the step by the die from there, behind the first
-/// steps of a turn.
+/// Adds a turn for each of these places. It consists of the first steps of a turn, then the step by
+/// the die from that place.
 fn add_leaves(
     turns: &mut Vec<Turn>,
     places: u32,
@@ -56,7 +57,7 @@ fn add_leaves(
     }
 }
 
-/// The same, behind so many steps.
+/// Adds a turn for each of these places, behind `PLAYED` steps.
 fn add_leaves_at<const PLAYED: usize>(
     turns: &mut Vec<Turn>,
     mut places: u32,

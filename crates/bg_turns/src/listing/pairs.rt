@@ -91,8 +91,8 @@ pub(crate) fn add_pairs(
     Ok(())
 }
 
-/// Adds the lists that begin with a step by a die from a place, if it is one of the places for that die,
-/// and go on with another die.
+/// Adds the lists that begin with a step by one die from a place, if that place is among those for
+/// the die, and go on with another die.
 fn add_step(
     turns: &mut Vec<Turn>,
     mover: &mut MoverCounts,

@@ -1,4 +1,5 @@
-//! The turns by one die, found by the bits of the mover's counts: these lists are by far the longest.
+//! The turns by one die, found by the bits of the mover's counts. These lists are by far the
+//! longest.
 ghost use Rattle.std.specs.Prelude.{◌≡◌, ◌≤◌, ◌+◌, ◌++◌, take, OnOk};
 ghost use Rattle.bg_turns.specs.MoverCounts.{IsMoverCounts, tree, behind};
 ghost use Rattle.bg_turns.specs.Masks.{AreMasks};
@@ -11,7 +12,8 @@ use crate::mover_counts::MoverCounts;
 use bg_board::{BAR, Step};
 use std::alloc::AllocError;
 
-/// Adds the lists of steps by one die, behind the first steps of a turn. The counts are as they were, at the end.
+/// Adds the lists of steps by one die, behind the first steps of a turn. At the end the counts are
+/// as they were.
 pub(crate) fn add_tree(
     turns: &mut Vec<Turn>,
     mover: &mut MoverCounts,

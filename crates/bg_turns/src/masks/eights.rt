@@ -1,12 +1,13 @@
-//! Eight counts tested at once, as the bytes of one number: testing the 50 counts of a board one by one takes most of
-//! the time of a short search.
+//! Tests of eight counts at once, as the bytes of one number. Testing the 50 counts of a board one
+//! by one takes most of the time of a short search.
 ghost use Rattle.std.specs.Prelude.{◌≡◌, ◌≤◌, ◌<◌, ◌+◌, ◌-◌, ◌/◌, ℕ, slice_index};
 ghost use Rattle.std.specs.Int.{bit_at};
 
 /// A one in each byte.
 const EACH: u64 = 0x0101_0101_0101_0101;
 
-/// Which of eight counts, 15 at most, come to 128 with this added: bit `i` says it of count `i`.
+/// Returns which of eight counts, each at most 15, reach 128 with this added: bit `i` stands for
+/// count `i`.
 pub(crate) fn reaching(counts: [u8; 8], added: u8) -> u8
     requires few { (i : ℕ) → slice_index counts i ≤ 15 }
     requires added { added ≤ 127 }
@@ -20,7 +21,7 @@ pub(crate) fn reaching(counts: [u8; 8], added: u8) -> u8
     (found & 255) as u8
 }
 
-/// Eight counts of a player from a point downward.
+/// Returns eight counts of a player from a point downward.
 pub(crate) fn downward(counts: &[u8; 26], from: usize) -> [u8; 8]
     requires low { 7 ≤ from }
     requires high { from ≤ 25 }
@@ -40,7 +41,7 @@ pub(crate) fn downward(counts: &[u8; 26], from: usize) -> [u8; 8]
     ]
 }
 
-/// Eight counts of a player from a point upward.
+/// Returns eight counts of a player from a point upward.
 pub(crate) fn upward(counts: &[u8; 26], from: usize) -> [u8; 8]
     requires high { from ≤ 18 }
     requires few { (i : ℕ) → slice_index counts.now i ≤ 15 }

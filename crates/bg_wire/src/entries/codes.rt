@@ -1,5 +1,5 @@
-//! The codes and ranges that all layouts share (docs/FORMATS.md, "Entries and actions in bytes"). An action has the
-//! code of the entry that answers it.
+//! The codes and ranges that all layouts share (docs/FORMATS.md, "Entries and actions in bytes").
+//! An action has the code of the entry that answers it.
 use bg_match::Number;
 
 /// An opening of a game: X's die and O's die follow.
@@ -30,15 +30,15 @@ pub(crate) const GAMMON: u8 = 2;
 /// The level of a backgammon.
 pub(crate) const BACKGAMMON: u8 = 3;
 
-/// What a die shows at least.
+/// The least number that a die shows.
 pub(crate) const LEAST_PIPS: u8 = 1;
-/// What a die shows at most.
+/// The greatest number that a die shows.
 pub(crate) const MOST_PIPS: u8 = 6;
 /// The lowest point where a step begins.
 pub(crate) const LOWEST_START: u8 = 1;
-/// Where a step begins at most, which is the bar.
+/// The highest point where a step begins, which is the bar.
 pub(crate) const BAR: u8 = 25;
-/// The most steps of a turn.
+/// The greatest number of steps of a turn.
 pub(crate) const MOST_STEPS: u8 = 4;
 
 /// The number of the first entry of a match.

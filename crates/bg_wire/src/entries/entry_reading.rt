@@ -74,7 +74,7 @@ fn dice(reader: &mut Reader<'_>) -> Result<Dice, ReadFault>
     Ok(Dice { first, second })
 }
 
-/// What follows the code of an action.
+/// Reads what follows the code of an action.
 #[tactic(auto, unfolding(crate::specs::Entries::EntryReading::action_of))]
 fn action_of(reader: &mut Reader<'_>, code: u8) -> Result<Action, ReadFault>
     ensures { Reads result reader.new (action_of code reader.old) }
@@ -99,7 +99,7 @@ pub(crate) fn action(reader: &mut Reader<'_>) -> Result<Action, ReadFault>
     action_of(reader, code)
 }
 
-/// What follows the code of an entry.
+/// Reads what follows the code of an entry.
 #[tactic(auto, unfolding(crate::specs::Entries::EntryReading::entry_of))]
 fn entry_of(reader: &mut Reader<'_>, code: u8) -> Result<Entry, ReadFault>
     ensures { Reads result reader.new (entry_of code reader.old) }

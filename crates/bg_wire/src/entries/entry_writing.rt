@@ -13,10 +13,11 @@ use bg_board::Die;
 use bg_match::{Action, Entry, Level};
 use bg_turns::Turn;
 
-/// The most bytes of an entry's or an action's text, those of a move of four steps.
+/// The greatest length in bytes of the encoding of an entry or an action: that of a move of four
+/// steps.
 pub(crate) const LONGEST_ENTRY: usize = 10;
 
-/// The code of a move, how many steps it has, and each step.
+/// Appends the code of a move, the number of its steps, and each step.
 fn put_move<const ROOM: usize>(out: &mut Writer<ROOM>, turn: &Turn)
     requires few { length turn.now ≤ MOST_STEPS }
     requires room { length out.old + 10 ≤ ROOM }
@@ -50,7 +51,7 @@ fn level_code(level: Level) -> u8
     }
 }
 
-/// A code, and two dice.
+/// Appends a code and two dice.
 fn put_dice<const ROOM: usize>(out: &mut Writer<ROOM>, code: u8, first: Die, second: Die)
     requires { length out.old + 3 ≤ ROOM }
     ensures text { out.new ≡ out.old ++ code ∷ dice_bytes first second }
@@ -59,7 +60,7 @@ fn put_dice<const ROOM: usize>(out: &mut Writer<ROOM>, code: u8, first: Die, sec
     out.put(&[code, first.pips(), second.pips()]);
 }
 
-/// The text of an action.
+/// Appends the encoding of an action.
 pub(crate) fn put_action<const ROOM: usize>(out: &mut Writer<ROOM>, action: &Action)
     requires in_range { IsAction action.now }
     requires room { length out.old + 10 ≤ ROOM }
@@ -78,7 +79,7 @@ pub(crate) fn put_action<const ROOM: usize>(out: &mut Writer<ROOM>, action: &Act
     }
 }
 
-/// The text of an entry.
+/// Appends the encoding of an entry.
 pub(crate) fn put_entry<const ROOM: usize>(out: &mut Writer<ROOM>, entry: &Entry)
     requires in_range { IsEntry entry.now }
     requires room { length out.old + 10 ≤ ROOM }

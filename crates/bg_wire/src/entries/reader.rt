@@ -3,7 +3,7 @@ ghost use Rattle.std.specs.Prelude.{◌≡◌, ◌==◌, ◌≤◌, length, IfOk
 
 use std::marker::Model;
 
-/// Why a field cannot be read.
+/// The reason why a field cannot be read.
 #[derive(Clone, Copy, Debug, PartialEq, Eq)]
 pub(crate) enum ReadFault {
     /// One of its bytes is missing.
@@ -39,7 +39,7 @@ impl<'a> Reader<'a> {
         Reader { at: 0, rest: bytes }
     }
 
-    /// Another reader at the same place.
+    /// Returns another reader at the same place.
     pub(crate) fn copy(&self) -> Reader<'a>
         ensures { result ≡ self.now }
     {
@@ -49,28 +49,28 @@ impl<'a> Reader<'a> {
         }
     }
 
-    /// The offset of the next byte.
+    /// Returns the offset of the next byte.
     pub(crate) fn at(&self) -> usize
         ensures { result ≡ self.now.at }
     {
         self.at
     }
 
-    /// Whether no byte is left.
+    /// Returns whether no byte is left.
     pub(crate) fn is_empty(&self) -> bool
         ensures { result ≡ (length self.now.rest == 0) }
     {
         self.rest.is_empty()
     }
 
-    /// So many, and no more than there are bytes left.
+    /// Returns `count`, or the number of bytes left where that is less.
     pub(crate) fn at_most(&self, count: u32) -> u32
         ensures { result ≤ count }
     {
         u32::try_from(self.rest.len()).unwrap_or(count).min(count)
     }
 
-    /// A byte from low to high.
+    /// Reads a byte from `low` to `high`.
     #[tactic(auto, unfolding(crate::specs::Entries::Reading::u8_at))]
     pub(crate) fn read_u8(&mut self, low: u8, high: u8) -> Result<u8, ReadFault>
         ensures reads { Reads result self.new (u8_at low high self.old) }
@@ -89,7 +89,7 @@ impl<'a> Reader<'a> {
         Ok(byte)
     }
 
-    /// A number of two bytes, from low to high.
+    /// Reads a number of two bytes, from `low` to `high`.
     #[tactic(auto, unfolding(crate::specs::Entries::Reading::u16_at))]
     pub(crate) fn read_u16(&mut self, low: u16, high: u16) -> Result<u16, ReadFault>
         ensures reads { Reads result self.new (u16_at low high self.old) }
@@ -108,7 +108,7 @@ impl<'a> Reader<'a> {
         Ok(number)
     }
 
-    /// A number of four bytes, from low to high.
+    /// Reads a number of four bytes, from `low` to `high`.
     #[tactic(auto, unfolding(crate::specs::Entries::Reading::u32_at))]
     pub(crate) fn read_u32(&mut self, low: u32, high: u32) -> Result<u32, ReadFault>
         ensures reads { Reads result self.new (u32_at low high self.old) }
@@ -127,7 +127,7 @@ impl<'a> Reader<'a> {
         Ok(number)
     }
 
-    /// Any number of eight bytes.
+    /// Reads any number of eight bytes.
     #[tactic(auto, unfolding(crate::specs::Entries::Reading::u64_at))]
     pub(crate) fn read_u64(&mut self) -> Result<u64, ReadFault>
         ensures { Reads result self.new (u64_at self.old) }

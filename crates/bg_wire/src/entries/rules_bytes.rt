@@ -1,4 +1,5 @@
-//! The rules of a match as a byte, in packets and in saved texts of the second layout (docs/FORMATS.md, "Packets").
+//! The rules of a match as a byte, in packets and in saved texts of the second layout
+//! (docs/FORMATS.md, "Packets").
 ghost use Rattle.std.specs.Prelude.{◌≡◌};
 ghost use Rattle.bg_wire.specs.Entries.Codes.{rules_code};
 ghost use Rattle.bg_wire.specs.Entries.Reading.{Reads};
@@ -8,7 +9,7 @@ use crate::entries::codes::{RULES_ONE, RULES_TWO};
 use crate::entries::reader::{ReadFault, Reader};
 use bg_match::Rules;
 
-/// The rules at the front of the bytes.
+/// Reads the rules at the front of the bytes.
 #[tactic(auto, unfolding(crate::specs::Entries::RulesReading::rules_at))]
 pub(crate) fn rules(reader: &mut Reader<'_>) -> Result<Rules, ReadFault>
     ensures { Reads result reader.new (rules_at reader.old) }
@@ -19,7 +20,7 @@ pub(crate) fn rules(reader: &mut Reader<'_>) -> Result<Rules, ReadFault>
     })
 }
 
-/// The byte that tells the rules.
+/// Returns the byte that stands for the rules.
 pub(crate) fn rules_code(rules: Rules) -> u8
     ensures { result ≡ rules_code rules }
 {

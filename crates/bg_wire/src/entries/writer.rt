@@ -1,14 +1,14 @@
-//! Bytes that are written one behind the other.
+//! Bytes that are written one after the other.
 ghost use Rattle.std.specs.Prelude.{◌≡◌, ◌≤◌, ◌+◌, ◌++◌, [], length, nat_lt, take};
 
 use std::marker::Model;
 
-/// What was written so far, in room for so many bytes. Contracts see the list of the bytes.
+/// The bytes written so far, with room for `ROOM` bytes. Contracts see it as the list of its bytes.
 #[derive(Drop)]
 pub(crate) struct Writer<const ROOM: usize> {
-    /// The bytes, and behind them what fills the room.
+    /// The bytes, followed by filler.
     room: [u8; ROOM],
-    /// How many bytes there are.
+    /// The number of bytes.
     len: usize,
 }
 
@@ -23,7 +23,7 @@ impl<const ROOM: usize> Model for Writer<ROOM> {
 }
 
 impl<const ROOM: usize> Writer<ROOM> {
-    /// A writer that has nothing.
+    /// Returns an empty writer.
     pub(crate) fn new() -> Writer<ROOM>
         ensures { result ≡ [] }
     {
@@ -33,7 +33,7 @@ impl<const ROOM: usize> Writer<ROOM> {
         }
     }
 
-    /// What was written.
+    /// Returns the bytes written so far.
     pub(crate) fn as_slice(&self) -> &[u8]
         ensures value { result.now ≡ self.now }
         ensures few { length result.now ≤ ROOM }
@@ -41,14 +41,14 @@ impl<const ROOM: usize> Writer<ROOM> {
         &self.room[..self.len]
     }
 
-    /// Whether so many bytes more find room.
+    /// Returns whether there is room for `count` more bytes.
     pub(crate) fn has_room(&self, count: usize) -> bool
         ensures { result ≡ nat_lt (length self.now + count) (ROOM + 1) }
     {
         count <= ROOM - self.len
     }
 
-    /// Puts these bytes behind the others.
+    /// Appends these bytes.
     pub(crate) fn put(&mut self, bytes: &[u8])
         requires { length self.old + length bytes.now ≤ ROOM }
         ensures { self.new ≡ self.old ++ bytes.now }
@@ -56,8 +56,8 @@ impl<const ROOM: usize> Writer<ROOM> {
         self.put_first(bytes, bytes.len());
     }
 
-    /// Puts the first of these bytes behind the others, so many. All are copied, for which there is room: so the time
-    /// does not depend on the count.
+    /// Appends the first `count` of these bytes. There is room for all of them and all are copied,
+    /// so the time does not depend on the count.
     pub(crate) fn put_first(&mut self, bytes: &[u8], count: usize)
         requires counted { count ≤ length bytes.now }
         requires room { length self.old + length bytes.now ≤ ROOM }
@@ -69,7 +69,7 @@ impl<const ROOM: usize> Writer<ROOM> {
         self.len = start + count;
     }
 
-    /// Drops all that was written.
+    /// Discards all that was written.
     pub(crate) fn clear(&mut self)
         ensures { self.new ≡ [] }
     {

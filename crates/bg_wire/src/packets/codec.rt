@@ -14,7 +14,7 @@ use crate::packets::{layout, writing};
 use crate::{MOST_DATAGRAM_BYTES, Packet, WireFault};
 use arrayvec::ArrayVec;
 
-/// The text of a packet, at most 98 bytes (docs/FORMATS.md, "Packets").
+/// Returns the encoding of a packet, at most 98 bytes (docs/FORMATS.md, "Packets").
 pub fn encode(packet: &Packet) -> ArrayVec<u8, MOST_DATAGRAM_BYTES>
     requires { IsPacket packet.now }
     ensures text { IsText packet.now result.items }
@@ -27,33 +27,34 @@ pub fn encode(packet: &Packet) -> ArrayVec<u8, MOST_DATAGRAM_BYTES>
     bytes
 }
 
-/// The packet whose text is all of the bytes (docs/FORMATS.md, "Packets").
+/// Returns the packet whose encoding is all of the bytes (docs/FORMATS.md, "Packets").
 ///
 /// # Errors
-/// The first fault that is met from left to right. A part of a packet's text is Short; bytes after its end are Extra.
+/// The first fault met from left to right. A proper prefix of a packet's encoding is `Short`; bytes
+/// after its end are `Extra`.
 pub fn decode(bytes: &[u8]) -> Result<Packet, WireFault>
-    // What is read is spelled so.
+    // A packet that is read has this encoding.
     ensures found { IfOk result (λ packet. IsText packet bytes.now) }
-    // What is spelled so is read.
+    // Each encoding is read.
     ensures only { (packet : Packet) → IsText packet bytes.now → result ≡ Ok packet }
-    // The front of a packet's text, and no more, is short.
+    // A proper prefix of an encoding is short.
     ensures short { (packet : Packet) (rest : List ℕ) → IsText packet (bytes.now ++ rest) → rest ≢ []
         → result ≡ Err WireFault.Short }
-    // Bytes behind a packet's text are extra, and nothing else is.
+    // Bytes after the end of an encoding are extra, and nothing else is.
     ensures extra { (result ≡ Err WireFault.Extra) ↔ HasMore IsText bytes.now }
-    // What a fault says of the bytes: by `laws_of_faults` they have no other.
+    // A fault describes the bytes, and by `laws_of_faults` they have no other.
     ensures why { IfErr result (λ fault. IsWireFault fault bytes.now) }
 {
     all(bytes)
 }
 
-/// No text of a packet begins with the text of another packet, or with a shorter one of its own: one text is the text
-/// of one packet.
+/// States that no encoding of a packet is a proper prefix of another packet's or of another one of
+/// its own. So an encoding is that of one packet.
 pub fn packet_texts_are_prefix_free()
     ensures { ArePrefixFree IsText }
 {}
 
-/// A packet, and no byte after it.
+/// Reads a packet with no byte after it.
 #[tactic(auto, unfolding(crate::specs::Packets::PacketReading::packet_of))]
 fn all(bytes: &[u8]) -> Result<Packet, WireFault>
     ensures { result ≡ packet_of bytes.now }

@@ -17,10 +17,10 @@ use crate::{
 use arrayvec::ArrayVec;
 use bg_match::{MOST_ENTRIES, Number, Rules};
 
-/// What every packet begins with, as a number of two bytes.
+/// The number of two bytes with which every packet begins.
 pub(crate) const MAGIC: u16 = 0x4247;
 
-/// The version that this layout is of.
+/// The version of this layout.
 pub(crate) const VERSION: u8 = 2;
 
 /// The kind of a Want.
@@ -42,7 +42,8 @@ pub(crate) const VERSION_AT: usize = 2;
 pub(crate) const KIND_AT: usize = 3;
 
 impl WireFault {
-    /// A field's fault: three fields of the header have faults of their own.
+    /// Returns the fault of a packet for that of a field. Three fields of the header have faults of
+    /// their own.
     pub(crate) fn of(fault: ReadFault) -> WireFault
         ensures { result ≡ wire_fault fault }
     {
@@ -86,7 +87,7 @@ fn claim(reader: &mut Reader<'_>, id: u64, rules: Rules) -> Result<Packet, ReadF
     })
 }
 
-/// How many entries one packet tells at most, from this number on.
+/// Returns the greatest number of entries that one packet tells from this number on.
 fn most_from(start: Number) -> u8
     requires first { 1 ≤ start }
     requires last { start ≤ most_entries }
@@ -136,7 +137,7 @@ fn entries(reader: &mut Reader<'_>, id: u64, rules: Rules) -> Result<Packet, Rea
     })
 }
 
-/// What follows the header.
+/// Reads what follows the header.
 #[tactic(auto, unfolding(crate::specs::Packets::PacketReading::body_at))]
 fn body(reader: &mut Reader<'_>, kind: u8, id: u64, rules: Rules) -> Result<Packet, ReadFault>
     ensures { Reads result reader.new (body_at kind id rules reader.old) }
@@ -148,7 +149,7 @@ fn body(reader: &mut Reader<'_>, kind: u8, id: u64, rules: Rules) -> Result<Pack
     }
 }
 
-/// What follows the kind.
+/// Reads what follows the kind.
 #[tactic(auto, unfolding(crate::specs::Packets::PacketReading::behind_kind_at))]
 fn behind_kind(reader: &mut Reader<'_>, kind: u8) -> Result<Packet, ReadFault>
     ensures { Reads result reader.new (behind_kind_at kind reader.old) }
@@ -158,7 +159,7 @@ fn behind_kind(reader: &mut Reader<'_>, kind: u8) -> Result<Packet, ReadFault>
     body(reader, kind, id, rules)
 }
 
-/// A packet at the front of the bytes.
+/// Reads a packet at the front of the bytes.
 #[tactic(auto, unfolding(crate::specs::Packets::PacketReading::packet_at))]
 pub(crate) fn packet(reader: &mut Reader<'_>) -> Result<Packet, ReadFault>
     ensures { Reads result reader.new (packet_at reader.old) }

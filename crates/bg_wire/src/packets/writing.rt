@@ -12,7 +12,7 @@ use crate::packets::layout::{CLAIM, ENTRIES, MAGIC, VERSION, WANT};
 use crate::{EntryList, MOST_DATAGRAM_BYTES, MOST_ENTRIES_IN_PACKET, Packet};
 use bg_match::{Number, Rules};
 
-/// Room for the text of any packet.
+/// A writer with room for the encoding of any packet.
 pub(crate) type PacketWriter = Writer<MOST_DATAGRAM_BYTES>;
 
 fn put_number(out: &mut PacketWriter, number: Number)
@@ -35,7 +35,7 @@ fn put_list(out: &mut PacketWriter, list: &EntryList)
     }
 }
 
-/// What each packet begins with.
+/// Appends the header of a packet.
 fn put_header(out: &mut PacketWriter, kind: u8, id: u64, rules: Rules)
     requires { out.old ≡ [] }
     ensures { out.new ≡ header_text kind id rules }
@@ -46,7 +46,7 @@ fn put_header(out: &mut PacketWriter, kind: u8, id: u64, rules: Rules)
     out.put(&[rules_code(rules)]);
 }
 
-/// The text of a packet, where nothing stands before it.
+/// Writes the encoding of a packet to an empty writer.
 pub(crate) fn put_packet(out: &mut PacketWriter, packet: &Packet)
     requires empty { out.old ≡ [] }
     requires in_range { IsPacket packet.now }

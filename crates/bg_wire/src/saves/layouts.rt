@@ -1,4 +1,5 @@
-//! The layouts of saved texts: the first, which is only read, and the second (docs/FORMATS.md, "Saved files").
+//! The layouts of saved texts: the first, which is only read, and the second (docs/FORMATS.md,
+//! "Saved files").
 ghost use Rattle.std.specs.Prelude.{◌≡◌, ◌≤◌, ◌==◌, Ok, Err, if◌then◌else◌, length, IfOk};
 ghost use Rattle.bg_match.specs.Limits.{longest_match, shortest_match};
 ghost use Rattle.bg_match.specs.Terms.{match_length};
@@ -14,9 +15,10 @@ use crate::entries::rules_bytes::rules as told_rules;
 use crate::{FIRST_SAVE, LAST_SAVE, LoadFault, REFEREE, SEAT_OF_O};
 use bg_match::{Action, LONGEST_MATCH, MOST_ENTRIES, Number, Rules, SHORTEST_MATCH, Terms};
 
-/// What every text of the first layout begins with, as a number of four bytes.
+/// The number of four bytes with which every text of the first layout begins.
 pub(crate) const FIRST_MAGIC: u32 = 0x4247_5331;
-/// What every text of the second layout begins with: the next number, so that both are one field.
+/// The number with which every text of the second layout begins: the next one, so that both are one
+/// field.
 pub(crate) const SECOND_MAGIC: u32 = 0x4247_5332;
 /// The greatest number of an entry in the first layout.
 pub(crate) const FIRST_MOST_ENTRIES: u16 = u16::MAX;
@@ -28,7 +30,7 @@ pub(crate) const NO_CLAIM: u8 = 0;
 /// The flag where one is kept.
 pub(crate) const KEPT_CLAIM: u8 = 1;
 
-/// How a saved text is laid out.
+/// The layout of a saved text.
 #[derive(Clone, Copy, Debug, PartialEq, Eq)]
 pub(crate) enum Layout {
     /// Without rules or passes, and with two bytes for the number of an entry. It is only read.
@@ -37,7 +39,7 @@ pub(crate) enum Layout {
     Two,
 }
 
-/// What stands before the entries.
+/// The fields before the entries.
 #[derive(Debug, Drop)]
 pub(crate) struct Front {
     pub(crate) layout: Layout,
@@ -50,7 +52,8 @@ pub(crate) struct Front {
 }
 
 impl LoadFault {
-    /// A field's fault: that of the first has a name of its own.
+    /// Returns the fault of a saved text for that of a field. The first field has a fault of its
+    /// own.
     pub(crate) fn of(fault: ReadFault) -> LoadFault
         ensures { result ≡ load_fault fault }
     {
@@ -63,7 +66,7 @@ impl LoadFault {
 }
 
 impl Layout {
-    /// The layout of texts that begin with this.
+    /// Returns the layout of texts that begin with this number.
     fn of_magic(magic: u32) -> Layout
         ensures { result ≡ layout_of_magic magic }
     {
@@ -74,7 +77,7 @@ impl Layout {
         }
     }
 
-    /// The greatest code of an entry.
+    /// Returns the greatest code of an entry.
     pub(crate) fn last_code(self) -> u8
         ensures { result ≡ last_code self }
     {
@@ -85,7 +88,7 @@ impl Layout {
     }
 }
 
-/// A number of an entry, from low to the greatest of the layout.
+/// Reads the number of an entry, from `low` to the greatest of the layout.
 #[tactic(auto, unfolding(crate::specs::Saved::SavedReading::number_in))]
 fn number(reader: &mut Reader<'_>, layout: Layout, low: u16) -> Result<Number, ReadFault>
     ensures { Reads result reader.new (number_in layout low reader.old) }
@@ -108,7 +111,7 @@ fn kept_claim(
     Ok(Some((number, action)))
 }
 
-/// The greatest flag of a party: the referee keeps no claim.
+/// Returns the greatest flag of a party: the referee keeps no claim.
 fn most_flag(party: u8) -> u8
     ensures { result ≡ most_flag party }
 {
@@ -135,7 +138,7 @@ fn claim(
     }
 }
 
-/// The rules, where they are told.
+/// Reads the rules, where the layout has them.
 #[tactic(auto, unfolding(crate::specs::Saved::SavedReading::rules_in))]
 fn rules(reader: &mut Reader<'_>, layout: Layout) -> Result<Rules, ReadFault>
     ensures { Reads result reader.new (rules_in layout reader.old) }
@@ -146,7 +149,7 @@ fn rules(reader: &mut Reader<'_>, layout: Layout) -> Result<Rules, ReadFault>
     }
 }
 
-/// What stands behind the magic.
+/// Reads what follows the magic number.
 #[tactic(auto, unfolding(crate::specs::Saved::SavedReading::front_in))]
 fn read_front_in(reader: &mut Reader<'_>, layout: Layout) -> Result<Front, ReadFault>
     ensures reads { Reads result reader.new (front_in layout reader.old) }
@@ -181,7 +184,7 @@ fn read_front(reader: &mut Reader<'_>) -> Result<Front, ReadFault>
     read_front_in(reader, Layout::of_magic(magic))
 }
 
-/// What stands before the entries, and a reader at the first of them.
+/// Reads what stands before the entries, and returns it with a reader at the first of them.
 pub(crate) fn split_front(bytes: &[u8]) -> Result<(Front, Reader<'_>), LoadFault>
     ensures reads { ReadsFront result bytes.now }
     ensures shortest { IfOk result (λ parts. shortest_match ≤ match_length ((parts.0).terms)) }
@@ -194,7 +197,7 @@ pub(crate) fn split_front(bytes: &[u8]) -> Result<(Front, Reader<'_>), LoadFault
     }
 }
 
-/// Passes over so many entries, with which the text ends.
+/// Skips `count` entries, with which the text ends.
 pub(crate) fn pass_entries(
     reader: &mut Reader<'_>,
     layout: Layout,
@@ -210,7 +213,7 @@ pub(crate) fn pass_entries(
     end(reader)
 }
 
-/// That the text ends here.
+/// Checks that the text ends here.
 pub(crate) fn end(reader: &Reader<'_>) -> Result<(), LoadFault>
     ensures { result ≡ (if length reader.now.rest == 0 then Ok tt else Err LoadFault.Extra) }
 {

@@ -24,10 +24,11 @@ use crate::{LoadFault, SaveRefusal, Saved, Slot};
 use bg_match::{Action, EntryFault, Number, Record};
 use std::alloc::{AllocError, Global};
 
-/// The saved text, in the second layout: at most 10000038 bytes (docs/FORMATS.md, "Saved files").
+/// Returns the saved text, in the second layout: at most 10000038 bytes (docs/FORMATS.md,
+/// "Saved files").
 ///
 /// # Errors
-/// AllocError where there is no memory for it.
+/// `AllocError` where there is no memory for it.
 pub fn save_text(alloc: Global, saved: &Saved) -> Result<Vec<u8>, AllocError>
     requires { IsSavable (parts_of saved.now) }
     ensures text { IfOk result (λ text. IsWrittenText (parts_of saved.now) text.items) }
@@ -36,8 +37,9 @@ pub fn save_text(alloc: Global, saved: &Saved) -> Result<Vec<u8>, AllocError>
     text_of(alloc, saved.party, saved.save, &saved.claim, &saved.log)
 }
 
-/// The slot, the number and the text of the save that follows the save `last`, or the first one where `last` is 0
-/// (docs/PROTOCOL.md, "Saving"). The text is the one that [`save_text`] gives of the same parts, which are only lent.
+/// Returns the slot, the number and the text of the save that follows the save `last`, or of the
+/// first one where `last` is 0 (docs/PROTOCOL.md, "Saving"). The text is the one that [`save_text`]
+/// returns for the same parts, which are only borrowed.
 ///
 /// # Errors
 /// `SavesSpent` where `last` is 4294967295, else `Memory` where there is no memory for the text.
@@ -62,8 +64,8 @@ pub fn next_save(
     }
 }
 
-/// The saved text of these parts. Room is made once, for entries of the longest texts: so nothing asks for the length
-/// of each before it is written.
+/// Returns the saved text of these parts. Room is made once, for entries of the greatest length, so
+/// the length of each need not be known before it is written.
 fn text_of(
     alloc: Global,
     party: u8,
@@ -84,16 +86,16 @@ fn text_of(
     Ok(text)
 }
 
-/// No saved text, of either layout, begins with another saved text, or with a shorter one of its own: one text is the
-/// text of one value.
+/// States that no saved text, of either layout, is a proper prefix of another saved text. So a
+/// saved text is that of one value.
 pub fn saved_texts_are_prefix_free()
     ensures { ArePrefixFree IsSavedText }
 {}
 
-/// Room for the texts of some hundred entries.
+/// A writer with room for the encodings of some hundred entries.
 type Chunk = Writer<1024>;
 
-/// Appends the texts of all entries, for which there is room, some hundred at a time.
+/// Appends the encodings of all entries, for which there is room, some hundred at a time.
 fn push_entries(text: &mut Vec<u8>, log: &Record)
     requires room { length text.old.items + length (entries_bytes log.now.entries) ≤ vec_capacity text.old }
     ensures { text.new.items ≡ text.old.items ++ entries_bytes log.now.entries }
@@ -115,7 +117,7 @@ fn append(text: &mut Vec<u8>, bytes: &[u8])
     text.extend_from_slice(bytes).unwrap();
 }
 
-/// The text of the entry of this index, from 0; nothing past the end.
+/// Appends the encoding of the entry with this index, from 0, or nothing past the end.
 fn put_index(chunk: &mut Chunk, log: &Record, index: Number)
     requires below { index < most_entries }
     requires in_range { AllByRecursion IsEntry log.now.entries }
@@ -141,37 +143,39 @@ fn append_full(text: &mut Vec<u8>, chunk: &mut Chunk)
     }
 }
 
-/// What the saved text says, in either layout (docs/FORMATS.md, "Saved files"). The claim is not compared with the
-/// record.
+/// Loads a saved text, in either layout (docs/FORMATS.md, "Saved files"). The claim is not compared
+/// with the record.
 ///
 /// # Errors
-/// The first fault that is met from left to right, of the layout that the first field says. Where the layout holds,
-/// Illegal of the first entry that does not follow. Memory where there is none for the entries.
+/// The first fault met from left to right, of the layout that the first field names. Where the
+/// layout holds, `Illegal` of the first entry that does not follow. `Memory` where there is none
+/// for the entries.
 pub fn load(alloc: Global, bytes: &[u8]) -> Result<Saved, LoadFault>
-    // What is loaded is spelled so.
+    // A state that is loaded has this saved text.
     ensures found { IfOk result (λ saved. IsSavedText (parts_of saved) bytes.now) }
     ensures savable { IfOk result (λ saved. IsSavable (parts_of saved)) }
-    // What is spelled so is loaded.
+    // Each saved text is loaded.
     ensures only { (p : SavedParts) → IsSavedText p bytes.now → result ≢ Err LoadFault.Memory
         → IsOk result × IfOk result (λ saved. parts_of saved ≡ p) }
-    // The front of a text, and no more, is short.
+    // A proper prefix of a text is short.
     ensures short { (p : SavedParts) (rest : List ℕ) → IsLayoutOf p (bytes.now ++ rest) → rest ≢ []
         → result ≡ Err LoadFault.Short }
-    // Bytes behind the layout are extra, and nothing else is.
+    // Bytes after the end of the layout are extra, and nothing else is.
     ensures extra { (result ≡ Err LoadFault.Extra) ↔ HasMore IsLayoutOf bytes.now }
     // The first entry that does not follow.
     ensures illegal { (n : ℕ) → result ≡ Err (LoadFault.Illegal n) → IsIllegalAt n bytes.now }
     ensures only_illegal { (n : ℕ) → IsIllegalAt n bytes.now → result ≢ Err LoadFault.Memory
         → result ≡ Err (LoadFault.Illegal n) }
-    // Memory is wanted for entries alone, once the layout holds.
+    // Memory is needed for entries alone, once the layout holds.
     ensures memory { result ≡ Err LoadFault.Memory → HasEntries bytes.now }
-    // What a fault says of the bytes: by `laws_of_faults` they have no other, want of memory aside.
+    // A fault describes the bytes: by `laws_of_faults` they have no other, but for `Memory`.
     ensures why { IfErr result (λ fault. IsLoadFault fault bytes.now) }
 {
     load_record(alloc, bytes)
 }
 
-/// The saved text as a record. Room is made for no more entries than there are bytes for, so no count is trusted.
+/// Loads the saved text as a record. Makes room for no more entries than there are bytes for, so no
+/// count is trusted.
 fn load_record(alloc: Global, bytes: &[u8]) -> Result<Saved, LoadFault>
     ensures { Loads result (layout_of bytes.now) }
 {
@@ -190,8 +194,8 @@ fn load_record(alloc: Global, bytes: &[u8]) -> Result<Saved, LoadFault>
     })
 }
 
-/// Appends so many entries, with which the text ends, to a record that has none. What is wrong with the layout comes
-/// first, also behind an entry that does not follow.
+/// Appends `count` entries, with which the text ends, to a record that has none. A fault of the
+/// layout comes first, even behind an entry that does not follow.
 fn replay(
     log: &mut Record,
     reader: &mut Reader<'_>,
@@ -215,7 +219,7 @@ fn replay(
     end(reader)
 }
 
-/// Why loading ends where the entry of this number was not appended.
+/// Returns the reason why loading ends where the entry of this number was not appended.
 fn append_fault(number: Number, fault: &EntryFault) -> LoadFault
     ensures { result ≡ append_fault number fault.now }
 {

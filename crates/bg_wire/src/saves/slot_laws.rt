@@ -1,4 +1,5 @@
-//! Laws of texts and of slots, for the crates above: each is the contract of a function that does nothing.
+//! Laws of encodings and of slots, for the crates above. Each is the contract of a function that
+//! does nothing.
 ghost use Rattle.std.specs.Prelude.{◌≡◌};
 ghost use Rattle.bg_wire.specs.Entries.Codes.{longest_packet, longest_datagram, longest_saved_text, first_watcher};
 ghost use Rattle.bg_wire.specs.Packets.PacketText.{IsText, TextsTellRules};
@@ -14,7 +15,7 @@ ghost use Rattle.bg_wire.specs.Saved.WrittenLaws.{HaveWrittenText, HaveOneWritte
 
 use crate::{FIRST_WATCHER, LONGEST_PACKET, LONGEST_SAVED_TEXT, MOST_DATAGRAM_BYTES};
 
-/// The constants are the numbers of the layouts.
+/// States that the constants are the numbers of the layouts.
 pub fn laws_of_constants()
     ensures packet { LONGEST_PACKET ≡ longest_packet }
     ensures datagram { MOST_DATAGRAM_BYTES ≡ longest_datagram }
@@ -22,7 +23,7 @@ pub fn laws_of_constants()
     ensures watcher { FIRST_WATCHER ≡ first_watcher }
 {}
 
-/// What is wrong with bytes is one thing, by the layouts alone, and with a text nothing is.
+/// States that bytes have at most one fault, by the layouts alone, and that an encoding has none.
 pub fn laws_of_faults()
     ensures packets { HaveOneWireFault }
     ensures fine_packets { PacketsHaveNoFault }
@@ -30,37 +31,40 @@ pub fn laws_of_faults()
     ensures fine_saved { SavedTextsHaveNoFault }
 {}
 
-/// Bytes are the text of one packet, and of one saved match, whichever layout a saved text has. A packet's text tells
-/// its rules.
+/// States that bytes are the encoding of at most one packet, and of one saved match, whichever
+/// layout a saved text has. The encoding of a packet tells its rules.
 pub fn laws_of_texts()
     ensures packets { IsOneText IsText }
     ensures rules { TextsTellRules }
     ensures saved { IsOneText IsSavedText }
 {}
 
-/// What may be saved has one text that is written, and that is a saved text of the same value.
+/// States that a state which may be saved has one text that is written, which is a saved text of
+/// the same state.
 pub fn laws_of_written_texts()
     ensures some { HaveWrittenText }
     ensures one { HaveOneWrittenText }
     ensures saved { WrittenAreSaved }
 {}
 
-/// What bytes load as: one thing, and nothing where they are empty, or a saved text that was cut short.
+/// States that bytes load as one thing, and as nothing where they are empty or a proper prefix of a
+/// saved text.
 pub fn laws_of_loading()
     ensures once { LoadAsOneThing }
     ensures cut { FrontsLoadAsNothing }
     ensures empty { EmptyLoadsAsNothing }
 {}
 
-/// What two slots restore is one thing, by the saved text in one of them, and restoring gives it back.
+/// States that two slots restore one thing, by the saved text in one of them, and that restoring
+/// returns it.
 pub fn laws_of_restoring()
     ensures once { RestoreOneThing }
     ensures one { RestoreOneOfBoth }
     ensures back { GivesWhatSlotsRestore }
 {}
 
-/// Saves go to the two slots by turns. After a save the slots restore it; after one that was cut short, what they
-/// did.
+/// States that saves go to the two slots by turns. After a save the slots restore it; after one
+/// that was cut short, they restore what they did before.
 pub fn laws_of_saving()
     ensures turns { GoesByTurns }
     ensures other { NextGoesToTheOther }

@@ -13,7 +13,7 @@ pub enum Slot {
 impl Slot {
     ghost use Rattle.bg_wire.specs.Saved.Saves.{slot_of};
 
-    /// The slot of the save of this number.
+    /// Returns the slot of the save with this number.
     pub fn of(save: u32) -> Slot
         ensures { result ≡ slot_of save }
     {

@@ -1,4 +1,5 @@
-//! What stands before the entries of a saved text, as bytes of the second layout (docs/FORMATS.md, "Saved files").
+//! The fields before the entries of a saved text, as bytes of the second layout (docs/FORMATS.md,
+//! "Saved files").
 ghost use Rattle.std.specs.Prelude.{◌≡◌, ◌≤◌, ◌+◌, ◌++◌, length};
 ghost use Rattle.bg_match.specs.Match.{IsLegalRecord};
 ghost use Rattle.bg_wire.specs.Saved.SavedLayouts.{claim_text, front_text};
@@ -10,13 +11,13 @@ use crate::entries::writer::Writer;
 use crate::saves::layouts::{KEPT_CLAIM, Layout, NO_CLAIM, SECOND_MAGIC};
 use bg_match::{Action, Number, Record};
 
-/// The most bytes of what stands before the entries.
+/// The greatest length in bytes of what stands before the entries.
 const LONGEST_FRONT: usize = 38;
 
-/// Room for what stands before the entries.
+/// A writer with room for what stands before the entries.
 type FrontWriter = Writer<LONGEST_FRONT>;
 
-/// The text of what stands before the entries.
+/// Returns the bytes of what stands before the entries.
 pub(crate) fn front_text(
     party: u8,
     save: u32,

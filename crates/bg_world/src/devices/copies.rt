@@ -3,7 +3,8 @@ ghost use Rattle.std.specs.Prelude.{◌≡◌, ◌≢◌, [], IfOk, OnErr};
 
 use std::alloc::{AllocError, Global};
 
-/// The same items, where an item's clone is the item. Memory is wanted only where there are any.
+/// Returns a copy of the items, where an item's clone equals the item. Allocates only where there
+/// are any.
 pub(crate) fn copy_of<T: Clone>(alloc: Global, items: &[T]) -> Result<Vec<T>, AllocError>
     ensures ok { ((x y : T) → T.is_clone x y → y ≡ x) → IfOk result (λ copy. copy.items ≡ items.now) }
     ensures err { OnErr result (items.now ≢ []) }

@@ -1,4 +1,4 @@
-//! The texts that were sent to one party.
+//! The datagrams that were sent to one party.
 ghost use Rattle.std.specs.Prelude.{◌≡◌, ◌+◌, ◌≤◌, ◌<◌, ◌∷◌, ◌++◌, [], length, option_copied, slice_get, slice_index};
 ghost use Rattle.std.specs.Prelude.{IfOk, IfSome, OnErr, OnOk};
 ghost use Rattle.bg_world.specs.Devices.Inboxes.{text_between};
@@ -6,11 +6,12 @@ ghost use Rattle.bg_world.specs.Devices.Inboxes.{text_between};
 use std::alloc::{AllocError, Global};
 use std::marker::Model;
 
-/// The texts that were sent to one party, one behind the other. Contracts see the list of the texts, the oldest first.
+/// The datagrams that were sent to one party, one after the other. Contracts see the list of their
+/// bytes, the oldest first.
 #[derive(Drop)]
 pub(crate) struct Inbox {
     bytes: Vec<u8>,
-    /// Where each text ends.
+    /// The offset at which each datagram ends.
     ends: Vec<u32>,
 }
 
@@ -26,7 +27,7 @@ impl Model for Inbox {
 }
 
 impl Inbox {
-    /// No text.
+    /// Returns an empty inbox.
     pub(crate) fn new(alloc: Global) -> Inbox
         ensures { result ≡ [] }
     {
@@ -36,7 +37,8 @@ impl Inbox {
         }
     }
 
-    /// Puts a text behind the others. Without memory nothing changes; nor is there any for more than 4294967295 bytes.
+    /// Appends the bytes of a datagram. Where memory runs out, nothing changes; nor is there any
+    /// for more than 4294967295 bytes.
     pub(crate) fn push(&mut self, text: &[u8]) -> Result<(), AllocError>
         requires { length text.now ≤ 128 }
         ensures ok { OnOk result (self.new ≡ self.old ++ text.now ∷ []) }
@@ -49,7 +51,7 @@ impl Inbox {
         Ok(())
     }
 
-    /// The text of this index, from 0.
+    /// Returns the bytes of the datagram with this index, from 0.
     pub(crate) fn get(&self, index: u32) -> Option<&[u8]>
         ensures text { option_copied result ≡ slice_get self.now index }
         ensures few { IfSome result (λ text. length text.now ≤ 128) }
@@ -59,7 +61,7 @@ impl Inbox {
         Some(part_of(&self.bytes, start_of(&self.ends, index), end))
     }
 
-    /// How many there are.
+    /// Returns the number of datagrams.
     pub(crate) fn len(&self) -> usize
         ensures { result ≡ length self.now }
     {
@@ -67,7 +69,7 @@ impl Inbox {
     }
 }
 
-/// The bytes from here up to there.
+/// Returns the bytes from `start` up to `end`.
 fn part_of(bytes: &[u8], start: u32, end: u32) -> &[u8]
     requires rises { start ≤ end }
     requires within { end ≤ length bytes.now }
@@ -76,7 +78,7 @@ fn part_of(bytes: &[u8], start: u32, end: u32) -> &[u8]
     &bytes[start as usize..end as usize]
 }
 
-/// Where the text ends when it stands behind these bytes.
+/// Returns the offset at which `text` ends when it stands behind these bytes.
 fn end_behind(bytes: &[u8], text: &[u8]) -> Result<u32, AllocError>
     requires { length text.now ≤ 128 }
     ensures { IfOk result (λ end. end ≡ length bytes.now + length text.now) }
@@ -84,7 +86,8 @@ fn end_behind(bytes: &[u8], text: &[u8]) -> Result<u32, AllocError>
     u32::try_from(bytes.len() + text.len()).map_err(|_| AllocError)
 }
 
-/// Where the text of this index begins: where the one before it ends.
+/// Returns the offset at which the datagram of this index begins, which is the end of the one
+/// before it.
 fn start_of(ends: &[u32], index: usize) -> u32
     requires { index < length ends.now }
     ensures { result ≡ slice_index (0 ∷ ends.now) index }

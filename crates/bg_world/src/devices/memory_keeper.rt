@@ -11,7 +11,8 @@ use bg_streams::History;
 use bg_wire::Slot;
 use std::alloc::Global;
 
-/// A keeper in memory, which is honest. Its writes and reads fail by a plan (docs/PROTOCOL.md, "Devices").
+/// A keeper in memory, which is honest. Its writes and reads fail by a plan (docs/PROTOCOL.md,
+/// "Devices").
 #[derive(Drop)]
 pub struct MemoryKeeper {
     alloc: Global,
@@ -35,8 +36,8 @@ impl MemoryKeeper {
     ghost use Rattle.bg_world.specs.Devices.MemoryDevices.{slots_of};
     ghost use Rattle.bg_world.specs.Devices.MemoryDevices.{writes_of};
 
-    /// The keeper of a party, with empty slots, of which nothing was asked. The calls that the plan names for this
-    /// party fail.
+    /// Returns the keeper of a party, with empty slots, of which nothing was asked yet. The calls
+    /// that the plan names for this party fail.
     pub(crate) fn new(
         alloc: Global,
         party: u8,
@@ -66,7 +67,7 @@ impl MemoryKeeper {
     }
 }
 
-/// Does with a text what the plan says of this write.
+/// Writes a text as the plan says of this write.
 fn write_by(
     tear: Option<Tear>,
     alloc: Global,
@@ -91,7 +92,7 @@ fn write_by(
     }
 }
 
-/// Gives the bytes of a slot, or what the plan says of this read.
+/// Reads the bytes of a slot, or fails as the plan says of this read.
 fn read_by(
     failure: Option<FailRead>,
     alloc: Global,

@@ -12,11 +12,11 @@ use bg_streams::History;
 use bg_wire::Datagram;
 use std::alloc::Global;
 
-/// The pick that no datagram has: it hands over one byte 0.
+/// The pick that no datagram has. It hands over one byte 0.
 const GARBLED: u32 = u32::MAX;
 
-/// A link in memory, which is honest: it keeps each datagram that was sent, and hands over the one that a pick names.
-/// Its sends fail by a plan (docs/PROTOCOL.md, "Devices").
+/// A link in memory, which is honest. It keeps each datagram that was sent, and hands over the one
+/// that a pick names. Its sends fail by a plan (docs/PROTOCOL.md, "Devices").
 #[derive(Drop)]
 pub struct MemoryNet {
     sent: SentDatagrams,
@@ -33,7 +33,8 @@ impl MemoryNet {
     ghost use Rattle.bg_world.specs.Devices.MemoryDevices.{last_taken, net_faults, net_plan, sends_of, sent_over};
     ghost use Rattle.bg_world.specs.Devices.MemoryDevices.{takes_of};
 
-    /// A link that nothing was sent over and nothing was asked of. The sends that the plan names fail.
+    /// Returns a link over which nothing was sent, and of which nothing was asked. The sends that
+    /// the plan names fail.
     pub(crate) fn new(alloc: Global, failing: Vec<FailSend>) -> MemoryNet
         ensures sent { sent_over result ≡ [] }
         ensures plan { net_plan result ≡ failing.items }
@@ -53,8 +54,9 @@ impl MemoryNet {
         }
     }
 
-    /// How many datagrams were sent to the party, those included that went out though their send failed; 4294967295
-    /// where there are as many or more. It takes the same time however many there are.
+    /// Returns the number of datagrams sent to the party, or 4294967295 where there are as many or
+    /// more. Those that went out though their send failed are included. It takes the same time
+    /// however many there are.
     pub fn sent_to(&self, party: u8) -> u32
         ensures { result ≡ count_to party (sent_over self.now) }
     {
@@ -62,7 +64,7 @@ impl MemoryNet {
     }
 }
 
-/// Does with a datagram what the plan says of this send.
+/// Sends a datagram as the plan says of this send.
 fn send_by(
     failure: Option<FailSend>,
     sent: &mut SentDatagrams,
@@ -84,7 +86,7 @@ fn send_by(
     }
 }
 
-/// What the pick names among the datagrams to the party.
+/// Returns the bytes that the pick names among the datagrams to the party.
 fn hand_over(sent: &SentDatagrams, party: u8, pick: u32) -> Option<ArrayVec<u8, 256>>
     ensures { result ≡ handed sent.now party pick }
 {

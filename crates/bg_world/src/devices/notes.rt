@@ -1,4 +1,4 @@
-//! What devices note of their calls, for contracts alone.
+//! The notes that devices keep of their calls, for contracts alone.
 ghost use Rattle.std.specs.Prelude.{◌≡◌, length};
 ghost use Rattle.bg_world.specs.Devices.Honesty.{CountsFailed};
 ghost use Rattle.bg_world.specs.Devices.Handed.{noted, noted_answer};
@@ -7,7 +7,7 @@ use crate::{DeviceFault, Taken};
 use arrayvec::ArrayVec;
 use bg_streams::History;
 
-/// The bytes that a take gave, if it gave any.
+/// Returns the bytes that a take gave, if it gave any.
 pub(crate) fn note_bytes(taken: &Option<ArrayVec<u8, 256>>) -> Option<History>
     ensures { noted result ≡ taken.now }
 {
@@ -17,8 +17,8 @@ pub(crate) fn note_bytes(taken: &Option<ArrayVec<u8, 256>>) -> Option<History>
     }
 }
 
-/// What a take answered, as a link notes it for its `ghost taken`: the bytes that it gave, if any, or the fault. It
-/// takes no memory.
+/// Returns the result of a take as a link notes it for its `ghost taken`: the bytes that it gave,
+/// if any, or the fault. It allocates nothing.
 pub fn note_taken(taken: &Taken) -> Result<Option<History>, DeviceFault>
     ensures { noted_answer result ≡ taken.now }
 {
@@ -28,8 +28,9 @@ pub fn note_taken(taken: &Taken) -> Result<Option<History>, DeviceFault>
     }
 }
 
-/// The failures of a device after a call with this answer: one more where it is `Failed`, else as many as before. A
-/// device counts by it, so that its contract holds (`cause` of each call of [`crate::Link`] and [`crate::Keeper`]).
+/// Returns the failures of a device after a call with this answer: one more where it is `Failed`,
+/// else as many as before. A device counts by it, so that its contract holds (`cause` of each call
+/// of [`crate::Link`] and [`crate::Keeper`]).
 pub fn count_failed<T>(faults: &History, answer: &Result<T, DeviceFault>) -> History
     ensures { CountsFailed (length faults.now.bytes) (length result.bytes) answer.now }
 {

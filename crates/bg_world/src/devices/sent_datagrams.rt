@@ -10,8 +10,8 @@ use bg_wire::Datagram;
 use std::alloc::{AllocError, Global};
 use std::marker::Model;
 
-/// All datagrams that were sent: an inbox for each party keeps their texts. Contracts see the datagrams, the oldest
-/// first.
+/// All datagrams that were sent, with an inbox for each party. Contracts see the datagrams, the
+/// oldest first.
 #[derive(Drop)]
 pub(crate) struct SentDatagrams {
     alloc: Global,
@@ -32,7 +32,7 @@ impl Model for SentDatagrams {
 }
 
 impl SentDatagrams {
-    /// No datagram.
+    /// Returns the state where nothing was sent.
     pub(crate) fn new(alloc: Global) -> SentDatagrams
         ensures { result ≡ [] }
     {
@@ -43,7 +43,7 @@ impl SentDatagrams {
         }
     }
 
-    /// Keeps a datagram behind the others. Without memory nothing changes.
+    /// Appends a datagram. Where memory runs out, nothing changes.
     pub(crate) fn push(&mut self, datagram: &Datagram) -> Result<(), AllocError>
         ensures ok { OnOk result (self.new ≡ self.old ++ datagram.now ∷ []) }
         ensures err { OnErr result (self.new ≡ self.old) }
@@ -54,7 +54,7 @@ impl SentDatagrams {
         Ok(())
     }
 
-    /// The text of this index, from 0, among those to the party.
+    /// Returns the bytes of the datagram with this index, from 0, among those to the party.
     pub(crate) fn get(&self, party: u8, index: u32) -> Option<&[u8]>
         ensures text { option_copied result ≡ slice_get (texts_to party self.now) index }
         ensures few { IfSome result (λ text. length text.now ≤ 128) }
@@ -63,7 +63,7 @@ impl SentDatagrams {
         inbox.get(index)
     }
 
-    /// How many there are to the party; 4294967295 where there are as many or more.
+    /// Returns the number of datagrams to the party, or 4294967295 where there are as many or more.
     pub(crate) fn count_to(&self, party: u8) -> u32
         ensures { result ≡ count_to party self.now }
     {
@@ -71,7 +71,7 @@ impl SentDatagrams {
     }
 }
 
-/// How many texts the inbox of the party has; none where there is no inbox.
+/// Returns the number of datagrams in the inbox of the party, or 0 where there is no inbox.
 fn count_in(inboxes: &[Inbox], party: u8) -> usize
     ensures { result ≡ length (inbox_at inboxes.now party) }
 {
@@ -81,7 +81,7 @@ fn count_in(inboxes: &[Inbox], party: u8) -> usize
     }
 }
 
-/// Makes inboxes, empty ones, up to that of the party.
+/// Adds empty inboxes, up to that of the party.
 fn make_inboxes(alloc: Global, inboxes: &mut Vec<Inbox>, party: u8) -> Result<(), AllocError>
     ensures same { (p : ℕ) → inbox_at inboxes.new.items p ≡ inbox_at inboxes.old.items p }
     ensures there { OnOk result (party < vec_len inboxes.new) }
@@ -92,7 +92,8 @@ fn make_inboxes(alloc: Global, inboxes: &mut Vec<Inbox>, party: u8) -> Result<()
     Ok(())
 }
 
-/// Puts a text behind those in the inbox of the party. Without memory nothing changes.
+/// Appends the bytes of a datagram to the inbox of the party. Where memory runs out, nothing
+/// changes.
 fn put_text(
     alloc: Global,
     inboxes: &mut Vec<Inbox>,

@@ -23,7 +23,7 @@ impl Model for SlotTexts {
 }
 
 impl SlotTexts {
-    /// Two slots that have nothing.
+    /// Returns two empty slots.
     pub(crate) fn new(alloc: Global) -> SlotTexts
         ensures { result ≡ empty_slots }
     {
@@ -33,7 +33,7 @@ impl SlotTexts {
         }
     }
 
-    /// What a slot has.
+    /// Returns the bytes of a slot.
     pub(crate) fn get(&self, slot: Slot) -> &[u8]
         ensures { result.now ≡ bytes_in self.now slot }
     {

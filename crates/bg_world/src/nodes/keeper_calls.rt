@@ -1,4 +1,4 @@
-//! One call of a keeper.
+//! Single calls of a keeper.
 ghost use Rattle.std.specs.Prelude.{◌≡◌};
 ghost use Rattle.bg_world.specs.Devices.DeviceCalls.{ReadsOnce, WritesOnce, read_outcome};
 ghost use Rattle.bg_world.specs.Worlds.Views.{keeper_view};
@@ -25,7 +25,7 @@ pub(crate) fn read_slot<K: Keeper>(keeper: &mut K, slot: Slot) -> Result<Vec<u8>
     keeper.read(slot)
 }
 
-/// What a fault of a read comes to.
+/// Returns the outcome of a fault of a read.
 pub(crate) fn read_outcome(fault: DeviceFault) -> Outcome
     ensures { result ≡ read_outcome fault }
 {

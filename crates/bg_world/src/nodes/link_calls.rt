@@ -1,4 +1,4 @@
-//! One call of a link.
+//! Single calls of a link.
 ghost use Rattle.std.specs.Prelude.{◌≡◌, IfOk};
 ghost use Rattle.bg_wire.specs.Packets.PacketText.{IsPacket};
 ghost use Rattle.bg_world.specs.Devices.DeviceCalls.{Posts, Receives, link_outcome};
@@ -7,7 +7,7 @@ ghost use Rattle.bg_world.specs.Worlds.Views.{link_view};
 use crate::{DeviceFault, Link, Outcome};
 use bg_wire::{Datagram, Packet, PacketBytes, decode, encode};
 
-/// What a fault of the link comes to.
+/// Returns the outcome of a fault of the link.
 pub(crate) fn link_outcome(fault: DeviceFault) -> Outcome
     ensures { result ≡ link_outcome fault }
 {
@@ -17,7 +17,8 @@ pub(crate) fn link_outcome(fault: DeviceFault) -> Outcome
     }
 }
 
-/// Takes a datagram for the party, and reads its packet; or says why there is none.
+/// Takes a datagram for the party and decodes its packet, or returns the outcome where there is
+/// none.
 pub(crate) fn receive<L: Link>(link: &mut L, party: u8, pick: u32) -> Result<Packet, Outcome>
     ensures receives { Receives L.is_honest (link_view L.Link link.old) party pick result (link_view L.Link link.new) }
     ensures fits { IfOk result IsPacket }

@@ -14,8 +14,9 @@ use bg_match::{LengthFault, Record, Terms};
 use bg_referee::Referee;
 use std::alloc::Global;
 
-/// The referee of a match as a node of its own: its core, while it is up, and the keeper of its saved texts. A process
-/// that runs the referee alone makes these calls, and a [`World`](crate::World) makes the same ones (docs/PROTOCOL.md,
+/// The referee of a match as a node of its own: its core, while it is up, and the keeper of its
+/// saved texts. A process that runs the referee alone makes these calls, and a
+/// [`World`](crate::World) makes the same ones (docs/PROTOCOL.md,
 /// "Parties in processes of their own").
 ///
 /// Contracts see the match, the keeper, and the core while it is up.
@@ -32,8 +33,9 @@ pub struct RefereeNode<K> {
 impl<K: Keeper + Drop> RefereeNode<K> {
     ghost use Rattle.bg_world.specs.Worlds.Nodes.{RefereeNodeRestarts, fresh_referee_node, referee_node_of};
 
-    /// The referee that goes on from what the slots of its keeper restore, and what that came to: it is down where the
-    /// outcome is not `Restarted`. So a process begins, the first of a match and each later one.
+    /// Starts the referee from what the slots of its keeper restore, and returns it with the
+    /// outcome of that. It is down where the outcome is not `Restarted`. Each process starts so,
+    /// both the first of a match and each later one.
     ///
     /// # Errors
     /// `LengthOutOfRange` where the length is not from 1 to 99.
@@ -52,7 +54,7 @@ impl<K: Keeper + Drop> RefereeNode<K> {
         Ok((node, outcome))
     }
 
-    /// The referee of a match with no entry, which is up.
+    /// Returns the referee of a match with no entry, which is up.
     ///
     /// # Errors
     /// `LengthOutOfRange` where the length is not from 1 to 99.
@@ -81,7 +83,7 @@ impl<K: Keeper> RefereeNode<K> {
     ghost use Rattle.bg_world.specs.Worlds.Nodes.{RefereeNodeDues, RefereeNodeRestarts, RefereeNodeSaves};
     ghost use Rattle.bg_world.specs.Worlds.Nodes.{RefereeNodeTakes, RefereeNodeTicks, referee_node_of};
 
-    /// The record; `None` exactly where it is down.
+    /// Returns the record, or `None` exactly where the referee is down.
     pub fn held(&self) -> Option<&Record>
         ensures { option_copied result ≡ referee_log self.now.core }
     {
@@ -91,7 +93,8 @@ impl<K: Keeper> RefereeNode<K> {
         }
     }
 
-    /// Opens a game with the dice of a random word, or passes a turn in which no step can be played.
+    /// Opens a game with the dice of a random word, or passes a turn in which no step can be
+    /// played.
     pub fn due(&mut self, word: u32) -> Outcome
         ensures { RefereeNodeDues (referee_node_of K.Keeper self.old) word result (referee_node_of K.Keeper self.new) }
     {
@@ -101,8 +104,9 @@ impl<K: Keeper> RefereeNode<K> {
         }
     }
 
-    /// Takes what the link gives for this pick, and sends the answer; a roll that a claim asks for has the dice of the
-    /// random word. So many parties exist, from 0.
+    /// Takes what the link gives for this pick, and sends the answer. A roll that a claim asks for
+    /// has the dice of the random word. `parties` is the number of parties, whose numbers are
+    /// from 0.
     pub fn take<L: Link>(&mut self, link: &mut L, parties: usize, pick: u32, word: u32) -> Outcome
         ensures { RefereeNodeTakes L.is_honest parties (link_view L.Link link.old) (referee_node_of K.Keeper self.old)
             pick word result (link_view L.Link link.new) (referee_node_of K.Keeper self.new) }
@@ -113,7 +117,8 @@ impl<K: Keeper> RefereeNode<K> {
         }
     }
 
-    /// Sends what its core gives. So many parties exist, from 0.
+    /// Sends the packets that its core returns. `parties` is the number of parties, whose numbers
+    /// are from 0.
     pub fn tick<L: Link>(&mut self, link: &mut L, parties: usize) -> Outcome
         ensures { RefereeNodeTicks L.is_honest parties (link_view L.Link link.old) (referee_node_of K.Keeper self.old)
             result (link_view L.Link link.new) (referee_node_of K.Keeper self.new) }
@@ -124,7 +129,7 @@ impl<K: Keeper> RefereeNode<K> {
         }
     }
 
-    /// Saves. It is down where the write fails.
+    /// Saves what the referee holds. It is down where the write fails.
     pub fn save(&mut self) -> Outcome
         ensures { RefereeNodeSaves K.is_honest (referee_node_of K.Keeper self.old) result
             (referee_node_of K.Keeper self.new) }
@@ -132,7 +137,7 @@ impl<K: Keeper> RefereeNode<K> {
         save_referee(&mut self.keeper, &mut self.core)
     }
 
-    /// Gives up what it holds, and begins again from what its slots restore.
+    /// Discards what the referee holds, and restarts it from what its slots restore.
     pub fn restart(&mut self) -> Outcome
         ensures { RefereeNodeRestarts K.is_honest (referee_node_of K.Keeper self.old) result
             (referee_node_of K.Keeper self.new) }

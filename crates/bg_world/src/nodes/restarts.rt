@@ -1,4 +1,4 @@
-//! A party begins again from what it saved.
+//! Restarts of a party from what it saved.
 ghost use Rattle.std.specs.Prelude.{◌≡◌, IfOk, IfSome};
 ghost use Rattle.bg_match.specs.Limits.{IsMatchLength};
 ghost use Rattle.bg_match.specs.Terms.{match_length};
@@ -20,7 +20,7 @@ use bg_referee::Referee;
 use bg_wire::{REFEREE, RestoreRefusal, Saved, Slot, party_of, restore};
 use std::alloc::Global;
 
-/// What a refusal to restore comes to.
+/// Returns the outcome of a refusal to restore.
 fn refusal_outcome(refusal: RestoreRefusal) -> Outcome
     ensures { result ≡ refusal_outcome refusal }
 {
@@ -31,7 +31,7 @@ fn refusal_outcome(refusal: RestoreRefusal) -> Outcome
     }
 }
 
-/// What the bytes of a party's slots restore.
+/// Returns what the bytes of a party's slots restore.
 fn restored(
     alloc: Global,
     zero: &[u8],
@@ -47,7 +47,7 @@ fn restored(
     restore(alloc, zero, one, party, id, terms.length, terms.rules)
 }
 
-/// What the slots of a party restore, or what it comes to that nothing is restored.
+/// Returns what the slots of a party restore, or the outcome where nothing is restored.
 fn read_both<K: Keeper>(
     alloc: Global,
     keeper: &mut K,
@@ -74,7 +74,7 @@ fn read_both<K: Keeper>(
     }
 }
 
-/// The referee begins again.
+/// Restarts the referee.
 pub(crate) fn restart_referee<K: Keeper>(
     alloc: Global,
     keeper: &mut K,
@@ -100,7 +100,7 @@ pub(crate) fn restart_referee<K: Keeper>(
     }
 }
 
-/// A seat begins again.
+/// Restarts a seat.
 pub(crate) fn restart_seat<K: Keeper>(
     alloc: Global,
     keeper: &mut K,

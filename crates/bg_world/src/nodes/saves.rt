@@ -1,4 +1,4 @@
-//! A party saves.
+//! Saves of a party.
 ghost use Rattle.bg_referee.specs.Referee.{referee_after_save};
 ghost use Rattle.bg_party.specs.Views.{seat_after_save};
 ghost use Rattle.bg_world.specs.Worlds.Calls.{referee_parts, seat_parts};
@@ -11,7 +11,7 @@ use bg_party::Seat;
 use bg_referee::Referee;
 use bg_wire::SaveRefusal;
 
-/// The referee saves. It is down where the write fails.
+/// Saves what the referee holds. It is down where the write fails.
 pub(crate) fn save_referee<K: Keeper>(keeper: &mut K, referee: &mut Option<Referee>) -> Outcome
     ensures { SaveCallsAt referee_parts referee_after_save K.is_honest (keeper_view K.Keeper keeper.old) referee.old
         result (keeper_view K.Keeper keeper.new) referee.new }
@@ -36,7 +36,7 @@ pub(crate) fn save_referee<K: Keeper>(keeper: &mut K, referee: &mut Option<Refer
     }
 }
 
-/// A seat saves. It is down where the write fails.
+/// Saves what a seat holds. It is down where the write fails.
 pub(crate) fn save_seat<K: Keeper>(keeper: &mut K, seat: &mut Option<Seat>) -> Outcome
     ensures { SaveCallsAt seat_parts seat_after_save K.is_honest (keeper_view K.Keeper keeper.old) seat.old
         result (keeper_view K.Keeper keeper.new) seat.new }

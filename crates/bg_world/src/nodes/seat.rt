@@ -16,9 +16,9 @@ use bg_party::Seat;
 use bg_wire::party_of;
 use std::alloc::Global;
 
-/// The seat of a player as a node of its own: its core, while it is up, and the keeper of its saved texts. A process
-/// that runs the seat alone makes these calls, and a [`World`](crate::World) makes the same ones (docs/PROTOCOL.md,
-/// "Parties in processes of their own").
+/// The seat of a player as a node of its own: its core, while it is up, and the keeper of its saved
+/// texts. A process that runs the seat alone makes these calls, and a [`World`](crate::World) makes
+/// the same ones (docs/PROTOCOL.md, "Parties in processes of their own").
 ///
 /// Contracts see its player, the match, the keeper, and the core while it is up.
 #[derive(Drop)]
@@ -35,8 +35,9 @@ pub struct SeatNode<K> {
 impl<K: Keeper + Drop> SeatNode<K> {
     ghost use Rattle.bg_world.specs.Worlds.Nodes.{SeatNodeRestarts, fresh_seat_node, seat_node_of};
 
-    /// The seat of a player that goes on from what the slots of its keeper restore, and what that came to: it is down
-    /// where the outcome is not `Restarted`. So a process begins, the first of a match and each later one.
+    /// Starts the seat of a player from what the slots of its keeper restore, and returns it with
+    /// the outcome of that. It is down where the outcome is not `Restarted`. Each process starts
+    /// so, both the first of a match and each later one.
     ///
     /// # Errors
     /// `LengthOutOfRange` where the length is not from 1 to 99.
@@ -56,7 +57,7 @@ impl<K: Keeper + Drop> SeatNode<K> {
         Ok((node, outcome))
     }
 
-    /// The seat of a player in a match with no entry, which is up.
+    /// Returns the seat of a player in a match with no entry, which is up.
     ///
     /// # Errors
     /// `LengthOutOfRange` where the length is not from 1 to 99.
@@ -87,7 +88,7 @@ impl<K: Keeper> SeatNode<K> {
     ghost use Rattle.bg_world.specs.Worlds.Nodes.{SeatNodeChooses, SeatNodeRestarts, SeatNodeSaves, SeatNodeTakes};
     ghost use Rattle.bg_world.specs.Worlds.Nodes.{SeatNodeTicks, seat_claim, seat_node_of};
 
-    /// The record; `None` exactly where it is down.
+    /// Returns the record, or `None` exactly where the seat is down.
     pub fn held(&self) -> Option<&Record>
         ensures { option_copied result ≡ seat_log self.now.core }
     {
@@ -97,8 +98,8 @@ impl<K: Keeper> SeatNode<K> {
         }
     }
 
-    /// Its last claim: the number, from 1, of the entry that shall answer the action, and the action; `None` also where
-    /// it is down.
+    /// Returns the last claim: the number, from 1, of the entry that shall answer the action, and
+    /// the action. `None` also where the seat is down.
     pub fn claim(&self) -> Option<(Number, Action)>
         ensures { result ≡ seat_claim self.now.core }
     {
@@ -108,7 +109,7 @@ impl<K: Keeper> SeatNode<K> {
         }
     }
 
-    /// Claims what its player chooses.
+    /// Claims the action that its player chooses.
     pub fn choose(&mut self, action: Action) -> Outcome
         ensures { SeatNodeChooses (seat_node_of K.Keeper self.old) action result (seat_node_of K.Keeper self.new) }
     {
@@ -130,7 +131,8 @@ impl<K: Keeper> SeatNode<K> {
         }
     }
 
-    /// Sends what its core gives. So many parties exist, from 0, the referee among them.
+    /// Sends the packet that its core returns. `parties` is the number of parties, whose numbers
+    /// are from 0, the referee among them.
     pub fn tick<L: Link>(&mut self, link: &mut L, parties: usize) -> Outcome
         requires { 1 ≤ parties }
         ensures { SeatNodeTicks L.is_honest parties (link_view L.Link link.old) (seat_node_of K.Keeper self.old)
@@ -142,7 +144,7 @@ impl<K: Keeper> SeatNode<K> {
         }
     }
 
-    /// Saves. It is down where the write fails.
+    /// Saves what the seat holds. It is down where the write fails.
     pub fn save(&mut self) -> Outcome
         ensures { SeatNodeSaves K.is_honest (seat_node_of K.Keeper self.old) result
             (seat_node_of K.Keeper self.new) }
@@ -150,7 +152,7 @@ impl<K: Keeper> SeatNode<K> {
         save_seat(&mut self.keeper, &mut self.core)
     }
 
-    /// Gives up what it holds, and begins again from what its slots restore.
+    /// Discards what the seat holds, and restarts it from what its slots restore.
     pub fn restart(&mut self) -> Outcome
         ensures { SeatNodeRestarts K.is_honest (seat_node_of K.Keeper self.old) result
             (seat_node_of K.Keeper self.new) }

@@ -14,7 +14,7 @@ pub(crate) struct Seats<K> {
 }
 
 impl<K> Seats<K> {
-    /// The seat of a player.
+    /// Returns the seat of a player.
     pub(crate) fn of(&self, player: Player) -> &SeatNode<K>
         ensures { result.now ≡ seat_of self.now player }
     {
@@ -24,7 +24,7 @@ impl<K> Seats<K> {
         }
     }
 
-    /// The seat of a player, for a call that changes it; the other seat stays as it is.
+    /// Returns the seat of a player, for a call that changes it. The other seat stays as it is.
     pub(crate) fn of_mut(&mut self, player: Player) -> &mut SeatNode<K>
         ensures* lends { sem 𝓛 (LendsSeat K.row self.entry player result) }
         ensures value { result.now ≡ seat_of self.old player }

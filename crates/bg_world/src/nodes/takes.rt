@@ -1,4 +1,4 @@
-//! A party takes a datagram.
+//! Takes of datagrams by a party.
 ghost use Rattle.bg_referee.specs.Takes.{AnswerFits, RefereeTakes};
 ghost use Rattle.bg_wire.specs.Packets.PacketText.{IsPacket};
 ghost use Rattle.bg_world.specs.Worlds.Calls.{SeatTakes, WatcherTakes};
@@ -11,7 +11,8 @@ use bg_party::{Learned, Seat, Watcher};
 use bg_referee::{Referee, TakeOutcome};
 use bg_wire::{Packet, REFEREE};
 
-/// Sends an answer, if there is one, to a party that exists. So many parties exist, from 0.
+/// Sends an answer, if there is one, to a party that exists. `parties` is the number of parties,
+/// whose numbers are from 0.
 fn send_answer<L: Link>(link: &mut L, parties: usize, took: TakeOutcome) -> Outcome
     requires { AnswerFits took }
     ensures { AnswerCalls L.is_honest parties (link_view L.Link link.old) took result (link_view L.Link link.new) }
@@ -48,7 +49,8 @@ fn hand_to_watcher(core: &mut Watcher, packet: &Packet) -> Learned
     core.take(packet)
 }
 
-/// The referee takes a datagram, and sends its answer. So many parties exist, from 0.
+/// Takes a datagram at the referee, and sends its answer. `parties` is the number of parties, whose
+/// numbers are from 0.
 pub(crate) fn take_at_referee<L: Link>(
     link: &mut L,
     parties: usize,
@@ -68,7 +70,7 @@ pub(crate) fn take_at_referee<L: Link>(
     }
 }
 
-/// A seat takes a datagram.
+/// Takes a datagram at a seat.
 pub(crate) fn take_at_seat<L: Link>(link: &mut L, party: u8, core: &mut Seat, pick: u32) -> Outcome
     ensures { FollowerTakeCalls SeatTakes L.is_honest party (link_view L.Link link.old) core.old pick
         result (link_view L.Link link.new) core.new }
@@ -79,7 +81,7 @@ pub(crate) fn take_at_seat<L: Link>(link: &mut L, party: u8, core: &mut Seat, pi
     }
 }
 
-/// A watcher takes a datagram.
+/// Takes a datagram at a watcher.
 pub(crate) fn take_at_watcher<L: Link>(
     link: &mut L,
     party: u8,

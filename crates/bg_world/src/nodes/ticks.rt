@@ -1,4 +1,4 @@
-//! A party sends what its core gives without having been handed anything.
+//! Ticks of a party, on which it sends what its core returns without being asked.
 ghost use Rattle.std.specs.Prelude.{length, ◌≤◌, IfSome};
 ghost use Rattle.std.specs.List.{AllByRecursion};
 ghost use Rattle.bg_party.specs.Claims.{SeatTicks, WatcherTicks};
@@ -12,7 +12,8 @@ use bg_party::{Seat, Watcher};
 use bg_referee::Referee;
 use bg_wire::{Packet, REFEREE};
 
-/// Sends packets to those of their parties that exist, up to the first that fails. So many parties exist, from 0.
+/// Sends packets to those of their parties that exist, up to the first that fails. `parties` is the
+/// number of parties, whose numbers are from 0.
 fn send_all<L: Link>(link: &mut L, parties: usize, packets: &[(u8, Packet)]) -> Outcome
     requires few { length packets.now ≤ 2 }
     requires fit { AllByRecursion (λ packet. IsPacket packet.1) packets.now }
@@ -33,7 +34,7 @@ fn send_all<L: Link>(link: &mut L, parties: usize, packets: &[(u8, Packet)]) -> 
     Outcome::Sent(sent)
 }
 
-/// A follower sends this to the referee, if anything.
+/// Sends this packet of a follower to the referee, if there is one.
 fn send_to_referee<L: Link>(link: &mut L, parties: usize, packet: &Option<Packet>) -> Outcome
     requires fits { IfSome packet.now IsPacket }
     requires referee_exists { 1 ≤ parties }
@@ -49,7 +50,8 @@ fn send_to_referee<L: Link>(link: &mut L, parties: usize, packet: &Option<Packet
     }
 }
 
-/// The referee's tick. So many parties exist, from 0.
+/// Sends what the referee's tick returns. `parties` is the number of parties, whose numbers are
+/// from 0.
 pub(crate) fn tick_referee<L: Link>(link: &mut L, parties: usize, core: &mut Referee) -> Outcome
     ensures { RefereeTickCalls L.is_honest parties (link_view L.Link link.old) core.old
         result (link_view L.Link link.new) core.new }
@@ -58,7 +60,7 @@ pub(crate) fn tick_referee<L: Link>(link: &mut L, parties: usize, core: &mut Ref
     send_all(link, parties, packets.as_slice())
 }
 
-/// A seat's tick.
+/// Sends what a seat's tick returns.
 pub(crate) fn tick_seat<L: Link>(link: &mut L, parties: usize, core: &mut Seat) -> Outcome
     requires { 1 ≤ parties }
     ensures { FollowerTickCalls SeatTicks L.is_honest parties (link_view L.Link link.old) core.old
@@ -68,7 +70,7 @@ pub(crate) fn tick_seat<L: Link>(link: &mut L, parties: usize, core: &mut Seat) 
     send_to_referee(link, parties, &packet)
 }
 
-/// A watcher's tick.
+/// Sends what a watcher's tick returns.
 pub(crate) fn tick_watcher<L: Link>(link: &mut L, parties: usize, core: &mut Watcher) -> Outcome
     requires { 1 ≤ parties }
     ensures { FollowerTickCalls WatcherTicks L.is_honest parties (link_view L.Link link.old) core.old

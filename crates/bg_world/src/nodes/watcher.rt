@@ -1,4 +1,4 @@
-//! One who watches a match, by himself.
+//! A watcher of a match, by itself.
 ghost use Rattle.std.specs.Prelude.{◌≡◌, ◌≤◌, ◌↔◌, IsOk, IfOk};
 ghost use Rattle.bg_match.specs.Limits.{IsMatchLength};
 ghost use Rattle.bg_match.specs.Terms.{match_length};
@@ -17,9 +17,10 @@ use bg_party::Watcher;
 use std::alloc::Global;
 use std::marker::Model;
 
-/// One who watches a match as a node of its own. It saves nothing and is never down: to restart it is to make a new
-/// one. A process that runs a watcher alone makes these calls, and a [`World`](crate::World) makes the same ones
-/// (docs/PROTOCOL.md, "Parties in processes of their own").
+/// A watcher of a match as a node of its own. It saves nothing and is never down: to restart it is
+/// to make a new one. A process that runs a watcher alone makes these calls, and a
+/// [`World`](crate::World) makes the same ones (docs/PROTOCOL.md,
+/// "Parties in processes of their own").
 ///
 /// Contracts see its core.
 #[derive(Drop)]
@@ -38,7 +39,7 @@ impl Model for WatcherNode {
 }
 
 impl WatcherNode {
-    /// A watcher who holds no entry. `party` is its number, from 3.
+    /// Returns a watcher that holds no entry. `party` is its number, from 3.
     ///
     /// # Errors
     /// `LengthOutOfRange` where the length is not from 1 to 99.
@@ -58,7 +59,7 @@ impl WatcherNode {
         })
     }
 
-    /// Its record.
+    /// Returns the record.
     pub fn held(&self) -> &Record
         ensures { result.now ≡ self.now.follower.log }
     {
@@ -73,7 +74,8 @@ impl WatcherNode {
         take_at_watcher(link, self.party, &mut self.core, pick)
     }
 
-    /// Sends what its core gives. So many parties exist, from 0, the referee among them.
+    /// Sends the packet that its core returns. `parties` is the number of parties, whose numbers
+    /// are from 0, the referee among them.
     pub fn tick<L: Link>(&mut self, link: &mut L, parties: usize) -> Outcome
         requires { 1 ≤ parties }
         ensures { FollowerTickCalls WatcherTicks L.is_honest parties (link_view L.Link link.old) self.old

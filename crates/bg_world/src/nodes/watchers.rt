@@ -1,4 +1,4 @@
-//! All who watch a match.
+//! All watchers of a match.
 ghost use Rattle.std.specs.Prelude.{◌≡◌, ◌+◌, ◌<◌, ◌≤◌, vec_len, length, IfOk, IfErr, option_copied, slice_get};
 ghost use Rattle.bg_match.specs.Limits.{IsMatchLength};
 ghost use Rattle.bg_match.specs.Terms.{match_length};
@@ -15,8 +15,8 @@ use bg_wire::FIRST_WATCHER;
 use std::alloc::Global;
 use std::marker::Model;
 
-/// The nodes of all who watch a match; the party of the one at an index, from 0, is the first watcher's and so many
-/// more.
+/// The nodes of all watchers of a match. The party of the watcher at an index, from 0, is the first
+/// watcher's party plus the index.
 ///
 /// Contracts see their cores.
 #[derive(Drop)]
@@ -35,7 +35,7 @@ impl Model for Watchers {
     ghost view = { λ w. w.nodes.items };
 }
 
-/// The watcher at an index, who holds nothing.
+/// Returns the watcher at an index, which holds nothing.
 fn fresh_at(alloc: Global, id: u64, terms: Terms, index: usize) -> WatcherNode
     requires few { index < most_watchers }
     requires length_in_range { IsMatchLength (match_length terms) }
@@ -46,10 +46,10 @@ fn fresh_at(alloc: Global, id: u64, terms: Terms, index: usize) -> WatcherNode
 }
 
 impl Watchers {
-    /// So many watchers, who hold nothing.
+    /// Returns `count` watchers, which hold nothing.
     ///
     /// # Errors
-    /// `Memory` where there is no memory for them, which none at all want.
+    /// `Memory` where there is no memory for them. Where `count` is 0, none is needed.
     pub(crate) fn fresh(
         alloc: Global,
         id: u64,
@@ -68,7 +68,7 @@ impl Watchers {
         Ok(Watchers { nodes })
     }
 
-    /// How many there are.
+    /// Returns the number of watchers.
     pub(crate) fn len(&self) -> usize
         ensures value { result ≡ length self.now }
         ensures few { result ≤ most_watchers }
@@ -76,7 +76,7 @@ impl Watchers {
         self.nodes.len()
     }
 
-    /// The record of the watcher at an index; `None` exactly where there is none.
+    /// Returns the record of the watcher at an index, or `None` exactly where there is none.
     pub(crate) fn held(&self, index: usize) -> Option<&Record>
         ensures { option_copied result ≡ watcher_log (slice_get self.now index) }
     {
@@ -86,7 +86,7 @@ impl Watchers {
         }
     }
 
-    /// The watcher at an index takes what the link gives for this pick.
+    /// Takes what the link gives for this pick, at the watcher with this index.
     pub(crate) fn take<L: Link>(&mut self, link: &mut L, index: usize, pick: u32) -> Outcome
         ensures { WatchersTake L.is_honest (link_view L.Link link.old) self.old index pick
             result (link_view L.Link link.new) self.new }
@@ -97,7 +97,8 @@ impl Watchers {
         node.take(link, pick)
     }
 
-    /// The watcher at an index sends what its core gives. So many parties exist, from 0, the referee among them.
+    /// Sends the packet that the core of the watcher at an index returns. `parties` is the number
+    /// of parties, whose numbers are from 0, the referee among them.
     pub(crate) fn tick<L: Link>(&mut self, link: &mut L, parties: usize, index: usize) -> Outcome
         requires { 1 ≤ parties }
         ensures { WatchersTick L.is_honest parties (link_view L.Link link.old) self.old index
@@ -109,7 +110,7 @@ impl Watchers {
         node.tick(link, parties)
     }
 
-    /// The watcher at an index begins again, with no entry.
+    /// Restarts the watcher at an index, with no entry.
     pub(crate) fn restart(&mut self, alloc: Global, id: u64, terms: Terms, index: usize) -> Outcome
         requires { IsMatchLength (match_length terms) }
         ensures { WatchersRestart id terms self.old index result self.new }

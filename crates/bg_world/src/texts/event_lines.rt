@@ -22,7 +22,7 @@ pub(crate) enum EventKind {
     Restart,
 }
 
-/// The kind whose word a line begins with, and what follows the word and its space.
+/// Returns the kind whose word a line begins with, and what follows the word and its space.
 fn split_kind(line: &[u8]) -> Option<(EventKind, &[u8])>
     ensures { MatchOption result
         ((kind : EventKind) (rest : List ℕ) → line.now ≡ kind_start kind ++ rest → ⊥)
@@ -41,7 +41,7 @@ fn split_kind(line: &[u8]) -> Option<(EventKind, &[u8])>
     }
 }
 
-/// The number of a party, 0 to 255.
+/// Reads the number of a party, 0 to 255.
 fn read_party(word: &[u8]) -> Result<u8, TextFault>
     ensures { IsNumberUpTo greatest_party word.now result }
 {
@@ -51,7 +51,7 @@ fn read_party(word: &[u8]) -> Result<u8, TextFault>
     }
 }
 
-/// A random word, or a pick.
+/// Reads a random word, or a pick.
 fn read_word(word: &[u8]) -> Result<u32, TextFault>
     ensures { IsNumberUpTo greatest_word word.now result }
 {
@@ -61,8 +61,8 @@ fn read_word(word: &[u8]) -> Result<u32, TextFault>
     }
 }
 
-/// The event of three numbers, or the gravest of the faults: another shape of one word comes before a wrong number
-/// in another.
+/// Returns the event of three numbers, or the gravest of the faults. A wrong shape of one word
+/// comes before a wrong number in another.
 fn take_of(
     party: Result<u8, TextFault>,
     pick: Result<u32, TextFault>,
@@ -82,7 +82,7 @@ fn take_of(
     }
 }
 
-/// The event that three numbers write, one space between each two.
+/// Reads the event of three numbers, with one space between each two.
 fn read_take(rest: &[u8]) -> Result<Event, TextFault>
     ensures { IsEventOf (kind_start kind.Take ++ rest.now) result }
 {
@@ -92,7 +92,7 @@ fn read_take(rest: &[u8]) -> Result<Event, TextFault>
     }
 }
 
-/// The choice that a player's letter and the text of his action write.
+/// Reads the choice that a player's letter and the text of the player's action write.
 fn read_choice(rest: &[u8]) -> Result<Event, TextFault>
     ensures { IsEventOf (kind_start kind.Choose ++ rest.now) result }
 {
@@ -105,7 +105,7 @@ fn read_choice(rest: &[u8]) -> Result<Event, TextFault>
     }
 }
 
-/// The event of this kind that the rest of its line writes.
+/// Reads an event of this kind from the rest of its line.
 fn read_rest(kind: EventKind, rest: &[u8]) -> Result<Event, TextFault>
     ensures { IsEventOf (kind_start kind ++ rest.now) result }
 {
@@ -131,7 +131,7 @@ fn read_rest(kind: EventKind, rest: &[u8]) -> Result<Event, TextFault>
     }
 }
 
-/// The event of a line, or what is wrong with the line.
+/// Reads the event of a line, or returns what is wrong with the line.
 fn read_event(line: &[u8]) -> Result<Event, TextFault>
     ensures { IsEventOf line.now result }
 {
@@ -143,15 +143,15 @@ fn read_event(line: &[u8]) -> Result<Event, TextFault>
 
 /// Reads the line of an event, without its line feed (docs/FORMATS.md, "Event lines").
 ///
-/// It is `Ok` exactly on the texts of events, and gives what was written. It takes no memory, and time linear in the
-/// line's length.
+/// It is `Ok` exactly on the texts of events, and returns what was written. It allocates nothing,
+/// and takes time linear in the line's length.
 ///
 /// The whole line is tested for its shape, then for its numbers, then for the count of its steps:
-/// - [`TextFault::NotALine`]: the line has none of the shapes of an event's line. A number of more than ten digits is
-///   of another shape.
-/// - [`TextFault::BadNumber`]: a number has a leading zero before another digit or is out of its range, 0 to 255 for a
-///   party and 0 to 4294967295 for a pick or a word; or a number or a pair of the action is wrong, as
-///   [`parse_action`] says.
+/// - [`TextFault::NotALine`]: the line has none of the shapes of an event's line. A number of more
+///   than ten digits is of another shape.
+/// - [`TextFault::BadNumber`]: a number has a leading zero before another digit, or is out of its
+///   range: 0 to 255 for a party, 0 to 4294967295 for a pick or a word. Or a number or a pair of
+///   the action is wrong, as [`parse_action`] says.
 /// - [`TextFault::TooManySteps`]: a move has more than four pairs.
 pub fn parse_event(line: &[u8]) -> Result<Event, TextFault>
     ensures found { IfOk result (λ event. IsEvent event × (line.now ≡ event_text event)) }
@@ -161,7 +161,7 @@ pub fn parse_event(line: &[u8]) -> Result<Event, TextFault>
     read_event(line)
 }
 
-/// One line is the line of one event: two events with the same line are equal.
+/// States that a line is the line of one event: two events with the same line are equal.
 pub fn event_texts_differ()
     ensures { EventTextsDiffer }
 {}

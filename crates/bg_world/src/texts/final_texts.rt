@@ -1,4 +1,4 @@
-//! What the parties of a world hold in the end.
+//! The records of the parties of a world at the end of a run.
 ghost use Rattle.std.specs.Prelude.{◌≡◌, ◌++◌, List, ℕ, IfOk, OnOk, option_copied};
 ghost use Rattle.bg_text.specs.Boards.BoardText.{line_text};
 ghost use Rattle.bg_world.specs.Texts.FinalText.{IsBoardOf, IsFinalText, held_part, parties_text, party_line};
@@ -11,11 +11,12 @@ use bg_text::{board_text, put_number, put_text};
 use bg_wire::REFEREE;
 use std::alloc::{AllocError, Global};
 
-/// A line for each party of a world, in rising order, and the board of the referee's record where the referee is up
-/// (docs/FORMATS.md, "Final text"). It asks the world's allocator for its room.
+/// Returns a line for each party of a world, in rising order, and the board of the referee's record
+/// where the referee is up (docs/FORMATS.md, "Final text"). It asks the world's allocator for its
+/// room.
 ///
 /// # Errors
-/// AllocError where memory runs out.
+/// `AllocError` where memory runs out.
 pub fn final_text<L: Link, K: Keeper>(world: &World<L, K>) -> Result<Vec<u8>, AllocError>
     ensures { IfOk result (λ text. IsFinalText (view_of L.Link K.Keeper world.now) text.items) }
 {
@@ -47,7 +48,7 @@ fn put_party(out: &mut Vec<u8>, party: u8, held: Option<&Record>) -> Result<(), 
     put_text(out, "\n")
 }
 
-/// Adds how many entries a party holds, or that it is down.
+/// Adds the number of entries that a party holds, or that it is down.
 fn put_held(out: &mut Vec<u8>, held: Option<&Record>) -> Result<(), AllocError>
     ensures { OnOk result (out.new.items ≡ out.old.items ++ held_part (option_copied held.entry)) }
 {

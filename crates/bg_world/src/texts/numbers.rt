@@ -8,10 +8,10 @@ ghost use Rattle.bg_world.specs.Texts.EventLines.{IsNumberUpTo};
 use bg_text::TextFault;
 use itoa::Buffer;
 
-/// The most digits of a number.
+/// The greatest number of digits of a number.
 const MOST_DIGITS: usize = 10;
 
-/// The value of one to ten digits.
+/// Returns the value of one to ten digits.
 fn value_of(word: &[u8]) -> Option<u64>
     ensures { MatchOption result (IsLongNumeral word.now → ⊥)
         (λ value. IsLongNumeral word.now × (value ≡ digits_value 10 word.now)) }
@@ -29,7 +29,7 @@ fn value_of(word: &[u8]) -> Option<u64>
     Some(value)
 }
 
-/// Whether the bytes are the number as it is written.
+/// Returns whether the bytes are the number as it is written.
 fn is_written(word: &[u8], number: u64) -> bool
     ensures { IsTrue result ↔ (word.now ≡ decimal number) }
 {
@@ -37,7 +37,8 @@ fn is_written(word: &[u8], number: u64) -> bool
     digits.format(number).as_bytes() == word
 }
 
-/// The number, up to `most`, that one to ten digits write. A leading zero before another digit is a wrong number.
+/// Reads the number, up to `most`, that one to ten digits write. A leading zero before another
+/// digit is a wrong number.
 pub(crate) fn read_up_to(word: &[u8], most: u64) -> Result<u64, TextFault>
     ensures { IsNumberUpTo most word.now result }
 {

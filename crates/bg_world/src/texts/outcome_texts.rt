@@ -14,10 +14,11 @@ use bg_text::reason_text;
 use bg_wire::{Packet, WireFault};
 use itoa::Buffer;
 
-/// The room of a line.
+/// A line of at most 80 bytes.
 type Line = ArrayString<80>;
 
-/// The line of an outcome, without a line feed (docs/FORMATS.md, "Outcome lines"). It takes no memory.
+/// Returns the line of an outcome, without a line feed (docs/FORMATS.md, "Outcome lines"). It
+/// allocates nothing.
 pub fn outcome_text(outcome: &Outcome) -> ArrayString<80>
     ensures { result.bytes ≡ outcome_text outcome.now }
 {
@@ -41,8 +42,9 @@ pub fn outcome_text(outcome: &Outcome) -> ArrayString<80>
     }
 }
 
-/// Different outcomes have different lines, but where the line names neither the place where memory was wanted, nor
-/// whether the referee or a follower had the packet in hand, nor what the entries of an answer are.
+/// States that different outcomes have different lines, but for what a line leaves out. It names
+/// neither the place where memory was needed, nor whether the referee or a follower had the packet
+/// in hand, nor the entries of an answer.
 pub fn outcome_texts_differ()
     ensures { OutcomeTextsDiffer }
 {}
@@ -56,7 +58,7 @@ fn words(text: &str) -> Line
     line
 }
 
-/// Words, and a number behind them.
+/// Returns words, followed by a number.
 fn numbered(text: &str, number: u64) -> Line
     requires { length text.now ≤ 40 }
     ensures { result.bytes ≡ text.now ++ decimal number }
@@ -67,7 +69,7 @@ fn numbered(text: &str, number: u64) -> Line
     line
 }
 
-/// Words, and a reason behind them.
+/// Returns words, followed by a reason.
 fn reasoned(text: &str, reason: &str) -> Line
     requires text { length text.now ≤ 40 }
     requires reason { length reason.now ≤ 40 }
@@ -107,7 +109,7 @@ fn took_text(took: &TakeOutcome) -> Line
     }
 }
 
-/// The numbers of the first and of the last entry that a packet tells.
+/// Returns the numbers of the first and of the last entry that a packet tells.
 fn told(packet: &Packet) -> Option<(Number, u64)>
     ensures { result ≡ entries_told packet.now }
 {
@@ -180,7 +182,7 @@ fn no_packet_text(fault: WireFault) -> Line
 }
 
 impl RestoreCause {
-    /// Why nothing is restored, in words.
+    /// Returns the reason why nothing is restored, in words.
     fn words(self) -> &'static str
         ensures words { result.now ≡ cause_words self }
         ensures fits { length result.now ≤ 11 }

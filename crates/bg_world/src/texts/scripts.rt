@@ -1,4 +1,4 @@
-//! Scripts: lists of events, and what they come to.
+//! Scripts: lists of events, and their outcomes.
 ghost use Rattle.std.specs.Prelude.{◌≡◌, ◌≢◌, ◌≤◌, ◌++◌, ◌+◌, ℕ, length, List, Err, IfErr, IfOk, IfSome, MatchResult};
 ghost use Rattle.std.specs.Prelude.{OnOk};
 ghost use Rattle.bg_streams.specs.EngineFault.{SinkFails, SourceFails};
@@ -25,7 +25,7 @@ use bg_text::{MOST_BYTES, TextFault, Verdict, put_number, put_text, split_line, 
 use std::alloc::{AllocError, Global};
 use thiserror::Error;
 
-/// What is printed of a script.
+/// The text printed for a script.
 #[derive(Drop)]
 pub(crate) struct Printout {
     pub(crate) text: Vec<u8>,
@@ -40,8 +40,9 @@ fn put_outcome(out: &mut Vec<u8>, outcome: &Outcome) -> Result<(), AllocError>
     put_text(out, "\n")
 }
 
-/// The events of the lines happen, one after the other, and the line of what each comes to is added: how many they are,
-/// or the number of the first line that is no event's, from 1, and why.
+/// Runs the events of the lines, one after the other, and adds the line of the outcome of each.
+/// Returns the number of events, or the number of the first line that is no event's, from 1, and
+/// the reason.
 fn play<L: Link, K: Keeper>(
     out: &mut Vec<u8>,
     world: &mut World<L, K>,
@@ -66,7 +67,7 @@ fn play<L: Link, K: Keeper>(
     Ok(Ok(count))
 }
 
-/// Why a line is no event's, in words.
+/// Returns the reason why a line is no event's, in words.
 fn event_reason(fault: TextFault) -> &'static str
     ensures { result.now ≡ event_reason fault }
 {
@@ -76,7 +77,7 @@ fn event_reason(fault: TextFault) -> &'static str
     }
 }
 
-/// What is printed where a line is refused.
+/// Returns the text printed where a line is refused.
 fn refused_text(alloc: Global, number: u32, fault: TextFault) -> Result<Vec<u8>, AllocError>
     ensures { IfOk result (λ text. text.items ≡ line_text (refused_event_line number fault)) }
 {
@@ -89,7 +90,7 @@ fn refused_text(alloc: Global, number: u32, fault: TextFault) -> Result<Vec<u8>,
     Ok(text)
 }
 
-/// What is printed of a script that this world plays.
+/// Returns the text printed for a script that this world plays.
 fn printed<L: Link, K: Keeper>(
     alloc: Global,
     world: &mut World<L, K>,
@@ -122,7 +123,7 @@ fn printed<L: Link, K: Keeper>(
     }
 }
 
-/// Reads a script, lets this world play it, and writes what is printed.
+/// Reads a script, plays it in this world, and writes the text printed for it.
 fn carry<L: Link, K: Keeper, S: Source, T: Sink>(
     alloc: Global,
     world: &mut World<L, K>,
@@ -146,7 +147,7 @@ fn carry<L: Link, K: Keeper, S: Source, T: Sink>(
     Ok(printed.verdict)
 }
 
-/// Why a script came to no verdict, in the order in which the refusals are tested.
+/// The reason why a script came to no verdict, in the order in which the refusals are tested.
 #[derive(Clone, Copy, Debug, PartialEq, Eq, Error)]
 pub enum ScriptFault {
     /// There is no such world. Nothing was read.
@@ -155,7 +156,7 @@ pub enum ScriptFault {
     Engine(EngineFault),
 }
 
-/// A world where nothing has happened yet, over devices in memory that never fail.
+/// Returns a world where nothing has happened yet, over devices in memory that never fail.
 fn start(alloc: Global, setup: Setup) -> Result<World<MemoryNet, MemoryKeeper>, WorldFault>
     ensures start { IfOk result (λ world. IsStart setup (memory_view world)) }
     ensures refusal { MatchResult result (λ _. IsSetup setup.id (terms_in setup) setup.watchers)
@@ -170,7 +171,8 @@ fn start(alloc: Global, setup: Setup) -> Result<World<MemoryNet, MemoryKeeper>, 
     Ok(world)
 }
 
-/// Reads a script, lets this world over devices in memory play it, and writes what is printed.
+/// Reads a script, plays it in this world over devices in memory, and writes the text printed for
+/// it.
 fn carry_in_memory<S: Source, T: Sink>(
     alloc: Global,
     mut world: World<MemoryNet, MemoryKeeper>,
@@ -191,16 +193,17 @@ fn carry_in_memory<S: Source, T: Sink>(
     carry(alloc, &mut world, source, sink)
 }
 
-/// Plays a script: reads event lines to the end of the input, lets their events happen, in order, to a world where
-/// nothing has happened yet, over devices in memory that never fail, and writes the line of what each came to and then
-/// the final text (docs/FORMATS.md, "Scripts"). Where a line is no event's, that alone is written. Reading, writing
-/// and their limits are those of [`judge`](bg_text::judge). It takes time linear in the input, beside that of the
-/// events.
+/// Plays a script in a new world over devices in memory that never fail (docs/FORMATS.md,
+/// "Scripts"). It reads event lines to the end of the input, and their events happen in order. It
+/// writes the line of each outcome and then the final text. Where a line is no event's, that alone
+/// is written. Reading, writing and their limits are those of [`judge`](bg_text::judge). It takes
+/// time linear in the input, apart from that of the events.
 ///
 /// # Errors
-/// `World` where there is no such world, by the first test that fails of [`World::new`]: nothing was read then.
-/// `Engine`, only where there is one, as of [`judge`](bg_text::judge): Read exactly where the source failed, and Memory
-/// where memory runs out, nothing was written then; Write exactly where the sink failed.
+/// `World` where there is no such world, by the first test that fails of [`World::new`]; nothing
+/// was read then. `Engine`, only where there is such a world, as of [`judge`](bg_text::judge): Read
+/// exactly where the source failed; Memory where memory runs out; Write exactly where the sink
+/// failed. Nothing was written where it is Read or Memory.
 pub fn script<S: Source, T: Sink>(
     alloc: Global,
     source: &mut S,

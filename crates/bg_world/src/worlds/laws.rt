@@ -1,4 +1,5 @@
-//! Laws of the protocol, for whole runs, and of worlds: each is the contract of a function that does nothing.
+//! Laws of the protocol, for whole runs, and of worlds. Each is the contract of a function that
+//! does nothing.
 ghost use Rattle.std.specs.Prelude.{◌≡◌, List, ⊤};
 ghost use Rattle.bg_board.specs.declared.players.Player.{Player};
 ghost use Rattle.bg_world.specs.Promises.Agreement.{Agreement};
@@ -30,87 +31,91 @@ ghost use Rattle.bg_world.specs.declared.worlds.setups.Setup.{Setup};
 
 use crate::{Keeper, Link, MemoryKeeper, MemoryNet, World};
 
-/// After any run every party's record is a prefix of the referee's, the referee's record is a legal match, and
-/// every entry of a seat in it answers the one action that this seat ever claimed under that number. What followers
-/// hold is a prefix of what the referee has saved, and so is what datagrams tell.
+/// States that after any run every party's record is a prefix of the referee's, and the referee's
+/// record is a legal match. Every entry of a seat in it answers the one action that this seat ever
+/// claimed under that number. What followers hold is a prefix of what the referee has saved, and so
+/// is what datagrams tell.
 pub fn parties_agree()
     ensures headline { (w : ProtocolState) → IsReached w → Headline w }
     ensures agreement { (w : ProtocolState) → IsReached w → Agreement w }
 {}
 
-/// After any run a seat has claimed one action under a number, none above the claim that its slots restore, and
-/// that claim at its number.
+/// States that after any run a seat has claimed one action under a number. None is above the claim
+/// that its slots restore, and that claim is the one at its number.
 pub fn claims_are_kept()
     ensures { (w : ProtocolState) (player : Player) → IsReached w →
         AreClaimsKept w.sent player (claim_in (seat_in w player).restorable) }
 {}
 
-/// After any run no datagram ever sent shows an entry that is not saved.
+/// States that after any run no datagram ever sent shows an entry that is not saved.
 pub fn saved_entries_alone_are_shown()
     ensures { (w : ProtocolState) → IsReached w → ShowsSavedAlone w }
 {}
 
-/// After any run no packet that was ever sent is refused for its match, its number, its turn or its rules, and no
-/// slot for its text.
+/// States that after any run no packet that was ever sent is refused for its match, its number, its
+/// turn or its rules. No slot is refused for its text.
 pub fn nothing_is_refused()
     ensures packets { (w : ProtocolState) → IsReached w → IsNoPacketRefused w }
     ensures slots { (w : ProtocolState) → IsReached w → IsNoSlotRefused w }
 {}
 
-/// After any run a save that is written is what the slots restore; after one that is not written they restore what
-/// they did before, or it.
+/// States that after any run a save that is written is what the slots restore. After one that is
+/// not written they restore it, or what they did before.
 pub fn saves_survive()
     ensures { (w : ProtocolState) → IsReached w → SavesSurvive w }
 {}
 
-/// After any run [`restore`](bg_wire::restore) gives the referee and each seat back exactly what their slots restore,
-/// want of memory aside.
+/// States that after any run [`restore`](bg_wire::restore) gives the referee and each seat back
+/// exactly what their slots restore, but for `Memory`.
 pub fn slots_are_given_back()
     ensures { (w : ProtocolState) → IsReached w → AreSlotsGivenBack w }
 {}
 
-/// Over a link that nothing was sent over, and empty slots, a new world is one that a run leads to, and the state of
-/// the protocol that it is in is the start.
+/// States that a new world is one that a run leads to, over a link that nothing was sent over, and
+/// empty slots. The state of the protocol that it is in is the start.
 pub fn new_worlds_are_at_the_start()
     ensures { NewWorldsAreAtTheStart }
 {}
 
-/// Contracts see a world over devices in memory as they see a world over any devices.
+/// States that contracts see a world over devices in memory as they see a world over any devices.
 pub fn memory_is_seen_as_any_device(world: &World<MemoryNet, MemoryKeeper>)
     ensures { memory_view world.now ≡ view_of ⟦<MemoryNet as Link>⟧ ⟦<MemoryKeeper as Keeper>⟧ world.now }
 {}
 
-/// Between the same two worlds an event comes to one outcome: what the referee adds itself, what claims an action or
-/// saves on any devices, and any event over honest devices whose plans are known, from a world that a run leads to,
-/// want of memory aside. So of two lists of outcomes that fit the same calls there is one, where the worlds between
-/// them are the same.
+/// States that an event has one outcome between the same two worlds. This holds on any devices for
+/// what the referee adds itself, what claims an action and what saves. Over honest devices whose
+/// plans are known, from a world that a run leads to, it holds for any event, but for `Memory`. So
+/// of two lists of outcomes that fit the same calls there is one, where the worlds between them are
+/// the same.
 pub fn outcomes_are_fixed<L: Link, K: Keeper>()
     ensures unheard { OutcomesAreFixed L.is_honest K.is_honest }
     ensures all { ComeToOneOutcome L.is_honest K.is_honest }
     ensures lists { ComeToOneList L.is_honest K.is_honest }
 {}
 
-/// Parties that run each in a process of its own (docs/PROTOCOL.md, "Parties in processes of their own"): whatever
-/// calls their nodes make, in any order, over an honest network and honest keepers, they are a run of one world, and
-/// all holds of it that holds of those.
+/// States that parties which run each in a process of its own agree (docs/PROTOCOL.md,
+/// "Parties in processes of their own"). Over an honest network and honest keepers, whatever calls
+/// their nodes make, in any order, are a run of one world. So all holds of them that holds of such
+/// runs.
 pub fn processes_agree()
-    // One call of a node is that event of the world; all else stays.
+    // One call of a node is that event of the world, and all else stays.
     ensures step { (old : WorldView) (event : Event) (outcome : Outcome) (new : WorldView)
         → NodeCalls ⊤ ⊤ old event outcome new → Calls ⊤ ⊤ old event outcome new }
-    // A process that begins is its party's restart, whatever the party held before.
+    // The start of a process is its party's restart, whatever the party held before.
     ensures referee_begins { (old new : RefereeNodeView) (outcome : Outcome)
         → RefereeNodeRestarts ⊤ (fresh_referee_node old.id old.terms old.keeper) outcome new
         → RefereeNodeRestarts ⊤ old outcome new }
     ensures seat_begins { (old new : SeatNodeView) (outcome : Outcome)
         → SeatNodeRestarts ⊤ (fresh_seat_node old.player old.id old.terms old.keeper) outcome new
         → SeatNodeRestarts ⊤ old outcome new }
-    // Any calls, each process with devices of its own where what was sent is common and what was saved stays.
+    // Any calls are a run, where each process has devices of its own, what was sent is common, and
+    // what was saved stays.
     ensures runs { (old : WorldView) (events : List Event) (outcomes : List Outcome) (new : WorldView)
         → Interleaves old events outcomes new → RunsProtocol old events outcomes new }
     ensures upholds { (old : WorldView) (events : List Event) (outcomes : List Outcome) (new : WorldView)
         → IsReachedWorld old → Interleaves old events outcomes new → Upholds new }
-    // From the start of a match, where nothing was sent and all slots are empty; the dice of each roll and opening are
-    // then those of a word that was handed in.
+    // The same from the start of a match, where nothing was sent and all slots are empty. The dice
+    // of each roll and opening are then those of a word that was handed in.
     ensures matches { (setup : Setup) (link : LinkView) (referee x o : KeeperView) (events : List Event)
         (outcomes : List Outcome) (new : WorldView) → IsSetup setup.id (terms_in setup) setup.watchers
         → AreUnused link referee x o → Interleaves (fresh_world setup link referee x o) events outcomes new

@@ -1,4 +1,4 @@
-//! What a world is made of.
+//! The parts from which a world is made.
 ghost use Rattle.std.specs.Prelude.{◌≡◌, ◌≢◌, MatchResult};
 ghost use Rattle.bg_world.specs.Worlds.Starts.{IsWorldFault, terms_in};
 ghost use Rattle.bg_world.specs.Protocol.State.{IsSetup};
@@ -8,10 +8,10 @@ use bg_wire::{FIRST_WATCHER, LAST_WATCHER};
 use std::alloc::{AllocError, AllocFailed};
 use thiserror::Error;
 
-/// The most that may watch a match.
+/// The greatest number of watchers of a match.
 pub const MOST_WATCHERS: u8 = LAST_WATCHER - FIRST_WATCHER + 1;
 
-/// A match that is to be played.
+/// The match to be played.
 #[derive(Clone, Copy, Debug, PartialEq, Eq)]
 pub struct Setup {
     /// The number of the match.
@@ -20,12 +20,12 @@ pub struct Setup {
     pub length: u8,
     /// The rules that it is played by.
     pub rules: Rules,
-    /// How many watch it, at most 253.
+    /// The number of its watchers, at most 253.
     pub watchers: u8,
 }
 
 impl Setup {
-    /// What the players agree on.
+    /// Returns the terms on which the players agree.
     pub(crate) fn terms(self) -> Terms
         ensures { result ≡ terms_in self }
     {
@@ -35,7 +35,7 @@ impl Setup {
         }
     }
 
-    /// Whether a world can be made of it.
+    /// Checks whether a world can be made of it.
     pub(crate) fn check(self) -> Result<(), WorldFault>
         ensures { MatchResult result (λ _. IsSetup self.id (terms_in self) self.watchers)
             (λ fault. (fault ≢ WorldFault.Memory) × IsWorldFault fault self) }
@@ -53,15 +53,15 @@ impl Setup {
 /// The keepers of the parties that save.
 #[derive(Debug, Drop)]
 pub struct Keepers<K> {
-    /// The referee's.
+    /// The keeper of the referee.
     pub referee: K,
-    /// That of the seat of X.
+    /// The keeper of the seat of X.
     pub x: K,
-    /// That of the seat of O.
+    /// The keeper of the seat of O.
     pub o: K,
 }
 
-/// Why there is no world, in the order in which the refusals are tested.
+/// The reason why there is no world, in the order in which the refusals are tested.
 #[derive(Clone, Copy, Debug, PartialEq, Eq, Error)]
 pub enum WorldFault {
     /// More than 253 watch.

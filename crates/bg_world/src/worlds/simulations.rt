@@ -12,7 +12,7 @@ use crate::{Event, Keepers, MemoryKeeper, MemoryNet, Plan, RunReport, Setup, Wor
 use bg_wire::{REFEREE, SEAT_OF_O, SEAT_OF_X};
 use std::alloc::{AllocError, Global};
 
-/// The keeper of a party, with empty slots, whose calls fail by the plan.
+/// Returns the keeper of a party, with empty slots, whose calls fail by the plan.
 fn keeper_of(alloc: Global, party: u8, plan: &Plan) -> Result<MemoryKeeper, AllocError>
     ensures value { IfOk result (λ keeper. memory_keeper_view keeper ≡ unused_keeper party plan.now) }
     ensures memory { OnErr result (IsEmptyPlan plan.now → ⊥) }
@@ -22,7 +22,7 @@ fn keeper_of(alloc: Global, party: u8, plan: &Plan) -> Result<MemoryKeeper, Allo
     Ok(MemoryKeeper::new(alloc, party, tears, reads))
 }
 
-/// A world where nothing has happened yet, over devices in memory that fail by the plan.
+/// Returns a world where nothing has happened yet, over devices in memory that fail by the plan.
 fn world_in_memory(
     alloc: Global,
     setup: Setup,
@@ -42,18 +42,22 @@ fn world_in_memory(
     World::new(alloc, setup, link, keepers)
 }
 
-/// Runs all events, in order, from a world where nothing has happened yet, over devices in memory that fail by the
-/// plan (docs/PROTOCOL.md, "The state and its steps" and "Devices"). It gives the world, and how many events wanted
-/// memory or came to a fault; no outcome ends the run.
+/// Runs all events, in order, from a world where nothing has happened yet, over devices in memory
+/// that fail by the plan (docs/PROTOCOL.md, "The state and its steps" and "Devices"). It returns
+/// the world, and the number of events that needed memory or ended in a fault. No outcome ends the
+/// run.
 ///
-/// After any list of events (deliveries, losses, repeats, reorderings, ticks, failed saves and restarts), every party's
-/// record is a prefix of the referee's; the referee's record is a legal match; every entry of a seat in it answers the
-/// one action that this seat ever claimed under that number; and each event changed the records just as a protocol step
-/// does (docs/PROTOCOL.md, "What all parties together promise"). [`World::held`] gives these records.
+/// After any list of events (deliveries, losses, repeats, reorderings, ticks, failed saves and
+/// restarts), every party's record is a prefix of the referee's; the referee's record is a legal
+/// match; every entry of a seat in it answers the one action that this seat ever claimed under that
+/// number; and each event changed the records just as a protocol step does (docs/PROTOCOL.md,
+/// "What all parties together promise"). [`World::held`] gives these records.
 ///
 /// # Errors
-/// The first that holds: `TooManyWatchers` where more than 253 watch, `LengthOutOfRange` where the length is not from 1
-/// to 99, `Memory` where there is no memory for the watchers or for what the plan says.
+/// The first that holds:
+/// - `TooManyWatchers` where more than 253 watch;
+/// - `LengthOutOfRange` where the length is not from 1 to 99;
+/// - `Memory` where there is no memory for the watchers or for what the plan says.
 pub fn simulate(
     alloc: Global,
     setup: Setup,
@@ -64,9 +68,9 @@ pub fn simulate(
         (λ fault. IsSimulationFault fault setup plan.now) }
     // The calls of each event; they are a run of the protocol.
     ensures simulates { IfOk result (λ ran. Simulates setup plan.now events.now ran.1 (memory_view ran.0)) }
-    // "Every party's record is a prefix of the referee's; the referee's record is a legal match; every entry of a seat
-    // in it answers the one action that this seat ever claimed under that number": over what `held` gives
-    // (`HeadlineHeld`), and over the protocol's state (`Headline`).
+    // "Every party's record is a prefix of the referee's; the referee's record is a legal match;
+    // every entry of a seat in it answers the one action that this seat ever claimed under that
+    // number": over what `held` gives (`HeadlineHeld`), and over the protocol's state (`Headline`).
     ensures upholds { IfOk result (λ ran. Upholds (memory_view ran.0)) }
     // The dice of the match are those of words that the events handed in.
     ensures words { IfOk result (λ ran. IsOfWords events.now (memory_view ran.0)) }

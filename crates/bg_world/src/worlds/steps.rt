@@ -17,10 +17,10 @@ impl<L: Link, K: Keeper> World<L, K> {
     ghost use Rattle.bg_world.specs.Worlds.WorldRuns.{StepsProtocol};
     ghost use Rattle.bg_world.specs.Worlds.WorldState.{IsReachedWorld};
 
-    /// One event, as one atomic step (docs/PROTOCOL.md, "The state and its steps"): what happens at one party, and what
-    /// it comes to. On any devices it makes exactly the calls of the link, of a keeper and of a core that the event
-    /// asks for: where there is no such party, or it is down, none. It takes no memory but for what is sent, kept or
-    /// saved.
+    /// Runs one event, as one atomic step (docs/PROTOCOL.md, "The state and its steps"), and
+    /// returns its outcome. On any devices it makes exactly the calls of the link, of a keeper and
+    /// of a core that the event asks for. Where there is no such party, or it is down, it makes
+    /// none. It allocates only for what is sent, kept or saved.
     pub fn step(&mut self, event: Event) -> Outcome
         ensures calls { Calls L.is_honest K.is_honest (view_of L.Link K.Keeper self.old) event
             result (view_of L.Link K.Keeper self.new) }
@@ -34,7 +34,7 @@ impl<L: Link, K: Keeper> World<L, K> {
         self.happen(event)
     }
 
-    /// The calls of an event.
+    /// Makes the calls of an event.
     pub(crate) fn happen(&mut self, event: Event) -> Outcome
         ensures { Calls L.is_honest K.is_honest (view_of L.Link K.Keeper self.old) event
             result (view_of L.Link K.Keeper self.new) }
@@ -49,14 +49,14 @@ impl<L: Link, K: Keeper> World<L, K> {
         }
     }
 
-    /// The referee opens a game, or passes a turn.
+    /// Opens a game at the referee, or passes a turn.
     fn due(&mut self, word: u32) -> Outcome
         ensures { DueCalls (view_of L.Link K.Keeper self.old) word result (view_of L.Link K.Keeper self.new) }
     {
         self.referee.due(word)
     }
 
-    /// A seat claims what its player chooses.
+    /// Claims what a player chooses, at the player's seat.
     fn choose(&mut self, player: Player, action: Action) -> Outcome
         ensures { ChooseCalls (view_of L.Link K.Keeper self.old) player action
             result (view_of L.Link K.Keeper self.new) }
@@ -64,7 +64,7 @@ impl<L: Link, K: Keeper> World<L, K> {
         self.seats.of_mut(player).choose(action)
     }
 
-    /// A party takes what the link gives for this pick.
+    /// Takes what the link gives for this pick, at a party.
     fn take(&mut self, party: u8, pick: u32, word: u32) -> Outcome
         ensures { TakeCalls L.is_honest (view_of L.Link K.Keeper self.old) (role party) party pick word
             result (view_of L.Link K.Keeper self.new) }
@@ -84,7 +84,7 @@ impl<L: Link, K: Keeper> World<L, K> {
         self.seats.of_mut(player).take(&mut self.link, pick)
     }
 
-    /// A party sends what its core gives.
+    /// Sends what a party's core returns.
     fn tick(&mut self, party: u8) -> Outcome
         ensures { TickCalls L.is_honest (view_of L.Link K.Keeper self.old) (role party)
             result (view_of L.Link K.Keeper self.new) }
@@ -105,7 +105,7 @@ impl<L: Link, K: Keeper> World<L, K> {
         self.seats.of_mut(player).tick(&mut self.link, parties)
     }
 
-    /// A party saves.
+    /// Saves what a party holds.
     fn save(&mut self, party: u8) -> Outcome
         ensures { SaveCalls K.is_honest (view_of L.Link K.Keeper self.old) (role party)
             result (view_of L.Link K.Keeper self.new) }
@@ -124,7 +124,7 @@ impl<L: Link, K: Keeper> World<L, K> {
         self.seats.of_mut(player).save()
     }
 
-    /// A party begins again.
+    /// Restarts a party.
     fn restart(&mut self, party: u8) -> Outcome
         ensures { RestartCalls K.is_honest (view_of L.Link K.Keeper self.old) (role party) party
             result (view_of L.Link K.Keeper self.new) }
