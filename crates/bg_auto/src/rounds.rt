@@ -11,7 +11,7 @@ ghost use Rattle.bg_world.specs.declared.events.Outcome.{Outcome as AnOutcome};
 use crate::auto_actions::auto_action;
 use crate::dice_attempts::{DiceAttempts, entries_of};
 use crate::loop_faults::{LoopFault, ends_match};
-use crate::onlookers::{NoOnlooker, Onlooker, party_at};
+use crate::observers::{NoObserver, Observer, party_at};
 use crate::round_schedule::{FIRST, Part, ROUND, WATCHERS, follow_up};
 use bg_board::Player;
 use bg_match::Rules;
@@ -66,7 +66,7 @@ pub fn run_rounds<L: Link + Drop, K: Keeper + Drop, W: Sink>(
         link,
         keepers,
         output,
-        &mut NoOnlooker,
+        &mut NoObserver,
     )
 }
 
@@ -74,7 +74,7 @@ pub fn run_rounds<L: Link + Drop, K: Keeper + Drop, W: Sink>(
 ///
 /// # Errors
 /// The same as those of [`run_rounds`].
-pub fn play_rounds<L: Link + Drop, K: Keeper + Drop, W: Sink, O: Onlooker>(
+pub fn play_rounds<L: Link + Drop, K: Keeper + Drop, W: Sink, O: Observer>(
     alloc: Global,
     seed: u64,
     length: u8,
@@ -83,14 +83,14 @@ pub fn play_rounds<L: Link + Drop, K: Keeper + Drop, W: Sink, O: Onlooker>(
     link: L,
     keepers: Keepers<K>,
     output: &mut W,
-    onlooker: &mut O,
+    observer: &mut O,
 ) -> Result<(), LoopFault>
     ensures { IsRoundsResult W.Sink L.is_honest K.is_honest (setup_of seed length rules)
         (start_moment (setup_of seed length rules) (link_view L.Link link) (keeper_view K.Keeper keepers.referee)
         (keeper_view K.Keeper keepers.x) (keeper_view K.Keeper keepers.o)) rounds result output.old output.new }
 {
     let mut played = Rounds::new(alloc, seed, length, rules, link, keepers)?;
-    played.run(rounds, onlooker)?;
+    played.run(rounds, observer)?;
     played.finish(output)
 }
 
@@ -135,35 +135,35 @@ impl<L: Link + Drop, K: Keeper + Drop> Rounds<L, K> {
     }
 
     /// Plays `rounds` rounds, from the start.
-    fn run<O: Onlooker>(&mut self, rounds: u32, onlooker: &mut O) -> Result<(), LoopFault>
+    fn run<O: Observer>(&mut self, rounds: u32, observer: &mut O) -> Result<(), LoopFault>
         ensures played { OnOk result (PlaysParts L.is_honest K.is_honest (moment_of L.Link K.Keeper self.old)
             (match_parts rounds) (moment_of L.Link K.Keeper self.new)) }
         ensures stopped { IfErr result (StopsIn L.is_honest K.is_honest (moment_of L.Link K.Keeper self.old)
             (match_parts rounds)) }
     {
-        self.play_all(&FIRST, onlooker)?;
+        self.play_all(&FIRST, observer)?;
         for done in 0..rounds {
-            self.play_all(&ROUND, onlooker)?;
-            onlooker.played(done + 1);
+            self.play_all(&ROUND, observer)?;
+            observer.played(done + 1);
         }
         Ok(())
     }
 
     /// Plays these parts, in order.
-    fn play_all<O: Onlooker>(&mut self, parts: &[Part], onlooker: &mut O) -> Result<(), LoopFault>
+    fn play_all<O: Observer>(&mut self, parts: &[Part], observer: &mut O) -> Result<(), LoopFault>
         ensures played { OnOk result (PlaysParts L.is_honest K.is_honest (moment_of L.Link K.Keeper self.old)
             parts.now (moment_of L.Link K.Keeper self.new)) }
         ensures stopped { IfErr result (StopsIn L.is_honest K.is_honest (moment_of L.Link K.Keeper self.old)
             parts.now) }
     {
         for part in parts {
-            self.play(*part, onlooker)?;
+            self.play(*part, observer)?;
         }
         Ok(())
     }
 
     /// Plays a part.
-    fn play<O: Onlooker>(&mut self, part: Part, onlooker: &mut O) -> Result<(), LoopFault>
+    fn play<O: Observer>(&mut self, part: Part, observer: &mut O) -> Result<(), LoopFault>
         ensures played { OnOk result (PlaysPart L.is_honest K.is_honest (moment_of L.Link K.Keeper self.old) part
             (moment_of L.Link K.Keeper self.new)) }
         ensures stopped { IfErr result (StopsAt L.is_honest K.is_honest (moment_of L.Link K.Keeper self.old) part) }
@@ -171,9 +171,9 @@ impl<L: Link + Drop, K: Keeper + Drop> Rounds<L, K> {
         let Some(event) = self.event(part)? else {
             return Ok(());
         };
-        let outcome = self.happen(event, onlooker)?;
+        let outcome = self.happen(event, observer)?;
         if let Some(next) = follow_up(part, &outcome) {
-            self.happen(next, onlooker)?;
+            self.happen(next, observer)?;
         }
         Ok(())
     }
@@ -226,7 +226,7 @@ impl<L: Link + Drop, K: Keeper + Drop> Rounds<L, K> {
     ///
     /// # Errors
     /// `Stopped` where its outcome ends the match.
-    fn happen<O: Onlooker>(&mut self, event: Event, onlooker: &mut O) -> Result<Outcome, LoopFault>
+    fn happen<O: Observer>(&mut self, event: Event, observer: &mut O) -> Result<Outcome, LoopFault>
         ensures happens { IfOk result (λ outcome. Happens L.is_honest K.is_honest (moment_of L.Link K.Keeper self.old)
             event outcome (moment_of L.Link K.Keeper self.new) × (ends outcome ≡ false)) }
         ensures stopped { IfErr result (λ why. (outcome : AnOutcome) × (why ≡ LoopFault.Stopped outcome)
@@ -235,7 +235,7 @@ impl<L: Link + Drop, K: Keeper + Drop> Rounds<L, K> {
     {
         let outcome = self.attempts.step(&mut self.world, event.copy());
         let held = entries_of(self.world.held(party_at(&event)));
-        onlooker.happened(&event, &outcome, held);
+        observer.happened(&event, &outcome, held);
         if ends_match(&outcome) {
             return Err(LoopFault::Stopped(outcome));
         }

@@ -11,7 +11,7 @@ ghost use Rattle.bg_world.specs.Protocol.State.{IsSetup};
 
 use crate::dice_attempts::DiceAttempts;
 use crate::kept_words::KeptWord;
-use crate::onlookers::{NoOnlooker, Onlooker};
+use crate::observers::{NoObserver, Observer};
 use crate::schedule::event_of;
 use crate::simulation::Simulation;
 use crate::words::{event_words, next_event_words, schedule_from};
@@ -88,7 +88,7 @@ impl Simulation {
     ///
     /// # Errors
     /// `AllocError` where memory ran out: the match can't go on.
-    fn run<O: Onlooker>(&mut self, steps: u32, onlooker: &mut O) -> Result<(), AllocError>
+    fn run<O: Observer>(&mut self, steps: u32, observer: &mut O) -> Result<(), AllocError>
         ensures { OnOk result (Runs steps self.old self.new) }
     {
         let mut schedule = schedule_from(self.seed, 0);
@@ -96,21 +96,21 @@ impl Simulation {
         for index in 0..steps {
             let word = kept.word_for(self.dice);
             self.happen(word, next_event_words(&mut schedule))?;
-            onlooker.played(index + 1);
+            observer.played(index + 1);
         }
         Ok(())
     }
 
     /// Returns the text after `steps` events.
-    fn text_after<O: Onlooker>(
+    fn text_after<O: Observer>(
         &mut self,
         steps: u32,
-        onlooker: &mut O,
+        observer: &mut O,
     ) -> Result<Vec<u8>, AllocError>
         ensures runs { OnOk result (Runs steps self.old self.new) }
         ensures printed { IfOk result (λ text. IsPrinted (memory_view self.new.world) text.items) }
     {
-        self.run(steps, onlooker)?;
+        self.run(steps, observer)?;
         self.text()
     }
 
@@ -161,7 +161,7 @@ pub fn sim_text(
     ensures refusal { MatchResult result (λ _. IsSetup seed (terms_of length rules) watchers)
         (λ fault. IsSimFault fault (setup_of seed length rules watchers)) }
 {
-    play_sim(alloc, seed, length, rules, watchers, steps, &mut NoOnlooker)
+    play_sim(alloc, seed, length, rules, watchers, steps, &mut NoObserver)
 }
 
 /// Returns the same text as [`sim_text`], with an observer. It is told the number of events played,
@@ -169,14 +169,14 @@ pub fn sim_text(
 ///
 /// # Errors
 /// The same as those of [`sim_text`].
-pub fn play_sim<O: Onlooker>(
+pub fn play_sim<O: Observer>(
     alloc: Global,
     seed: u64,
     length: u8,
     rules: Rules,
     watchers: u8,
     steps: u32,
-    onlooker: &mut O,
+    observer: &mut O,
 ) -> Result<Vec<u8>, ScriptFault>
     ensures text { IfOk result (λ text. IsSimText seed length rules watchers steps text.items) }
     ensures refusal { MatchResult result (λ _. IsSetup seed (terms_of length rules) watchers)
@@ -186,7 +186,7 @@ pub fn play_sim<O: Onlooker>(
         Ok(simulation) => simulation,
         Err(fault) => return Err(ScriptFault::World(fault)),
     };
-    match simulation.text_after(steps, onlooker) {
+    match simulation.text_after(steps, observer) {
         Ok(text) => Ok(text),
         Err(AllocError) => Err(ScriptFault::Engine(EngineFault::Memory)),
     }

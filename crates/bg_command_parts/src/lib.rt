@@ -1,30 +1,30 @@
-//! The common parts of the commands that run one party. They are its socket, the onlooker that
+//! The common parts of the commands that run one party. They are its socket, the observer that
 //! reports failed devices, its log, and the messages where the party can't continue. For the
 //! commands of a program.
 //!
 //! ```
 //! // A party that can't save is down, and why is said on the standard error.
 //! assert!(rt; stopped(&rt, &Outcome::SavesSpent) == Ending::Failed);
-//! // Where nothing has failed, a witness has nothing to say.
+//! // Where nothing has failed, a reporter has nothing to say.
 //! let failures = Failures::new();
-//! Witness::new(&rt, &failures, folder).say_failures();
+//! FailureReporter::new(&rt, &failures, folder).say_failures();
 //! ```
 #![tactic(auto)]
 
+mod failure_reporters;
 mod logbooks;
 mod operators;
 mod others_saves;
 mod results;
 mod silences;
 mod sockets;
-mod witnesses;
 mod words;
 
+pub use failure_reporters::{FailureReporter, is_out_of_step};
 pub use logbooks::Logbook;
 pub use operators::Operator;
 pub use others_saves::{check_seat_folder, say_whose_saves};
 pub use results::{GameResult, MatchResult, Results};
 pub use silences::Silence;
 pub use sockets::{no_socket, socket_of};
-pub use witnesses::{Witness, is_out_of_step};
-pub use words::{stopped, tell_word};
+pub use words::{stopped, tell_liveness};

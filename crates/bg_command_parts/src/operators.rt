@@ -1,7 +1,7 @@
 //! The messages to the operator of a match over sockets and files, while it is played.
 
-use crate::witnesses::Witness;
-use bg_auto::{Onlooker, party_at};
+use crate::failure_reporters::FailureReporter;
+use bg_auto::{Observer, party_at};
 use bg_console::{Progress, say_number};
 use bg_match::Number;
 use bg_processes::Failures;
@@ -30,7 +30,7 @@ pub struct Operator<'a, R> {
     rounds: u32,
     /// Number of entries that the referee last held.
     referee: Number,
-    witness: Witness<'a, R>,
+    reporter: FailureReporter<'a, R>,
     saves: [Saves; SAVING],
 }
 
@@ -49,7 +49,7 @@ impl<'a, R: Clock + Eprint> Operator<'a, R> {
             progress,
             rounds,
             referee: 0,
-            witness: Witness::new(rt, failures, folder),
+            reporter: FailureReporter::new(rt, failures, folder),
             saves: [Saves::Untried; SAVING],
         }
     }
@@ -57,7 +57,7 @@ impl<'a, R: Clock + Eprint> Operator<'a, R> {
     /// Finishes, as the match is over. Reports the failures of devices that were not reported yet,
     /// and names the parties whose saves all failed.
     pub fn end(&self) {
-        self.witness.say_failures();
+        self.reporter.say_failures();
         for (party, saves) in self.saves.iter().enumerate() {
             if *saves == Saves::Failed {
                 say_number(self.rt, "no save of party ", party as u64, " succeeded");
@@ -81,16 +81,16 @@ impl<'a, R: Clock + Eprint> Operator<'a, R> {
     fn restarted(&mut self, party: u8, held: Number) {
         if held > self.referee {
             let referee = self.referee;
-            self.witness.warn(format_args!(
+            self.reporter.warn(format_args!(
                 "party {party} has {held} entries saved, the referee {referee}"
             ));
         }
     }
 }
 
-impl<'a, R: Clock + Eprint> Onlooker for Operator<'a, R> {
+impl<'a, R: Clock + Eprint> Observer for Operator<'a, R> {
     fn happened(&mut self, event: &Event, outcome: &Outcome, held: Option<Number>) {
-        self.witness.say_failures();
+        self.reporter.say_failures();
         let party = party_at(event);
         if party == REFEREE {
             self.referee = held.unwrap_or_default();
@@ -100,7 +100,7 @@ impl<'a, R: Clock + Eprint> Onlooker for Operator<'a, R> {
             Event::Restart { party: _ } => self.restarted(party, held.unwrap_or_default()),
             _ => {}
         }
-        self.witness.saw(event, outcome);
+        self.reporter.saw(event, outcome);
     }
 
     fn played(&mut self, done: u32) {

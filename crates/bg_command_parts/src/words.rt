@@ -2,7 +2,7 @@
 
 use crate::silences::Silence;
 use bg_console::{failed_barely, say};
-use bg_processes::{MatchFile, Word};
+use bg_processes::{LivenessChange, MatchFile};
 use bg_reports::Ending;
 use bg_world::{Outcome, outcome_text};
 use std::fs::File;
@@ -16,13 +16,13 @@ pub fn stopped(rt: &impl Eprint, outcome: &Outcome) -> Ending {
 
 /// Reports on the standard error whether the referee of a match is heard of, where that has changed
 /// and somebody watches.
-pub fn tell_word<R>(rt: &R, table: &MatchFile, word: Option<Word>, is_watched: bool)
+pub fn tell_liveness<R>(rt: &R, table: &MatchFile, word: Option<LivenessChange>, is_watched: bool)
 where
     R: Files<File = File> + Eprint + AllocGlobal,
 {
     match word {
-        Some(Word::Silent) if is_watched => {
-            let (silent, why) = (Word::Silent, Silence::of(rt, table));
+        Some(LivenessChange::Silent) if is_watched => {
+            let (silent, why) = (LivenessChange::Silent, Silence::of(rt, table));
             say(rt, format_args!("{silent}: {why}"));
         }
         Some(heard) if is_watched => say(rt, heard),

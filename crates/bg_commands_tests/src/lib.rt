@@ -13,7 +13,7 @@ mod folders;
 #[cfg(test)]
 mod kept_output;
 #[cfg(test)]
-mod onlookers;
+mod observers;
 #[cfg(test)]
 mod operators;
 #[cfg(test)]

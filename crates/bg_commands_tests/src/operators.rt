@@ -1,7 +1,7 @@
 //! What the operator of a match over sockets and files is told.
 use crate::folders::new_folder;
 use crate::kept_output::KeptOutput;
-use bg_auto::Onlooker;
+use bg_auto::Observer;
 use bg_command_parts::Operator;
 use bg_console::Progress;
 use bg_match::{EntryFault, Number, Rules};

@@ -1,8 +1,8 @@
 //! The lines of use of the libraries of commands and of processes, run (`tools/checks/check_uses` compares them).
 use crate::folders::new_folder;
-use bg_auto::NoOnlooker;
+use bg_auto::NoObserver;
 use bg_board::{Die, Player};
-use bg_command_parts::{Witness, stopped};
+use bg_command_parts::{FailureReporter, stopped};
 use bg_console::{Progress, Telling, check_folder};
 use bg_file_commands::show;
 use bg_match::{Entry, Record, Rules};
@@ -75,9 +75,9 @@ fn a_party_stops(rt: HostRuntime) -> Result<(), Fail> {
     // bg_command_parts
     // A party that can't save is down, and why is said on the standard error.
     assert!(rt; stopped(&rt, &Outcome::SavesSpent) == Ending::Failed);
-    // Where nothing has failed, a witness has nothing to say.
+    // Where nothing has failed, a reporter has nothing to say.
     let failures = Failures::new();
-    Witness::new(&rt, &failures, folder).say_failures();
+    FailureReporter::new(&rt, &failures, folder).say_failures();
     // end
     Ok(())
 }
@@ -131,7 +131,7 @@ fn processes(rt: HostRuntime) -> Result<(), Fail> {
     let (mut referee, outcome) = begun;
     assert!(rt; outcome == Outcome::Restarted);
     // A round opens the game, and saves that. Between two of them a process waits (`Waiting`, `Ticking`).
-    assert!(rt; referee.round(true, &mut NoOnlooker) == Ok(Going::On));
+    assert!(rt; referee.round(true, &mut NoObserver) == Ok(Going::On));
     assert!(rt; !read_saved(&rt, format!(in alloc; "{folder}/party-0.1")?.as_str())?.is_empty());
     assert!(rt; failures.drain().next().is_none());
     // end

@@ -4,7 +4,7 @@ use bg_console::{no_memory, say, unread};
 use bg_mat::import_mat;
 use bg_match::{Record, Rules};
 use bg_reports::{Ending, said_of_import_fault, said_of_transcript_fault};
-use bg_text::{MOST_BYTES, Verdict, read_transcript};
+use bg_text::{MAX_INPUT, Verdict, read_transcript};
 use std::alloc::{AllocError, Global};
 use std::io;
 use std::io::Read;
@@ -21,7 +21,7 @@ const MATCH_FILE: &str = "the match file";
 /// Reads the bytes of an input, up to the limit of what is judged, and one more of a longer one.
 pub(crate) fn read_input(alloc: Global, input: impl Read + Drop) -> io::Result<Vec<u8>> {
     let mut bytes = Vec::new(alloc);
-    input.take(MOST_BYTES as u64 + 1).read_to_end(&mut bytes)?;
+    input.take(MAX_INPUT as u64 + 1).read_to_end(&mut bytes)?;
     Ok(bytes)
 }
 

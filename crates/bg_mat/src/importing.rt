@@ -21,7 +21,7 @@ use crate::rows::{Row, read_row};
 use crate::{ImportFault, MatFault};
 use bg_board::Player;
 use bg_match::{LONGEST_MATCH, LengthFault, Record, Rules};
-use bg_text::{MOST_BYTES, split_line};
+use bg_text::{MAX_INPUT, split_line};
 use std::alloc::Global;
 
 /// A match file as a record.
@@ -51,7 +51,7 @@ pub fn import_mat(
     ensures too_long { (result ≡ Err ImportFault.TooLong) ↔ (most_bytes < length input.now) }
     ensures refused { IfErr result (IsRefusal id rules (lines_of input.now)) }
 {
-    if input.len() > MOST_BYTES {
+    if input.len() > MAX_INPUT {
         return Err(ImportFault::TooLong);
     }
     match read_file(alloc, id, rules, input) {

@@ -1,6 +1,6 @@
 //! The command that runs the referee of a match.
 
-use bg_command_parts::{Logbook, Witness, say_whose_saves, socket_of, stopped};
+use bg_command_parts::{FailureReporter, Logbook, say_whose_saves, socket_of, stopped};
 use bg_console::{
     Progress, check_folder, check_writable, failed_at, has_key_secret, key_files_of, lock_of,
     match_of, no_memory, say_failures, tell_if_open, waited, waiting_for, wrong,
@@ -38,7 +38,7 @@ where
         return Err(Ending::Failed);
     };
     let mut logbook = Logbook::begin(rt, is_quiet, REFEREE, &file, record);
-    let witness = Witness::new(rt, &failures, folder);
+    let reporter = FailureReporter::new(rt, &failures, folder);
     let progress = if is_quiet {
         Progress::start(rt, false)
     } else {
@@ -49,7 +49,7 @@ where
         process,
         waiting,
         ticking,
-        witness,
+        reporter,
         &mut logbook,
         progress,
     );
@@ -129,7 +129,7 @@ fn serve<R>(
     process: Referee<'_, R>,
     waiting: Waiting,
     ticking: Ticking,
-    witness: Witness<'_, R>,
+    reporter: FailureReporter<'_, R>,
     logbook: &mut Logbook<'_, R>,
     progress: Progress,
 ) -> Result<Ending, Ending>
@@ -137,16 +137,16 @@ where
     R: Net + Files<File = File> + Clock + Eprint + AllocGlobal,
 {
     let (mut process, mut waiting, mut ticking) = (process, waiting, ticking);
-    let (mut witness, mut progress) = (witness, progress);
+    let (mut reporter, mut progress) = (reporter, progress);
     let mut told: Number = 0;
     for _ in 0..u64::MAX {
         let (_, tick) = waited(rt, ticking.next_round(rt, &mut waiting))?;
-        match process.round(tick, &mut witness) {
+        match process.round(tick, &mut reporter) {
             Ok(Going::On) => {}
             Ok(Going::Over) => return Ok(Ending::Served),
             Err(outcome) => return Err(stopped(rt, &outcome)),
         }
-        witness.check_files()?;
+        reporter.check_files()?;
         logbook.after_round(process.link(), process.held(), tick);
         let held = match process.held() {
             Some(record) => record.len(),

@@ -1,6 +1,6 @@
 //! The command that plays an automatic match in memory.
 
-use bg_auto::{Onlooker, play_sim};
+use bg_auto::{Observer, play_sim};
 use bg_console::{Progress, failed, print_text};
 use bg_match::Number;
 use bg_options::SimOptions;
@@ -20,7 +20,7 @@ struct Operator<'a, R> {
     steps: u32,
 }
 
-impl<'a, R: Clock + Eprint> Onlooker for Operator<'a, R> {
+impl<'a, R: Clock + Eprint> Observer for Operator<'a, R> {
     fn happened(&mut self, _event: &Event, _outcome: &Outcome, _held: Option<Number>) {}
 
     fn played(&mut self, done: u32) {

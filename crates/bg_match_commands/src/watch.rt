@@ -8,14 +8,14 @@ mod showing;
 
 use crate::watch::live_boards::LiveBoard;
 use crate::watch::showing::{Lines, Showing};
-use bg_command_parts::{Logbook, Witness, no_socket};
+use bg_command_parts::{FailureReporter, Logbook, no_socket};
 use bg_console::{
     MatchBeside, Outputs, Published, Telling, Terminal, failed, key_file_of, matches_beside,
     title_of, waited, waiting_for, wrong, wrong_at,
 };
 use bg_options::WatchOptions;
 use bg_processes::{
-    Failures, Going, Hearing, Keyring, MatchFile, PartySocket, Ticking, Waiting, WatcherProcess,
+    Failures, Going, Keyring, Liveness, MatchFile, PartySocket, Ticking, Waiting, WatcherProcess,
 };
 use bg_reports::Ending;
 use bg_seals::Key;
@@ -78,7 +78,7 @@ where
             rt,
             telling: Telling::new(),
             // A watcher has no file as a device, and so no folder to name.
-            witness: Witness::new(rt, &failures, ""),
+            reporter: FailureReporter::new(rt, &failures, ""),
             table: file.table,
             is_quiet,
             is_watched,
@@ -199,13 +199,13 @@ where
 {
     let (mut process, mut waiting, mut ticking) = (process, waiting, ticking);
     let mut published = published;
-    let mut hearing = Hearing::new(rt);
+    let mut liveness = Liveness::new(rt);
     for _ in 0..u64::MAX {
         let (_, tick) = waited(rt, ticking.next_round(rt, &mut waiting))?;
         let going = process.round(tick, showing);
-        let word = hearing.after_round(rt, process.link(), tick);
+        let word = liveness.after_round(rt, process.link(), tick);
         let is_heard = process.link().heard() > 0;
-        showing.tell_word(word, is_heard);
+        showing.tell_liveness(word, is_heard);
         // A watcher at a terminal is told sooner whether the referee is heard.
         logbook.after_round(process.link(), Some(process.held()), tick && !is_watched);
         let news = showing.go_on(process.held(), word, is_heard)?;

@@ -15,7 +15,7 @@
 //! let (mut referee, outcome) = begun;
 //! assert!(rt; outcome == Outcome::Restarted);
 //! // A round opens the game, and saves that. Between two of them a process waits (`Waiting`, `Ticking`).
-//! assert!(rt; referee.round(true, &mut NoOnlooker) == Ok(Going::On));
+//! assert!(rt; referee.round(true, &mut NoObserver) == Ok(Going::On));
 //! assert!(rt; !read_saved(&rt, format!(in alloc; "{folder}/party-0.1")?.as_str())?.is_empty());
 //! assert!(rt; failures.drain().next().is_none());
 //! ```
@@ -41,7 +41,7 @@ pub use processes::rounds::{Going, MOST_PARTIES};
 pub use processes::seat::SeatProcess;
 pub use processes::watcher::WatcherProcess;
 pub use sockets::attendance::{Attendance, Change};
-pub use sockets::hearing::{Hearing, Word};
+pub use sockets::liveness::{Liveness, LivenessChange};
 pub use sockets::opponents::{Opponent, OpponentChange};
 pub use sockets::party_sockets::PartySocket;
 pub use sockets::udp_links::UdpLink;

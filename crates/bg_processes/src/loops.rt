@@ -4,7 +4,7 @@ ghost use Rattle.bg_processes.specs.LoopResults.{IsLoopResult};
 
 use crate::files::file_keepers::FileKeeper;
 use crate::sockets::udp_links::UdpLink;
-use bg_auto::{LoopFault, NoOnlooker, Onlooker, PARTIES, play_rounds};
+use bg_auto::{LoopFault, NoObserver, Observer, PARTIES, play_rounds};
 use bg_match::Rules;
 use bg_streams::Sink;
 use bg_system::Failures;
@@ -43,13 +43,13 @@ pub fn run_loop<R: Net + Files<File = File> + AllocGlobal, W: Sink>(
         folder,
         failures,
         output,
-        &mut NoOnlooker,
+        &mut NoObserver,
     )
 }
 
-/// Plays as [`run_loop`] does, with an onlooker. When the onlooker is told of an event, `failures`
+/// Plays as [`run_loop`] does, with an observer. When the observer is told of an event, `failures`
 /// holds the failed calls of devices in it.
-pub fn play_loop<R, W: Sink, O: Onlooker>(
+pub fn play_loop<R, W: Sink, O: Observer>(
     rt: &R,
     seed: u64,
     length: u8,
@@ -58,7 +58,7 @@ pub fn play_loop<R, W: Sink, O: Onlooker>(
     folder: &str,
     failures: &Failures,
     output: &mut W,
-    onlooker: &mut O,
+    observer: &mut O,
 ) -> Result<(), LoopFault>
 where
     R: Net + Files<File = File> + AllocGlobal,
@@ -79,6 +79,6 @@ where
         link,
         keepers,
         output,
-        onlooker,
+        observer,
     )
 }

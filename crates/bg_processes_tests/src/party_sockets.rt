@@ -4,7 +4,7 @@ use crate::helpers::party_scripts::Step::{
     Asks, CantSend, Clock, Heard, Rebinds, Sends, Strays, Takes, TakesNothing, TakesNothingAs,
 };
 use crate::helpers::party_scripts::{SetClock, Sockets, Step};
-use bg_processes::{Attendance, Change, Failures, Hearing, Ticking, Waiting, Word};
+use bg_processes::{Attendance, Change, Failures, Liveness, LivenessChange, Ticking, Waiting};
 use bg_world::Link;
 use std::io::ErrorKind;
 use std::process::Abort;
@@ -146,10 +146,10 @@ const NOT_HEARD: [Step<'static>; 30] = [
 ];
 
 /// What is said of the referee, who is away from tick 10 to tick 50, ten of which are a second.
-fn said_at(tick: u32) -> Option<Word> {
+fn said_at(tick: u32) -> Option<LivenessChange> {
     match tick {
-        31 => Some(Word::Silent),
-        50 => Some(Word::HeardAgain),
+        31 => Some(LivenessChange::Silent),
+        50 => Some(LivenessChange::HeardAgain),
         _ => None,
     }
 }
@@ -163,14 +163,14 @@ fn take<L: Link>(rt: &impl Abort, link: &mut L, party: u8) {
 fn silence_of_the_referee(rt: HostRuntime) {
     let (clock, failures) = (SetClock::new(), Failures::new());
     let mut sockets = Sockets::new(&rt, &clock, &failures);
-    let mut hearing = Hearing::new(&clock);
+    let mut liveness = Liveness::new(&clock);
     for tick in 0..100u32 {
         clock.milliseconds.set(u64::from(tick) * 100);
         if !(10..50).contains(&tick) {
             take(&rt, sockets.of(0), 0);
         }
         take(&rt, sockets.of(1), 1);
-        let word = hearing.after_round(&clock, sockets.of(1), true);
+        let word = liveness.after_round(&clock, sockets.of(1), true);
         assert!(rt; word == said_at(tick), "tick {tick}");
     }
 }

@@ -6,7 +6,7 @@ use crate::helpers::party_scripts::sends;
 use crate::helpers::played_loops::{SEED, SHORT, played};
 use crate::helpers::stand_ins::StandIn;
 use crate::helpers::told_failures::told;
-use bg_auto::{LoopFault, Onlooker, PARTIES, play_rounds};
+use bg_auto::{LoopFault, Observer, PARTIES, play_rounds};
 use bg_match::{Number, Rules};
 use bg_processes::{Failures, UdpLink};
 use bg_streams::Writing;
@@ -43,7 +43,7 @@ struct Forger {
     addresses: [SocketAddr; 4],
 }
 
-impl Onlooker for Forger {
+impl Observer for Forger {
     fn happened(&mut self, _event: &Event, _outcome: &Outcome, _held: Option<Number>) {
         for address in self.addresses {
             for packet in FORGED {

@@ -2,7 +2,7 @@
 
 use crate::seats::Seat;
 use crate::typed_lines::joined;
-use bg_command_parts::{Silence, tell_word};
+use bg_command_parts::{Silence, tell_liveness};
 use bg_console::{
     allocated, failed, print_board, put_entries, say, say_number, write_out, written, wrong,
 };
@@ -95,7 +95,7 @@ where
     let mut ticks = 0u32;
     for _ in 0..u64::MAX {
         let round = seat.next_round()?;
-        tell_word(rt, &seat.table, round.word, is_watched);
+        tell_liveness(rt, &seat.table, round.word, is_watched);
         if round.foreign.is_some() {
             return Err(Ending::ActionRefused);
         }

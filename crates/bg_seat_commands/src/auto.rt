@@ -3,7 +3,7 @@
 use crate::seats::Seat;
 use bg_auto::auto_action;
 use bg_board::Player;
-use bg_command_parts::tell_word;
+use bg_command_parts::tell_liveness;
 use bg_console::{Telling, no_memory};
 use bg_options::SeatOptions;
 use bg_processes::{Failures, Going};
@@ -31,7 +31,7 @@ where
     let mut telling = Telling::new();
     for _ in 0..u64::MAX {
         let round = seat.next_round()?;
-        tell_word(rt, &seat.table, round.word, is_watched);
+        tell_liveness(rt, &seat.table, round.word, is_watched);
         if let Some(record) = seat.process.held() {
             telling.go_on(rt, record)?;
         }

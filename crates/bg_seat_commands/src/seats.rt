@@ -1,7 +1,7 @@
 //! The process of a seat, for the commands that play.
 
 use bg_board::Player;
-use bg_command_parts::{Witness, check_seat_folder, say_whose_saves, socket_of, stopped};
+use bg_command_parts::{FailureReporter, check_seat_folder, say_whose_saves, socket_of, stopped};
 use bg_console::{
     check_writable, key_file_of, no_memory, own_folder, say_failures, say_number, waited,
     waiting_for, wrong,
@@ -9,8 +9,8 @@ use bg_console::{
 use bg_match::{Action, Number, Record};
 use bg_options::SeatOptions;
 use bg_processes::{
-    Failures, FileKeeper, FolderLock, Going, Hearing, KeyFile, Keyring, MatchFile, Names,
-    PartySocket, SeatProcess, Ticking, Waiting, Word,
+    Failures, FileKeeper, FolderLock, Going, KeyFile, Keyring, Liveness, LivenessChange, MatchFile,
+    Names, PartySocket, SeatProcess, Ticking, Waiting,
 };
 use bg_reports::{Ending, ending_of};
 use bg_wire::party_of;
@@ -32,9 +32,9 @@ pub(crate) struct Seat<'a, R> {
     /// The names of the players.
     pub(crate) names: Names,
     pub(crate) waiting: Waiting,
-    witness: Witness<'a, R>,
+    reporter: FailureReporter<'a, R>,
     ticking: Ticking,
-    hearing: Hearing,
+    liveness: Liveness,
     player: Player,
     /// Number of entries that it has ever held.
     known: Number,
@@ -50,7 +50,7 @@ pub(crate) struct Round {
     pub(crate) tick: bool,
     pub(crate) going: Going,
     /// Whether the referee is heard of, where that has changed.
-    pub(crate) word: Option<Word>,
+    pub(crate) word: Option<LivenessChange>,
     /// The first entry that came in the player's name, and that this seat never claimed.
     pub(crate) foreign: Option<Number>,
 }
@@ -105,9 +105,9 @@ where
             process,
             names,
             waiting,
-            witness: Witness::new(rt, failures, folder),
+            reporter: FailureReporter::new(rt, failures, folder),
             ticking,
-            hearing: Hearing::new(rt),
+            liveness: Liveness::new(rt),
             _lock: lock,
         })
     }
@@ -118,14 +118,16 @@ where
         let next = self.ticking.next_round(self.rt, &mut self.waiting);
         let (ready, tick) = waited(self.rt, next)?;
         let claim = self.process.open_claim();
-        let played = self.process.round(tick, &mut self.witness);
-        self.witness.check_files()?;
+        let played = self.process.round(tick, &mut self.reporter);
+        self.reporter.check_files()?;
         match played {
             Ok(going) => Ok(Round {
                 input: ready.input,
                 tick,
                 going,
-                word: self.hearing.after_round(self.rt, self.process.link(), tick),
+                word: self
+                    .liveness
+                    .after_round(self.rt, self.process.link(), tick),
                 foreign: self.news_of_others(&claim),
             }),
             Err(outcome) => Err(stopped(self.rt, &outcome)),
@@ -145,7 +147,7 @@ where
 
     /// Claims an action, and returns the outcome.
     pub(crate) fn choose(&mut self, action: Action) -> Result<Outcome, Ending> {
-        match self.process.choose(action, &mut self.witness) {
+        match self.process.choose(action, &mut self.reporter) {
             Ok(outcome) => Ok(outcome),
             Err(outcome) => Err(stopped(self.rt, &outcome)),
         }

@@ -6,7 +6,7 @@ ghost use Rattle.bg_text.specs.Judge.Judging.{lines_of};
 use memchr::memchr;
 
 /// Number of bytes of an input that is judged, or of a script, at most.
-pub const MOST_BYTES: usize = 41_943_040;
+pub const MAX_INPUT: usize = 41_943_040;
 
 /// Returns the first line of a text, without its line feed, and what follows it (docs/FORMATS.md,
 /// "The judge"). Returns `None` where the text is empty. A line feed at the end begins no further

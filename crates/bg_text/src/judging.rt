@@ -14,7 +14,7 @@ pub(crate) mod reading;
 pub(crate) mod reasons;
 pub(crate) mod verdicts;
 
-use crate::inputs::MOST_BYTES;
+use crate::inputs::MAX_INPUT;
 use crate::judging::hearing::{Judge, hear_input};
 use crate::judging::judgements::too_long;
 use crate::{Judgement, Verdict};
@@ -29,7 +29,7 @@ use std::alloc::{AllocError, Global};
 pub fn judge_text(alloc: Global, input: &[u8]) -> Result<Judgement, AllocError>
     ensures { IfOk result (λ judgement. IsJudgement input.now judgement.text.items judgement.verdict) }
 {
-    if input.len() > MOST_BYTES {
+    if input.len() > MAX_INPUT {
         return too_long(alloc);
     }
     let mut judge = Judge::new(alloc);

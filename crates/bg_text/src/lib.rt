@@ -25,7 +25,7 @@ pub use entries::names::{letter, level_word};
 pub use entries::words::thirds;
 pub use entries::writing::{entry_text, entry_texts_differ};
 pub use faults::{LineFault, TextFault, TranscriptFault};
-pub use inputs::{MOST_BYTES, split_line};
+pub use inputs::{MAX_INPUT, split_line};
 pub use judging::judgements::{Judgement, too_long};
 pub use judging::reading::read_transcript;
 pub use judging::reasons::reason_text;

@@ -1,11 +1,11 @@
 //! The board of a match that is watched at a terminal.
 
 use crate::watch::screens::{drawn_in_place, screen_text};
-use bg_auto::{Onlooker, party_at};
+use bg_auto::{Observer, party_at};
 use bg_command_parts::{GameResult, Results, Silence, is_out_of_step};
 use bg_console::{Called, Pairing, Terminal, broken, say, write_out, written};
 use bg_match::{Number, Phase, Record};
-use bg_processes::{Failures, NamedMatch, Word};
+use bg_processes::{Failures, LivenessChange, NamedMatch};
 use bg_reports::Ending;
 use bg_world::{Event, Outcome, outcome_text};
 use std::alloc::Global;
@@ -34,7 +34,7 @@ impl Display for Referee {
         match self {
             Referee::Awaited => f.write_str("waiting for the referee"),
             Referee::Heard => f.write_str("the referee is heard"),
-            Referee::Silent(why) => write!(f, "{}: {why}", Word::Silent),
+            Referee::Silent(why) => write!(f, "{}: {why}", LivenessChange::Silent),
         }
     }
 }
@@ -98,7 +98,7 @@ impl<'a, R: Files<File = File> + Print + Eprint + AllocGlobal> LiveBoard<'a, R> 
     pub(super) fn go_on(
         &mut self,
         record: &Record,
-        word: Option<Word>,
+        word: Option<LivenessChange>,
         is_heard: bool,
     ) -> Result<bool, Ending> {
         self.note_referee(word, is_heard);
@@ -125,10 +125,13 @@ impl<'a, R: Files<File = File> + Print + Eprint + AllocGlobal> LiveBoard<'a, R> 
         }
     }
 
-    fn note_referee(&mut self, word: Option<Word>, is_heard: bool) {
+    fn note_referee(&mut self, word: Option<LivenessChange>, is_heard: bool) {
         let referee = match (word, self.referee) {
-            (Some(Word::Silent), _) => Referee::Silent(Silence::of(self.rt, &self.file.table)),
-            (Some(Word::HeardAgain), _) => Referee::Heard,
+            (Some(LivenessChange::Silent), _) => Referee::Silent(Silence::of(
+                self.rt,
+                &self.file.table,
+            )),
+            (Some(LivenessChange::HeardAgain), _) => Referee::Heard,
             (None, Referee::Awaited) if is_heard => Referee::Heard,
             (None, referee) => referee,
         };
@@ -198,7 +201,7 @@ impl<'a, R: Files<File = File> + Print + Eprint + AllocGlobal> LiveBoard<'a, R> 
     }
 }
 
-impl<'a, R: Files<File = File> + Print + Eprint + AllocGlobal> Onlooker for LiveBoard<'a, R> {
+impl<'a, R: Files<File = File> + Print + Eprint + AllocGlobal> Observer for LiveBoard<'a, R> {
     fn happened(&mut self, event: &Event, outcome: &Outcome, _held: Option<Number>) {
         let alloc = self.rt.alloc();
         for failure in self.failures.drain() {

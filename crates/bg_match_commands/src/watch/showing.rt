@@ -1,11 +1,11 @@
 //! The ways to show a match that is watched.
 
 use crate::watch::live_boards::LiveBoard;
-use bg_auto::Onlooker;
-use bg_command_parts::{Witness, tell_word};
+use bg_auto::Observer;
+use bg_command_parts::{FailureReporter, tell_liveness};
 use bg_console::Telling;
 use bg_match::{Number, Record};
-use bg_processes::{MatchFile, Word};
+use bg_processes::{LivenessChange, MatchFile};
 use bg_reports::Ending;
 use bg_world::{Event, Outcome};
 use std::fs::File;
@@ -16,7 +16,7 @@ use std::rt::Files;
 pub(super) struct Lines<'a, R> {
     pub(super) rt: &'a R,
     pub(super) telling: Telling,
-    pub(super) witness: Witness<'a, R>,
+    pub(super) reporter: FailureReporter<'a, R>,
     /// The match of the key file.
     pub(super) table: MatchFile,
     /// Whether only errors are reported.
@@ -36,10 +36,10 @@ impl<'a, R: Files<File = File> + Print + Eprint + AllocGlobal> Showing<'a, R> {
     /// Reports whether the referee is heard of, where that has changed. Somebody who watches is
     /// always told. A log is told until the referee was heard once, as it may be another match's. A
     /// board shows it.
-    pub(super) fn tell_word(&self, word: Option<Word>, is_heard: bool) {
+    pub(super) fn tell_liveness(&self, word: Option<LivenessChange>, is_heard: bool) {
         if let Showing::Lines(lines) = self {
             let is_told = !lines.is_quiet && (lines.is_watched || !is_heard);
-            tell_word(lines.rt, &lines.table, word, is_told);
+            tell_liveness(lines.rt, &lines.table, word, is_told);
         }
     }
 
@@ -47,7 +47,7 @@ impl<'a, R: Files<File = File> + Print + Eprint + AllocGlobal> Showing<'a, R> {
     pub(super) fn go_on(
         &mut self,
         record: &Record,
-        word: Option<Word>,
+        word: Option<LivenessChange>,
         is_heard: bool,
     ) -> Result<bool, Ending> {
         match self {
@@ -65,10 +65,10 @@ impl<'a, R: Files<File = File> + Print + Eprint + AllocGlobal> Showing<'a, R> {
     }
 }
 
-impl<'a, R: Files<File = File> + Print + Eprint + AllocGlobal> Onlooker for Showing<'a, R> {
+impl<'a, R: Files<File = File> + Print + Eprint + AllocGlobal> Observer for Showing<'a, R> {
     fn happened(&mut self, event: &Event, outcome: &Outcome, held: Option<Number>) {
         match self {
-            Showing::Lines(lines) => lines.witness.happened(event, outcome, held),
+            Showing::Lines(lines) => lines.reporter.happened(event, outcome, held),
             Showing::Board(board) => board.happened(event, outcome, held),
         }
     }

@@ -20,7 +20,7 @@ use crate::processes::referee::notes::RefereeNotes;
 use crate::processes::rounds::{
     Going, MOST_TAKEN, count_of, ends_takes, entries_of, is_down, is_over_and_saved,
 };
-use bg_auto::{DiceAttempts, Onlooker};
+use bg_auto::{DiceAttempts, Observer};
 use bg_match::{LengthFault, Record, Terms};
 use bg_referee::DueFault;
 use bg_world::{Keeper, Link, Outcome, RefereeNode, RestoreCause};
@@ -97,50 +97,50 @@ impl<L: Link, K: Keeper> RefereeProcess<L, K> {
         &self.link
     }
 
-    /// Runs one round; `tick` says whether a tick is due. The onlooker is told what happens.
+    /// Runs one round; `tick` says whether a tick is due. The observer is told what happens.
     ///
     /// # Errors
     /// The outcome for which the referee is down for good, or can't save.
-    pub fn round<O: Onlooker>(&mut self, tick: bool, onlooker: &mut O) -> Result<Going, Outcome>
+    pub fn round<O: Observer>(&mut self, tick: bool, observer: &mut O) -> Result<Going, Outcome>
         ensures parts { PlaysRefereeRound L.is_honest K.is_honest (referee_moment L.Link K.Keeper self.old) tick
             result (referee_moment L.Link K.Keeper self.new) }
         ensures runs { RunsRefereeRound L.is_honest K.is_honest (referee_moment L.Link K.Keeper self.old)
             (referee_moment L.Link K.Keeper self.new) }
     {
-        self.play(tick, onlooker)
+        self.play(tick, observer)
     }
 
     /// Runs the parts of one round.
-    fn play<O: Onlooker>(&mut self, tick: bool, onlooker: &mut O) -> Result<Going, Outcome>
+    fn play<O: Observer>(&mut self, tick: bool, observer: &mut O) -> Result<Going, Outcome>
         ensures { PlaysRefereeRound L.is_honest K.is_honest (referee_moment L.Link K.Keeper self.old) tick
             result (referee_moment L.Link K.Keeper self.new) }
     {
-        self.take_all(onlooker);
-        self.add_due(onlooker);
-        match self.save_news(onlooker) {
-            Ok(saved) => Ok(self.end_round(tick, saved, onlooker)),
+        self.take_all(observer);
+        self.add_due(observer);
+        match self.save_news(observer) {
+            Ok(saved) => Ok(self.end_round(tick, saved, observer)),
             Err(outcome) => Err(outcome),
         }
     }
 
-    fn take_all<O: Onlooker>(&mut self, onlooker: &mut O)
+    fn take_all<O: Observer>(&mut self, observer: &mut O)
         ensures { RefereeRepeats L.is_honest K.is_honest take_at is_last_take most_taken
             (referee_moment L.Link K.Keeper self.old) (referee_moment L.Link K.Keeper self.new) }
     {
         for _ in 0..MOST_TAKEN {
-            if ends_takes(&self.take(onlooker)) {
+            if ends_takes(&self.take(observer)) {
                 return;
             }
         }
     }
 
     /// Opens a game, or passes a turn, where that is due.
-    fn add_due<O: Onlooker>(&mut self, onlooker: &mut O)
+    fn add_due<O: Observer>(&mut self, observer: &mut O)
         ensures { RefereeRepeats L.is_honest K.is_honest due_at is_last_due most_due
             (referee_moment L.Link K.Keeper self.old) (referee_moment L.Link K.Keeper self.new) }
     {
         for _ in 0..MOST_DUE {
-            if ends_dues(&self.due(onlooker)) {
+            if ends_dues(&self.due(observer)) {
                 return;
             }
         }
@@ -148,30 +148,30 @@ impl<L: Link, K: Keeper> RefereeProcess<L, K> {
 
     /// Saves where the record has grown, and restarts where the save failed or the referee is down.
     /// Returns whether something was saved.
-    fn save_news<O: Onlooker>(&mut self, onlooker: &mut O) -> Result<bool, Outcome>
+    fn save_news<O: Observer>(&mut self, observer: &mut O) -> Result<bool, Outcome>
         ensures { SavesNews L.is_honest K.is_honest (referee_moment L.Link K.Keeper self.old) result
             (referee_moment L.Link K.Keeper self.new) }
     {
         if is_down(self.node.held()) {
-            return self.begin_again(onlooker);
+            return self.begin_again(observer);
         }
         if count_of(self.node.held()) == self.notes.saved {
             return Ok(false);
         }
-        match self.save(onlooker) {
+        match self.save(observer) {
             Outcome::Saved(_) => Ok(true),
             // The next round tries it again.
             Outcome::Memory => Ok(false),
-            Outcome::SaveFault => self.begin_again(onlooker),
+            Outcome::SaveFault => self.begin_again(observer),
             outcome => Err(outcome),
         }
     }
 
-    fn begin_again<O: Onlooker>(&mut self, onlooker: &mut O) -> Result<bool, Outcome>
+    fn begin_again<O: Observer>(&mut self, observer: &mut O) -> Result<bool, Outcome>
         ensures { Restarts (RefereeHappens L.is_honest K.is_honest) referee_party
             (referee_moment L.Link K.Keeper self.old) result (referee_moment L.Link K.Keeper self.new) }
     {
-        match self.restart(onlooker) {
+        match self.restart(observer) {
             // Its slots may be readable again later: the next round tries them.
             Outcome::Restarted | Outcome::RestoreFault(RestoreCause::Device) => Ok(false),
             outcome => Err(outcome),
@@ -179,22 +179,22 @@ impl<L: Link, K: Keeper> RefereeProcess<L, K> {
     }
 
     /// Sends what is to be sent, where something was saved or a tick is due, and counts the tick.
-    fn end_round<O: Onlooker>(&mut self, tick: bool, saved: bool, onlooker: &mut O) -> Going
+    fn end_round<O: Observer>(&mut self, tick: bool, saved: bool, observer: &mut O) -> Going
         ensures { EndsRound L.is_honest K.is_honest tick (referee_moment L.Link K.Keeper self.old) saved (Ok result)
             (referee_moment L.Link K.Keeper self.new) }
     {
-        self.push_all(pushes(tick, saved), onlooker);
+        self.push_all(pushes(tick, saved), observer);
         self.notes.quiet = quiet_later(self.notes.quiet, tick);
         self.going()
     }
 
     /// Sends what is to be sent unasked, at most `most` times.
-    fn push_all<O: Onlooker>(&mut self, most: u32, onlooker: &mut O)
+    fn push_all<O: Observer>(&mut self, most: u32, observer: &mut O)
         ensures { RefereeRepeats L.is_honest K.is_honest tick_at is_last_push most
             (referee_moment L.Link K.Keeper self.old) (referee_moment L.Link K.Keeper self.new) }
     {
         for _ in 0..most {
-            if ends_pushes(&self.tick(onlooker)) {
+            if ends_pushes(&self.tick(observer)) {
                 return;
             }
         }

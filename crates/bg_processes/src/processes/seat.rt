@@ -18,7 +18,7 @@ use crate::processes::rounds::{
     Going, MOST_TAKEN, count_of, ends_takes, is_over_and_saved, seat_acts,
 };
 use crate::processes::seat::notes::{SeatNotes, is_chosen};
-use bg_auto::Onlooker;
+use bg_auto::Observer;
 use bg_board::Player;
 use bg_match::{Action, LengthFault, Number, Record, Terms};
 use bg_world::{Keeper, Link, Outcome, SeatNode};
@@ -108,17 +108,17 @@ impl<L: Link, K: Keeper> SeatProcess<L, K> {
         seat_acts(record, self.player)
     }
 
-    /// Runs one round; `tick` says whether a tick is due. The onlooker is told what happens.
+    /// Runs one round; `tick` says whether a tick is due. The observer is told what happens.
     ///
     /// # Errors
     /// The outcome for which the seat is down for good, or can't save.
-    pub fn round<O: Onlooker>(&mut self, tick: bool, onlooker: &mut O) -> Result<Going, Outcome>
+    pub fn round<O: Observer>(&mut self, tick: bool, observer: &mut O) -> Result<Going, Outcome>
         ensures parts { PlaysSeatRound L.is_honest K.is_honest (seat_moment L.Link K.Keeper self.old) tick
             result (seat_moment L.Link K.Keeper self.new) }
         ensures runs { RunsSeat L.is_honest K.is_honest (seat_moment L.Link K.Keeper self.old)
             (seat_moment L.Link K.Keeper self.new) }
     {
-        self.play(tick, onlooker)
+        self.play(tick, observer)
     }
 
     /// Claims the player's choice, saves and sends the claim, and returns the outcome of the
@@ -127,28 +127,28 @@ impl<L: Link, K: Keeper> SeatProcess<L, K> {
     ///
     /// # Errors
     /// The outcome for which the seat is down for good, or can't save.
-    pub fn choose<O: Onlooker>(
+    pub fn choose<O: Observer>(
         &mut self,
         action: Action,
-        onlooker: &mut O,
+        observer: &mut O,
     ) -> Result<Outcome, Outcome>
         ensures parts { PlaysChoice L.is_honest K.is_honest (seat_moment L.Link K.Keeper self.old) action
             result (seat_moment L.Link K.Keeper self.new) }
         ensures runs { RunsSeat L.is_honest K.is_honest (seat_moment L.Link K.Keeper self.old)
             (seat_moment L.Link K.Keeper self.new) }
     {
-        self.play_choice(action, onlooker)
+        self.play_choice(action, observer)
     }
 
     /// Runs the parts of a [`round`](Self::round).
-    fn play<O: Onlooker>(&mut self, tick: bool, onlooker: &mut O) -> Result<Going, Outcome>
+    fn play<O: Observer>(&mut self, tick: bool, observer: &mut O) -> Result<Going, Outcome>
         ensures { PlaysSeatRound L.is_honest K.is_honest (seat_moment L.Link K.Keeper self.old) tick
             result (seat_moment L.Link K.Keeper self.new) }
     {
-        self.take_all(onlooker);
-        match self.restart_or_save(onlooker) {
+        self.take_all(observer);
+        match self.restart_or_save(observer) {
             Ok(_) => {
-                self.send(tick, onlooker);
+                self.send(tick, observer);
                 Ok(self.going())
             }
             Err(outcome) => Err(outcome),
@@ -156,58 +156,58 @@ impl<L: Link, K: Keeper> SeatProcess<L, K> {
     }
 
     /// Runs the parts of [`choose`](Self::choose).
-    fn play_choice<O: Onlooker>(
+    fn play_choice<O: Observer>(
         &mut self,
         action: Action,
-        onlooker: &mut O,
+        observer: &mut O,
     ) -> Result<Outcome, Outcome>
         ensures { PlaysChoice L.is_honest K.is_honest (seat_moment L.Link K.Keeper self.old) action
             result (seat_moment L.Link K.Keeper self.new) }
     {
-        let outcome = self.claim(action, onlooker);
+        let outcome = self.claim(action, observer);
         if !is_chosen(&outcome) {
             return Ok(outcome);
         }
-        self.save_claim(outcome, onlooker)
+        self.save_claim(outcome, observer)
     }
 
     /// Saves and sends a claim, whose choice had this outcome.
-    fn save_claim<O: Onlooker>(
+    fn save_claim<O: Observer>(
         &mut self,
         chosen: Outcome,
-        onlooker: &mut O,
+        observer: &mut O,
     ) -> Result<Outcome, Outcome>
         ensures { SavesClaim L.is_honest K.is_honest (seat_moment L.Link K.Keeper self.old) chosen
             result (seat_moment L.Link K.Keeper self.new) }
     {
-        if let Err(outcome) = self.save_all(onlooker) {
+        if let Err(outcome) = self.save_all(observer) {
             return Err(outcome);
         }
         if self.open_claim().is_none() {
             return Ok(Outcome::SaveFault);
         }
-        self.send(true, onlooker);
+        self.send(true, observer);
         Ok(chosen)
     }
 
-    fn take_all<O: Onlooker>(&mut self, onlooker: &mut O)
+    fn take_all<O: Observer>(&mut self, observer: &mut O)
         ensures { Repeats (SeatHappens L.is_honest K.is_honest) take_at is_last_take most_taken
             (seat_moment L.Link K.Keeper self.old) (seat_moment L.Link K.Keeper self.new) }
     {
         for _ in 0..MOST_TAKEN {
-            if ends_takes(&self.take(onlooker)) {
+            if ends_takes(&self.take(observer)) {
                 return;
             }
         }
     }
 
     /// Sends where a tick is due.
-    fn send<O: Onlooker>(&mut self, tick: bool, onlooker: &mut O)
+    fn send<O: Observer>(&mut self, tick: bool, observer: &mut O)
         ensures { SendsWhere L.is_honest K.is_honest tick (seat_moment L.Link K.Keeper self.old)
             (seat_moment L.Link K.Keeper self.new) }
     {
         if tick {
-            self.tick(onlooker);
+            self.tick(observer);
         }
     }
 

@@ -10,7 +10,7 @@ ghost use Rattle.bg_processes.specs.WatcherRounds.{PlaysWatcherRound, RunsWatche
 ghost use Rattle.bg_processes.specs.WatcherRounds.{WatcherHappens, log_of, take_at, tick_at, watcher_moment};
 
 use crate::processes::rounds::{Going, MOST_PARTIES, MOST_TAKEN, ends_takes, is_over};
-use bg_auto::Onlooker;
+use bg_auto::Observer;
 use bg_match::{LengthFault, Record, Terms};
 use bg_world::{Event, Link, Outcome, WatcherNode};
 use std::alloc::Global;
@@ -65,49 +65,49 @@ impl<L: Link> WatcherProcess<L> {
         &self.link
     }
 
-    /// Runs one round; `tick` says whether a tick is due. The onlooker is told what happens.
-    pub fn round<O: Onlooker>(&mut self, tick: bool, onlooker: &mut O) -> Going
+    /// Runs one round; `tick` says whether a tick is due. The observer is told what happens.
+    pub fn round<O: Observer>(&mut self, tick: bool, observer: &mut O) -> Going
         ensures parts { PlaysWatcherRound L.is_honest (watcher_moment L.Link self.old) tick result
             (watcher_moment L.Link self.new) }
         ensures runs { RunsWatcher L.is_honest (watcher_moment L.Link self.old) (watcher_moment L.Link self.new) }
     {
-        self.play(tick, onlooker)
+        self.play(tick, observer)
     }
 
     /// Runs the parts of one round.
-    fn play<O: Onlooker>(&mut self, tick: bool, onlooker: &mut O) -> Going
+    fn play<O: Observer>(&mut self, tick: bool, observer: &mut O) -> Going
         ensures { PlaysWatcherRound L.is_honest (watcher_moment L.Link self.old) tick result
             (watcher_moment L.Link self.new) }
     {
-        self.take_all(onlooker);
+        self.take_all(observer);
         if is_over(Some(self.node.held())) {
             return Going::Over;
         }
-        self.send(tick, onlooker);
+        self.send(tick, observer);
         Going::On
     }
 
-    fn take_all<O: Onlooker>(&mut self, onlooker: &mut O)
+    fn take_all<O: Observer>(&mut self, observer: &mut O)
         ensures { Repeats (WatcherHappens L.is_honest) take_at is_last_take most_taken
             (watcher_moment L.Link self.old) (watcher_moment L.Link self.new) }
     {
         for _ in 0..MOST_TAKEN {
-            if ends_takes(&self.take(onlooker)) {
+            if ends_takes(&self.take(observer)) {
                 return;
             }
         }
     }
 
     /// Sends where a tick is due.
-    fn send<O: Onlooker>(&mut self, tick: bool, onlooker: &mut O)
+    fn send<O: Observer>(&mut self, tick: bool, observer: &mut O)
         ensures { SendsWhere L.is_honest tick (watcher_moment L.Link self.old) (watcher_moment L.Link self.new) }
     {
         if tick {
-            self.tick(onlooker);
+            self.tick(observer);
         }
     }
 
-    fn take<O: Onlooker>(&mut self, onlooker: &mut O) -> Outcome
+    fn take<O: Observer>(&mut self, observer: &mut O) -> Outcome
         ensures { WatcherHappens L.is_honest (watcher_moment L.Link self.old) (take_at (watcher_moment L.Link self.old))
             result (watcher_moment L.Link self.new) }
     {
@@ -117,17 +117,17 @@ impl<L: Link> WatcherProcess<L> {
             pick: 0,
             word: 0,
         };
-        onlooker.happened(&event, &outcome, Some(self.node.held().len()));
+        observer.happened(&event, &outcome, Some(self.node.held().len()));
         outcome
     }
 
-    fn tick<O: Onlooker>(&mut self, onlooker: &mut O) -> Outcome
+    fn tick<O: Observer>(&mut self, observer: &mut O) -> Outcome
         ensures { WatcherHappens L.is_honest (watcher_moment L.Link self.old) (tick_at (watcher_moment L.Link self.old))
             result (watcher_moment L.Link self.new) }
     {
         let outcome = self.node.tick(&mut self.link, MOST_PARTIES);
         let event = Event::Tick { party: self.party };
-        onlooker.happened(&event, &outcome, Some(self.node.held().len()));
+        observer.happened(&event, &outcome, Some(self.node.held().len()));
         outcome
     }
 }

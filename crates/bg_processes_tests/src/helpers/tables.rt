@@ -9,7 +9,7 @@ use crate::helpers::played_loops::SHORT;
 use crate::helpers::tables::parties::{
     begun_referee, begun_seat, begun_watcher, referee_round, seat_round,
 };
-use bg_auto::NoOnlooker;
+use bg_auto::NoObserver;
 use bg_board::Player;
 use bg_match::{Number, Rules, Terms};
 use bg_processes::{
@@ -145,7 +145,7 @@ impl<'a, R: Host> Table<'a, R> {
             self.watcher = begun_watcher(self.rt.alloc(), self.terms, socket);
         }
         match &mut self.watcher {
-            Some(process) => process.round(true, &mut NoOnlooker) == Going::Over,
+            Some(process) => process.round(true, &mut NoObserver) == Going::Over,
             None => false,
         }
     }

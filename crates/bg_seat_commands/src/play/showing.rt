@@ -6,7 +6,7 @@ use crate::seats::{NOT_CHOSEN, Round};
 use bg_command_parts::Silence;
 use bg_console::{allocated, put_entries, written};
 use bg_match::Actor;
-use bg_processes::{Going, Word};
+use bg_processes::{Going, LivenessChange};
 use bg_reports::Ending;
 use bg_table::{Drawing, prompt_text, result_text, seat_view_text, waiting_text};
 use std::fs::File;
@@ -78,8 +78,8 @@ where
     /// Shows what a round brought, and below it what the player may do.
     pub(super) fn show_round(&mut self, round: Round) -> Result<(), Ending> {
         if let Some(word) = round.word {
-            self.is_silent = word == Word::Silent;
-            self.say_word(word)?;
+            self.is_silent = word == LivenessChange::Silent;
+            self.say_liveness(word)?;
         }
         if let Some(number) = round.foreign {
             self.screen.say_number(NOT_CHOSEN.0, number, NOT_CHOSEN.1)?;
@@ -97,9 +97,9 @@ where
 
     /// Prints whether the referee is heard of. If it isn't, prints why that may be, and what
     /// becomes of a choice.
-    fn say_word(&self, word: Word) -> Result<(), Ending> {
+    fn say_liveness(&self, word: LivenessChange) -> Result<(), Ending> {
         let alloc = self.rt.alloc();
-        let line = if word == Word::Silent {
+        let line = if word == LivenessChange::Silent {
             let why = Silence::of(self.rt, &self.seat.table);
             format!(in alloc; "{word}: {why}{} {KEPT_MEANWHILE}", why.stop())
         } else {

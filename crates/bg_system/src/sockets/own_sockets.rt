@@ -7,11 +7,11 @@ use std::net::{Ipv4Addr, Net, SocketAddr, UdpSocket};
 
 /// Number of bytes of a datagram that are taken, at most. Every packet is shorter; what goes beyond
 /// is cut off.
-pub(crate) const MOST_BYTES: usize = 256;
+pub(crate) const MAX_DATAGRAM: usize = 256;
 
 /// The result of reading a socket: the bytes of a datagram, at most 256, or `None` where none has
 /// come.
-pub type Received = io::Result<Option<ArrayVec<u8, MOST_BYTES>>>;
+pub type Received = io::Result<Option<ArrayVec<u8, MAX_DATAGRAM>>>;
 
 /// Number of foreign datagrams that one call passes over, at most.
 const MOST_PASSED_OVER: u32 = 1000;
@@ -72,7 +72,7 @@ impl OwnSocket {
     /// The system's error where the socket can't be read.
     pub fn receive(&self) -> Received {
         for _ in 0..MOST_PASSED_OVER {
-            let mut buffer = [0; MOST_BYTES];
+            let mut buffer = [0; MAX_DATAGRAM];
             match self.socket.recv_from(&mut buffer) {
                 Ok((count, sender)) if sender == self.address => {
                     let mut bytes = ArrayVec::new();

@@ -8,7 +8,7 @@ use crate::failures::first_failures::FirstFailures;
 use crate::sockets::hearing_times::HearingTimes;
 use crate::sockets::keyrings::Keyring;
 use crate::sockets::notices::{LastNotice, Presence, other_seat};
-use crate::sockets::own_sockets::{MOST_BYTES, Received};
+use crate::sockets::own_sockets::{MAX_DATAGRAM, Received};
 use crate::sockets::senders::{SIGN_OF_LIFE, address_of, heard, told};
 use arrayvec::ArrayVec;
 use bg_wire::{Datagram, REFEREE};
@@ -174,7 +174,7 @@ impl<'a, C: Clock> PartyEnd<'a, C> {
     /// Returns the oldest packet in the queue that a party sent to this one.
     fn receive(&mut self) -> Received {
         for _ in 0..MOST_PASSED_OVER {
-            let mut buffer = [0; MOST_BYTES];
+            let mut buffer = [0; MAX_DATAGRAM];
             match self.socket.recv_from(&mut buffer) {
                 Ok((count, from)) => {
                     if let Some(packet) = self.packet_in(&buffer[..count], from) {
@@ -190,7 +190,11 @@ impl<'a, C: Clock> PartyEnd<'a, C> {
 
     /// Returns the packet of a datagram, if a party sent it to this one. The referee answers a sign
     /// of life.
-    fn packet_in(&mut self, datagram: &[u8], from: SocketAddr) -> Option<ArrayVec<u8, MOST_BYTES>> {
+    fn packet_in(
+        &mut self,
+        datagram: &[u8],
+        from: SocketAddr,
+    ) -> Option<ArrayVec<u8, MAX_DATAGRAM>> {
         let found = heard(&self.keys, self.port, self.party, datagram, from);
         let Some((party, bytes)) = found else {
             self.note_told(datagram, from);

@@ -6,7 +6,7 @@ ghost use Rattle.bg_text.specs.Judge.Hearing.{HasHeard, IsHeardOf, IsUnended};
 ghost use Rattle.bg_text.specs.Judge.Judging.{IsAnswerTo, lines_of};
 ghost use Rattle.bg_text.specs.Limits.{most_bytes};
 
-use crate::inputs::{MOST_BYTES, split_ended_line};
+use crate::inputs::{MAX_INPUT, split_ended_line};
 use crate::judging::courses::Heard;
 use crate::judging::judgements::Judgement;
 use bg_streams::{EngineFault, Source};
@@ -97,7 +97,7 @@ pub(crate) fn hear_input<S: Source>(
 {
     let mut judge = Judge::new(alloc);
     let mut chunk = [0; CHUNK];
-    let mut left = MOST_BYTES + 1;
+    let mut left = MAX_INPUT + 1;
     while left > 0 {
         let room = chunk.len().min(left);
         let part = &mut chunk[..room];

@@ -9,7 +9,7 @@ ghost use Rattle.bg_text.specs.Judge.Transcripts.{IsReadOf, IsUnread, ReadsTrans
 
 use crate::entries::lines::parse_entry;
 use crate::faults::{LineFault, TranscriptFault};
-use crate::inputs::{MOST_BYTES, split_line};
+use crate::inputs::{MAX_INPUT, split_line};
 use crate::judging::length_lines::read_terms;
 use bg_board::Player;
 use bg_match::{Entry, EntryFault, Record, Standing, Terms};
@@ -140,7 +140,7 @@ pub(crate) fn read_whole(
     ensures read { IfOk result (λ read. IsReadOf id input.now read.0 read.1) }
     ensures unread { IfErr result (λ why. IsUnread why input.now) }
 {
-    if input.len() > MOST_BYTES {
+    if input.len() > MAX_INPUT {
         return Err(ReadFault::TooLong);
     }
     let Some((line, lines)) = split_line(input) else {

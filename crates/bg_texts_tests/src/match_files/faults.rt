@@ -3,7 +3,7 @@ use super::records::{ONE_POINT, THREE_POINTS};
 use crate::checks::check_printed;
 use bg_mat::{ImportFault, MatFault, import_mat};
 use bg_match::{EntryFault, NoDouble, Rules};
-use bg_text::MOST_BYTES;
+use bg_text::MAX_INPUT;
 use std::alloc::Global;
 use std::test::Fail;
 
@@ -236,7 +236,7 @@ fn faults_of_dice_alone(rt: HostRuntime) -> Result<(), Fail> {
 /// The longest input is read, and one byte more is refused.
 #[test]
 fn longest_input(rt: HostRuntime) -> Result<(), Fail> {
-    let mut text = vec![in rt.alloc(); b';'; MOST_BYTES]?;
+    let mut text = vec![in rt.alloc(); b';'; MAX_INPUT]?;
     let why = MatFault::NoLength;
     let fault = fault_of(rt.alloc(), &text);
     assert!(rt;

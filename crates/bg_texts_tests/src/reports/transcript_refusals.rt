@@ -1,7 +1,7 @@
 //! What is said of transcripts that give no record, by the fault that was met: the same as of files that are checked.
 use bg_match::EntryFault;
 use bg_reports::{check_text, said_of_transcript_fault};
-use bg_text::{LineFault, MOST_BYTES, TranscriptFault, Verdict, read_transcript};
+use bg_text::{LineFault, MAX_INPUT, TranscriptFault, Verdict, read_transcript};
 use std::alloc::Global;
 use std::test::Fail;
 
@@ -101,7 +101,7 @@ fn transcripts_whose_last_line_is_not_finished(rt: HostRuntime) -> Result<(), Fa
 /// What is too long has a verdict and no line.
 #[test]
 fn transcripts_that_are_too_long(rt: HostRuntime) -> Result<(), Fail> {
-    let bytes = vec![in rt.alloc(); b'X'; MOST_BYTES + 1]?;
+    let bytes = vec![in rt.alloc(); b'X'; MAX_INPUT + 1]?;
     check_as_checked(
         rt.alloc(),
         &bytes,

@@ -4,7 +4,7 @@ use super::inputs::{TOO_LONG, followed_by};
 use super::records::{MATCH, TEXT_OF_MATCH};
 use crate::checks::text_of;
 use bg_streams::{EngineFault, Reading, Writing};
-use bg_text::{MOST_BYTES, Verdict, judge, judge_text};
+use bg_text::{MAX_INPUT, Verdict, judge, judge_text};
 use std::alloc::Global;
 use std::io::{Read, Write};
 use std::test::Fail;
@@ -138,7 +138,7 @@ fn readers_that_never_end(rt: HostRuntime) -> Result<(), Fail> {
 
 #[test]
 fn longest_input_is_read(rt: HostRuntime) -> Result<(), Fail> {
-    let longest = followed_by(rt.alloc(), "", b'X', MOST_BYTES)?;
+    let longest = followed_by(rt.alloc(), "", b'X', MAX_INPUT)?;
     let text = b"refused at line 1: not a length line\n";
     for step in [64, 4096] {
         check_whole(
@@ -149,7 +149,7 @@ fn longest_input_is_read(rt: HostRuntime) -> Result<(), Fail> {
             text,
         )?;
     }
-    let longer = followed_by(rt.alloc(), "", b'X', MOST_BYTES + 1)?;
+    let longer = followed_by(rt.alloc(), "", b'X', MAX_INPUT + 1)?;
     let text = TOO_LONG.as_bytes();
     for step in [1000, 4096] {
         check_whole(rt.alloc(), &longer, (step, 1000), Verdict::TooLong, text)?;

@@ -1,6 +1,6 @@
 //! Inputs whose first or second line is refused, and inputs that are too long.
 use super::pictures::{HEADER, LOWER, UPPER, check_board, check_judged};
-use bg_text::{MOST_BYTES, Verdict};
+use bg_text::{MAX_INPUT, Verdict};
 use std::alloc::Global;
 use std::test::Fail;
 
@@ -52,7 +52,7 @@ fn no_length_lines_refused(rt: HostRuntime) -> Result<(), Fail> {
     }
     let many_digits = followed_by(rt.alloc(), "length ", b'1', 300)?;
     check_line_1(rt.alloc(), &many_digits, "not a length line")?;
-    let long_line = followed_by(rt.alloc(), "", b'X', MOST_BYTES)?;
+    let long_line = followed_by(rt.alloc(), "", b'X', MAX_INPUT)?;
     check_line_1(rt.alloc(), &long_line, "not a length line")
 }
 
@@ -120,8 +120,8 @@ fn later_lines_refused(rt: HostRuntime) -> Result<(), Fail> {
 fn long_later_lines_refused(rt: HostRuntime) -> Result<(), Fail> {
     for (start, byte, count) in [
         ("length 1\nopen 3 ", b'1', 300),
-        ("length 1\n", b'X', MOST_BYTES - 9),
-        ("length 1\n", b'\n', MOST_BYTES - 9),
+        ("length 1\n", b'X', MAX_INPUT - 9),
+        ("length 1\n", b'\n', MAX_INPUT - 9),
     ] {
         check_line_2(rt.alloc(), &followed_by(rt.alloc(), start, byte, count)?)?;
     }
@@ -131,7 +131,7 @@ fn long_later_lines_refused(rt: HostRuntime) -> Result<(), Fail> {
 #[test]
 fn inputs_that_are_too_long(rt: HostRuntime) -> Result<(), Fail> {
     for start in ["", "length 1\n", "length 0\n"] {
-        let input = followed_by(rt.alloc(), start, b'X', MOST_BYTES + 1 - start.len())?;
+        let input = followed_by(rt.alloc(), start, b'X', MAX_INPUT + 1 - start.len())?;
         check_judged(rt.alloc(), &input, TOO_LONG.as_bytes(), Verdict::TooLong)?;
     }
     Ok(())

@@ -5,7 +5,7 @@ use super::records::{MATCH, TEXT_OF_MATCH, check_is_match, full_record, record};
 use crate::checks::check_facts;
 use bg_match::{EntryFault, MOST_ENTRIES, Rules};
 use bg_text::{
-    LineFault, MOST_BYTES, TextFault, TranscriptFault, Verdict, judge_text, read_transcript,
+    LineFault, MAX_INPUT, TextFault, TranscriptFault, Verdict, judge_text, read_transcript,
     transcript_text,
 };
 use std::alloc::Global;
@@ -108,7 +108,7 @@ fn no_record_of_a_refused_transcript(rt: HostRuntime) -> Result<(), Fail> {
 
 #[test]
 fn no_record_of_a_long_transcript(rt: HostRuntime) -> Result<(), Fail> {
-    let long = followed_by(rt.alloc(), "length 1\n", b'\n', MOST_BYTES - 8)?;
+    let long = followed_by(rt.alloc(), "length 1\n", b'\n', MAX_INPUT - 8)?;
     let fault = fault_of(rt.alloc(), &long);
     assert!(rt; fault == Some(TranscriptFault::TooLong), "{fault:?}");
     let judged = judge_text(rt.alloc(), &long)?;

@@ -21,7 +21,7 @@ use crate::{
     outcome_text, parse_event, simulate,
 };
 use bg_streams::{EngineFault, Sink, Source, read_input, write_text};
-use bg_text::{MOST_BYTES, TextFault, Verdict, put_number, put_text, split_line, too_long};
+use bg_text::{MAX_INPUT, TextFault, Verdict, put_number, put_text, split_line, too_long};
 use std::alloc::{AllocError, Global};
 use thiserror::Error;
 
@@ -99,7 +99,7 @@ fn printed<L: Link, K: Keeper>(
     ensures { IfOk result (λ printed. IsTextFrom L.is_honest K.is_honest (view_of L.Link K.Keeper world.old)
         input.now printed.text.items printed.verdict) }
 {
-    if input.len() > MOST_BYTES {
+    if input.len() > MAX_INPUT {
         let judgement = too_long(alloc)?;
         return Ok(Printout {
             text: judgement.text,
@@ -141,7 +141,7 @@ fn carry<L: Link, K: Keeper, S: Source, T: Sink>(
     ensures source { SourceFails result (S.failures source.old) (S.failures source.new) }
     ensures sink { SinkFails result (T.failures sink.old) (T.failures sink.new) }
 {
-    let input = read_input(alloc, source, MOST_BYTES)?;
+    let input = read_input(alloc, source, MAX_INPUT)?;
     let printed = printed(alloc, world, &input).map_err(|_| EngineFault::Memory)?;
     write_text(sink, &printed.text).map_err(|_| EngineFault::Write)?;
     Ok(printed.verdict)

@@ -2,7 +2,7 @@
 use crate::checks::check_no_growth_is_left;
 use bg_match::Rules;
 use bg_streams::{EngineFault, Reading, Writing};
-use bg_text::{MOST_BYTES, Verdict};
+use bg_text::{MAX_INPUT, Verdict};
 use bg_world::{ScriptFault, Setup, WorldFault, script};
 use std::alloc::Global;
 use std::process::Abort;
@@ -166,7 +166,7 @@ fn refused_scripts(rt: HostRuntime) {
 #[test]
 fn longest_scripts(rt: HostRuntime) {
     let mut longer = Vec::new(rt.alloc());
-    assert!(rt; longer.resize(MOST_BYTES + 1, b'\n').is_ok());
+    assert!(rt; longer.resize(MAX_INPUT + 1, b'\n').is_ok());
     let text = ["refused: input too long\n", ""];
     check_script(&rt, &longer, 0, Verdict::TooLong, text);
     let text = "refused at line 1: not an event\n";

@@ -5,7 +5,7 @@ ghost use Rattle.bg_wire.specs.Entries.Codes.{referee as referee_party};
 
 use crate::processes::referee::RefereeProcess;
 use crate::processes::rounds::{MOST_PARTIES, entries_of};
-use bg_auto::Onlooker;
+use bg_auto::Observer;
 use bg_wire::REFEREE;
 use bg_world::{Event, Keeper, Link, Outcome};
 
@@ -17,7 +17,7 @@ impl<L: Link, K: Keeper> RefereeProcess<L, K> {
         self.notes.dice.keyed_word(&self.key)
     }
 
-    pub(crate) fn due<O: Onlooker>(&mut self, onlooker: &mut O) -> Outcome
+    pub(crate) fn due<O: Observer>(&mut self, observer: &mut O) -> Outcome
         ensures { RefereeHappens L.is_honest K.is_honest (referee_moment L.Link K.Keeper self.old)
             (due_at (referee_moment L.Link K.Keeper self.old)) result (referee_moment L.Link K.Keeper self.new) }
     {
@@ -25,11 +25,11 @@ impl<L: Link, K: Keeper> RefereeProcess<L, K> {
         let outcome = self.node.due(word);
         let held = entries_of(self.node.held());
         self.notes
-            .note(onlooker, &Event::Due { word }, &outcome, held);
+            .note(observer, &Event::Due { word }, &outcome, held);
         outcome
     }
 
-    pub(crate) fn take<O: Onlooker>(&mut self, onlooker: &mut O) -> Outcome
+    pub(crate) fn take<O: Observer>(&mut self, observer: &mut O) -> Outcome
         ensures { RefereeHappens L.is_honest K.is_honest (referee_moment L.Link K.Keeper self.old)
             (take_at (referee_moment L.Link K.Keeper self.old)) result (referee_moment L.Link K.Keeper self.new) }
     {
@@ -41,40 +41,40 @@ impl<L: Link, K: Keeper> RefereeProcess<L, K> {
             word,
         };
         let held = entries_of(self.node.held());
-        self.notes.note(onlooker, &event, &outcome, held);
+        self.notes.note(observer, &event, &outcome, held);
         outcome
     }
 
-    pub(crate) fn save<O: Onlooker>(&mut self, onlooker: &mut O) -> Outcome
+    pub(crate) fn save<O: Observer>(&mut self, observer: &mut O) -> Outcome
         ensures { RefereeHappens L.is_honest K.is_honest (referee_moment L.Link K.Keeper self.old)
             (Event.Save referee_party) result (referee_moment L.Link K.Keeper self.new) }
     {
         let outcome = self.node.save();
         let held = entries_of(self.node.held());
         let event = Event::Save { party: REFEREE };
-        self.notes.note(onlooker, &event, &outcome, held);
+        self.notes.note(observer, &event, &outcome, held);
         outcome
     }
 
-    pub(crate) fn restart<O: Onlooker>(&mut self, onlooker: &mut O) -> Outcome
+    pub(crate) fn restart<O: Observer>(&mut self, observer: &mut O) -> Outcome
         ensures { RefereeHappens L.is_honest K.is_honest (referee_moment L.Link K.Keeper self.old)
             (Event.Restart referee_party) result (referee_moment L.Link K.Keeper self.new) }
     {
         let outcome = self.node.restart();
         let held = entries_of(self.node.held());
         let event = Event::Restart { party: REFEREE };
-        self.notes.note(onlooker, &event, &outcome, held);
+        self.notes.note(observer, &event, &outcome, held);
         outcome
     }
 
-    pub(crate) fn tick<O: Onlooker>(&mut self, onlooker: &mut O) -> Outcome
+    pub(crate) fn tick<O: Observer>(&mut self, observer: &mut O) -> Outcome
         ensures { RefereeHappens L.is_honest K.is_honest (referee_moment L.Link K.Keeper self.old)
             (tick_at (referee_moment L.Link K.Keeper self.old)) result (referee_moment L.Link K.Keeper self.new) }
     {
         let outcome = self.node.tick(&mut self.link, MOST_PARTIES);
         let held = entries_of(self.node.held());
         let event = Event::Tick { party: REFEREE };
-        self.notes.note(onlooker, &event, &outcome, held);
+        self.notes.note(observer, &event, &outcome, held);
         outcome
     }
 }

@@ -4,7 +4,7 @@ ghost use Rattle.bg_auto.specs.Attempts.{restarts_referee as is_restart};
 ghost use Rattle.bg_processes.specs.RefereeRounds.{NotesOfReferee, is_heard as is_heard_in};
 
 use crate::processes::rounds::saved_after;
-use bg_auto::{DiceAttempts, Onlooker};
+use bg_auto::{DiceAttempts, Observer};
 use bg_match::Number;
 use bg_referee::TakeOutcome;
 use bg_wire::REFEREE;
@@ -22,10 +22,10 @@ pub(crate) struct RefereeNotes {
 
 impl RefereeNotes {
     /// Notes the outcome of an event, after which the referee holds `held` entries, and tells the
-    /// onlooker.
-    pub(crate) fn note<O: Onlooker>(
+    /// observer.
+    pub(crate) fn note<O: Observer>(
         &mut self,
-        onlooker: &mut O,
+        observer: &mut O,
         event: &Event,
         outcome: &Outcome,
         held: Option<Number>,
@@ -35,7 +35,7 @@ impl RefereeNotes {
         self.dice = self.dice.after(restarts_referee(event), outcome, held);
         self.saved = saved_after(self.saved, event, outcome, held);
         self.quiet = quiet_after(self.quiet, outcome);
-        onlooker.happened(event, outcome, held);
+        observer.happened(event, outcome, held);
     }
 }
 

@@ -4,13 +4,13 @@ ghost use Rattle.bg_wire.specs.Parties.{party_of};
 
 use crate::processes::rounds::{MOST_PARTIES, entries_of};
 use crate::processes::seat::SeatProcess;
-use bg_auto::Onlooker;
+use bg_auto::Observer;
 use bg_match::Action;
 use bg_wire::party_of;
 use bg_world::{Event, Keeper, Link, Outcome};
 
 impl<L: Link, K: Keeper> SeatProcess<L, K> {
-    pub(crate) fn take<O: Onlooker>(&mut self, onlooker: &mut O) -> Outcome
+    pub(crate) fn take<O: Observer>(&mut self, observer: &mut O) -> Outcome
         ensures { SeatHappens L.is_honest K.is_honest (seat_moment L.Link K.Keeper self.old)
             (take_at (seat_moment L.Link K.Keeper self.old)) result (seat_moment L.Link K.Keeper self.new) }
     {
@@ -21,11 +21,11 @@ impl<L: Link, K: Keeper> SeatProcess<L, K> {
             pick: 0,
             word: 0,
         };
-        self.notes.note(onlooker, &event, &outcome, held);
+        self.notes.note(observer, &event, &outcome, held);
         outcome
     }
 
-    pub(crate) fn claim<O: Onlooker>(&mut self, action: Action, onlooker: &mut O) -> Outcome
+    pub(crate) fn claim<O: Observer>(&mut self, action: Action, observer: &mut O) -> Outcome
         ensures { SeatHappens L.is_honest K.is_honest (seat_moment L.Link K.Keeper self.old)
             (Event.Choose self.old.player action) result (seat_moment L.Link K.Keeper self.new) }
     {
@@ -35,11 +35,11 @@ impl<L: Link, K: Keeper> SeatProcess<L, K> {
         };
         let outcome = self.node.choose(action);
         let held = entries_of(self.node.held());
-        self.notes.note(onlooker, &event, &outcome, held);
+        self.notes.note(observer, &event, &outcome, held);
         outcome
     }
 
-    pub(crate) fn save<O: Onlooker>(&mut self, onlooker: &mut O) -> Outcome
+    pub(crate) fn save<O: Observer>(&mut self, observer: &mut O) -> Outcome
         ensures { SeatHappens L.is_honest K.is_honest (seat_moment L.Link K.Keeper self.old)
             (Event.Save (party_of self.old.player)) result (seat_moment L.Link K.Keeper self.new) }
     {
@@ -48,11 +48,11 @@ impl<L: Link, K: Keeper> SeatProcess<L, K> {
         let event = Event::Save {
             party: party_of(self.player),
         };
-        self.notes.note(onlooker, &event, &outcome, held);
+        self.notes.note(observer, &event, &outcome, held);
         outcome
     }
 
-    pub(crate) fn restart<O: Onlooker>(&mut self, onlooker: &mut O) -> Outcome
+    pub(crate) fn restart<O: Observer>(&mut self, observer: &mut O) -> Outcome
         ensures { SeatHappens L.is_honest K.is_honest (seat_moment L.Link K.Keeper self.old)
             (Event.Restart (party_of self.old.player)) result (seat_moment L.Link K.Keeper self.new) }
     {
@@ -61,11 +61,11 @@ impl<L: Link, K: Keeper> SeatProcess<L, K> {
         let event = Event::Restart {
             party: party_of(self.player),
         };
-        self.notes.note(onlooker, &event, &outcome, held);
+        self.notes.note(observer, &event, &outcome, held);
         outcome
     }
 
-    pub(crate) fn tick<O: Onlooker>(&mut self, onlooker: &mut O) -> Outcome
+    pub(crate) fn tick<O: Observer>(&mut self, observer: &mut O) -> Outcome
         ensures { SeatHappens L.is_honest K.is_honest (seat_moment L.Link K.Keeper self.old)
             (Event.Tick (party_of self.old.player)) result (seat_moment L.Link K.Keeper self.new) }
     {
@@ -74,7 +74,7 @@ impl<L: Link, K: Keeper> SeatProcess<L, K> {
         let event = Event::Tick {
             party: party_of(self.player),
         };
-        self.notes.note(onlooker, &event, &outcome, held);
+        self.notes.note(observer, &event, &outcome, held);
         outcome
     }
 }

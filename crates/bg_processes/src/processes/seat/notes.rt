@@ -3,7 +3,7 @@ ghost use Rattle.std.specs.Prelude.{◌≡◌};
 ghost use Rattle.bg_processes.specs.SeatRounds.{NotesOfSeat, is_chosen as is_claimed, waits_after as waits_then};
 
 use crate::processes::rounds::{keeps_all, saved_after};
-use bg_auto::Onlooker;
+use bg_auto::Observer;
 use bg_match::Number;
 use bg_world::{Event, Outcome};
 
@@ -18,10 +18,10 @@ pub(crate) struct SeatNotes {
 
 impl SeatNotes {
     /// Notes the outcome of an event, after which the seat holds `held` entries, and tells the
-    /// onlooker.
-    pub(crate) fn note<O: Onlooker>(
+    /// observer.
+    pub(crate) fn note<O: Observer>(
         &mut self,
-        onlooker: &mut O,
+        observer: &mut O,
         event: &Event,
         outcome: &Outcome,
         held: Option<Number>,
@@ -30,7 +30,7 @@ impl SeatNotes {
     {
         self.saved = saved_after(self.saved, event, outcome, held);
         self.claim_waits = waits_after(self.claim_waits, event, outcome);
-        onlooker.happened(event, outcome, held);
+        observer.happened(event, outcome, held);
     }
 }
 

@@ -7,7 +7,7 @@ ghost use Rattle.bg_processes.specs.SeatRounds.{seat_moment};
 
 use crate::processes::rounds::{count_of, is_down, is_over};
 use crate::processes::seat::SeatProcess;
-use bg_auto::Onlooker;
+use bg_auto::Observer;
 use bg_match::{Action, Number};
 use bg_world::{Keeper, Link, Outcome, RestoreCause};
 
@@ -24,46 +24,46 @@ impl<L: Link, K: Keeper> SeatProcess<L, K> {
 
     /// Restarts where the seat is down, and otherwise saves where that is worthwhile. Returns
     /// whether something was written.
-    pub(crate) fn restart_or_save<O: Onlooker>(&mut self, onlooker: &mut O) -> Result<bool, Outcome>
+    pub(crate) fn restart_or_save<O: Observer>(&mut self, observer: &mut O) -> Result<bool, Outcome>
         ensures { RestartsOrSaves L.is_honest K.is_honest (seat_moment L.Link K.Keeper self.old) result
             (seat_moment L.Link K.Keeper self.new) }
     {
         if is_down(self.node.held()) {
-            return self.begin_again(onlooker);
+            return self.begin_again(observer);
         }
-        self.save_worth(onlooker)
+        self.save_worth(observer)
     }
 
     /// Saves where that is worthwhile. Returns whether it was written.
-    fn save_worth<O: Onlooker>(&mut self, onlooker: &mut O) -> Result<bool, Outcome>
+    fn save_worth<O: Observer>(&mut self, observer: &mut O) -> Result<bool, Outcome>
         ensures { SavesWorth L.is_honest K.is_honest (seat_moment L.Link K.Keeper self.old) result
             (seat_moment L.Link K.Keeper self.new) }
     {
         if !self.wants_save() {
             return Ok(false);
         }
-        self.save_all(onlooker)
+        self.save_all(observer)
     }
 
     /// Saves, and restarts where that failed. Returns whether it was written.
-    pub(crate) fn save_all<O: Onlooker>(&mut self, onlooker: &mut O) -> Result<bool, Outcome>
+    pub(crate) fn save_all<O: Observer>(&mut self, observer: &mut O) -> Result<bool, Outcome>
         ensures { Saves (SeatHappens L.is_honest K.is_honest) (party_for self.old.player)
             (seat_moment L.Link K.Keeper self.old) result (seat_moment L.Link K.Keeper self.new) }
     {
-        match self.save(onlooker) {
+        match self.save(observer) {
             Outcome::Saved(_) => Ok(true),
             // The next round tries it again.
             Outcome::Memory => Ok(false),
-            Outcome::SaveFault => self.begin_again(onlooker),
+            Outcome::SaveFault => self.begin_again(observer),
             outcome => Err(outcome),
         }
     }
 
-    fn begin_again<O: Onlooker>(&mut self, onlooker: &mut O) -> Result<bool, Outcome>
+    fn begin_again<O: Observer>(&mut self, observer: &mut O) -> Result<bool, Outcome>
         ensures { Restarts (SeatHappens L.is_honest K.is_honest) (party_for self.old.player)
             (seat_moment L.Link K.Keeper self.old) result (seat_moment L.Link K.Keeper self.new) }
     {
-        match self.restart(onlooker) {
+        match self.restart(observer) {
             // Its slots may be readable again later: the next round tries them.
             Outcome::Restarted | Outcome::RestoreFault(RestoreCause::Device) => Ok(false),
             outcome => Err(outcome),

@@ -1,6 +1,6 @@
 //! The processes of single parties, over any devices: no call here moves what these are made of.
 use super::{ID, KEY, WATCHER};
-use bg_auto::{NoOnlooker, auto_action};
+use bg_auto::{NoObserver, auto_action};
 use bg_board::Player;
 use bg_match::{Action, Terms};
 use bg_processes::{Going, RefereeProcess, SeatProcess, WatcherProcess};
@@ -49,7 +49,7 @@ pub(super) fn referee_round<L: Link + Drop, K: Keeper + Drop>(
     running: &mut Option<RefereeProcess<L, K>>,
 ) -> bool {
     let going = match running {
-        Some(process) => process.round(true, &mut NoOnlooker).ok(),
+        Some(process) => process.round(true, &mut NoObserver).ok(),
         None => None,
     };
     if going.is_none() {
@@ -77,7 +77,7 @@ fn plays<L: Link, K: Keeper>(
     player: Player,
 ) -> bool {
     match action_of(alloc, process, player) {
-        Some(action) => process.choose(action, &mut NoOnlooker).is_ok(),
+        Some(action) => process.choose(action, &mut NoObserver).is_ok(),
         None => true,
     }
 }
@@ -88,7 +88,7 @@ fn round_and_play<L: Link, K: Keeper>(
     process: &mut SeatProcess<L, K>,
     player: Player,
 ) -> Option<Going> {
-    let going = process.round(true, &mut NoOnlooker).ok()?;
+    let going = process.round(true, &mut NoObserver).ok()?;
     if plays(alloc, process, player) {
         Some(going)
     } else {

@@ -1,6 +1,6 @@
 //! What one who looks on is told of a match over sockets and files.
 use crate::folders::new_folder;
-use bg_auto::{LoopFault, Onlooker, party_at};
+use bg_auto::{LoopFault, Observer, party_at};
 use bg_board::Player;
 use bg_match::{Action, Number, Rules};
 use bg_processes::{Failures, play_loop};
@@ -18,7 +18,7 @@ struct Heard {
     in_order: bool,
 }
 
-impl Onlooker for Heard {
+impl Observer for Heard {
     fn happened(&mut self, event: &Event, outcome: &Outcome, _held: Option<Number>) {
         let damaged = matches!(outcome, Outcome::RestoreFault(RestoreCause::Damaged));
         self.last = Some((party_at(event), damaged));

@@ -6,7 +6,7 @@ use bg_world::{Event, Outcome};
 
 /// An observer of a match that is played round by round. It is told what happens, in order, and
 /// changes nothing of it.
-pub trait Onlooker {
+pub trait Observer {
     /// Notes an event and its outcome, which may be one that ends the match. `held` is the number
     /// of entries that the party of the event then holds, or `None` where it is down.
     fn happened(&mut self, event: &Event, outcome: &Outcome, held: Option<Number>);
@@ -18,9 +18,9 @@ pub trait Onlooker {
 
 /// An observer that does nothing.
 #[derive(Drop)]
-pub struct NoOnlooker;
+pub struct NoObserver;
 
-impl Onlooker for NoOnlooker {
+impl Observer for NoObserver {
     fn happened(&mut self, _event: &Event, _outcome: &Outcome, _held: Option<Number>) {}
 
     fn played(&mut self, _done: u32) {}

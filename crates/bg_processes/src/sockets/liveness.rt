@@ -13,18 +13,18 @@ const SILENCE: u64 = 3;
 
 /// A change in the referee's liveness.
 #[derive(Clone, Copy, Debug, PartialEq, Eq)]
-pub enum Word {
+pub enum LivenessChange {
     /// Nothing was heard of the referee for three seconds.
     Silent,
     /// The referee is heard of again.
     HeardAgain,
 }
 
-impl Display for Word {
+impl Display for LivenessChange {
     fn fmt<W: Write>(&self, f: &mut Formatter<W>) -> fmt::Result {
         f.write_str(match self {
-            Word::Silent => "no word from the referee for three seconds",
-            Word::HeardAgain => "the referee is heard again",
+            LivenessChange::Silent => "no word from the referee for three seconds",
+            LivenessChange::HeardAgain => "the referee is heard again",
         })
     }
 }
@@ -32,7 +32,7 @@ impl Display for Word {
 /// Asks the referee once a second whether it is there, and keeps the time since which nothing was
 /// heard of it (docs/OPERATING.md, "Ports").
 #[derive(Drop)]
-pub struct Hearing {
+pub struct Liveness {
     ticks: u32,
     /// The socket's last count.
     heard: u32,
@@ -41,10 +41,10 @@ pub struct Hearing {
     silent: bool,
 }
 
-impl Hearing {
+impl Liveness {
     /// Creates the state of a process that begins.
-    pub fn new(rt: &impl Clock) -> Hearing {
-        Hearing {
+    pub fn new(rt: &impl Clock) -> Liveness {
+        Liveness {
             ticks: 0,
             heard: 0,
             since: Instant::now(rt).ok(),
@@ -59,7 +59,7 @@ impl Hearing {
         rt: &C,
         socket: &PartySocket<'_, C>,
         tick: bool,
-    ) -> Option<Word> {
+    ) -> Option<LivenessChange> {
         if tick {
             if self.ticks % TICKS_TO_ASK == 0 {
                 socket.ask();
@@ -77,9 +77,9 @@ impl Hearing {
         }
         self.silent = silent;
         Some(if silent {
-            Word::Silent
+            LivenessChange::Silent
         } else {
-            Word::HeardAgain
+            LivenessChange::HeardAgain
         })
     }
 }

@@ -1,6 +1,6 @@
 //! The messages while the process of one party runs.
 
-use bg_auto::{Onlooker, party_at};
+use bg_auto::{Observer, party_at};
 use bg_console::{failed, say, say_failures, say_number};
 use bg_match::Number;
 use bg_party::Learned;
@@ -10,10 +10,10 @@ use bg_reports::Ending;
 use bg_world::{Event, Outcome, RestoreCause, outcome_text};
 use std::fmt::Display;
 
-/// An onlooker that reports failed devices on the standard error. It also reports, once, that the
+/// An observer that reports failed devices on the standard error. It also reports, once, that the
 /// parties can't go on together, and the sign of that (docs/OPERATING.md, "Messages").
 #[derive(Drop)]
-pub struct Witness<'a, R> {
+pub struct FailureReporter<'a, R> {
     rt: &'a R,
     /// The failures that the devices note.
     failures: &'a Failures,
@@ -24,11 +24,11 @@ pub struct Witness<'a, R> {
     is_down: bool,
 }
 
-impl<'a, R: Eprint> Witness<'a, R> {
-    /// Creates a witness that has seen nothing yet. The devices note their failures in `failures`,
+impl<'a, R: Eprint> FailureReporter<'a, R> {
+    /// Creates a reporter that has seen nothing yet. The devices note their failures in `failures`,
     /// and their files are in `folder`.
-    pub fn new(rt: &'a R, failures: &'a Failures, folder: &'a str) -> Witness<'a, R> {
-        Witness {
+    pub fn new(rt: &'a R, failures: &'a Failures, folder: &'a str) -> FailureReporter<'a, R> {
+        FailureReporter {
             rt,
             failures,
             folder,
@@ -55,7 +55,7 @@ impl<'a, R: Eprint> Witness<'a, R> {
     }
 }
 
-impl<'a, R: Eprint> Witness<'a, R> {
+impl<'a, R: Eprint> FailureReporter<'a, R> {
     /// Reports the failures of devices in an event, and whether it shows that parties can't go on
     /// together.
     pub fn saw(&mut self, event: &Event, outcome: &Outcome) {
@@ -106,7 +106,7 @@ impl<'a, R: Eprint> Witness<'a, R> {
     }
 }
 
-impl<'a, R: Eprint> Onlooker for Witness<'a, R> {
+impl<'a, R: Eprint> Observer for FailureReporter<'a, R> {
     fn happened(&mut self, event: &Event, outcome: &Outcome, _held: Option<Number>) {
         self.saw(event, outcome);
         self.tell_of_files(event, outcome);
