@@ -86,7 +86,7 @@ fn a_party_stops(rt: HostRuntime) -> Result<(), Fail> {
 fn no_match_is_played(rt: HostRuntime) -> Result<(), Fail> {
     // bg_seat_commands
     let seat = SeatOptions {
-        player: Player::X,
+        player: Some(Player::X),
         match_path: "no such file",
         folder: "x",
     };

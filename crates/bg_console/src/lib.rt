@@ -19,7 +19,6 @@
 //! ```
 #![tactic(auto)]
 
-mod beginnings;
 mod beside;
 mod breaking;
 mod colours;
@@ -28,12 +27,9 @@ mod messages;
 mod pairings;
 mod published;
 mod screens;
+mod startup;
 mod tellings;
 
-pub use beginnings::{
-    check_folder, check_writable, key_file_of, lock_of, match_of, own_folder, table_of,
-    tell_if_open, waited, waiting_for,
-};
 pub use beside::{MatchBeside, matches_beside};
 pub use breaking::broken;
 pub use colours::{with_bold_offers, with_coloured_checkers};
@@ -47,4 +43,8 @@ pub use messages::{
 pub use pairings::{Called, Pairing, title_of};
 pub use published::{Outputs, Published, is_one_file};
 pub use screens::{Terminal, columns, output_terminal};
+pub use startup::{
+    check_folder, check_writable, key_file_of, lock_of, match_of, own_folder, seat_key_file_of,
+    table_of, tell_if_open, waited, waiting_for,
+};
 pub use tellings::{Telling, print_board, print_text, put_entries, write_out};

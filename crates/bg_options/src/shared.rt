@@ -21,8 +21,8 @@ pub(crate) const THREE_TERMINALS: &str =
 
     bg_relay new --length 3 --port 4000 --dir table
     bg_relay referee --dir table
-    bg_relay play --player X --match table/match-x --dir x
-    bg_relay play --player O --match table/match-o --dir o
+    bg_relay play --match table/match-x --dir x
+    bg_relay play --match table/match-o --dir o
 
 The first two go into one terminal. Anybody who has table/match-watch may watch:
 bg_relay watch --match table/match-watch. Each process may be ended and started again at any moment.";
@@ -90,16 +90,16 @@ pub(crate) const WATCHERS: Argument = Argument {
 
 pub(crate) const PLAYER: Argument = Argument {
     name: "player",
-    kind: Kind::OneOf("P", &["X", "O"]),
-    need: Need::Required,
-    about: "The player: X or O",
+    kind: Kind::OneOf("P", &["X", "O", "x", "o"]),
+    need: Need::Optional,
+    about: "The player; without it the one whose key file it is",
 };
 
-/// Returns the player that the options name.
+/// Returns the player that the options name, if they name one.
 pub(crate) fn player_in(options: &ArgMatches<'_>) -> Option<Player> {
     match options.get_str("player")? {
-        "X" => Some(Player::X),
-        "O" => Some(Player::O),
+        "X" | "x" => Some(Player::X),
+        "O" | "o" => Some(Player::O),
         _ => None,
     }
 }

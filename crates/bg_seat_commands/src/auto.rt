@@ -2,7 +2,6 @@
 
 use crate::seats::Seat;
 use bg_auto::auto_action;
-use bg_board::Player;
 use bg_command_parts::tell_liveness;
 use bg_console::{Telling, no_memory};
 use bg_options::SeatOptions;
@@ -20,10 +19,10 @@ where
 {
     let failures = Failures::new();
     let seat = Seat::open(rt, &failures, options, false)?;
-    play(rt, options.player, seat, is_watched)
+    play(rt, seat, is_watched)
 }
 
-fn play<R>(rt: &R, player: Player, seat: Seat<'_, R>, is_watched: bool) -> Result<Ending, Ending>
+fn play<R>(rt: &R, seat: Seat<'_, R>, is_watched: bool) -> Result<Ending, Ending>
 where
     R: Net + Files<File = File> + Clock + Print + Eprint + AllocGlobal,
 {
@@ -44,7 +43,7 @@ where
         let Some(record) = seat.process.held() else {
             continue;
         };
-        match auto_action(rt.alloc(), record, player) {
+        match auto_action(rt.alloc(), record, seat.player) {
             Ok(Some(action)) => {
                 seat.choose(action)?;
             }

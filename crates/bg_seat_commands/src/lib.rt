@@ -5,7 +5,7 @@
 //!
 //! ```
 //! let seat = SeatOptions {
-//!     player: Player::X,
+//!     player: Some(Player::X),
 //!     match_path: "no such file",
 //!     folder: "x",
 //! };

@@ -62,11 +62,12 @@ where
     R: Input + Net + Files<File = File> + Clock + Print + Eprint + AllocGlobal,
 {
     let failures = Failures::new();
+    let seat = Seat::open(rt, &failures, options.seat, true)?;
     let mut table = Table {
         rt,
-        player: options.seat.player,
+        player: seat.player,
         screen: Screen::new(rt, options.columns, terminal),
-        seat: Seat::open(rt, &failures, options.seat, true)?,
+        seat,
         plays_forced: options.plays_forced,
         shown: 0,
         stood: None,

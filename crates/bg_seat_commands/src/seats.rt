@@ -3,7 +3,7 @@
 use bg_board::Player;
 use bg_command_parts::{FailureReporter, check_seat_folder, say_whose_saves, socket_of, stopped};
 use bg_console::{
-    check_writable, key_file_of, no_memory, own_folder, say_failures, say_number, waited,
+    check_writable, no_memory, own_folder, say_failures, say_number, seat_key_file_of, waited,
     waiting_for, wrong,
 };
 use bg_match::{Action, Number, Record};
@@ -13,7 +13,6 @@ use bg_processes::{
     Names, PartySocket, SeatProcess, Ticking, Waiting,
 };
 use bg_reports::{Ending, ending_of};
-use bg_wire::party_of;
 use bg_world::Outcome;
 use std::fs::File;
 use std::net::Net;
@@ -35,7 +34,7 @@ pub(crate) struct Seat<'a, R> {
     reporter: FailureReporter<'a, R>,
     ticking: Ticking,
     liveness: Liveness,
-    player: Player,
+    pub(crate) player: Player,
     /// Number of entries that it has ever held.
     known: Number,
     _lock: FolderLock,
@@ -72,13 +71,13 @@ where
             match_path,
             folder,
         } = options;
-        let party = party_of(player);
+        let (player, key_file) = seat_key_file_of(rt, match_path, player)?;
         let KeyFile {
             table,
             names,
+            party,
             key,
-            ..
-        } = key_file_of(rt, match_path, party)?;
+        } = key_file;
         let lock = own_folder(rt, folder)?;
         check_seat_folder(rt, folder, player)?;
         check_writable(rt, folder)?;

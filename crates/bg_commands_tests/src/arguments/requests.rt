@@ -8,13 +8,15 @@ use bg_options::{
 use bg_picture::Numbering;
 
 const X_IN_M: SeatOptions<'static> = SeatOptions {
-    player: Player::X,
+    player: Some(Player::X),
     match_path: "m",
     folder: "d",
 };
 
 fn is_seat(seat: &SeatOptions<'_>, player: Player) -> bool {
-    seat.player == player && seat.match_path == X_IN_M.match_path && seat.folder == X_IN_M.folder
+    seat.player == Some(player)
+        && seat.match_path == X_IN_M.match_path
+        && seat.folder == X_IN_M.folder
 }
 
 /// Whether the words of this row ask for what a file's command does with these options.

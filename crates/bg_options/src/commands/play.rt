@@ -21,11 +21,12 @@ const FEWEST_COLUMNS: u32 = 20;
 
 const MOST_COLUMNS: u32 = 400;
 
-/// The seat's player, its match, and the folder of its claims.
+/// A seat: its player, its key file, and the folder of its claims.
 #[derive(Clone, Copy)]
 pub struct SeatOptions<'a> {
-    pub player: Player,
-    /// The path of the match file.
+    /// The player, if one is named; else the key file tells who it is.
+    pub player: Option<Player>,
+    /// The path of the player's key file.
     pub match_path: &'a str,
     pub folder: &'a str,
 }
@@ -33,7 +34,7 @@ pub struct SeatOptions<'a> {
 impl<'a> SeatOptions<'a> {
     pub(crate) fn read(options: &ArgMatches<'a>) -> Option<SeatOptions<'a>> {
         Some(SeatOptions {
-            player: player_in(options)?,
+            player: player_in(options),
             match_path: options.get_str("match")?,
             folder: options.get_str("dir")?,
         })

@@ -2,11 +2,12 @@
 
 use crate::messages::says::say_of;
 use crate::messages::{failed, failed_at, failed_for, no_memory, wrong, wrong_at, wrong_for};
+use bg_board::Player;
 use bg_reports::Ending;
 use bg_system::{
     FolderLock, KeyFile, MatchFile, NamedMatch, Printable, Ticking, Waiting, name_of_key_file,
 };
-use bg_wire::{SEAT_OF_O, SEAT_OF_X};
+use bg_wire::{SEAT_OF_O, SEAT_OF_X, party_of};
 use std::fs::{DirBuilder, File, TryLockError};
 use std::io::ErrorKind;
 use std::net::Net;
@@ -15,6 +16,10 @@ use std::os::unix::fs::{DirBuilderExt, MetadataExt};
 use std::rt::Files;
 use std::time::Clock;
 use std::{fs, io};
+
+/// The message on a key file of those who watch, where a seat's is asked for.
+const OF_NO_SEAT: &str =
+    " is the key file of those who watch: for a player it is `match-x` or `match-o`";
 
 /// Locks a folder, and returns the lock. Ends with `Failed` where another process plays over it, or
 /// it can't be locked.
@@ -153,6 +158,28 @@ pub fn key_file_of(
                 format_args!("{shown} is the key file of {theirs}: for {own} it is `{own_name}`"),
             ))
         }
+        Ok(None) => Err(no_key_file(rt, path)),
+        Err(error) => Err(failed_at(rt, path, " could not be read", &error)),
+    }
+}
+
+/// Reads the key file of a seat at a path: that of this player, or that of any where it is `None`.
+/// Returns its player too. Ends with `WrongArguments` where it is another party's or isn't one, and
+/// with `Failed` where it can't be read.
+pub fn seat_key_file_of(
+    rt: &(impl Files<File = File> + Eprint + AllocGlobal),
+    path: &str,
+    player: Option<Player>,
+) -> Result<(Player, KeyFile), Ending> {
+    if let Some(player) = player {
+        return Ok((player, key_file_of(rt, path, party_of(player))?));
+    }
+    match KeyFile::read(rt, path) {
+        Ok(Some(file)) => match file.party {
+            SEAT_OF_X => Ok((Player::X, file)),
+            SEAT_OF_O => Ok((Player::O, file)),
+            _ => Err(wrong_at(rt, path, OF_NO_SEAT)),
+        },
         Ok(None) => Err(no_key_file(rt, path)),
         Err(error) => Err(failed_at(rt, path, " could not be read", &error)),
     }
