@@ -1,4 +1,5 @@
-//! Devices of one's own for a world: mail boxes in memory that carry the datagrams, and files that keep what is saved.
+//! Devices of one's own for a world: mail boxes in memory that carry the datagrams, and files that
+//! keep what is saved.
 ghost use Rattle.std.specs.Prelude.{[], None, length};
 ghost use Rattle.bg_world.specs.Devices.Handed.{noted_answer};
 ghost use Rattle.bg_world.specs.Protocol.Slots.{empty_slots};
@@ -52,7 +53,8 @@ impl Mail {
     }
 }
 
-/// The link. What clauses read of it stands beside the mail boxes, so that no call of theirs can change it.
+/// The link. What contracts read of it stands beside the mail boxes, so that no call of theirs can
+/// change it.
 #[derive(Drop)]
 pub struct MailLink {
     mail: Mail,
@@ -75,7 +77,7 @@ impl MailLink {
 }
 
 impl Link for MailLink {
-    // It claims no honesty, and has no plan: so what was sent need not be said either.
+    // It claims no honesty, and has no plan, so what was sent need not be stated either.
     ghost is_honest = { ⊥ };
 
     ghost plan = { λ _. None };
@@ -105,7 +107,7 @@ impl Link for MailLink {
     }
 }
 
-/// A keeper: the files of a party, and beside them what clauses read.
+/// A keeper: the files of a party, and beside them what contracts read.
 #[derive(Drop)]
 pub struct FileKeeper<'a, R> {
     files: SlotFiles<'a, R>,
@@ -127,7 +129,7 @@ impl<'a, R: Files<File = File> + AllocGlobal> FileKeeper<'a, R> {
     }
 }
 
-/// What an error of the system is to a world.
+/// Returns the fault of a device for an error of the system.
 fn fault_of(error: io::Error) -> DeviceFault {
     match error.kind() {
         ErrorKind::OutOfMemory => DeviceFault::Memory,
@@ -165,7 +167,7 @@ impl<'a, R: Files<File = File> + AllocGlobal> Keeper for FileKeeper<'a, R> {
     }
 }
 
-/// Why there is no world over a folder.
+/// The reason why there is no world over a folder.
 #[derive(Debug, Drop, Error)]
 pub enum BeginFault {
     #[error(transparent)]
@@ -176,8 +178,8 @@ pub enum BeginFault {
     Restart(u8, Outcome),
 }
 
-/// A world over the files of a folder. Those that save begin again from their files: so a later process goes on with
-/// the match, and the first one begins it.
+/// Returns a world over the files of a folder. The parties that save restart from their files: so a
+/// later process continues the match, and the first one begins it.
 pub fn world_over<'a, R: Files<File = File> + AllocGlobal>(
     rt: &'a R,
     folder: &str,

@@ -1,4 +1,5 @@
-//! The link of a process that runs one party: an inbox for what has come, and an outbox for what is to be sent.
+//! The link of a process that runs one party: an inbox for what has come, and an outbox for what is
+//! to be sent.
 ghost use Rattle.std.specs.Prelude.{[], None, length};
 ghost use Rattle.bg_world.specs.Devices.Handed.{noted_answer};
 
@@ -10,7 +11,7 @@ use std::alloc::Global;
 use std::collections::VecDeque;
 use std::mem;
 
-/// An inbox of bytes and an outbox of datagrams, and beside them what clauses read.
+/// An inbox of bytes and an outbox of datagrams, and beside them what contracts read.
 #[derive(Drop)]
 pub struct PostLink {
     alloc: Global,
@@ -35,8 +36,8 @@ impl PostLink {
         }
     }
 
-    /// Lays the bytes of a datagram that has come into the inbox. What is longer than any packet is lost, and so is
-    /// what there is no memory for.
+    /// Puts the bytes of a datagram that has come into the inbox. What is longer than any packet is
+    /// lost, and so is what there is no memory for.
     pub fn receive(&mut self, bytes: &[u8]) {
         let mut datagram = ArrayVec::new();
         if datagram.try_extend_from_slice(bytes).is_ok() {
@@ -44,12 +45,12 @@ impl PostLink {
         }
     }
 
-    /// How many datagrams wait in the inbox.
+    /// Returns the number of datagrams that wait in the inbox.
     pub fn waiting(&self) -> usize {
         self.inbox.len()
     }
 
-    /// Empties the outbox: what is to be sent, the oldest first.
+    /// Empties the outbox, and returns what is to be sent, the oldest first.
     pub fn outgoing(&mut self) -> VecDeque<Datagram> {
         mem::replace(&mut self.outbox, VecDeque::new(self.alloc))
     }
@@ -80,7 +81,8 @@ impl Link for PostLink {
         result
     }
 
-    // What has come is for the one party of this process; what came first is taken first.
+    // All that has come is for the one party of this process, and is taken in the order in which it
+    // came.
     fn take(&mut self, _party: u8, _pick: u32) -> Taken {
         self.takes = self.takes.marked();
         let taken = Ok(self.inbox.pop_front());

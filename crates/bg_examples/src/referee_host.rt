@@ -1,4 +1,5 @@
-//! The host of a referee: it answers the parties of a match over a UDP socket, and keeps the match in two files.
+//! The host of a referee: it answers the parties of a match over a UDP socket, and keeps the match
+//! in two files.
 ghost use Rattle.bg_wire.specs.Packets.PacketText.{IsPacket};
 
 use crate::slot_files::SlotFiles;
@@ -14,7 +15,7 @@ use std::rt::Files;
 use std::time::Duration;
 use thiserror::Error;
 
-/// Why a host ends. The next one over the same folder goes on from what was saved.
+/// The reason why a host ends. The next one over the same folder continues from what was saved.
 #[derive(Debug, Drop, Error)]
 pub enum HostFault {
     #[error(transparent)]
@@ -29,7 +30,7 @@ pub enum HostFault {
     Memory,
 }
 
-/// A referee, its files, its socket, and where each party was heard from last.
+/// A referee, its files, its socket, and the address from which each party was last heard.
 #[derive(Drop)]
 pub struct RefereeHost<'a, R> {
     rt: &'a R,
@@ -39,7 +40,7 @@ pub struct RefereeHost<'a, R> {
     core: Referee,
 }
 
-/// The referee of what the files have.
+/// Returns the referee that the files restore.
 fn restored<R: Files<File = File> + AllocGlobal>(
     rt: &R,
     files: &SlotFiles<'_, R>,
@@ -56,7 +57,8 @@ fn restored<R: Files<File = File> + AllocGlobal>(
 }
 
 impl<'a, R: Net + Files<File = File> + RandomSource + AllocGlobal> RefereeHost<'a, R> {
-    /// Goes on with the match that the folder has, or begins it, at a port of 127.0.0.1 (0: one that is free).
+    /// Continues the match that the folder has, or begins it, at a port of 127.0.0.1 (0: one that
+    /// is free).
     pub fn open(
         rt: &'a R,
         folder: &str,
@@ -79,12 +81,12 @@ impl<'a, R: Net + Files<File = File> + RandomSource + AllocGlobal> RefereeHost<'
         })
     }
 
-    /// Where the parties reach it.
+    /// Returns the address at which the parties reach it.
     pub fn address(&self) -> io::Result<SocketAddr> {
         self.socket.local_addr()
     }
 
-    /// Serves the match for so many turns, or until something fails.
+    /// Serves the match for `turns` turns, or until something fails.
     pub fn serve(mut self, turns: u64) -> Result<(), HostFault> {
         for _ in 0..turns {
             self.turn()?;
@@ -92,8 +94,9 @@ impl<'a, R: Net + Files<File = File> + RandomSource + AllocGlobal> RefereeHost<'
         Ok(())
     }
 
-    /// Answers a datagram, opens a game or passes a turn where that is due, saves what is new, and pushes what is
-    /// saved. After an error the host is dropped: what its files then have is what holds.
+    /// Answers a datagram, opens a game or passes a turn where that is due, saves what is new, and
+    /// pushes what is saved. After an error the host is dropped: what its files then have is what
+    /// holds.
     pub fn turn(&mut self) -> Result<(), HostFault> {
         let mut buffer = [0; 256];
         match self.socket.recv_from(&mut buffer) {
@@ -101,7 +104,7 @@ impl<'a, R: Net + Files<File = File> + RandomSource + AllocGlobal> RefereeHost<'
             Err(error) if has_waited(&error) => {}
             Err(error) => return Err(error.into()),
         }
-        // Where this word opens no game that is to be opened, the next turn tries another one.
+        // If this word opens no game that is due, the next turn tries another one.
         let word = self.word()?;
         if self.core.due(word) == Err(DueFault::Memory) {
             return Err(HostFault::Memory);
@@ -122,7 +125,8 @@ impl<'a, R: Net + Files<File = File> + RandomSource + AllocGlobal> RefereeHost<'
         }
     }
 
-    /// Answers what came from an address. Bytes that are no packet are dropped, and so is what the referee alone sends.
+    /// Answers what came from an address. Bytes that are no packet are dropped, and so is what the
+    /// referee alone sends.
     fn hear(&mut self, bytes: &[u8], from: SocketAddr) -> Result<(), HostFault> {
         let Ok(packet) = decode(bytes) else {
             return Ok(());
@@ -136,7 +140,7 @@ impl<'a, R: Net + Files<File = File> + RandomSource + AllocGlobal> RefereeHost<'
             TakeOutcome::OtherMatch => return Ok(()),
             TakeOutcome::Memory => return Err(HostFault::Memory),
             TakeOutcome::Answer(_, answer) => self.send(&answer, from),
-            // What was accepted is saved in this turn, and only then told.
+            // An accepted claim is saved in this turn, and only then told.
             _ => {}
         }
         self.parties[usize::from(sender)] = Some(from);
@@ -158,7 +162,7 @@ impl<'a, R: Net + Files<File = File> + RandomSource + AllocGlobal> RefereeHost<'
         let _ = self.socket.send_to(encode(packet).as_slice(), to);
     }
 
-    /// A random word, which nobody can guess, and which is handed in once.
+    /// Returns a random word, which nobody can guess, and which is handed in once.
     fn word(&self) -> io::Result<u32> {
         let mut bytes = [0; 4];
         self.rt.fill_bytes(&mut bytes)?;
@@ -166,7 +170,7 @@ impl<'a, R: Net + Files<File = File> + RandomSource + AllocGlobal> RefereeHost<'
     }
 }
 
-/// Whether nothing has come for as long as a turn waits.
+/// Returns whether nothing has come for as long as a turn waits.
 fn has_waited(error: &io::Error) -> bool {
     matches!(
         error.kind(),

@@ -6,7 +6,8 @@ use std::io::{ErrorKind, Write};
 use std::rt::Files;
 use std::{fs, io};
 
-/// The two files of a party in a folder, and a third by whose lock no other process writes to them.
+/// The two files of a party in a folder, and a third one whose lock keeps other processes from
+/// writing to them.
 #[derive(Drop)]
 pub struct SlotFiles<'a, R> {
     rt: &'a R,
@@ -16,13 +17,14 @@ pub struct SlotFiles<'a, R> {
     _lock: File,
 }
 
-/// The name of a file of the party in the folder.
+/// Returns the name of a file of the party in the folder.
 fn name_of(alloc: Global, folder: &str, party: u8, ending: &str) -> Result<String, AllocError> {
     format!(in alloc; "{folder}/party-{party}.{ending}")
 }
 
 impl<'a, R: Files<File = File> + AllocGlobal> SlotFiles<'a, R> {
-    /// The files `party-P.0` and `party-P.1` of the folder. An error where another process has them.
+    /// Opens the files `party-P.0` and `party-P.1` of the folder. Fails where another process has
+    /// them.
     pub fn open(rt: &'a R, folder: &str, party: u8) -> io::Result<SlotFiles<'a, R>> {
         let alloc = rt.alloc();
         let lock = File::create(rt, &name_of(alloc, folder, party, "lock")?)?;
@@ -43,7 +45,7 @@ impl<'a, R: Files<File = File> + AllocGlobal> SlotFiles<'a, R> {
         }
     }
 
-    /// What the slot has: nothing where its file is missing.
+    /// Returns the bytes of the slot, or none where its file is missing.
     pub fn read(&self, slot: Slot) -> io::Result<Vec<u8>> {
         match fs::read(self.rt, self.path(slot)) {
             Err(error) if error.kind() == ErrorKind::NotFound => Ok(Vec::new(self.rt.alloc())),
@@ -51,12 +53,12 @@ impl<'a, R: Files<File = File> + AllocGlobal> SlotFiles<'a, R> {
         }
     }
 
-    /// Puts a text in the place of what the slot has, through to the disk.
+    /// Replaces the text of the slot, and syncs it to the disk.
     pub fn write(&self, slot: Slot, text: &[u8]) -> io::Result<()> {
         let mut file = File::create(self.rt, self.path(slot))?;
         file.write_all(text)?;
         file.sync_all()?;
-        // The name of a new file lasts once its folder is synced too.
+        // The name of a new file is durable only once its folder is synced too.
         File::open(self.rt, &self.folder)?.sync_all()
     }
 }

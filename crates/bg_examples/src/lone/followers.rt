@@ -1,4 +1,4 @@
-//! A seat and one who watches, each in a process of its own, over a link and files of its own.
+//! A seat and a watcher, each in a process of its own, over its own link and files.
 ghost use Rattle.std.specs.Prelude.{◌≤◌};
 ghost use Rattle.bg_wire.specs.Entries.Codes.{first_watcher};
 
@@ -18,12 +18,12 @@ use std::rt::Files;
 pub struct LoneSeat<'a, R> {
     node: SeatNode<FileKeeper<'a, R>>,
     pub link: PostLink,
-    /// Whether it has a claim that is not saved yet.
+    /// True while it has a claim that is not saved yet.
     unsaved: bool,
 }
 
 impl<'a, R: Files<File = File> + AllocGlobal> LoneSeat<'a, R> {
-    /// Goes on with the match that the folder has, or begins it.
+    /// Continues the match that the folder has, or begins it.
     pub fn begin(
         rt: &'a R,
         folder: &str,
@@ -41,12 +41,13 @@ impl<'a, R: Files<File = File> + AllocGlobal> LoneSeat<'a, R> {
         })
     }
 
-    /// Its record.
+    /// Returns the record, or `None` where the seat is down.
     pub fn held(&self) -> Option<&Record> {
         self.node.held()
     }
 
-    /// Claims what its player chooses, and says what that came to. The next turn saves the claim and sends it.
+    /// Claims the action that its player chooses, and returns the outcome. The next turn saves the
+    /// claim and sends it.
     pub fn choose(&mut self, action: Action) -> Outcome {
         let outcome = self.node.choose(action);
         if matches!(outcome, Outcome::Chose(Ok(_))) {
@@ -70,9 +71,10 @@ impl<'a, R: Files<File = File> + AllocGlobal> LoneSeat<'a, R> {
     fn save(&mut self) -> Result<(), ProcessFault> {
         match self.node.save() {
             Outcome::Saved(_) => {}
-            // It is tried again in the next turn.
+            // It is retried in the next turn.
             Outcome::Memory => return Ok(()),
-            // The write failed and the party is down. Where its files lack the claim, the player may choose again.
+            // The write failed and the party is down. Where its files lack the claim, the player
+            // may choose again.
             Outcome::SaveFault => check_restart(self.node.restart())?,
             outcome => return Err(ProcessFault::Stopped(outcome)),
         }
@@ -81,7 +83,7 @@ impl<'a, R: Files<File = File> + AllocGlobal> LoneSeat<'a, R> {
     }
 }
 
-/// One who watches a match, alone in a process. It saves nothing.
+/// A watcher of a match, alone in its process. It saves nothing.
 #[derive(Drop)]
 pub struct LoneWatcher {
     node: WatcherNode,
@@ -89,7 +91,7 @@ pub struct LoneWatcher {
 }
 
 impl LoneWatcher {
-    /// A watcher who holds no entry. `party` is its number, from 3.
+    /// Returns a watcher that holds no entry. `party` is its number, from 3.
     pub fn begin(
         alloc: Global,
         party: u8,
@@ -104,7 +106,7 @@ impl LoneWatcher {
         })
     }
 
-    /// Its record.
+    /// Returns the record.
     pub fn held(&self) -> &Record {
         self.node.held()
     }

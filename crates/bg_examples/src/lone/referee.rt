@@ -1,4 +1,4 @@
-//! A referee in a process of its own, over a link and files of its own.
+//! A referee in a process of its own, over its own link and files.
 
 use crate::own_devices::FileKeeper;
 use crate::post_link::PostLink;
@@ -12,10 +12,10 @@ use std::io;
 use std::rt::Files;
 use thiserror::Error;
 
-/// So many parties can be sent to: the referee, two seats, and all who may watch.
+/// The number of parties that can be sent to: the referee, two seats, and all who may watch.
 pub const MOST_PARTIES: usize = 256;
 
-/// Why a process ends. The next one over the same files goes on from what was saved.
+/// The reason why a process ends. The next one over the same files continues from what was saved.
 #[derive(Debug, Drop, Error)]
 pub enum ProcessFault {
     #[error(transparent)]
@@ -26,7 +26,7 @@ pub enum ProcessFault {
     Stopped(Outcome),
 }
 
-/// A party goes on where its restart came to this.
+/// Checks that a party goes on after its restart had this outcome.
 pub fn check_restart(outcome: Outcome) -> Result<(), ProcessFault> {
     match outcome {
         Outcome::Restarted => Ok(()),
@@ -40,13 +40,13 @@ pub struct LoneReferee<'a, R> {
     node: RefereeNode<FileKeeper<'a, R>>,
     pub link: PostLink,
     words: ChaCha20Rng,
-    /// How many entries its last save has.
+    /// The number of entries that its last save has.
     saved: Number,
 }
 
 impl<'a, R: Files<File = File> + AllocGlobal> LoneReferee<'a, R> {
-    /// Goes on with the match that the folder has, or begins it. The dice come from these random words: each process
-    /// needs others, as no word may be handed in twice.
+    /// Continues the match that the folder has, or begins it. The dice come from these random
+    /// words: each process needs others, as no word may be handed in twice.
     pub fn begin(
         rt: &'a R,
         folder: &str,
@@ -67,7 +67,7 @@ impl<'a, R: Files<File = File> + AllocGlobal> LoneReferee<'a, R> {
         Ok(referee)
     }
 
-    /// Its record.
+    /// Returns the record, or `None` where the referee is down.
     pub fn held(&self) -> Option<&Record> {
         self.node.held()
     }
@@ -79,14 +79,14 @@ impl<'a, R: Files<File = File> + AllocGlobal> LoneReferee<'a, R> {
         }
     }
 
-    /// Takes what has come and answers it, opens a game or passes a turn where that is due, saves what is new, and
-    /// tells it.
+    /// Takes what has come and answers it, opens a game or passes a turn where that is due, saves
+    /// what is new, and tells it.
     pub fn turn(&mut self) -> Result<(), ProcessFault> {
         for _ in 0..self.link.waiting() {
             let word = self.words.next_word();
             self.node.take(&mut self.link, MOST_PARTIES, 0, word);
         }
-        // Where this word opens no game that is to be opened, the next turn tries another one.
+        // If this word opens no game that is due, the next turn tries another one.
         let word = self.words.next_word();
         self.node.due(word);
         if self.entries() > self.saved {
@@ -99,7 +99,7 @@ impl<'a, R: Files<File = File> + AllocGlobal> LoneReferee<'a, R> {
     fn save(&mut self) -> Result<(), ProcessFault> {
         match self.node.save() {
             Outcome::Saved(_) => {}
-            // It is tried again in the next turn.
+            // It is retried in the next turn.
             Outcome::Memory => return Ok(()),
             // The write failed and the party is down: what its files then restore is what holds.
             Outcome::SaveFault => check_restart(self.node.restart())?,
