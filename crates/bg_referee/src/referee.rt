@@ -18,7 +18,7 @@ use std::marker::Model;
 /// "The referee").
 ///
 /// It does no input or output of its own: it takes packets, and returns what to send and what to
-/// save. It tells the parties saved entries only, so that a restart never takes back what anybody
+/// save. It tells the parties durable entries only, so that a restart never takes back what anybody
 /// has seen.
 ///
 /// Contracts see the record, the number of its entries that are saved, the number of the next save,

@@ -48,7 +48,7 @@ pub fn decode(bytes: &[u8]) -> Result<Packet, WireFault>
     all(bytes)
 }
 
-/// States that no encoding of a packet begins with that of another packet, or with a shorter one of
+/// States that no encoding of a packet is a proper prefix of another packet's or of another one of
 /// its own. So an encoding is that of one packet.
 pub fn packet_texts_are_prefix_free()
     ensures { ArePrefixFree IsText }

@@ -86,8 +86,8 @@ fn text_of(
     Ok(text)
 }
 
-/// States that no saved text, of either layout, begins with that of another state, or with a
-/// shorter one of its own. So a saved text is that of one state.
+/// States that no saved text, of either layout, is a proper prefix of another saved text. So a
+/// saved text is that of one value.
 pub fn saved_texts_are_prefix_free()
     ensures { ArePrefixFree IsSavedText }
 {}

@@ -31,8 +31,8 @@ pub fn laws_of_faults()
     ensures fine_saved { SavedTextsHaveNoFault }
 {}
 
-/// States that bytes are the encoding of at most one packet, and the saved text of at most one
-/// match, whichever layout it has. The encoding of a packet tells its rules.
+/// States that bytes are the encoding of at most one packet, and of one saved match, whichever
+/// layout a saved text has. The encoding of a packet tells its rules.
 pub fn laws_of_texts()
     ensures packets { IsOneText IsText }
     ensures rules { TextsTellRules }

@@ -150,8 +150,8 @@ fn read_event(line: &[u8]) -> Result<Event, TextFault>
 /// - [`TextFault::NotALine`]: the line has none of the shapes of an event's line. A number of more
 ///   than ten digits is of another shape.
 /// - [`TextFault::BadNumber`]: a number has a leading zero before another digit, or is out of its
-///   range. The range is 0 to 255 for a party, and 0 to 4294967295 for a pick or a word. Or a
-///   number or a pair of the action is wrong, as [`parse_action`] says.
+///   range: 0 to 255 for a party, 0 to 4294967295 for a pick or a word. Or a number or a pair of
+///   the action is wrong, as [`parse_action`] says.
 /// - [`TextFault::TooManySteps`]: a move has more than four pairs.
 pub fn parse_event(line: &[u8]) -> Result<Event, TextFault>
     ensures found { IfOk result (λ event. IsEvent event × (line.now ≡ event_text event)) }

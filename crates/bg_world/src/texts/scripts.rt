@@ -147,7 +147,7 @@ fn carry<L: Link, K: Keeper, S: Source, T: Sink>(
     Ok(printed.verdict)
 }
 
-/// The reason why a script has no verdict, in the order in which the refusals are tested.
+/// The reason why a script came to no verdict, in the order in which the refusals are tested.
 #[derive(Clone, Copy, Debug, PartialEq, Eq, Error)]
 pub enum ScriptFault {
     /// There is no such world. Nothing was read.
