@@ -117,7 +117,7 @@ def completed(script, words):
 
 
 # What some options take, whatever the help texts are read as.
-TAKEN = {"new --rules ''": ["1", "2"], "play --player ''": ["X", "O"], "page --numbering ''": ["mover", "X"],
+TAKEN = {"new --rules ''": ["1", "2"], "play --player ''": ["X", "O", "x", "o"], "page --numbering ''": ["mover", "X"],
          "act --match ''": ["compopt -o default", ""], "recover --x ''": ["compopt -o dirnames", ""],
          "check --files-from ''": ["compopt -o default", ""], "sim --seed ''": [""],
          "judge '<' ''": ["compopt -o default", ""], "judge '2>' exa": ["compopt -o default", ""],
@@ -176,7 +176,7 @@ def check_other_shells(prefix, program, commands):
     if shutil.which("fish"):
         script = f"source {prefix / COMPLETIONS['fish']}; complete -C "
         for words, wanted in {"bg_relay refe": ["referee"], "bg_relay new --rules ": ["1", "2"],
-                              "bg_relay new --le": ["--length"], "bg_relay play --player ": ["O", "X"]}.items():
+                              "bg_relay new --le": ["--length"], "bg_relay play --player ": ["O", "X", "o", "x"]}.items():
             home = {"HOME": str(prefix), "XDG_CONFIG_HOME": f"{prefix}/.config"}
             lines = run("fish", "--no-config", "-c", f"{script} '{words}'", more=home)[1].splitlines()
             has = sorted(line.split("\t")[0] for line in lines)
