@@ -12,7 +12,14 @@ use std::test::Fail;
 const WORDS: [&[&str]; 29] = [
     &["judge"],
     &["check", "--quiet", "a", "-", "b"],
-    &["check", "--files-from", "-"],
+    &[
+        "check",
+        "--files-from",
+        "-",
+        "--recursive",
+        "--format",
+        "tsv",
+    ],
     &["import"],
     &["import", "--rules", "2"],
     &["export"],

@@ -1,6 +1,7 @@
 //! The command that judges many files.
 
 use crate::checkers::{Checker, STANDARD_INPUT, unread_list};
+use crate::walks::is_folder;
 use bg_console::{Progress, wrong};
 use bg_options::CheckOptions;
 use bg_reports::Ending;
@@ -23,11 +24,19 @@ where
         files,
         list,
         is_quiet,
+        is_recursive,
+        format,
     } = options;
     check_names(rt, files, list)?;
-    let mut checker = Checker::new(rt, columns, is_quiet, progress);
+    let mut checker = Checker::begin(rt, columns, is_quiet, format, progress)?;
     for name in files {
-        checker.check(name)?;
+        if !is_folder(rt, name) {
+            checker.check(name)?;
+        } else if is_recursive {
+            checker.check_below(name)?;
+        } else {
+            checker.pass_over_folder(name)?;
+        }
     }
     match list {
         Some(STANDARD_INPUT) => checker.check_list(rt.reader())?,

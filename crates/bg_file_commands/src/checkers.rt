@@ -1,16 +1,19 @@
 //! Judging many files, one after the other.
 
+use crate::check_rows::{Found, HEADINGS, found_in, row_of};
 use crate::inputs::read_input;
+use crate::walks::files_below;
 use bg_console::{
     Progress, allocated, failed_for, no_memory, print_text, say, say_number, say_of, say_why,
 };
+use bg_options::CheckFormat;
 use bg_reports::{Ending, MOST_SHOWN, Tally, check_text, harmless};
 use bg_system::Printable;
 use bg_text::Verdict;
 use std::alloc::{AllocError, Global};
 use std::fs::File;
 use std::io;
-use std::io::{BufRead, BufReader, Read};
+use std::io::{BufRead, BufReader, ErrorKind, Read};
 use std::rt::Files;
 use std::time::Clock;
 
@@ -28,6 +31,7 @@ pub(crate) struct Checker<'a, R> {
     columns: Option<usize>,
     /// Whether nothing is printed for good files.
     is_quiet: bool,
+    format: CheckFormat,
     progress: Progress,
     tally: Tally,
 }
@@ -36,21 +40,41 @@ impl<'a, R> Checker<'a, R>
 where
     R: Input + Files<File = File> + Clock + Print + Eprint + AllocGlobal,
 {
-    /// Creates a checker that has judged no file yet. `columns` is the width of the standard
-    /// output, if it is a screen. If `is_quiet` is set, nothing is printed for good files.
-    pub(crate) fn new(
+    /// Creates a checker that has judged no file yet, and prints what stands above the rows of the
+    /// format. `columns` is the width of the standard output, if it is a screen. If `is_quiet` is
+    /// set, nothing is printed for good files.
+    pub(crate) fn begin(
         rt: &'a R,
         columns: Option<usize>,
         is_quiet: bool,
+        format: CheckFormat,
         progress: Progress,
-    ) -> Checker<'a, R> {
-        Checker {
+    ) -> Result<Checker<'a, R>, Ending> {
+        if format == CheckFormat::Tsv {
+            print_text(rt, HEADINGS)?;
+        }
+        Ok(Checker {
             rt,
             columns,
             is_quiet,
+            format,
             progress,
             tally: Tally::default(),
+        })
+    }
+
+    /// Judges the files in a folder and below it.
+    pub(crate) fn check_below(&mut self, folder: &str) -> Result<(), Ending> {
+        let Ok(places) = files_below(self.rt, folder) else {
+            return Err(no_memory(self.rt));
+        };
+        for place in places {
+            match place.fault {
+                Some(error) => self.tell(place.path.as_str(), Err(error))?,
+                None => self.check_file(place.path.as_str())?,
+            }
         }
+        Ok(())
     }
 
     /// Judges the file with this name, or the standard input.
@@ -69,6 +93,17 @@ where
             Err(error) => Err(error),
         };
         self.tell(name, bytes)
+    }
+
+    /// Reports that a folder is not judged, and how its files are, and counts it.
+    pub(crate) fn pass_over_folder(&mut self, name: &str) -> Result<(), Ending> {
+        say_of(
+            self.rt,
+            name,
+            " is a folder: --recursive judges the files in it",
+        );
+        self.pass_over();
+        self.print_unread(name, &io::Error::from(ErrorKind::IsADirectory))
     }
 
     /// Judges the files of a list, which has one name per line.
@@ -133,6 +168,7 @@ where
             Err(error) => {
                 say_why(self.rt, name, " could not be read", &error);
                 self.pass_over();
+                self.print_unread(name, &error)?;
             }
         }
         let files = self.tally.files();
@@ -141,14 +177,23 @@ where
         Ok(())
     }
 
+    /// Prints the row of a file that could not be read, in the formats for programs.
+    fn print_unread(&self, name: &str, error: &io::Error) -> Result<(), Ending> {
+        if self.format == CheckFormat::Text {
+            return Ok(());
+        }
+        let row = unread_row(self.rt.alloc(), self.format, name, error);
+        print_text(self.rt, &allocated(self.rt, row)?)
+    }
+
     /// Judges a file with these bytes, and prints the result.
     fn judge(&mut self, name: &str, bytes: &[u8]) -> Result<(), Ending> {
-        let Ok((text, verdict)) = checked(self.rt.alloc(), name, bytes, self.columns) else {
+        let Ok((text, is_good)) = self.checked(name, bytes) else {
             say_of(self.rt, name, " could not be judged: out of memory");
             self.pass_over();
             return Ok(());
         };
-        if let Verdict::Fine(_) = verdict {
+        if is_good {
             self.tally.good = self.tally.good.saturating_add(1);
             if self.is_quiet {
                 return Ok(());
@@ -157,6 +202,19 @@ where
             self.tally.refused = self.tally.refused.saturating_add(1);
         }
         print_text(self.rt, &text)
+    }
+
+    /// Returns the report on a file with this name, and whether it is good.
+    fn checked(&self, name: &str, bytes: &[u8]) -> Result<(Vec<u8>, bool), AllocError> {
+        let alloc = self.rt.alloc();
+        if self.format == CheckFormat::Text {
+            let name = format!(in alloc; "{}", Printable(name))?;
+            let (text, verdict) = check_text(alloc, name.as_str(), bytes, self.columns)?;
+            return Ok((text, matches!(verdict, Verdict::Fine(_))));
+        }
+        let found = found_in(alloc, bytes)?;
+        let row = row_of(alloc, self.format, name, bytes, &found)?;
+        Ok((row, matches!(found, Found::Good(_))))
     }
 
     /// Counts a file that is not judged, after the reason was reported.
@@ -171,15 +229,15 @@ where
     }
 }
 
-/// Returns the report on a file with this name, and its verdict.
-fn checked(
+/// Returns the row of a file that could not be read.
+fn unread_row(
     alloc: Global,
+    format: CheckFormat,
     name: &str,
-    bytes: &[u8],
-    columns: Option<usize>,
-) -> Result<(Vec<u8>, Verdict), AllocError> {
-    let name = format!(in alloc; "{}", Printable(name))?;
-    check_text(alloc, name.as_str(), bytes, columns)
+    error: &io::Error,
+) -> Result<Vec<u8>, AllocError> {
+    let reason = format!(in alloc; "{error}")?;
+    row_of(alloc, format, name, b"", &Found::Unread(reason))
 }
 
 /// Reports that the list of files could not be read.

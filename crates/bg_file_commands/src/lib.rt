@@ -14,11 +14,13 @@
 #![tactic(auto)]
 
 pub mod check;
+mod check_rows;
 mod checkers;
 pub mod export;
 mod held_records;
 pub mod import;
 mod inputs;
+mod json;
 pub mod judge;
 pub mod keys;
 pub mod list;
@@ -29,3 +31,4 @@ pub mod picture;
 mod ports_beside;
 pub mod recover;
 pub mod show;
+mod walks;

@@ -2,8 +2,8 @@
 
 mod aligning;
 mod examining;
-mod json;
 mod locks;
+mod objects;
 mod rows;
 mod saves;
 mod searching;
@@ -11,8 +11,8 @@ mod times;
 
 use crate::list::aligning::aligned;
 use crate::list::examining::{Listed, Soundness, examine};
-use crate::list::json::put_object;
 use crate::list::locks::Locks;
+use crate::list::objects::put_object;
 use crate::list::rows::put_row;
 use crate::list::searching::{Place, places_below};
 use bg_console::{allocated, no_memory, print_text, say_of, wrong};

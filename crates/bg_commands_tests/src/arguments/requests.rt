@@ -2,8 +2,9 @@
 use bg_board::Player;
 use bg_match::{Rules, Terms};
 use bg_options::{
-    ActOptions, CheckOptions, ListFormat, ListOptions, LoopOptions, NewOptions, RecoverOptions,
-    RefereeOptions, Request, ScriptOptions, SeatOptions, ShowOptions, SimOptions, WatchOptions,
+    ActOptions, CheckFormat, CheckOptions, ListFormat, ListOptions, LoopOptions, NewOptions,
+    RecoverOptions, RefereeOptions, Request, ScriptOptions, SeatOptions, ShowOptions, SimOptions,
+    WatchOptions,
 };
 use bg_picture::Numbering;
 
@@ -30,6 +31,8 @@ pub(crate) fn is_of_files(row: usize, request: &Request<'_, '_>) -> bool {
                     files,
                     list,
                     is_quiet,
+                    is_recursive: false,
+                    format: CheckFormat::Text,
                 },
             ),
         ) => { *files == ["a", "-", "b"].as_slice() && list.is_none() && *is_quiet }
@@ -40,6 +43,8 @@ pub(crate) fn is_of_files(row: usize, request: &Request<'_, '_>) -> bool {
                     files,
                     list,
                     is_quiet,
+                    is_recursive: true,
+                    format: CheckFormat::Tsv,
                 },
             ),
         ) => { files.is_empty() && *list == Some("-") && !*is_quiet }

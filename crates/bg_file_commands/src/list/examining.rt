@@ -2,7 +2,7 @@
 
 use crate::list::locks::Locks;
 use crate::list::saves::{Held, held_in};
-use crate::list::searching::not_memory;
+use crate::walks::not_memory;
 use bg_match::{Number, Standing};
 use bg_system::{MatchFile, NamedMatch, SlotName, read_saved};
 use bg_wire::{REFEREE, Slot};

@@ -1,5 +1,6 @@
 //! Searching for the folders of matches.
 
+use crate::walks::not_memory;
 use std::fs::File;
 use std::io::ErrorKind;
 use std::rt::Files;
@@ -112,15 +113,4 @@ where
         }
     }
     Ok(())
-}
-
-/// Returns the error, unless it is want of memory.
-///
-/// # Errors
-/// `OutOfMemory` alone.
-pub(crate) fn not_memory(error: io::Error) -> io::Result<io::Error> {
-    match error.kind() {
-        ErrorKind::OutOfMemory => Err(error),
-        _ => Ok(error),
-    }
 }

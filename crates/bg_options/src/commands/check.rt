@@ -17,7 +17,12 @@ each, in the order given.
 
 A file is taken for a match file of another program, by the first rules, where its first line that is
 neither blank nor a comment says how long the match is, as `7 point match` does; its name says
-nothing.
+nothing. With --recursive a folder stands for all files in it and below it, in the order of their
+names; links to folders are not followed, and files whose names begin with a dot are left out.
+
+For programs, --format tsv prints a line of names and then a line for each file, with a tab between
+the fields, and --format json an object for each file: the file, its kind, the verdict, the line that
+is refused and why, and of a good match its entries, length, rules, score, game, winner and state.
 
 Behind the reason stands the line itself, cut to the width of the screen where the standard output is
 one (COLUMNS says how wide it is, and else it is taken for 80 columns), and to 1000 columns elsewhere.
@@ -26,7 +31,18 @@ and the others are judged all the same. Where the standard error is a terminal, 
 second how far it is. Ends with status 0 where all are good, 2 where one is refused, and 1 where one
 can't be read, also where another is refused, or writing failed.";
 
-/// The files to judge.
+/// The format of the results.
+#[derive(Clone, Copy, Debug, PartialEq, Eq)]
+pub enum CheckFormat {
+    /// Lines for people.
+    Text,
+    /// Fields with tabs between them, below a line of their names.
+    Tsv,
+    /// One JSON object per line.
+    Json,
+}
+
+/// The files to judge, and the format of their results.
 #[derive(Clone, Copy)]
 pub struct CheckOptions<'m, 'a> {
     pub files: &'m [&'a str],
@@ -34,6 +50,9 @@ pub struct CheckOptions<'m, 'a> {
     pub list: Option<&'a str>,
     /// Whether nothing is printed for good files.
     pub is_quiet: bool,
+    /// Whether a folder stands for the files below it.
+    pub is_recursive: bool,
+    pub format: CheckFormat,
 }
 
 impl<'m, 'a> CheckOptions<'m, 'a> {
@@ -42,6 +61,12 @@ impl<'m, 'a> CheckOptions<'m, 'a> {
             files: options.get_strs("FILE").unwrap_or_default(),
             list: options.get_str("files-from"),
             is_quiet: options.get_flag("quiet"),
+            is_recursive: options.get_flag("recursive"),
+            format: match options.get_str("format") {
+                Some("tsv") => CheckFormat::Tsv,
+                Some("json") => CheckFormat::Json,
+                _ => CheckFormat::Text,
+            },
         }
     }
 }
@@ -51,6 +76,20 @@ const QUIET: Argument = Argument {
     kind: Kind::Flag,
     need: Need::Optional,
     about: "Print only what is refused",
+};
+
+const RECURSIVE: Argument = Argument {
+    name: "recursive",
+    kind: Kind::Flag,
+    need: Need::Optional,
+    about: "Judge all files in folders that are named, and below them",
+};
+
+const FORMAT: Argument = Argument {
+    name: "format",
+    kind: Kind::OneOf("FORMAT", &["text", "tsv", "json"]),
+    need: Need::Usually("text"),
+    about: "How: text for people; fields with tabs, or an object of JSON in each line, for programs",
 };
 
 const LIST: Argument = Argument {
@@ -65,7 +104,10 @@ pub(crate) fn command<'a>(alloc: Global) -> Result<Command<'a>, Error> {
     let files = Arg::new(alloc, "FILE")
         .num_args(1..)
         .required_unless_present(LIST.name)?
-        .help("The files; - is the standard input");
+        .help("The files, and folders with --recursive; - is the standard input");
     let command = described(alloc, "check", "Judge many files", ABOUT_CHECK);
-    with(with_all(alloc, command, &[QUIET, LIST])?, files)
+    with(
+        with_all(alloc, command, &[QUIET, LIST, FORMAT, RECURSIVE])?,
+        files,
+    )
 }

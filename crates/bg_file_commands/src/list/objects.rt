@@ -1,34 +1,12 @@
 //! The line of a match for programs: a JSON object.
 
+use crate::json::{put_numbered, put_quoted};
 use crate::list::examining::Listed;
 use crate::list::times::Moment;
 use bg_match::{Phase, Standing};
 use bg_system::{NamedMatch, Names, number_of_rules};
-use bg_text::{put_number, put_phase, put_text};
+use bg_text::{put_phase, put_text};
 use std::alloc::{AllocError, Global};
-use std::fmt;
-use std::fmt::{Display, Formatter, Write};
-
-/// A text as JSON writes it between quotes.
-#[derive(Clone, Copy)]
-struct Quoted<'a>(&'a str);
-
-impl<'a> Display for Quoted<'a> {
-    fn fmt<W: Write>(&self, f: &mut Formatter<W>) -> fmt::Result {
-        f.write_char('"')?;
-        for part in self.0.chars() {
-            match part {
-                '"' | '\\' => write!(f, "\\{part}")?,
-                '\0'..='\u{1f}' => {
-                    let code = u32::from(part);
-                    write!(f, "\\u{code:04x}")?;
-                }
-                _ => f.write_char(part)?,
-            }
-        }
-        f.write_char('"')
-    }
-}
 
 /// Appends the line of a folder (docs/FORMATS.md, "Lists of matches"). What is unknown is left out.
 pub(crate) fn put_object(
@@ -94,20 +72,8 @@ fn put_standing(out: &mut Vec<u8>, standing: &Standing) -> Result<(), AllocError
     put_flag(out, "\",\"over\":", is_over)
 }
 
-/// Appends words, and a number behind them.
-fn put_numbered(out: &mut Vec<u8>, words: &str, number: u64) -> Result<(), AllocError> {
-    put_text(out, words)?;
-    put_number(out, number)
-}
-
 /// Appends words, and a truth value behind them.
 fn put_flag(out: &mut Vec<u8>, words: &str, is_so: bool) -> Result<(), AllocError> {
     put_text(out, words)?;
     put_text(out, if is_so { "true" } else { "false" })
-}
-
-/// Appends words, and a text behind them.
-fn put_quoted(alloc: Global, out: &mut Vec<u8>, words: &str, text: &str) -> Result<(), AllocError> {
-    let text = format!(in alloc; "{words}{}", Quoted(text))?;
-    put_text(out, text.as_str())
 }

@@ -1,0 +1,106 @@
+//! The files below a folder.
+
+use std::fs::File;
+use std::io::ErrorKind;
+use std::rt::Files;
+use std::{fs, io};
+
+/// Number of folders that a file may stand in below the one that is named, at most.
+const MOST_DEEP: u8 = 40;
+
+/// A file, or a folder that can't be read.
+#[derive(Drop)]
+pub(crate) struct Place {
+    pub(crate) path: String,
+    /// The reason why a folder can't be read.
+    pub(crate) fault: Option<io::Error>,
+}
+
+/// Returns whether a path is that of a folder.
+pub(crate) fn is_folder(rt: &impl Files<File = File>, path: &str) -> bool {
+    fs::metadata(rt, path).is_ok_and(|found| found.is_dir())
+}
+
+/// Returns the files in a folder and below it, sorted by their paths, and the folders that can't be
+/// read. Links to folders are not followed. Files and folders whose names begin with a dot are left
+/// out, and so are those whose names are not text.
+///
+/// # Errors
+/// `OutOfMemory` alone.
+pub(crate) fn files_below<R>(rt: &R, folder: &str) -> io::Result<Vec<Place>>
+where
+    R: Files<File = File> + AllocGlobal,
+{
+    let mut places = Vec::new(rt.alloc());
+    let mut level = Vec::new(rt.alloc());
+    let name = folder.trim_end_matches('/');
+    level.push(String::from_str(rt.alloc(), if name.is_empty() { "/" } else { name })?)?;
+    for _ in 0..MOST_DEEP {
+        let mut below = Vec::new(rt.alloc());
+        for path in level {
+            if let Err(error) = add_content(rt, path.as_str(), &mut places, &mut below) {
+                let fault = Some(not_memory(error)?);
+                places.push(Place { path, fault })?;
+            }
+        }
+        level = below;
+    }
+    for path in level {
+        let fault = Some(io::Error::from(ErrorKind::FilesystemLoop));
+        places.push(Place { path, fault })?;
+    }
+    places.sort_by(|one: &Place, other: &Place| one.path.as_str().cmp(other.path.as_str()))?;
+    Ok(places)
+}
+
+/// Appends the files in a folder, and the folders in it.
+fn add_content<R>(
+    rt: &R,
+    folder: &str,
+    files: &mut Vec<Place>,
+    folders: &mut Vec<String>,
+) -> io::Result<()>
+where
+    R: Files<File = File> + AllocGlobal,
+{
+    for found in fs::read_dir(&rt, folder)? {
+        let found = match found {
+            Ok(found) => found,
+            Err(error) if error.kind() == ErrorKind::InvalidFilename => continue,
+            Err(error) => return Err(error),
+        };
+        let Ok(kind) = found.file_type() else {
+            continue;
+        };
+        let path = found.path();
+        if is_hidden(path.as_str()) {
+            continue;
+        }
+        let path = String::from_str(rt.alloc(), path.as_str())?;
+        if kind.is_dir() {
+            folders.push(path)?;
+        } else if kind.is_file() || !is_folder(rt, path.as_str()) {
+            files.push(Place { path, fault: None })?;
+        }
+    }
+    Ok(())
+}
+
+/// Returns whether the last part of a path begins with a dot.
+fn is_hidden(path: &str) -> bool {
+    match path.rsplit_once('/') {
+        Some((_, name)) => name.starts_with('.'),
+        None => path.starts_with('.'),
+    }
+}
+
+/// Returns the error, unless it is want of memory.
+///
+/// # Errors
+/// `OutOfMemory` alone.
+pub(crate) fn not_memory(error: io::Error) -> io::Result<io::Error> {
+    match error.kind() {
+        ErrorKind::OutOfMemory => Err(error),
+        _ => Ok(error),
+    }
+}
