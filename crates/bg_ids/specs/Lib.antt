@@ -3,3 +3,4 @@ pub mod Turns
 pub mod PositionIds
 pub mod MatchIds
 pub mod Xgids
+pub mod Laws

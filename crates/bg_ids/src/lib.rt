@@ -11,11 +11,13 @@
 #![tactic(auto)]
 
 mod bits;
+mod laws;
 mod match_ids;
 mod position_ids;
 mod turns;
 mod xgids;
 
+pub use laws::{ids_are_whole, match_ids_differ, position_ids_differ};
 pub use match_ids::MatchId;
 pub use position_ids::PositionId;
 pub use turns::{on_roll, to_act};
