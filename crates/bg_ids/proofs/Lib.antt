@@ -5,3 +5,4 @@ pub mod Inverses
 pub mod Sides
 pub mod Lengths
 pub mod Fields
+mod WorkedIds
