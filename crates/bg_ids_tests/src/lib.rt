@@ -1,0 +1,7 @@
+//! Tests of the identifiers of positions and matches, by what is public of `bg_ids`.
+#![tactic(auto)]
+
+#[cfg(test)]
+mod rows;
+#[cfg(test)]
+mod words;
