@@ -1,12 +1,15 @@
 //! The results of files as fields, for programs.
 
-use crate::json::put_quoted;
+mod fields;
+
+use crate::check_rows::fields::Row;
+use bg_ids::{MatchId, PositionId, Xgid};
 use bg_mat::{ImportFault, import_mat, is_match_file};
 use bg_match::{Number, Phase, Record, Rules, Standing};
 use bg_options::CheckFormat;
 use bg_reports::{MOST_SHOWN, harmless};
-use bg_system::{Printable, number_of_rules};
-use bg_text::{TranscriptFault, letter, put_number, put_text, read_transcript, split_line};
+use bg_system::number_of_rules;
+use bg_text::{TranscriptFault, letter, read_transcript, split_line};
 use std::alloc::{AllocError, Global};
 
 /// The number of a match that is read from a file, which has none.
@@ -14,7 +17,7 @@ const NO_NUMBER: u64 = 0;
 
 /// The line above rows with tabs: the names of the fields, in their order.
 pub(crate) const HEADINGS: &[u8] =
-    b"file\tkind\tverdict\tline\treason\ttext\tentries\tlength\trules\tx\to\tgame\twinner\tstate\n";
+    b"file\tkind\tverdict\tline\treason\ttext\tentries\tlength\trules\tx\to\tgame\twinner\tstate\tposition_id\tmatch_id\txgid\n";
 
 /// The result of a file.
 #[derive(Drop)]
@@ -68,12 +71,7 @@ pub(crate) fn row_of(
     bytes: &[u8],
     found: &Found,
 ) -> Result<Vec<u8>, AllocError> {
-    let mut row = Row {
-        alloc,
-        is_json: format == CheckFormat::Json,
-        out: Vec::new(alloc),
-    };
-    row.begin(name)?;
+    let mut row = Row::begin(alloc, format, name)?;
     match found {
         Found::Good(record) => {
             row.text("kind", kind_of(bytes))?;
@@ -84,15 +82,15 @@ pub(crate) fn row_of(
         Found::Refused(line, reason) => {
             row.text("kind", kind_of(bytes))?;
             row.text("verdict", "refused")?;
-            row.refusal(bytes, *line, reason.as_str())?;
-            row.without(8)?;
+            row.refusal(alloc, bytes, *line, reason.as_str())?;
+            row.without(11)?;
         }
         Found::Unread(reason) => {
             row.without(1)?;
             row.text("verdict", "unread")?;
             row.without(1)?;
             row.text("reason", reason.as_str())?;
-            row.without(9)?;
+            row.without(12)?;
         }
     }
     row.end()
@@ -107,71 +105,16 @@ fn kind_of(bytes: &[u8]) -> &'static str {
     }
 }
 
-/// The row of a file, to which its fields are appended in the order of the headings.
-#[derive(Drop)]
-struct Row {
-    alloc: Global,
-    is_json: bool,
-    out: Vec<u8>,
-}
-
 impl Row {
-    /// Appends the name of the file.
-    fn begin(&mut self, name: &str) -> Result<(), AllocError> {
-        if self.is_json {
-            return put_quoted(self.alloc, &mut self.out, "{\"file\":", name);
-        }
-        let shown = format!(in self.alloc; "{}", Printable(name))?;
-        put_text(&mut self.out, shown.as_str())
-    }
-
-    /// Appends the end of the row, and returns it.
-    fn end(self) -> Result<Vec<u8>, AllocError> {
-        let mut out = self.out;
-        put_text(&mut out, if self.is_json { "}\n" } else { "\n" })?;
-        Ok(out)
-    }
-
-    /// Appends the start of a field with this name.
-    fn field(&mut self, name: &str) -> Result<(), AllocError> {
-        if !self.is_json {
-            return put_text(&mut self.out, "\t");
-        }
-        put_text(&mut self.out, ",\"")?;
-        put_text(&mut self.out, name)?;
-        put_text(&mut self.out, "\":")
-    }
-
-    /// Appends a field with a text.
-    fn text(&mut self, name: &str, text: &str) -> Result<(), AllocError> {
-        self.field(name)?;
-        if self.is_json {
-            return put_quoted(self.alloc, &mut self.out, "", text);
-        }
-        let shown = format!(in self.alloc; "{}", Printable(text))?;
-        put_text(&mut self.out, shown.as_str())
-    }
-
-    /// Appends a field with a number.
-    fn number(&mut self, name: &str, number: u64) -> Result<(), AllocError> {
-        self.field(name)?;
-        put_number(&mut self.out, number)
-    }
-
-    /// Appends this number of fields of which nothing is known, which JSON leaves out.
-    fn without(&mut self, fields: u8) -> Result<(), AllocError> {
-        if self.is_json {
-            return Ok(());
-        }
-        for _ in 0..fields {
-            put_text(&mut self.out, "\t")?;
-        }
-        Ok(())
-    }
-
     /// Appends the line that is refused, the reason, and the text of the line. An input that is too
     /// long has only the reason.
-    fn refusal(&mut self, bytes: &[u8], line: Number, reason: &str) -> Result<(), AllocError> {
+    fn refusal(
+        &mut self,
+        alloc: Global,
+        bytes: &[u8],
+        line: Number,
+        reason: &str,
+    ) -> Result<(), AllocError> {
         let index = line.checked_sub(1);
         match index {
             Some(_) => self.number("line", line.into())?,
@@ -179,20 +122,12 @@ impl Row {
         }
         self.text("reason", reason)?;
         match index {
-            Some(index) => self.shown_line(line_at(bytes, index)),
+            Some(index) => {
+                let shown = harmless(alloc, line_at(bytes, index), MOST_SHOWN)?;
+                self.shown("text", str::from_utf8(&shown).unwrap_or_default())
+            }
             None => self.without(1),
         }
-    }
-
-    /// Appends the text of a line, which is shown as `check` shows it to people.
-    fn shown_line(&mut self, line: &[u8]) -> Result<(), AllocError> {
-        let shown = harmless(self.alloc, line, MOST_SHOWN)?;
-        self.field("text")?;
-        let text = str::from_utf8(&shown).unwrap_or_default();
-        if self.is_json {
-            return put_quoted(self.alloc, &mut self.out, "", text);
-        }
-        put_text(&mut self.out, text)
     }
 
     /// Appends what is known of a good match.
@@ -201,7 +136,8 @@ impl Row {
         self.number("entries", record.len().into())?;
         self.number("length", record.length().into())?;
         self.number("rules", number_of_rules(record.rules()).into())?;
-        self.standing(&standing)
+        self.standing(&standing)?;
+        self.ids(&standing)
     }
 
     /// Appends the score, the game, the winner and the state of a match.
@@ -219,6 +155,16 @@ impl Row {
                 self.without(1)?;
                 self.text("state", "in game")
             }
+        }
+    }
+
+    /// Appends the identifiers of a standing, as other programs read them.
+    fn ids(&mut self, standing: &Standing) -> Result<(), AllocError> {
+        self.text("position_id", PositionId::of(standing).as_str())?;
+        self.text("match_id", MatchId::of(standing).as_str())?;
+        match Xgid::of(standing) {
+            Ok(id) => self.text("xgid", id.as_str()),
+            Err(_) => self.without(1),
         }
     }
 }

@@ -18,6 +18,7 @@ mod check_rows;
 mod checkers;
 pub mod export;
 mod held_records;
+pub mod id;
 pub mod import;
 mod inputs;
 mod json;

@@ -4,6 +4,7 @@ pub(crate) mod act;
 pub(crate) mod auto;
 pub(crate) mod check;
 pub(crate) mod export;
+pub(crate) mod id;
 pub(crate) mod import;
 pub(crate) mod judge;
 pub(crate) mod keys;

@@ -33,6 +33,7 @@ pub enum Request<'m, 'a> {
     List(ListOptions<'m, 'a>),
     Page(PageOptions<'a>),
     Picture { numbering: Numbering },
+    Id,
     Script(ScriptOptions),
     Sim(SimOptions),
     Loop(LoopOptions<'a>),
@@ -106,6 +107,7 @@ fn of_task<'m, 'a>(task: Task, options: &'m ArgMatches<'a>) -> Option<Request<'m
         Task::Picture => Request::Picture {
             numbering: numbering_in(options),
         },
+        Task::Id => Request::Id,
         Task::Script => Request::Script(ScriptOptions::read(options)?),
         Task::Sim => Request::Sim(SimOptions::read(options)?),
         Task::Loop => Request::Loop(LoopOptions::read(options)?),

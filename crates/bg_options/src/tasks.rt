@@ -1,8 +1,8 @@
 //! The tasks of the program.
 
 use crate::commands::{
-    act, auto, check, export, import, judge, keys, list, new_match, page, picture, play, play_loop,
-    recover, referee, script, show, sim, watch,
+    act, auto, check, export, id, import, judge, keys, list, new_match, page, picture, play,
+    play_loop, recover, referee, script, show, sim, watch,
 };
 use clap::{Command, Error};
 use std::alloc::Global;
@@ -21,6 +21,7 @@ pub enum Task {
     List,
     Page,
     Picture,
+    Id,
     Script,
     Sim,
     Loop,
@@ -35,7 +36,7 @@ pub enum Task {
 }
 
 /// The commands by their names, in the order in which help lists them.
-pub const TASKS: [(&str, Task); 19] = [
+pub const TASKS: [(&str, Task); 20] = [
     ("judge", Task::Judge),
     ("check", Task::Check),
     ("import", Task::Import),
@@ -44,6 +45,7 @@ pub const TASKS: [(&str, Task); 19] = [
     ("list", Task::List),
     ("page", Task::Page),
     ("picture", Task::Picture),
+    ("id", Task::Id),
     ("script", Task::Script),
     ("sim", Task::Sim),
     ("loop", Task::Loop),
@@ -76,6 +78,7 @@ impl Task {
             Task::Export => Some("export"),
             Task::Page => Some("page"),
             Task::Picture => Some("picture"),
+            Task::Id => Some("id"),
             Task::Script => Some("script --length N --watchers N"),
             _ => None,
         }
@@ -92,6 +95,7 @@ impl Task {
             Task::List => list::command(alloc),
             Task::Page => page::command(alloc),
             Task::Picture => picture::command(alloc),
+            Task::Id => id::command(alloc),
             Task::Script => script::command(alloc),
             Task::Sim => sim::command(alloc),
             Task::Loop => play_loop::command(alloc),

@@ -8,7 +8,7 @@ pub use bg_auto::{
 };
 use bg_console::{Progress, columns, failed, no_memory, output_terminal, unwritten, wrong};
 use bg_file_commands::{
-    check, export, import, judge, keys, list, new_match, page, picture, recover, show,
+    check, export, id, import, judge, keys, list, new_match, page, picture, recover, show,
 };
 use bg_match_commands::{play_loop, referee, script, sim, watch};
 use bg_options::{Request, command_line};
@@ -71,6 +71,7 @@ fn obey(rt: &HostRuntime, request: Request<'_, '_>) -> Result<Ending, Ending> {
         Request::List(options) => list::run(rt, options),
         Request::Page(options) => page::run(rt, options),
         Request::Picture { numbering } => picture::run(rt, numbering),
+        Request::Id => id::run(rt),
         Request::Script(options) => script::run(rt, options),
         Request::Sim(options) => sim::run(rt, options, progress),
         Request::Loop(options) => play_loop::run(rt, options, progress),
