@@ -48,10 +48,15 @@ const WRITTEN: MatchFile = MatchFile {
 /// What lacked memory is done once more, and then succeeds.
 #[test]
 fn refused_growths_of_files(rt: HostRuntime) {
-    let folder = folder_at_last(&rt, "file-growths");
+    check_files(&rt);
+}
+
+/// Files are written and read once more where memory was refused.
+fn check_files(rt: &(impl Host + RandomSource)) {
+    let folder = folder_at_last(rt, "file-growths");
     let mut failed = false;
     for _ in 0..2 {
-        match write_and_read(&rt, folder.as_str(), &WRITTEN) {
+        match write_and_read(rt, folder.as_str(), &WRITTEN) {
             Ok(read) => assert!(rt; read == Some(WRITTEN)),
             Err(error) => {
                 assert!(rt; error.kind() == ErrorKind::OutOfMemory && !failed);
@@ -59,8 +64,8 @@ fn refused_growths_of_files(rt: HostRuntime) {
             }
         }
     }
-    remove_at_last(&rt, folder.as_str());
-    check_no_growth_is_left(&rt);
+    remove_at_last(rt, folder.as_str());
+    check_no_growth_is_left(rt);
 }
 
 /// Writes each kind of file, and reads those that are read.
@@ -85,10 +90,15 @@ fn write_and_read(
 /// Processes that lacked memory lose nothing: the match goes on, by the same process or by the next.
 #[test]
 fn refused_growths_of_processes(rt: HostRuntime) {
-    let folder = folder_at_last(&rt, "process-growths");
-    play_some(&rt, folder.as_str());
-    remove_at_last(&rt, folder.as_str());
-    check_no_growth_is_left(&rt);
+    check_processes(&rt);
+}
+
+/// A match between processes goes on where memory was refused.
+fn check_processes(rt: &impl Host) {
+    let folder = folder_at_last(rt, "process-growths");
+    play_some(rt, folder.as_str());
+    remove_at_last(rt, folder.as_str());
+    check_no_growth_is_left(rt);
 }
 
 fn play_some(rt: &impl Host, folder: &str) {
@@ -109,16 +119,21 @@ fn lacked_memory(fault: &LoopFault) -> bool {
 /// but `tools/checks/refuse_growths` refuses each growth in turn.
 #[test]
 fn refused_growths_of_a_round(rt: HostRuntime) {
-    let made = folder_at_last(&rt, "growths");
+    check_round(&rt);
+}
+
+/// A round is played once more where memory was refused.
+fn check_round(rt: &impl Host) {
+    let made = folder_at_last(rt, "growths");
     let folder = made.as_str();
-    let text = match try_played(&rt, folder, SEED, SHORT, 1) {
+    let text = match try_played(rt, folder, SEED, SHORT, 1) {
         Ok(text) => text,
         Err(fault) => {
             assert!(rt; lacked_memory(&fault));
-            played(&rt, folder, SEED, SHORT, 1)
+            played(rt, folder, SEED, SHORT, 1)
         }
     };
     assert!(rt; is_sound(&text));
-    remove_at_last(&rt, folder);
-    check_no_growth_is_left(&rt);
+    remove_at_last(rt, folder);
+    check_no_growth_is_left(rt);
 }

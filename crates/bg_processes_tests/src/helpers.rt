@@ -7,6 +7,8 @@ pub(crate) mod hosts;
 pub(crate) mod party_scripts;
 pub(crate) mod played_loops;
 pub(crate) mod saved_records;
+mod script_words;
 pub(crate) mod stand_ins;
 pub(crate) mod tables;
 pub(crate) mod told_failures;
+pub(crate) mod words;

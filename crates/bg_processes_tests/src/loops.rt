@@ -51,10 +51,15 @@ pub(crate) fn counts(text: &[u8]) -> Option<[u32; 4]> {
 
 #[test]
 fn no_rounds(rt: HostRuntime) {
-    let folder = new_folder(&rt, "no-rounds");
-    let text = played(&rt, folder.as_str(), SEED, SHORT, 0);
+    check_no_rounds(&rt);
+}
+
+/// What is printed of a match that did not begin.
+fn check_no_rounds(rt: &impl Host) {
+    let folder = new_folder(rt, "no-rounds");
+    let text = played(rt, folder.as_str(), SEED, SHORT, 0);
     assert!(rt; text.as_slice() == AT_THE_START.as_bytes());
-    remove_folder(&rt, folder.as_str());
+    remove_folder(rt, folder.as_str());
 }
 
 /// Plays forty rounds, and gives what the referee saved.
@@ -66,11 +71,16 @@ fn after_forty(rt: &impl Host, folder: &str) -> Record {
 
 #[test]
 fn forty_rounds_and_forty_more(rt: HostRuntime) {
-    let folder = new_folder(&rt, "forty-rounds");
-    let earlier = after_forty(&rt, folder.as_str());
-    let later = after_forty(&rt, folder.as_str());
+    check_forty(&rt);
+}
+
+/// The later rounds go on where the earlier ones ended.
+fn check_forty(rt: &impl Host) {
+    let folder = new_folder(rt, "forty-rounds");
+    let earlier = after_forty(rt, folder.as_str());
+    let later = after_forty(rt, folder.as_str());
     assert!(rt; later.len() > earlier.len() && begins_with(&later, &earlier));
-    remove_folder(&rt, folder.as_str());
+    remove_folder(rt, folder.as_str());
 }
 
 /// Matches of length 3, so many rounds of each, and how many entries these have at least. The first game of match 417
@@ -106,28 +116,38 @@ fn check_stops(rt: &impl Host, folder: &str, seed: u64, cause: RestoreCause) {
 
 #[test]
 fn other_files(rt: HostRuntime) {
-    let made = new_folder(&rt, "other-files");
+    check_other_files(&rt);
+}
+
+/// A match stops where the files are those of another one, or are damaged.
+fn check_other_files(rt: &impl Host) {
+    let made = new_folder(rt, "other-files");
     let folder = made.as_str();
-    played(&rt, folder, SEED, SHORT, 10);
-    check_stops(&rt, folder, SEED + 1, RestoreCause::WrongMatch);
+    played(rt, folder, SEED, SHORT, 10);
+    check_stops(rt, folder, SEED + 1, RestoreCause::WrongMatch);
     for file in ["party-0.0", "party-0.1"] {
-        let path = path_in(&rt, folder, file);
-        fs::write(&rt, path.as_str(), [0x42]).expect(&rt, "a file is written");
+        let path = path_in(rt, folder, file);
+        fs::write(rt, path.as_str(), [0x42]).expect(rt, "a file is written");
     }
-    check_stops(&rt, folder, SEED, RestoreCause::Damaged);
-    remove_folder(&rt, folder);
+    check_stops(rt, folder, SEED, RestoreCause::Damaged);
+    remove_folder(rt, folder);
 }
 
 #[test]
 fn no_such_matches(rt: HostRuntime) {
-    let folder = new_folder(&rt, "no-such-matches");
+    check_no_matches(&rt);
+}
+
+/// Lengths that no match has.
+fn check_no_matches(rt: &impl Host) {
+    let folder = new_folder(rt, "no-such-matches");
     for length in [0, 100] {
         let terms = Terms { length, ..SHORT };
-        let refused = try_played(&rt, folder.as_str(), SEED, terms, 1);
+        let refused = try_played(rt, folder.as_str(), SEED, terms, 1);
         assert!(rt;
             matches!(refused, Err(LoopFault::World(_))),
             "length {length}"
         );
     }
-    remove_folder(&rt, folder.as_str());
+    remove_folder(rt, folder.as_str());
 }

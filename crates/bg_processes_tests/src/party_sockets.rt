@@ -1,58 +1,49 @@
 //! A party's socket, and what strangers send to it.
 use crate::helpers::hosts::Host;
-use crate::helpers::party_scripts::Step::{
-    Asks, CantSend, Clock, Heard, Rebinds, Sends, Strays, Takes, TakesNothing, TakesNothingAs,
-};
-use crate::helpers::party_scripts::{SetClock, Sockets, Step};
+use crate::helpers::party_scripts::{SetClock, Sockets};
 use bg_processes::{Attendance, Change, Failures, Liveness, LivenessChange, Ticking, Waiting};
 use bg_world::Link;
 use std::io::ErrorKind;
 use std::process::Abort;
 use std::time::{Duration, Instant};
 
-/// X asks the referee of match 7 for all entries.
-const X_WANTS: [u8; 18] = [0x42, 0x47, 2, 1, 0, 0, 0, 0, 0, 0, 0, 7, 1, 1, 0, 0, 0, 0];
-
-/// The same of O.
-const O_WANTS: [u8; 18] = [0x42, 0x47, 2, 1, 0, 0, 0, 0, 0, 0, 0, 7, 1, 2, 0, 0, 0, 0];
-
-/// The referee of match 7 tells the opening 5 6.
-const OPENING: [u8; 21] = [
-    0x42, 0x47, 2, 3, 0, 0, 0, 0, 0, 0, 0, 7, 1, 0, 0, 0, 1, 1, 1, 5, 6,
-];
-
-/// Sockets of three parties come through the steps.
-fn check_steps(rt: &impl Host, steps: &[Step<'_>]) {
+/// Sockets of three parties come through a script.
+fn check_script(rt: &impl Host, script: &str) {
     let (clock, failures) = (SetClock::new(), Failures::new());
-    Sockets::new(rt, &clock, &failures).play(steps);
+    Sockets::new(rt, &clock, &failures).play(script);
 }
 
-const TO_THEIR_PARTY: [Step<'static>; 9] = [
-    Sends(1, 0, &X_WANTS),
-    TakesNothing(2),
-    Takes(0, &X_WANTS),
-    TakesNothing(0),
-    // Not for another party than the socket's.
-    Sends(1, 0, &X_WANTS),
-    TakesNothingAs(0, 1),
-    // To a party that is away, and to one that is not the referee.
-    Sends(0, 9, &OPENING),
-    CantSend(1, 2, &X_WANTS),
-    TakesNothing(2),
-];
+const TO_THEIR_PARTY: &str = "\
+send 1 0 x-wants
+take 2 nothing
+take 0 x-wants
+take 0 nothing
+# Not for another party than the socket's.
+send 1 0 x-wants
+take as 1 0 nothing
+# To a party that is away, and to one that is not the referee.
+send 0 9 opening
+can't send 1 2 x-wants
+take 2 nothing
+";
 
 #[test]
 fn packets_go_to_their_party(rt: HostRuntime) {
+    check_packets(&rt);
+}
+
+/// What comes of packets, and of a second socket of a party.
+fn check_packets(rt: &impl Host) {
     let (clock, failures) = (SetClock::new(), Failures::new());
-    let mut sockets = Sockets::new(&rt, &clock, &failures);
-    sockets.play(&TO_THEIR_PARTY);
+    let mut sockets = Sockets::new(rt, &clock, &failures);
+    sockets.play(TO_THEIR_PARTY);
     // A second process of the party, and a party that has no port.
     for (port, party, kind) in [
         (sockets.port, 1, ErrorKind::AddrInUse),
         (65_500, 200, ErrorKind::AddrNotAvailable),
     ] {
         let refused = sockets.bound(port, party, party).err();
-        let refused = refused.expect(&rt, "no socket");
+        let refused = refused.expect(rt, "no socket");
         assert!(rt; refused.kind() == kind, "party {party}");
     }
 }
@@ -61,89 +52,89 @@ fn packets_go_to_their_party(rt: HostRuntime) {
 /// sealed under another key.
 #[test]
 fn packets_of_strangers(rt: HostRuntime) {
-    check_steps(&rt, &STRANGERS);
+    check_script(&rt, STRANGERS);
 }
 
-const STRANGERS: [Step<'static>; 13] = [
-    Strays(0, &X_WANTS, 1),
-    Strays(0, b"rubbish", 1),
-    Strays(0, &[7; 300], 1),
-    Sends(2, 0, &X_WANTS),
-    TakesNothing(0),
-    // X's port, with the key of those who watch.
-    Rebinds(1, 3),
-    Sends(1, 0, &X_WANTS),
-    TakesNothing(0),
-    Rebinds(1, 1),
-    // As many as are passed over in one take, and then one of X.
-    Strays(0, &O_WANTS, 64),
-    Sends(1, 0, &X_WANTS),
-    TakesNothing(0),
-    Takes(0, &X_WANTS),
-];
+const STRANGERS: &str = "\
+stray 0 1 x-wants
+stray 0 1 rubbish
+stray 0 1 300-sevens
+send 2 0 x-wants
+take 0 nothing
+# X's port, with the key of those who watch.
+rebind 1 3
+send 1 0 x-wants
+take 0 nothing
+rebind 1 1
+# As many as are passed over in one take, and then one of X.
+stray 0 64 o-wants
+send 1 0 x-wants
+take 0 nothing
+take 0 x-wants
+";
 
 #[test]
 fn questions_are_answered(rt: HostRuntime) {
-    check_steps(&rt, &QUESTIONS);
+    check_script(&rt, QUESTIONS);
 }
 
-const QUESTIONS: [Step<'static>; 15] = [
-    Strays(0, b"", 2),
-    Strays(1, b"", 2),
-    Asks(1),
-    TakesNothing(0),
-    Heard(0, 0),
-    TakesNothing(1),
-    Heard(1, 1),
-    TakesNothing(2),
-    Heard(2, 0),
-    // A seat answers nobody, and hears of the referee by packets too.
-    Sends(0, 1, &X_WANTS),
-    TakesNothing(1),
-    Heard(1, 1),
-    Sends(0, 1, &OPENING),
-    Takes(1, &OPENING),
-    Heard(1, 2),
-];
+const QUESTIONS: &str = "\
+stray 0 2 no-bytes
+stray 1 2 no-bytes
+ask 1
+take 0 nothing
+heard 0 0
+take 1 nothing
+heard 1 1
+take 2 nothing
+heard 2 0
+# A seat answers nobody, and hears of the referee by packets too.
+send 0 1 x-wants
+take 1 nothing
+heard 1 1
+send 0 1 opening
+take 1 opening
+heard 1 2
+";
 
 /// What the referee is to send is lost before a party was heard, and a minute after; what a party sends never is.
 #[test]
 fn parties_that_are_not_heard(rt: HostRuntime) {
-    check_steps(&rt, &NOT_HEARD);
+    check_script(&rt, NOT_HEARD);
 }
 
-const NOT_HEARD: [Step<'static>; 30] = [
-    Clock(0),
-    Sends(0, 1, &OPENING),
-    Sends(0, 2, &OPENING),
-    TakesNothing(1),
-    Clock(1000),
-    Asks(1),
-    TakesNothing(0),
-    Clock(1000),
-    Sends(0, 1, &OPENING),
-    Sends(0, 2, &OPENING),
-    Takes(1, &OPENING),
-    Clock(60_999),
-    Sends(0, 1, &OPENING),
-    Sends(0, 2, &OPENING),
-    Takes(1, &OPENING),
-    Clock(61_000),
-    Sends(0, 1, &OPENING),
-    Sends(0, 2, &OPENING),
-    TakesNothing(1),
-    Clock(1_000_000),
-    Sends(0, 1, &OPENING),
-    Sends(0, 2, &OPENING),
-    TakesNothing(1),
-    Sends(1, 0, &X_WANTS),
-    Takes(0, &X_WANTS),
-    Clock(1_059_999),
-    Sends(0, 1, &OPENING),
-    Sends(0, 2, &OPENING),
-    Takes(1, &OPENING),
-    TakesNothing(2),
-];
+const NOT_HEARD: &str = "\
+clock 0
+send 0 1 opening
+send 0 2 opening
+take 1 nothing
+clock 1000
+ask 1
+take 0 nothing
+clock 1000
+send 0 1 opening
+send 0 2 opening
+take 1 opening
+clock 60999
+send 0 1 opening
+send 0 2 opening
+take 1 opening
+clock 61000
+send 0 1 opening
+send 0 2 opening
+take 1 nothing
+clock 1000000
+send 0 1 opening
+send 0 2 opening
+take 1 nothing
+send 1 0 x-wants
+take 0 x-wants
+clock 1059999
+send 0 1 opening
+send 0 2 opening
+take 1 opening
+take 2 nothing
+";
 
 /// What is said of the referee, who is away from tick 10 to tick 50, ten of which are a second.
 fn said_at(tick: u32) -> Option<LivenessChange> {
@@ -161,15 +152,20 @@ fn take<L: Link>(rt: &impl Abort, link: &mut L, party: u8) {
 
 #[test]
 fn silence_of_the_referee(rt: HostRuntime) {
+    check_silence(&rt);
+}
+
+/// X is told of the silence, and of its end.
+fn check_silence(rt: &impl Host) {
     let (clock, failures) = (SetClock::new(), Failures::new());
-    let mut sockets = Sockets::new(&rt, &clock, &failures);
+    let mut sockets = Sockets::new(rt, &clock, &failures);
     let mut liveness = Liveness::new(&clock);
     for tick in 0..100u32 {
         clock.milliseconds.set(u64::from(tick) * 100);
         if !(10..50).contains(&tick) {
-            take(&rt, sockets.of(0), 0);
+            take(rt, sockets.of(0), 0);
         }
-        take(&rt, sockets.of(1), 1);
+        take(rt, sockets.of(1), 1);
         let word = liveness.after_round(&clock, sockets.of(1), true);
         assert!(rt; word == said_at(tick), "tick {tick}");
     }
@@ -195,7 +191,7 @@ fn parties_that_come_and_go(rt: HostRuntime) {
     ] {
         clock.milliseconds.set(time);
         if matches!(time, 1000 | 60_000 | 200_000) {
-            sockets.play(&[Sends(1, 0, &X_WANTS), Takes(0, &X_WANTS)]);
+            sockets.play("send 1 0 x-wants\ntake 0 x-wants\n");
         }
         let found = attendance.change(sockets.of(0), 1);
         assert!(rt; found == told_at(time), "X after {time}");
@@ -208,22 +204,27 @@ fn parties_that_come_and_go(rt: HostRuntime) {
 
 #[test]
 fn waiting_for_a_socket(rt: HostRuntime) {
+    check_waiting(&rt);
+}
+
+/// A wait ends when there is something to be read, or after its time.
+fn check_waiting(rt: &impl Host) {
     let (clock, failures) = (SetClock::new(), Failures::new());
-    let mut sockets = Sockets::new(&rt, &clock, &failures);
-    let waiting = Waiting::new(&rt, sockets.of(0).descriptor(), false);
-    let mut waiting = waiting.expect(&rt, "a socket to wait for");
-    let begun = Instant::now(&rt).expect(&rt, "a clock");
-    check_ready(&rt, &mut waiting, 30, false);
-    let ended = Instant::now(&rt).expect(&rt, "a clock");
+    let mut sockets = Sockets::new(rt, &clock, &failures);
+    let waiting = Waiting::new(rt, sockets.of(0).descriptor(), false);
+    let mut waiting = waiting.expect(rt, "a socket to wait for");
+    let begun = Instant::now(rt).expect(rt, "a clock");
+    check_ready(rt, &mut waiting, 30, false);
+    let ended = Instant::now(rt).expect(rt, "a clock");
     assert!(rt; ended.duration_since(begun).as_millis() >= 25);
-    sockets.play(&[Sends(1, 0, &X_WANTS)]);
+    sockets.play("send 1 0 x-wants");
     // What is not taken is told again.
     for _ in 0..2 {
-        check_ready(&rt, &mut waiting, 1000, true);
+        check_ready(rt, &mut waiting, 1000, true);
     }
-    sockets.play(&[Takes(0, &X_WANTS)]);
-    check_ready(&rt, &mut waiting, 10, false);
-    check_ticks(&rt, &mut waiting);
+    sockets.play("take 0 x-wants");
+    check_ready(rt, &mut waiting, 10, false);
+    check_ticks(rt, &mut waiting);
 }
 
 /// A first tick is due at once, and the next one after a wait.

@@ -1,67 +1,62 @@
 //! How the other seat stands, as the referee's socket tells a seat of it.
 use crate::helpers::hosts::Host;
-use crate::helpers::party_scripts::Step::{
-    Asks, Clock, Heard, Rebinds, Sends, Takes, TakesNothing, Told,
-};
-use crate::helpers::party_scripts::{SetClock, Sockets, Step, takes};
+use crate::helpers::party_scripts::{SetClock, Sockets, takes};
 use crate::helpers::tables::{free_port, keys_of};
-use bg_processes::{Failures, PartySocket, Presence};
+use bg_processes::{Failures, PartySocket};
 use std::net::{Ipv4Addr, UdpSocket};
 
-/// O asks the referee of match 7 for all entries.
-const O_WANTS: [u8; 18] = [0x42, 0x47, 2, 1, 0, 0, 0, 0, 0, 0, 0, 7, 1, 2, 0, 0, 0, 0];
-
 /// X was heard at 0, and O at 0 and at 20,000.
-const STANDS: [Step<'static>; 38] = [
-    Clock(0),
-    Told(1, None),
-    Asks(1),
-    TakesNothing(0),
-    TakesNothing(1),
-    Told(1, Some(Presence::Unheard)),
-    // With that the answer came, and O is told nothing unasked.
-    Heard(1, 1),
-    TakesNothing(2),
-    Told(2, None),
-    Asks(2),
-    TakesNothing(0),
-    TakesNothing(2),
-    Told(2, Some(Presence::Here)),
-    Clock(2_999),
-    Told(1, Some(Presence::Unheard)),
-    Clock(3_000),
-    Told(1, None),
-    Clock(9_999),
-    Asks(1),
-    TakesNothing(0),
-    TakesNothing(1),
-    Told(1, Some(Presence::Here)),
-    Clock(10_000),
-    Asks(1),
-    TakesNothing(0),
-    TakesNothing(1),
-    Told(1, Some(Presence::Away)),
-    // What is heard may be a packet too.
-    Clock(20_000),
-    Sends(2, 0, &O_WANTS),
-    Takes(0, &O_WANTS),
-    Asks(1),
-    TakesNothing(0),
-    TakesNothing(1),
-    Told(1, Some(Presence::Here)),
-    // Another referee has heard nothing.
-    Rebinds(0, 0),
-    Asks(1),
-    TakesNothing(0),
-    TakesNothing(1),
-];
+const STANDS: &str = "\
+clock 0
+told 1 nothing
+ask 1
+take 0 nothing
+take 1 nothing
+told 1 unheard
+# With that the answer came, and O is told nothing unasked.
+heard 1 1
+take 2 nothing
+told 2 nothing
+ask 2
+take 0 nothing
+take 2 nothing
+told 2 here
+clock 2999
+told 1 unheard
+clock 3000
+told 1 nothing
+clock 9999
+ask 1
+take 0 nothing
+take 1 nothing
+told 1 here
+clock 10000
+ask 1
+take 0 nothing
+take 1 nothing
+told 1 away
+# What is heard may be a packet too.
+clock 20000
+send 2 0 o-wants
+take 0 o-wants
+ask 1
+take 0 nothing
+take 1 nothing
+told 1 here
+# Another referee has heard nothing.
+rebind 0 0
+ask 1
+take 0 nothing
+take 1 nothing
+told 1 unheard
+told 0 nothing
+";
 
 #[test]
 fn a_seat_is_told_of_the_other(rt: HostRuntime) {
     let (clock, failures) = (SetClock::new(), Failures::new());
     let mut sockets = Sockets::new(&rt, &clock, &failures);
-    sockets.play(&STANDS);
-    sockets.play(&[Told(1, Some(Presence::Unheard)), Told(0, None)]);
+    sockets.play(STANDS);
 }
 
 /// The socket of a party that the test plays.
@@ -111,16 +106,21 @@ fn check_answers<'a>(
 
 #[test]
 fn answers_in_bytes(rt: HostRuntime) {
+    check_bytes(&rt);
+}
+
+/// Seats ask one after the other, and who watches.
+fn check_bytes(rt: &impl Host) {
     let (clock, failures) = (SetClock::new(), Failures::new());
-    let port = free_port(&rt, 10_000);
-    let bound = PartySocket::bind(&rt, &clock, port, 0, keys_of(0), &failures);
-    let mut referee = bound.expect(&rt, "a free port");
+    let port = free_port(rt, 10_000);
+    let bound = PartySocket::bind(rt, &clock, port, 0, keys_of(0), &failures);
+    let mut referee = bound.expect(rt, "a free port");
     // Who watches is told nothing of the seats.
-    check_answers(&rt, &mut referee, port, 3, &[&[0]]);
-    check_answers(&rt, &mut referee, port, 1, &[&[0, 0], &[0]]);
-    check_answers(&rt, &mut referee, port, 2, &[&[0, 1], &[0]]);
+    check_answers(rt, &mut referee, port, 3, &[&[0]]);
+    check_answers(rt, &mut referee, port, 1, &[&[0, 0], &[0]]);
+    check_answers(rt, &mut referee, port, 2, &[&[0, 1], &[0]]);
     clock.milliseconds.set(10_000);
-    check_answers(&rt, &mut referee, port, 1, &[&[0, 2], &[0]]);
-    check_answers(&rt, &mut referee, port, 2, &[&[0, 1], &[0]]);
-    check_answers(&rt, &mut referee, port, 4, &[&[0]]);
+    check_answers(rt, &mut referee, port, 1, &[&[0, 2], &[0]]);
+    check_answers(rt, &mut referee, port, 2, &[&[0, 1], &[0]]);
+    check_answers(rt, &mut referee, port, 4, &[&[0]]);
 }

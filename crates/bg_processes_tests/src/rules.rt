@@ -1,5 +1,6 @@
 //! Files of matches by the second rules.
 use crate::helpers::folders::{new_folder, remove_folder};
+use crate::helpers::hosts::Host;
 use crate::helpers::played_loops::{SEED, SHORT, played, try_played};
 use bg_auto::LoopFault;
 use bg_match::{Rules, Terms};
@@ -7,18 +8,23 @@ use bg_world::{Outcome, RestoreCause};
 
 #[test]
 fn rules_belong_to_the_files(rt: HostRuntime) {
-    let made = new_folder(&rt, "other-rules");
+    check_rules(&rt);
+}
+
+/// Files of the second rules are none of the first.
+fn check_rules(rt: &impl Host) {
+    let made = new_folder(rt, "other-rules");
     let folder = made.as_str();
     let terms = Terms {
         rules: Rules::Two,
         ..SHORT
     };
-    let text = played(&rt, folder, SEED, terms, 5);
-    let text = str::from_utf8(&text).expect(&rt, "a text");
+    let text = played(rt, folder, SEED, terms, 5);
+    let text = str::from_utf8(&text).expect(rt, "a text");
     assert!(rt; text.contains("\nlength 1 rules 2 game 1 "));
     let mismatch = Outcome::RestoreFault(RestoreCause::WrongMatch);
-    let refused = try_played(&rt, folder, SEED, SHORT, 5);
+    let refused = try_played(rt, folder, SEED, SHORT, 5);
     assert!(rt; refused == Err(LoopFault::Stopped(mismatch)));
-    played(&rt, folder, SEED, terms, 5);
-    remove_folder(&rt, folder);
+    played(rt, folder, SEED, terms, 5);
+    remove_folder(rt, folder);
 }

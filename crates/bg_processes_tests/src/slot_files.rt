@@ -72,73 +72,89 @@ const FILES: [(u8, &str, &str); 3] = [
 /// A write changes its slot's file, and no other. A shorter text leaves nothing of the longer one.
 #[test]
 fn files_of_slots(rt: HostRuntime) {
-    let folder = new_folder(&rt, "files-of-slots");
+    check_all_files(&rt);
+}
+
+/// Each party has two files.
+fn check_all_files(rt: &impl Host) {
+    let folder = new_folder(rt, "files-of-slots");
     for (party, zero, one) in FILES {
-        check_files(&rt, folder.as_str(), party, zero, one);
+        check_files(rt, folder.as_str(), party, zero, one);
     }
-    check_count(&rt, folder.as_str(), 6);
-    remove_folder(&rt, folder.as_str());
+    check_count(rt, folder.as_str(), 6);
+    remove_folder(rt, folder.as_str());
 }
 
 /// The writes of a party, and what its files have after each; of slot 0 nothing before it was written.
 fn check_files(rt: &impl Host, folder: &str, party: u8, zero: &str, one: &str) {
     let failures = Failures::new();
     let mut keeper = keeper(rt, rt, folder, party, &failures);
+    let (long, own, short) = (b"the longer text", [party], b"text");
     check_slots(rt, &mut keeper, b"", b"");
-    let own = [party];
-    for (slot, bytes, of_zero, of_one) in [
-        (
-            Slot::One,
-            b"the longer text".as_slice(),
-            None,
-            b"the longer text".as_slice(),
-        ),
-        (Slot::Zero, &own, Some(own.as_slice()), b"the longer text"),
-        (Slot::One, b"text", Some(&own), b"text"),
-    ] {
-        check_writes(rt, &mut keeper, slot, bytes);
-        check_file(rt, folder, zero, of_zero);
-        check_file(rt, folder, one, Some(of_one));
-        check_slots(rt, &mut keeper, of_zero.unwrap_or(b""), of_one);
-    }
+    check_writes(rt, &mut keeper, Slot::One, long);
+    check_slots(rt, &mut keeper, b"", long);
+    check_file(rt, folder, zero, None);
+    check_file(rt, folder, one, Some(long));
+    check_writes(rt, &mut keeper, Slot::Zero, &own);
+    check_slots(rt, &mut keeper, &own, long);
+    check_both(rt, folder, (zero, &own), (one, long));
+    check_writes(rt, &mut keeper, Slot::One, short);
+    check_slots(rt, &mut keeper, &own, short);
+    check_both(rt, folder, (zero, &own), (one, short));
+}
+
+/// Two files have these bytes.
+fn check_both(rt: &impl Host, folder: &str, zero: (&str, &[u8]), one: (&str, &[u8])) {
+    check_file(rt, folder, zero.0, Some(zero.1));
+    check_file(rt, folder, one.0, Some(one.1));
 }
 
 /// Where a file can't be opened, want of memory is told from other failures, by reads as by writes.
 #[test]
 fn files_that_fail(rt: HostRuntime) {
-    let made = new_folder(&rt, "files-that-fail");
+    check_failing(&rt);
+}
+
+/// Reads and writes fail while no file can be opened.
+fn check_failing(rt: &impl Host) {
+    let made = new_folder(rt, "files-that-fail");
     let folder = made.as_str();
-    let (files, failures) = (StandIn::new(&rt, 0), Failures::new());
-    let mut keeper = keeper(&rt, &files, folder, 1, &failures);
+    let (files, failures) = (StandIn::new(rt, 0), Failures::new());
+    let mut keeper = keeper(rt, &files, folder, 1, &failures);
     for (kind, fault) in [
         (ErrorKind::OutOfMemory, DeviceFault::Memory),
         (ErrorKind::PermissionDenied, DeviceFault::Failed),
         (ErrorKind::StorageFull, DeviceFault::Failed),
     ] {
         files.files_fail.set(Some(io::Error::from(kind)));
-        check_fails(&rt, &mut keeper, fault);
+        check_fails(rt, &mut keeper, fault);
     }
     // A file that is missing is none that fails: it has no bytes.
     let missing = io::Error::from(ErrorKind::NotFound);
     files.files_fail.set(Some(missing));
-    check_slots(&rt, &mut keeper, b"", b"");
-    check_count(&rt, folder, 0);
+    check_slots(rt, &mut keeper, b"", b"");
+    check_count(rt, folder, 0);
     files.files_fail.set(None);
-    check_writes(&rt, &mut keeper, Slot::One, b"text");
-    check_file(&rt, folder, "party-1.1", Some(b"text"));
-    remove_folder(&rt, folder);
+    check_writes(rt, &mut keeper, Slot::One, b"text");
+    check_file(rt, folder, "party-1.1", Some(b"text"));
+    remove_folder(rt, folder);
 }
 
 /// Of the system's errors the wants of memory are told from all others, by their numbers on Linux: ENOMEM is 12, and
 /// the others EPERM, ENOENT, EIO, EMFILE, ENOSPC, EROFS, EADDRINUSE, ENOBUFS and ECONNREFUSED.
 #[test]
 fn faults_of_devices(rt: HostRuntime) {
-    let (files, failures) = (StandIn::new(&rt, 0), Failures::new());
-    let mut keeper = keeper(&rt, &files, ".", 1, &failures);
+    check_faults(&rt);
+}
+
+/// Each number has its fault.
+fn check_faults(rt: &impl Host) {
+    let (files, failures) = (StandIn::new(rt, 0), Failures::new());
+    let mut keeper = keeper(rt, &files, ".", 1, &failures);
     for number in [12, 1, 2, 5, 24, 28, 30, 98, 105, 111] {
         let error = io::Error::from_raw_os_error(number);
         files.files_fail.set(Some(error));
-        check_fault(&rt, &mut keeper, number);
+        check_fault(rt, &mut keeper, number);
     }
 }
 
@@ -162,21 +178,26 @@ fn check_save(rt: &impl Host, folder: &str, name: &str, party: u8, save: u32) {
 /// number 1, while the other one is missing, save 2 in the file with the number 0, and save 3 in the place of save 1.
 #[test]
 fn files_of_the_first_rounds(rt: HostRuntime) {
-    let made = new_folder(&rt, "first-rounds");
+    check_first_rounds(&rt);
+}
+
+/// The saves of three rounds.
+fn check_first_rounds(rt: &impl Host) {
+    let made = new_folder(rt, "first-rounds");
     let folder = made.as_str();
-    played(&rt, folder, SEED, SHORT, 1);
+    played(rt, folder, SEED, SHORT, 1);
     for (party, zero, one) in FILES {
-        check_save(&rt, folder, one, party, 1);
-        check_file(&rt, folder, zero, None);
+        check_save(rt, folder, one, party, 1);
+        check_file(rt, folder, zero, None);
     }
-    check_count(&rt, folder, 3);
+    check_count(rt, folder, 3);
     for (zeros, ones) in [(2, 1), (2, 3)] {
-        played(&rt, folder, SEED, SHORT, 1);
+        played(rt, folder, SEED, SHORT, 1);
         for (party, zero, one) in FILES {
-            check_save(&rt, folder, zero, party, zeros);
-            check_save(&rt, folder, one, party, ones);
+            check_save(rt, folder, zero, party, zeros);
+            check_save(rt, folder, one, party, ones);
         }
-        check_count(&rt, folder, 6);
+        check_count(rt, folder, 6);
     }
-    remove_folder(&rt, folder);
+    remove_folder(rt, folder);
 }

@@ -5,6 +5,7 @@ use crate::helpers::hosts::Host;
 use crate::helpers::party_scripts::{sends, takes};
 use crate::helpers::stand_ins::StandIn;
 use crate::helpers::told_failures::check_told;
+use crate::helpers::words::number;
 use bg_auto::LoopFault;
 use bg_match::Rules;
 use bg_processes::{Failures, UdpLink, run_loop};
@@ -17,9 +18,14 @@ use std::process::Abort;
 /// Each party has a socket of its own, and each is bound to 127.0.0.1.
 #[test]
 fn sockets_are_bound_to_the_loopback_address(rt: HostRuntime) {
-    let net = StandIn::new(&rt, 255);
+    check_addresses(&rt);
+}
+
+/// The addresses of as many sockets as there are parties.
+fn check_addresses(rt: &impl Host) {
+    let net = StandIn::new(rt, 255);
     let failures = Failures::new();
-    let _link = link(&rt, &net, 255, &failures);
+    let _link = link(rt, &net, 255, &failures);
     assert!(rt; net.opened() == 255 && !net.strayed.get());
     for index in 0..255 {
         let address = net.address(index);
@@ -44,8 +50,13 @@ fn check_taken<L: Link>(rt: &impl Abort, link: &mut L, party: u8, expected: Opti
 /// A datagram comes whole to its own party alone, and once; what came first is taken first, whatever the pick.
 #[test]
 fn datagrams_come_to_their_party(rt: HostRuntime) {
+    check_datagrams(&rt);
+}
+
+/// The sockets of four parties.
+fn check_datagrams(rt: &impl Host) {
     let failures = Failures::new();
-    check_order(&rt, &mut link(&rt, &rt, 4, &failures));
+    check_order(rt, &mut link(rt, rt, 4, &failures));
 }
 
 fn check_order<L: Link>(rt: &impl Abort, link: &mut L) {
@@ -54,31 +65,37 @@ fn check_order<L: Link>(rt: &impl Abort, link: &mut L) {
     for party in 0..4 {
         check_taken(rt, link, party, None);
     }
-    for (to, bytes) in [(2, longest), (0, &[5]), (2, packet)] {
-        assert!(rt; sends(rt, link, to, bytes), "party {to}");
-    }
-    for (party, expected) in [
-        (1, None),
-        (3, None),
-        (2, Some(longest)),
-        (2, Some(packet)),
-        (2, None),
-        (0, Some([5].as_slice())),
-        (0, None),
-    ] {
-        check_taken(rt, link, party, expected);
-    }
+    check_sent(rt, link, 2, longest);
+    check_sent(rt, link, 0, &[5]);
+    check_sent(rt, link, 2, packet);
+    check_taken(rt, link, 1, None);
+    check_taken(rt, link, 3, None);
+    check_taken(rt, link, 2, Some(longest));
+    check_taken(rt, link, 2, Some(packet));
+    check_taken(rt, link, 2, None);
+    check_taken(rt, link, 0, Some(&[5]));
+    check_taken(rt, link, 0, None);
+}
+
+/// Bytes are sent to a party.
+fn check_sent<L: Link>(rt: &impl Abort, link: &mut L, to: u8, bytes: &[u8]) {
+    assert!(rt; sends(rt, link, to, bytes), "to party {to}");
 }
 
 /// Of a datagram no more than 256 bytes are taken, and the rest is lost.
 #[test]
 fn longer_datagrams_are_cut(rt: HostRuntime) {
-    let net = StandIn::new(&rt, 4);
+    check_long(&rt);
+}
+
+/// Datagrams of each length.
+fn check_long(rt: &impl Host) {
+    let net = StandIn::new(rt, 4);
     let failures = Failures::new();
-    let mut link = link(&rt, &net, 4, &failures);
+    let mut link = link(rt, &net, 4, &failures);
     let socket = net.socket(3);
     for (count, taken) in [(0, 0), (255, 255), (256, 256), (257, 256), (600, 256)] {
-        check_cut(&rt, &socket, &mut link, count, taken);
+        check_cut(rt, &socket, &mut link, count, taken);
     }
 }
 
@@ -104,12 +121,17 @@ fn check_cut<L: Link>(
 /// A party that has no socket takes nothing, and what is sent to it fails; the others are as they were.
 #[test]
 fn parties_beyond_the_last(rt: HostRuntime) {
-    let net = StandIn::new(&rt, 255);
+    check_parties(&rt);
+}
+
+/// Parties with a socket and without one.
+fn check_parties(rt: &impl Host) {
+    let net = StandIn::new(rt, 255);
     let failures = Failures::new();
-    let mut link = link(&rt, &net, 4, &failures);
+    let mut link = link(rt, &net, 4, &failures);
     assert!(rt; net.opened() == 4);
     for party in [4, 5, 255, 0, 1, 2, 3] {
-        check_beyond(&rt, &mut link, party);
+        check_beyond(rt, &mut link, party);
     }
 }
 
@@ -127,31 +149,25 @@ fn check_beyond<L: Link>(rt: &impl Abort, link: &mut L, party: u8) {
 /// it got no socket.
 #[test]
 fn too_few_open_files(rt: HostRuntime) {
-    for (sockets, line) in TOO_FEW {
-        check_sockets(&rt, sockets, line);
-    }
+    check_too_few(&rt);
 }
 
-/// So many sockets that there are, and the line that is noted where they are too few.
-const TOO_FEW: [(usize, &str); 5] = [
-    (
-        0,
-        "no socket for party 0 on 127.0.0.1: Too many open files (os error 24)\n",
-    ),
-    (
-        1,
-        "no socket for party 1 on 127.0.0.1: Too many open files (os error 24)\n",
-    ),
-    (
-        2,
-        "no socket for party 2 on 127.0.0.1: Too many open files (os error 24)\n",
-    ),
-    (
-        3,
-        "no socket for party 3 on 127.0.0.1: Too many open files (os error 24)\n",
-    ),
-    (4, ""),
-];
+/// From no socket on.
+fn check_too_few(rt: &impl Host) {
+    for row in TOO_FEW.split_inclusive('\n') {
+        let (sockets, line) = row.split_once(' ').expect(rt, "a number and a line");
+        check_sockets(rt, number(rt, sockets) as usize, line);
+    }
+    check_sockets(rt, 4, "");
+}
+
+/// How many sockets there are, where they are too few, and the line that is noted then.
+const TOO_FEW: &str = "\
+0 no socket for party 0 on 127.0.0.1: Too many open files (os error 24)
+1 no socket for party 1 on 127.0.0.1: Too many open files (os error 24)
+2 no socket for party 2 on 127.0.0.1: Too many open files (os error 24)
+3 no socket for party 3 on 127.0.0.1: Too many open files (os error 24)
+";
 
 /// Of a system that has so many sockets there are those of four parties, or none and this line.
 fn check_sockets(rt: &impl Host, sockets: usize, line: &str) {
@@ -172,12 +188,17 @@ fn check_sockets(rt: &impl Host, sockets: usize, line: &str) {
 /// Sockets are opened before the match is looked at, and no file before there are all of them.
 #[test]
 fn sockets_come_before_the_match(rt: HostRuntime) {
-    let folder = new_folder(&rt, "sockets-first");
+    check_first(&rt);
+}
+
+/// No length is looked at, and no file made.
+fn check_first(rt: &impl Host) {
+    let folder = new_folder(rt, "sockets-first");
     for length in [0, 1, 100] {
-        check_no_socket(&rt, folder.as_str(), length);
+        check_no_socket(rt, folder.as_str(), length);
     }
     // It is empty: else it is not removed so.
-    fs::remove_dir(&rt, folder.as_str()).expect(&rt, "an empty folder");
+    fs::remove_dir(rt, folder.as_str()).expect(rt, "an empty folder");
 }
 
 fn check_no_socket(rt: &impl Host, folder: &str, length: u8) {

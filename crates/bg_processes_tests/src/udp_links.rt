@@ -45,9 +45,9 @@ struct Forger {
 
 impl Observer for Forger {
     fn happened(&mut self, _event: &Event, _outcome: &Outcome, _held: Option<Number>) {
-        for address in self.addresses {
-            for packet in FORGED {
-                let _ = self.socket.send_to(packet, address);
+        for address in &self.addresses {
+            for packet in &FORGED {
+                let _ = self.socket.send_to(*packet, *address);
             }
         }
     }
@@ -108,16 +108,21 @@ fn play_sixty<L: Link + Drop, K: Keeper + Drop>(
 
 #[test]
 fn forged_packets_change_nothing(rt: HostRuntime) {
-    for packet in FORGED {
-        assert!(rt; decode(packet).is_ok());
+    check_forged(&rt);
+}
+
+/// A match among forged packets is the quiet one.
+fn check_forged(rt: &impl Host) {
+    for packet in &FORGED {
+        assert!(rt; decode(*packet).is_ok());
     }
-    let quiet = new_folder(&rt, "quiet");
-    let expected = played(&rt, quiet.as_str(), SEED, SHORT, 60);
-    remove_folder(&rt, quiet.as_str());
-    let folder = new_folder(&rt, "besieged");
-    let text = besieged(&rt, folder.as_str());
+    let quiet = new_folder(rt, "quiet");
+    let expected = played(rt, quiet.as_str(), SEED, SHORT, 60);
+    remove_folder(rt, quiet.as_str());
+    let folder = new_folder(rt, "besieged");
+    let text = besieged(rt, folder.as_str());
     assert!(rt; text.as_slice() == expected.as_slice());
-    remove_folder(&rt, folder.as_str());
+    remove_folder(rt, folder.as_str());
 }
 
 /// Sockets of three parties. Those of the first two reach a port that nobody has, so that the call after each send
@@ -171,30 +176,40 @@ const UNSENT: [&str; 4] = [
 
 #[test]
 fn each_socket_notes_that_it_fails(rt: HostRuntime) {
+    check_notes(&rt);
+}
+
+/// Reads fail first, and then sends.
+fn check_notes(rt: &impl Host) {
     let failures = Failures::new();
-    let mut link = broken(&rt, &failures);
+    let mut link = broken(rt, &failures);
     for _ in 0..3 {
-        check_broken(&rt, &mut link, true);
+        check_broken(rt, &mut link, true);
     }
     let unread = [
         "the socket of party 0 could not be read: ",
         "the socket of party 1 could not be read: ",
     ];
-    check_noted(&rt, &failures, &unread);
+    check_noted(rt, &failures, &unread);
     for _ in 0..2 {
-        check_broken(&rt, &mut link, false);
+        check_broken(rt, &mut link, false);
     }
-    check_noted(&rt, &failures, &UNSENT);
+    check_noted(rt, &failures, &UNSENT);
 }
 
 #[test]
 fn a_party_without_a_socket(rt: HostRuntime) {
+    check_missing(&rt);
+}
+
+/// Sends to such a party fail, and are noted once.
+fn check_missing(rt: &impl Host) {
     let failures = Failures::new();
-    let mut link = link(&rt, &rt, 2, &failures);
+    let mut link = link(rt, rt, 2, &failures);
     for _ in 0..2 {
-        check_without(&rt, &mut link);
+        check_without(rt, &mut link);
     }
-    check_noted(&rt, &failures, &["no datagram could be sent to party 2: "]);
+    check_noted(rt, &failures, &["no datagram could be sent to party 2: "]);
 }
 
 fn check_without<L: Link>(rt: &impl Abort, link: &mut L) {

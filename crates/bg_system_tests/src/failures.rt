@@ -1,16 +1,17 @@
 //! What devices note of their failures, until it is taken out.
 use crate::helpers::told;
-use bg_system::{FailedCall, Failures, FirstFailures, SlotName};
+use bg_system::{DrainedFailures, FailedCall, Failures, FirstFailures, SlotName};
 use bg_wire::Slot;
 use std::io;
 use std::io::ErrorKind;
-use std::test::Fail;
 
 /// The file of slot 1 of party 2.
 const FILE: SlotName = SlotName {
     party: 2,
     slot: Slot::One,
 };
+
+use std::process::Abort;
 
 /// Notes that no datagram could be sent to a party.
 fn note_send(failures: &Failures, to: u8) {
@@ -20,62 +21,83 @@ fn note_send(failures: &Failures, to: u8) {
     );
 }
 
-#[test]
-fn words_of_failures(rt: HostRuntime) -> Result<(), Fail> {
+/// A call that was not permitted is told so, of devices over a folder whose name has a line feed.
+fn check_words(rt: &(impl AllocGlobal + Abort), call: FailedCall, words: &str) {
     let failures = Failures::new();
-    for (call, what) in [
-        (
-            FailedCall::Open { party: 3 },
-            "no socket for party 3 on 127.0.0.1",
-        ),
-        (
-            FailedCall::Send { to: 255 },
-            "no datagram could be sent to party 255",
-        ),
-        (
-            FailedCall::Receive { party: 0 },
-            "the socket of party 0 could not be read",
-        ),
-        (
-            FailedCall::Write(FILE),
-            "o'hara\\n/party-2.1 could not be written",
-        ),
-        (
-            FailedCall::Read(FILE),
-            "o'hara\\n/party-2.1 could not be read",
-        ),
-        (FailedCall::Sync, "o'hara\\n could not be synced"),
-        (FailedCall::Find, "o'hara\\n can't be found"),
-        (
-            FailedCall::TakeBack(FILE),
-            "o'hara\\n/party-2.1 could not be emptied after a sync that failed",
-        ),
-    ] {
-        failures.note(call, io::Error::from(ErrorKind::PermissionDenied));
-        let said = told(&rt, &failures, "o'hara\n")?;
-        let wanted = format!(in rt.alloc(); "{what}: permission denied\n")?;
-        assert!(rt; said.as_str() == wanted.as_str(), "{said}");
-    }
-    Ok(())
+    failures.note(call, io::Error::from(ErrorKind::PermissionDenied));
+    let said = told(rt, &failures, "o'hara\n");
+    let found = said.as_str().strip_suffix(": permission denied\n");
+    assert!(rt; found == Some(words), "{said}");
+}
+
+#[test]
+fn words_of_failures(rt: HostRuntime) {
+    check_words(
+        &rt,
+        FailedCall::Open { party: 3 },
+        "no socket for party 3 on 127.0.0.1",
+    );
+    check_words(
+        &rt,
+        FailedCall::Send { to: 255 },
+        "no datagram could be sent to party 255",
+    );
+    check_words(
+        &rt,
+        FailedCall::Receive { party: 0 },
+        "the socket of party 0 could not be read",
+    );
+    check_words_of_files(&rt);
+}
+
+fn check_words_of_files(rt: &(impl AllocGlobal + Abort)) {
+    check_words(
+        rt,
+        FailedCall::Write(FILE),
+        "o'hara\\n/party-2.1 could not be written",
+    );
+    check_words(
+        rt,
+        FailedCall::Read(FILE),
+        "o'hara\\n/party-2.1 could not be read",
+    );
+    check_words(rt, FailedCall::Sync, "o'hara\\n could not be synced");
+    check_words(rt, FailedCall::Find, "o'hara\\n can't be found");
+    check_words(
+        rt,
+        FailedCall::TakeBack(FILE),
+        "o'hara\\n/party-2.1 could not be emptied after a sync that failed",
+    );
+}
+
+/// The next failure is that of a send to this party.
+fn check_next(rt: &impl Abort, drained: &mut DrainedFailures<'_>, to: u8) {
+    let failure = drained.next().expect(rt, "a failure");
+    let holds = failure.call == FailedCall::Send { to }
+        && failure.error.kind() == ErrorKind::StorageFull;
+    assert!(rt; holds, "to {to}");
 }
 
 #[test]
 fn the_oldest_failure_comes_first_and_once(rt: HostRuntime) {
+    check_oldest(&rt);
+}
+
+/// Failures are taken out in their order, once.
+fn check_oldest(rt: &impl Abort) {
     let failures = Failures::new();
     for to in 1..4 {
         note_send(&failures, to);
     }
     // What is not asked for stays.
-    let first = failures.drain().next().map(|failure| failure.call);
-    assert!(rt; first == Some(FailedCall::Send { to: 1 }));
+    check_next(rt, &mut failures.drain(), 1);
     note_send(&failures, 4);
-    let mut wanted = 2;
-    for failure in failures.drain() {
-        assert!(rt; failure.call == FailedCall::Send { to: wanted });
-        assert!(rt; failure.error.kind() == ErrorKind::StorageFull);
-        wanted = wanted.saturating_add(1);
+    let mut drained = failures.drain();
+    for to in 2..5 {
+        check_next(rt, &mut drained, to);
     }
-    assert!(rt; wanted == 5 && failures.drain().next().is_none());
+    assert!(rt; drained.next().is_none());
+    assert!(rt; failures.drain().next().is_none());
 }
 
 #[test]
@@ -90,29 +112,32 @@ fn the_newest_failures_are_left_out(rt: HostRuntime) {
     assert!(rt; failures.drain().count() == 1);
 }
 
+/// A write answered so, and the answer is handed on.
+fn check_after(rt: &impl Abort, writes: &mut FirstFailures<'_>, answered: Result<i32, ErrorKind>) {
+    let given = writes.after(FailedCall::Write(FILE), answered.map_err(io::Error::from));
+    let given = given.map_err(|error| error.kind());
+    assert!(rt; given == answered, "{answered:?}");
+}
+
+fn next_kind(drained: &mut DrainedFailures<'_>) -> Option<ErrorKind> {
+    Some(drained.next()?.error.kind())
+}
+
 #[test]
 fn the_first_of_failures_that_follow_each_other_is_noted(rt: HostRuntime) {
+    check_first(&rt);
+}
+
+/// Of writes that fail in a row the first is noted.
+fn check_first(rt: &impl Abort) {
     let failures = Failures::new();
     let mut writes = FirstFailures::new(&failures);
-    let call = FailedCall::Write(FILE);
-    for answered in [
-        Err(ErrorKind::OutOfMemory),
-        Err(ErrorKind::StorageFull),
-        Ok(7),
-        Err(ErrorKind::NotFound),
-    ] {
-        let given = writes.after(call, answered.map_err(io::Error::from));
-        assert!(rt;
-            given.map_err(|error| error.kind()) == answered,
-            "{answered:?}"
-        );
-    }
-    let mut kinds = failures.drain().map(|failure| failure.error.kind());
-    for wanted in [
-        Some(ErrorKind::OutOfMemory),
-        Some(ErrorKind::NotFound),
-        None,
-    ] {
-        assert!(rt; kinds.next() == wanted, "{wanted:?}");
-    }
+    check_after(rt, &mut writes, Err(ErrorKind::OutOfMemory));
+    check_after(rt, &mut writes, Err(ErrorKind::StorageFull));
+    check_after(rt, &mut writes, Ok(7));
+    check_after(rt, &mut writes, Err(ErrorKind::NotFound));
+    let mut drained = failures.drain();
+    assert!(rt; next_kind(&mut drained) == Some(ErrorKind::OutOfMemory));
+    assert!(rt; next_kind(&mut drained) == Some(ErrorKind::NotFound));
+    assert!(rt; next_kind(&mut drained).is_none());
 }

@@ -1,39 +1,57 @@
 //! The lock of a folder.
-use crate::helpers::new_folder;
+use crate::helpers::{Host, new_folder, path_in, remove_folder};
 use bg_system::FolderLock;
 use std::fs;
 use std::fs::TryLockError;
 use std::io::ErrorKind;
 use std::os::unix::fs::symlink;
-use std::test::Fail;
 
 /// Whether the folder is locked by another.
-fn is_taken(rt: &HostRuntime, folder: &str) -> bool {
+fn is_taken(rt: &impl Host, folder: &str) -> bool {
     matches!(FolderLock::take(rt, folder), Err(TryLockError::WouldBlock))
 }
 
-#[test]
-fn one_lock_at_a_time(rt: HostRuntime) -> Result<(), Fail> {
-    let folder = new_folder(&rt, "lock")?;
-    let folder = folder.as_str();
-    let inside = format!(in rt.alloc(); "{folder}/inside")?;
-    let alias = format!(in rt.alloc(); "{folder}/alias")?;
-    fs::create_dir(&rt, inside.as_str())?;
-    symlink(&rt, inside.as_str(), alias.as_str())?;
-    {
-        let _lock = FolderLock::take(&rt, inside.as_str())?;
-        assert!(rt; is_taken(&rt, inside.as_str()));
-        // By another name too; other folders are free.
-        assert!(rt; is_taken(&rt, alias.as_str()));
-        assert!(rt; FolderLock::take(&rt, folder).is_ok());
+/// Whether the folder is locked by nobody.
+fn is_free(rt: &impl Host, folder: &str) -> bool {
+    FolderLock::take(rt, folder).is_ok()
+}
+
+/// Whether there is no such folder to be locked.
+fn is_missing(rt: &impl Host, folder: &str) -> bool {
+    match FolderLock::take(rt, folder) {
+        Err(TryLockError::Error(error)) => error.kind() == ErrorKind::NotFound,
+        _ => false,
     }
-    assert!(rt; FolderLock::take(&rt, alias.as_str()).is_ok());
+}
+
+/// While a folder is locked nobody else can lock it, by another name neither; other folders are free.
+fn check_lock(rt: &impl Host, folder: &str, alias: &str, other: &str) {
+    let _lock = FolderLock::take(rt, folder).expect(rt, "a lock");
+    let is_alone = is_taken(rt, folder) && is_taken(rt, alias) && is_free(rt, other);
+    assert!(rt; is_alone, "one lock, and that of one folder");
+}
+
+/// A folder in another one, and a link to it.
+fn make_folders(rt: &impl Host, inside: &str, alias: &str) {
+    fs::create_dir(rt, inside).expect(rt, "a folder");
+    symlink(rt, inside, alias).expect(rt, "a link");
+}
+
+#[test]
+fn one_lock_at_a_time(rt: HostRuntime) {
+    check_locks(&rt);
+}
+
+/// A folder is locked, and free again when its lock is dropped.
+fn check_locks(rt: &impl Host) {
+    let folder = new_folder(rt, "lock");
+    let inside = path_in(rt, folder.as_str(), "inside");
+    let alias = path_in(rt, folder.as_str(), "alias");
+    make_folders(rt, inside.as_str(), alias.as_str());
+    check_lock(rt, inside.as_str(), alias.as_str(), folder.as_str());
+    assert!(rt; is_free(rt, alias.as_str()), "it was locked for a while");
     // Nothing is left in it.
-    fs::remove_dir(&rt, inside.as_str())?;
-    let missing = FolderLock::take(&rt, inside.as_str());
-    assert!(rt;
-        matches!(missing, Err(TryLockError::Error(error)) if error.kind() == ErrorKind::NotFound)
-    );
-    fs::remove_dir_all(&rt, folder)?;
-    Ok(())
+    fs::remove_dir(rt, inside.as_str()).expect(rt, "an empty folder");
+    assert!(rt; is_missing(rt, inside.as_str()), "it is gone");
+    remove_folder(rt, folder.as_str());
 }

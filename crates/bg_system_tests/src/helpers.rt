@@ -2,20 +2,92 @@
 
 use bg_system::Failures;
 use std::alloc::AllocError;
+use std::env::Env;
+use std::fs::File;
+use std::net::Net;
+use std::os::unix::fs::PermissionsExt;
+use std::process::Abort;
+use std::random::RandomSource;
+use std::rt::Files;
 use std::{fs, io};
 
-/// A new folder of this name, among those of this process.
-pub(crate) fn new_folder(rt: &HostRuntime, name: &str) -> io::Result<String> {
-    let process = std::process::id(rt.process());
+/// A system that knows the number of its process.
+pub(crate) trait Numbered {
+    fn number(&self) -> u32;
+}
+
+impl Numbered for HostRuntime {
+    fn number(&self) -> u32 {
+        std::process::id(self.process())
+    }
+}
+
+/// All that the tests ask of the system, as one bound.
+pub(crate) trait Host: Numbered
+    + Net
+    + Files<File = File>
+    + Env
+    + RandomSource
+    + AllocGlobal
+    + Abort {}
+
+impl<R> Host for R
+where
+    R: Numbered + Net + Files<File = File> + Env + RandomSource + AllocGlobal + Abort,
+{}
+
+fn try_folder(rt: &impl Host, name: &str) -> io::Result<String> {
+    let process = rt.number();
     let temp = std::env::temp_dir(rt)?;
     let folder = format!(in rt.alloc(); "{}/bg_system-{process}-{name}", temp.as_str())?;
     fs::create_dir(rt, folder.as_str())?;
     Ok(folder)
 }
 
-/// Takes the failures out: a line for each, of devices over this folder.
-pub(crate) fn told(
-    rt: &impl AllocGlobal,
+/// A new folder of this name, among those of this process.
+pub(crate) fn new_folder(rt: &impl Host, name: &str) -> String {
+    try_folder(rt, name).expect(rt, "a new folder")
+}
+
+/// Removes a folder with all that it has.
+pub(crate) fn remove_folder(rt: &impl Host, folder: &str) {
+    fs::remove_dir_all(rt, folder).expect(rt, "the folder is removed");
+}
+
+/// Removes a file.
+pub(crate) fn remove_file(rt: &impl Host, path: &str) {
+    fs::remove_file(rt, path).expect(rt, "the file is removed");
+}
+
+/// The path of a file in a folder.
+pub(crate) fn path_in(rt: &impl Host, folder: &str, name: &str) -> String {
+    format!(in rt.alloc(); "{folder}/{name}").expect(rt, "memory for a path")
+}
+
+/// Another folder has this name from now on, or the folder has it again.
+pub(crate) fn rename(rt: &impl Host, from: &str, to: &str) {
+    fs::rename(rt, from, to).expect(rt, "another name");
+}
+
+/// A file has these bytes from now on.
+pub(crate) fn write_file(rt: &impl Host, path: &str, bytes: &[u8]) {
+    fs::write(rt, path, bytes).expect(rt, "a file is written");
+}
+
+/// Whether a file has these bytes.
+pub(crate) fn has_bytes(rt: &impl Host, path: &str, bytes: &[u8]) -> bool {
+    let found = fs::read(rt, path).expect(rt, "a file is read");
+    found.as_slice() == bytes
+}
+
+/// Who may read and write a file.
+pub(crate) fn mode_of(rt: &impl Host, path: &str) -> u32 {
+    let metadata = fs::metadata(rt, path).expect(rt, "a file is there");
+    metadata.permissions().mode() & 0o777
+}
+
+fn try_told(
+    rt: &(impl AllocGlobal + Abort),
     failures: &Failures,
     folder: &str,
 ) -> Result<String, AllocError> {
@@ -24,4 +96,15 @@ pub(crate) fn told(
         writeln!(text, "{}", failure.in_folder(folder))?;
     }
     Ok(text)
+}
+
+/// Takes the failures out: a line for each, of devices over this folder.
+pub(crate) fn told(rt: &(impl AllocGlobal + Abort), failures: &Failures, folder: &str) -> String {
+    try_told(rt, failures, folder).expect(rt, "memory for lines")
+}
+
+/// Takes the failures out, of devices over the folder `DIR`: they are told by these lines.
+pub(crate) fn check_told(rt: &(impl AllocGlobal + Abort), failures: &Failures, lines: &str) {
+    let said = told(rt, failures, "DIR");
+    assert!(rt; said.as_str() == lines, "{said}");
 }

@@ -1,6 +1,7 @@
 //! Key files, and the secret that their keys are derived from.
-use crate::helpers::new_folder;
-use crate::seals::keys::SECRET;
+use crate::helpers::{Host, has_bytes, mode_of, new_folder, path_in, remove_folder, write_file};
+use crate::key_texts::{BAD, BAD_TEXTS, GOOD, is_good};
+use crate::seals::keys::{SECRET, key_of, secret};
 use bg_match::{Rules, Terms};
 use bg_seals::{Key, MasterSecret};
 use bg_system::{
@@ -9,8 +10,6 @@ use bg_system::{
 };
 use std::fs;
 use std::io::ErrorKind;
-use std::os::unix::fs::PermissionsExt;
-use std::test::Fail;
 
 const TABLE: MatchFile = MatchFile {
     id: 1,
@@ -20,6 +19,8 @@ const TABLE: MatchFile = MatchFile {
     },
     port: 4000,
 };
+
+use std::process::Abort;
 
 /// That of player O, with a key of the bytes 0 to 31.
 const TEXT: &str = "match 1 length 3 rules 1 port 4000
@@ -31,102 +32,120 @@ const DERIVED: &str = "match 1 length 3 rules 1 port 4000
 key 3 f23c903e8be5d05a05177d2a64c1f60431eea1d42c09d41b9152479ea4e9f0a2
 ";
 
-#[test]
-fn texts_of_key_files(rt: HostRuntime) -> Result<(), Fail> {
+/// Whether a key file is shown as this text.
+fn is_shown_as(rt: &(impl AllocGlobal + Abort), file: &KeyFile, text: &str) -> bool {
+    let shown = format!(in rt.alloc(); "{file}").expect(rt, "memory for a file");
+    shown.as_str() == text
+}
+
+/// Whether it is that of a party of the match, and has these bytes as its key.
+fn is_of(file: &KeyFile, party: u8, key: &[u8]) -> bool {
+    file.table == TABLE && file.party == party && file.key.bytes().as_slice() == key
+}
+
+/// No message can have its key by mistake.
+fn check_debug(rt: &(impl AllocGlobal + Abort), file: &KeyFile) {
+    let shown = format!(in rt.alloc(); "{file:?}").expect(rt, "memory for a file");
+    let hides_key = shown.contains("Key(..)") && !shown.contains("0a");
+    assert!(rt; hides_key, "{shown}");
+}
+
+/// A file that is made of a key has its text.
+fn check_made(rt: &(impl AllocGlobal + Abort)) {
     let file = KeyFile {
         table: TABLE,
         names: Names::none(),
         party: 2,
         key: Key::new(&SECRET),
     };
-    assert!(rt; format!(in rt.alloc(); "{file}")?.as_str() == TEXT);
-    let derived = KeyFile::derive(TABLE, &MasterSecret::new(&SECRET), 3);
-    assert!(rt; format!(in rt.alloc(); "{derived}")?.as_str() == DERIVED);
-    let read = KeyFile::parse(TEXT).expect(&rt, "a good text");
-    assert!(rt; read.table == TABLE && read.party == 2);
-    assert!(rt; *read.key.bytes() == SECRET);
-    // No message can have its key by mistake.
-    let shown = format!(in rt.alloc(); "{read:?}")?;
-    assert!(rt;
-        shown.contains("Key(..)") && !shown.contains("0a"),
-        "{shown}"
-    );
-    Ok(())
+    assert!(rt; is_shown_as(rt, &file, TEXT), "that of player O");
 }
 
-/// What is behind the key's number, where the front is good.
+/// So has one whose key is derived.
+fn check_derived(rt: &(impl AllocGlobal + Abort)) {
+    let file = KeyFile::derive(TABLE, &secret(), 3);
+    assert!(rt; is_shown_as(rt, &file, DERIVED), "that of who watches");
+}
+
+/// The text is read as what it says.
+fn check_parsed(rt: &(impl AllocGlobal + Abort)) {
+    let file = KeyFile::parse(TEXT).expect(rt, "a good text");
+    assert!(rt; is_of(&file, 2, &SECRET), "what was read");
+    check_debug(rt, &file);
+}
+
 #[test]
-fn texts_of_no_key_file(rt: HostRuntime) -> Result<(), Fail> {
-    let front = "match 1 length 3 rules 1 port 4000\n";
-    let digits = "000102030405060708090a0b0c0d0e0f101112131415161718191a1b1c1d1e1f";
-    for (before, behind, is_good) in [
-        ("key 1 ", "\n", true),
-        ("key 3 ", "\n", true),
-        ("key 0 ", "\n", false),
-        ("key 4 ", "\n", false),
-        ("key 01 ", "\n", false),
-        ("key +1 ", "\n", false),
-        ("key 1  ", "\n", false),
-        ("key  1 ", "\n", false),
-        ("Key 1 ", "\n", false),
-        ("\nkey 1 ", "\n", false),
-        ("key 1 ", "", false),
-        ("key 1 ", "\n\n", false),
-        ("key 1 ", "\r\n", false),
-        ("key 1 ", " \n", false),
-        ("key 1 ", "0\n", false),
-        ("key 1 ", "00\n", false),
-        ("key 1 ", "\nkey 2 ", false),
-        ("key 1 0", "\n", false),
-        ("", "\n", false),
-    ] {
-        let text = format!(in rt.alloc(); "{front}{before}{digits}{behind}")?;
-        assert!(rt;
-            KeyFile::parse(text.as_str()).is_some() == is_good,
-            "{text}"
-        );
+fn texts_of_key_files(rt: HostRuntime) {
+    check_made(&rt);
+    check_derived(&rt);
+    check_parsed(&rt);
+}
+
+#[test]
+fn texts_of_no_key_file(rt: HostRuntime) {
+    for row in GOOD.split('|') {
+        assert!(rt; is_good(&rt, row), "{row}");
     }
-    for text in [
-        front,
-        "key 1 000102030405060708090a0b0c0d0e0f101112131415161718191a1b1c1d1e1f\n",
-        "match 1 length 3 rules 1 port 4000\nkey 1 000102030405060708090A0b0c0d0e0f101112131415161718191a1b1c1d1e1f\n",
-        "match 1 length 3 rules 1 port 4000\nkey 1 000102030405060708090g0b0c0d0e0f101112131415161718191a1b1c1d1e1f\n",
-        "match 1 length 3 rules 3 port 4000\nkey 1 000102030405060708090a0b0c0d0e0f101112131415161718191a1b1c1d1e1f\n",
-    ] {
+    for row in BAD.split('|') {
+        assert!(rt; !is_good(&rt, row), "{row}");
+    }
+    for text in BAD_TEXTS.split('|') {
         assert!(rt; KeyFile::parse(text).is_none(), "{text}");
     }
-    Ok(())
+}
+
+/// The key file at a path, if that is one.
+fn read(rt: &impl Host, path: &str) -> Option<KeyFile> {
+    KeyFile::read(rt, path).expect(rt, "a file is read")
+}
+
+/// Whether there is no file at a path.
+fn is_missing(rt: &impl Host, path: &str) -> bool {
+    match KeyFile::read(rt, path) {
+        Ok(_) => false,
+        Err(error) => error.kind() == ErrorKind::NotFound,
+    }
+}
+
+/// The file with the key of a party is written, for its owner alone.
+fn write_key(rt: &impl Host, folder: &str, party: u8) {
+    let file = KeyFile::derive(TABLE, &secret(), party);
+    file.write(rt, folder).expect(rt, "a file is written");
+}
+
+/// A key file with these bytes is none.
+fn check_unread(rt: &impl Host, path: &str, bytes: &[u8]) {
+    write_file(rt, path, bytes);
+    assert!(rt; read(rt, path).is_none(), "{path} {bytes:?}");
+}
+
+/// The file with the key of a party is written and read, by this name.
+fn check_file(rt: &impl Host, folder: &str, party: u8, name: &str) {
+    let made = path_in(rt, folder, name);
+    let path = made.as_str();
+    let is_first = name_of_key_file(party) == name && is_missing(rt, path);
+    assert!(rt; is_first, "{name} before");
+    write_key(rt, folder, party);
+    let file = read(rt, path).expect(rt, "a key file");
+    let is_own = is_of(&file, party, key_of(1, party).bytes()) && mode_of(rt, path) == 0o600;
+    assert!(rt; is_own, "{name}");
+    check_unread(rt, path, TEXT.trim_end().as_bytes());
+    check_unread(rt, path, b"match 1");
+    check_unread(rt, path, &[0xff, 0xfe]);
 }
 
 #[test]
-fn key_files_are_written_and_read(rt: HostRuntime) -> Result<(), Fail> {
-    let made = new_folder(&rt, "key-files")?;
-    let folder = made.as_str();
-    let secret = MasterSecret::new(&SECRET);
-    for (party, name) in [(1, "match-x"), (2, "match-o"), (3, "match-watch")] {
-        assert!(rt; name_of_key_file(party) == name);
-        let path = format!(in rt.alloc(); "{folder}/{name}")?;
-        let missing = KeyFile::read(&rt, path.as_str()).err();
-        assert!(rt;
-            missing.map(|error| error.kind()) == Some(ErrorKind::NotFound),
-            "{name}"
-        );
-        KeyFile::derive(TABLE, &secret, party).write(&rt, folder)?;
-        let mode = fs::metadata(&rt, path.as_str())?.permissions().mode() & 0o777;
-        assert!(rt; mode == 0o600, "{name} {mode}");
-        let read = KeyFile::read(&rt, path.as_str())?.expect(&rt, "a key file");
-        assert!(rt; read.table == TABLE && read.party == party, "{name}");
-        assert!(rt;
-            read.key.bytes() == secret.key_of(1, party).bytes(),
-            "{name}"
-        );
-        for bytes in [TEXT.trim_end().as_bytes(), b"match 1", &[0xff, 0xfe]] {
-            fs::write(&rt, path.as_str(), bytes)?;
-            assert!(rt; KeyFile::read(&rt, path.as_str())?.is_none(), "{name}");
-        }
-    }
-    fs::remove_dir_all(&rt, folder)?;
-    Ok(())
+fn key_files_are_written_and_read(rt: HostRuntime) {
+    check_files(&rt);
+}
+
+/// Each party has a file of its own.
+fn check_files(rt: &impl Host) {
+    let folder = new_folder(rt, "key-files");
+    check_file(rt, folder.as_str(), 1, "match-x");
+    check_file(rt, folder.as_str(), 2, "match-o");
+    check_file(rt, folder.as_str(), 3, "match-watch");
+    remove_folder(rt, folder.as_str());
 }
 
 /// What a party seals for a referee, by the key of this secret, and whether that referee opens it.
@@ -138,37 +157,64 @@ fn is_opened(keys: &Keyring, secret: &MasterSecret, party: u8) -> bool {
     }
 }
 
+/// The keys of a referee that has key files of one secret, and for O one of another.
+fn keys_of_files(secret: &MasterSecret, other: &MasterSecret) -> Keyring {
+    let mut files = KeyFiles::derive(TABLE, secret);
+    files.o = KeyFile::derive(TABLE, other, 2);
+    Keyring::of_key_files(files)
+}
+
 /// A referee that has key files opens what each party seals by its own, as one that has their secret.
 #[test]
 fn a_referee_with_key_files(rt: HostRuntime) {
-    let (secret, other) = (MasterSecret::new(&SECRET), MasterSecret::new(&[9; 32]));
-    let mut files = KeyFiles::derive(TABLE, &secret);
-    files.o = KeyFile::derive(TABLE, &other, 2);
-    let keys = Keyring::of_key_files(files);
+    let (secret, other) = (secret(), MasterSecret::new(&[9; 32]));
+    let keys = keys_of_files(&secret, &other);
     for (party, is_good) in [(1, true), (2, false), (3, true)] {
-        assert!(rt;
-            is_opened(&keys, &secret, party) == is_good,
-            "party {party}"
-        );
-        assert!(rt; is_opened(&keys, &other, party) != is_good, "party {party}");
+        let holds = is_opened(&keys, &secret, party) == is_good
+            && is_opened(&keys, &other, party) != is_good;
+        assert!(rt; holds, "party {party}");
+    }
+}
+
+/// Makes a secret of keys in a folder; the bytes of its file.
+fn made_secret(rt: &impl Host, folder: &str, path: &str) -> Vec<u8> {
+    make_key_secret(rt, folder).expect(rt, "a secret is made");
+    fs::read(rt, path).expect(rt, "a file is read")
+}
+
+/// Whether the secret in a folder has this key of a party of match 1.
+fn has_key(rt: &impl Host, folder: &str, party: u8) -> bool {
+    let read = read_key_secret(rt, folder).expect(rt, "a secret is read");
+    *read.key_of(1, party).bytes() == *key_of(1, party).bytes()
+}
+
+/// Why the secret in a folder can't be read.
+fn why_unread(rt: &impl Host, folder: &str) -> Option<ErrorKind> {
+    match read_key_secret(rt, folder) {
+        Ok(_) => None,
+        Err(error) => Some(error.kind()),
     }
 }
 
 #[test]
-fn secrets_of_keys(rt: HostRuntime) -> Result<(), Fail> {
-    let made = new_folder(&rt, "key-secret")?;
+fn secrets_of_keys(rt: HostRuntime) {
+    check_secrets(&rt);
+}
+
+/// Each secret is another one, and keys are derived from what its file has.
+fn check_secrets(rt: &impl Host) {
+    let made = new_folder(rt, "key-secret");
     let folder = made.as_str();
-    let path = format!(in rt.alloc(); "{folder}/key-secret")?;
-    make_key_secret(&rt, folder)?;
-    let first = fs::read(&rt, path.as_str())?;
-    make_key_secret(&rt, folder)?;
-    assert!(rt; fs::read(&rt, path.as_str())?.as_slice() != first.as_slice());
-    fs::write(&rt, path.as_str(), SECRET.as_slice())?;
-    let key = read_key_secret(&rt, folder)?.key_of(1, 3);
-    assert!(rt; *key.bytes() == *MasterSecret::new(&SECRET).key_of(1, 3).bytes());
-    fs::write(&rt, path.as_str(), &[1; 31])?;
-    let cut = read_key_secret(&rt, folder).err();
-    assert!(rt; cut.map(|error| error.kind()) == Some(ErrorKind::InvalidData));
-    fs::remove_dir_all(&rt, folder)?;
-    Ok(())
+    let path = path_in(rt, folder, "key-secret");
+    let first = made_secret(rt, folder, path.as_str());
+    made_secret(rt, folder, path.as_str());
+    assert!(rt; !has_bytes(rt, path.as_str(), &first), "another secret");
+    write_file(rt, path.as_str(), &SECRET);
+    assert!(rt; has_key(rt, folder, 3), "a known secret");
+    write_file(rt, path.as_str(), &[1; 31]);
+    assert!(rt;
+        why_unread(rt, folder) == Some(ErrorKind::InvalidData),
+        "31 bytes"
+    );
+    remove_folder(rt, folder);
 }

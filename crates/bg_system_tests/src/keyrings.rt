@@ -1,8 +1,10 @@
 //! What goes between parties by their keys, and which datagrams count.
-use crate::seals::keys::SECRET;
-use bg_seals::{Key, MOST_PACKET_BYTES, MasterSecret};
-use bg_system::{Keyring, SIGN_OF_LIFE, heard};
+use crate::seals::keys::{key_of, secret};
+use crate::words::{bytes_of, small_number, word};
+use bg_seals::{Key, MOST_PACKET_BYTES, SealedDatagram};
+use bg_system::{Keyring, heard};
 use std::net::{Ipv4Addr, SocketAddr};
+use std::process::Abort;
 
 pub(crate) const PORT: u16 = 4000;
 
@@ -13,120 +15,126 @@ const WANT_OF_3: [u8; 34] = [
     0xac, 0xff,
 ];
 
-/// Parties that hold nothing of match 1.
-const WANT_OF_X: [u8; 18] = [0x42, 0x47, 2, 1, 0, 0, 0, 0, 0, 0, 0, 1, 1, 1, 0, 0, 0, 0];
-
-const WANT_OF_O: [u8; 18] = [0x42, 0x47, 2, 1, 0, 0, 0, 0, 0, 0, 0, 1, 1, 2, 0, 0, 0, 0];
-
-const WANT_OF_255: [u8; 18] = [0x42, 0x47, 2, 1, 0, 0, 0, 0, 0, 0, 0, 1, 1, 255, 0, 0, 0, 0];
-
-/// The referee of match 1 tells the opening 5 6.
-const OPENING: [u8; 21] = [
-    0x42, 0x47, 2, 3, 0, 0, 0, 0, 0, 0, 0, 1, 1, 0, 0, 0, 1, 1, 1, 5, 6,
-];
-
 pub(crate) fn referee() -> Keyring {
-    Keyring::of_referee(&MasterSecret::new(&SECRET), 1)
+    Keyring::of_referee(&secret(), 1)
 }
 
 pub(crate) fn party(number: u8) -> Keyring {
-    Keyring::OfParty(MasterSecret::new(&SECRET).key_of(1, number))
+    Keyring::OfParty(key_of(1, number))
+}
+
+/// The keys of a word: "referee", the number of a party, or "strange" for a key of another match.
+pub(crate) fn keys_of(rt: &impl Abort, word: &str) -> Keyring {
+    if word == "referee" {
+        referee()
+    } else if word == "strange" {
+        Keyring::OfParty(Key::new(&[9; 32]))
+    } else {
+        party(small_number(rt, word))
+    }
 }
 
 pub(crate) fn address(port: u16) -> SocketAddr {
     SocketAddr::from((Ipv4Addr::LOCALHOST, port))
 }
 
+/// The datagram of a packet that goes from one party to another, if these keys seal it.
+pub(crate) fn sealed(keys: &Keyring, from: u8, to: u8, packet: &[u8]) -> Option<SealedDatagram> {
+    if packet.len() > MOST_PACKET_BYTES {
+        return None;
+    }
+    keys.seal(from, to, packet)
+}
+
+/// What a datagram says that came from an address, and which party it is from, if it counts.
+pub(crate) fn heard_by<'a>(
+    keys: &Keyring,
+    own: u8,
+    datagram: &'a [u8],
+    from: SocketAddr,
+) -> Option<(u8, &'a [u8])> {
+    heard(keys, PORT, own, datagram, from)
+}
+
+/// Whether the datagram of another program is heard as it is, if it is heard.
+fn is_want_of_3(keys: &Keyring, own: u8, from: SocketAddr) -> Option<bool> {
+    let (party, bytes) = heard_by(keys, own, &WANT_OF_3, from)?;
+    Some(party == 3 && bytes == &WANT_OF_3[..18])
+}
+
 #[test]
 fn a_datagram_of_another_program(rt: HostRuntime) {
     let keys = referee();
-    let found = heard(&keys, PORT, 0, &WANT_OF_3, address(PORT + 3));
-    assert!(rt; found.is_some_and(|(party, bytes)| party == 3 && bytes == &WANT_OF_3[..18]));
+    assert!(rt; is_want_of_3(&keys, 0, address(PORT + 3)) == Some(true));
     // From another port, and for another party.
-    for (index, (own, from)) in [(0, PORT + 4), (0, PORT), (4, PORT + 3), (3, PORT)]
-        .into_iter()
-        .enumerate()
-    {
-        let found = heard(&keys, PORT, own, &WANT_OF_3, address(from));
-        assert!(rt; found.is_none(), "{index}");
+    for (own, from) in [(0, PORT + 4), (0, PORT), (4, PORT + 3), (3, PORT)] {
+        let found = is_want_of_3(&keys, own, address(from));
+        assert!(rt; found.is_none(), "to {own} from port {from}");
     }
     let elsewhere = SocketAddr::from((Ipv4Addr::new(127, 0, 0, 2), PORT + 3));
-    assert!(rt; heard(&keys, PORT, 0, &WANT_OF_3, elsewhere).is_none());
+    assert!(rt;
+        is_want_of_3(&keys, 0, elsewhere).is_none(),
+        "from elsewhere"
+    );
 }
 
-/// By whose keys a packet is sealed to go from one party to another, and whether it is heard there by these.
-#[derive(Drop)]
-struct Row {
-    sealing: Keyring,
-    from: u8,
-    to: u8,
-    packet: &'static [u8],
-    opening: Keyring,
-    is_heard: bool,
-}
-
-const fn row_of(
-    sealing: Keyring,
-    from: u8,
-    to: u8,
-    packet: &'static [u8],
-    opening: Keyring,
-    is_heard: bool,
-) -> Row {
-    Row {
-        sealing,
-        from,
-        to,
-        packet,
-        opening,
-        is_heard,
-    }
-}
-
-fn is_heard(row: &Row) -> bool {
-    if row.packet.len() > MOST_PACKET_BYTES {
-        return false;
-    }
-    let Some(datagram) = row.sealing.seal(row.from, row.to, row.packet) else {
+/// Whether the second keys hear a packet of one party as what the first keys sealed to go to another.
+fn is_heard_as(sealing: &Keyring, from: u8, to: u8, packet: &[u8], opening: &Keyring) -> bool {
+    let Some(datagram) = sealed(sealing, from, to, packet) else {
         return false;
     };
-    let from = address(PORT + u16::from(row.from));
-    match heard(&row.opening, PORT, row.to, datagram.as_slice(), from) {
-        Some((party, bytes)) => party == row.from && bytes == row.packet,
+    let address = address(PORT + u16::from(from));
+    match heard_by(opening, to, datagram.as_slice(), address) {
+        Some((party, bytes)) => party == from && bytes == packet,
         None => false,
     }
 }
 
+fn is_heard(rt: &(impl AllocGlobal + Abort), row: &str) -> bool {
+    let sealing = keys_of(rt, word(rt, row, 0));
+    let from = small_number(rt, word(rt, row, 1));
+    let to = small_number(rt, word(rt, row, 2));
+    let packet = bytes_of(rt, word(rt, row, 3));
+    let opening = keys_of(rt, word(rt, row, 4));
+    is_heard_as(&sealing, from, to, &packet, &opening)
+}
+
+/// By whose keys a packet is sealed to go from one party to another, its bytes, and by whose keys it
+/// is heard there. The packets are those of parties that hold nothing of match 1, the opening 5 6 of
+/// its referee, and the sign of life.
+const HEARD: &str = "\
+1 1 0 424702010000000000000001010100000000 referee
+2 2 0 424702010000000000000001010200000000 referee
+3 255 0 42470201000000000000000101ff00000000 referee
+referee 0 1 424702030000000000000001010000000101010506 1
+referee 0 200 424702030000000000000001010000000101010506 3
+1 1 0 00 referee
+referee 0 2 00 2
+";
+
+/// The same of what is not heard: of a watcher who claims to be X, or that the referee speaks; by
+/// other keys; between two parties of which none is the referee, or both are; and what is no packet.
+const NOT_HEARD: &str = "\
+3 3 0 424702010000000000000001010100000000 referee
+3 1 0 424702010000000000000001010100000000 referee
+3 3 0 424702030000000000000001010000000101010506 referee
+referee 0 1 424702010000000000000001010100000000 1
+strange 1 0 424702010000000000000001010100000000 referee
+1 1 0 424702010000000000000001010100000000 strange
+referee 0 1 424702030000000000000001010000000101010506 2
+3 3 4 424702010000000000000001010100000000 3
+referee 0 0 424702030000000000000001010000000101010506 referee
+1 1 0 - referee
+1 1 0 01 referee
+1 1 0 0000 referee
+";
+
 #[test]
 fn what_is_heard(rt: HostRuntime) {
-    let strange = || Keyring::OfParty(Key::new(&[9; 32]));
-    for (index, row) in [
-        row_of(party(1), 1, 0, &WANT_OF_X, referee(), true),
-        row_of(party(2), 2, 0, &WANT_OF_O, referee(), true),
-        row_of(party(3), 255, 0, &WANT_OF_255, referee(), true),
-        row_of(referee(), 0, 1, &OPENING, party(1), true),
-        row_of(referee(), 0, 200, &OPENING, party(3), true),
-        row_of(party(1), 1, 0, SIGN_OF_LIFE, referee(), true),
-        row_of(referee(), 0, 2, SIGN_OF_LIFE, party(2), true),
-        // A watcher who claims to be X, or that the referee speaks.
-        row_of(party(3), 3, 0, &WANT_OF_X, referee(), false),
-        row_of(party(3), 1, 0, &WANT_OF_X, referee(), false),
-        row_of(party(3), 3, 0, &OPENING, referee(), false),
-        row_of(referee(), 0, 1, &WANT_OF_X, party(1), false),
-        // Other keys, and between two parties of which none is the referee, or both are.
-        row_of(strange(), 1, 0, &WANT_OF_X, referee(), false),
-        row_of(party(1), 1, 0, &WANT_OF_X, strange(), false),
-        row_of(referee(), 0, 1, &OPENING, party(2), false),
-        row_of(party(3), 3, 4, &WANT_OF_X, party(3), false),
-        row_of(referee(), 0, 0, &OPENING, referee(), false),
-        // What is no packet.
-        row_of(party(1), 1, 0, b"", referee(), false),
-        row_of(party(1), 1, 0, b"\x01", referee(), false),
-        row_of(party(1), 1, 0, b"\0\0", referee(), false),
-    ]
-    .into_iter()
-    .enumerate()
-    {
-        assert!(rt; is_heard(&row) == row.is_heard, "{index}");
+    for row in HEARD.lines() {
+        assert!(rt; is_heard(&rt, row), "{row}");
+    }
+    for row in NOT_HEARD.lines() {
+        assert!(rt; !is_heard(&rt, row), "{row}");
     }
 }

@@ -10,9 +10,13 @@ mod helpers;
 #[cfg(test)]
 mod key_files;
 #[cfg(test)]
+mod key_texts;
+#[cfg(test)]
 mod keyrings;
 #[cfg(test)]
 mod match_files;
+#[cfg(test)]
+mod named_files;
 #[cfg(test)]
 mod names;
 #[cfg(test)]
@@ -26,4 +30,8 @@ mod printable;
 #[cfg(test)]
 mod seals;
 #[cfg(test)]
+mod slots;
+#[cfg(test)]
 mod uses;
+#[cfg(test)]
+mod words;

@@ -1,11 +1,9 @@
 //! Match files, secrets, and files that are there whole.
-use crate::helpers::new_folder;
+use crate::helpers::{Host, has_bytes, mode_of, new_folder, path_in, remove_folder, write_file};
 use bg_match::{Rules, Terms};
 use bg_system::{HIGHEST_PORT, LOWEST_PORT, MatchFile, make_secret, publish, read_secret};
 use std::io::ErrorKind;
-use std::os::unix::fs::PermissionsExt;
-use std::test::Fail;
-use std::{fs, io};
+use std::process::Abort;
 
 const FILE: MatchFile = MatchFile {
     id: u64::MAX,
@@ -18,145 +16,182 @@ const FILE: MatchFile = MatchFile {
 
 const TEXT: &str = "match 18446744073709551615 length 99 rules 2 port 65280\n";
 
+const LEAST: MatchFile = MatchFile {
+    id: 0,
+    terms: Terms {
+        length: 1,
+        rules: Rules::One,
+    },
+    port: LOWEST_PORT,
+};
+
+/// A file is shown as its text, and its text is read as the file.
+fn check_text(rt: &(impl AllocGlobal + Abort), file: &MatchFile, text: &str) {
+    let shown = format!(in rt.alloc(); "{file}").expect(rt, "memory for a file");
+    let holds = shown.as_str() == text && MatchFile::parse(text) == Some(*file);
+    assert!(rt; holds, "{text}");
+}
+
 #[test]
-fn texts_of_match_files(rt: HostRuntime) -> Result<(), Fail> {
-    let least = MatchFile {
-        id: 0,
-        terms: Terms {
-            length: 1,
-            rules: Rules::One,
-        },
-        port: LOWEST_PORT,
-    };
-    for (file, text) in [
-        (FILE, TEXT),
-        (least, "match 0 length 1 rules 1 port 1024\n"),
-    ] {
-        let shown = format!(in rt.alloc(); "{file}")?;
-        assert!(rt; shown.as_str() == text, "{text}");
-        assert!(rt; MatchFile::parse(text) == Some(file), "{text}");
+fn texts_of_match_files(rt: HostRuntime) {
+    check_texts(&rt);
+}
+
+/// The longest text and the least one.
+fn check_texts(rt: &(impl AllocGlobal + Abort)) {
+    check_text(rt, &FILE, TEXT);
+    check_text(rt, &LEAST, "match 0 length 1 rules 1 port 1024\n");
+}
+
+/// None of the texts between bars is that of a match file.
+fn check_none(rt: &impl Abort, texts: &str) {
+    for text in texts.split('|') {
+        assert!(rt; MatchFile::parse(text).is_none(), "{text}");
     }
-    Ok(())
 }
 
 #[test]
 fn texts_of_no_match_file(rt: HostRuntime) {
-    for text in [
-        "",
-        "\n",
-        "match\n",
-        "match 1 length 1 rules 1\n",
-        "match 1 length 1 rules 1 port\n",
-        "match 1 length 1 rules 1 port \n",
-        "match 1 length 1 rules 1 port 1023\n",
-        "match 1 length 1 rules 1 port 65281\n",
-        "match 1 length 0 rules 1 port 4000\n",
-        "match 1 length 100 rules 1 port 4000\n",
-        "match 1 length 1 rules 0 port 4000\n",
-        "match 1 length 1 rules 3 port 4000\n",
-        "match 18446744073709551616 length 1 rules 1 port 4000\n",
-        "match 99999999999999999999999 length 1 rules 1 port 4000\n",
-        "match -1 length 1 rules 1 port 4000\n",
-        "match 0x1 length 1 rules 1 port 4000\n",
-        "match 1 length 1 port 4000 rules 1\n",
-        "Match 1 length 1 rules 1 port 4000\n",
-    ] {
-        assert!(rt; MatchFile::parse(text).is_none(), "{text}");
-    }
+    check_none(&rt, NO_FILES);
 }
+
+const NO_FILES: &str = "\
+    |\
+    \n|\
+    match\n|\
+    match 1 length 1 rules 1\n|\
+    match 1 length 1 rules 1 port\n|\
+    match 1 length 1 rules 1 port \n|\
+    match 1 length 1 rules 1 port 1023\n|\
+    match 1 length 1 rules 1 port 65281\n|\
+    match 1 length 0 rules 1 port 4000\n|\
+    match 1 length 100 rules 1 port 4000\n|\
+    match 1 length 1 rules 0 port 4000\n|\
+    match 1 length 1 rules 3 port 4000\n|\
+    match 18446744073709551616 length 1 rules 1 port 4000\n|\
+    match 99999999999999999999999 length 1 rules 1 port 4000\n|\
+    match -1 length 1 rules 1 port 4000\n|\
+    match 0x1 length 1 rules 1 port 4000\n|\
+    match 1 length 1 port 4000 rules 1\n|\
+    Match 1 length 1 rules 1 port 4000\n";
 
 /// What says the same as the text of a match file, or more, is none: there is one text for each.
 #[test]
 fn other_texts_of_a_match(rt: HostRuntime) {
     assert!(rt; MatchFile::parse("match 7 length 3 rules 1 port 4000\n").is_some());
-    for text in [
-        "match 7 length 3 rules 1 port 4000",
-        "match 7 length 3 rules 1 port 4000\n\n",
-        "match 7 length 3 rules 1 port 4000\r\n",
-        "match 7 length 3 rules 1 port 4000 \n",
-        "match 7 length 3 rules 1 port 4000 more\n",
-        "match 7 length 3 rules 1 port 4000\nmore",
-        " match 7 length 3 rules 1 port 4000\n",
-        "match  7 length 3 rules 1 port 4000\n",
-        "match 7  length 3 rules 1 port 4000\n",
-        "match 7 length 3 rules 1  port 4000\n",
-        "match\t7 length 3 rules 1 port 4000\n",
-        "match +7 length 3 rules 1 port 4000\n",
-        "match 07 length 3 rules 1 port 4000\n",
-        "match 7 length 03 rules 1 port 4000\n",
-        "match 7 length +3 rules 1 port 4000\n",
-        "match 7 length 3 rules 01 port 4000\n",
-        "match 7 length 3 rules +1 port 4000\n",
-        "match 7 length 3 rules 1 port 04000\n",
-        "match 7 length 3 rules 1 port +4000\n",
-        "match 7 length 3 port 4000\n",
-    ] {
-        assert!(rt; MatchFile::parse(text).is_none(), "{text}");
-    }
+    check_none(&rt, OTHER_TEXTS);
 }
 
-/// Who may read and write a file.
-fn mode_of(rt: &HostRuntime, path: &str) -> io::Result<u32> {
-    Ok(fs::metadata(rt, path)?.permissions().mode() & 0o777)
-}
+const OTHER_TEXTS: &str = "\
+    match 7 length 3 rules 1 port 4000|\
+    match 7 length 3 rules 1 port 4000\n\n|\
+    match 7 length 3 rules 1 port 4000\r\n|\
+    match 7 length 3 rules 1 port 4000 \n|\
+    match 7 length 3 rules 1 port 4000 more\n|\
+    match 7 length 3 rules 1 port 4000\nmore|\
+    \x20match 7 length 3 rules 1 port 4000\n|\
+    match  7 length 3 rules 1 port 4000\n|\
+    match 7  length 3 rules 1 port 4000\n|\
+    match 7 length 3 rules 1  port 4000\n|\
+    match\t7 length 3 rules 1 port 4000\n|\
+    match +7 length 3 rules 1 port 4000\n|\
+    match 07 length 3 rules 1 port 4000\n|\
+    match 7 length 03 rules 1 port 4000\n|\
+    match 7 length +3 rules 1 port 4000\n|\
+    match 7 length 3 rules 01 port 4000\n|\
+    match 7 length 3 rules +1 port 4000\n|\
+    match 7 length 3 rules 1 port 04000\n|\
+    match 7 length 3 rules 1 port +4000\n|\
+    match 7 length 3 port 4000\n";
 
 /// What a match file says, or why it can't be read.
-fn read(rt: &HostRuntime, path: &str) -> Result<Option<MatchFile>, ErrorKind> {
-    MatchFile::read(rt, path).map_err(|error| error.kind())
+fn read(rt: &impl Host, path: &str) -> Result<Option<MatchFile>, ErrorKind> {
+    match MatchFile::read(rt, path) {
+        Ok(file) => Ok(file),
+        Err(error) => Err(error.kind()),
+    }
+}
+
+/// A match file with these bytes says nothing.
+fn check_unread(rt: &impl Host, path: &str, bytes: &[u8]) {
+    write_file(rt, path, bytes);
+    assert!(rt; read(rt, path) == Ok(None), "{bytes:?}");
 }
 
 #[test]
-fn match_files_are_written_and_read(rt: HostRuntime) -> Result<(), Fail> {
-    let made = new_folder(&rt, "match-file")?;
+fn match_files_are_written_and_read(rt: HostRuntime) {
+    check_written(&rt);
+}
+
+/// A match file is written and read, and what is none is not read.
+fn check_written(rt: &impl Host) {
+    let folder = new_folder(rt, "match-file");
+    let made = path_in(rt, folder.as_str(), "match");
+    let path = made.as_str();
+    assert!(rt; read(rt, path) == Err(ErrorKind::NotFound));
+    FILE.write(rt, folder.as_str())
+        .expect(rt, "a file is written");
+    assert!(rt; has_bytes(rt, path, TEXT.as_bytes()) && mode_of(rt, path) == 0o600);
+    assert!(rt; read(rt, path) == Ok(Some(FILE)));
+    check_unread(rt, path, b"match 1");
+    check_unread(rt, path, TEXT.trim_end().as_bytes());
+    check_unread(rt, path, &[0xff, 0xfe]);
+    remove_folder(rt, folder.as_str());
+}
+
+/// Makes a secret in a folder, and reads it.
+fn made_secret(rt: &impl Host, folder: &str) -> [u8; 32] {
+    make_secret(rt, folder).expect(rt, "a secret is made");
+    read_secret(rt, folder).expect(rt, "a secret is read")
+}
+
+/// A file of so many bytes is no secret.
+fn check_no_secret(rt: &impl Host, folder: &str, path: &str, bytes: &[u8]) {
+    write_file(rt, path, bytes);
+    let kind = match read_secret(rt, folder) {
+        Ok(_) => None,
+        Err(error) => Some(error.kind()),
+    };
+    let count = bytes.len();
+    assert!(rt; kind == Some(ErrorKind::InvalidData), "{count} bytes");
+}
+
+#[test]
+fn secrets(rt: HostRuntime) {
+    check_secrets(&rt);
+}
+
+/// Each secret is another one, for its owner alone, and what is none is not read.
+fn check_secrets(rt: &impl Host) {
+    let made = new_folder(rt, "secret");
     let folder = made.as_str();
-    let path = format!(in rt.alloc(); "{folder}/match")?;
-    let path = path.as_str();
-    assert!(rt; read(&rt, path) == Err(ErrorKind::NotFound));
-    FILE.write(&rt, folder)?;
-    assert!(rt; fs::read(&rt, path)?.as_slice() == TEXT.as_bytes());
-    assert!(rt; read(&rt, path) == Ok(Some(FILE)));
-    assert!(rt; mode_of(&rt, path)? == 0o600);
-    let unended = TEXT.trim_end().as_bytes();
-    for bytes in [b"match 1".as_slice(), unended, &[0xff, 0xfe]] {
-        fs::write(&rt, path, bytes)?;
-        assert!(rt; read(&rt, path) == Ok(None), "{bytes:?}");
-    }
-    fs::remove_dir_all(&rt, folder)?;
-    Ok(())
+    let path = path_in(rt, folder, "secret");
+    let first = made_secret(rt, folder);
+    assert!(rt; mode_of(rt, path.as_str()) == 0o600);
+    assert!(rt; made_secret(rt, folder) != first);
+    check_no_secret(rt, folder, path.as_str(), &[1; 33]);
+    check_no_secret(rt, folder, path.as_str(), &[1; 31]);
+    check_no_secret(rt, folder, path.as_str(), &[]);
+    remove_folder(rt, folder);
+}
+
+/// A file is published with these bytes, and has them.
+fn check_published(rt: &impl Host, path: &str, bytes: &[u8]) {
+    publish(rt, path, bytes).expect(rt, "a file is published");
+    assert!(rt; has_bytes(rt, path, bytes), "{bytes:?}");
 }
 
 #[test]
-fn secrets(rt: HostRuntime) -> Result<(), Fail> {
-    let made = new_folder(&rt, "secret")?;
-    let folder = made.as_str();
-    let path = format!(in rt.alloc(); "{folder}/secret")?;
-    let path = path.as_str();
-    make_secret(&rt, folder)?;
-    let first = read_secret(&rt, folder)?;
-    assert!(rt; mode_of(&rt, path)? == 0o600);
-    make_secret(&rt, folder)?;
-    assert!(rt; read_secret(&rt, folder)? != first);
-    for bytes in [[1; 33].as_slice(), &[1; 31], &[]] {
-        fs::write(&rt, path, bytes)?;
-        let read = read_secret(&rt, folder).map_err(|error| error.kind());
-        assert!(rt;
-            read == Err(ErrorKind::InvalidData),
-            "{} bytes",
-            bytes.len()
-        );
-    }
-    fs::remove_dir_all(&rt, folder)?;
-    Ok(())
+fn published_files(rt: HostRuntime) {
+    check_publishing(&rt);
 }
 
-#[test]
-fn published_files(rt: HostRuntime) -> Result<(), Fail> {
-    let folder = new_folder(&rt, "published")?;
-    let path = format!(in rt.alloc(); "{}/board", folder.as_str())?;
-    for text in [b"first".as_slice(), b"the second", b""] {
-        publish(&rt, path.as_str(), text)?;
-        assert!(rt; fs::read(&rt, path.as_str())?.as_slice() == text);
-    }
-    fs::remove_dir_all(&rt, folder.as_str())?;
-    Ok(())
+/// Each text stands in the place of the one before.
+fn check_publishing(rt: &impl Host) {
+    let folder = new_folder(rt, "published");
+    let path = path_in(rt, folder.as_str(), "board");
+    check_published(rt, path.as_str(), b"first");
+    check_published(rt, path.as_str(), b"the second");
+    check_published(rt, path.as_str(), b"");
+    remove_folder(rt, folder.as_str());
 }

@@ -1,73 +1,83 @@
 //! What a seat is told of the other one, and which datagrams count.
-use crate::keyrings::{PORT, address, party, referee};
-use bg_system::{Keyring, Presence, SIGN_OF_LIFE, heard, told};
+use crate::keyrings::{PORT, address, heard_by, keys_of, party, referee, sealed};
+use crate::words::{bytes_of, port, small_number, word};
+use bg_system::{Keyring, Presence, SIGN_OF_LIFE, told};
 use std::net::{Ipv4Addr, SocketAddr};
-
-const NOTICES: [(&[u8], Presence); 3] = [
-    (&[0, 0], Presence::Unheard),
-    (&[0, 1], Presence::Here),
-    (&[0, 2], Presence::Away),
-];
+use std::process::Abort;
 
 const HERE: &[u8] = &[0, 1];
 
 /// What a party is told by bytes that these keys seal to go from the referee to a party, and that
 /// come from an address.
 fn told_by(sealing: &Keyring, to: u8, bytes: &[u8], own: u8, from: SocketAddr) -> Option<Presence> {
-    if bytes.len() > 128 {
-        return None;
-    }
-    let datagram = sealing.seal(0, to, bytes)?;
+    let datagram = sealed(sealing, 0, to, bytes)?;
     told(&party(own), PORT, own, datagram.as_slice(), from)
+}
+
+/// Whether a party hears bytes that the referee seals for it.
+fn is_heard(rt: &impl Abort, own: u8, bytes: &[u8]) -> bool {
+    let datagram = sealed(&referee(), 0, own, bytes).expect(rt, "a seal");
+    heard_by(&party(own), own, datagram.as_slice(), address(PORT)).is_some()
+}
+
+/// Both seats are told this by its bytes, which are no packet and no sign of life.
+fn check_notice(rt: &impl Abort, presence: Presence, bytes: &[u8]) {
+    assert!(rt; presence.notice().as_slice() == bytes, "{presence:?}");
+    for seat in [1, 2] {
+        let found = told_by(&referee(), seat, bytes, seat, address(PORT));
+        let holds = found == Some(presence) && !is_heard(rt, seat, bytes);
+        assert!(rt; holds, "{presence:?} to {seat}");
+    }
 }
 
 /// Each is told by its bytes. They are no packet and no sign of life, so that a seat of an older
 /// program passes over them.
 #[test]
 fn notices(rt: HostRuntime) {
-    for (bytes, presence) in NOTICES {
-        assert!(rt; presence.notice().as_slice() == bytes, "{presence:?}");
-        for seat in [1, 2] {
-            let found = told_by(&referee(), seat, bytes, seat, address(PORT));
-            assert!(rt; found == Some(presence), "{presence:?} to {seat}");
-            let sealed = referee().seal(0, seat, bytes).expect(&rt, "a seal");
-            let found = heard(&party(seat), PORT, seat, sealed.as_slice(), address(PORT));
-            assert!(rt; found.is_none(), "{presence:?} to {seat}");
-        }
-    }
+    check_notice(&rt, Presence::Unheard, &[0, 0]);
+    check_notice(&rt, Presence::Here, HERE);
+    check_notice(&rt, Presence::Away, &[0, 2]);
+}
+
+/// By whose keys a notice is sealed for which seat, to which one it comes, and from which port: what
+/// goes to the other seat, under its key, or not from the referee's port.
+const STRAYS: &str = "\
+referee 2 1 4000
+2 1 1 4000
+referee 1 1 4001
+referee 1 1 4002
+";
+
+/// What a seat is told as a row says.
+fn told_in(rt: &impl Abort, row: &str) -> Option<Presence> {
+    let keys = keys_of(rt, word(rt, row, 0));
+    let to = small_number(rt, word(rt, row, 1));
+    let own = small_number(rt, word(rt, row, 2));
+    let port = port(rt, word(rt, row, 3));
+    told_by(&keys, to, HERE, own, address(port))
 }
 
 #[test]
 fn what_is_no_notice(rt: HostRuntime) {
-    let (keys, strange) = (referee(), party(2));
-    let here = address(PORT);
-    for (index, bytes) in [
-        b"".as_slice(),
-        SIGN_OF_LIFE,
-        b"\x00\x03",
-        b"\x01\x01",
-        b"\x00\x01\x00",
-        b"\x01",
-    ]
-    .into_iter()
-    .enumerate()
-    {
-        let found = told_by(&keys, 1, bytes, 1, here);
-        assert!(rt; found.is_none(), "{index}");
+    check_strays(&rt);
+}
+
+/// What is no notice, or does not count, tells nothing.
+fn check_strays(rt: &(impl AllocGlobal + Abort)) {
+    let (keys, here) = (referee(), address(PORT));
+    for word in "- 00 0003 0101 000100 01".split(' ') {
+        let found = told_by(&keys, 1, &bytes_of(rt, word), 1, here);
+        assert!(rt; found.is_none(), "{word}");
     }
-    // To the other seat, under its key, and from elsewhere than the referee's address.
+    assert!(rt; told_by(&keys, 1, SIGN_OF_LIFE, 1, here).is_none());
+    for row in STRAYS.lines() {
+        assert!(rt; told_in(rt, row).is_none(), "{row}");
+    }
     let elsewhere = SocketAddr::from((Ipv4Addr::new(127, 0, 0, 2), PORT));
-    for (index, found) in [
-        told_by(&keys, 2, HERE, 1, here),
-        told_by(&strange, 1, HERE, 1, here),
-        told_by(&keys, 1, HERE, 1, address(PORT + 1)),
-        told_by(&keys, 1, HERE, 1, address(PORT + 2)),
-        told_by(&keys, 1, HERE, 1, elsewhere),
-        told(&party(1), PORT, 1, HERE, here),
-    ]
-    .into_iter()
-    .enumerate()
-    {
-        assert!(rt; found.is_none(), "{index}");
-    }
+    assert!(rt;
+        told_by(&keys, 1, HERE, 1, elsewhere).is_none(),
+        "from elsewhere"
+    );
+    let unsealed = told(&party(1), PORT, 1, HERE, here);
+    assert!(rt; unsealed.is_none(), "not sealed");
 }

@@ -1,55 +1,92 @@
 //! A socket takes what it sends itself, and nothing else.
+use crate::helpers::Host;
 use bg_system::OwnSocket;
-use std::io;
-use std::net::{Ipv4Addr, UdpSocket};
+use std::net::{Ipv4Addr, SocketAddr, UdpSocket};
 use std::process::Abort;
-use std::test::Fail;
 
-/// The socket has these datagrams, in this order, and then no other.
-fn check_received(rt: &impl Abort, own: &OwnSocket, expected: &[&[u8]]) -> io::Result<()> {
-    for (index, wanted) in expected.iter().enumerate() {
-        let received = own.receive()?;
-        assert!(rt;
-            received.is_some_and(|bytes| bytes.as_slice() == *wanted),
-            "{index}"
-        );
-    }
-    assert!(rt; own.receive()?.is_none());
-    Ok(())
+fn opened(rt: &impl Host) -> OwnSocket {
+    OwnSocket::open(rt).expect(rt, "a socket")
+}
+
+/// What the socket has next is this, and nothing where this is none.
+fn check_next(rt: &impl Abort, own: &OwnSocket, expected: Option<&[u8]>) {
+    let received = own.receive().expect(rt, "a socket is read");
+    let is_next = match (received, expected) {
+        (Some(bytes), Some(wanted)) => bytes.as_slice() == wanted,
+        (None, None) => true,
+        _ => false,
+    };
+    assert!(rt; is_next, "{expected:?}");
+}
+
+/// The socket has this datagram, and then no other.
+fn check_only(rt: &impl Abort, own: &OwnSocket, bytes: &[u8]) {
+    check_next(rt, own, Some(bytes));
+    check_next(rt, own, None);
+}
+
+fn send(rt: &impl Abort, own: &OwnSocket, bytes: &[u8]) {
+    own.send(bytes).expect(rt, "a datagram is sent");
 }
 
 #[test]
-fn own_datagrams_come_in_order(rt: HostRuntime) -> Result<(), Fail> {
-    let own = OwnSocket::open(&rt)?;
-    check_received(&rt, &own, &[])?;
-    for bytes in [b"first".as_slice(), b"", &[3; 300]] {
-        own.send(bytes)?;
-    }
-    check_received(&rt, &own, &[b"first", b"", &[3; 256]])?;
-    Ok(())
+fn own_datagrams_come_in_order(rt: HostRuntime) {
+    check_order(&rt);
 }
 
-#[test]
-fn datagrams_of_others_are_passed_over(rt: HostRuntime) -> Result<(), Fail> {
-    let stranger = UdpSocket::bind(&rt, (Ipv4Addr::LOCALHOST, 0))?;
-    // What came before the socket was connected waits, and is passed over.
-    let own = OwnSocket::bind(&rt)?;
+/// What was sent comes in its order, and no more than 256 bytes of each.
+fn check_order(rt: &impl Host) {
+    let own = opened(rt);
+    check_next(rt, &own, None);
+    send(rt, &own, b"first");
+    send(rt, &own, b"");
+    send(rt, &own, &[3; 300]);
+    check_next(rt, &own, Some(b"first"));
+    check_next(rt, &own, Some(b""));
+    check_only(rt, &own, &[3; 256]);
+}
+
+fn stranger(rt: &impl Host) -> UdpSocket {
+    UdpSocket::bind(rt, (Ipv4Addr::LOCALHOST, 0)).expect(rt, "a socket")
+}
+
+/// A stranger sends bytes so often, as far as there is room.
+fn stray(stranger: &UdpSocket, bytes: &[u8], times: u32, to: SocketAddr) {
+    for _ in 0..times {
+        let _ = stranger.send_to(bytes, to);
+    }
+}
+
+/// A socket that hears itself alone from now on, to which a stranger sent before.
+fn opened_late(rt: &impl Host, stranger: &UdpSocket) -> OwnSocket {
+    let own = OwnSocket::bind(rt).expect(rt, "a socket");
     for _ in 0..20 {
-        stranger.send_to(b"early", own.address)?;
+        let sent = stranger.send_to(b"early", own.address);
+        sent.expect(rt, "a datagram is sent");
     }
-    own.hear_only(own.address)?;
-    own.send(b"own")?;
-    check_received(&rt, &own, &[b"own"])?;
+    own.hear_only(own.address).expect(rt, "an address to hear");
+    own
+}
+
+#[test]
+fn datagrams_of_others_are_passed_over(rt: HostRuntime) {
+    check_passed_over(&rt);
+}
+
+/// A socket has what it sent itself, whatever others send.
+fn check_passed_over(rt: &impl Host) {
+    let stranger = stranger(rt);
+    // What came before the socket was connected waits, and is passed over.
+    let own = opened_late(rt, &stranger);
+    send(rt, &own, b"own");
+    check_only(rt, &own, b"own");
     // What comes later takes no room: more than the socket has room for leaves room for its own.
-    for _ in 0..5000 {
-        let _ = stranger.send_to(&[0x42; 128], own.address);
-    }
-    own.send(b"own again")?;
-    check_received(&rt, &own, &[b"own again"])?;
+    stray(&stranger, &[0x42; 128], 5000, own.address);
+    send(rt, &own, b"own again");
+    check_only(rt, &own, b"own again");
     // Another socket of this kind is a stranger too.
-    let other = OwnSocket::open(&rt)?;
-    other.send(b"other")?;
-    check_received(&rt, &own, &[])?;
-    check_received(&rt, &other, &[b"other"])?;
-    Ok(())
+    let other = opened(rt);
+    send(rt, &other, b"other");
+    check_next(rt, &own, None);
+    check_only(rt, &other, b"other");
 }

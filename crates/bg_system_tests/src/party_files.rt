@@ -1,182 +1,204 @@
 //! The files of a party: what is away is not empty, and what was not there before is.
-use crate::helpers::{new_folder, told};
+use crate::helpers::{
+    Host, check_told, mode_of, new_folder, path_in, remove_file, remove_folder, rename, told,
+    write_file,
+};
+use crate::slots::{Files, check_away, check_fails, check_have, check_writes, files_of, has};
 use bg_system::{Failures, PartyFiles};
 use bg_wire::Slot;
-use std::fs;
 use std::io::ErrorKind;
-use std::os::unix::fs::PermissionsExt;
-use std::test::Fail;
+use std::process::Abort;
+use std::{fs, io};
 
-/// What a call came to: the bytes that were read, none where a write succeeded; else the kind of the error.
-type Came = Result<Vec<u8>, ErrorKind>;
-
-fn read(files: &mut PartyFiles<'_, HostRuntime>, slot: Slot) -> Came {
-    files.read(slot).map_err(|error| error.kind())
-}
-
-fn write(rt: &HostRuntime, files: &mut PartyFiles<'_, HostRuntime>, slot: Slot) -> Came {
-    match files.write(slot, b"new") {
-        Ok(()) => Ok(Vec::new(rt.alloc())),
-        Err(error) => Err(error.kind()),
-    }
-}
-
-/// Whether both slots can be neither read nor written, as their files or their folder are missing.
-fn are_away(rt: &HostRuntime, files: &mut PartyFiles<'_, HostRuntime>) -> bool {
-    let away = Err(ErrorKind::NotFound);
-    [Slot::Zero, Slot::One].into_iter().all(|slot| read(files, slot) == away
-        && write(rt, files, slot) == away)
-}
-
-/// Whether the slots have these bytes.
-fn have(files: &mut PartyFiles<'_, HostRuntime>, zero: &[u8], one: &[u8]) -> bool {
-    match (files.read(Slot::Zero), files.read(Slot::One)) {
-        (Ok(of_zero), Ok(of_one)) => of_zero.as_slice() == zero && of_one.as_slice() == one,
-        _ => false,
-    }
-}
-
-/// A folder of this name for a party that has written to both slots.
-fn written_folder(rt: &HostRuntime, name: &str) -> Result<String, Fail> {
-    let folder = new_folder(rt, name)?;
+fn try_written(rt: &HostRuntime, folder: &str) -> io::Result<()> {
     let failures = Failures::new();
-    let mut files = PartyFiles::new(rt, folder.as_str(), 1, &failures)?;
+    let mut files = PartyFiles::new(rt, folder, 1, &failures)?;
     files.write(Slot::Zero, b"zero")?;
-    files.write(Slot::One, b"one")?;
-    Ok(folder)
+    files.write(Slot::One, b"one")
+}
+
+/// A new folder of this name for a party that has written to both slots.
+fn written_folder(rt: &impl Host, host: &HostRuntime, name: &str) -> String {
+    let folder = new_folder(rt, name);
+    assert!(rt;
+        try_written(host, folder.as_str()).is_ok(),
+        "{folder} is written"
+    );
+    folder
+}
+
+/// A place for the folder to be moved to.
+fn elsewhere(rt: &(impl AllocGlobal + Abort), folder: &str) -> String {
+    format!(in rt.alloc(); "{folder}-elsewhere").expect(rt, "memory for a path")
+}
+
+/// Another folder stands at the place of one, and is not written to.
+fn check_another(rt: &impl Host, files: &mut Files<'_>, folder: &str) {
+    fs::create_dir(rt, folder).expect(rt, "another folder");
+    check_away(rt, files, "another folder");
+    // It is empty: else it is not removed so.
+    fs::remove_dir(rt, folder).expect(rt, "an empty folder");
 }
 
 /// Neither a folder that was moved away nor one that stands in its place has slots, until the first is back.
 #[test]
-fn a_folder_that_is_away_for_a_while(rt: HostRuntime) -> Result<(), Fail> {
-    let folder = written_folder(&rt, "away")?;
-    let folder = folder.as_str();
-    let elsewhere = format!(in rt.alloc(); "{folder}-elsewhere")?;
-    let elsewhere = elsewhere.as_str();
+fn a_folder_that_is_away_for_a_while(rt: HostRuntime) {
+    check_away_for_a_while(&rt, &rt);
+}
+
+fn check_away_for_a_while(rt: &impl Host, host: &HostRuntime) {
+    let made = written_folder(rt, host, "away");
+    let folder = made.as_str();
+    let elsewhere = elsewhere(rt, folder);
     let failures = Failures::new();
-    let mut files = PartyFiles::new(&rt, folder, 1, &failures)?;
-    assert!(rt; have(&mut files, b"zero", b"one"), "before");
-    fs::rename(&rt, folder, elsewhere)?;
-    assert!(rt; are_away(&rt, &mut files), "moved away");
-    fs::create_dir(&rt, folder)?;
-    assert!(rt; are_away(&rt, &mut files), "another folder");
-    assert!(rt;
-        fs::read_dir(&rt, folder)?.count() == 0,
-        "it was written to"
-    );
-    fs::remove_dir(&rt, folder)?;
-    fs::rename(&rt, elsewhere, folder)?;
-    assert!(rt; have(&mut files, b"zero", b"one"), "back again");
-    files.write(Slot::Zero, b"next")?;
-    assert!(rt; have(&mut files, b"next", b"one"), "it goes on");
-    let said = told(&rt, &failures, "DIR")?;
-    let wanted = "DIR can't be found: it was there before, and is missing now\n";
-    assert!(rt; said.as_str() == wanted, "{said}");
-    fs::remove_dir_all(&rt, folder)?;
-    Ok(())
+    let mut files = files_of(rt, host, folder, 1, &failures);
+    check_have(rt, &mut files, b"zero", b"one", "before");
+    rename(rt, folder, elsewhere.as_str());
+    check_away(rt, &mut files, "moved away");
+    check_another(rt, &mut files, folder);
+    rename(rt, elsewhere.as_str(), folder);
+    check_have(rt, &mut files, b"zero", b"one", "back again");
+    check_writes(rt, &mut files, Slot::Zero, b"next");
+    check_have(rt, &mut files, b"next", b"one", "it goes on");
+    let lines = "DIR can't be found: it was there before, and is missing now\n";
+    check_told(rt, &failures, lines);
+    remove_folder(rt, folder);
+}
+
+/// One line is told, which begins so.
+fn check_begins(rt: &(impl AllocGlobal + Abort), failures: &Failures, words: &str) {
+    let said = told(rt, failures, "DIR");
+    let is_so = said.as_str().starts_with(words) && said.as_str().lines().count() == 1;
+    assert!(rt; is_so, "{said}");
 }
 
 /// A folder that is missing from the beginning has no empty slots either: it may be away.
 #[test]
-fn a_folder_that_is_away_at_first(rt: HostRuntime) -> Result<(), Fail> {
-    let folder = written_folder(&rt, "away-at-first")?;
-    let folder = folder.as_str();
-    let elsewhere = format!(in rt.alloc(); "{folder}-elsewhere")?;
-    fs::rename(&rt, folder, elsewhere.as_str())?;
+fn a_folder_that_is_away_at_first(rt: HostRuntime) {
+    check_away_at_first(&rt, &rt);
+}
+
+fn check_away_at_first(rt: &impl Host, host: &HostRuntime) {
+    let made = written_folder(rt, host, "away-at-first");
+    let folder = made.as_str();
+    let elsewhere = elsewhere(rt, folder);
+    rename(rt, folder, elsewhere.as_str());
     let failures = Failures::new();
-    let mut files = PartyFiles::new(&rt, folder, 1, &failures)?;
-    assert!(rt; are_away(&rt, &mut files), "before it was there");
-    fs::rename(&rt, elsewhere.as_str(), folder)?;
-    assert!(rt; have(&mut files, b"zero", b"one"), "there");
-    let said = told(&rt, &failures, "DIR")?;
-    assert!(rt;
-        said.as_str().starts_with("DIR can't be found: ") && said.as_str().lines().count() == 1,
-        "{said}"
-    );
-    fs::remove_dir_all(&rt, folder)?;
-    Ok(())
+    let mut files = files_of(rt, host, folder, 1, &failures);
+    check_away(rt, &mut files, "before it was there");
+    rename(rt, elsewhere.as_str(), folder);
+    check_have(rt, &mut files, b"zero", b"one", "there");
+    check_begins(rt, &failures, "DIR can't be found: ");
+    remove_folder(rt, folder);
 }
 
 /// A folder in the place of that which the files were read from is said to be another.
 #[test]
-fn another_folder_is_said(rt: HostRuntime) -> Result<(), Fail> {
-    let folder = written_folder(&rt, "replaced")?;
-    let folder = folder.as_str();
-    let elsewhere = format!(in rt.alloc(); "{folder}-elsewhere")?;
+fn another_folder_is_said(rt: HostRuntime) {
+    check_replaced(&rt, &rt);
+}
+
+fn check_replaced(rt: &impl Host, host: &HostRuntime) {
+    let made = written_folder(rt, host, "replaced");
+    let folder = made.as_str();
+    let elsewhere = elsewhere(rt, folder);
     let failures = Failures::new();
-    let mut files = PartyFiles::new(&rt, folder, 1, &failures)?;
-    assert!(rt; have(&mut files, b"zero", b"one"), "before");
+    let mut files = files_of(rt, host, folder, 1, &failures);
+    check_have(rt, &mut files, b"zero", b"one", "before");
     // A copy of the folder is another one too.
-    fs::rename(&rt, folder, elsewhere.as_str())?;
-    written_folder(&rt, "replaced")?;
-    assert!(rt; are_away(&rt, &mut files), "a copy in its place");
-    let said = told(&rt, &failures, "DIR")?;
-    let wanted = "DIR can't be found: another folder stands there than at the start\n";
-    assert!(rt; said.as_str() == wanted, "{said}");
-    fs::remove_dir_all(&rt, folder)?;
-    fs::remove_dir_all(&rt, elsewhere.as_str())?;
-    Ok(())
+    rename(rt, folder, elsewhere.as_str());
+    written_folder(rt, host, "replaced");
+    check_away(rt, &mut files, "a copy in its place");
+    let lines = "DIR can't be found: another folder stands there than at the start\n";
+    check_told(rt, &failures, lines);
+    remove_folder(rt, folder);
+    remove_folder(rt, elsewhere.as_str());
+}
+
+/// A file that was there is missing, and so often the slot is neither empty nor written anew.
+fn check_missing(rt: &impl Host, files: &mut Files<'_>, failures: &Failures, path: &str) {
+    remove_file(rt, path);
+    for when in ["missing", "still missing"] {
+        check_fails(rt, files, Slot::One, ErrorKind::NotFound, when);
+    }
+    let lines = "DIR/party-2.1 could not be read: it was there before, and is missing now\n\
+                 DIR/party-2.1 could not be written: it was there before, and is missing now\n";
+    check_told(rt, failures, lines);
 }
 
 /// A slot whose file was there and is missing is not empty; one that never had a file is.
 #[test]
-fn a_file_that_is_missing(rt: HostRuntime) -> Result<(), Fail> {
-    let folder = new_folder(&rt, "missing")?;
+fn a_file_that_is_missing(rt: HostRuntime) {
+    check_missing_file(&rt, &rt);
+}
+
+fn check_missing_file(rt: &impl Host, host: &HostRuntime) {
+    let made = new_folder(rt, "missing");
+    let folder = made.as_str();
+    let path = path_in(rt, folder, "party-2.1");
     let failures = Failures::new();
-    let mut files = PartyFiles::new(&rt, folder.as_str(), 2, &failures)?;
-    assert!(rt; have(&mut files, b"", b""), "no file yet");
-    files.write(Slot::One, b"one")?;
-    assert!(rt; have(&mut files, b"", b"one"), "one file");
-    let path = format!(in rt.alloc(); "{folder}/party-2.1")?;
-    fs::remove_file(&rt, path.as_str())?;
-    let away = Err(ErrorKind::NotFound);
-    for _ in 0..2 {
-        assert!(rt; read(&mut files, Slot::One) == away, "read");
-        assert!(rt; write(&rt, &mut files, Slot::One) == away, "written");
+    let mut files = files_of(rt, host, folder, 2, &failures);
+    check_have(rt, &mut files, b"", b"", "no file yet");
+    check_writes(rt, &mut files, Slot::One, b"one");
+    check_have(rt, &mut files, b"", b"one", "one file");
+    check_missing(rt, &mut files, &failures, path.as_str());
+    check_writes(rt, &mut files, Slot::Zero, b"zero");
+    write_file(rt, path.as_str(), b"put back");
+    check_have(rt, &mut files, b"zero", b"put back", "put back");
+    remove_file(rt, path.as_str());
+    assert!(rt;
+        next_process_has(host, folder, b"zero", b""),
+        "the next process"
+    );
+    remove_folder(rt, folder);
+}
+
+/// Whether the next process finds these bytes.
+fn next_process_has(rt: &HostRuntime, folder: &str, zero: &[u8], one: &[u8]) -> bool {
+    let failures = Failures::new();
+    match PartyFiles::new(rt, folder, 2, &failures) {
+        Ok(mut files) => has(&mut files, Slot::Zero, zero) && has(&mut files, Slot::One, one),
+        Err(_) => false,
     }
-    let said = told(&rt, &failures, "DIR")?;
-    let wanted = "DIR/party-2.1 could not be read: it was there before, and is missing now\n\
-                  DIR/party-2.1 could not be written: it was there before, and is missing now\n";
-    assert!(rt; said.as_str() == wanted, "{said}");
-    files.write(Slot::Zero, b"zero")?;
-    fs::write(&rt, path.as_str(), b"put back")?;
-    assert!(rt; have(&mut files, b"zero", b"put back"), "put back");
-    // The next process finds what is there.
-    fs::remove_file(&rt, path.as_str())?;
-    let mut next = PartyFiles::new(&rt, folder.as_str(), 2, &failures)?;
-    assert!(rt; have(&mut next, b"zero", b""), "the next process");
-    fs::remove_dir_all(&rt, folder.as_str())?;
-    Ok(())
 }
 
 /// What is no plain file is neither read nor written; here it is a folder.
 #[test]
-fn no_plain_file(rt: HostRuntime) -> Result<(), Fail> {
-    let folder = new_folder(&rt, "no-plain-file")?;
-    let path = format!(in rt.alloc(); "{folder}/party-1.0")?;
-    fs::create_dir(&rt, path.as_str())?;
+fn no_plain_file(rt: HostRuntime) {
+    check_no_plain_file(&rt, &rt);
+}
+
+fn check_no_plain_file(rt: &impl Host, host: &HostRuntime) {
+    let made = new_folder(rt, "no-plain-file");
+    let folder = made.as_str();
+    let path = path_in(rt, folder, "party-1.0");
+    fs::create_dir(rt, path.as_str()).expect(rt, "a folder");
     let failures = Failures::new();
-    let mut files = PartyFiles::new(&rt, folder.as_str(), 1, &failures)?;
-    let refused = Err(ErrorKind::InvalidInput);
-    assert!(rt; read(&mut files, Slot::Zero) == refused, "read");
-    assert!(rt; write(&rt, &mut files, Slot::Zero) == refused, "written");
-    let said = told(&rt, &failures, "DIR")?;
-    let wanted = "DIR/party-1.0 could not be read: it is no plain file\n\
-                  DIR/party-1.0 could not be written: it is no plain file\n";
-    assert!(rt; said.as_str() == wanted, "{said}");
-    fs::remove_dir_all(&rt, folder.as_str())?;
-    Ok(())
+    let mut files = files_of(rt, host, folder, 1, &failures);
+    check_fails(
+        rt,
+        &mut files,
+        Slot::Zero,
+        ErrorKind::InvalidInput,
+        "no plain file",
+    );
+    let lines = "DIR/party-1.0 could not be read: it is no plain file\n\
+                 DIR/party-1.0 could not be written: it is no plain file\n";
+    check_told(rt, &failures, lines);
+    remove_folder(rt, folder);
 }
 
 /// Only its owner reads a saved file.
 #[test]
-fn modes_of_slot_files(rt: HostRuntime) -> Result<(), Fail> {
-    let folder = written_folder(&rt, "modes")?;
-    for slot in 0..2 {
-        let path = format!(in rt.alloc(); "{folder}/party-1.{slot}")?;
-        let mode = fs::metadata(&rt, path.as_str())?.permissions().mode();
-        assert!(rt; mode & 0o777 == 0o600, "slot {slot}: {mode:o}");
+fn modes_of_slot_files(rt: HostRuntime) {
+    check_modes(&rt, &rt);
+}
+
+fn check_modes(rt: &impl Host, host: &HostRuntime) {
+    let folder = written_folder(rt, host, "modes");
+    for name in ["party-1.0", "party-1.1"] {
+        let mode = mode_of(rt, path_in(rt, folder.as_str(), name).as_str());
+        assert!(rt; mode == 0o600, "{name}: {mode:o}");
     }
-    fs::remove_dir_all(&rt, folder.as_str())?;
-    Ok(())
+    remove_folder(rt, folder.as_str());
 }

@@ -1,14 +1,13 @@
 //! The lines of use that the documentation of these crates shows.
-use crate::helpers::new_folder;
+use crate::helpers::{new_folder, remove_folder};
 use bg_seals::{Direction, KEY_BYTES, MasterSecret};
 use bg_system::{FailedCall, Failures, FirstFailures, OwnSocket, publish, read_saved};
-use std::fs;
 use std::test::Fail;
 
 #[test]
 fn the_system(rt: HostRuntime) -> Result<(), Fail> {
     let alloc = rt.alloc();
-    let made = new_folder(&rt, "system-uses")?;
+    let made = new_folder(&rt, "system-uses");
     let folder = made.as_str();
     // bg_system
     // A socket that hears itself alone, as a party's in a match of one process.
@@ -28,7 +27,7 @@ fn the_system(rt: HostRuntime) -> Result<(), Fail> {
     }
     assert!(rt; failures.drain().count() == 1);
     // end
-    fs::remove_dir_all(&rt, folder)?;
+    remove_folder(&rt, folder);
     Ok(())
 }
 

@@ -1,9 +1,25 @@
 //! Sockets of the referee and the seats of a match, and scripts of what happens to them.
+//!
+//! A script has a line for each thing that happens or is to be seen, with parties by their numbers:
+//! - "clock 1000": the clock shows so many milliseconds;
+//! - "send 1 0 x-wants": the first party sends a packet to the second;
+//! - "can't send 1 2 x-wants": that fails;
+//! - "stray 0 64 rubbish": a stranger sends bytes so often to the party's port;
+//! - "take 0 x-wants", "take 0 nothing": the party takes a packet, or there is nothing to take;
+//! - "take as 1 0 nothing": the same for the first party, from the socket of the second;
+//! - "ask 1": the party asks whether the referee is there;
+//! - "heard 1 2": so often the party has heard of the referee;
+//! - "told 1 here", "told 1 nothing": the referee has told the party so of the other seat within the
+//!   last seconds, or nothing;
+//! - "rebind 1 3": another process has the first party's port, with the keys of the second;
+//! - "# ..": a comment.
 
 use crate::helpers::hosts::Host;
+use crate::helpers::script_words::{packet_of, presence_of};
 use crate::helpers::tables::{free_port, keys_of};
+use crate::helpers::words::{number, small_number, word};
 use arrayvec::ArrayVec;
-use bg_processes::{Failures, PartySocket, Presence};
+use bg_processes::{Failures, PartySocket};
 use bg_wire::{Datagram, PacketBytes};
 use bg_world::{DeviceFault, Link};
 use std::cell::Cell;
@@ -38,33 +54,6 @@ impl Clock for SetClock {
     fn sleep(&self, _duration: Duration) {}
 }
 
-/// What happens, or is to be seen: parties by their numbers.
-#[derive(Clone, Copy)]
-pub(crate) enum Step<'a> {
-    /// The clock shows so many milliseconds.
-    Clock(u64),
-    /// The first party sends these bytes to the second.
-    Sends(u8, u8, &'a [u8]),
-    /// That fails.
-    CantSend(u8, u8, &'a [u8]),
-    /// A stranger sends these bytes so often to the party's port.
-    Strays(u8, &'a [u8], u32),
-    /// The party takes these bytes.
-    Takes(u8, &'a [u8]),
-    /// There is nothing for the party to take.
-    TakesNothing(u8),
-    /// There is nothing for the second party to take from the socket of the first.
-    TakesNothingAs(u8, u8),
-    /// The party asks whether the referee is there.
-    Asks(u8),
-    /// So often the party has heard of the referee.
-    Heard(u8, u32),
-    /// The referee has told the party so of the other seat within the last seconds, or nothing.
-    Told(u8, Option<Presence>),
-    /// Another process has the first party's port, with the keys of the second.
-    Rebinds(u8, u8),
-}
-
 pub(crate) fn datagram(rt: &impl Abort, to: u8, bytes: &[u8]) -> Datagram {
     let mut sent = ArrayVec::new();
     assert!(rt; sent.try_extend_from_slice(bytes).is_ok());
@@ -93,7 +82,7 @@ pub(crate) fn sends<L: Link>(rt: &impl Abort, link: &mut L, to: u8, bytes: &[u8]
 /// The sockets of the referee and the seats, and the port of their match.
 #[derive(Drop)]
 pub(crate) struct Sockets<'a, R> {
-    rt: &'a R,
+    pub(crate) rt: &'a R,
     pub(crate) clock: &'a SetClock,
     failures: &'a Failures,
     pub(crate) port: u16,
@@ -150,35 +139,98 @@ impl<'a, R: Host> Sockets<'a, R> {
         self.place(party).as_mut().expect(rt, "a socket")
     }
 
-    /// Whether a step comes to what it says.
-    fn is_so(&mut self, step: &Step<'_>) -> bool {
+    /// Whether a party sends a packet to another: "1 0 x-wants".
+    fn sends(&mut self, words: &str) -> bool {
         let rt = self.rt;
-        match *step {
-            Step::Clock(milliseconds) => self.clock.milliseconds.set(milliseconds),
-            Step::Sends(from, to, bytes) => return sends(rt, self.of(from), to, bytes),
-            Step::CantSend(from, to, bytes) => return !sends(rt, self.of(from), to, bytes),
-            Step::Strays(party, bytes, times) => {
-                let port = self.port.saturating_add(u16::from(party));
-                send_from_elsewhere(rt, port, bytes, times);
-            }
-            Step::Takes(party, bytes) => return takes(self.of(party), party, Some(bytes)),
-            Step::TakesNothing(party) => return takes(self.of(party), party, None),
-            Step::TakesNothingAs(party, other) => return takes(self.of(party), other, None),
-            Step::Asks(party) => self.of(party).ask(),
-            Step::Heard(party, heard) => return self.of(party).heard() == heard,
-            Step::Told(party, presence) => return self.of(party).other_seat() == presence,
-            Step::Rebinds(party, keys) => self.rebind(party, keys),
-        }
-        true
+        let from = small_number(rt, word(rt, words, 0));
+        let to = small_number(rt, word(rt, words, 1));
+        let packet = packet_of(rt, word(rt, words, 2)).expect(rt, "a packet");
+        sends(rt, self.of(from), to, packet)
     }
 
-    /// Each step comes to what it says.
-    pub(crate) fn play(&mut self, steps: &[Step<'_>]) {
+    /// Whether a party takes a packet or nothing: "0 x-wants".
+    fn takes(&mut self, words: &str) -> bool {
+        let rt = self.rt;
+        let party = small_number(rt, word(rt, words, 0));
+        takes(self.of(party), party, packet_of(rt, word(rt, words, 1)))
+    }
+
+    /// The same from the socket of another one: "1 0 nothing".
+    fn takes_as(&mut self, words: &str) -> bool {
+        let rt = self.rt;
+        let party = small_number(rt, word(rt, words, 0));
+        let socket = small_number(rt, word(rt, words, 1));
+        takes(self.of(socket), party, packet_of(rt, word(rt, words, 2)))
+    }
+
+    /// Whether a party has heard so often of the referee: "1 2".
+    fn has_heard(&mut self, words: &str) -> bool {
+        let rt = self.rt;
+        let party = small_number(rt, word(rt, words, 0));
+        self.of(party).heard() == number(rt, word(rt, words, 1))
+    }
+
+    /// Whether a party was told so of the other seat: "1 here".
+    fn is_told(&mut self, words: &str) -> bool {
+        let rt = self.rt;
+        let party = small_number(rt, word(rt, words, 0));
+        self.of(party).other_seat() == presence_of(rt, word(rt, words, 1))
+    }
+
+    /// A stranger sends bytes so often to a party's port: "0 64 rubbish".
+    fn stray(&mut self, words: &str) {
+        let rt = self.rt;
+        let party = small_number(rt, word(rt, words, 0));
+        let times = number(rt, word(rt, words, 1));
+        let bytes = packet_of(rt, word(rt, words, 2)).expect(rt, "bytes");
+        let port = self.port.saturating_add(u16::from(party));
+        send_from_elsewhere(rt, port, bytes, times);
+    }
+
+    /// What a line says happens, and can't fail.
+    fn happen(&mut self, line: &str) {
+        let rt = self.rt;
+        if let Some(party) = line.strip_prefix("ask ") {
+            self.of(small_number(rt, party)).ask();
+        } else if let Some(milliseconds) = line.strip_prefix("clock ") {
+            let milliseconds = number(rt, milliseconds);
+            self.clock.milliseconds.set(u64::from(milliseconds));
+        } else if let Some(words) = line.strip_prefix("rebind ") {
+            let party = small_number(rt, word(rt, words, 0));
+            self.rebind(party, small_number(rt, word(rt, words, 1)));
+        } else {
+            self.stray(line.strip_prefix("stray ").expect(rt, line));
+        }
+    }
+
+    /// Whether a line comes to what it says.
+    fn is_so(&mut self, line: &str) -> bool {
+        if let Some(words) = line.strip_prefix("send ") {
+            self.sends(words)
+        } else if let Some(words) = line.strip_prefix("can't send ") {
+            !self.sends(words)
+        } else if let Some(words) = line.strip_prefix("take as ") {
+            self.takes_as(words)
+        } else if let Some(words) = line.strip_prefix("take ") {
+            self.takes(words)
+        } else if let Some(words) = line.strip_prefix("heard ") {
+            self.has_heard(words)
+        } else if let Some(words) = line.strip_prefix("told ") {
+            self.is_told(words)
+        } else {
+            self.happen(line);
+            true
+        }
+    }
+
+    /// Each line of a script comes to what it says.
+    pub(crate) fn play(&mut self, script: &str) {
         let rt = self.rt;
         let mut number = 0u32;
-        for step in steps {
-            assert!(rt; self.is_so(step), "step {number}");
+        for line in script.lines() {
             number = number.wrapping_add(1);
+            let is_so = line.starts_with('#') || self.is_so(line);
+            assert!(rt; is_so, "line {number}: {line}");
         }
     }
 }

@@ -1,5 +1,6 @@
 //! Datagrams that are sealed and opened, and those that are not opened.
-use crate::seals::keys::SECRET;
+use crate::seals::keys::{SECRET, key_of, secret};
+use crate::words::{bytes_of, push_word, small_number, word};
 use bg_seals::{Direction, Key, MOST_PACKET_BYTES, MasterSecret, TAG_BYTES};
 use std::process::Abort;
 
@@ -9,105 +10,67 @@ const WANT: [u8; 18] = [
     0x00, 0x00,
 ];
 
-/// The longest packet.
-const LONGEST: [u8; MOST_PACKET_BYTES] = [7; MOST_PACKET_BYTES];
+/// Packets, each behind its way, to the referee or from it, and its party, and with its tag under
+/// the key of the bytes 0 to 31. The longest packet has 128 bytes.
+const SEALS: &str = "\
+to 3 424702010000000000000001010300000000 b77fadf4dbf60b277b8ffb1349db1777
+from 3 424702010000000000000001010300000000 25f50d02940b04c55e0cd68be31b0e56
+to 4 424702010000000000000001010300000000 f0df1b42269214c5f1d1d56e011a7510
+to 1 - a8aed9e9ff91bf415a70eee0cdd3bae6
+from 1 00 52a72c98af0311ab3cc051e74665097a
+to 255 07*128 82756cecfe06562b3cfa50e04c125588
+from 255 07*128 9f0e363ffb3ac80cd0ebc8faca7c788e
+";
 
-/// A packet, its way and party, and its tag under the key of the bytes 0 to 31.
-struct Row {
-    direction: Direction,
-    party: u8,
-    packet: &'static [u8],
-    tag: [u8; TAG_BYTES],
+/// The way of a word.
+fn way(word: &str) -> Direction {
+    if word == "to" {
+        Direction::ToReferee
+    } else {
+        Direction::FromReferee
+    }
 }
 
-const ROWS: [Row; 7] = [
-    Row {
-        direction: Direction::ToReferee,
-        party: 3,
-        packet: &WANT,
-        tag: [
-            0xb7, 0x7f, 0xad, 0xf4, 0xdb, 0xf6, 0x0b, 0x27, 0x7b, 0x8f, 0xfb, 0x13, 0x49, 0xdb,
-            0x17, 0x77,
-        ],
-    },
-    Row {
-        direction: Direction::FromReferee,
-        party: 3,
-        packet: &WANT,
-        tag: [
-            0x25, 0xf5, 0x0d, 0x02, 0x94, 0x0b, 0x04, 0xc5, 0x5e, 0x0c, 0xd6, 0x8b, 0xe3, 0x1b,
-            0x0e, 0x56,
-        ],
-    },
-    Row {
-        direction: Direction::ToReferee,
-        party: 4,
-        packet: &WANT,
-        tag: [
-            0xf0, 0xdf, 0x1b, 0x42, 0x26, 0x92, 0x14, 0xc5, 0xf1, 0xd1, 0xd5, 0x6e, 0x01, 0x1a,
-            0x75, 0x10,
-        ],
-    },
-    Row {
-        direction: Direction::ToReferee,
-        party: 1,
-        packet: b"",
-        tag: [
-            0xa8, 0xae, 0xd9, 0xe9, 0xff, 0x91, 0xbf, 0x41, 0x5a, 0x70, 0xee, 0xe0, 0xcd, 0xd3,
-            0xba, 0xe6,
-        ],
-    },
-    Row {
-        direction: Direction::FromReferee,
-        party: 1,
-        packet: b"\0",
-        tag: [
-            0x52, 0xa7, 0x2c, 0x98, 0xaf, 0x03, 0x11, 0xab, 0x3c, 0xc0, 0x51, 0xe7, 0x46, 0x65,
-            0x09, 0x7a,
-        ],
-    },
-    Row {
-        direction: Direction::ToReferee,
-        party: 255,
-        packet: &LONGEST,
-        tag: [
-            0x82, 0x75, 0x6c, 0xec, 0xfe, 0x06, 0x56, 0x2b, 0x3c, 0xfa, 0x50, 0xe0, 0x4c, 0x12,
-            0x55, 0x88,
-        ],
-    },
-    Row {
-        direction: Direction::FromReferee,
-        party: 255,
-        packet: &LONGEST,
-        tag: [
-            0x9f, 0x0e, 0x36, 0x3f, 0xfb, 0x3a, 0xc8, 0x0c, 0xd0, 0xeb, 0xc8, 0xfa, 0xca, 0x7c,
-            0x78, 0x8e,
-        ],
-    },
-];
+/// Whether a packet is sealed as this datagram.
+fn is_sealed_as(key: &Key, way: Direction, party: u8, packet: &[u8], datagram: &[u8]) -> bool {
+    packet.len() <= MOST_PACKET_BYTES && key.seal(way, party, packet).as_slice() == datagram
+}
 
-/// The packet is sealed as its bytes and the tag, and opened again.
-fn check_row(rt: &impl Abort, row: &Row, index: usize) {
-    let key = Key::new(&SECRET);
-    assert!(rt; row.packet.len() <= MOST_PACKET_BYTES, "{index}");
-    let datagram = key.seal(row.direction, row.party, row.packet);
-    let parts = datagram.as_slice().split_last_chunk();
-    assert!(rt; parts == Some((row.packet, &row.tag)), "{index}");
-    let opened = key.open(row.direction, row.party, datagram.as_slice());
-    assert!(rt; opened == Some(row.packet), "{index}");
+/// The packet of a datagram, where it is opened.
+fn opened<'a>(key: &Key, way: Direction, party: u8, datagram: &'a [u8]) -> Option<&'a [u8]> {
+    key.open(way, party, datagram)
+}
+
+/// Whether a datagram is opened as this packet.
+fn is_opened_as(key: &Key, way: Direction, party: u8, datagram: &[u8], packet: &[u8]) -> bool {
+    match opened(key, way, party, datagram) {
+        Some(found) => found == packet,
+        None => false,
+    }
+}
+
+/// The packet of a row is sealed as its bytes and the tag, and opened again.
+fn check_row(rt: &(impl AllocGlobal + Abort), key: &Key, row: &str) {
+    let (way, party) = (way(word(rt, row, 0)), small_number(rt, word(rt, row, 1)));
+    let packet = bytes_of(rt, word(rt, row, 2));
+    let mut datagram = bytes_of(rt, word(rt, row, 2));
+    push_word(rt, &mut datagram, word(rt, row, 3));
+    let holds = is_sealed_as(key, way, party, &packet, &datagram)
+        && is_opened_as(key, way, party, &datagram, &packet);
+    assert!(rt; holds, "{row}");
 }
 
 #[test]
 fn sealed_datagrams(rt: HostRuntime) {
-    for (index, row) in ROWS.iter().enumerate() {
-        check_row(&rt, row, index);
+    let key = Key::new(&SECRET);
+    for row in SEALS.lines() {
+        check_row(&rt, &key, row);
     }
 }
 
 /// Whether what party 3 tells the referee of match 1 is opened.
 fn is_opened(datagram: &[u8]) -> bool {
-    let key = MasterSecret::new(&SECRET).key_of(1, 3);
-    key.open(Direction::ToReferee, 3, datagram).is_some()
+    opened(&key_of(1, 3), Direction::ToReferee, 3, datagram).is_some()
 }
 
 /// The want of party 3, sealed under its key.
@@ -143,31 +106,47 @@ fn other_lengths(rt: HostRuntime) {
     assert!(rt; !is_opened(&[0; 145]));
 }
 
+/// Under what the datagram is not opened: the match and the party of the key, and the way and the
+/// party that are claimed.
+const OTHERS: &str = "\
+2 3 to 3
+1 2 to 3
+1 3 to 2
+1 3 from 3
+";
+
+/// Whether the datagram is opened under what a row says.
+fn is_opened_under(rt: &impl Abort, secret: &MasterSecret, row: &str) -> bool {
+    let id = small_number(rt, word(rt, row, 0));
+    let key = secret.key_of(u64::from(id), small_number(rt, word(rt, row, 1)));
+    let (way, party) = (way(word(rt, row, 2)), small_number(rt, word(rt, row, 3)));
+    opened(&key, way, party, &SEALED).is_some()
+}
+
 #[test]
 fn other_matches_parties_and_ways(rt: HostRuntime) {
-    let secret = MasterSecret::new(&SECRET);
-    let other = MasterSecret::new(&[7; 32]);
-    let (to, from) = (Direction::ToReferee, Direction::FromReferee);
-    for (index, (key, direction, party)) in [
-        (secret.key_of(2, 3), to, 3),
-        (secret.key_of(1, 2), to, 3),
-        (secret.key_of(1, 3), to, 2),
-        (secret.key_of(1, 3), from, 3),
-        (other.key_of(1, 3), to, 3),
-    ]
-    .into_iter()
-    .enumerate()
-    {
-        assert!(rt; key.open(direction, party, &SEALED).is_none(), "{index}");
+    let secret = secret();
+    for row in OTHERS.lines() {
+        assert!(rt; !is_opened_under(&rt, &secret, row), "{row}");
     }
+    let row = "1 3 to 3";
+    assert!(rt; is_opened_under(&rt, &secret, row), "{row}");
+    let other = MasterSecret::new(&[7; 32]);
+    assert!(rt; !is_opened_under(&rt, &other, row), "another secret");
+}
+
+/// What party `party` makes of the want, where the referee sealed it for party 3: whether it is the
+/// want, or nothing.
+fn of_a_want_for_3(key: &Key, party: u8) -> Option<bool> {
+    let datagram = key.seal(Direction::FromReferee, 3, &WANT);
+    let packet = opened(key, Direction::FromReferee, party, datagram.as_slice())?;
+    Some(packet == WANT.as_slice())
 }
 
 /// A datagram that was sealed for one watcher goes to another: refused, though both have one key.
 #[test]
 fn another_watcher_of_the_key(rt: HostRuntime) {
-    let key = MasterSecret::new(&SECRET).key_of(1, 3);
-    let datagram = key.seal(Direction::FromReferee, 3, &WANT);
-    let opened = |party| key.open(Direction::FromReferee, party, datagram.as_slice());
-    assert!(rt; opened(3) == Some(&WANT));
-    assert!(rt; opened(4).is_none() && opened(0).is_none());
+    let key = key_of(1, 3);
+    assert!(rt; of_a_want_for_3(&key, 3) == Some(true));
+    assert!(rt; of_a_want_for_3(&key, 4).is_none() && of_a_want_for_3(&key, 0).is_none());
 }

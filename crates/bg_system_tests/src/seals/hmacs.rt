@@ -1,15 +1,29 @@
 //! HMAC-SHA-256 in the test cases of RFC 4231, and at the ends of blocks.
+use crate::words::{bytes_of, word};
 use bg_seals::{HMAC_BYTES, HmacSha256};
+use std::process::Abort;
 
-/// 0x01, 0x02 and so on to 0x19.
-const ONE_TO_25: [u8; 25] = [
-    0x01, 0x02, 0x03, 0x04, 0x05, 0x06, 0x07, 0x08, 0x09, 0x0a, 0x0b, 0x0c, 0x0d, 0x0e, 0x0f, 0x10,
-    0x11, 0x12, 0x13, 0x14, 0x15, 0x16, 0x17, 0x18, 0x19,
+/// The test cases: key, text and what the HMAC begins with, which is all of it but in case 5. The texts are "Hi There",
+/// "what do ya want for nothing?", "Test With Truncation" and longer ones, under the key "Jefe" and others.
+const CASES: [&str; 7] = [
+    "0b*20 4869205468657265 b0344c61d8db38535ca8afceaf0bf12b881dc200c9833da726e9376c2e32cff7",
+    "4a656665 7768617420646f2079612077616e7420666f72206e6f7468696e673f \
+     5bdcc146bf60754e6a042426089575c75a003f089d2739839dec58b964ec3843",
+    "aa*20 dd*50 773ea91e36800e46854db8ebd09181a72959098b3ef8c122d9635514ced565fe",
+    "0102030405060708090a0b0c0d0e0f10111213141516171819 cd*50 \
+     82558a389a443c0ea4cc819899f2083a85f0faa3e578f8077a2e3ff46729665b",
+    "0c*20 546573742057697468205472756e636174696f6e a3b6167473100ee06e0c796c2955552b",
+    "aa*131 \
+     54657374205573696e67204c6172676572205468616e20426c6f636b2d53697a65204b6579202d20\
+     48617368204b6579204669727374 \
+     60e431591ee0b67f0d8a26aacbf5b77f8e0bc6213728c5140546040f0ee37f54",
+    "aa*131 \
+     5468697320697320612074657374207573696e672061206c6172676572207468616e20626c6f636b\
+     2d73697a65206b657920616e642061206c6172676572207468616e20626c6f636b2d73697a652064\
+     6174612e20546865206b6579206e6565647320746f20626520686173686564206265666f72652062\
+     65696e6720757365642062792074686520484d414320616c676f726974686d2e \
+     9b09ffa71b942fcb27635fbcd5b0e944bfdc63644f0713938a7f51535c3a35e2",
 ];
-
-/// The text of case 7.
-const LONG_TEXT: &[u8] = b"This is a test using a larger than block-size key and a larger than \
-    block-size data. The key needs to be hashed before being used by the HMAC algorithm.";
 
 /// Returns the HMAC of a text that is taken in two pieces.
 fn hmac_of(key: &[u8], first: &[u8], second: &[u8]) -> [u8; HMAC_BYTES] {
@@ -19,107 +33,79 @@ fn hmac_of(key: &[u8], first: &[u8], second: &[u8]) -> [u8; HMAC_BYTES] {
     hasher.finalize()
 }
 
+/// Whether a text has this HMAC, taken in two pieces of which the first has so many bytes.
+fn has_hmac(key: &[u8], text: &[u8], first: usize, hmac: &[u8]) -> bool {
+    match text.split_at_checked(first) {
+        Some((one, other)) => hmac_of(key, one, other).as_slice() == hmac,
+        None => false,
+    }
+}
+
+/// The HMAC of a row begins as it says, and is one however the text is taken in two pieces.
+fn check_row(rt: &(impl AllocGlobal + Abort), row: &str) {
+    let key = bytes_of(rt, word(rt, row, 0));
+    let text = bytes_of(rt, word(rt, row, 1));
+    let hmac = hmac_of(&key, &text, b"");
+    let begins = bytes_of(rt, word(rt, row, 2));
+    assert!(rt; hmac.starts_with(&begins), "{row}");
+    for first in 0..text.len() {
+        assert!(rt;
+            has_hmac(&key, &text, first, &hmac),
+            "{row}, in two pieces at {first}"
+        );
+    }
+}
+
 #[test]
 fn case_1(rt: HostRuntime) {
-    let expected = [
-        0xb0, 0x34, 0x4c, 0x61, 0xd8, 0xdb, 0x38, 0x53, 0x5c, 0xa8, 0xaf, 0xce, 0xaf, 0x0b, 0xf1,
-        0x2b, 0x88, 0x1d, 0xc2, 0x00, 0xc9, 0x83, 0x3d, 0xa7, 0x26, 0xe9, 0x37, 0x6c, 0x2e, 0x32,
-        0xcf, 0xf7,
-    ];
-    assert!(rt; hmac_of(&[0x0b; 20], b"Hi There", b"") == expected);
+    check_row(&rt, CASES[0]);
 }
 
 #[test]
 fn case_2(rt: HostRuntime) {
-    let expected = [
-        0x5b, 0xdc, 0xc1, 0x46, 0xbf, 0x60, 0x75, 0x4e, 0x6a, 0x04, 0x24, 0x26, 0x08, 0x95, 0x75,
-        0xc7, 0x5a, 0x00, 0x3f, 0x08, 0x9d, 0x27, 0x39, 0x83, 0x9d, 0xec, 0x58, 0xb9, 0x64, 0xec,
-        0x38, 0x43,
-    ];
-    assert!(rt; hmac_of(b"Jefe", b"what do ya want for nothing?", b"") == expected);
+    check_row(&rt, CASES[1]);
 }
 
 #[test]
 fn case_3(rt: HostRuntime) {
-    let expected = [
-        0x77, 0x3e, 0xa9, 0x1e, 0x36, 0x80, 0x0e, 0x46, 0x85, 0x4d, 0xb8, 0xeb, 0xd0, 0x91, 0x81,
-        0xa7, 0x29, 0x59, 0x09, 0x8b, 0x3e, 0xf8, 0xc1, 0x22, 0xd9, 0x63, 0x55, 0x14, 0xce, 0xd5,
-        0x65, 0xfe,
-    ];
-    assert!(rt; hmac_of(&[0xaa; 20], &[0xdd; 50], b"") == expected);
+    check_row(&rt, CASES[2]);
 }
 
 #[test]
 fn case_4(rt: HostRuntime) {
-    let expected = [
-        0x82, 0x55, 0x8a, 0x38, 0x9a, 0x44, 0x3c, 0x0e, 0xa4, 0xcc, 0x81, 0x98, 0x99, 0xf2, 0x08,
-        0x3a, 0x85, 0xf0, 0xfa, 0xa3, 0xe5, 0x78, 0xf8, 0x07, 0x7a, 0x2e, 0x3f, 0xf4, 0x67, 0x29,
-        0x66, 0x5b,
-    ];
-    assert!(rt; hmac_of(&ONE_TO_25, &[0xcd; 50], b"") == expected);
+    check_row(&rt, CASES[3]);
 }
 
 #[test]
 fn case_5_is_truncated(rt: HostRuntime) {
-    let expected = [
-        0xa3, 0xb6, 0x16, 0x74, 0x73, 0x10, 0x0e, 0xe0, 0x6e, 0x0c, 0x79, 0x6c, 0x29, 0x55, 0x55,
-        0x2b,
-    ];
-    let hmac = hmac_of(&[0x0c; 20], b"Test With Truncation", b"");
-    assert!(rt; hmac.first_chunk() == Some(&expected));
+    check_row(&rt, CASES[4]);
 }
 
 #[test]
 fn case_6(rt: HostRuntime) {
-    let expected = [
-        0x60, 0xe4, 0x31, 0x59, 0x1e, 0xe0, 0xb6, 0x7f, 0x0d, 0x8a, 0x26, 0xaa, 0xcb, 0xf5, 0xb7,
-        0x7f, 0x8e, 0x0b, 0xc6, 0x21, 0x37, 0x28, 0xc5, 0x14, 0x05, 0x46, 0x04, 0x0f, 0x0e, 0xe3,
-        0x7f, 0x54,
-    ];
-    assert!(rt;
-        hmac_of(
-            &[0xaa; 131],
-            b"Test Using Larger Than Block-Size Key - Hash Key First",
-            b""
-        ) == expected
-    );
+    check_row(&rt, CASES[5]);
 }
 
 #[test]
 fn case_7(rt: HostRuntime) {
-    let expected = [
-        0x9b, 0x09, 0xff, 0xa7, 0x1b, 0x94, 0x2f, 0xcb, 0x27, 0x63, 0x5f, 0xbc, 0xd5, 0xb0, 0xe9,
-        0x44, 0xbf, 0xdc, 0x63, 0x64, 0x4f, 0x07, 0x13, 0x93, 0x8a, 0x7f, 0x51, 0x53, 0x5c, 0x3a,
-        0x35, 0xe2,
-    ];
-    assert!(rt; hmac_of(&[0xaa; 131], LONG_TEXT, b"") == expected);
+    check_row(&rt, CASES[6]);
 }
 
-/// HMACs under keys of so many bytes 0x61, of texts of so many bytes 0x62.
-const AT_ENDS_OF_BLOCKS: [(usize, usize, [u8; 4]); 8] = [
-    (0, 0, [0xb6, 0x13, 0x67, 0x9a]),
-    (63, 63, [0x3d, 0x69, 0xe1, 0xf4]),
-    (64, 0, [0xb3, 0x89, 0xef, 0x8f]),
-    (64, 64, [0xf6, 0xcb, 0xb3, 0x7b]),
-    (65, 55, [0x12, 0xe2, 0xbd, 0x48]),
-    (65, 56, [0xaf, 0x50, 0x2d, 0xf4]),
-    (128, 64, [0x14, 0x34, 0x98, 0xca]),
-    (128, 128, [0xf4, 0x38, 0xa6, 0xc2]),
-];
+/// Keys of so many bytes 0x61, texts of so many bytes 0x62, and what the HMACs begin with.
+const AT_ENDS_OF_BLOCKS: &str = "\
+- - b613679a
+61*63 62*63 3d69e1f4
+61*64 - b389ef8f
+61*64 62*64 f6cbb37b
+61*65 62*55 12e2bd48
+61*65 62*56 af502df4
+61*128 62*64 143498ca
+61*128 62*128 f438a6c2
+";
 
 #[test]
 fn ends_of_blocks(rt: HostRuntime) {
-    let (key, text) = ([0x61; 128], [0x62; 128]);
-    for (keys, texts, first) in AT_ENDS_OF_BLOCKS {
-        let (key, text) = (
-            key.get(..keys).unwrap_or(b""),
-            text.get(..texts).unwrap_or(b""),
-        );
-        let hmac = hmac_of(key, text, b"");
-        assert!(rt; hmac.first_chunk() == Some(&first), "{keys} {texts}");
-        for (index, _) in text.iter().enumerate() {
-            let (one, other) = (&text[..index], &text[index..]);
-            assert!(rt; hmac_of(key, one, other) == hmac, "{keys} {texts} {index}");
-        }
+    for row in AT_ENDS_OF_BLOCKS.lines() {
+        check_row(&rt, row);
     }
 }

@@ -1,0 +1,79 @@
+//! What calls of the files of a party come to.
+use bg_system::{Failures, PartyFiles};
+use bg_wire::Slot;
+use std::io::ErrorKind;
+use std::process::Abort;
+
+pub(crate) type Files<'a> = PartyFiles<'a, HostRuntime>;
+
+/// The files of a party in a folder of a system.
+pub(crate) fn files_of<'a>(
+    rt: &impl Abort,
+    host: &'a HostRuntime,
+    folder: &str,
+    party: u8,
+    failures: &'a Failures,
+) -> Files<'a> {
+    PartyFiles::new(host, folder, party, failures).expect(rt, "the files of a party")
+}
+
+/// What a call came to: nothing where it succeeded, else the kind of the error.
+type Came = Option<ErrorKind>;
+
+fn read(files: &mut Files<'_>, slot: Slot) -> Came {
+    match files.read(slot) {
+        Ok(_) => None,
+        Err(error) => Some(error.kind()),
+    }
+}
+
+fn write(files: &mut Files<'_>, slot: Slot, bytes: &[u8]) -> Came {
+    match files.write(slot, bytes) {
+        Ok(()) => None,
+        Err(error) => Some(error.kind()),
+    }
+}
+
+/// A slot is written.
+pub(crate) fn check_writes(rt: &impl Abort, files: &mut Files<'_>, slot: Slot, bytes: &[u8]) {
+    assert!(rt; write(files, slot, bytes).is_none(), "{bytes:?} is written");
+}
+
+/// A slot can be neither read nor written, for this reason.
+pub(crate) fn check_fails(
+    rt: &impl Abort,
+    files: &mut Files<'_>,
+    slot: Slot,
+    kind: ErrorKind,
+    when: &str,
+) {
+    let fails = read(files, slot) == Some(kind) && write(files, slot, b"new") == Some(kind);
+    assert!(rt; fails, "{when}: {slot:?}");
+}
+
+/// Both slots can be neither read nor written, as their files or their folder are missing.
+pub(crate) fn check_away(rt: &impl Abort, files: &mut Files<'_>, when: &str) {
+    for slot in [Slot::Zero, Slot::One] {
+        check_fails(rt, files, slot, ErrorKind::NotFound, when);
+    }
+}
+
+/// Whether a slot has these bytes.
+pub(crate) fn has(files: &mut Files<'_>, slot: Slot, bytes: &[u8]) -> bool {
+    match files.read(slot) {
+        Ok(found) => found.as_slice() == bytes,
+        Err(_) => false,
+    }
+}
+
+/// The slots have these bytes.
+pub(crate) fn check_have(
+    rt: &impl Abort,
+    files: &mut Files<'_>,
+    zero: &[u8],
+    one: &[u8],
+    when: &str,
+) {
+    let have = has(files, Slot::Zero, zero) && has(files, Slot::One, one);
+    assert!(rt; have, "{when}");
+}
