@@ -5,8 +5,10 @@ pub mod HeadingLemmas
 pub mod LegLemmas
 pub mod MovementLemmas
 pub mod LegRefusals
+pub mod Openings
 pub mod CellHeads
 pub mod CellLemmas
+pub mod Fronts
 pub mod NoCells
 pub mod RowLemmas
 pub mod ToldLines

@@ -1,6 +1,7 @@
 -- A whole match file: what its lines tell, one after the other.
 use Rattle.std.specs.Prelude.{◌≡◌, ◌⊎◌, ◌||◌, ℕ, ◌+◌, Bool, true, false, Option, Some, None, List, [], ◌∷◌, ◌++◌, map}
-use Rattle.std.specs.Prelude.{if◌then◌else◌}
+use Rattle.std.specs.Prelude.{if◌then◌else◌, take, drop}
+use Rattle.std.specs.Str.{bytes_eq}
 use Rattle.bg_board.specs.declared.players.Player.{Player}
 use Rattle.bg_board.specs.declared.players.Player.TheVariants.{X, O}
 use Rattle.bg_match.specs.Match.{Log, IsLog}
@@ -11,7 +12,7 @@ use Rattle.bg_match.specs.declared.limits.Rules.{Rules}
 use Rattle.bg_match.specs.declared.entries.Entry.{Entry}
 use Rattle.bg_match.specs.declared.entries.Entry.TheVariants as entry
 use Rattle.bg_mat.specs.Rows.Cells.{TellsRow}
-use Rattle.bg_mat.specs.Rows.Headings.{IsFiller, IsGameLine, IsLengthLine, IsScoresLine}
+use Rattle.bg_mat.specs.Rows.Headings.{IsFiller, IsGameLine, IsHeader, IsLengthLine, IsScoresLine}
 use Rattle.bg_text.specs.Judge.Judging.{lines_of}
 use Rattle.bg_mat.specs.Telling.{Item, Game, Scores, Does, Told, Place, AreTold, deed_of}
 use Rattle.bg_mat.specs.declared.rows.cells.Cell.{Cell}
@@ -68,11 +69,23 @@ TellsLines here n (line ∷ lines) told there =
     (items : List Item) × (more : List Told) × (next : Awaited) × TellsLine here line items next
     × TellsLines next (n + 1) lines more there × (told ≡ numbered n items ++ more)
 
+-- the bytes that may stand in front of a text to say that it is UTF-8
+abbrev pub byte_order_mark : List ℕ
+byte_order_mark = 239 ∷ 187 ∷ 191 ∷ []
+
+-- a text without that mark
+abbrev pub behind_mark : List ℕ → List ℕ
+behind_mark input = if bytes_eq (take 3 input) byte_order_mark then drop 3 input else input
+
+-- the lines of an input, without that mark
+abbrev pub lines_in : List ℕ → List (List ℕ)
+lines_in input = lines_of (behind_mark input)
+
 -- lines, of which the first has the number n, are a match file: first its length, then its games
 abbrev pub TellsFile : ℕ → List (List ℕ) → ℕ → List Told → Type 0
 TellsFile n [] points told = ⊥
 TellsFile n (line ∷ lines) points told =
-    (IsFiller line × TellsFile (n + 1) lines points told)
+    (IsHeader line × TellsFile (n + 1) lines points told)
     ⊎ (IsLengthLine line points × ((there : Awaited) × TellsLines awaited.Game (n + 1) lines told there))
 
 -- where a match stands before anything is told of it
@@ -83,18 +96,22 @@ start_place terms = record { state = start_of terms; game = 0; x_before = 0; o_b
 abbrev pub BeginAsMatchFile : List (List ℕ) → Type 0
 BeginAsMatchFile [] = ⊥
 BeginAsMatchFile (line ∷ lines) =
-    (IsFiller line × BeginAsMatchFile lines) ⊎ ((IsFiller line → ⊥) × ((n : ℕ) × IsLengthLine line n))
+    (IsHeader line × BeginAsMatchFile lines) ⊎ ((IsHeader line → ⊥) × ((n : ℕ) × IsLengthLine line n))
 
--- the input is a match file, and the record, with the line of each entry, is what it tells: a legal match
-pub record Imports (id : ℕ) (rules : Rules) (input : List ℕ) (log : Log) (lines : List ℕ) : Type 0 where
+-- the lines are a match file, and the record, with the line of each entry, is what it tells: a legal match
+pub record ReadsFile (id : ℕ) (rules : Rules) (input : List (List ℕ)) (log : Log) (lines : List ℕ) : Type 0 where
   pub points : ℕ
   pub told : List Told
   pub place : Place
-  pub file : TellsFile 1 (lines_of input) points told
+  pub file : TellsFile 1 input points told
   pub leads : AreTold (start_place (terms_of points rules)) told log.entries lines place
   pub terms : log.terms ≡ terms_of points rules
   pub match_id : log.id ≡ id
   pub legal : IsLog log
+
+-- the input is a match file, and the record, with the line of each entry, is what it tells
+abbrev pub Imports : ℕ → Rules → List ℕ → Log → List ℕ → Type 0
+Imports id rules input log lines = ReadsFile id rules (lines_in input) log lines
 
 -- the entries that a match file keeps where an offer to resign is open, or none is: it keeps the offer once that is
 -- accepted
@@ -114,5 +131,5 @@ pub record Exports (log : Log) (text : List ℕ) : Type 0 where
   pub told : List Told
   pub lines : List ℕ
   pub place : Place
-  pub file : TellsFile 1 (lines_of text) (match_length log.terms) told
+  pub file : TellsFile 1 (lines_in text) (match_length log.terms) told
   pub leads : AreTold (start_place log.terms) told (kept_entries log.entries) lines place

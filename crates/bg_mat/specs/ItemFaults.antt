@@ -1,5 +1,5 @@
 -- Why what a line tells is refused where a match stands: the first fault of the list in docs/FORMATS.md that applies.
-use Rattle.std.specs.Prelude.{◌≡◌, ◌≢◌, ◌⊎◌, ℕ, ◌+◌, ◌*◌, ◌<◌, Bool, true, false, List, [], ◌∷◌, ◌++◌}
+use Rattle.std.specs.Prelude.{◌≡◌, ◌≢◌, ◌⊎◌, ℕ, ◌+◌, ◌*◌, ◌<◌, Bool, true, false, Option, IfSome, List, [], ◌∷◌, ◌++◌}
 use Rattle.bg_board.specs.FromTo.{FromTo}
 use Rattle.bg_board.specs.Position.{Position, opponent}
 use Rattle.bg_board.specs.declared.players.Player.{Player}
@@ -17,7 +17,8 @@ use Rattle.bg_match.specs.declared.entries.Entry.{Entry}
 use Rattle.bg_match.specs.declared.entries.Entry.TheVariants as entry
 use Rattle.bg_match.specs.declared.entries.EntryFault.{EntryFault}
 use Rattle.bg_match.specs.declared.entries.EntryFault.TheVariants as entry_fault
-use Rattle.bg_mat.specs.Telling.{BringsDice, Deed, Turn, Doubles, Takes, Drops, Wins, Does, Game, Scores, GoesOn}
+use Rattle.bg_mat.specs.Telling.{BringsDice, Deed, Turn, CannotMove, Unknown, Doubles, Takes, Drops, Wins, Does, Game}
+use Rattle.bg_mat.specs.Telling.{Scores, GoesOn}
 use Rattle.bg_mat.specs.Telling.{IsOver, IsOverMatch, Item, MayResign, Place, before_of}
 use Rattle.bg_mat.specs.Turns.{HasMovement, SameMovement, TellsTurn, steps_of}
 use Rattle.bg_mat.specs.declared.faults.MatFault.{MatFault}
@@ -80,12 +81,12 @@ IsPendingFault stays log s player dice fault =
     IsThrowFault log s player dice (λ l t why. (stays ≡ false) × IsEmptyFault l t player dice why) fault
 
 -- a double: it is not for the player to double, or the cube will show another number
-abbrev pub IsDoubleFault : Log → State → Player → ℕ → MatFault → Type 0
+abbrev pub IsDoubleFault : Log → State → Player → Option ℕ → MatFault → Type 0
 IsDoubleFault log s player shows fault =
     ((fault ≡ why.OutOfTurn) × (s.phase ≢ phase.ToAct player))
     ⊎ ((s.phase ≡ phase.ToAct player)
-    × (((fault ≡ why.WrongCube) × (shows ≢ 2 * s.cube.value))
-    ⊎ ((shows ≡ 2 * s.cube.value) × RefusesEntry log entry.Doubled fault)))
+    × (((fault ≡ why.WrongCube) × (IfSome shows (λ n. n ≡ 2 * s.cube.value) → ⊥))
+    ⊎ (IfSome shows (λ n. n ≡ 2 * s.cube.value) × RefusesEntry log entry.Doubled fault)))
 
 -- an answer to a double: the player has none to answer
 abbrev pub IsAnswerFault : Log → State → Player → Entry → MatFault → Type 0
@@ -103,7 +104,7 @@ IsResignFault log level fault =
 -- three times the cube, or the rules refuse what he does
 abbrev pub IsOfferFault : Log → State → Player → ℕ → MatFault → Type 0
 IsOfferFault log s winner won fault =
-    ((fault ≡ why.OutOfTurn) × (MayResign s (opponent winner) → ⊥))
+    ((fault ≡ why.ResignsOutOfTurn) × (MayResign s (opponent winner) → ⊥))
     ⊎ (MayResign s (opponent winner)
     × (((fault ≡ why.WrongPoints) × ((level : Level) → won ≡ multiple level * s.cube.value → ⊥))
     ⊎ ((level : Level) × (won ≡ multiple level * s.cube.value) × IsResignFault log level fault)))
@@ -130,6 +131,9 @@ abbrev pub IsActFault : Log → State → Player → Deed → MatFault → Type 
 IsActFault log s player (Turn dice []) fault = IsDiceFault s player dice fault
 IsActFault log s player (Turn dice (leg ∷ legs)) fault =
     IsThrowFault log s player dice (λ l t why. IsMoveFault l t player dice (leg ∷ legs) why) fault
+IsActFault log s player (CannotMove dice) fault =
+    IsThrowFault log s player dice (λ l t why. IsEmptyFault l t player dice why) fault
+IsActFault log s player (Unknown dice) fault = fault ≡ why.UnknownTurn
 IsActFault log s player (Doubles shows) fault = IsDoubleFault log s player shows fault
 IsActFault log s player Takes fault = IsAnswerFault log s player entry.Taken fault
 IsActFault log s player Drops fault = IsAnswerFault log s player entry.Dropped fault

@@ -3,15 +3,16 @@ use Rattle.std.specs.Prelude.{◌≡◌, ◌≢◌, ◌⊎◌, ℕ, zero, suc, �
 use Rattle.std.specs.Prelude.{◌==◌, length}
 use Rattle.std.specs.List.{All}
 use Rattle.bg_mat.specs.Rows.Numbers.{IsNumber}
+use Rattle.bg_mat.specs.Rows.Words.{SameLetters}
 use Rattle.bg_mat.specs.declared.movements.legs.Leg.{Leg}
 use Rattle.bg_mat.specs.declared.movements.legs.LegFault.{LegFault}
 use Rattle.bg_mat.specs.declared.movements.legs.LegFault.TheVariants as leg_fault
 
--- the word names the point, which is 25 for the bar and 0 for off
+-- the word names the point, which is 25 for the bar and 0 for off. Capital letters are as good as others
 abbrev pub IsPointText : List ℕ → ℕ → Type 0
 IsPointText word point =
-    ((point ≡ 25) × ((word ≡ codes "bar") ⊎ (word ≡ codes "Bar")))
-    ⊎ (((point ≡ 0) × ((word ≡ codes "off") ⊎ (word ≡ codes "Off"))) ⊎ IsNumber word point)
+    ((point ≡ 25) × SameLetters word (codes "bar"))
+    ⊎ (((point ≡ 0) × SameLetters word (codes "off")) ⊎ IsNumber word point)
 
 -- the mark of a hit stands behind the point
 abbrev pub mark : Bool → List ℕ

@@ -9,7 +9,7 @@ use Rattle.bg_match.specs.declared.limits.Rules.{Rules}
 use Rattle.bg_mat.specs.Files.{TellsAwaited, TellsLines, numbered}
 use Rattle.bg_mat.specs.ItemFaults.{IsItemFault, IsPendingFault}
 use Rattle.bg_mat.specs.Replaying.{Begins, ClosesBy, GoesOnBy, place_of}
-use Rattle.bg_mat.specs.Rows.Headings.{IsFiller, IsLengthLine, IsScoresLine}
+use Rattle.bg_mat.specs.Rows.Headings.{IsFiller, IsHeader, IsLengthLine, IsScoresLine}
 use Rattle.bg_mat.specs.Rows.RowFaults.{IsPlaceFault, IsRowPlace}
 use Rattle.bg_mat.specs.Telling.{Does, Item, Told, Wins}
 use Rattle.bg_mat.specs.declared.awaiting.Awaited.{Awaited}
@@ -125,8 +125,8 @@ AreRefusedGames from first lines number fault =
 abbrev pub AreRefused : ℕ → Rules → ℕ → List (List ℕ) → ℕ → MatFault → Type 0
 AreRefused id rules n [] number fault = (number ≡ n) × (fault ≡ why.NoLength)
 AreRefused id rules n (line ∷ lines) number fault =
-    (IsFiller line × AreRefused id rules (n + 1) lines number fault)
-    ⊎ ((IsFiller line → ⊥) × (((number ≡ n) × IsLengthFault line fault)
+    (IsHeader line × AreRefused id rules (n + 1) lines number fault)
+    ⊎ ((IsHeader line → ⊥) × (((number ≡ n) × IsLengthFault line fault)
     ⊎ ((points : ℕ) × IsLengthLine line points × (1 ≤ points) × (points ≤ 99)
     × ((from : Replay) × Begins (empty_log id (terms_of points rules)) from
     × AreRefusedGames from (n + 1) lines number fault))))

@@ -1,5 +1,6 @@
 -- What the items of a file tell of a match.
-use Rattle.std.specs.Prelude.{◌≡◌, ◌≢◌, ◌⊎◌, ℕ, ◌+◌, ◌*◌, ◌<◌, Bool, true, List, [], ◌∷◌, ◌++◌, length, replicate}
+use Rattle.std.specs.Prelude.{◌≡◌, ◌≢◌, ◌⊎◌, ℕ, ◌+◌, ◌*◌, ◌<◌, Bool, true, Option, IfSome, List, [], ◌∷◌, ◌++◌}
+use Rattle.std.specs.Prelude.{length, replicate}
 use Rattle.bg_board.specs.Position.{Position, opponent}
 use Rattle.bg_board.specs.declared.players.Player.{Player}
 use Rattle.bg_board.specs.declared.players.Player.TheVariants.{X, O}
@@ -17,17 +18,21 @@ use Rattle.bg_mat.specs.declared.movements.legs.Leg.{Leg}
 use Rattle.bg_mat.specs.declared.rows.cells.Cell.{Cell}
 use Rattle.bg_mat.specs.declared.rows.cells.Cell.TheVariants as cell
 
--- what a player does, by a cell: he brings dice and moves, doubles to so much, takes, drops, or wins so many points,
--- which may be said to end the match
+-- what a player does, by a cell: he brings dice and moves, or can't move, or it is not known what he moves; he doubles,
+-- to so much where the file says so, takes, drops, or wins so many points, which may be said to end the match
 pub data Deed : Type 0 where
   Turn : Dice → List Leg → Deed
-  Doubles : ℕ → Deed
+  CannotMove : Dice → Deed
+  Unknown : Dice → Deed
+  Doubles : Option ℕ → Deed
   Takes : Deed
   Drops : Deed
   Wins : ℕ → Bool → Deed
 
 abbrev pub deed_of : Cell → Deed
 deed_of (cell.Turn dice legs) = Turn dice legs.items
+deed_of (cell.CannotMove dice) = CannotMove dice
+deed_of (cell.Unknown dice) = Unknown dice
 deed_of (cell.Doubles shows) = Doubles shows
 deed_of cell.Takes = Takes
 deed_of cell.Drops = Drops
@@ -109,8 +114,13 @@ IsOverMatch s = (winner : Player) × (s.phase ≡ phase.Over winner)
 -- the entries of what a player does at a place, and the state after them
 abbrev pub AreOf : Place → Player → Deed → List Entry → State → Type 0
 AreOf p player (Turn dice legs) entries after = GoesOn p × AreOfTurn p.state player dice legs entries
+AreOf p player (CannotMove dice) entries after =
+    GoesOn p × ((roll move : Entry) × BringsDice p.state player dice roll × (entries ≡ roll ∷ move ∷ [])
+    × MovesBy p.state.board player dice [] move)
+AreOf p player (Unknown dice) entries after = ⊥
 AreOf p player (Doubles shows) entries after =
-    GoesOn p × (p.state.phase ≡ phase.ToAct player) × (shows ≡ 2 * p.state.cube.value) × (entries ≡ entry.Doubled ∷ [])
+    GoesOn p × (p.state.phase ≡ phase.ToAct player) × IfSome shows (λ n. n ≡ 2 * p.state.cube.value)
+    × (entries ≡ entry.Doubled ∷ [])
 AreOf p player Takes entries after =
     GoesOn p × (p.state.phase ≡ phase.Doubled player) × (entries ≡ entry.Taken ∷ [])
 AreOf p player Drops entries after =

@@ -66,7 +66,7 @@ TellsEntry s (entry.Opening x o) told =
 TellsEntry s (entry.Moved turn) told = TellsMove s.board s.phase turn told
 TellsEntry s entry.Passed told = TellsMove s.board s.phase [] told
 TellsEntry s entry.Doubled told =
-    IsDeedIn s.phase (cell.Doubles (2 * s.cube.value)) told × (2 * s.cube.value ≤ greatest_number)
+    IsDeedIn s.phase (cell.Doubles (Some (2 * s.cube.value))) told × (2 * s.cube.value ≤ greatest_number)
 TellsEntry s entry.Taken told = IsDeedIn s.phase cell.Takes told
 TellsEntry s entry.Dropped told = IsDeedIn s.phase cell.Drops told
 TellsEntry s entry.Accepted told = TellsDice s.phase told
@@ -111,10 +111,14 @@ AreOfItems p (item ∷ more) entries q =
 abbrev pub IsOnBoard : Leg → Type 0
 IsOnBoard leg = (leg.step.from ≤ 25) × (leg.step.to < leg.step.from)
 
--- the legs of a cell are on the board, and at most four, and its numbers have four digits at most
+-- the legs of a cell are on the board, and at most four, and its numbers have four digits at most. What is not written
+-- has none
 abbrev pub HasNumbers : Cell → Type 0
 HasNumbers (cell.Turn dice legs) = AllByRecursion IsOnBoard legs.items × (length legs.items ≤ most_legs)
-HasNumbers (cell.Doubles shows) = shows ≤ greatest_number
+HasNumbers (cell.CannotMove dice) = ⊥
+HasNumbers (cell.Unknown dice) = ⊥
+HasNumbers (cell.Doubles None) = ⊥
+HasNumbers (cell.Doubles (Some shows)) = shows ≤ greatest_number
 HasNumbers (cell.Wins win) = win.points ≤ greatest_number
 HasNumbers _ = Unit {0}
 

@@ -21,6 +21,8 @@ impl fmt::Display for MatFault {
             MatFault::GameOver => f.write_str("the game is over"),
             MatFault::Beaver => f.write_str("a beaver"),
             MatFault::OutOfTurn => f.write_str("out of turn"),
+            MatFault::ResignsOutOfTurn => f.write_str("the loser resigns out of turn"),
+            MatFault::UnknownTurn => f.write_str("a turn that is not known"),
             MatFault::TooManySteps => f.write_str("too many steps"),
             MatFault::NoSuchTurn => f.write_str("no legal turn has this movement"),
             MatFault::WrongHits => f.write_str("no legal turn has this movement with these hits"),

@@ -26,6 +26,10 @@ pub enum MatFault {
     Beaver,
     /// It is not this player's turn to do so.
     OutOfTurn,
+    /// The player who loses is neither to roll nor to move, and so could not resign.
+    ResignsOutOfTurn,
+    /// The file says that a turn is not known.
+    UnknownTurn,
     /// A movement has more than four steps.
     TooManySteps,
     /// No legal turn with these dice has this movement.

@@ -3,7 +3,7 @@ ghost use Rattle.std.specs.Prelude.{◌≡◌, ◌≢◌, ◌+◌, ◌<◌, ◌�
 ghost use Rattle.bg_mat.specs.Telling.{Game};
 ghost use Rattle.bg_match.specs.Match.{IsLog, empty_log};
 ghost use Rattle.bg_match.specs.Terms.{terms_of};
-ghost use Rattle.bg_mat.specs.Files.{Imports, after_row, item_of, items_of, numbered};
+ghost use Rattle.bg_mat.specs.Files.{Imports, ReadsFile, after_row, item_of, items_of, lines_in, numbered};
 ghost use Rattle.bg_mat.specs.Rows.Headings.{IsGameLine, IsLengthLine};
 ghost use Rattle.bg_text.specs.Judge.Judging.{lines_of};
 ghost use Rattle.bg_text.specs.Limits.{most_bytes};
@@ -14,9 +14,10 @@ ghost use Rattle.bg_mat.specs.Refusals.{IsRefusedItem, IsRefusedLine, Refuses};
 
 use crate::awaiting::{Awaited, awaited_behind};
 use crate::faults::{ReadFault, refused};
+use crate::marks::behind_mark;
 use crate::playing::Replay;
 use crate::rows::cells::Cell;
-use crate::rows::headings::{is_filler, read_game, read_length};
+use crate::rows::headings::{is_filler, is_header, read_game, read_length};
 use crate::rows::{Row, read_row};
 use crate::{ImportFault, MatFault};
 use bg_board::Player;
@@ -49,12 +50,12 @@ pub fn import_mat(
     ensures imports { IfOk result
         (λ imported. Imports id rules input.now imported.record imported.lines.items) }
     ensures too_long { (result ≡ Err ImportFault.TooLong) ↔ (most_bytes < length input.now) }
-    ensures refused { IfErr result (IsRefusal id rules (lines_of input.now)) }
+    ensures refused { IfErr result (IsRefusal id rules (lines_in input.now)) }
 {
     if input.len() > MAX_INPUT {
         return Err(ImportFault::TooLong);
     }
-    match read_file(alloc, id, rules, input) {
+    match read_file(alloc, id, rules, behind_mark(input)) {
         Ok(imported) => Ok(imported),
         Err(ReadFault::Refused { line, why }) => Err(ImportFault::Refused { line, why }),
         Err(ReadFault::Memory) => Err(ImportFault::Memory),
@@ -64,13 +65,13 @@ pub fn import_mat(
 /// The record of a match file that is not too long.
 fn read_file(alloc: Global, id: u64, rules: Rules, input: &[u8]) -> Result<Imported, ReadFault>
     requires { length input.now ≤ most_bytes }
-    ensures done { IfOk result (λ imported. Imports id rules input.now imported.record imported.lines.items) }
+    ensures done { IfOk result (λ imported. ReadsFile id rules (lines_of input.now) imported.record imported.lines.items) }
     ensures fault { IfErr result (IsReadFault id rules (lines_of input.now)) }
 {
     let mut rest = input;
     let mut number: u32 = 1;
     while let Some((line, after)) = split_line(rest) {
-        if !is_filler(line) {
+        if !is_header(line) {
             let record = begin(alloc, id, rules, line, number)?;
             return read_games(Replay::new(alloc, record), after, number + 1);
         }

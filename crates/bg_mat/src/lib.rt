@@ -16,6 +16,7 @@ mod exporting;
 mod fault_words;
 mod faults;
 mod importing;
+mod marks;
 mod movements;
 mod playing;
 mod rows;

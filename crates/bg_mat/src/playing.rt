@@ -177,6 +177,8 @@ impl Replay {
                 Ok(())
             }
             Cell::Turn(dice, legs) => self.turn(line, player, dice, &legs),
+            Cell::CannotMove(dice) => self.cannot_move(line, player, dice),
+            Cell::Unknown(_) => Err(refused(line, MatFault::UnknownTurn)),
             Cell::Doubles(shows) => self.double(line, player, shows),
             Cell::Takes => self.take(line, player),
             Cell::Drops => self.drop(line, player),

@@ -1,11 +1,14 @@
 //! A row of a game: what X does, in the left column, and what O does, in the right one.
-ghost use Rattle.std.specs.Prelude.{◌↔◌, ℕ, List, IfErr, IfOk, IsTrue};
+ghost use Rattle.std.specs.Prelude.{◌≡◌, ◌++◌, ℕ, List, IfErr, IfOk, MatchOption};
 ghost use Rattle.bg_mat.specs.Rows.RowFaults.{AreCellsFault, IsLastFault, IsRowFault};
-ghost use Rattle.bg_mat.specs.Rows.Cells.{IsRowNumber, SkipsNumber, TellsCell, TellsCells, TellsRow};
+ghost use Rattle.bg_mat.specs.Rows.Cells.{HasRowNumber, SkipsNumber, TellsCell, TellsCells, TellsRow};
+ghost use Rattle.bg_mat.specs.Rows.Numbers.{BeginsNoDigit, IsDigits};
 ghost use Rattle.bg_mat.specs.Rows.Words.{IsBlankText};
 
 pub(crate) mod cell_texts;
 pub(crate) mod cells;
+mod dice;
+mod doubles;
 pub(crate) mod headings;
 pub(crate) mod numbers;
 pub(crate) mod row_texts;
@@ -13,27 +16,42 @@ pub(crate) mod words;
 
 use crate::MatFault;
 use crate::rows::cells::{Cell, split_cell};
-use crate::rows::headings::front_before;
 use crate::rows::numbers::read_number;
-use crate::rows::words::{count_blanks, is_blank_text, split_word};
+use crate::rows::words::{count_blanks, is_blank_text, split_blanks};
 
 /// So many blanks before the first cell of a row, or more, stand for an empty left column.
 const LEFT_COLUMN: usize = 16;
 
-/// The cells of a row, of which at least one is there.
+/// The cells of a row. None may be there behind its number.
 #[derive(Debug, PartialEq, Eq, Drop)]
 pub(crate) struct Row {
     pub(crate) left: Option<Cell>,
     pub(crate) right: Option<Cell>,
 }
 
-/// Whether a word is the number of a row, as `12)`.
-fn is_row_number(word: &[u8]) -> bool
-    ensures { IsTrue result ↔ IsRowNumber word.now }
+/// The digits that a text begins with, and what follows them.
+fn split_digits(text: &[u8]) -> (&[u8], &[u8])
+    ensures { IsDigits result.0.now × (text.now ≡ result.0.now ++ result.1.now)
+        × BeginsNoDigit result.1.now }
 {
-    match front_before(word, b")") {
-        Some(digits) => read_number(digits).is_some(),
-        None => false,
+    match text.iter().position(|byte| !byte.is_ascii_digit()) {
+        Some(end) => (&text[..end], &text[end..]),
+        None => (text, &[]),
+    }
+}
+
+/// What follows the number of a row and its bracket, as `12)`, where a line begins so.
+fn behind_row_number(line: &[u8]) -> Option<&[u8]>
+    ensures { MatchOption result ((rest : List ℕ) → HasRowNumber line.now rest → ⊥)
+        (λ rest. HasRowNumber line.now rest.now) }
+{
+    let (digits, rest) = split_digits(split_blanks(line).1);
+    let Some(rest) = rest.strip_prefix(b")") else {
+        return None;
+    };
+    match read_number(digits) {
+        Some(_) => Some(rest),
+        None => None,
     }
 }
 
@@ -41,9 +59,9 @@ fn is_row_number(word: &[u8]) -> bool
 fn skip_row_number(line: &[u8]) -> &[u8]
     ensures { SkipsNumber line.now result.now }
 {
-    match split_word(line) {
-        Some((word, rest)) if is_row_number(word) => rest,
-        _ => line,
+    match behind_row_number(line) {
+        Some(rest) => rest,
+        None => line,
     }
 }
 
@@ -65,6 +83,12 @@ fn read_cells(text: &[u8]) -> Result<Row, MatFault>
     ensures told { IfOk result (λ row. TellsCells text.now row.left row.right) }
     ensures fault { IfErr result (AreCellsFault text.now) }
 {
+    if is_blank_text(text) {
+        return Ok(Row {
+            left: None,
+            right: None,
+        });
+    }
     if count_blanks(text) >= LEFT_COLUMN {
         return Ok(Row {
             left: None,

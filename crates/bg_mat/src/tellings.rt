@@ -126,7 +126,7 @@ pub(crate) fn told_by(before: &Standing, entry: &Entry) -> Option<Telling>
         Entry::Opening(_, _) => Some(game_of(before)),
         Entry::Moved(turn) => turn_in(before, turn.steps()),
         Entry::Passed => turn_in(before, &[]),
-        Entry::Doubled => deed_in(phase, Cell::Doubles(doubled_cube(before))),
+        Entry::Doubled => deed_in(phase, Cell::Doubles(Some(doubled_cube(before)))),
         Entry::Taken => deed_in(phase, Cell::Takes),
         Entry::Dropped => deed_in(phase, Cell::Drops),
         Entry::Accepted => dice_left(phase),

@@ -1,133 +1,172 @@
--- The first word of a cell, and what it is not.
-use Rattle.std.specs.Prelude.{◌≡◌, ℕ, ◌+◌, ◌≤◌, List, [], ◌∷◌, ◌++◌, length, codes}
-use Rattle.std.proofs.Common.{refl, ◌∙◌, ap, subst, inl, inr, arith}
+-- What a cell begins with, and what it is not.
+use Rattle.std.specs.Prelude.{◌≡◌, ◌==◌, ℕ, ◌+◌, ◌<◌, ◌≤◌, nat_lt, false, Some, None, List, [], ◌∷◌, ◌++◌, codes, if◌then◌else◌}
+use Rattle.std.specs.Char.{to_ascii_lowercase}
+use Rattle.std.proofs.Common.{refl, sym, ◌∙◌, ap, subst, inl, inr, arith}
+use Rattle.bg_board.specs.Die.{pips}
+use Rattle.bg_board.specs.declared.dice.Die.{Die}
+use Rattle.bg_board.specs.declared.dice.Die.TheVariants.{One, Two, Three, Four, Five, Six}
 use Rattle.bg_turns.specs.Dice.{first_pips, second_pips}
-use Rattle.bg_mat.specs.Legs.{TellsLegs, TellsPath, TellsWord}
-use Rattle.bg_mat.specs.Rows.Cells.{EndsMovement, EndsWin, HasRowNumber, TellsCell}
-use Rattle.bg_mat.specs.Rows.Words.{IsBlankText, IsFirstWord}
-use Rattle.bg_mat.specs.declared.movements.legs.Leg.{Leg}
+use Rattle.bg_mat.specs.Rows.Cells.{EndsMovement, EndsWin, HasRowNumber, MayMove, SaysDouble, TellsCell}
+use Rattle.bg_mat.specs.Rows.Words.{IsBlankText, IsEither, Says}
 use Rattle.bg_mat.specs.declared.rows.cells.Cell.{Cell}
-use Rattle.bg_mat.specs.declared.rows.cells.Cell.TheVariants.{Turn, Doubles, Takes, Drops, Wins}
-use Rattle.bg_mat.proofs.OfReading.MovementLemmas.{AllOf, IsHigh, all_left, all_right, apart, bracketed, tail_same}
-use Rattle.bg_mat.proofs.OfReading.WordLemmas.{first_word_same, no_first_word}
+use Rattle.bg_mat.specs.declared.rows.cells.Cell.TheVariants.{Turn, CannotMove, Unknown, Doubles, Takes, Drops, Wins}
+use Rattle.bg_mat.proofs.OfReading.HeadingLemmas.{no_says}
+use Rattle.bg_mat.proofs.OfReading.Openings.{Opens, blank_may, dice_no_movement, dice_no_number, dice_open, either_open, first_few, letters_no_movement, letters_open, number_opens, opens_may, opens_same, says_open}
+use Rattle.bg_mat.proofs.OfReading.WordLemmas.{no_first_word}
 
--- the first word of a cell
-abbrev pub head_of : Cell → List ℕ
-head_of (Turn dice legs) = (48 + first_pips dice) ∷ (48 + second_pips dice) ∷ codes ":"
-head_of (Doubles shows) = codes "Doubles"
-head_of Takes = codes "Takes"
-head_of Drops = codes "Drops"
-head_of (Wins win) = codes "Wins"
+-- the first two letters or digits of a cell
+abbrev pub first_of : Cell → ℕ
+first_of (Turn dice legs) = 48 + first_pips dice
+first_of (CannotMove dice) = 48 + first_pips dice
+first_of (Unknown dice) = 48 + first_pips dice
+first_of (Doubles shows) = 100
+first_of Takes = 116
+first_of Drops = 100
+first_of (Wins win) = 119
 
-pub cell_head : (text : List ℕ) (c : Cell) (rest : List ℕ) → TellsCell text c rest
-    → (after : List ℕ) × IsFirstWord text (head_of c) after
-cell_head text (Turn dice legs) rest (word, after, first, is, more, few, ends) =
-    (after, subst (λ (w : List ℕ). IsFirstWord text w after) is first)
-cell_head text (Doubles shows) rest (number, (after, first, more), is) = (after, first)
-cell_head text Takes rest first = (rest, first)
-cell_head text Drops rest first = (rest, first)
-cell_head text (Wins win) rest (after, behind, first, points, begins, ends) = (after, first)
+abbrev pub second_of : Cell → ℕ
+second_of (Turn dice legs) = 48 + second_pips dice
+second_of (CannotMove dice) = 48 + second_pips dice
+second_of (Unknown dice) = 48 + second_pips dice
+second_of (Doubles shows) = 111
+second_of Takes = 97
+second_of Drops = 114
+second_of (Wins win) = 105
 
--- its bytes are digits and letters, and a colon
-pub head_high : (c : Cell) → AllOf IsHigh (head_of c)
-head_high (Turn dice legs) = (omega arith, (omega arith, (omega arith, tt)))
-head_high (Doubles shows) =
-    (omega arith, (omega arith, (omega arith, (omega arith, (omega arith, (omega arith, (omega arith, tt)))))))
-head_high Takes = (omega arith, (omega arith, (omega arith, (omega arith, (omega arith, tt)))))
-head_high Drops = (omega arith, (omega arith, (omega arith, (omega arith, (omega arith, tt)))))
-head_high (Wins win) = (omega arith, (omega arith, (omega arith, (omega arith, tt))))
+double_open : (text rest : List ℕ) → SaysDouble text rest → Opens text 100 111
+double_open text rest f = at f.is where
+  at : IsEither f.word (codes "Double") (codes "Doubles") → Opens text 100 111
+  at (inl is) = letters_open text f.blanks f.word rest 100 111 (codes "uble") f.blank f.spelled is (omega arith)
+  at (inr is) = letters_open text f.blanks f.word rest 100 111 (codes "ubles") f.blank f.spelled is (omega arith)
 
-low_byte : (byte : ℕ) (rest : List ℕ) → byte ≤ 47 → AllOf IsHigh (byte ∷ rest) → ⊥
-low_byte byte rest low high = let first = high.0 in omega (arith, low, first)
+pub cell_opens : (text : List ℕ) (c : Cell) (rest : List ℕ) → TellsCell text c rest → Opens text (first_of c) (second_of c)
+cell_opens text (Turn dice legs) rest (after, is, may, more, few, ends) = dice_open text dice after is
+cell_opens text (CannotMove dice) rest (after, is, more) = dice_open text dice after is
+cell_opens text (Unknown dice) rest (after, is, more) = dice_open text dice after is
+cell_opens text (Doubles None) rest (is, none) = double_open text rest is
+cell_opens text (Doubles (Some n)) rest (after, behind, number, is, arrow, first, digits) = double_open text after is
+cell_opens text Takes rest is =
+    either_open text (codes "Take") (codes "Takes") rest 116 97 (codes "ke") (codes "kes") is refl refl (omega arith)
+cell_opens text Drops rest is =
+    either_open text (codes "Drop") (codes "Drops") rest 100 114 (codes "op") (codes "ops") is refl refl (omega arith)
+cell_opens text (Wins win) rest (after, behind, is, points, begins, ends) =
+    either_open text (codes "Win") (codes "Wins") after 119 105 (codes "n") (codes "ns") is refl refl (omega arith)
 
-no_legs : (from : ℕ) (rest : List ℕ) (legs : List Leg) → AllOf IsHigh rest → TellsLegs from rest legs → legs ≡ []
-no_legs from rest [] high h = refl
-no_legs from rest (leg ∷ legs) high (word, more, e, first, tells) =
-    absurd (low_byte 47 (word ++ more) (omega arith) (subst (AllOf IsHigh) e high))
+-- the first one is a digit, or one of three letters
+first_is : (c : Cell) (n : ℕ) → first_of c ≡ n → (n < 49 → ⊥) × ((55 ≤ n) × (n < 100) → ⊥) × ((101 ≤ n) × (n < 116) → ⊥)
+first_is (Turn dice legs) n e = let few = first_few dice in (λ h. omega (arith, e, h, few.0), λ h. omega (arith, e, h.0, few.1), λ h. omega (arith, e, h.0, few.1))
+first_is (CannotMove dice) n e = let few = first_few dice in (λ h. omega (arith, e, h, few.0), λ h. omega (arith, e, h.0, few.1), λ h. omega (arith, e, h.0, few.1))
+first_is (Unknown dice) n e = let few = first_few dice in (λ h. omega (arith, e, h, few.0), λ h. omega (arith, e, h.0, few.1), λ h. omega (arith, e, h.0, few.1))
+first_is (Doubles shows) n e = (λ h. omega (arith, e, h), λ h. omega (arith, e, h.1), λ h. omega (arith, e, h.0))
+first_is Takes n e = (λ h. omega (arith, e, h), λ h. omega (arith, e, h.1), λ h. omega (arith, e, h.1))
+first_is Drops n e = (λ h. omega (arith, e, h), λ h. omega (arith, e, h.1), λ h. omega (arith, e, h.0))
+first_is (Wins win) n e = (λ h. omega (arith, e, h), λ h. omega (arith, e, h.1), λ h. omega (arith, e, h.1))
 
-high_path : (text : List ℕ) (legs : List Leg) → AllOf IsHigh text → TellsPath text legs → ⊥
-high_path text legs high (from, start, rest, e, is, tells, some) =
-    some (no_legs from rest legs (all_right IsHigh start rest (subst (AllOf IsHigh) e high)) tells)
+-- a text that opens otherwise is no cell
+pub opens_no_cell : (text : List ℕ) (c : Cell) (rest : List ℕ) (first second : ℕ) → TellsCell text c rest → Opens text first second
+    → (first < 49 → ⊥) × ((55 ≤ first) × (first < 100) → ⊥) × ((101 ≤ first) × (first < 116) → ⊥)
+opens_no_cell text c rest first second tells o =
+    first_is c first (opens_same text (first_of c) (second_of c) first second (cell_opens text c rest tells) o).0
 
--- a word of such bytes is no word of a movement
-pub high_word : (word : List ℕ) (legs : List Leg) → AllOf IsHigh word → TellsWord word legs → ⊥
-high_word word legs high (path, count, once, inl (e, one), tells, all) =
-    high_path path once (subst (AllOf IsHigh) e high) tells
-high_word word legs high (path, count, once, inr (low, few, e), tells, all) =
-    high_path path once
-    (all_left IsHigh path (40 ∷ (48 + count) ∷ codes ")") (subst (AllOf IsHigh) (bracketed word path count e) high)) tells
+-- a cell begins no comment
+pub cell_semicolon : (c : Cell) → first_of c ≡ 59 → ⊥
+cell_semicolon c e = (first_is c 59 e).1 (omega arith, omega arith)
 
--- nor does it end with a bracket
-pub high_number : (word digits : List ℕ) → AllOf IsHigh word → word ≡ digits ++ codes ")" → ⊥
-high_number word digits high e =
-    low_byte 41 [] (omega arith) (all_right IsHigh digits (41 ∷ []) (subst (AllOf IsHigh) e high))
+-- it says neither of these words
+pub cell_and : (text : List ℕ) (c : Cell) (rest behind : List ℕ) → TellsCell text c rest → Says text (codes "and") behind → ⊥
+cell_and text c rest behind tells f =
+    (opens_no_cell text c rest 97 110 tells (says_open text (codes "and") behind 97 110 (codes "d") f refl (omega arith))).1
+    (omega arith, omega arith)
 
-game_high : AllOf IsHigh (codes "Game")
-game_high = (omega arith, (omega arith, (omega arith, (omega arith, tt))))
+pub cell_game : (text : List ℕ) (c : Cell) (rest behind : List ℕ) → TellsCell text c rest → Says text (codes "Game") behind → ⊥
+cell_game text c rest behind tells f =
+    (opens_no_cell text c rest 103 97 tells (says_open text (codes "Game") behind 103 97 (codes "me") f refl (omega arith))).2
+    (omega arith, omega arith)
 
-pub game_number : (digits : List ℕ) → codes "Game" ≡ digits ++ codes ")" → ⊥
-game_number digits e = high_number (codes "Game") digits game_high e
+-- no word of a movement begins it
+pub cell_no_movement : (text : List ℕ) (c : Cell) (rest : List ℕ) → TellsCell text c rest → EndsMovement text
+cell_no_movement text (Turn dice legs) rest (after, is, may, more, few, ends) = dice_no_movement text dice after is
+cell_no_movement text (CannotMove dice) rest (after, is, more) = dice_no_movement text dice after is
+cell_no_movement text (Unknown dice) rest (after, is, more) = dice_no_movement text dice after is
+cell_no_movement text (Doubles shows) rest tells =
+    letters_no_movement text 100 111 (cell_opens text (Doubles shows) rest tells) (omega arith) (λ e. omega (arith, e)) (λ e. omega (arith, e))
+cell_no_movement text Takes rest tells =
+    letters_no_movement text 116 97 (cell_opens text Takes rest tells) (omega arith) (λ e. omega (arith, e)) (λ e. omega (arith, e))
+cell_no_movement text Drops rest tells =
+    letters_no_movement text 100 114 (cell_opens text Drops rest tells) (omega arith) (λ e. omega (arith, e)) (λ e. omega (arith, e))
+cell_no_movement text (Wins win) rest tells =
+    letters_no_movement text 119 105 (cell_opens text (Wins win) rest tells) (omega arith) (λ e. omega (arith, e)) (λ e. omega (arith, e))
 
-pub lengths_apart : (a b : List ℕ) → (length a ≡ length b → ⊥) → a ≡ b → ⊥
-lengths_apart a b other e = other (ap (λ (t : List ℕ). length t) e)
+-- the number of a row is no cell
+pub cell_no_number : (text : List ℕ) (c : Cell) (rest behind : List ℕ) → TellsCell text c rest → HasRowNumber text behind → ⊥
+cell_no_number text (Turn dice legs) rest behind (after, is, may, more, few, ends) number = dice_no_number text after behind dice is number
+cell_no_number text (CannotMove dice) rest behind (after, is, more) number = dice_no_number text after behind dice is number
+cell_no_number text (Unknown dice) rest behind (after, is, more) number = dice_no_number text after behind dice is number
+cell_no_number text (Doubles shows) rest behind tells number =
+    let low = number_opens text behind 100 111 number (cell_opens text (Doubles shows) rest tells) in omega (arith, low)
+cell_no_number text Takes rest behind tells number =
+    let low = number_opens text behind 116 97 number (cell_opens text Takes rest tells) in omega (arith, low)
+cell_no_number text Drops rest behind tells number =
+    let low = number_opens text behind 100 114 number (cell_opens text Drops rest tells) in omega (arith, low)
+cell_no_number text (Wins win) rest behind tells number =
+    let low = number_opens text behind 119 105 number (cell_opens text (Wins win) rest tells) in omega (arith, low)
 
-pub third_apart : (a b c x y z : ℕ) → (c ≡ z → ⊥) → a ∷ b ∷ c ∷ [] ≡ x ∷ y ∷ z ∷ [] → ⊥
-third_apart a b c x y z other e =
-    let second : b ∷ c ∷ [] ≡ y ∷ z ∷ [] = tail_same a x (b ∷ c ∷ []) (y ∷ z ∷ []) e in
-    apart c z [] [] other (tail_same b y (c ∷ []) (z ∷ []) second)
+-- which kind of cell it is: dice, a double, an answer or a win
+abbrev pub kind_of : Cell → ℕ
+kind_of (Turn dice legs) = 0
+kind_of (CannotMove dice) = 0
+kind_of (Unknown dice) = 0
+kind_of (Doubles shows) = 1
+kind_of Takes = 2
+kind_of Drops = 3
+kind_of (Wins win) = 4
 
--- it is not this word
-pub head_and : (c : Cell) → head_of c ≡ codes "and" → ⊥
-head_and (Turn dice legs) e =
-    third_apart (48 + first_pips dice) (48 + second_pips dice) 58 97 110 100 (λ n. omega (arith, n)) e
-head_and (Doubles shows) e = lengths_apart (codes "Doubles") (codes "and") (λ n. omega (arith, n)) e
-head_and Takes e = lengths_apart (codes "Takes") (codes "and") (λ n. omega (arith, n)) e
-head_and Drops e = lengths_apart (codes "Drops") (codes "and") (λ n. omega (arith, n)) e
-head_and (Wins win) e = lengths_apart (codes "Wins") (codes "and") (λ n. omega (arith, n)) e
+-- the same by its first two letters
+abbrev kind_by : ℕ → ℕ → ℕ
+kind_by first second =
+    if nat_lt first 99 then 0
+    else (if first == 116 then 2 else (if first == 119 then 4 else (if second == 111 then 1 else 3)))
 
-pub head_game : (c : Cell) → head_of c ≡ codes "Game" → ⊥
-head_game (Turn dice legs) e = lengths_apart (head_of (Turn dice legs)) (codes "Game") (λ n. omega (arith, n)) e
-head_game (Doubles shows) e = lengths_apart (codes "Doubles") (codes "Game") (λ n. omega (arith, n)) e
-head_game Takes e = lengths_apart (codes "Takes") (codes "Game") (λ n. omega (arith, n)) e
-head_game Drops e = lengths_apart (codes "Drops") (codes "Game") (λ n. omega (arith, n)) e
-head_game (Wins win) e = apart 87 71 (codes "ins") (codes "ame") (λ n. omega (arith, n)) e
+die_kind : (d : Die) (second : ℕ) → kind_by (48 + pips d) second ≡ 0
+die_kind One second = refl
+die_kind Two second = refl
+die_kind Three second = refl
+die_kind Four second = refl
+die_kind Five second = refl
+die_kind Six second = refl
 
-pub head_beavers : (c : Cell) → head_of c ≡ codes "Beavers" → ⊥
-head_beavers (Turn dice legs) e = lengths_apart (head_of (Turn dice legs)) (codes "Beavers") (λ n. omega (arith, n)) e
-head_beavers (Doubles shows) e = apart 68 66 (codes "oubles") (codes "eavers") (λ n. omega (arith, n)) e
-head_beavers Takes e = lengths_apart (codes "Takes") (codes "Beavers") (λ n. omega (arith, n)) e
-head_beavers Drops e = lengths_apart (codes "Drops") (codes "Beavers") (λ n. omega (arith, n)) e
-head_beavers (Wins win) e = lengths_apart (codes "Wins") (codes "Beavers") (λ n. omega (arith, n)) e
+kind_is : (c : Cell) → kind_by (first_of c) (second_of c) ≡ kind_of c
+kind_is (Turn dice legs) = die_kind dice.first (48 + second_pips dice)
+kind_is (CannotMove dice) = die_kind dice.first (48 + second_pips dice)
+kind_is (Unknown dice) = die_kind dice.first (48 + second_pips dice)
+kind_is (Doubles shows) = refl
+kind_is Takes = refl
+kind_is Drops = refl
+kind_is (Wins win) = refl
 
-pub head_raccoons : (c : Cell) → head_of c ≡ codes "Raccoons" → ⊥
-head_raccoons (Turn dice legs) e = lengths_apart (head_of (Turn dice legs)) (codes "Raccoons") (λ n. omega (arith, n)) e
-head_raccoons (Doubles shows) e = lengths_apart (codes "Doubles") (codes "Raccoons") (λ n. omega (arith, n)) e
-head_raccoons Takes e = lengths_apart (codes "Takes") (codes "Raccoons") (λ n. omega (arith, n)) e
-head_raccoons Drops e = lengths_apart (codes "Drops") (codes "Raccoons") (λ n. omega (arith, n)) e
-head_raccoons (Wins win) e = lengths_apart (codes "Wins") (codes "Raccoons") (λ n. omega (arith, n)) e
+pub kinds_same : (text : List ℕ) (a b : Cell) (r s : List ℕ) → TellsCell text a r → TellsCell text b s → kind_of a ≡ kind_of b
+kinds_same text a b r s f g =
+    let same = opens_same text (first_of a) (second_of a) (first_of b) (second_of b) (cell_opens text a r f) (cell_opens text b s g) in
+    sym (kind_is a) ∙ (ap (λ (n : ℕ). kind_by n (second_of a)) same.0 ∙ (ap (λ (n : ℕ). kind_by (first_of b) n) same.1 ∙ kind_is b))
 
 -- behind a cell nothing of it stands: the text is blank, or another cell begins it
 pub record IsBehindCell (text : List ℕ) : Type 0 where
   pub movement : EndsMovement text
+  pub may : MayMove text
   pub win : EndsWin text
 
 pub blank_behind : (text : List ℕ) → IsBlankText text → IsBehindCell text
 blank_behind text blank = record {
   movement = λ word rest legs first tells. no_first_word text word rest blank first;
-  win = λ rest first. no_first_word text (codes "and") rest blank first;
+  may = blank_may text blank;
+  win = λ rest first. no_says text (codes "and") rest blank first;
 }
 
 pub cell_behind_cell : (text : List ℕ) (c : Cell) (rest : List ℕ) → TellsCell text c rest → IsBehindCell text
 cell_behind_cell text c rest tells =
-    let (after, head) = cell_head text c rest tells in record {
-      movement = λ word behind legs first told.
-          let same : head_of c ≡ word = (first_word_same text (head_of c) after word behind head first).0 in
-          high_word word legs (subst (AllOf IsHigh) same (head_high c)) told;
-      win = λ behind first. head_and c (first_word_same text (head_of c) after (codes "and") behind head first).0;
+    let o = cell_opens text c rest tells in record {
+      movement = cell_no_movement text c rest tells;
+      may = opens_may text (first_of c) (second_of c) o (λ e. (first_is c 99 e).1 (omega arith, omega arith))
+          (λ e. (first_is c 63 e).1 (omega arith, omega arith));
+      win = λ behind first. cell_and text c rest behind tells first;
     }
-
--- the number of a row is no cell
-pub cell_no_number : (text : List ℕ) (c : Cell) (rest behind : List ℕ) → TellsCell text c rest → HasRowNumber text behind → ⊥
-cell_no_number text c rest behind tells (word, first, (digits, n, e, is)) =
-    let (after, head) = cell_head text c rest tells in
-    high_number (head_of c) digits (head_high c) ((first_word_same text (head_of c) after word behind head first).0 ∙ e)

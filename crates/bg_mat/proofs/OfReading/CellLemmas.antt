@@ -1,21 +1,19 @@
 -- A text begins with one cell.
-use Rattle.std.specs.Prelude.{◌≡◌, ℕ, ◌+◌, ◌≤◌, Bool, true, false, List, [], ◌∷◌, length, codes}
-use Rattle.std.proofs.Common.{length-append, refl, sym, ◌∙◌, ap, subst, arith}
-use Rattle.bg_board.specs.Die.{pips}
-use Rattle.bg_board.specs.declared.dice.Die.{Die}
-use Rattle.bg_board.specs.declared.dice.Die.TheVariants.{One, Two, Three, Four, Five, Six}
-use Rattle.bg_turns.specs.Dice.{first_pips, second_pips}
-use Rattle.bg_turns.specs.declared.throws.Dice.{Dice}
+use Rattle.std.specs.Prelude.{◌≡◌, ◌==◌, ℕ, ◌+◌, ◌≤◌, Bool, true, false, Option, Some, None, List, [], ◌∷◌, ◌++◌, length, codes}
+use Rattle.std.proofs.Common.{length-append, refl, sym, ◌∙◌, ap, subst, inl, inr, arith}
+use Rattle.std.proofs.lemmas.Bool.{ne_eqb}
 use Rattle.bg_mat.specs.Legs.{TellsMovement, TellsWord}
-use Rattle.bg_mat.specs.Rows.Cells.{EndsMovement, EndsWin, IsDiceWord, TellsCell, TellsDouble, TellsPoints, TellsWin, ending}
+use Rattle.bg_mat.specs.Rows.Cells.{BeginsArrow, EndsMovement, EndsName, EndsWin, SaysCannotMove, SaysDouble, SaysUnknown, TellsCell, TellsDouble, TellsPoints, TellsWin, ending, ends_name}
 use Rattle.bg_mat.specs.Rows.Numbers.{IsNumber}
-use Rattle.bg_mat.specs.Rows.Words.{BeginsWith, IsFirstWord}
+use Rattle.bg_mat.specs.Rows.Words.{BeginsSolid, BeginsWith, IsEither, IsFirstWord, Says, SaysAll}
 use Rattle.bg_mat.specs.declared.movements.legs.Leg.{Leg}
 use Rattle.bg_mat.specs.declared.rows.cells.Win.{Win}
 use Rattle.bg_mat.specs.declared.rows.cells.Cell.{Cell}
-use Rattle.bg_mat.specs.declared.rows.cells.Cell.TheVariants.{Turn, Doubles, Takes, Drops, Wins}
-use Rattle.bg_mat.proofs.OfReading.CellHeads.{cell_head, head_of, lengths_apart}
-use Rattle.bg_mat.proofs.OfReading.MovementLemmas.{apart, head_same, tail_same, word_same}
+use Rattle.bg_mat.specs.declared.rows.cells.Cell.TheVariants.{Turn, CannotMove, Unknown, Doubles, Takes, Drops, Wins}
+use Rattle.bg_mat.proofs.OfReading.CellHeads.{kind_of, kinds_same}
+use Rattle.bg_mat.proofs.OfReading.HeadingLemmas.{either_rest, says_rest}
+use Rattle.bg_mat.proofs.OfReading.MovementLemmas.{AllOf, StopsAt, cut_same, head_same, letters_all, tail_same, word_same}
+use Rattle.bg_mat.proofs.OfReading.Openings.{blanks_same, dice_same, says_open, solid_letter, unknown_opens}
 use Rattle.bg_mat.proofs.OfReading.WordLemmas.{first_word_same}
 
 -- a word of a movement does not end it
@@ -59,36 +57,6 @@ movement_most text (w ∷ ws) (v ∷ vs) rest behind legs more (after, first, be
     let own_size : length own ≡ length each = ap (λ (t : List Leg). length t) legs_of in
     omega (arith, one, two, own_size, few)
 
-pips_same : (a b : Die) → pips a ≡ pips b → a ≡ b
-pips_same One One e = refl
-pips_same One _ e = absurd (omega arith)
-pips_same Two Two e = refl
-pips_same Two _ e = absurd (omega arith)
-pips_same Three Three e = refl
-pips_same Three _ e = absurd (omega arith)
-pips_same Four Four e = refl
-pips_same Four _ e = absurd (omega arith)
-pips_same Five Five e = refl
-pips_same Five _ e = absurd (omega arith)
-pips_same Six Six e = refl
-pips_same Six _ e = absurd (omega arith)
-
-dice_by : (d e : Dice) → d.first ≡ e.first → d.second ≡ e.second → d ≡ e
-dice_by d e h k =
-    let one : d ≡ record { first = e.first; second = d.second } =
-    ap (λ (x : Die). record { first = x; second = d.second }) h in
-    one ∙ ap (λ (x : Die). record { first = e.first; second = x }) k
-
--- the dice of a word
-dice_same : (word : List ℕ) (d e : Dice) → IsDiceWord word d → IsDiceWord word e → d ≡ e
-dice_same word d e is at =
-    let whole : (48 + first_pips d) ∷ (48 + second_pips d) ∷ codes ":" ≡ (48 + first_pips e) ∷ (48 + second_pips e) ∷ codes ":" =
-    sym is ∙ at in
-    let one = head_same (48 + first_pips d) (48 + first_pips e) ((48 + second_pips d) ∷ codes ":") ((48 + second_pips e) ∷ codes ":") whole in
-    let more = tail_same (48 + first_pips d) (48 + first_pips e) ((48 + second_pips d) ∷ codes ":") ((48 + second_pips e) ∷ codes ":") whole in
-    let two = head_same (48 + second_pips d) (48 + second_pips e) (codes ":") (codes ":") more in
-    dice_by d e (pips_same d.first e.first (omega (arith, one))) (pips_same d.second e.second (omega (arith, two)))
-
 -- words that a text begins with, and what follows
 begins_same : (text : List ℕ) (words : List (List ℕ)) (r s : List ℕ) → BeginsWith text words r → BeginsWith text words s → r ≡ s
 begins_same text [] r s e f = sym e ∙ f
@@ -100,15 +68,63 @@ number_same : (word other : List ℕ) (n m : ℕ) → word ≡ other → IsNumbe
 number_same word other n m e is at =
     let here : IsNumber word m = subst (λ (w : List ℕ). IsNumber w m) (sym e) at in is.value ∙ sym here.value
 
-pub double_same : (text : List ℕ) (n m : ℕ) (r s : List ℕ) → TellsDouble text n r → TellsDouble text m s → (n ≡ m) × (r ≡ s)
-double_same text n m r s (number, (after, first, (behind, second, (end, third, is))), digits)
-    (other, (then, one, (beyond, two, (last, three, at))), figures) =
-    let a = (first_word_same text (codes "Doubles") after (codes "Doubles") then first one).1 in
-    let b = (first_word_same after (codes "=>") behind (codes "=>") beyond second
-    (subst (λ (t : List ℕ). IsFirstWord t (codes "=>") beyond) (sym a) two)).1 in
-    let c = first_word_same behind number end other last third
-    (subst (λ (t : List ℕ). IsFirstWord t other last) (sym b) three) in
-    (number_same number other n m c.0 digits figures, sym is ∙ (c.1 ∙ at))
+-- words that a text says, and what follows
+all_said : (text : List ℕ) (words : List (List ℕ)) (r s : List ℕ) → SaysAll text words r → SaysAll text words s → r ≡ s
+all_said text [] r s e f = sym e ∙ f
+all_said text (word ∷ words) r s (after, first, more) (then, other, most) =
+    let same = says_rest text word word after then first other in
+    all_said after words r s more (subst (λ (t : List ℕ). SaysAll t words s) (sym same) most)
+
+-- the name of a double ends where letters do
+pub name_high : (word : List ℕ) → IsEither word (codes "Double") (codes "Doubles") → AllOf (λ b. 65 ≤ b) word
+name_high word (inl is) =
+    letters_all (λ b. 65 ≤ b) (λ b h. h) word (codes "double") is
+    (omega arith, (omega arith, (omega arith, (omega arith, (omega arith, (omega arith, tt))))))
+name_high word (inr is) =
+    letters_all (λ b. 65 ≤ b) (λ b h. h) word (codes "doubles") is
+    (omega arith, (omega arith, (omega arith, (omega arith, (omega arith, (omega arith, (omega arith, tt)))))))
+
+pub name_first : (word behind : List ℕ) → IsEither word (codes "Double") (codes "Doubles") → BeginsSolid (word ++ behind)
+name_first [] behind (inl is) = absurd (cc (is))
+name_first [] behind (inr is) = absurd (cc (is))
+name_first (x ∷ word) behind (inl is) = solid_letter x 100 (head_same _ _ _ _ is) (omega arith)
+name_first (x ∷ word) behind (inr is) = solid_letter x 100 (head_same _ _ _ _ is) (omega arith)
+
+name_stops : (rest : List ℕ) → EndsName rest → StopsAt (λ b. 65 ≤ b) rest
+name_stops [] h = tt
+name_stops (x ∷ rest) h = λ high.
+    let space : (x == 32) ≡ false = ne_eqb x 32 (λ e. omega (arith, e, high)) in
+    let tab : (x == 9) ≡ false = ne_eqb x 9 (λ e. omega (arith, e, high)) in
+    let end : (x == 13) ≡ false = ne_eqb x 13 (λ e. omega (arith, e, high)) in
+    let sign : (x == 61) ≡ false = ne_eqb x 61 (λ e. omega (arith, e, high)) in
+    let none : ends_name x ≡ false = rw (space, tab, end, sign) refl in
+    absurd (cc (none, h))
+
+pub doubles_same : (text r s : List ℕ) → SaysDouble text r → SaysDouble text s → r ≡ s
+doubles_same text r s f g =
+    let cut = (blanks_same f.blanks (f.word ++ r) g.blanks (g.word ++ s) (sym f.spelled ∙ g.spelled) f.blank g.blank
+    (name_first f.word r f.is) (name_first g.word s g.is)).1 in
+    (cut_same (λ b. 65 ≤ b) f.word r g.word s cut (name_high f.word f.is) (name_high g.word g.is)
+    (name_stops r f.ends) (name_stops s g.ends)).1
+
+pub arrow_same : (text r s : List ℕ) → BeginsArrow text r → BeginsArrow text s → r ≡ s
+arrow_same text r s (a, blank, e) (b, other, d) =
+    let cut = (blanks_same a (61 ∷ 62 ∷ r) b (61 ∷ 62 ∷ s) (sym e ∙ d) blank other refl refl).1 in
+    tail_same 62 62 r s (tail_same 61 61 (62 ∷ r) (62 ∷ s) cut)
+
+pub double_same : (text : List ℕ) (n m : Option ℕ) (r s : List ℕ) → TellsDouble text n r → TellsDouble text m s → (n ≡ m) × (r ≡ s)
+double_same text None None r s (is, none) (at, never) = (refl, doubles_same text r s is at)
+double_same text None (Some m) r s (is, none) (after, behind, number, at, arrow, first, digits) =
+    absurd (none behind (subst (λ (t : List ℕ). BeginsArrow t behind) (doubles_same text after r at is) arrow))
+double_same text (Some n) None r s (after, behind, number, is, arrow, first, digits) (at, never) =
+    absurd (never behind (subst (λ (t : List ℕ). BeginsArrow t behind) (doubles_same text after s is at) arrow))
+double_same text (Some n) (Some m) r s (after, behind, number, is, arrow, first, digits)
+    (then, beyond, other, at, pointer, second, figures) =
+    let a = doubles_same text after then is at in
+    let b = arrow_same after behind beyond arrow (subst (λ (t : List ℕ). BeginsArrow t beyond) (sym a) pointer) in
+    let c = first_word_same behind number r other s first
+    (subst (λ (t : List ℕ). IsFirstWord t other s) (sym b) second) in
+    (ap Some (number_same number other n m c.0 digits figures), c.1)
 
 pub points_same : (text : List ℕ) (n m : ℕ) (r s : List ℕ) → TellsPoints text n r → TellsPoints text m s → (n ≡ m) × (r ≡ s)
 points_same text n m r s (number, word, (after, first, (behind, second, is)), digits, points)
@@ -119,14 +135,14 @@ points_same text n m r s (number, word, (after, first, (behind, second, is)), di
     (number_same number other n m a.0 digits figures, sym is ∙ (b.1 ∙ at))
 
 -- what ends the match
-ending_same : (b c : Bool) (text r s : List ℕ) → BeginsWith text (ending b) r → (b ≡ false → EndsWin r)
-    → BeginsWith text (ending c) s → (c ≡ false → EndsWin s) → (b ≡ c) × (r ≡ s)
-ending_same true true text r s f ends g stops = (refl, begins_same text (ending true) r s f g)
+ending_same : (b c : Bool) (text r s : List ℕ) → SaysAll text (ending b) r → (b ≡ false → EndsWin r)
+    → SaysAll text (ending c) s → (c ≡ false → EndsWin s) → (b ≡ c) × (r ≡ s)
+ending_same true true text r s f ends g stops = (refl, all_said text (ending true) r s f g)
 ending_same false false text r s f ends g stops = (refl, sym f ∙ g)
 ending_same true false text r s (after, first, more) ends g stops =
-    absurd (stops refl after (subst (λ (t : List ℕ). IsFirstWord t (codes "and") after) g first))
+    absurd (stops refl after (subst (λ (t : List ℕ). Says t (codes "and") after) g first))
 ending_same false true text r s f ends (after, first, more) stops =
-    absurd (ends refl after (subst (λ (t : List ℕ). IsFirstWord t (codes "and") after) f first))
+    absurd (ends refl after (subst (λ (t : List ℕ). Says t (codes "and") after) f first))
 
 win_by : (w v : Win) → w.points ≡ v.points → w.ends_match ≡ v.ends_match → w ≡ v
 win_by w v h k =
@@ -136,88 +152,98 @@ win_by w v h k =
 
 pub win_same : (text : List ℕ) (w v : Win) (r s : List ℕ) → TellsWin text w r → TellsWin text v s → (w ≡ v) × (r ≡ s)
 win_same text w v r s (after, behind, first, points, begins, ends) (then, beyond, one, more, begun, stops) =
-    let a = (first_word_same text (codes "Wins") after (codes "Wins") then first one).1 in
+    let a = either_rest text (codes "Win") (codes "Wins") (codes "Win") (codes "Wins") after then first one in
     let b = points_same after w.points v.points behind beyond points
     (subst (λ (t : List ℕ). TellsPoints t v.points beyond) (sym a) more) in
     let c = ending_same w.ends_match v.ends_match behind r s begins ends
-    (subst (λ (t : List ℕ). BeginsWith t (ending v.ends_match) s) (sym b.1) begun) stops in
+    (subst (λ (t : List ℕ). SaysAll t (ending v.ends_match) s) (sym b.1) begun) stops in
     (win_by w v b.0 c.0, c.1)
 
--- cells of the same kind
-abbrev SameKind : Cell → Cell → Type 0
-SameKind (Turn d l) (Turn e k) = Unit {0}
-SameKind (Doubles n) (Doubles m) = Unit {0}
-SameKind Takes Takes = Unit {0}
-SameKind Drops Drops = Unit {0}
-SameKind (Wins w) (Wins v) = Unit {0}
-SameKind _ _ = ⊥
+no_move_twice : (text r s : List ℕ) → SaysCannotMove text r → SaysUnknown text s → ⊥
+no_move_twice text r s (after, first, more) unknown =
+    let o = says_open text (codes "Cannot") after 99 97 (codes "nnot") first refl (omega arith) in
+    let e = unknown_opens text s 99 97 unknown o in
+    omega (arith, e)
 
-head_kind : (a b : Cell) → head_of a ≡ head_of b → SameKind a b
-head_kind (Turn d l) (Turn e k) h = tt
-head_kind (Doubles n) (Doubles m) h = tt
-head_kind Takes Takes h = tt
-head_kind Drops Drops h = tt
-head_kind (Wins w) (Wins v) h = tt
-head_kind (Turn d l) (Doubles m) h = absurd (lengths_apart (head_of (Turn d l)) (head_of (Doubles m)) (λ f. omega (arith, f)) h)
-head_kind (Turn d l) Takes h = absurd (lengths_apart (head_of (Turn d l)) (head_of Takes) (λ f. omega (arith, f)) h)
-head_kind (Turn d l) Drops h = absurd (lengths_apart (head_of (Turn d l)) (head_of Drops) (λ f. omega (arith, f)) h)
-head_kind (Turn d l) (Wins v) h = absurd (lengths_apart (head_of (Turn d l)) (head_of (Wins v)) (λ f. omega (arith, f)) h)
-head_kind (Doubles n) (Turn e k) h = absurd (lengths_apart (head_of (Doubles n)) (head_of (Turn e k)) (λ f. omega (arith, f)) h)
-head_kind (Doubles n) Takes h = absurd (lengths_apart (head_of (Doubles n)) (head_of Takes) (λ f. omega (arith, f)) h)
-head_kind (Doubles n) Drops h = absurd (lengths_apart (head_of (Doubles n)) (head_of Drops) (λ f. omega (arith, f)) h)
-head_kind (Doubles n) (Wins v) h = absurd (lengths_apart (head_of (Doubles n)) (head_of (Wins v)) (λ f. omega (arith, f)) h)
-head_kind Takes (Turn e k) h = absurd (lengths_apart (head_of Takes) (head_of (Turn e k)) (λ f. omega (arith, f)) h)
-head_kind Takes (Doubles m) h = absurd (lengths_apart (head_of Takes) (head_of (Doubles m)) (λ f. omega (arith, f)) h)
-head_kind Takes Drops h = absurd (apart 84 68 (codes "akes") (codes "rops") (λ f. omega (arith, f)) h)
-head_kind Takes (Wins v) h = absurd (lengths_apart (head_of Takes) (head_of (Wins v)) (λ f. omega (arith, f)) h)
-head_kind Drops (Turn e k) h = absurd (lengths_apart (head_of Drops) (head_of (Turn e k)) (λ f. omega (arith, f)) h)
-head_kind Drops (Doubles m) h = absurd (lengths_apart (head_of Drops) (head_of (Doubles m)) (λ f. omega (arith, f)) h)
-head_kind Drops Takes h = absurd (apart 68 84 (codes "rops") (codes "akes") (λ f. omega (arith, f)) h)
-head_kind Drops (Wins v) h = absurd (lengths_apart (head_of Drops) (head_of (Wins v)) (λ f. omega (arith, f)) h)
-head_kind (Wins w) (Turn e k) h = absurd (lengths_apart (head_of (Wins w)) (head_of (Turn e k)) (λ f. omega (arith, f)) h)
-head_kind (Wins w) (Doubles m) h = absurd (lengths_apart (head_of (Wins w)) (head_of (Doubles m)) (λ f. omega (arith, f)) h)
-head_kind (Wins w) Takes h = absurd (lengths_apart (head_of (Wins w)) (head_of Takes) (λ f. omega (arith, f)) h)
-head_kind (Wins w) Drops h = absurd (lengths_apart (head_of (Wins w)) (head_of Drops) (λ f. omega (arith, f)) h)
-
-same_by_kind : (text : List ℕ) (a b : Cell) (r s : List ℕ) → SameKind a b → TellsCell text a r → TellsCell text b s → (a ≡ b) × (r ≡ s)
-same_by_kind text (Turn d l) (Turn e k) r s kind (word, after, first, is, (words, begins, tells), few, ends)
-    (other, then, one, at, (more, begun, told), small, stops) =
-    let both = first_word_same text word after other then first one in
-    let dice : d ≡ e = dice_same word d e is (subst (λ (w : List ℕ). IsDiceWord w e) (sym both.0) at) in
+same_by_kind : (text : List ℕ) (a b : Cell) (r s : List ℕ) → kind_of a ≡ kind_of b → TellsCell text a r → TellsCell text b s → (a ≡ b) × (r ≡ s)
+same_by_kind text (Turn d l) (Turn e k) r s kind (after, is, may, (words, begins, tells), few, ends)
+    (then, at, can, (more, begun, told), small, stops) =
+    let both = dice_same text d e after then is at in
     let legs = movement_same after words more r s l.items k.items begins tells ends
     (subst (λ (t : List ℕ). BeginsWith t more s) (sym both.1) begun) told stops in
     let items : l ≡ k = ap (λ (xs : List Leg). record { items = xs }) legs.0 in
-    (cc (dice, items), legs.1)
+    (cc (both.0, items), legs.1)
+same_by_kind text (Turn d l) (CannotMove e) r s kind (after, is, may, told, few, ends) (then, at, cannot) =
+    absurd ((may s).0 (subst (λ (t : List ℕ). SaysCannotMove t s) (sym (dice_same text d e after then is at).1) cannot))
+same_by_kind text (Turn d l) (Unknown e) r s kind (after, is, may, told, few, ends) (then, at, unknown) =
+    absurd ((may s).1 (subst (λ (t : List ℕ). SaysUnknown t s) (sym (dice_same text d e after then is at).1) unknown))
+same_by_kind text (CannotMove d) (Turn e k) r s kind (after, is, cannot) (then, at, may, told, few, ends) =
+    absurd ((may r).0 (subst (λ (t : List ℕ). SaysCannotMove t r) (dice_same text d e after then is at).1 cannot))
+same_by_kind text (CannotMove d) (CannotMove e) r s kind (after, is, cannot) (then, at, can) =
+    let both = dice_same text d e after then is at in (
+      ap CannotMove both.0,
+      all_said after (codes "Cannot" ∷ codes "Move" ∷ []) r s cannot
+          (subst (λ (t : List ℕ). SaysCannotMove t s) (sym both.1) can),
+    )
+same_by_kind text (CannotMove d) (Unknown e) r s kind (after, is, cannot) (then, at, unknown) =
+    absurd (no_move_twice after r s cannot
+    (subst (λ (t : List ℕ). SaysUnknown t s) (sym (dice_same text d e after then is at).1) unknown))
+same_by_kind text (Unknown d) (Turn e k) r s kind (after, is, unknown) (then, at, may, told, few, ends) =
+    absurd ((may r).1 (subst (λ (t : List ℕ). SaysUnknown t r) (dice_same text d e after then is at).1 unknown))
+same_by_kind text (Unknown d) (CannotMove e) r s kind (after, is, unknown) (then, at, cannot) =
+    absurd (no_move_twice after s r
+    (subst (λ (t : List ℕ). SaysCannotMove t s) (sym (dice_same text d e after then is at).1) cannot) unknown)
+same_by_kind text (Unknown d) (Unknown e) r s kind (after, is, (word, first, marks)) (then, at, (other, one, signs)) =
+    let both = dice_same text d e after then is at in (
+      ap Unknown both.0,
+      (first_word_same after word r other s first
+          (subst (λ (t : List ℕ). IsFirstWord t other s) (sym both.1) one)).1,
+    )
 same_by_kind text (Doubles n) (Doubles m) r s kind f g =
     let both = double_same text n m r s f g in (ap Doubles both.0, both.1)
-same_by_kind text Takes Takes r s kind f g = (refl, (first_word_same text (codes "Takes") r (codes "Takes") s f g).1)
-same_by_kind text Drops Drops r s kind f g = (refl, (first_word_same text (codes "Drops") r (codes "Drops") s f g).1)
+same_by_kind text Takes Takes r s kind f g =
+    (refl, either_rest text (codes "Take") (codes "Takes") (codes "Take") (codes "Takes") r s f g)
+same_by_kind text Drops Drops r s kind f g =
+    (refl, either_rest text (codes "Drop") (codes "Drops") (codes "Drop") (codes "Drops") r s f g)
 same_by_kind text (Wins w) (Wins v) r s kind f g =
     let both = win_same text w v r s f g in (ap Wins both.0, both.1)
-same_by_kind text (Turn d l) (Doubles m) r s kind f g = absurd kind
-same_by_kind text (Turn d l) Takes r s kind f g = absurd kind
-same_by_kind text (Turn d l) Drops r s kind f g = absurd kind
-same_by_kind text (Turn d l) (Wins v) r s kind f g = absurd kind
-same_by_kind text (Doubles n) (Turn e k) r s kind f g = absurd kind
-same_by_kind text (Doubles n) Takes r s kind f g = absurd kind
-same_by_kind text (Doubles n) Drops r s kind f g = absurd kind
-same_by_kind text (Doubles n) (Wins v) r s kind f g = absurd kind
-same_by_kind text Takes (Turn e k) r s kind f g = absurd kind
-same_by_kind text Takes (Doubles m) r s kind f g = absurd kind
-same_by_kind text Takes Drops r s kind f g = absurd kind
-same_by_kind text Takes (Wins v) r s kind f g = absurd kind
-same_by_kind text Drops (Turn e k) r s kind f g = absurd kind
-same_by_kind text Drops (Doubles m) r s kind f g = absurd kind
-same_by_kind text Drops Takes r s kind f g = absurd kind
-same_by_kind text Drops (Wins v) r s kind f g = absurd kind
-same_by_kind text (Wins w) (Turn e k) r s kind f g = absurd kind
-same_by_kind text (Wins w) (Doubles m) r s kind f g = absurd kind
-same_by_kind text (Wins w) Takes r s kind f g = absurd kind
-same_by_kind text (Wins w) Drops r s kind f g = absurd kind
+same_by_kind text (Turn d l) (Doubles m) r s kind f g = absurd (omega (arith, kind))
+same_by_kind text (Turn d l) Takes r s kind f g = absurd (omega (arith, kind))
+same_by_kind text (Turn d l) Drops r s kind f g = absurd (omega (arith, kind))
+same_by_kind text (Turn d l) (Wins v) r s kind f g = absurd (omega (arith, kind))
+same_by_kind text (CannotMove d) (Doubles m) r s kind f g = absurd (omega (arith, kind))
+same_by_kind text (CannotMove d) Takes r s kind f g = absurd (omega (arith, kind))
+same_by_kind text (CannotMove d) Drops r s kind f g = absurd (omega (arith, kind))
+same_by_kind text (CannotMove d) (Wins v) r s kind f g = absurd (omega (arith, kind))
+same_by_kind text (Unknown d) (Doubles m) r s kind f g = absurd (omega (arith, kind))
+same_by_kind text (Unknown d) Takes r s kind f g = absurd (omega (arith, kind))
+same_by_kind text (Unknown d) Drops r s kind f g = absurd (omega (arith, kind))
+same_by_kind text (Unknown d) (Wins v) r s kind f g = absurd (omega (arith, kind))
+same_by_kind text (Doubles n) (Turn e k) r s kind f g = absurd (omega (arith, kind))
+same_by_kind text (Doubles n) (CannotMove e) r s kind f g = absurd (omega (arith, kind))
+same_by_kind text (Doubles n) (Unknown e) r s kind f g = absurd (omega (arith, kind))
+same_by_kind text (Doubles n) Takes r s kind f g = absurd (omega (arith, kind))
+same_by_kind text (Doubles n) Drops r s kind f g = absurd (omega (arith, kind))
+same_by_kind text (Doubles n) (Wins v) r s kind f g = absurd (omega (arith, kind))
+same_by_kind text Takes (Turn e k) r s kind f g = absurd (omega (arith, kind))
+same_by_kind text Takes (CannotMove e) r s kind f g = absurd (omega (arith, kind))
+same_by_kind text Takes (Unknown e) r s kind f g = absurd (omega (arith, kind))
+same_by_kind text Takes (Doubles m) r s kind f g = absurd (omega (arith, kind))
+same_by_kind text Takes Drops r s kind f g = absurd (omega (arith, kind))
+same_by_kind text Takes (Wins v) r s kind f g = absurd (omega (arith, kind))
+same_by_kind text Drops (Turn e k) r s kind f g = absurd (omega (arith, kind))
+same_by_kind text Drops (CannotMove e) r s kind f g = absurd (omega (arith, kind))
+same_by_kind text Drops (Unknown e) r s kind f g = absurd (omega (arith, kind))
+same_by_kind text Drops (Doubles m) r s kind f g = absurd (omega (arith, kind))
+same_by_kind text Drops Takes r s kind f g = absurd (omega (arith, kind))
+same_by_kind text Drops (Wins v) r s kind f g = absurd (omega (arith, kind))
+same_by_kind text (Wins w) (Turn e k) r s kind f g = absurd (omega (arith, kind))
+same_by_kind text (Wins w) (CannotMove e) r s kind f g = absurd (omega (arith, kind))
+same_by_kind text (Wins w) (Unknown e) r s kind f g = absurd (omega (arith, kind))
+same_by_kind text (Wins w) (Doubles m) r s kind f g = absurd (omega (arith, kind))
+same_by_kind text (Wins w) Takes r s kind f g = absurd (omega (arith, kind))
+same_by_kind text (Wins w) Drops r s kind f g = absurd (omega (arith, kind))
 
 -- a text begins with one cell, and one rest follows
 pub cell_same : (text : List ℕ) (a b : Cell) (r s : List ℕ) → TellsCell text a r → TellsCell text b s → (a ≡ b) × (r ≡ s)
-cell_same text a b r s f g =
-    let (after, one) = cell_head text a r f in
-    let (then, two) = cell_head text b s g in
-    same_by_kind text a b r s (head_kind a b (first_word_same text (head_of a) after (head_of b) then one two).0) f g
+cell_same text a b r s f g = same_by_kind text a b r s (kinds_same text a b r s f g) f g

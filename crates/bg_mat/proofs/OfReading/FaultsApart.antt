@@ -1,26 +1,14 @@
 -- A line that is no row is none for one fault.
-use Rattle.std.specs.Prelude.{◌≡◌, ◌⊎◌, ◌+◌, ℕ, List, ◌∷◌, codes}
-use Rattle.std.proofs.Common.{refl, sym, ◌∙◌, subst, inl, inr, arith}
-use Rattle.bg_turns.specs.Dice.{first_pips, second_pips}
-use Rattle.bg_turns.specs.declared.throws.Dice.{Dice}
-use Rattle.bg_mat.specs.Rows.Cells.{IsDiceWord}
-use Rattle.bg_mat.specs.Rows.RowFaults.{IsBeaver, IsBeaverWord, IsCellPlace, IsPlaceFault, IsRowPlace, IsTooLong, RowFaultsDiffer}
+use Rattle.std.specs.Prelude.{◌≡◌, ◌⊎◌, ℕ, List}
+use Rattle.std.proofs.Common.{refl, sym, ◌∙◌, subst, inl, inr}
+use Rattle.bg_mat.specs.Rows.RowFaults.{IsBeaver, IsCellPlace, IsPlaceFault, IsRowPlace, IsTooLong, RowFaultsDiffer}
 use Rattle.bg_mat.specs.declared.faults.MatFault.{MatFault}
 use Rattle.bg_mat.specs.declared.faults.MatFault.TheVariants as why
-use Rattle.bg_mat.proofs.OfReading.CellHeads.{lengths_apart}
 use Rattle.bg_mat.proofs.OfReading.CellLemmas.{cell_same}
-use Rattle.bg_mat.proofs.OfReading.RowLemmas.{beaver_none, long_none, skip_same}
-use Rattle.bg_mat.proofs.OfReading.WordLemmas.{first_word_same}
-
-dice_no_beaver : (word : List ℕ) (dice : Dice) → IsDiceWord word dice → IsBeaverWord word → ⊥
-dice_no_beaver word dice is (inl e) =
-    lengths_apart ((48 + first_pips dice) ∷ (48 + second_pips dice) ∷ codes ":") (codes "Beavers") (λ n. omega (arith, n)) (sym is ∙ e)
-dice_no_beaver word dice is (inr e) =
-    lengths_apart ((48 + first_pips dice) ∷ (48 + second_pips dice) ∷ codes ":") (codes "Raccoons") (λ n. omega (arith, n)) (sym is ∙ e)
+use Rattle.bg_mat.proofs.OfReading.RowLemmas.{beaver_no_dice, beaver_none, long_none, skip_same}
 
 not_both : (text : List ℕ) → IsBeaver text → IsTooLong text → ⊥
-not_both text (word, rest, first, beaver) (other, after, dice, one, is, many) =
-    dice_no_beaver other dice is (subst IsBeaverWord (first_word_same text word rest other after first one).0 beaver)
+not_both text beaver (after, dice, is, many) = beaver_no_dice text dice after beaver is
 
 places_apart : (cells t u : List ℕ) → IsCellPlace cells t → IsCellPlace cells u → IsBeaver t → IsTooLong u → ⊥
 places_apart cells t u (inl e) (inl f) b l = not_both cells (subst IsBeaver e b) (subst IsTooLong f l)
@@ -47,6 +35,8 @@ one_of_three P why.WrongScores h = absurd h
 one_of_three P why.GameGoesOn h = absurd h
 one_of_three P why.GameOver h = absurd h
 one_of_three P why.OutOfTurn h = absurd h
+one_of_three P why.ResignsOutOfTurn h = absurd h
+one_of_three P why.UnknownTurn h = absurd h
 one_of_three P why.NoSuchTurn h = absurd h
 one_of_three P why.WrongHits h = absurd h
 one_of_three P why.WrongCube h = absurd h

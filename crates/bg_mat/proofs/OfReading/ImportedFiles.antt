@@ -5,7 +5,7 @@ use Rattle.bg_match.specs.Match.{Log, empty_log}
 use Rattle.bg_match.specs.Terms.{Terms, terms_of}
 use Rattle.bg_match.specs.declared.limits.Rules.{Rules}
 use Rattle.bg_match.specs.declared.entries.Entry.{Entry}
-use Rattle.bg_mat.specs.Files.{Imports, TellsFile, start_place}
+use Rattle.bg_mat.specs.Files.{ReadsFile, TellsFile, start_place}
 use Rattle.bg_mat.specs.Rows.Headings.{IsLengthLine}
 use Rattle.bg_text.specs.Judge.Judging.{lines_of}
 use Rattle.bg_mat.specs.Reading.{ReadsGames}
@@ -18,10 +18,10 @@ begins_at : (begun : Log) (r : Replay) (terms : Terms) → begun.terms ≡ terms
     → place_of r ≡ start_place terms
 begins_at begun r terms is b = rw (b.standing, b.game, b.before, is) refl
 
-pub file_imported : (id : ℕ) (rules : Rules) (input rest line after : List ℕ) (n points : ℕ) (begun : Log) (r : Replay) (log : Log) (lines : List ℕ)
-    → ((p : ℕ) (told : List Told) → TellsFile n (lines_of rest) p told → TellsFile 1 (lines_of input) p told)
+pub file_imported : (id : ℕ) (rules : Rules) (input : List (List ℕ)) (rest line after : List ℕ) (n points : ℕ) (begun : Log) (r : Replay) (log : Log) (lines : List ℕ)
+    → ((p : ℕ) (told : List Told) → TellsFile n (lines_of rest) p told → TellsFile 1 input p told)
     → lines_of rest ≡ line ∷ lines_of after → IsLengthLine line points → begun ≡ empty_log id (terms_of points rules)
-    → Begins begun r → ReadsGames r (n + 1) (lines_of after) log lines → Imports id rules input log lines
+    → Begins begun r → ReadsGames r (n + 1) (lines_of after) log lines → ReadsFile id rules input log lines
 file_imported id rules input rest line after n points begun r log lines from split is begins b g =
     let terms : begun.terms ≡ terms_of points rules = ap (λ (l : Log). l.terms) begins in
     let grown_terms : log.terms ≡ r.log.terms = ap (λ (l : Log). l.terms) g.grown in

@@ -1,5 +1,5 @@
 -- Legs that are added one behind the other.
-use Rattle.std.specs.Prelude.{◌≡◌, ℕ, ◌+◌, ◌-◌, ◌≤◌, true, List, [], ◌∷◌, ◌++◌, length, take, drop, nat_eq, codes, Result, Ok, Err, IfOk, OnOk}
+use Rattle.std.specs.Prelude.{◌≡◌, ℕ, ◌+◌, ◌-◌, ◌≤◌, true, List, [], ◌∷◌, ◌++◌, length, take, drop, nat_eq, codes, Option, None, Some, MatchOption, Result, Ok, Err, IfOk, OnOk}
 use Rattle.std.specs.Cmp.Lexicographic.{pointwise, same_text}
 use Rattle.std.proofs.Common.{append_assoc, refl, sym, ◌∙◌, ap, arith, length-drop}
 use Rattle.std.proofs.lemmas.List.{take-append-drop, take_all}
@@ -15,6 +15,11 @@ on_ok (Err e) f h = h
 pub if_ok : {A E : Type 0} {P Q : A → Type 0} (r : Result A E) → ((x : A) → P x → Q x) → IfOk r P → IfOk r Q
 if_ok (Ok x) f h = f x h
 if_ok (Err e) f h = h
+
+pub if_found : {A : Type 0} {N M : Type 0} {P Q : A → Type 0} (found : Option A) → (N → M) → ((x : A) → P x → Q x)
+    → MatchOption found N P → MatchOption found M Q
+if_found None none some h = none h
+if_found (Some x) none some h = some x h
 
 -- what is left of a text behind what it begins with
 pub begins : (line start rest : List ℕ) → (pointwise nat_eq (take (length start) line) start ≡ true) × (rest ≡ drop (length start) line) × (length rest + length start ≡ length line) → line ≡ start ++ rest

@@ -1,12 +1,14 @@
 -- A movement is read in one way.
-use Rattle.std.specs.Prelude.{◌≡◌, ◌≢◌, ◌⊎◌, ℕ, ◌+◌, ◌<◌, ◌≤◌, Bool, true, false, List, [], ◌∷◌, ◌++◌, codes}
+use Rattle.std.specs.Prelude.{◌≡◌, ◌≢◌, ◌⊎◌, ℕ, ◌+◌, ◌<◌, ◌≤◌, Bool, true, false, List, [], ◌∷◌, ◌++◌, codes, length, map}
 use Rattle.std.proofs.Common.{append_assoc, refl, sym, ◌∙◌, ap, subst, inl, inr, arith}
-use Rattle.std.specs.Char.{is_ascii_digit}
+use Rattle.std.specs.Char.{is_ascii_digit, to_ascii_lowercase}
 use Rattle.std.specs.List.{AllByRecursion}
 use Rattle.std.specs.Str.{all_ascii_digits}
-use Rattle.std.proofs.lemmas.Bool.{and_parts}
+use Rattle.std.proofs.lemmas.Bool.{and_parts, cases_lt}
+use Rattle.std.proofs.lemmas.Str.Ascii.{lowercase_is}
 use Rattle.bg_mat.specs.Legs.{IsPointText, TellsLeg, TellsLegs, TellsPath, TellsWord, mark}
 use Rattle.bg_mat.specs.Rows.Numbers.{IsNumber}
+use Rattle.bg_mat.specs.Rows.Words.{SameLetters}
 use Rattle.bg_mat.specs.declared.movements.legs.Leg.{Leg}
 
 abbrev pub AllOf : (ℕ → Type 0) → List ℕ → Type 0
@@ -53,29 +55,79 @@ all_weaker P Q f (x ∷ a) h = (f x h.0, all_weaker P Q f a h.1)
 abbrev pub IsHigh : ℕ → Type 0
 IsHigh byte = 48 ≤ byte
 
-digit_high : (x : ℕ) → is_ascii_digit x ≡ true → 48 ≤ x
-digit_high x h = grind (arith, h)
+digit_all : (P : ℕ → Type 0) → ((b : ℕ) → 48 ≤ b → b ≤ 57 → P b) → (x : ℕ) → is_ascii_digit x ≡ true → P x
+digit_all P digit x h = digit x (grind (arith, h)) (grind (arith, h))
 
-digits_high : (word : List ℕ) → all_ascii_digits word ≡ true → AllOf IsHigh word
-digits_high [] h = tt
-digits_high (x ∷ word) h =
-    let k = and_parts (is_ascii_digit x) (all_ascii_digits word) h in (digit_high x k.0, digits_high word k.1)
+digits_all : (P : ℕ → Type 0) → ((b : ℕ) → 48 ≤ b → b ≤ 57 → P b) → (word : List ℕ) → all_ascii_digits word ≡ true → AllOf P word
+digits_all P digit [] h = tt
+digits_all P digit (x ∷ word) h =
+    let k = and_parts (is_ascii_digit x) (all_ascii_digits word) h in (digit_all P digit x k.0, digits_all P digit word k.1)
 
-high_codes : (a b c : ℕ) → 48 ≤ a → 48 ≤ b → 48 ≤ c → AllOf IsHigh (a ∷ b ∷ c ∷ [])
-high_codes a b c h k l = (h, (k, (l, tt)))
+pub lower_low : (c : ℕ) → c < 65 → to_ascii_lowercase c ≡ c
+lower_low c low = (lowercase_is c).1 low
+
+-- a letter in lower case stands for a letter
+letter_high : (x y : ℕ) → to_ascii_lowercase x ≡ y → 65 ≤ y → 65 ≤ x
+letter_high x y is high = elim (cases_lt x 65) [
+  | inl below ↦ let same : to_ascii_lowercase x ≡ x = lower_low x below in omega (arith, is, same, high)
+  | inr above ↦ omega (arith, above)
+]
+
+pub letters_all : (P : ℕ → Type 0) → ((b : ℕ) → 65 ≤ b → P b) → (word low : List ℕ) → map to_ascii_lowercase word ≡ low
+    → AllOf (λ b. 65 ≤ b) low → AllOf P word
+letters_all P letter [] low e high = tt
+letters_all P letter (x ∷ word) [] e high = absurd (cc (e))
+letters_all P letter (x ∷ word) (y ∷ low) e high =
+    let one : to_ascii_lowercase x ≡ y = cc in
+    let more : map to_ascii_lowercase word ≡ low = cc in
+    (letter x (letter_high x y one high.0), letters_all P letter word low more high.1)
+
+three_letters : (a b c : ℕ) → 65 ≤ a → 65 ≤ b → 65 ≤ c → AllOf (λ x. 65 ≤ x) (a ∷ b ∷ c ∷ [])
+three_letters a b c h k l = (h, (k, (l, tt)))
+
+pub point_all : (P : ℕ → Type 0) → ((b : ℕ) → 48 ≤ b → b ≤ 57 → P b) → ((b : ℕ) → 65 ≤ b → P b)
+    → (word : List ℕ) (point : ℕ) → IsPointText word point → AllOf P word
+point_all P digit letter word point (inl (at, is)) =
+    letters_all P letter word (codes "bar") is (three_letters 98 97 114 (omega arith) (omega arith) (omega arith))
+point_all P digit letter word point (inr (inl (at, is))) =
+    letters_all P letter word (codes "off") is (three_letters 111 102 102 (omega arith) (omega arith) (omega arith))
+point_all P digit letter word point (inr (inr is)) = digits_all P digit word is.digits
 
 pub point_high : (word : List ℕ) (point : ℕ) → IsPointText word point → AllOf IsHigh word
-point_high word point (inl (at, inl is)) = rw is (high_codes 98 97 114 (omega arith) (omega arith) (omega arith))
-point_high word point (inl (at, inr is)) = rw is (high_codes 66 97 114 (omega arith) (omega arith) (omega arith))
-point_high word point (inr (inl (at, inl is))) = rw is (high_codes 111 102 102 (omega arith) (omega arith) (omega arith))
-point_high word point (inr (inl (at, inr is))) = rw is (high_codes 79 102 102 (omega arith) (omega arith) (omega arith))
-point_high word point (inr (inr is)) = digits_high word is.digits
+point_high word point is = point_all IsHigh (λ b low few. low) (λ b high. omega (arith, high)) word point is
 
--- a number is no word of letters
-no_letters : (word letters : List ℕ) (n : ℕ) → all_ascii_digits letters ≡ false → word ≡ letters → IsNumber word n → ⊥
-no_letters word letters n none is number =
-    let digits : all_ascii_digits letters ≡ true = subst (λ (w : List ℕ). all_ascii_digits w ≡ true) is number.digits in
-    absurd (cc (digits, none))
+-- all bytes of a movement
+mark_all : (P : ℕ → Type 0) → P 42 → (hits : Bool) → AllOf P (mark hits)
+mark_all P is true = (is, tt)
+mark_all P is false = tt
+
+pub legs_all : (P : ℕ → Type 0) → ((b : ℕ) → 48 ≤ b → b ≤ 57 → P b) → ((b : ℕ) → 65 ≤ b → P b) → P 47 → P 42
+    → (from : ℕ) (text : List ℕ) (legs : List Leg) → TellsLegs from text legs → AllOf P text
+legs_all P digit letter slash star from text [] e = rw e tt
+legs_all P digit letter slash star from text (leg ∷ legs) (word, rest, e, first, more) =
+    let own : AllOf P (first.point ++ mark leg.hits) =
+    all_both P first.point (mark leg.hits) (point_all P digit letter first.point leg.step.to first.ends) (mark_all P star leg.hits) in
+    let here : AllOf P word = subst (AllOf P) (sym first.marked) own in
+    rw e (slash, all_both P word rest here (legs_all P digit letter slash star leg.step.to rest legs more))
+
+pub path_all : (P : ℕ → Type 0) → ((b : ℕ) → 48 ≤ b → b ≤ 57 → P b) → ((b : ℕ) → 65 ≤ b → P b) → P 47 → P 42
+    → (text : List ℕ) (legs : List Leg) → TellsPath text legs → AllOf P text
+path_all P digit letter slash star text legs (from, start, rest, e, is, all, some) =
+    rw e (all_both P start rest (point_all P digit letter start from is) (legs_all P digit letter slash star from rest legs all))
+
+-- a bracket, a digit and a bracket
+pub bracketed : (word path : List ℕ) (count : ℕ) → word ≡ path ++ codes "(" ++ (48 + count) ∷ codes ")"
+    → word ≡ path ++ (40 ∷ (48 + count) ∷ codes ")")
+bracketed word path count e = e ∙ append_assoc path (codes "(") ((48 + count) ∷ codes ")")
+
+pub word_all : (P : ℕ → Type 0) → ((b : ℕ) → 48 ≤ b → b ≤ 57 → P b) → ((b : ℕ) → 65 ≤ b → P b) → P 47 → P 42 → P 40 → P 41
+    → (word : List ℕ) (legs : List Leg) → TellsWord word legs → AllOf P word
+word_all P digit letter slash star begin shut word legs (path, count, once, inl (e, one), tells, all) =
+    rw e (path_all P digit letter slash star path once tells)
+word_all P digit letter slash star begin shut word legs (path, count, once, inr (low, few, e), tells, all) =
+    rw (bracketed word path count e) (all_both P path (40 ∷ (48 + count) ∷ codes ")")
+    (path_all P digit letter slash star path once tells)
+    (begin, (digit (48 + count) (omega arith) (omega (arith, few)), (shut, tt))))
 
 -- lists that begin otherwise
 pub apart : (a b : ℕ) (x y : List ℕ) → (a ≡ b → ⊥) → a ∷ x ≡ b ∷ y → ⊥
@@ -90,28 +142,38 @@ head_same a b x y e = cc
 pub tail_same : (a b : ℕ) (x y : List ℕ) → a ∷ x ≡ b ∷ y → x ≡ y
 tail_same a b x y e = cc
 
-other_letters : (word : List ℕ) (a b : ℕ) (x y : List ℕ) → (a ≡ b → ⊥) → word ≡ a ∷ x → word ≡ b ∷ y → ⊥
-other_letters word a b x y other e d = apart a b x y other (sym e ∙ d)
+-- a word of letters
+letters_number : (word low : List ℕ) (n : ℕ) → map to_ascii_lowercase word ≡ low → AllOf (λ b. 65 ≤ b) low → 0 < length low
+    → IsNumber word n → ⊥
+letters_number [] [] n e high some is = absurd (omega (arith, some))
+letters_number [] (y ∷ low) n e high some is = absurd (cc (e))
+letters_number (x ∷ word) [] n e high some is = absurd (omega (arith, some))
+letters_number (x ∷ word) (y ∷ low) n e high some is =
+    let one : to_ascii_lowercase x ≡ y = cc in
+    let letter = letter_high x y one high.0 in
+    let digit = (and_parts (is_ascii_digit x) (all_ascii_digits word) is.digits).0 in
+    digit_all (λ b. 65 ≤ b → ⊥) (λ b low few h. omega (arith, few, h)) x digit letter
+
+bar_number : (word : List ℕ) (n : ℕ) → SameLetters word (codes "bar") → IsNumber word n → ⊥
+bar_number word n e is =
+    letters_number word (codes "bar") n e (three_letters 98 97 114 (omega arith) (omega arith) (omega arith)) (omega arith) is
+
+off_number : (word : List ℕ) (n : ℕ) → SameLetters word (codes "off") → IsNumber word n → ⊥
+off_number word n e is =
+    letters_number word (codes "off") n e (three_letters 111 102 102 (omega arith) (omega arith) (omega arith)) (omega arith) is
+
+bar_no_off : (word : List ℕ) → SameLetters word (codes "bar") → SameLetters word (codes "off") → ⊥
+bar_no_off word e d = apart 98 111 (codes "ar") (codes "ff") (λ f. omega (arith, f)) (sym e ∙ d)
 
 pub point_same : (word : List ℕ) (p q : ℕ) → IsPointText word p → IsPointText word q → p ≡ q
 point_same word p q (inl (at, is)) (inl (there, other)) = at ∙ sym there
-point_same word p q (inl (at, inl is)) (inr (inl (there, inl other))) = absurd (other_letters word 98 111 (97 ∷ 114 ∷ []) (102 ∷ 102 ∷ []) (λ e. omega (arith, e)) is other)
-point_same word p q (inl (at, inl is)) (inr (inl (there, inr other))) = absurd (other_letters word 98 79 (97 ∷ 114 ∷ []) (102 ∷ 102 ∷ []) (λ e. omega (arith, e)) is other)
-point_same word p q (inl (at, inr is)) (inr (inl (there, inl other))) = absurd (other_letters word 66 111 (97 ∷ 114 ∷ []) (102 ∷ 102 ∷ []) (λ e. omega (arith, e)) is other)
-point_same word p q (inl (at, inr is)) (inr (inl (there, inr other))) = absurd (other_letters word 66 79 (97 ∷ 114 ∷ []) (102 ∷ 102 ∷ []) (λ e. omega (arith, e)) is other)
-point_same word p q (inl (at, inl is)) (inr (inr number)) = absurd (no_letters word (codes "bar") q refl is number)
-point_same word p q (inl (at, inr is)) (inr (inr number)) = absurd (no_letters word (codes "Bar") q refl is number)
-point_same word p q (inr (inl (at, inl is))) (inl (there, inl other)) = absurd (other_letters word 111 98 (102 ∷ 102 ∷ []) (97 ∷ 114 ∷ []) (λ e. omega (arith, e)) is other)
-point_same word p q (inr (inl (at, inl is))) (inl (there, inr other)) = absurd (other_letters word 111 66 (102 ∷ 102 ∷ []) (97 ∷ 114 ∷ []) (λ e. omega (arith, e)) is other)
-point_same word p q (inr (inl (at, inr is))) (inl (there, inl other)) = absurd (other_letters word 79 98 (102 ∷ 102 ∷ []) (97 ∷ 114 ∷ []) (λ e. omega (arith, e)) is other)
-point_same word p q (inr (inl (at, inr is))) (inl (there, inr other)) = absurd (other_letters word 79 66 (102 ∷ 102 ∷ []) (97 ∷ 114 ∷ []) (λ e. omega (arith, e)) is other)
+point_same word p q (inl (at, is)) (inr (inl (there, other))) = absurd (bar_no_off word is other)
+point_same word p q (inl (at, is)) (inr (inr number)) = absurd (bar_number word q is number)
+point_same word p q (inr (inl (at, is))) (inl (there, other)) = absurd (bar_no_off word other is)
 point_same word p q (inr (inl (at, is))) (inr (inl (there, other))) = at ∙ sym there
-point_same word p q (inr (inl (at, inl is))) (inr (inr number)) = absurd (no_letters word (codes "off") q refl is number)
-point_same word p q (inr (inl (at, inr is))) (inr (inr number)) = absurd (no_letters word (codes "Off") q refl is number)
-point_same word p q (inr (inr number)) (inl (there, inl other)) = absurd (no_letters word (codes "bar") p refl other number)
-point_same word p q (inr (inr number)) (inl (there, inr other)) = absurd (no_letters word (codes "Bar") p refl other number)
-point_same word p q (inr (inr number)) (inr (inl (there, inl other))) = absurd (no_letters word (codes "off") p refl other number)
-point_same word p q (inr (inr number)) (inr (inl (there, inr other))) = absurd (no_letters word (codes "Off") p refl other number)
+point_same word p q (inr (inl (at, is))) (inr (inr number)) = absurd (off_number word q is number)
+point_same word p q (inr (inr number)) (inl (there, other)) = absurd (bar_number word p other number)
+point_same word p q (inr (inr number)) (inr (inl (there, other))) = absurd (off_number word p other number)
 point_same word p q (inr (inr number)) (inr (inr other)) = number.value ∙ sym other.value
 
 -- legs begin with a slash, or there are none
@@ -199,34 +261,13 @@ path_same text a b (from, start, rest, e, is, legs, some) (other, begin, more, d
 abbrev pub IsPathByte : ℕ → Type 0
 IsPathByte byte = byte ≢ 40
 
-high_path : (byte : ℕ) → IsHigh byte → IsPathByte byte
-high_path byte high e = omega arith
-
-mark_path : (hits : Bool) → AllOf IsPathByte (mark hits)
-mark_path true = (λ e. omega arith, tt)
-mark_path false = tt
-
-legs_path : (from : ℕ) (text : List ℕ) (legs : List Leg) → TellsLegs from text legs → AllOf IsPathByte text
-legs_path from text [] e = rw e tt
-legs_path from text (leg ∷ legs) (word, rest, e, first, more) =
-    let own : AllOf IsPathByte (first.point ++ mark leg.hits) =
-    all_both IsPathByte first.point (mark leg.hits)
-    (all_weaker IsHigh IsPathByte high_path first.point (point_high first.point leg.step.to first.ends)) (mark_path leg.hits) in
-    let here : AllOf IsPathByte word = subst (AllOf IsPathByte) (sym first.marked) own in
-    rw e (λ d. omega arith, all_both IsPathByte word rest here (legs_path leg.step.to rest legs more))
-
 pub path_path : (text : List ℕ) (legs : List Leg) → TellsPath text legs → AllOf IsPathByte text
-path_path text legs (from, start, rest, e, is, all, some) =
-    rw e (all_both IsPathByte start rest
-    (all_weaker IsHigh IsPathByte high_path start (point_high start from is)) (legs_path from rest legs all))
+path_path text legs tells =
+    path_all IsPathByte (λ b low few e. omega (arith, low, e)) (λ b high e. omega (arith, high, e)) (λ e. omega (arith, e)) (λ e. omega (arith, e))
+    text legs tells
 
 pub bracket_none : (path behind : List ℕ) → AllOf IsPathByte (path ++ 40 ∷ behind) → ⊥
 bracket_none path behind h = (all_right IsPathByte path (40 ∷ behind) h).0 refl
-
--- a bracket, a digit and a bracket
-pub bracketed : (word path : List ℕ) (count : ℕ) → word ≡ path ++ codes "(" ++ (48 + count) ∷ codes ")"
-    → word ≡ path ++ (40 ∷ (48 + count) ∷ codes ")")
-bracketed word path count e = e ∙ append_assoc path (codes "(") ((48 + count) ∷ codes ")")
 
 -- a word of a movement tells its legs in one way
 pub word_same : (word : List ℕ) (a b : List Leg) → TellsWord word a → TellsWord word b → a ≡ b

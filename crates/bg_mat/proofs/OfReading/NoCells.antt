@@ -1,12 +1,14 @@
--- Which words begin no double, no points and no win.
-use Rattle.std.specs.Prelude.{◌≡◌, ℕ, Bool, true, false, List, [], ◌∷◌, codes}
+-- Which words begin no double, no points, no win, and nothing in place of a movement.
+use Rattle.std.specs.Prelude.{◌≡◌, ◌==◌, ℕ, Bool, true, false, Option, Some, None, List, [], ◌∷◌, codes}
 use Rattle.std.proofs.Common.{refl, subst}
-use Rattle.bg_mat.specs.Rows.Cells.{EndsWin, TellsDouble, TellsPoints, TellsWin, ending}
+use Rattle.std.specs.List.{All}
+use Rattle.bg_mat.specs.Rows.Cells.{BeginsArrow, EndsWin, SaysCannotMove, SaysDouble, SaysUnknown, TellsDouble, TellsPoints, TellsWin, ending}
 use Rattle.bg_mat.specs.Rows.Headings.{IsPoints}
 use Rattle.bg_mat.specs.Rows.Numbers.{IsNumber}
-use Rattle.bg_mat.specs.Rows.Words.{BeginsWith, IsBlankText, IsFirstWord}
+use Rattle.bg_mat.specs.Rows.Words.{BeginsWith, IsBlankText, IsFirstWord, Says, SaysAll, SaysEither}
 use Rattle.bg_mat.specs.declared.rows.cells.Win.{Win}
-use Rattle.bg_mat.proofs.OfReading.CellLemmas.{points_same}
+use Rattle.bg_mat.proofs.OfReading.CellLemmas.{arrow_same, doubles_same, points_same}
+use Rattle.bg_mat.proofs.OfReading.HeadingLemmas.{either_rest, says_rest}
 use Rattle.bg_mat.proofs.OfReading.WordLemmas.{first_word_same, no_first_word}
 
 pub no_points_word : (text : List ℕ) → IsBlankText text → (n : ℕ) (r : List ℕ) → TellsPoints text n r → ⊥
@@ -38,76 +40,93 @@ no_points_name text number rest word behind first second none n r h =
     let (other, end, two, points) = (points_words text number rest n r first h).1 in
     none (subst IsPoints (first_word_same rest other end word behind two second).0 points)
 
-pub no_double_word : (text : List ℕ) → ((r : List ℕ) → IsFirstWord text (codes "Doubles") r → ⊥)
-    → (n : ℕ) (r : List ℕ) → TellsDouble text n r → ⊥
-no_double_word text none n r (number, (after, first, more), digits) = none after first
-
-pub no_double_arrow : (text after : List ℕ) → IsFirstWord text (codes "Doubles") after
-    → ((r : List ℕ) → IsFirstWord after (codes "=>") r → ⊥) → (n : ℕ) (r : List ℕ) → TellsDouble text n r → ⊥
-no_double_arrow text after first none n r (number, (then, one, (behind, second, more)), digits) =
-    let same = (first_word_same text (codes "Doubles") then (codes "Doubles") after one first).1 in
-    none behind (subst (λ (t : List ℕ). IsFirstWord t (codes "=>") behind) same second)
+-- what follows the name of a double
+pub no_double_word : (text : List ℕ) → ((r : List ℕ) → SaysDouble text r → ⊥) → (n : Option ℕ) (r : List ℕ) → TellsDouble text n r → ⊥
+no_double_word text none None r (is, never) = none r is
+no_double_word text none (Some n) r (after, behind, number, is, arrow, first, digits) = none after is
 
 -- the number of a double
-double_number : (text after behind : List ℕ) (n : ℕ) (r : List ℕ) → IsFirstWord text (codes "Doubles") after
-    → IsFirstWord after (codes "=>") behind → TellsDouble text n r
-    → (number end : List ℕ) × IsFirstWord behind number end × IsNumber number n
-double_number text after behind n r first second (number, (then, one, (beyond, two, (end, three, is))), digits) =
-    let a = (first_word_same text (codes "Doubles") then (codes "Doubles") after one first).1 in
-    let b = (first_word_same after (codes "=>") beyond (codes "=>") behind
-    (subst (λ (t : List ℕ). IsFirstWord t (codes "=>") beyond) a two) second).1 in
-    (number, end, subst (λ (t : List ℕ). IsFirstWord t number end) b three, digits)
+double_number : (text after behind : List ℕ) (n : Option ℕ) (r : List ℕ) → SaysDouble text after → BeginsArrow after behind
+    → TellsDouble text n r → (m : ℕ) × (number : List ℕ) × IsFirstWord behind number r × IsNumber number m
+double_number text after behind None r first second (is, never) =
+    absurd (never behind (subst (λ (t : List ℕ). BeginsArrow t behind) (doubles_same text after r first is) second))
+double_number text after behind (Some n) r first second (then, beyond, number, is, arrow, one, digits) =
+    let a = doubles_same text then after is first in
+    let b = arrow_same after beyond behind (subst (λ (t : List ℕ). BeginsArrow t beyond) a arrow) second in
+    (n, number, subst (λ (t : List ℕ). IsFirstWord t number r) b one, digits)
 
-pub no_double_end : (text after behind : List ℕ) → IsFirstWord text (codes "Doubles") after
-    → IsFirstWord after (codes "=>") behind → IsBlankText behind → (n : ℕ) (r : List ℕ) → TellsDouble text n r → ⊥
+pub no_double_end : (text after behind : List ℕ) → SaysDouble text after → BeginsArrow after behind → IsBlankText behind
+    → (n : Option ℕ) (r : List ℕ) → TellsDouble text n r → ⊥
 no_double_end text after behind first second blank n r h =
-    let (number, end, third, digits) = double_number text after behind n r first second h in
-    no_first_word behind number end blank third
+    let (m, number, third, digits) = double_number text after behind n r first second h in
+    no_first_word behind number r blank third
 
-pub no_double_number : (text after behind word rest : List ℕ) → IsFirstWord text (codes "Doubles") after
-    → IsFirstWord after (codes "=>") behind → IsFirstWord behind word rest → ((n : ℕ) → IsNumber word n → ⊥)
-    → (n : ℕ) (r : List ℕ) → TellsDouble text n r → ⊥
+pub no_double_number : (text after behind word rest : List ℕ) → SaysDouble text after → BeginsArrow after behind
+    → IsFirstWord behind word rest → ((n : ℕ) → IsNumber word n → ⊥) → (n : Option ℕ) (r : List ℕ) → TellsDouble text n r → ⊥
 no_double_number text after behind word rest first second third none n r h =
-    let (number, end, three, digits) = double_number text after behind n r first second h in
-    none n (subst (λ (w : List ℕ). IsNumber w n) (first_word_same behind number end word rest three third).0 digits)
+    let (m, number, three, digits) = double_number text after behind n r first second h in
+    none m (subst (λ (w : List ℕ). IsNumber w m) (first_word_same behind number r word rest three third).0 digits)
 
-pub no_win_word : (text : List ℕ) → ((r : List ℕ) → IsFirstWord text (codes "Wins") r → ⊥)
+pub no_win_word : (text : List ℕ) → ((r : List ℕ) → SaysEither text (codes "Win") (codes "Wins") r → ⊥)
     → (w : Win) (r : List ℕ) → TellsWin text w r → ⊥
 no_win_word text none w r (after, behind, first, points, begins, ends) = none after first
 
-pub no_win_points : (text after : List ℕ) → IsFirstWord text (codes "Wins") after
+pub no_win_points : (text after : List ℕ) → SaysEither text (codes "Win") (codes "Wins") after
     → ((n : ℕ) (r : List ℕ) → TellsPoints after n r → ⊥) → (w : Win) (r : List ℕ) → TellsWin text w r → ⊥
 no_win_points text after first none w r (then, behind, one, points, begins, ends) =
-    let same = (first_word_same text (codes "Wins") then (codes "Wins") after one first).1 in
+    let same = either_rest text (codes "Win") (codes "Wins") (codes "Win") (codes "Wins") then after one first in
     none w.points behind (subst (λ (t : List ℕ). TellsPoints t w.points behind) same points)
 
 -- a win that goes on with `and` ends the match
-no_ending : (b : Bool) (text end r : List ℕ) → IsFirstWord text (codes "and") end
-    → ((s : List ℕ) → BeginsWith end (codes "the" ∷ codes "match" ∷ []) s → ⊥) → BeginsWith text (ending b) r
+no_ending : (b : Bool) (text end r : List ℕ) → Says text (codes "and") end
+    → ((s : List ℕ) → SaysAll end (codes "the" ∷ codes "match" ∷ []) s → ⊥) → SaysAll text (ending b) r
     → (b ≡ false → EndsWin r) → ⊥
 no_ending true text end r first none (after, one, more) ends =
-    let same = (first_word_same text (codes "and") after (codes "and") end one first).1 in
-    none r (subst (λ (t : List ℕ). BeginsWith t (codes "the" ∷ codes "match" ∷ []) r) same more)
+    let same = says_rest text (codes "and") (codes "and") after end one first in
+    none r (subst (λ (t : List ℕ). SaysAll t (codes "the" ∷ codes "match" ∷ []) r) same more)
 no_ending false text end r first none is ends =
-    ends refl end (subst (λ (t : List ℕ). IsFirstWord t (codes "and") end) is first)
+    ends refl end (subst (λ (t : List ℕ). Says t (codes "and") end) is first)
 
-pub no_win_end : (text after behind end : List ℕ) (points : ℕ) → IsFirstWord text (codes "Wins") after
-    → TellsPoints after points behind → IsFirstWord behind (codes "and") end
-    → ((s : List ℕ) → BeginsWith end (codes "the" ∷ codes "match" ∷ []) s → ⊥) → (w : Win) (r : List ℕ) → TellsWin text w r → ⊥
+pub no_win_end : (text after behind end : List ℕ) (points : ℕ) → SaysEither text (codes "Win") (codes "Wins") after
+    → TellsPoints after points behind → Says behind (codes "and") end
+    → ((s : List ℕ) → SaysAll end (codes "the" ∷ codes "match" ∷ []) s → ⊥) → (w : Win) (r : List ℕ) → TellsWin text w r → ⊥
 no_win_end text after behind end points first told second none w r (then, beyond, one, more, begins, ends) =
-    let a = (first_word_same text (codes "Wins") then (codes "Wins") after one first).1 in
+    let a = either_rest text (codes "Win") (codes "Wins") (codes "Win") (codes "Wins") then after one first in
     let b = (points_same after w.points points beyond behind
     (subst (λ (t : List ℕ). TellsPoints t w.points beyond) a more) told).1 in
     no_ending w.ends_match behind end r second none
-    (subst (λ (t : List ℕ). BeginsWith t (ending w.ends_match) r) b begins) ends
+    (subst (λ (t : List ℕ). SaysAll t (ending w.ends_match) r) b begins) ends
 
-pub no_the : (end : List ℕ) → ((r : List ℕ) → IsFirstWord end (codes "the") r → ⊥)
-    → (s : List ℕ) → BeginsWith end (codes "the" ∷ codes "match" ∷ []) s → ⊥
+pub no_the : (end : List ℕ) → ((r : List ℕ) → Says end (codes "the") r → ⊥)
+    → (s : List ℕ) → SaysAll end (codes "the" ∷ codes "match" ∷ []) s → ⊥
 no_the end none s (after, first, more) = none after first
 
-pub no_match : (end behind : List ℕ) → IsFirstWord end (codes "the") behind
-    → ((r : List ℕ) → IsFirstWord behind (codes "match") r → ⊥)
-    → (s : List ℕ) → BeginsWith end (codes "the" ∷ codes "match" ∷ []) s → ⊥
+pub no_match : (end behind : List ℕ) → Says end (codes "the") behind
+    → ((r : List ℕ) → Says behind (codes "match") r → ⊥)
+    → (s : List ℕ) → SaysAll end (codes "the" ∷ codes "match" ∷ []) s → ⊥
 no_match end behind first none s (after, one, (last, second, is)) =
-    let same = (first_word_same end (codes "the") after (codes "the") behind one first).1 in
-    none last (subst (λ (t : List ℕ). IsFirstWord t (codes "match") last) same second)
+    let same = says_rest end (codes "the") (codes "the") after behind one first in
+    none last (subst (λ (t : List ℕ). Says t (codes "match") last) same second)
+
+-- a player who can't move
+pub no_cannot : (text : List ℕ) → ((r : List ℕ) → Says text (codes "Cannot") r → ⊥) → (s : List ℕ) → SaysCannotMove text s → ⊥
+no_cannot text none s (after, first, more) = none after first
+
+pub no_move : (text behind : List ℕ) → Says text (codes "Cannot") behind → ((r : List ℕ) → Says behind (codes "Move") r → ⊥)
+    → (s : List ℕ) → SaysCannotMove text s → ⊥
+no_move text behind first none s (after, one, (last, second, is)) =
+    let same = says_rest text (codes "Cannot") (codes "Cannot") after behind one first in
+    none last (subst (λ (t : List ℕ). Says t (codes "Move") last) same second)
+
+pub cannot_move : (text behind : List ℕ) → Says text (codes "Cannot") behind → (r : List ℕ) → Says behind (codes "Move") r
+    → SaysCannotMove text r
+cannot_move text behind first r second = (behind, first, (r, second, refl))
+
+-- a turn that is not known
+pub no_unknown_word : (text : List ℕ) → IsBlankText text → (r : List ℕ) → SaysUnknown text r → ⊥
+no_unknown_word text blank r (word, first, marks) = no_first_word text word r blank first
+
+pub no_unknown : (text word rest : List ℕ) → IsFirstWord text word rest → (All (λ byte. (byte == 63) ≡ true) word → ⊥)
+    → (r : List ℕ) → SaysUnknown text r → ⊥
+no_unknown text word rest first none r (other, one, marks) =
+    none (subst (λ (w : List ℕ). All (λ byte. (byte == 63) ≡ true) w) (first_word_same text other r word rest one first).0 marks)

@@ -13,23 +13,26 @@ use Rattle.bg_mat.specs.declared.awaiting.Awaited.{Awaited}
 use Rattle.bg_mat.specs.declared.awaiting.Awaited.TheVariants as awaited
 use Rattle.bg_mat.specs.declared.rows.Row.{Row}
 use Rattle.bg_mat.specs.declared.rows.cells.Cell.{Cell}
-use Rattle.bg_mat.proofs.OfReading.CellHeads.{cell_head, head_of}
+use Rattle.bg_mat.proofs.OfReading.CellHeads.{cell_opens, first_of, second_of}
 use Rattle.bg_mat.proofs.OfReading.CellLemmas.{cell_same}
-use Rattle.bg_mat.proofs.OfReading.HeadingLemmas.{game_words}
+use Rattle.bg_mat.proofs.OfReading.HeadingLemmas.{game_number_same, game_words}
+use Rattle.bg_mat.proofs.OfReading.Openings.{opens_some}
 use Rattle.bg_mat.proofs.OfReading.RowLemmas.{skip_same}
 use Rattle.bg_mat.proofs.OfReading.ToldLines.{length_told, row_no_game}
-use Rattle.bg_mat.proofs.OfReading.WordLemmas.{first_word_same, no_first_word}
+use Rattle.bg_mat.proofs.OfReading.WordLemmas.{first_word_same}
 
 blank_no_cell : (text : List ℕ) (c : Cell) (rest : List ℕ) → IsBlankText text → TellsCell text c rest → ⊥
-blank_no_cell text c rest blank tells =
-    let (after, head) = cell_head text c rest tells in no_first_word text (head_of c) after blank head
+blank_no_cell text c rest blank tells = opens_some text (first_of c) (second_of c) (cell_opens text c rest tells) blank
 
 -- the cells of a row
 cells_same : (text : List ℕ) (l r m s : Option Cell) → TellsCells text l r → TellsCells text m s → (l ≡ m) × (r ≡ s)
-cells_same text None None m s h k = absurd h
-cells_same text (Some x) None None None h k = absurd k
-cells_same text None (Some o) None None h k = absurd k
-cells_same text (Some x) (Some o) None None h k = absurd k
+cells_same text None None None None h k = (refl, refl)
+cells_same text None None (Some y) None blank (low, end, told, last) = absurd (blank_no_cell text y end blank told)
+cells_same text None None None (Some p) blank (wide, end, told, last) = absurd (blank_no_cell text p end blank told)
+cells_same text None None (Some y) (Some p) blank (low, middle, end, told, second, last) = absurd (blank_no_cell text y middle blank told)
+cells_same text (Some x) None None None (few, rest, tells, blank) k = absurd (blank_no_cell text x rest k tells)
+cells_same text None (Some o) None None (wide, rest, tells, blank) k = absurd (blank_no_cell text o rest k tells)
+cells_same text (Some x) (Some o) None None (few, middle, rest, tells, more, blank) k = absurd (blank_no_cell text x middle k tells)
 cells_same text (Some x) None (Some y) None (few, rest, tells, blank) (low, end, told, last) =
     (ap Some (cell_same text x y rest end tells told).0, refl)
 cells_same text (Some x) None None (Some p) (few, rest, tells, blank) (wide, end, told, last) = absurd (omega (arith, few, wide))
@@ -63,8 +66,8 @@ row_same line a b (cells, skips, tells) (others, skip, told) =
     row_by a b both.0 both.1
 
 game_same : (line : List ℕ) (n m : ℕ) → IsGameLine line n → IsGameLine line m → n ≡ m
-game_same line n m (number, rest, (after, first, (end, second, is)), blank, digits) h =
-    let other = (game_words line after number end m first second h).0 in digits.value ∙ sym other.value
+game_same line n m (after, number, rest, first, second, is, blank) h =
+    game_number_same number n m is (game_words line after number rest m first second h).0
 
 length_same : (line : List ℕ) (n m : ℕ) → IsLengthLine line n → IsLengthLine line m → n ≡ m
 length_same line n m (number, rest, first, digits, ends) (other, behind, one, figures, stops) =

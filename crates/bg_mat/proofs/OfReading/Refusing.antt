@@ -3,7 +3,7 @@ use Rattle.std.specs.Prelude.{◌≡◌, ℕ, ◌+◌, ◌≤◌, Bool, Option, 
 use Rattle.std.proofs.Common.{append_assoc, refl, sym, ◌∙◌, ap, subst, inl, inr}
 use Rattle.std.specs.List.{AllByRecursion}
 use Rattle.bg_mat.specs.Files.{numbered}
-use Rattle.bg_mat.specs.Rows.Headings.{IsFiller, IsLengthLine}
+use Rattle.bg_mat.specs.Rows.Headings.{IsFiller, IsHeader, IsLengthLine}
 use Rattle.bg_text.specs.Judge.Judging.{lines_of}
 use Rattle.bg_turns.specs.HasStep.{has_step}
 use Rattle.bg_match.specs.Match.{empty_log}
@@ -191,18 +191,18 @@ RefusesFrom id rules input n rest =
     (number : ℕ) (why : MatFault) → AreRefused id rules n (lines_of rest) number why → AreRefused id rules 1 (lines_of input) number why
 
 pub filler_refused : (id : ℕ) (rules : Rules) (input : List ℕ) (n : ℕ) (rest line after : List ℕ) → RefusesFrom id rules input n rest
-    → lines_of rest ≡ line ∷ lines_of after → IsFiller line → RefusesFrom id rules input (n + 1) after
+    → lines_of rest ≡ line ∷ lines_of after → IsHeader line → RefusesFrom id rules input (n + 1) after
 filler_refused id rules input n rest line after from split filler number why h = from number why (rw split (inl (filler, h)))
 
 pub begin_refused : (id : ℕ) (rules : Rules) (input : List ℕ) (n : ℕ) (rest line after : List ℕ) (fault : ReadFault) → RefusesFrom id rules input n rest
-    → lines_of rest ≡ line ∷ lines_of after → (IsFiller line → ⊥) → IsBeginFault line n fault
+    → lines_of rest ≡ line ∷ lines_of after → (IsHeader line → ⊥) → IsBeginFault line n fault
     → IsReadFault id rules (lines_of input) fault
 begin_refused id rules input n rest line after read_fault.Memory from split none h = tt
 begin_refused id rules input n rest line after (read_fault.Refused number why) from split none h =
     from number why (rw split (inr (none, inl h)))
 
 pub games_refused : (id : ℕ) (rules : Rules) (input : List ℕ) (n points : ℕ) (rest line after : List ℕ) (fault : ReadFault) → RefusesFrom id rules input n rest
-    → lines_of rest ≡ line ∷ lines_of after → (IsFiller line → ⊥) → IsLengthLine line points → 1 ≤ points → points ≤ 99
+    → lines_of rest ≡ line ∷ lines_of after → (IsHeader line → ⊥) → IsLengthLine line points → 1 ≤ points → points ≤ 99
     → (r : Replay) → Begins (empty_log id (terms_of points rules)) r
     → Refuses (AreRefusedGames r (n + 1) (lines_of after)) fault → IsReadFault id rules (lines_of input) fault
 games_refused id rules input n points rest line after read_fault.Memory from split none is low high r begins h = tt

@@ -13,7 +13,7 @@ use Rattle.bg_match.specs.declared.phases.Phase.TheVariants as phase
 use Rattle.bg_match.specs.declared.entries.Entry.{Entry}
 use Rattle.bg_match.specs.declared.entries.Entry.TheVariants as entry
 use Rattle.bg_match.proofs.Runs.{Leads-last}
-use Rattle.bg_mat.specs.Telling.{AreTold, AreOf, BringsDice, Deed, Does, Game, Scores, GoesOn, IsOver, IsOverMatch, MayResign, MovesBy, Place, Told, Turn, Wins, before_of, deed_of}
+use Rattle.bg_mat.specs.Telling.{AreTold, AreOf, BringsDice, Deed, Does, Game, Scores, GoesOn, IsOver, IsOverMatch, MayResign, MovesBy, Place, Told, Turn, CannotMove, Wins, before_of, deed_of}
 use Rattle.bg_mat.specs.Replaying.{Adds, Closes, Grows, GoesOnBy, IsReplay, Plays, Resigns, Rolls, pending_items, place_of}
 use Rattle.bg_mat.specs.declared.rows.cells.Cell.{Cell}
 use Rattle.bg_mat.specs.declared.movements.legs.Leg.{Leg}
@@ -110,6 +110,27 @@ moved old middle new line player dice legs move on closed r by a =
         same_place old new grows.game grows.before,
         (middle.standing, r.adds.follows, (new.standing, a.follows, refl)),
         (on, (r.roll, r.brings, inr (move, refl, by_old))),
+      );
+      grows = grows;
+      pending = a.pending ∙ r.adds.pending ∙ closed;
+      replay = a.replay;
+    }
+
+-- dice of a player who can't move
+pub not_moved : (old middle new : Replay) (line : ℕ) (player : Player) (dice : Dice) (move : Entry)
+    → GoesOn (place_of old) → old.pending ≡ None → Rolls old middle line player dice
+    → MovesBy middle.standing.board player dice [] move → Adds middle new line move
+    → Plays old new line player (CannotMove dice)
+not_moved old middle new line player dice move on closed r by a =
+    let board : middle.standing.board ≡ old.standing.board = rolled_board old.standing middle.standing player dice r.roll r.brings r.adds.follows in
+    let by_old : MovesBy old.standing.board player dice [] move = subst (λ (b : Position). MovesBy b player dice [] move) board by in
+    let grows = grown_twice old middle new line r.roll move r.adds.grows a.grows in
+    record {
+      entries = r.roll ∷ move ∷ [];
+      told = (
+        same_place old new grows.game grows.before,
+        (middle.standing, r.adds.follows, (new.standing, a.follows, refl)),
+        (on, (r.roll, move, r.brings, refl, by_old)),
       );
       grows = grows;
       pending = a.pending ∙ r.adds.pending ∙ closed;

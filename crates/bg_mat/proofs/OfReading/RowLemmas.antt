@@ -1,71 +1,101 @@
 -- What is no cell, and no row.
 use Rattle.std.specs.Prelude.{◌≡◌, ◌⊎◌, ◌↔◌, ℕ, ◌+◌, ◌<◌, ◌≤◌, Bool, true, false, Option, Some, None, List, [], ◌∷◌, ◌++◌, length, codes, IsTrue}
-use Rattle.std.proofs.Common.{length-append, refl, sym, ◌∙◌, ap, subst, inl, inr, arith}
+use Rattle.std.proofs.Common.{append_assoc, length-append, refl, sym, ◌∙◌, ap, subst, inl, inr, arith}
+use Rattle.bg_turns.specs.Dice.{first_pips, second_pips}
 use Rattle.bg_turns.specs.declared.throws.Dice.{Dice}
 use Rattle.bg_mat.specs.Legs.{AddsLegs, TellsWord}
 use Rattle.bg_mat.specs.declared.movements.legs.Leg.{Leg}
-use Rattle.bg_mat.specs.Rows.Cells.{BeginsDice, EndsMovement, IsDiceWord, IsRowNumber, SkipsNumber, TellsCell, TellsCells, TellsDouble, TellsWin, left_column}
+use Rattle.bg_mat.specs.Rows.Cells.{BeginsDice, EndsMovement, HasDice, SaysCannotMove, SaysUnknown, SkipsNumber, TellsCell, TellsCells, TellsDouble, TellsLegsAt, TellsWin, left_column}
 use Rattle.bg_mat.specs.Files.{TellsAwaited}
 use Rattle.bg_mat.specs.Refusals.{IsShapeFault}
 use Rattle.bg_mat.specs.Telling.{Item}
 use Rattle.bg_mat.specs.Rows.Headings.{IsGameLine}
 use Rattle.bg_mat.specs.declared.awaiting.Awaited.{Awaited}
 use Rattle.bg_mat.specs.declared.awaiting.Awaited.TheVariants as awaited
-use Rattle.bg_mat.specs.Rows.Numbers.{IsNumber}
-use Rattle.std.proofs.lemmas.List.{append_cancel_right}
 use Rattle.bg_mat.specs.Rows.RowFaults.{AreCellsFault, HasTooMany, IsBeaver, IsBeaverWord, IsCellFault, IsCellPlace, IsLastFault, IsPlaceFault, IsRowFault, IsRowPlace, IsTooLong}
-use Rattle.bg_mat.specs.Rows.Words.{BeginsWith, IsBlankText, IsFirstWord, leading_blanks}
+use Rattle.bg_mat.specs.Rows.Words.{BeginsWith, IsBlankText, IsFirstWord, SaysEither, leading_blanks}
 use Rattle.bg_mat.specs.declared.faults.MatFault.{MatFault}
 use Rattle.bg_mat.specs.declared.faults.MatFault.TheVariants as why
 use Rattle.bg_mat.specs.declared.rows.cells.Win.{Win}
 use Rattle.bg_mat.specs.declared.rows.cells.Cell.{Cell}
-use Rattle.bg_mat.specs.declared.rows.cells.Cell.TheVariants.{Turn, Doubles, Takes, Drops, Wins}
-use Rattle.bg_mat.proofs.OfReading.CellHeads.{cell_head, head_beavers, head_of, head_raccoons}
+use Rattle.bg_mat.specs.declared.rows.cells.Cell.TheVariants.{Turn, CannotMove, Unknown, Doubles, Takes, Drops, Wins}
+use Rattle.bg_mat.proofs.OfReading.CellHeads.{cell_opens, first_of, opens_no_cell, second_of}
 use Rattle.bg_mat.proofs.OfReading.CellLemmas.{cell_same, movement_most}
+use Rattle.bg_mat.proofs.OfReading.Openings.{Opens, cannot_ends, dice_open, dice_same, first_few, letters_open, number_same, opens_same, unknown_ends}
 use Rattle.bg_mat.proofs.OfReading.WordLemmas.{first_word_same, no_first_word}
 use Rattle.bg_mat.proofs.OfReading.Replays.{nothing_more}
 
--- the first word of a text is that of its cell
-head_is : (text : List ℕ) (c : Cell) (rest word behind : List ℕ) → TellsCell text c rest → IsFirstWord text word behind
-    → head_of c ≡ word
-head_is text c rest word behind tells first =
-    let (after, head) = cell_head text c rest tells in
-    (first_word_same text (head_of c) after word behind head first).0
+-- a double of a double is no cell
+beaver_word : (text word rest : List ℕ) → IsFirstWord text word rest → IsBeaverWord word → Opens text 98 101 ⊎ Opens text 114 97
+beaver_word text word rest f is = at is where
+  spelled : text ≡ f.blanks ++ (word ++ rest)
+  spelled = f.spelled ∙ append_assoc f.blanks word rest
 
-no_beaver : (c : Cell) (word : List ℕ) → head_of c ≡ word → (word ≡ codes "Beavers") ⊎ (word ≡ codes "Raccoons") → ⊥
-no_beaver c word same (inl e) = head_beavers c (same ∙ e)
-no_beaver c word same (inr e) = head_raccoons c (same ∙ e)
+  at : IsBeaverWord word → Opens text 98 101 ⊎ Opens text 114 97
+  at (inl (inl e)) = inl (letters_open text f.blanks word rest 98 101 (codes "aver") f.blank spelled e (omega arith))
+  at (inl (inr e)) = inl (letters_open text f.blanks word rest 98 101 (codes "avers") f.blank spelled e (omega arith))
+  at (inr (inl e)) = inr (letters_open text f.blanks word rest 114 97 (codes "ccoon") f.blank spelled e (omega arith))
+  at (inr (inr e)) = inr (letters_open text f.blanks word rest 114 97 (codes "ccoons") f.blank spelled e (omega arith))
+
+beaver_opens : (text : List ℕ) → IsBeaver text → Opens text 98 101 ⊎ Opens text 114 97
+beaver_opens text (word, rest, f, is) = beaver_word text word rest f is
 
 pub beaver_none : (text : List ℕ) (c : Cell) (rest : List ℕ) → IsBeaver text → TellsCell text c rest → ⊥
-beaver_none text c rest (word, behind, first, is) tells = no_beaver c word (head_is text c rest word behind tells first) is
+beaver_none text c rest beaver tells = at (beaver_opens text beaver) where
+  at : Opens text 98 101 ⊎ Opens text 114 97 → ⊥
+  at (inl o) = (opens_no_cell text c rest 98 101 tells o).1 (omega arith, omega arith)
+  at (inr o) = (opens_no_cell text c rest 114 97 tells o).2 (omega arith, omega arith)
 
--- dice begin no other cell
-dice_turn : (word : List ℕ) (dice : Dice) (c : Cell) → IsDiceWord word dice → head_of c ≡ word → 3 ≡ length (head_of c)
-dice_turn word dice c is same = sym (ap (λ (t : List ℕ). length t) (same ∙ is))
+pub beaver_no_dice : (text : List ℕ) (dice : Dice) (rest : List ℕ) → IsBeaver text → BeginsDice text dice rest → ⊥
+beaver_no_dice text dice rest beaver is = at (beaver_opens text beaver) where
+  at : Opens text 98 101 ⊎ Opens text 114 97 → ⊥
+  at (inl o) =
+      let few = first_few dice in
+      let same = (opens_same text 98 101 (48 + first_pips dice) (48 + second_pips dice) o (dice_open text dice rest is)).0 in
+      omega (arith, same, few.1)
+  at (inr o) =
+      let few = first_few dice in
+      let same = (opens_same text 114 97 (48 + first_pips dice) (48 + second_pips dice) o (dice_open text dice rest is)).0 in
+      omega (arith, same, few.1)
+
+-- a text with too many legs begins with a movement
+many_some : (text rest : List ℕ) (legs : List Leg) → TellsLegsAt text rest legs → 4 < length legs → EndsMovement text → ⊥
+many_some text rest legs ([], e, is) many ends =
+    let size : length legs ≡ 0 = ap (λ (t : List Leg). length t) is in omega (arith, size, many)
+many_some text rest legs (word ∷ words, (after, first, begins), (own, others, tells, all, is)) many ends =
+    ends word after own first tells
+
+-- dice begin no cell of letters
+dice_none : (text : List ℕ) (dice : Dice) (after : List ℕ) (c : Cell) (rest : List ℕ) → BeginsDice text dice after
+    → TellsCell text c rest → 100 ≤ first_of c → ⊥
+dice_none text dice after c rest is tells high =
+    let few = first_few dice in
+    let same = (opens_same text (first_of c) (second_of c) (48 + first_pips dice) (48 + second_pips dice)
+    (cell_opens text c rest tells) (dice_open text dice after is)).0 in
+    omega (arith, same, few.1, high)
 
 pub long_none : (text : List ℕ) (c : Cell) (rest : List ℕ) → IsTooLong text → TellsCell text c rest → ⊥
-long_none text (Turn d l) rest (word, after, dice, first, is, (behind, legs, (words, begins, tells), many))
-    (other, then, one, at, (more, begun, told), few, ends) =
-    let both = first_word_same text word after other then first one in
+long_none text (Turn d l) rest (after, dice, first, (behind, legs, (words, begins, tells), many))
+    (then, one, may, (more, begun, told), few, ends) =
+    let both = dice_same text dice d after then first one in
     let most = movement_most after more words rest behind l.items legs
     (subst (λ (t : List ℕ). BeginsWith t more rest) (sym both.1) begun) told ends begins tells in
     omega (arith, most, many, few)
-long_none text (Doubles n) rest (word, after, dice, first, is, many) tells =
-    let n = dice_turn word dice (Doubles n) is (head_is text (Doubles n) rest word after tells first) in omega (arith, n)
-long_none text Takes rest (word, after, dice, first, is, many) tells =
-    let n = dice_turn word dice Takes is (head_is text Takes rest word after tells first) in omega (arith, n)
-long_none text Drops rest (word, after, dice, first, is, many) tells =
-    let n = dice_turn word dice Drops is (head_is text Drops rest word after tells first) in omega (arith, n)
-long_none text (Wins w) rest (word, after, dice, first, is, many) tells =
-    let n = dice_turn word dice (Wins w) is (head_is text (Wins w) rest word after tells first) in omega (arith, n)
+long_none text (CannotMove d) rest (after, dice, first, (behind, legs, told, many)) (then, one, cannot) =
+    let both = dice_same text dice d after then first one in
+    many_some after behind legs told (omega (arith, many))
+    (cannot_ends after rest (subst (λ (t : List ℕ). SaysCannotMove t rest) (sym both.1) cannot))
+long_none text (Unknown d) rest (after, dice, first, (behind, legs, told, many)) (then, one, unknown) =
+    let both = dice_same text dice d after then first one in
+    many_some after behind legs told (omega (arith, many))
+    (unknown_ends after rest (subst (λ (t : List ℕ). SaysUnknown t rest) (sym both.1) unknown))
+long_none text (Doubles n) rest (after, dice, first, many) tells = dice_none text dice after (Doubles n) rest first tells (omega arith)
+long_none text Takes rest (after, dice, first, many) tells = dice_none text dice after Takes rest first tells (omega arith)
+long_none text Drops rest (after, dice, first, many) tells = dice_none text dice after Drops rest first tells (omega arith)
+long_none text (Wins w) rest (after, dice, first, many) tells = dice_none text dice after (Wins w) rest first tells (omega arith)
 
-pub no_dice_word : (text : List ℕ) → IsBlankText text → BeginsDice text → ⊥
-no_dice_word text blank (word, rest, dice, first, is) = no_first_word text word rest blank first
-
-pub no_dice : (text word rest : List ℕ) → IsFirstWord text word rest → ((dice : Dice) → IsDiceWord word dice → ⊥)
-    → BeginsDice text → ⊥
-no_dice text word rest first none (other, behind, dice, one, is) =
-    none dice (subst (λ (w : List ℕ). IsDiceWord w dice) (first_word_same text other behind word rest one first).0 is)
+pub no_dice : (text : List ℕ) → ((dice : Dice) (rest : List ℕ) → BeginsDice text dice rest → ⊥) → HasDice text → ⊥
+no_dice text none (dice, rest, is) = none dice rest is
 
 pub beaver_by : (text word rest : List ℕ) (b : Bool) → IsFirstWord text word rest → IsTrue b ↔ IsBeaverWord word
     → IsTrue b ↔ IsBeaver text
@@ -110,20 +140,24 @@ many_behind text word middle old now first (own, tells, is) (rest, legs, (words,
     )
 
 -- no cell of any kind begins the text
-pub no_cell : (text : List ℕ) → (BeginsDice text → ⊥) → ((n : ℕ) (rest : List ℕ) → TellsDouble text n rest → ⊥)
-    → ((w : Win) (rest : List ℕ) → TellsWin text w rest → ⊥) → ((rest : List ℕ) → IsFirstWord text (codes "Takes") rest → ⊥)
-    → ((rest : List ℕ) → IsFirstWord text (codes "Drops") rest → ⊥) → (c : Cell) (rest : List ℕ) → TellsCell text c rest → ⊥
-no_cell text dice double win takes drops (Turn d l) rest (word, after, first, is, tells, few, ends) = dice (word, after, d, first, is)
+pub no_cell : (text : List ℕ) → (HasDice text → ⊥) → ((n : Option ℕ) (rest : List ℕ) → TellsDouble text n rest → ⊥)
+    → ((w : Win) (rest : List ℕ) → TellsWin text w rest → ⊥)
+    → ((rest : List ℕ) → SaysEither text (codes "Take") (codes "Takes") rest → ⊥)
+    → ((rest : List ℕ) → SaysEither text (codes "Drop") (codes "Drops") rest → ⊥)
+    → (c : Cell) (rest : List ℕ) → TellsCell text c rest → ⊥
+no_cell text dice double win takes drops (Turn d l) rest (after, is, may, told, few, ends) = dice (d, after, is)
+no_cell text dice double win takes drops (CannotMove d) rest (after, is, more) = dice (d, after, is)
+no_cell text dice double win takes drops (Unknown d) rest (after, is, more) = dice (d, after, is)
 no_cell text dice double win takes drops (Doubles n) rest h = double n rest h
 no_cell text dice double win takes drops Takes rest h = takes rest h
 no_cell text dice double win takes drops Drops rest h = drops rest h
 no_cell text dice double win takes drops (Wins w) rest h = win w rest h
 
-long_dice : (text : List ℕ) → IsTooLong text → BeginsDice text
-long_dice text (word, after, dice, first, is, many) = (word, after, dice, first, is)
+long_dice : (text : List ℕ) → IsTooLong text → HasDice text
+long_dice text (after, dice, is, many) = (dice, after, is)
 
 -- why no cell begins the text
-pub cell_not_one : (text : List ℕ) → (BeginsDice text → ⊥) → ((c : Cell) (rest : List ℕ) → TellsCell text c rest → ⊥)
+pub cell_not_one : (text : List ℕ) → (HasDice text → ⊥) → ((c : Cell) (rest : List ℕ) → TellsCell text c rest → ⊥)
     → (IsBeaver text → ⊥) → IsCellFault text why.NotALine
 cell_not_one text dice none beaver =
     (none, λ t e. (λ b. beaver (subst IsBeaver e b), λ l. dice (long_dice text (subst IsTooLong e l))))
@@ -161,6 +195,8 @@ place_same P Q why.WrongScores f g h = absurd h
 place_same P Q why.GameGoesOn f g h = absurd h
 place_same P Q why.GameOver f g h = absurd h
 place_same P Q why.OutOfTurn f g h = absurd h
+place_same P Q why.ResignsOutOfTurn f g h = absurd h
+place_same P Q why.UnknownTurn f g h = absurd h
 place_same P Q why.NoSuchTurn f g h = absurd h
 place_same P Q why.WrongHits f g h = absurd h
 place_same P Q why.WrongCube f g h = absurd h
@@ -169,14 +205,14 @@ place_same P Q why.MatchGoesOn f g h = absurd h
 place_same P Q (why.Entry e) f g h = absurd h
 
 -- a cell in the right column alone
-pub right_refused : (text : List ℕ) (fault : MatFault) → left_column ≤ leading_blanks text → IsLastFault text fault
-    → AreCellsFault text fault
-right_refused text fault many h = (
+pub right_refused : (text : List ℕ) (fault : MatFault) → (IsBlankText text → ⊥) → left_column ≤ leading_blanks text
+    → IsLastFault text fault → AreCellsFault text fault
+right_refused text fault solid many h = (
   λ l r. none l r,
   place_same (λ t. t ≡ text) (IsCellPlace text) fault (λ t e. inl e) (λ t p. only t p) h.1,
 ) where
   none : (l r : Option Cell) → TellsCells text l r → ⊥
-  none None None k = k
+  none None None k = solid k
   none (Some x) None (few, rest, tells, blank) = omega (arith, many, few)
   none None (Some o) (wide, rest, tells, blank) = h.0 o rest tells blank
   none (Some x) (Some o) (few, middle, rest, tells, last, blank) = omega (arith, many, few)
@@ -186,14 +222,14 @@ right_refused text fault many h = (
   only t (inr (few, (c, tells))) = absurd (omega (arith, many, few))
 
 -- no cell in the left column
-pub left_refused : (text : List ℕ) (fault : MatFault) → leading_blanks text < left_column → IsCellFault text fault
-    → AreCellsFault text fault
-left_refused text fault few h = (
+pub left_refused : (text : List ℕ) (fault : MatFault) → (IsBlankText text → ⊥) → leading_blanks text < left_column
+    → IsCellFault text fault → AreCellsFault text fault
+left_refused text fault solid few h = (
   λ l r. none l r,
   place_same (λ t. t ≡ text) (IsCellPlace text) fault (λ t e. inl e) (λ t p. only t p) h.1,
 ) where
   none : (l r : Option Cell) → TellsCells text l r → ⊥
-  none None None k = k
+  none None None k = solid k
   none (Some x) None (low, rest, tells, blank) = h.0 x rest tells
   none None (Some o) (wide, rest, tells, blank) = omega (arith, wide, few)
   none (Some x) (Some o) (low, middle, rest, tells, last, blank) = h.0 x middle tells
@@ -203,11 +239,11 @@ left_refused text fault few h = (
   only t (inr (low, (c, tells))) = absurd (h.0 c t tells)
 
 -- behind the cell in the left column no other is
-pub behind_refused : (text rest : List ℕ) (x : Cell) (fault : MatFault) → leading_blanks text < left_column → TellsCell text x rest
-    → (IsBlankText rest → ⊥) → IsLastFault rest fault → AreCellsFault text fault
-behind_refused text rest x fault few first more h = (λ l r. none l r, place fault h.1) where
+pub behind_refused : (text rest : List ℕ) (x : Cell) (fault : MatFault) → (IsBlankText text → ⊥)
+    → leading_blanks text < left_column → TellsCell text x rest → (IsBlankText rest → ⊥) → IsLastFault rest fault → AreCellsFault text fault
+behind_refused text rest x fault solid few first more h = (λ l r. none l r, place fault h.1) where
   none : (l r : Option Cell) → TellsCells text l r → ⊥
-  none None None k = k
+  none None None k = solid k
   none (Some y) None (low, end, tells, blank) = more (subst IsBlankText (cell_same text y x end rest tells first).1 blank)
   none None (Some o) (wide, end, tells, blank) = omega (arith, wide, few)
   none (Some y) (Some o) (low, middle, end, tells, last, blank) =
@@ -234,6 +270,8 @@ behind_refused text rest x fault few first more h = (λ l r. none l r, place fau
   place why.GameGoesOn k = absurd k
   place why.GameOver k = absurd k
   place why.OutOfTurn k = absurd k
+  place why.ResignsOutOfTurn k = absurd k
+  place why.UnknownTurn k = absurd k
   place why.NoSuchTurn k = absurd k
   place why.WrongHits k = absurd k
   place why.WrongCube k = absurd k
@@ -246,35 +284,7 @@ pub skip_same : (line a b : List ℕ) → SkipsNumber line a → SkipsNumber lin
 skip_same line a b (inl (e, none)) (inl (f, never)) = sym e ∙ f
 skip_same line a b (inl (e, none)) (inr number) = absurd (none b number)
 skip_same line a b (inr number) (inl (f, never)) = absurd (never a number)
-skip_same line a b (inr (word, first, is)) (inr (name, other, at)) = (first_word_same line word a name b first other).1
-
--- the word of the number of a row
-pub number_by : (word front : List ℕ) (b : Bool) → word ≡ front ++ codes ")" → IsTrue b ↔ ((n : ℕ) × IsNumber front n)
-    → IsTrue b ↔ IsRowNumber word
-number_by word front b e h = (
-  λ t. let found = h.0 t in (front, found.0, e, found.1),
-  λ number.
-      let (digits, n, d, is) = number in
-      h.1 (n, subst (λ (w : List ℕ). IsNumber w n) (append_cancel_right digits front (codes ")") (sym d ∙ e)) is),
-)
-
-pub no_number_word : (word : List ℕ) → ((front : List ℕ) → word ≡ front ++ codes ")" → ⊥) → IsRowNumber word → ⊥
-no_number_word word none (digits, n, d, is) = none digits d
-
-pub blank_skips : (line : List ℕ) → IsBlankText line → SkipsNumber line line
-blank_skips line blank =
-    inl (refl, λ behind number. let (word, first, is) = number in no_first_word line word behind blank first)
-
-pub word_skips : (line word rest : List ℕ) (b : Bool) → IsFirstWord line word rest → b ≡ false → IsTrue b ↔ IsRowNumber word
-    → SkipsNumber line line
-word_skips line word rest b first is h =
-    inl (
-      refl,
-      λ behind number.
-          let (other, one, at) = number in
-          let t : b ≡ true = h.1 (subst IsRowNumber (first_word_same line other behind word rest one first).0 at) in
-          absurd (cc (t, is)),
-    )
+skip_same line a b (inr f) (inr g) = number_same line a b f g
 
 pub row_refused : (line cells : List ℕ) (fault : MatFault) → SkipsNumber line cells → AreCellsFault cells fault → IsRowFault line fault
 row_refused line cells fault skips h = (

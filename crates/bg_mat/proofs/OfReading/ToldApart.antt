@@ -3,16 +3,16 @@ use Rattle.std.specs.Prelude.{◌≡◌, ◌↔◌, ℕ, Bool, List, ◌∷◌, 
 use Rattle.std.specs.Option.{is_some}
 use Rattle.std.proofs.Common.{subst, inl, inr}
 use Rattle.bg_mat.specs.Files.{BeginAsMatchFile}
-use Rattle.bg_mat.specs.Rows.Headings.{IsFiller, IsLengthLine}
+use Rattle.bg_mat.specs.Rows.Headings.{IsHeader, IsLengthLine}
 
 -- a line that tells something begins a match file where it is the length of a match
-pub length_begins : (line : List ℕ) (lines all : List (List ℕ)) (r : Bool) → all ≡ line ∷ lines → (IsFiller line → ⊥)
+pub length_begins : (line : List ℕ) (lines all : List (List ℕ)) (r : Bool) → all ≡ line ∷ lines → (IsHeader line → ⊥)
     → IsTrue r ↔ ((n : ℕ) × IsLengthLine line n) → IsTrue r ↔ BeginAsMatchFile all
 length_begins line lines all r e solid tells = (
   λ is. rw e (inr (solid, tells.0 is)),
   λ begun. tells.1 (of_length line lines solid (subst (λ (t : List (List ℕ)). BeginAsMatchFile t) e begun)),
 ) where
-  of_length : (line : List ℕ) (lines : List (List ℕ)) → (IsFiller line → ⊥) → BeginAsMatchFile (line ∷ lines)
+  of_length : (line : List ℕ) (lines : List (List ℕ)) → (IsHeader line → ⊥) → BeginAsMatchFile (line ∷ lines)
       → (n : ℕ) × IsLengthLine line n
   of_length line lines solid (inl (filler, more)) = absurd (solid filler)
   of_length line lines solid (inr (same, tells)) = tells

@@ -49,6 +49,10 @@ in_order_both here (telling.Does player (cell.Wins win) ∷ a) b middle there h 
     (h.0, h.1, in_order_both awaited.Game a b middle there h.2 more)
 in_order_both here (telling.Does player (cell.Turn dice legs) ∷ a) b middle there h more =
     (h.0, h.1, in_order_both awaited.Row a b middle there h.2 more)
+in_order_both here (telling.Does player (cell.CannotMove dice) ∷ a) b middle there h more =
+    (h.0, h.1, in_order_both awaited.Row a b middle there h.2 more)
+in_order_both here (telling.Does player (cell.Unknown dice) ∷ a) b middle there h more =
+    (h.0, h.1, in_order_both awaited.Row a b middle there h.2 more)
 in_order_both here (telling.Does player (cell.Doubles n) ∷ a) b middle there h more =
     (h.0, h.1, in_order_both awaited.Row a b middle there h.2 more)
 in_order_both here (telling.Does player cell.Takes ∷ a) b middle there h more =

@@ -153,7 +153,7 @@ entry_told terms kept s entry.Doubled t tellings told won (player, ph, may, is) 
     let made_as = as_phase s (phase.ToAct player) ph in
     let k = subst (λ (y : State). IsTold terms kept y tellings) made_as h in
     let c : State = record s { phase = phase.ToAct player } in
-    let does = cell.Doubles (2 * s.cube.value) in
+    let does = cell.Doubles (Some (2 * s.cube.value)) in
     let said : told ≡ Some (telling.Does player does) = subst (λ (x : Phase). IsDeedIn x does told) ph tells in
     let settled = act_told terms kept c t player tellings does entry.Doubled k.told k.place k.there k.retold k.stands k.at.0
     k.at.1 k.at.2 (subst (λ (y : State). Follows y entry.Doubled t) made_as (player, ph, may, is)) tt

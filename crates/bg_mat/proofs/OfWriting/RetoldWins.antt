@@ -31,6 +31,8 @@ no_win s t (Some (telling.Game game)) x o h = absurd h
 no_win s t (Some (telling.Does X (cell.Wins win))) x o h = let k = h.grown in let m = h.some in absurd (omega arith)
 no_win s t (Some (telling.Does O (cell.Wins win))) x o h = let k = h.grown in let m = h.some in absurd (omega arith)
 no_win s t (Some (telling.Does p (cell.Turn dice legs))) x o h = absurd h
+no_win s t (Some (telling.Does p (cell.CannotMove dice))) x o h = absurd h
+no_win s t (Some (telling.Does p (cell.Unknown dice))) x o h = absurd h
 no_win s t (Some (telling.Does p (cell.Doubles n))) x o h = absurd h
 no_win s t (Some (telling.Does p cell.Takes)) x o h = absurd h
 no_win s t (Some (telling.Does p cell.Drops)) x o h = absurd h
@@ -51,6 +53,8 @@ win_is s t X n (Some (telling.Does O (cell.Wins win))) some grown same h =
 win_is s t O n (Some (telling.Does X (cell.Wins win))) some grown same h =
     let k = h.grown in let m = h.some in absurd (omega arith)
 win_is s t w n (Some (telling.Does p (cell.Turn dice legs))) some grown same h = absurd h
+win_is s t w n (Some (telling.Does p (cell.CannotMove dice))) some grown same h = absurd h
+win_is s t w n (Some (telling.Does p (cell.Unknown dice))) some grown same h = absurd h
 win_is s t w n (Some (telling.Does p (cell.Doubles m))) some grown same h = absurd h
 win_is s t w n (Some (telling.Does p cell.Takes)) some grown same h = absurd h
 win_is s t w n (Some (telling.Does p cell.Drops)) some grown same h = absurd h

@@ -1,6 +1,6 @@
 -- What the texts of cells tell.
-use Rattle.std.specs.Prelude.{◌≡◌, ◌==◌, ℕ, ◌+◌, ◌<◌, ◌≤◌, Bool, true, false, List, [], ◌∷◌, ◌++◌, length, codes, if◌then◌else◌}
-use Rattle.std.proofs.Common.{append_assoc, append-nil, refl, sym, ap, subst, inl, inr, arith, length-append}
+use Rattle.std.specs.Prelude.{◌≡◌, ◌==◌, ℕ, ◌+◌, ◌<◌, ◌≤◌, Bool, true, false, Some, None, List, [], ◌∷◌, ◌++◌, length, codes, if◌then◌else◌}
+use Rattle.std.proofs.Common.{append_assoc, append-nil, refl, sym, ◌∙◌, ap, subst, inl, inr, arith, length-append}
 use Rattle.std.specs.Fmt.{decimal}
 use Rattle.std.specs.List.{AllByRecursion}
 use Rattle.std.proofs.lemmas.Fmt.{decimal_digit, decimal_nonempty}
@@ -9,18 +9,19 @@ use Rattle.bg_board.specs.declared.dice.Die.{Die}
 use Rattle.bg_board.specs.declared.dice.Die.TheVariants as die
 use Rattle.bg_turns.specs.Dice.{first_pips, second_pips}
 use Rattle.bg_turns.specs.declared.throws.Dice.{Dice}
-use Rattle.bg_mat.specs.Rows.Cells.{EndsMovement, EndsWin, IsDiceWord, TellsCell, TellsDouble, TellsLegsAt, TellsWin, ending}
+use Rattle.bg_mat.specs.Rows.Cells.{BeginsDice, EndsMovement, EndsWin, MayMove, SaysDouble, TellsCell, TellsDouble, TellsLegsAt, TellsWin, ending}
 use Rattle.bg_mat.specs.Rows.CellTexts.{cell_text, dice_text, ending_text, leg_text, legs_text, points_text, win_text}
 use Rattle.bg_mat.specs.Rows.Headings.{IsPoints}
 use Rattle.bg_mat.specs.Legs.{TellsWord, mark}
 use Rattle.bg_mat.specs.Tellings.{HasNumbers, IsOnBoard}
-use Rattle.bg_mat.specs.Rows.Words.{leading_blanks, BeginsWith, EndsWord, IsBlankText, IsFirstWord}
+use Rattle.bg_mat.specs.Rows.Words.{leading_blanks, EndsWord, IsBlankText, IsFirstWord, Says, SaysAll, SaysEither}
 use Rattle.bg_mat.specs.declared.rows.cells.Cell.{Cell}
 use Rattle.bg_mat.specs.declared.rows.cells.Cell.TheVariants as cell
 use Rattle.bg_mat.specs.declared.rows.cells.Win.{Win}
 use Rattle.bg_mat.specs.declared.movements.legs.Leg.{Leg}
 use Rattle.bg_mat.proofs.OfReading.CellHeads.{IsBehindCell}
-use Rattle.bg_mat.proofs.OfWriting.PlainTexts.{IsOfLine, IsPlain, decimal_plain, no_blanks, number_is, of_line_both, of_line_by, one_blank, plain_both, plain_by, plain_leading, plain_of_line, word_behind, word_first}
+use Rattle.bg_mat.proofs.OfReading.Openings.{movement_may}
+use Rattle.bg_mat.proofs.OfWriting.PlainTexts.{IsOfLine, IsPlain, blank_both, decimal_plain, no_blanks, number_is, of_line_both, of_line_by, one_blank, plain_both, plain_by, plain_leading, plain_of_line, word_behind, word_first}
 
 -- the word of a leg
 abbrev pub leg_word : Leg → List ℕ
@@ -117,7 +118,7 @@ die_few die.Four = omega arith
 die_few die.Five = omega arith
 die_few die.Six = omega arith
 
-dice_is : (dice : Dice) → IsDiceWord (dice_text dice) dice
+dice_is : (dice : Dice) → dice_text dice ≡ (48 + first_pips dice) ∷ (48 + second_pips dice) ∷ codes ":"
 dice_is dice = rw (die_text dice.first, die_text dice.second) refl
 
 dice_plain : (dice : Dice) → IsPlain (dice_text dice)
@@ -137,34 +138,52 @@ pub record IsCellText (text : List ℕ) (c : Cell) : Type 0 where
   pub few : (rest : List ℕ) → leading_blanks (text ++ rest) ≤ 1
   pub of_line : IsOfLine text
 
+-- behind dice stands a movement, or what follows the cell
+legs_may : (legs : List Leg) (rest : List ℕ) → AllByRecursion IsOnBoard legs → EndsWord rest → MayMove rest
+    → MayMove (legs_text legs ++ rest)
+legs_may [] rest low ends may = may
+legs_may (leg ∷ legs) rest low ends may =
+    let text : legs_text (leg ∷ legs) ++ rest ≡ codes " " ++ (leg_word leg ++ (legs_text legs ++ rest)) = simp append_assoc in
+    let first : IsFirstWord (legs_text (leg ∷ legs) ++ rest) (leg_word leg) (legs_text legs ++ rest) =
+    rw text (word_first (codes " ") (leg_word leg) (legs_text legs ++ rest) one_blank (leg_plain leg low.0) (leg_some leg low.0)
+    (legs_end legs rest ends)) in
+    movement_may (legs_text (leg ∷ legs) ++ rest) (leg_word leg) (legs_text legs ++ rest) (leg ∷ []) first (leg_tells leg low.0)
+
 turn_is : (dice : Dice) (legs : List Leg) (rest : List ℕ) → AllByRecursion IsOnBoard legs → length legs ≤ 4 → EndsWord rest
-    → EndsMovement rest → (word after : List ℕ) × IsFirstWord ((dice_text dice ++ legs_text legs) ++ rest) word after
-    × IsDiceWord word dice × TellsLegsAt after rest legs × (length legs ≤ 4) × EndsMovement rest
+    → IsBehindCell rest → (after : List ℕ) × BeginsDice ((dice_text dice ++ legs_text legs) ++ rest) dice after
+    × MayMove after × TellsLegsAt after rest legs × (length legs ≤ 4) × EndsMovement rest
 turn_is dice legs rest low few ends behind =
-    let first : IsFirstWord (dice_text dice ++ (legs_text legs ++ rest)) (dice_text dice) (legs_text legs ++ rest) =
-    word_first [] (dice_text dice) (legs_text legs ++ rest) no_blanks (dice_plain dice) (dice_some dice) (legs_end legs rest ends) in (
-      dice_text dice,
+    let spelled : (dice_text dice ++ legs_text legs) ++ rest
+    ≡ (48 + first_pips dice) ∷ (48 + second_pips dice) ∷ 58 ∷ (legs_text legs ++ rest) =
+    append_assoc (dice_text dice) (legs_text legs) rest ∙ ap (λ (t : List ℕ). t ++ (legs_text legs ++ rest)) (dice_is dice) in (
       legs_text legs ++ rest,
-      rw (append_assoc (dice_text dice) (legs_text legs) rest) first,
-      dice_is dice,
+      record { blanks = []; blank = no_blanks; spelled = spelled },
+      legs_may legs rest low ends behind.may,
       legs_tell legs rest low ends,
       few,
-      behind,
+      behind.movement,
     )
 
 double_is : (n : ℕ) (rest : List ℕ) → n ≤ 9999 → EndsWord rest
-    → TellsDouble ((codes " Doubles => " ++ decimal n) ++ rest) n rest
+    → TellsDouble ((codes " Doubles => " ++ decimal n) ++ rest) (Some n) rest
 double_is n rest few ends =
     let third : IsFirstWord (codes " " ++ (decimal n ++ rest)) (decimal n) rest =
     word_first (codes " ") (decimal n) rest one_blank (decimal_plain n (omega arith)) (decimal_nonempty n (omega arith)) ends in
-    let second : IsFirstWord (codes " => " ++ (decimal n ++ rest)) (codes "=>") (codes " " ++ (decimal n ++ rest)) =
-    word_first (codes " ") (codes "=>") (codes " " ++ (decimal n ++ rest)) one_blank (plain_by (codes "=>") refl) (omega arith) refl in
-    let first : IsFirstWord (codes " Doubles => " ++ (decimal n ++ rest)) (codes "Doubles") (codes " => " ++ (decimal n ++ rest)) =
-    word_first (codes " ") (codes "Doubles") (codes " => " ++ (decimal n ++ rest)) one_blank (plain_by (codes "Doubles") refl) (omega arith) refl in (
+    let first : SaysDouble (codes " Doubles => " ++ (decimal n ++ rest)) (codes " => " ++ (decimal n ++ rest)) =
+    record { blanks = codes " "; word = codes "Doubles"; blank = one_blank; is = inr refl; ends = refl; spelled = refl } in (
+      codes " => " ++ (decimal n ++ rest),
+      codes " " ++ (decimal n ++ rest),
       decimal n,
-      (codes " => " ++ (decimal n ++ rest), first, (codes " " ++ (decimal n ++ rest), second, (rest, third, refl))),
+      first,
+      (codes " ", one_blank, refl),
+      third,
       number_is n few,
     )
+
+-- a word behind a blank
+said : (word rest : List ℕ) → IsPlain word → 0 < length word → EndsWord rest → Says (codes " " ++ (word ++ rest)) word rest
+said word rest plain some ends =
+    record { word = word; first = word_first (codes " ") word rest one_blank plain some ends; same = refl }
 
 points_tell : (b : Bool) (rest : List ℕ) → EndsWord rest
     → (word : List ℕ) × IsFirstWord ((if b then codes " point" else codes " points") ++ rest) word rest × IsPoints word
@@ -181,15 +200,15 @@ ending_end : (b : Bool) (rest : List ℕ) → EndsWord rest → EndsWord (ending
 ending_end true rest ends = refl
 ending_end false rest ends = ends
 
-ending_tells : (b : Bool) (rest : List ℕ) → EndsWord rest → BeginsWith (ending_text b ++ rest) (ending b) rest
+ending_tells : (b : Bool) (rest : List ℕ) → EndsWord rest → SaysAll (ending_text b ++ rest) (ending b) rest
 ending_tells false rest ends = refl
 ending_tells true rest ends = (
   codes " the match" ++ rest,
-  word_first (codes " ") (codes "and") (codes " the match" ++ rest) one_blank (plain_by (codes "and") refl) (omega arith) refl,
+  said (codes "and") (codes " the match" ++ rest) (plain_by (codes "and") refl) (omega arith) refl,
   (
     codes " match" ++ rest,
-    word_first (codes " ") (codes "the") (codes " match" ++ rest) one_blank (plain_by (codes "the") refl) (omega arith) refl,
-    (rest, word_first (codes " ") (codes "match") rest one_blank (plain_by (codes "match") refl) (omega arith) ends, refl),
+    said (codes "the") (codes " match" ++ rest) (plain_by (codes "the") refl) (omega arith) refl,
+    (rest, said (codes "match") rest (plain_by (codes "match") refl) (omega arith) ends, refl),
   ),
 )
 
@@ -206,11 +225,11 @@ win_is win rest few ends last =
     let second : IsFirstWord (codes " " ++ (decimal win.points ++ points)) (decimal win.points) points =
     word_first (codes " ") (decimal win.points) points one_blank (decimal_plain win.points (omega arith))
     (decimal_nonempty win.points (omega arith)) (points_end (win.points == 1) behind) in
-    let first : IsFirstWord (codes " Wins " ++ (decimal win.points ++ points)) (codes "Wins") (codes " " ++ (decimal win.points ++ points)) =
-    word_first (codes " ") (codes "Wins") (codes " " ++ (decimal win.points ++ points)) one_blank (plain_by (codes "Wins") refl) (omega arith) refl in (
+    let first : Says (codes " Wins " ++ (decimal win.points ++ points)) (codes "Wins") (codes " " ++ (decimal win.points ++ points)) =
+    said (codes "Wins") (codes " " ++ (decimal win.points ++ points)) (plain_by (codes "Wins") refl) (omega arith) refl in (
       codes " " ++ (decimal win.points ++ points),
       behind,
-      subst (λ (t : List ℕ). IsFirstWord t (codes "Wins") (codes " " ++ (decimal win.points ++ points))) (sym (win_parts win rest)) first,
+      inr (subst (λ (t : List ℕ). Says t (codes "Wins") (codes " " ++ (decimal win.points ++ points))) (sym (win_parts win rest)) first),
       (decimal win.points, word, (points, second, (behind, third, refl)), number_is win.points few, is_points),
       ending_tells win.ends_match rest ends,
       λ goes_on. last,
@@ -227,7 +246,7 @@ ending_of_line false = tt
 -- the text of each cell
 pub cell_is : (c : Cell) → HasNumbers c → IsCellText (cell_text c) c
 cell_is (cell.Turn dice legs) low = record {
-  tells = λ rest ends behind. turn_is dice legs.items rest low.0 low.1 ends behind.movement;
+  tells = λ rest ends behind. turn_is dice legs.items rest low.0 low.1 ends behind;
   few = λ rest.
       let none : leading_blanks (dice_text dice ++ (legs_text legs.items ++ rest)) ≡ 0 =
       plain_leading (dice_text dice) (legs_text legs.items ++ rest) (dice_plain dice) (dice_some dice) in
@@ -235,19 +254,22 @@ cell_is (cell.Turn dice legs) low = record {
   of_line = of_line_both (dice_text dice) (legs_text legs.items) (plain_of_line (dice_text dice) (dice_plain dice))
       (legs_of_line legs.items low.0);
 }
-cell_is (cell.Doubles n) low = record {
+cell_is (cell.CannotMove dice) low = absurd low
+cell_is (cell.Unknown dice) low = absurd low
+cell_is (cell.Doubles None) low = absurd low
+cell_is (cell.Doubles (Some n)) low = record {
   tells = λ rest ends behind. double_is n rest low ends;
   few = λ rest. omega arith;
   of_line = of_line_both (codes " Doubles => ") (decimal n) (of_line_by (codes " Doubles => ") refl)
       (plain_of_line (decimal n) (decimal_plain n (omega arith)));
 }
 cell_is cell.Takes low = record {
-  tells = λ rest ends behind. word_first (codes " ") (codes "Takes") rest one_blank (plain_by (codes "Takes") refl) (omega arith) ends;
+  tells = λ rest ends behind. inr (said (codes "Takes") rest (plain_by (codes "Takes") refl) (omega arith) ends);
   few = λ rest. omega arith;
   of_line = of_line_by (codes " Takes") refl;
 }
 cell_is cell.Drops low = record {
-  tells = λ rest ends behind. word_first (codes " ") (codes "Drops") rest one_blank (plain_by (codes "Drops") refl) (omega arith) ends;
+  tells = λ rest ends behind. inr (said (codes "Drops") rest (plain_by (codes "Drops") refl) (omega arith) ends);
   few = λ rest. omega arith;
   of_line = of_line_by (codes " Drops") refl;
 }
@@ -263,12 +285,41 @@ cell_is (cell.Wins win) low = record {
 }
 
 -- the same cell behind blanks
+dice_behind : (gap text after : List ℕ) (dice : Dice) → IsBlankText gap → BeginsDice text dice after → BeginsDice (gap ++ text) dice after
+dice_behind gap text after dice blank f = record {
+  blanks = gap ++ f.blanks;
+  blank = blank_both gap f.blanks blank f.blank;
+  spelled = rw f.spelled (simp append_assoc);
+}
+
+says_behind : (gap text word rest : List ℕ) → IsBlankText gap → Says text word rest → Says (gap ++ text) word rest
+says_behind gap text word rest blank f =
+    record { word = f.word; first = word_behind gap text f.word rest blank f.first; same = f.same }
+
+either_behind : (gap text one other rest : List ℕ) → IsBlankText gap → SaysEither text one other rest
+    → SaysEither (gap ++ text) one other rest
+either_behind gap text one other rest blank (inl f) = inl (says_behind gap text one rest blank f)
+either_behind gap text one other rest blank (inr f) = inr (says_behind gap text other rest blank f)
+
+double_behind : (gap text rest : List ℕ) → IsBlankText gap → SaysDouble text rest → SaysDouble (gap ++ text) rest
+double_behind gap text rest blank f = record {
+  blanks = gap ++ f.blanks;
+  word = f.word;
+  blank = blank_both gap f.blanks blank f.blank;
+  is = f.is;
+  ends = f.ends;
+  spelled = rw f.spelled (simp append_assoc);
+}
+
 pub cell_behind : (gap text rest : List ℕ) (c : Cell) → IsBlankText gap → TellsCell text c rest → TellsCell (gap ++ text) c rest
-cell_behind gap text rest (cell.Turn dice legs) blank (word, after, first, is, more, few, ends) =
-    (word, after, word_behind gap text word after blank first, is, more, few, ends)
-cell_behind gap text rest (cell.Doubles n) blank (number, (after, first, more), is) =
-    (number, (after, word_behind gap text (codes "Doubles") after blank first, more), is)
-cell_behind gap text rest cell.Takes blank first = word_behind gap text (codes "Takes") rest blank first
-cell_behind gap text rest cell.Drops blank first = word_behind gap text (codes "Drops") rest blank first
-cell_behind gap text rest (cell.Wins win) blank (after, behind, first, points, begins, ends) =
-    (after, behind, word_behind gap text (codes "Wins") after blank first, points, begins, ends)
+cell_behind gap text rest (cell.Turn dice legs) blank (after, is, may, more, few, ends) =
+    (after, dice_behind gap text after dice blank is, may, more, few, ends)
+cell_behind gap text rest (cell.CannotMove dice) blank (after, is, more) = (after, dice_behind gap text after dice blank is, more)
+cell_behind gap text rest (cell.Unknown dice) blank (after, is, more) = (after, dice_behind gap text after dice blank is, more)
+cell_behind gap text rest (cell.Doubles None) blank (is, none) = (double_behind gap text rest blank is, none)
+cell_behind gap text rest (cell.Doubles (Some n)) blank (after, behind, number, is, arrow, first, digits) =
+    (after, behind, number, double_behind gap text after blank is, arrow, first, digits)
+cell_behind gap text rest cell.Takes blank is = either_behind gap text (codes "Take") (codes "Takes") rest blank is
+cell_behind gap text rest cell.Drops blank is = either_behind gap text (codes "Drop") (codes "Drops") rest blank is
+cell_behind gap text rest (cell.Wins win) blank (after, behind, is, points, begins, ends) =
+    (after, behind, either_behind gap text (codes "Win") (codes "Wins") after blank is, points, begins, ends)

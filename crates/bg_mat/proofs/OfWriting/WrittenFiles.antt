@@ -1,5 +1,5 @@
 -- What the lines of a written match file tell.
-use Rattle.std.specs.Prelude.{◌≡◌, ◌≢◌, ℕ, ◌+◌, ◌-◌, ◌<◌, ◌≤◌, max, Bool, true, false, Some, List, [], ◌∷◌, ◌++◌, map, length, replicate, codes, if◌then◌else◌}
+use Rattle.std.specs.Prelude.{◌≡◌, ◌≢◌, ℕ, ◌+◌, ◌-◌, ◌<◌, ◌≤◌, max, Bool, true, false, Some, None, List, [], ◌∷◌, ◌++◌, map, length, replicate, codes, if◌then◌else◌}
 use Rattle.std.proofs.Common.{refl, sym, ◌∙◌, ap, subst, inl, inr, arith}
 use Rattle.std.specs.Fmt.{decimal}
 use Rattle.bg_board.specs.declared.players.Player.{Player}
@@ -8,7 +8,7 @@ use Rattle.bg_match.specs.Match.{Log}
 use Rattle.bg_match.specs.Terms.{match_length}
 use Rattle.bg_match.specs.declared.entries.Entry.{Entry}
 use Rattle.bg_mat.specs.Rows.Cells.{TellsRow}
-use Rattle.bg_mat.specs.Files.{Exports, TellsLine, TellsLines, after_row, is_win, items_of, kept_entries, numbered, start_place}
+use Rattle.bg_mat.specs.Files.{Exports, TellsLine, TellsLines, after_row, behind_mark, is_win, lines_in, items_of, kept_entries, numbered, start_place}
 use Rattle.bg_text.specs.Judge.Judging.{lines_of}
 use Rattle.bg_mat.specs.Retelling.{TellsRecord}
 use Rattle.bg_mat.specs.Rows.RowTexts.{Line, Heading, Alone, Both, beside, game_text, grouped, length_text, lines_text, next_row, padded, score_text, share_row}
@@ -50,6 +50,8 @@ AreInOrder here (Both l r ∷ lines) there =
 no_win : (c : Cell) → after_cell c ≡ awaited.Row → is_win (Some c) ≡ false
 no_win (cell.Wins win) h = absurd (cc (h))
 no_win (cell.Turn dice legs) h = refl
+no_win (cell.CannotMove dice) h = refl
+no_win (cell.Unknown dice) h = refl
 no_win (cell.Doubles n) h = refl
 no_win cell.Takes h = refl
 no_win cell.Drops h = refl
@@ -125,11 +127,15 @@ line_more here next there n line rest own items of_line tells more = record {
 row_after : (player : Player) (c : Cell) → after_row (row_of player c) ≡ after_cell c
 row_after X (cell.Wins win) = refl
 row_after X (cell.Turn dice legs) = refl
+row_after X (cell.CannotMove dice) = refl
+row_after X (cell.Unknown dice) = refl
 row_after X (cell.Doubles n) = refl
 row_after X cell.Takes = refl
 row_after X cell.Drops = refl
 row_after O (cell.Wins win) = refl
 row_after O (cell.Turn dice legs) = refl
+row_after O (cell.CannotMove dice) = refl
+row_after O (cell.Unknown dice) = refl
 row_after O (cell.Doubles n) = refl
 row_after O cell.Takes = refl
 row_after O cell.Drops = refl
@@ -139,18 +145,22 @@ row_items : (player : Player) (c : Cell)
 row_items X c = refl
 row_items O c = refl
 
+row_some : (player : Player) (c : Cell) → (row_of player c).left ≡ None → (row_of player c).right ≡ None → ⊥
+row_some X c e d = absurd (cc (e))
+row_some O c e d = absurd (cc (d))
+
 -- the row of a cell that is alone
 alone_line : (player : Player) (c : Cell) (line : List ℕ) → TellsRow line (row_of player c)
     → TellsLine awaited.Row line (Does player (deed_of c) ∷ []) (after_cell c)
 alone_line player c line tells =
-    inr (row_told line (row_of player c) tells, inr (row_of player c, tells, row_items player c, sym (row_after player c)))
+    inr (row_told line (row_of player c) tells (row_some player c), inr (row_of player c, tells, row_items player c, sym (row_after player c)))
 
 both_line : (l r : Cell) (line : List ℕ) → is_win (Some l) ≡ false
     → TellsRow line (record { left = Some l; right = Some r })
     → TellsLine awaited.Row line (Does X (deed_of l) ∷ Does O (deed_of r) ∷ []) (after_cell r)
 both_line l r line wl tells =
     let row : Row = record { left = Some l; right = Some r } in
-    inr (row_told line row tells, inr (row, tells, refl, rw (wl, ← row_after O r) refl))
+    inr (row_told line row tells (λ e d. absurd (cc (e))), inr (row, tells, refl, rw (wl, ← row_after O r) refl))
 
 heading_line : (here : Awaited) (n : ℕ) → here ≢ awaited.Scores → n ≤ 9999
     → TellsLine here (codes " Game " ++ decimal n) (Game n ∷ []) awaited.Scores
@@ -251,6 +261,10 @@ length_of_line points few =
     (of_line_both (codes " ") (decimal points) (refl, tt) (plain_of_line (decimal points) (decimal_plain points (omega arith))))
     (of_line_by (codes " point match") refl)
 
+-- a text that begins with a blank has no mark in front
+blank_no_mark : (rest : List ℕ) → behind_mark (32 ∷ rest) ≡ 32 ∷ rest
+blank_no_mark rest = refl
+
 -- the whole text tells the record
 pub record_written : (log : Log) (points : ℕ) (tellings : List Telling) (start text : List ℕ) → points ≡ match_length log.terms
     → points ≤ 9999 → TellsRecord log tellings → start ≡ length_text points
@@ -263,7 +277,9 @@ record_written log points tellings start text is few tells first all =
     let same : items_told games.told ≡ items_of_tellings tellings = games.same ∙ grouped_items tellings in
     let on = told_on_lines games.told (start_place log.terms) tells.place (kept_entries log.entries) (rw same tells.leads) in
     let spelled : text ≡ line ++ codes "\n" ++ rest = all ∙ (ap (λ (t : List ℕ). t ++ rest) first ∙ sym (length_parts points rest)) in
-    let lines : lines_of text ≡ line ∷ lines_of rest = ap lines_of spelled ∙ first_line line rest (length_of_line points few) in
+    let whole : behind_mark text ≡ text = ap behind_mark spelled ∙ (blank_no_mark _ ∙ sym spelled) in
+    let lines : lines_in text ≡ line ∷ lines_of rest =
+    ap lines_of (whole ∙ spelled) ∙ first_line line rest (length_of_line points few) in
     record {
       told = games.told;
       lines = on.0;

@@ -42,23 +42,21 @@ blanks_start n few = record {
 number_start : (row : ℕ) → row ≤ 9999 → IsRowStart (replicate (blanks_before row) 32 ++ decimal row ++ codes ") ")
 number_start row few =
     let k = blanks_before row in
-    let plain : IsPlain (decimal row ++ codes ")") =
-    plain_both (decimal row) (codes ")") (decimal_plain row (omega arith)) ((refl, refl), tt) in
-    let digits : 0 < length (decimal row) = decimal_nonempty row (omega arith) in
-    let some : 0 < length (decimal row ++ codes ")") = simp length-append (omega arith) in
     record {
       gap = codes " ";
       blank = one_blank;
       few = omega arith;
       skips = λ cells c rest tells.
           let text : (replicate k 32 ++ decimal row ++ codes ") ") ++ cells
-          ≡ replicate k 32 ++ ((decimal row ++ codes ")") ++ (codes " " ++ cells)) = simp append_assoc in
-          inr (
-            decimal row ++ codes ")",
-            subst (λ (t : List ℕ). IsFirstWord t (decimal row ++ codes ")") (codes " " ++ cells)) (sym text)
-                (word_first (replicate k 32) (decimal row ++ codes ")") (codes " " ++ cells) (blanks k) plain some refl),
-            (decimal row, row, refl, number_is row few),
-          );
+          ≡ replicate k 32 ++ (decimal row ++ (codes ")" ++ (codes " " ++ cells))) = simp append_assoc in
+          inr (record {
+            blanks = replicate k 32;
+            digits = decimal row;
+            n = row;
+            blank = blanks k;
+            number = number_is row few;
+            spelled = text;
+          });
       of_line = of_line_both (replicate k 32 ++ decimal row) (codes ") ")
           (of_line_both (replicate k 32) (decimal row) (blanks_of_line k) (plain_of_line (decimal row) (decimal_plain row (omega arith))))
           (of_line_by (codes ") ") refl);
@@ -75,6 +73,8 @@ row_number_is row = row_start_by row (nat_lt 9999 row) refl
 row_start_is : (row : ℕ) (c : Cell) → IsRowStart (row_start row c)
 row_start_is row (cell.Wins win) = blanks_start 5 (omega arith)
 row_start_is row (cell.Turn dice legs) = row_number_is row
+row_start_is row (cell.CannotMove dice) = row_number_is row
+row_start_is row (cell.Unknown dice) = row_number_is row
 row_start_is row (cell.Doubles n) = row_number_is row
 row_start_is row cell.Takes = row_number_is row
 row_start_is row cell.Drops = row_number_is row
@@ -161,6 +161,8 @@ filled_cell c low =
 left_cell : (c : Cell) → HasNumbers c → IsLastCell (in_column X c) c
 left_cell (cell.Wins win) low = bare_cell (cell.Wins win) low
 left_cell (cell.Turn dice legs) low = filled_cell (cell.Turn dice legs) low
+left_cell (cell.CannotMove dice) low = absurd low
+left_cell (cell.Unknown dice) low = absurd low
 left_cell (cell.Doubles n) low = filled_cell (cell.Doubles n) low
 left_cell cell.Takes low = filled_cell cell.Takes low
 left_cell cell.Drops low = filled_cell cell.Drops low
@@ -233,7 +235,7 @@ length_line n few =
       codes " point match",
       first,
       number_is n few,
-      (codes "point", codes " match", [], second, inl refl, third, no_blanks),
+      (codes "point", codes " match", [], second, inl refl, record { word = codes "match"; first = third; same = refl }, no_blanks),
     )
 
 -- the line of the number of a game
@@ -245,7 +247,7 @@ game_line n few =
     subst (λ (t : List ℕ). IsFirstWord (codes " " ++ t) (decimal n) []) (append-nil (decimal n)) second in
     let first : IsFirstWord (codes " Game " ++ decimal n) (codes "Game") (codes " " ++ decimal n) =
     word_first (codes " ") (codes "Game") (codes " " ++ decimal n) one_blank (plain_by (codes "Game") refl) (omega arith) refl in
-    (decimal n, [], (codes " " ++ decimal n, first, ([], second_is, refl)), no_blanks, number_is n few)
+    (codes " " ++ decimal n, decimal n, [], record { word = codes "Game"; first = first; same = refl }, second_is, inl (number_is n few), no_blanks)
 
 scored_end : (front score : List ℕ) → front ++ (codes ": " ++ score) ≡ front ++ codes ":" ++ codes " " ++ score ++ []
 scored_end [] score = sym (append-nil (codes ": " ++ score))

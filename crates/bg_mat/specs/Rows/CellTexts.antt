@@ -1,11 +1,11 @@
 -- The texts of cells.
-use Rattle.std.specs.Prelude.{ℕ, ◌==◌, Bool, true, false, List, [], ◌∷◌, ◌++◌, codes, if◌then◌else◌}
+use Rattle.std.specs.Prelude.{ℕ, ◌==◌, Bool, true, false, Some, None, List, [], ◌∷◌, ◌++◌, codes, if◌then◌else◌}
 use Rattle.std.specs.Fmt.{decimal}
 use Rattle.bg_turns.specs.Dice.{first_pips, second_pips}
 use Rattle.bg_turns.specs.declared.throws.Dice.{Dice}
 use Rattle.bg_mat.specs.Legs.{mark}
 use Rattle.bg_mat.specs.declared.rows.cells.Cell.{Cell}
-use Rattle.bg_mat.specs.declared.rows.cells.Cell.TheVariants.{Turn, Doubles, Takes, Drops, Wins}
+use Rattle.bg_mat.specs.declared.rows.cells.Cell.TheVariants.{Turn, CannotMove, Unknown, Doubles, Takes, Drops, Wins}
 use Rattle.bg_mat.specs.declared.rows.cells.Win.{Win}
 use Rattle.bg_mat.specs.declared.movements.legs.Leg.{Leg}
 
@@ -32,7 +32,10 @@ win_text win = codes " Wins " ++ decimal win.points ++ points_text win.points ++
 
 abbrev pub cell_text : Cell → List ℕ
 cell_text (Turn dice legs) = dice_text dice ++ legs_text legs.items
-cell_text (Doubles shows) = codes " Doubles => " ++ decimal shows
+cell_text (CannotMove dice) = dice_text dice ++ codes " Cannot Move"
+cell_text (Unknown dice) = dice_text dice ++ codes " ????"
+cell_text (Doubles None) = codes " Doubles"
+cell_text (Doubles (Some shows)) = codes " Doubles => " ++ decimal shows
 cell_text Takes = codes " Takes"
 cell_text Drops = codes " Drops"
 cell_text (Wins win) = win_text win

@@ -1,25 +1,34 @@
 -- What a cell tells, and a row of two cells.
-use Rattle.std.specs.Prelude.{◌≡◌, ◌⊎◌, ℕ, ◌+◌, ◌<◌, ◌≤◌, Bool, true, false, Option, Some, None, List, [], ◌∷◌, ◌++◌}
+use Rattle.std.specs.Prelude.{◌≡◌, ◌⊎◌, ◌==◌, ◌||◌, ℕ, ◌+◌, ◌<◌, ◌≤◌, Bool, true, false, Option, Some, None, List, [], ◌∷◌, ◌++◌}
 use Rattle.std.specs.Prelude.{codes, length}
+use Rattle.std.specs.List.{All}
 use Rattle.bg_turns.specs.Dice.{first_pips, second_pips}
 use Rattle.bg_turns.specs.declared.throws.Dice.{Dice}
-use Rattle.bg_mat.specs.Rows.Words.{IsBlankText, IsFirstWord, BeginsWith, leading_blanks}
+use Rattle.bg_mat.specs.Rows.Words.{IsBlankText, IsEither, IsFirstWord, BeginsWith, Says, SaysAll, SaysEither, is_blank}
+use Rattle.bg_mat.specs.Rows.Words.{leading_blanks}
 use Rattle.bg_mat.specs.Rows.Numbers.{IsNumber}
 use Rattle.bg_mat.specs.Rows.Headings.{IsPoints}
 use Rattle.bg_mat.specs.Legs.{TellsMovement, TellsWord, AddsLegs}
 use Rattle.bg_mat.specs.declared.movements.legs.Leg.{Leg}
 use Rattle.bg_mat.specs.declared.rows.cells.Win.{Win}
 use Rattle.bg_mat.specs.declared.rows.cells.Cell.{Cell}
-use Rattle.bg_mat.specs.declared.rows.cells.Cell.TheVariants.{Turn, Doubles, Takes, Drops, Wins}
+use Rattle.bg_mat.specs.declared.rows.cells.Cell.TheVariants.{Turn, CannotMove, Unknown, Doubles, Takes, Drops, Wins}
 use Rattle.bg_mat.specs.declared.rows.Row.{Row}
 
 -- two digits and a colon: the dice, in the order in which they are named
-abbrev pub IsDiceWord : List ℕ → Dice → Type 0
-IsDiceWord word dice = word ≡ (48 + first_pips dice) ∷ (48 + second_pips dice) ∷ codes ":"
+abbrev pub AreDice : List ℕ → Dice → Type 0
+AreDice word dice = word ≡ (48 + first_pips dice) ∷ (48 + second_pips dice) ∷ codes ":"
+
+-- behind any blanks two digits and a colon begin a text: the dice, in the order in which they are named. Then comes the
+-- rest, at once or behind blanks
+pub record BeginsDice (text : List ℕ) (dice : Dice) (rest : List ℕ) : Type 0 where
+  pub blanks : List ℕ
+  pub blank : IsBlankText blanks
+  pub spelled : text ≡ blanks ++ ((48 + first_pips dice) ∷ (48 + second_pips dice) ∷ 58 ∷ rest)
 
 -- a text begins with dice
-abbrev pub BeginsDice : List ℕ → Type 0
-BeginsDice text = (word rest : List ℕ) × (dice : Dice) × IsFirstWord text word rest × IsDiceWord word dice
+abbrev pub HasDice : List ℕ → Type 0
+HasDice text = (dice : Dice) × (rest : List ℕ) × BeginsDice text dice rest
 
 -- a text begins with the words of a movement
 abbrev pub TellsLegsAt : List ℕ → List ℕ → List Leg → Type 0
@@ -33,6 +42,18 @@ AddsMovement text rest old new = AddsLegs (TellsLegsAt text rest) old new
 abbrev pub EndsMovement : List ℕ → Type 0
 EndsMovement text = (word rest : List ℕ) (legs : List Leg) → IsFirstWord text word rest → TellsWord word legs → ⊥
 
+-- in place of a movement: there is none
+abbrev pub SaysCannotMove : List ℕ → List ℕ → Type 0
+SaysCannotMove text rest = SaysAll text (codes "Cannot" ∷ codes "Move" ∷ []) rest
+
+-- in place of a movement: it is not known. A word of question marks says so
+abbrev pub SaysUnknown : List ℕ → List ℕ → Type 0
+SaysUnknown text rest = (word : List ℕ) × IsFirstWord text word rest × All (λ byte. (byte == 63) ≡ true) word
+
+-- a movement may begin here: neither of these two does
+abbrev pub MayMove : List ℕ → Type 0
+MayMove text = (rest : List ℕ) → (SaysCannotMove text rest → ⊥) × (SaysUnknown text rest → ⊥)
+
 -- a text begins with points
 abbrev pub TellsPoints : List ℕ → ℕ → List ℕ → Type 0
 TellsPoints text points rest =
@@ -45,16 +66,46 @@ ending false = []
 
 -- what ends the match goes with the win
 abbrev pub EndsWin : List ℕ → Type 0
-EndsWin text = (rest : List ℕ) → IsFirstWord text (codes "and") rest → ⊥
+EndsWin text = (rest : List ℕ) → Says text (codes "and") rest → ⊥
 
 abbrev pub TellsWin : List ℕ → Win → List ℕ → Type 0
 TellsWin text win rest =
-    (after behind : List ℕ) × IsFirstWord text (codes "Wins") after × TellsPoints after win.points behind
-    × BeginsWith behind (ending win.ends_match) rest × (win.ends_match ≡ false → EndsWin rest)
+    (after behind : List ℕ) × SaysEither text (codes "Win") (codes "Wins") after
+    × TellsPoints after win.points behind × SaysAll behind (ending win.ends_match) rest
+    × (win.ends_match ≡ false → EndsWin rest)
 
-abbrev pub TellsDouble : List ℕ → ℕ → List ℕ → Type 0
-TellsDouble text shows rest =
-    (number : List ℕ) × BeginsWith text (codes "Doubles" ∷ codes "=>" ∷ number ∷ []) rest × IsNumber number shows
+-- an equals sign ends the name of what a player does, as a blank does
+abbrev pub ends_name : ℕ → Bool
+ends_name byte = is_blank byte || byte == 61
+
+-- no such byte is in the text
+abbrev pub IsNameText : List ℕ → Type 0
+IsNameText text = All (λ byte. ends_name byte ≡ false) text
+
+-- such a byte begins the text, or it is empty
+abbrev pub EndsName : List ℕ → Type 0
+EndsName [] = Unit {0}
+EndsName (byte ∷ rest) = ends_name byte ≡ true
+
+-- behind any blanks a text begins with the word `Double` or `Doubles`, and then comes the rest
+pub record SaysDouble (text rest : List ℕ) : Type 0 where
+  pub blanks : List ℕ
+  pub word : List ℕ
+  pub blank : IsBlankText blanks
+  pub is : IsEither word (codes "Double") (codes "Doubles")
+  pub ends : EndsName rest
+  pub spelled : text ≡ blanks ++ (word ++ rest)
+
+-- behind any blanks an arrow begins a text, and then comes the rest
+abbrev pub BeginsArrow : List ℕ → List ℕ → Type 0
+BeginsArrow text rest = (blanks : List ℕ) × IsBlankText blanks × (text ≡ blanks ++ (codes "=>" ++ rest))
+
+-- a double, and what the cube will show where the file says so
+abbrev pub TellsDouble : List ℕ → Option ℕ → List ℕ → Type 0
+TellsDouble text None rest = SaysDouble text rest × ((behind : List ℕ) → BeginsArrow rest behind → ⊥)
+TellsDouble text (Some shows) rest =
+    (after behind number : List ℕ) × SaysDouble text after × BeginsArrow after behind
+    × IsFirstWord behind number rest × IsNumber number shows
 
 -- a movement has at most so many legs
 abbrev pub most_legs : ℕ
@@ -63,20 +114,23 @@ most_legs = 4
 -- a text begins with a cell, and then comes the rest. All words of a movement that stand behind the dice are of it
 abbrev pub TellsCell : List ℕ → Cell → List ℕ → Type 0
 TellsCell text (Turn dice legs) rest =
-    (word after : List ℕ) × IsFirstWord text word after × IsDiceWord word dice × TellsLegsAt after rest legs.items
+    (after : List ℕ) × BeginsDice text dice after × MayMove after × TellsLegsAt after rest legs.items
     × (length legs.items ≤ most_legs) × EndsMovement rest
+TellsCell text (CannotMove dice) rest = (after : List ℕ) × BeginsDice text dice after × SaysCannotMove after rest
+TellsCell text (Unknown dice) rest = (after : List ℕ) × BeginsDice text dice after × SaysUnknown after rest
 TellsCell text (Doubles shows) rest = TellsDouble text shows rest
-TellsCell text Takes rest = IsFirstWord text (codes "Takes") rest
-TellsCell text Drops rest = IsFirstWord text (codes "Drops") rest
+TellsCell text Takes rest = SaysEither text (codes "Take") (codes "Takes") rest
+TellsCell text Drops rest = SaysEither text (codes "Drop") (codes "Drops") rest
 TellsCell text (Wins win) rest = TellsWin text win rest
 
--- the number of a row, and a bracket
-abbrev pub IsRowNumber : List ℕ → Type 0
-IsRowNumber word = (digits : List ℕ) × (n : ℕ) × (word ≡ digits ++ codes ")") × IsNumber digits n
-
--- a line begins with such a word
-abbrev pub HasRowNumber : List ℕ → List ℕ → Type 0
-HasRowNumber line rest = (word : List ℕ) × IsFirstWord line word rest × IsRowNumber word
+-- behind any blanks the number of a row and a bracket begin a line, and then comes the rest, at once or behind blanks
+pub record HasRowNumber (line rest : List ℕ) : Type 0 where
+  pub blanks : List ℕ
+  pub digits : List ℕ
+  pub n : ℕ
+  pub blank : IsBlankText blanks
+  pub number : IsNumber digits n
+  pub spelled : line ≡ blanks ++ (digits ++ (codes ")" ++ rest))
 
 -- a row may begin with its number and a bracket
 abbrev pub SkipsNumber : List ℕ → List ℕ → Type 0
@@ -87,9 +141,9 @@ SkipsNumber line rest =
 abbrev pub left_column : ℕ
 left_column = 16
 
--- the cells of a row: one in the left column, one in the right, or both
+-- the cells of a row: one in the left column, one in the right, or both, or none behind the number of the row
 abbrev pub TellsCells : List ℕ → Option Cell → Option Cell → Type 0
-TellsCells text None None = ⊥
+TellsCells text None None = IsBlankText text
 TellsCells text (Some x) None =
     (leading_blanks text < left_column) × (rest : List ℕ) × TellsCell text x rest × IsBlankText rest
 TellsCells text None (Some o) =

@@ -1,36 +1,54 @@
 -- The lines that head a match and its games.
 use Rattle.std.specs.Prelude.{◌≡◌, ◌⊎◌, ℕ, List, [], ◌∷◌, ◌++◌, codes}
 use Rattle.std.specs.Fmt.{decimal}
-use Rattle.bg_mat.specs.Rows.Words.{IsBlankText, EndsWord, IsFirstWord, BeginsWith}
+use Rattle.bg_mat.specs.Rows.Words.{IsBlankText, EndsWord, IsEither, IsFirstWord, Says}
 use Rattle.bg_mat.specs.Rows.Numbers.{IsNumber}
 
 -- the word begins with a semicolon
 abbrev pub IsComment : List ℕ → Type 0
 IsComment word = (more : List ℕ) × (word ≡ codes ";" ++ more)
 
+-- the line is blank, or its first word is such a one
+abbrev pub IsBlankOr : (List ℕ → Type 0) → List ℕ → Type 0
+IsBlankOr Begins line = IsBlankText line ⊎ ((word rest : List ℕ) × IsFirstWord line word rest × Begins word)
+
 -- a line that tells nothing: it is blank, or its first word begins with a semicolon
 abbrev pub IsFiller : List ℕ → Type 0
-IsFiller line = IsBlankText line ⊎ ((word rest : List ℕ) × IsFirstWord line word rest × IsComment word)
+IsFiller line = IsBlankOr IsComment line
+
+-- the word begins with a semicolon, a number sign or a bracket
+abbrev pub IsHeaderWord : List ℕ → Type 0
+IsHeaderWord word =
+    IsComment word ⊎ ((more : List ℕ) × ((word ≡ codes "#" ++ more) ⊎ (word ≡ codes "[" ++ more)))
+
+-- a line that tells nothing before the length of a match: it is blank, or begins with one of these three
+abbrev pub IsHeader : List ℕ → Type 0
+IsHeader line = IsBlankOr IsHeaderWord line
 
 -- `point`, of one or of several
 abbrev pub IsPoints : List ℕ → Type 0
-IsPoints word = (word ≡ codes "point") ⊎ (word ≡ codes "points")
+IsPoints word = IsEither word (codes "point") (codes "points")
 
 -- the words `point match`, or `points match`, and nothing behind them
 abbrev pub EndsLength : List ℕ → Type 0
 EndsLength text =
     (points after rest : List ℕ) × IsFirstWord text points after × IsPoints points
-    × IsFirstWord after (codes "match") rest × IsBlankText rest
+    × Says after (codes "match") rest × IsBlankText rest
 
 -- a match to so many points
 abbrev pub IsLengthLine : List ℕ → ℕ → Type 0
 IsLengthLine line n =
     (number rest : List ℕ) × IsFirstWord line number rest × IsNumber number n × EndsLength rest
 
+-- the number of a game, a colon behind it or not
+abbrev pub IsGameNumber : List ℕ → ℕ → Type 0
+IsGameNumber word n = IsNumber word n ⊎ ((digits : List ℕ) × (word ≡ digits ++ codes ":") × IsNumber digits n)
+
 -- the game of this number
 abbrev pub IsGameLine : List ℕ → ℕ → Type 0
 IsGameLine line n =
-    (number rest : List ℕ) × BeginsWith line (codes "Game" ∷ number ∷ []) rest × IsBlankText rest × IsNumber number n
+    (after number rest : List ℕ) × Says line (codes "Game") after × IsFirstWord after number rest
+    × IsGameNumber number n × IsBlankText rest
 
 -- a text begins with a score, behind any blanks
 pub record BeginsWithScore (text : List ℕ) (score : ℕ) : Type 0 where

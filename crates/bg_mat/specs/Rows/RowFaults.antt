@@ -1,9 +1,9 @@
 -- Why a row is refused for its shape.
-use Rattle.std.specs.Prelude.{◌≡◌, ◌⊎◌, ℕ, ◌+◌, ◌<◌, Option, List, [], codes, length}
+use Rattle.std.specs.Prelude.{◌≡◌, ◌⊎◌, ℕ, ◌+◌, ◌<◌, Option, Some, None, List, [], codes, length}
 use Rattle.bg_turns.specs.declared.throws.Dice.{Dice}
-use Rattle.bg_mat.specs.Rows.Cells.{IsDiceWord, SkipsNumber, TellsCell, TellsCells, TellsLegsAt, TellsRow}
+use Rattle.bg_mat.specs.Rows.Cells.{BeginsDice, SkipsNumber, TellsCell, TellsCells, TellsLegsAt, TellsRow}
 use Rattle.bg_mat.specs.Rows.Cells.{left_column, most_legs}
-use Rattle.bg_mat.specs.Rows.Words.{IsBlankText, IsFirstWord, leading_blanks}
+use Rattle.bg_mat.specs.Rows.Words.{IsBlankText, IsEither, IsFirstWord, leading_blanks}
 use Rattle.bg_mat.specs.declared.faults.MatFault.{MatFault}
 use Rattle.bg_mat.specs.declared.faults.MatFault.TheVariants as why
 use Rattle.bg_mat.specs.declared.movements.legs.Leg.{Leg}
@@ -12,7 +12,8 @@ use Rattle.bg_mat.specs.declared.rows.cells.Cell.{Cell}
 
 -- the double of a double, which the match rules do not have
 abbrev pub IsBeaverWord : List ℕ → Type 0
-IsBeaverWord word = (word ≡ codes "Beavers") ⊎ (word ≡ codes "Raccoons")
+IsBeaverWord word =
+    IsEither word (codes "Beaver") (codes "Beavers") ⊎ IsEither word (codes "Raccoon") (codes "Raccoons")
 
 -- a text begins with such a word
 abbrev pub IsBeaver : List ℕ → Type 0
@@ -26,7 +27,7 @@ HasTooMany text others =
 -- a text begins with dice, and behind them are more legs than a movement has
 abbrev pub IsTooLong : List ℕ → Type 0
 IsTooLong text =
-    (word after : List ℕ) × (dice : Dice) × IsFirstWord text word after × IsDiceWord word dice × HasTooMany after []
+    (after : List ℕ) × (dice : Dice) × BeginsDice text dice after × HasTooMany after []
 
 -- a cell is to begin where the text does: with the cells of a row, or behind one in the left column
 abbrev pub IsCellPlace : List ℕ → List ℕ → Type 0

@@ -1,6 +1,7 @@
 -- The words of a line: its longest runs of bytes that are not blank.
-use Rattle.std.specs.Prelude.{◌≡◌, ◌==◌, ◌||◌, ℕ, suc, ◌<◌, Bool, true, false, List, [], ◌∷◌, ◌++◌, length}
+use Rattle.std.specs.Prelude.{◌≡◌, ◌⊎◌, ◌==◌, ◌||◌, ℕ, suc, ◌<◌, Bool, true, false, List, [], ◌∷◌, ◌++◌, length, map}
 use Rattle.std.specs.Prelude.{if◌then◌else◌}
+use Rattle.std.specs.Char.{to_ascii_lowercase}
 use Rattle.std.specs.List.{All}
 
 -- a space, a tab, or the carriage return before a line feed
@@ -48,3 +49,26 @@ abbrev pub BeginsWith : List ℕ → List (List ℕ) → List ℕ → Type 0
 BeginsWith text [] rest = text ≡ rest
 BeginsWith text (word ∷ words) rest =
     (after : List ℕ) × IsFirstWord text word after × BeginsWith after words rest
+
+-- the same letters, each as a capital or not
+abbrev pub SameLetters : List ℕ → List ℕ → Type 0
+SameLetters word other = map to_ascii_lowercase word ≡ map to_ascii_lowercase other
+
+-- the word is one of these two
+abbrev pub IsEither : List ℕ → List ℕ → List ℕ → Type 0
+IsEither word one other = SameLetters word one ⊎ SameLetters word other
+
+-- the first word of a text is this one, in capitals or not, and then comes the rest
+pub record Says (text said rest : List ℕ) : Type 0 where
+  pub word : List ℕ
+  pub first : IsFirstWord text word rest
+  pub same : SameLetters word said
+
+-- the first word of a text is one of these two, as `Take` or `Takes`
+abbrev pub SaysEither : List ℕ → List ℕ → List ℕ → List ℕ → Type 0
+SaysEither text one other rest = Says text one rest ⊎ Says text other rest
+
+-- the text begins with these words, in capitals or not
+abbrev pub SaysAll : List ℕ → List (List ℕ) → List ℕ → Type 0
+SaysAll text [] rest = text ≡ rest
+SaysAll text (word ∷ words) rest = (after : List ℕ) × Says text word after × SaysAll after words rest

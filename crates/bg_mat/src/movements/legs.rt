@@ -44,17 +44,17 @@ pub enum LegFault {
 fn read_point(word: &[u8]) -> Option<u8>
     ensures { MatchOption result ((point : ℕ) → point ≤ 25 → IsPointText word.now point → ⊥) (IsPointText word.now) }
 {
-    match word {
-        b"bar" | b"Bar" => Some(BAR),
-        b"off" | b"Off" => Some(OFF),
-        _ => {
-            let number = read_number(word)?;
-            if number <= u16::from(BAR) {
-                Some(number as u8)
-            } else {
-                None
-            }
-        }
+    if word.eq_ignore_ascii_case(b"bar") {
+        return Some(BAR);
+    }
+    if word.eq_ignore_ascii_case(b"off") {
+        return Some(OFF);
+    }
+    let number = read_number(word)?;
+    if number <= u16::from(BAR) {
+        Some(number as u8)
+    } else {
+        None
     }
 }
 

@@ -1,5 +1,5 @@
 //! Doubles and their answers.
-ghost use Rattle.std.specs.Prelude.{◌≡◌, ◌↔◌, ◌*◌, None, IsTrue, OnOk};
+ghost use Rattle.std.specs.Prelude.{◌≡◌, ◌↔◌, ◌*◌, None, IfSome, IsTrue, OnOk};
 ghost use Rattle.bg_mat.specs.Telling.{Doubles, Drops, Takes, GoesOn};
 ghost use Rattle.bg_mat.specs.Replaying.{IsReplay, Plays, place_of};
 ghost use Rattle.bg_mat.specs.ItemFaults.{IsAnswerFault, IsDoubleFault};
@@ -34,17 +34,32 @@ impl Replay {
         2 * u16::from(self.standing.cube().value)
     }
 
-    pub(super) fn double(&mut self, line: u32, player: Player, shows: u16) -> Result<(), ReadFault>
+    /// Whether the cube will show what is said, if something is.
+    fn shows(&self, said: Option<u16>) -> bool
+        ensures { IsTrue result ↔ IfSome said (λ n. n ≡ 2 * self.now.standing.cube.value) }
+    {
+        match said {
+            Some(said) => said == self.doubled_cube(),
+            None => true,
+        }
+    }
+
+    pub(super) fn double(
+        &mut self,
+        line: u32,
+        player: Player,
+        said: Option<u16>,
+    ) -> Result<(), ReadFault>
         requires replay { IsReplay self.old }
         requires goes_on { GoesOn (place_of self.old) }
         requires closed { self.old.pending ≡ None }
-        ensures done { OnOk result (Plays self.old self.new line player (Doubles shows)) }
-        ensures fault { IfErr result (RefusesAt line (IsDoubleFault self.old.log self.old.standing player shows)) }
+        ensures done { OnOk result (Plays self.old self.new line player (Doubles said)) }
+        ensures fault { IfErr result (RefusesAt line (IsDoubleFault self.old.log self.old.standing player said)) }
     {
         if !self.is_to_act(player) {
             return Err(refused(line, MatFault::OutOfTurn));
         }
-        if shows != self.doubled_cube() {
+        if !self.shows(said) {
             return Err(refused(line, MatFault::WrongCube));
         }
         self.add(line, Entry::Doubled)

@@ -6,7 +6,7 @@ ghost use Rattle.bg_turns.specs.Dice.{first_pips, second_pips};
 ghost use Rattle.bg_turns.specs.HasStep.{has_step};
 ghost use Rattle.bg_turns.specs.declared.throws.Dice.{Dice as DiceOf};
 ghost use Rattle.bg_mat.specs.Turns.{TellsTurn};
-ghost use Rattle.bg_mat.specs.Telling.{Turn as Turns, Does, GoesOn, BringsDice, deed_of};
+ghost use Rattle.bg_mat.specs.Telling.{Turn as Turns, CannotMove, Does, GoesOn, BringsDice, deed_of};
 ghost use Rattle.bg_mat.specs.Replaying.{AddsMove, Closes, ClosesBy, IsReplay, Plays, Rolls, place_of};
 ghost use Rattle.bg_mat.specs.ItemFaults.{IsDiceFault, IsEmptyFault, IsMoveFault, IsMovementFault, IsPendingFault};
 ghost use Rattle.bg_mat.specs.ItemFaults.{IsRollFault, IsThrowFault};
@@ -109,6 +109,24 @@ impl Replay {
         self.roll(line, player, dice)?;
         let turn = self.turn_of(line, player, dice, legs)?;
         self.add(line, Entry::Moved(turn))
+    }
+
+    /// Adds the turn of a player who can't move: dice, and the turn without steps, or a pass.
+    pub(super) fn cannot_move(
+        &mut self,
+        line: u32,
+        player: Player,
+        dice: Dice,
+    ) -> Result<(), ReadFault>
+        requires replay { IsReplay self.old }
+        requires goes_on { GoesOn (place_of self.old) }
+        requires closed { self.old.pending ≡ None }
+        ensures done { OnOk result (Plays self.old self.new line player (CannotMove dice)) }
+        ensures fault { IfErr result (RefusesAt line (IsThrowFault self.old.log self.old.standing player dice
+            (λ log s. IsEmptyFault log s player dice))) }
+    {
+        self.roll(line, player, dice)?;
+        self.add_empty(line, player, dice)
     }
 
     /// The turn without steps, where the match stands.

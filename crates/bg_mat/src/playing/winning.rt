@@ -133,7 +133,7 @@ impl Replay {
         ensures fault { IfErr result (RefusesAt line (IsOfferFault self.old.log self.old.standing winner won)) }
     {
         if !self.may_lose(winner.opponent()) {
-            return Err(refused(line, MatFault::OutOfTurn));
+            return Err(refused(line, MatFault::ResignsOutOfTurn));
         }
         let Some(level) = self.level_for(won) else {
             return Err(refused(line, MatFault::WrongPoints));

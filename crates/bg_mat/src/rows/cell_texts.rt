@@ -1,5 +1,5 @@
 //! The texts of cells.
-ghost use Rattle.std.specs.Prelude.{◌≡◌, ◌++◌, OnOk};
+ghost use Rattle.std.specs.Prelude.{◌≡◌, ◌++◌, OnOk, Some};
 ghost use Rattle.bg_mat.specs.Rows.CellTexts.{cell_text, dice_text, ending_text, leg_text, legs_text, points_text};
 ghost use Rattle.bg_mat.specs.Rows.CellTexts.{win_text};
 ghost use Rattle.bg_mat.specs.Legs.{mark};
@@ -82,7 +82,7 @@ fn put_win(out: &mut Vec<u8>, win: Win) -> Result<(), AllocError>
 
 /// Adds a double, after which the cube shows so much.
 fn put_double(out: &mut Vec<u8>, shows: u16) -> Result<(), AllocError>
-    ensures { OnOk result (out.new.items ≡ out.old.items ++ cell_text (Cell.Doubles shows)) }
+    ensures { OnOk result (out.new.items ≡ out.old.items ++ cell_text (Cell.Doubles (Some shows))) }
 {
     put_text(out, " Doubles => ")?;
     put_number(out, shows.into())
@@ -96,13 +96,24 @@ fn put_turn(out: &mut Vec<u8>, dice: Dice, legs: &[Leg]) -> Result<(), AllocErro
     put_legs(out, legs)
 }
 
+/// Adds dice, and what stands in place of a movement.
+fn put_dice_and(out: &mut Vec<u8>, dice: Dice, words: &str) -> Result<(), AllocError>
+    ensures { OnOk result (out.new.items ≡ out.old.items ++ (dice_text dice ++ words.now)) }
+{
+    put_dice(out, dice)?;
+    put_text(out, words)
+}
+
 /// Adds what a player does.
 pub(crate) fn put_cell(out: &mut Vec<u8>, cell: &Cell) -> Result<(), AllocError>
     ensures { OnOk result (out.new.items ≡ out.old.items ++ cell_text cell.now) }
 {
     match cell {
         Cell::Turn(dice, legs) => put_turn(out, *dice, legs.as_slice()),
-        Cell::Doubles(shows) => put_double(out, *shows),
+        Cell::CannotMove(dice) => put_dice_and(out, *dice, " Cannot Move"),
+        Cell::Unknown(dice) => put_dice_and(out, *dice, " ????"),
+        Cell::Doubles(None) => put_text(out, " Doubles"),
+        Cell::Doubles(Some(shows)) => put_double(out, *shows),
         Cell::Takes => put_text(out, " Takes"),
         Cell::Drops => put_text(out, " Drops"),
         Cell::Wins(win) => put_win(out, *win),

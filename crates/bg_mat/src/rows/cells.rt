@@ -1,17 +1,16 @@
 //! A cell of a row: what one player does.
 ghost use Rattle.std.specs.Prelude.{◌≡◌, ◌↔◌, ℕ, List, IfErr, IfOk, IsTrue, MatchOption};
-ghost use Rattle.bg_mat.specs.Rows.Cells.{AddsMovement, BeginsDice, EndsMovement, IsDiceWord, TellsCell, TellsDouble};
-ghost use Rattle.bg_mat.specs.Rows.Cells.{TellsPoints, TellsWin};
+ghost use Rattle.bg_mat.specs.Rows.Cells.{AddsMovement, EndsMovement, HasDice, TellsCell, TellsPoints, TellsWin};
 ghost use Rattle.bg_mat.specs.Rows.RowFaults.{HasTooMany, IsBeaver, IsBeaverWord, IsCellFault, IsTooLong};
 ghost use Rattle.bg_mat.specs.declared.rows.cells.Win.{Win as WinOf};
-ghost use Rattle.bg_turns.specs.declared.throws.Dice.{Dice as DiceOf};
 
 use crate::MatFault;
 use crate::movements::legs::{LegFault, Legs, add_word};
+use crate::rows::dice::{skip_cannot_move, skip_unknown, split_dice};
+use crate::rows::doubles::split_double;
 use crate::rows::numbers::read_number;
-use crate::rows::words::{is_points, skip_word, split_word};
+use crate::rows::words::{is_either, is_points, skip_either, skip_word, split_word};
 use arrayvec::ArrayVec;
-use bg_board::Die;
 use bg_turns::Dice;
 
 /// What one player does.
@@ -19,8 +18,12 @@ use bg_turns::Dice;
 pub(crate) enum Cell {
     /// He rolls these dice, and moves.
     Turn(Dice, Legs),
-    /// He turns the cube, which then shows so much.
-    Doubles(u16),
+    /// He rolls these dice, and can't move.
+    CannotMove(Dice),
+    /// He rolls these dice, and it is not known what he moves.
+    Unknown(Dice),
+    /// He turns the cube, which then shows so much, where the file says so.
+    Doubles(Option<u16>),
     /// He takes the cube.
     Takes,
     /// He drops the game.
@@ -35,19 +38,6 @@ pub(crate) struct Win {
     pub(crate) points: u16,
     /// The win ends the match, as the file says. It need not say so.
     pub(crate) ends_match: bool,
-}
-
-/// The dice that a word names, as `31:`.
-fn read_dice(word: &[u8]) -> Option<Dice>
-    ensures { MatchOption result ((dice : DiceOf) → IsDiceWord word.now dice → ⊥) (IsDiceWord word.now) }
-{
-    match word {
-        [first @ b'1'..=b'6', second @ b'1'..=b'6', b':'] => Some(Dice {
-            first: Die::new(first - b'0')?,
-            second: Die::new(second - b'0')?,
-        }),
-        _ => None,
-    }
 }
 
 /// Adds the movement that a text begins with, all its words up to another one, and gives what follows.
@@ -86,7 +76,7 @@ fn split_win(text: &[u8]) -> Option<(Win, &[u8])>
     ensures { MatchOption result ((win : WinOf) (rest : List ℕ) → TellsWin text.now win rest → ⊥)
         (λ found. TellsWin text.now found.0 found.1.now) }
 {
-    let (points, rest) = split_points(skip_word(text, b"Wins")?)?;
+    let (points, rest) = split_points(skip_either(text, b"Win", b"Wins")?)?;
     let Some(end) = skip_word(rest, b"and") else {
         let ends_match = false;
         return Some((Win { points, ends_match }, rest));
@@ -96,29 +86,23 @@ fn split_win(text: &[u8]) -> Option<(Win, &[u8])>
     Some((Win { points, ends_match }, end))
 }
 
-/// What the cube shows by the double that a text begins with, and what follows.
-fn split_double(text: &[u8]) -> Option<(u16, &[u8])>
-    ensures { MatchOption result ((shows : ℕ) (rest : List ℕ) → TellsDouble text.now shows rest → ⊥)
-        (λ found. TellsDouble text.now found.0 found.1.now) }
-{
-    let (number, rest) = split_word(skip_word(skip_word(text, b"Doubles")?, b"=>")?)?;
-    Some((read_number(number)?, rest))
-}
-
-/// The turn that a text begins with, and what follows. None where it begins with no dice.
+/// The dice that a text begins with, what the player moves, and what follows. None where it begins with no dice.
 fn split_turn(text: &[u8]) -> Result<Option<(Cell, &[u8])>, MatFault>
-    ensures told { IfOk result (λ found. MatchOption found (BeginsDice text.now → ⊥)
+    ensures told { IfOk result (λ found. MatchOption found (HasDice text.now → ⊥)
         (λ parts. TellsCell text.now parts.0 parts.1.now)) }
     ensures fault { IfErr result (λ why. (why ≡ MatFault.TooManySteps) × IsTooLong text.now) }
 {
-    let Some((word, rest)) = split_word(text) else {
+    let Some((dice, text)) = split_dice(text) else {
         return Ok(None);
     };
-    let Some(dice) = read_dice(word) else {
-        return Ok(None);
-    };
+    if let Some(rest) = skip_cannot_move(text) {
+        return Ok(Some((Cell::CannotMove(dice), rest)));
+    }
+    if let Some(rest) = skip_unknown(text) {
+        return Ok(Some((Cell::Unknown(dice), rest)));
+    }
     let mut legs = ArrayVec::new();
-    let rest = split_movement(&mut legs, rest)?;
+    let rest = split_movement(&mut legs, text)?;
     let _legs = legs.as_slice();
     Ok(Some((Cell::Turn(dice, legs), rest)))
 }
@@ -127,7 +111,7 @@ fn split_turn(text: &[u8]) -> Result<Option<(Cell, &[u8])>, MatFault>
 fn is_beaver(word: &[u8]) -> bool
     ensures { IsTrue result ↔ IsBeaverWord word.now }
 {
-    matches!(word, b"Beavers" | b"Raccoons")
+    is_either(word, b"Beaver", b"Beavers") || is_either(word, b"Raccoon", b"Raccoons")
 }
 
 /// Whether a text begins with such a word.
@@ -154,10 +138,10 @@ pub(crate) fn split_cell(text: &[u8]) -> Result<(Cell, &[u8]), MatFault>
     if let Some((win, rest)) = split_win(text) {
         return Ok((Cell::Wins(win), rest));
     }
-    if let Some(rest) = skip_word(text, b"Takes") {
+    if let Some(rest) = skip_either(text, b"Take", b"Takes") {
         return Ok((Cell::Takes, rest));
     }
-    if let Some(rest) = skip_word(text, b"Drops") {
+    if let Some(rest) = skip_either(text, b"Drop", b"Drops") {
         return Ok((Cell::Drops, rest));
     }
     if begins_with_beaver(text) {

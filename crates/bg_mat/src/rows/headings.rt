@@ -1,12 +1,33 @@
 //! The lines that head a match and its games.
 ghost use Rattle.std.specs.Prelude.{◌≡◌, ◌++◌, ◌↔◌, ℕ, List, IsTrue, MatchOption};
 ghost use Rattle.bg_mat.specs.Rows.Headings.{BeginsWithScore, EndsLength, EndsWithScore, HasScore, IsComment, IsFiller};
+ghost use Rattle.bg_mat.specs.Rows.Headings.{IsGameNumber, IsHeader, IsHeaderWord};
 ghost use Rattle.bg_mat.specs.Rows.Headings.{IsGameLine, IsLengthLine, IsScoresLine};
 ghost use Rattle.bg_mat.specs.Rows.Words.{EndsSolid, EndsWord, IsBlankText};
 
 use crate::rows::numbers::read_number;
 use crate::rows::words::{is_blank, is_blank_text, is_points, skip_word, split_blanks, split_word};
 use itoa::Buffer;
+
+/// Whether a line tells nothing before the length of a match: it is blank, or of a header.
+pub(crate) fn is_header(line: &[u8]) -> bool
+    ensures { IsTrue result ↔ IsHeader line.now }
+{
+    match split_word(line) {
+        Some((word, _)) => begins_header(word),
+        None => true,
+    }
+}
+
+/// Whether a word begins a line of a header.
+fn begins_header(word: &[u8]) -> bool
+    ensures { IsTrue result ↔ IsHeaderWord word.now }
+{
+    match word.split_first() {
+        Some((first, _)) => matches!(*first, b';' | b'#' | b'['),
+        None => false,
+    }
+}
 
 /// Whether a line tells nothing: it is blank, or a comment.
 pub(crate) fn is_filler(line: &[u8]) -> bool
@@ -65,6 +86,16 @@ pub(crate) fn tells_length(line: &[u8]) -> bool
     read_length(line).is_some()
 }
 
+/// The number of a game, with a colon behind it or not.
+fn read_game_number(word: &[u8]) -> Option<u16>
+    ensures { MatchOption result ((n : ℕ) → IsGameNumber word.now n → ⊥) (IsGameNumber word.now) }
+{
+    match front_before(word, b":") {
+        Some(digits) => read_number(digits),
+        None => read_number(word),
+    }
+}
+
 /// The number of a game, by the line `Game N`.
 pub(crate) fn read_game(line: &[u8]) -> Option<u16>
     ensures { MatchOption result ((n : ℕ) → IsGameLine line.now n → ⊥) (IsGameLine line.now) }
@@ -75,7 +106,7 @@ pub(crate) fn read_game(line: &[u8]) -> Option<u16>
     let Some((number, rest)) = split_word(behind) else {
         return None;
     };
-    let Some(game) = read_number(number) else {
+    let Some(game) = read_game_number(number) else {
         return None;
     };
     if is_blank_text(rest) {

@@ -2,7 +2,7 @@
 ghost use Rattle.std.specs.Prelude.{◌≡◌, ◌↔◌, ◌++◌, ℕ, List, IsTrue, MatchOption};
 ghost use Rattle.bg_mat.specs.Rows.Words.{is_blank as is_blank_byte, leading_blanks, BeginsSolid, EndsWord};
 ghost use Rattle.bg_mat.specs.Rows.Words.{IsBlankText};
-ghost use Rattle.bg_mat.specs.Rows.Words.{IsFirstWord, IsSolid};
+ghost use Rattle.bg_mat.specs.Rows.Words.{IsEither, IsFirstWord, IsSolid, Says, SaysEither};
 ghost use Rattle.bg_mat.specs.Rows.Headings.{IsPoints};
 
 /// Whether a byte is blank: a space, a tab, or the carriage return before a line feed.
@@ -58,20 +58,42 @@ pub(crate) fn is_blank_text(text: &[u8]) -> bool
     split_blanks(text).1.is_empty()
 }
 
-/// What follows a text's first word where that is this one.
+/// What follows a text's first word where that is this one, in capitals or not.
 pub(crate) fn skip_word<'a>(text: &'a [u8], expected: &[u8]) -> Option<&'a [u8]>
-    ensures { MatchOption result ((rest : List ℕ) → IsFirstWord text.now expected.now rest → ⊥)
-        (λ rest. IsFirstWord text.now expected.now rest.now) }
+    ensures { MatchOption result ((rest : List ℕ) → Says text.now expected.now rest → ⊥)
+        (λ rest. Says text.now expected.now rest.now) }
 {
     let Some((word, rest)) = split_word(text) else {
         return None;
     };
-    if word == expected { Some(rest) } else { None }
+    if word.eq_ignore_ascii_case(expected) {
+        Some(rest)
+    } else {
+        None
+    }
+}
+
+/// What follows a text's first word where that is one of these two, in capitals or not.
+pub(crate) fn skip_either<'a>(text: &'a [u8], one: &[u8], other: &[u8]) -> Option<&'a [u8]>
+    ensures { MatchOption result ((rest : List ℕ) → SaysEither text.now one.now other.now rest → ⊥)
+        (λ rest. SaysEither text.now one.now other.now rest.now) }
+{
+    match skip_word(text, one) {
+        Some(rest) => Some(rest),
+        None => skip_word(text, other),
+    }
+}
+
+/// Whether a word is one of these two, in capitals or not.
+pub(crate) fn is_either(word: &[u8], one: &[u8], other: &[u8]) -> bool
+    ensures { IsTrue result ↔ IsEither word.now one.now other.now }
+{
+    word.eq_ignore_ascii_case(one) || word.eq_ignore_ascii_case(other)
 }
 
 /// Whether a word is `point`, of one or of several.
 pub(crate) fn is_points(word: &[u8]) -> bool
     ensures { IsTrue result ↔ IsPoints word.now }
 {
-    matches!(word, b"point" | b"points")
+    is_either(word, b"point", b"points")
 }

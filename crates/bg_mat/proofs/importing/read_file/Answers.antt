@@ -12,26 +12,26 @@ returns-in_err-record-clause-fault c =
     let h : IsReadFault c.args.id c.args.rules (lines_of c.args.input.now) c.in_err-record.field-0.0 =
     begin_refused c.args.id c.args.rules c.args.input.now c.loop-line.number c.loop-line.rest.now c.in-Some.line.now c.in-Some.after.now
     c.in_err-record.field-0.0 c.loop-line.invariant.refuses c.in-Some.ensures.lines
-    (λ f. let t = c.is_filler.ensures.1 f in absurd (cc (t, c.if-not-is_filler.true))) c.in_err-record.ensures.fault in
+    (λ f. let t = c.is_header.ensures.1 f in absurd (cc (t, c.if-not-is_header.true))) c.in_err-record.ensures.fault in
     search (rules, h)
 
-pub returns-then-not-is_filler-clause-done : goal.returns-then-not-is_filler-clause-done
-returns-then-not-is_filler-clause-done c =
+pub returns-then-not-is_header-clause-done : goal.returns-then-not-is_header-clause-done
+returns-then-not-is_header-clause-done c =
     let (log, (points, is, begins)) = c.in_ok-record.ensures.done in
     if_ok c.read_games.result
-    (λ imported h. file_imported c.args.id c.args.rules c.args.input.now c.loop-line.rest.now c.in-Some.line.now
+    (λ imported h. file_imported c.args.id c.args.rules (lines_of c.args.input.now) c.loop-line.rest.now c.in-Some.line.now
     c.in-Some.after.now c.loop-line.number points c.in_ok-record.record c.new.result imported.record imported.lines.items
     c.loop-line.invariant.file c.in-Some.ensures.lines is begins c.new.ensures h)
     c.read_games.ensures.done
 
-pub returns-then-not-is_filler-clause-fault : goal.returns-then-not-is_filler-clause-fault
-returns-then-not-is_filler-clause-fault c =
+pub returns-then-not-is_header-clause-fault : goal.returns-then-not-is_header-clause-fault
+returns-then-not-is_header-clause-fault c =
     let (log, (points, is, terms)) = c.in_ok-record.ensures.done in
     let range : points ≡ c.in_ok-record.record.terms.length = rw terms refl in
     if_err c.read_games.result
     (λ fault h. games_refused c.args.id c.args.rules c.args.input.now c.loop-line.number points c.loop-line.rest.now c.in-Some.line.now
     c.in-Some.after.now fault c.loop-line.invariant.refuses c.in-Some.ensures.lines
-    (λ f. let t = c.is_filler.ensures.1 f in absurd (cc (t, c.if-not-is_filler.true))) is
+    (λ f. let t = c.is_header.ensures.1 f in absurd (cc (t, c.if-not-is_header.true))) is
     (let low = log.points.0 in omega (arith, range)) (let low = log.points.1 in omega (arith, range)) c.new.result (rw terms at c.new.ensures) h)
     c.read_games.ensures.fault
 

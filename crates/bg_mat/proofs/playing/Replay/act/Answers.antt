@@ -15,6 +15,13 @@ returns-in-Turn-2-clause-done c =
     c.requires.closed played)
     c.turn.ensures.done
 
+pub returns-in-CannotMove-clause-done : goal.returns-in-CannotMove-clause-done
+returns-in-CannotMove-clause-done c =
+    on_ok c.cannot_move.result
+    (λ played. item_of_cell c.args.self.now c.cannot_move.new.self c.args.line c.args.player c.args.cell _ (ap deed_of c.in-CannotMove.is)
+    c.requires.closed played)
+    c.cannot_move.ensures.done
+
 pub returns-in-Doubles-clause-done : goal.returns-in-Doubles-clause-done
 returns-in-Doubles-clause-done c =
     on_ok c.double.result

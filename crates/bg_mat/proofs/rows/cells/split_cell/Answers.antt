@@ -22,5 +22,5 @@ returns-clause-fault c =
     let dice = rw c.in_default.is at c.in_ok-parts.ensures.told in
     cell_not_one c.args.text.now dice
     (no_cell c.args.text.now dice c.in_default-split_double.ensures c.in_default-split_win.ensures
-    c.in_default-skip_word.ensures c.in_default-skip_word-2.ensures)
+    c.in_default-skip_either.ensures c.in_default-skip_either-2.ensures)
     (λ b. let t = c.begins_with_beaver.ensures.1 b in absurd (cc (t, c.if-begins_with_beaver.false)))
