@@ -3,11 +3,15 @@
 #![tactic(auto)]
 
 #[cfg(test)]
+mod boards;
+#[cfg(test)]
 mod checks;
 #[cfg(test)]
 mod match_files;
 #[cfg(test)]
 mod pictures;
+#[cfg(test)]
+mod records;
 #[cfg(test)]
 mod reports;
 #[cfg(test)]

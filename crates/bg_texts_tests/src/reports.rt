@@ -8,3 +8,15 @@ mod saved_files;
 mod shown;
 mod transcript_refusals;
 mod uses;
+
+use crate::checks::text_of;
+use bg_text::Verdict;
+use std::alloc::{AllocError, Global};
+use std::process::Abort;
+
+/// What was said of a file, and the verdict behind it.
+fn told(rt: &impl Abort, alloc: Global, said: Result<(Vec<u8>, Verdict), AllocError>) -> String {
+    let (text, verdict) = said.expect(rt, "memory");
+    let text = text_of(&text);
+    format!(in alloc; "{text}{verdict:?}").expect(rt, "memory")
+}

@@ -4,13 +4,15 @@ mod refusals;
 mod turns;
 mod uses;
 
+use crate::boards::board;
+use crate::checks::check_told;
 use bg_board::{Board, Die, Player};
 use bg_match::Entry;
 use bg_text::entry_text;
 use bg_turns::{Dice, Turn};
 use bg_typed::{TypedFault, read_turn};
 use std::alloc::Global;
-use std::test::Fail;
+use std::process::Abort;
 
 /// Where a turn is typed.
 #[derive(Clone, Copy)]
@@ -20,63 +22,51 @@ struct Place {
     dice: Dice,
 }
 
-impl Place {
-    /// Where a player has these dice on a board.
-    fn new(board: Board, player: Player, first: Die, second: Die) -> Place {
-        Place {
-            board,
-            player,
-            dice: Dice { first, second },
-        }
+/// Where X has these dice, and the checkers of X and of O stand so, each in his own numbering, and the others are off.
+fn placed(rt: &impl Abort, x: &str, o: &str, first: Die, second: Die) -> Place {
+    Place {
+        board: board(rt, x, o),
+        player: Player::X,
+        dice: Dice { first, second },
     }
 }
 
-/// The board where players have so many checkers on these points, each in his own numbering, and the others off.
-fn board_of(x: &[(usize, u8)], o: &[(usize, u8)]) -> Result<Board, Fail> {
-    Ok(Board::from_counts(counts_of(x)?, counts_of(o)?)?)
-}
-
-fn counts_of(points: &[(usize, u8)]) -> Result<[u8; 26], Fail> {
-    let mut counts = [0; 26];
-    let mut off: u8 = 15;
-    for &(point, count) in points {
-        if point >= 26 {
-            return Err(Fail::from("no point"));
-        }
-        counts[point] = count;
-        off = off.checked_sub(count).ok_or("more than fifteen checkers")?;
+/// Where a player has these dice at the start.
+fn start(player: Player, first: Die, second: Die) -> Place {
+    Place {
+        board: Board::start(),
+        player,
+        dice: Dice { first, second },
     }
-    counts[0] = off;
-    Ok(counts)
 }
 
-/// How a turn is printed, behind the player's letter.
-fn printed(alloc: Global, player: Player, turn: Turn) -> Result<String, Fail> {
-    let text = entry_text(Some(player), &Entry::Moved(turn));
-    let (_, printed) = text.as_str().split_once(' ').ok_or("no letter")?;
-    Ok(format!(in alloc; "{printed}")?)
+/// How a turn is printed, behind a player's letter.
+fn printed(rt: &impl Abort, alloc: Global, turn: &Turn) -> String {
+    let text = entry_text(Some(Player::X), &Entry::Moved(turn.copy()));
+    let words = text.as_str().strip_prefix("X ").expect(rt, "a letter");
+    String::from_str(alloc, words).expect(rt, "memory")
+}
+
+/// Both turns of which either is meant.
+fn both(rt: &impl Abort, alloc: Global, one: &Turn, other: &Turn) -> String {
+    let (one, other) = (printed(rt, alloc, one), printed(rt, alloc, other));
+    format!(in alloc; "{one} or {other}").expect(rt, "memory")
 }
 
 /// The turn that is read, or why it is refused; both turns where these hit otherwise.
-fn told(alloc: Global, at: &Place, typed: &str) -> Result<String, Fail> {
-    match read_turn(alloc, typed.as_bytes(), &at.board, at.player, at.dice) {
-        Ok(turn) => printed(alloc, at.player, turn),
-        Err(TypedFault::Ambiguous(one, other)) => {
-            let one = printed(alloc, at.player, one)?;
-            let other = printed(alloc, at.player, other)?;
-            Ok(format!(in alloc; "{one} or {other}")?)
-        }
-        Err(fault) => Ok(format!(in alloc; "{fault}")?),
+fn told(rt: &impl Abort, alloc: Global, at: &Place, typed: &str) -> String {
+    let read = read_turn(alloc, typed.as_bytes(), &at.board, at.player, at.dice);
+    match &read {
+        Ok(turn) => printed(rt, alloc, turn),
+        Err(TypedFault::Ambiguous(one, other)) => both(rt, alloc, one, other),
+        Err(fault) => format!(in alloc; "{fault}").expect(rt, "memory"),
     }
 }
 
-/// Fails at the first text that is told otherwise.
-fn check_typed(alloc: Global, at: &Place, rows: &[(&str, &str)]) -> Result<(), Fail> {
+/// Each text is told so.
+fn check_typed(rt: &impl Abort, alloc: Global, at: &Place, rows: &[(&str, &str)]) {
     for &(typed, wanted) in rows {
-        let told = told(alloc, at, typed)?;
-        if told.as_str() != wanted {
-            return Err(Fail::new(format_args!("\"{}\" for \"{typed}\"", told.as_str())));
-        }
+        let told = told(rt, alloc, at, typed);
+        check_told(rt, typed, told.as_str(), wanted);
     }
-    Ok(())
 }

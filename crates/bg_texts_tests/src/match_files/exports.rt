@@ -1,14 +1,10 @@
 //! What records are written as.
-use super::records::{
-    THREE_POINTS, check_entries, check_len, check_same, read, read_rows, rolled, turn,
-};
-use crate::checks::text_of;
-use bg_board::Die;
-use bg_mat::{export_mat, import_mat};
-use bg_match::{Entry, Level, Record, Rules};
-use bg_text::split_line;
+use super::records::{THREE_POINTS, check_same, check_transcript, export, read, read_rows};
+use crate::checks::{check_row, check_told, text_of};
+use crate::records::push_lines;
+use bg_match::{Record, Rules};
 use std::alloc::Global;
-use std::test::Fail;
+use std::process::Abort;
 
 /// Two games of a match to three points: a win by a drop, and one by an offer to resign in the midst of a turn.
 const TWO_GAMES: &str = " 3 point match
@@ -40,115 +36,106 @@ const DROP_OF_X: &str = " 3 point match
   1) 61: 13/7 8/7                 Doubles => 2
   2)  Takes                      \n";
 
-fn export(alloc: Global, record: &Record) -> Result<Vec<u8>, Fail> {
-    Ok(export_mat(alloc, record)?)
-}
-
-/// Fails where what is written of a record does not end so.
-fn check_end(alloc: Global, record: &Record, end: &str) -> Result<(), Fail> {
-    let written = export(alloc, record)?;
-    let text = text_of(&written);
-    if text.ends_with(end) {
-        return Ok(());
-    }
-    Err(Fail::new(format_args!("no {end} at the end of {text}")))
+/// What is written of the record of a text is that text; returns how many entries it has.
+fn written_again(rt: &impl Abort, alloc: Global, text: &str) -> u32 {
+    let imported = read(rt, alloc, text);
+    let written = export(rt, alloc, &imported.record);
+    check_told(rt, text, text_of(&written), text);
+    imported.record.len()
 }
 
 /// What is written of a record is what was read of such a text.
 #[test]
-fn games_as_they_are_written(rt: HostRuntime) -> Result<(), Fail> {
-    for (file, entries) in [(TWO_GAMES, 15), (DROP_OF_X, 8)] {
-        let imported = read(rt.alloc(), file)?;
-        check_len(&imported.record, entries)?;
-        let written = export(rt.alloc(), &imported.record)?;
-        let text = text_of(&written);
-        assert!(rt; text == file, "{text}");
+fn games_as_they_are_written(rt: HostRuntime) {
+    check_row(
+        &rt,
+        TWO_GAMES,
+        written_again(&rt, rt.alloc(), TWO_GAMES) == 15,
+    );
+    check_row(
+        &rt,
+        DROP_OF_X,
+        written_again(&rt, rt.alloc(), DROP_OF_X) == 8,
+    );
+}
+
+/// The first lines of the two games, so many.
+fn first_lines(rt: &impl Abort, count: usize) -> &'static str {
+    let mut length: usize = 0;
+    for line in TWO_GAMES.split('\n').take(count) {
+        length = length.saturating_add(line.len()).saturating_add(1);
     }
-    Ok(())
+    TWO_GAMES.get(..length).expect(rt, "so many lines")
 }
 
 /// A file that breaks off within a game, behind a win, or with dice that are not moved comes back as it was.
 #[test]
-fn files_that_break_off(rt: HostRuntime) -> Result<(), Fail> {
-    let mut front = Vec::new(rt.alloc());
-    let mut rest = TWO_GAMES.as_bytes();
-    for number in 1..=13 {
-        let (line, after) = split_line(rest).ok_or("no line")?;
-        front.extend_from_slice(line)?;
-        front.push(b'\n')?;
-        rest = after;
-        if matches!(number, 1 | 5 | 6 | 8 | 12 | 13) {
-            let imported = import_mat(rt.alloc(), 1, Rules::One, &front)?;
-            let written = export(rt.alloc(), &imported.record)?;
-            assert!(rt; written == front, "{number} lines");
-        }
+fn files_that_break_off(rt: HostRuntime) {
+    for count in [1, 5, 6, 8, 12, 13] {
+        written_again(&rt, rt.alloc(), first_lines(&rt, count));
     }
-    Ok(())
+}
+
+/// What is written of the record of some rows ends so.
+fn check_end(rt: &impl Abort, alloc: Global, rows: &str, end: &str) {
+    let imported = read_rows(rt, alloc, THREE_POINTS, rows);
+    let written = export(rt, alloc, &imported.record);
+    check_row(rt, end, text_of(&written).ends_with(end));
 }
 
 /// Of two checkers that come to a hit the first has the mark; the bar is 25, and off is 0.
 #[test]
-fn marks_and_points(rt: HostRuntime) -> Result<(), Fail> {
-    for (rows, end) in [
-        (
-            "  1) 31: 24/23 13/10   55: 8/3(2) 6/1*(2)\n",
-            "55: 8/3 8/3 6/1* 6/1\n",
-        ),
-        (
-            "  1) 31: 24/23 13/10   65: 8/2* 6/1*\n  2) 21: bar/23* bar/24*\n",
-            "  2) 21: 25/23* 25/24*           \n",
-        ),
-    ] {
-        let imported = read_rows(rt.alloc(), THREE_POINTS, rows)?;
-        check_end(rt.alloc(), &imported.record, end)?;
-    }
-    Ok(())
+fn marks_and_points(rt: HostRuntime) {
+    let rows = "  1) 31: 24/23 13/10   55: 8/3(2) 6/1*(2)\n";
+    check_end(&rt, rt.alloc(), rows, "55: 8/3 8/3 6/1* 6/1\n");
+    let rows = "  1) 31: 24/23 13/10   65: 8/2* 6/1*\n  2) 21: bar/23* bar/24*\n";
+    check_end(&rt, rt.alloc(), rows, "  2) 21: 25/23* 25/24*           \n");
 }
+
+const OFFERS: &str = "open 1 3
+O resign normal
+X reject
+O move 8-5 6-5
+X roll 2 4
+X resign gammon
+O reject
+X move 8-4 6-4
+O resign normal
+";
+
+const NO_OFFERS: &str = "length 3
+open 1 3
+O move 8-5 6-5
+X roll 2 4
+X move 8-4 6-4
+";
 
 /// An offer to resign that is not accepted is left out, and the order of the dice of a throw is kept.
 #[test]
-fn offers_that_are_not_accepted(rt: HostRuntime) -> Result<(), Fail> {
-    let mut record = Record::new(rt.alloc(), 1, 3, Rules::Two)?;
-    for entry in [
-        Entry::Opening(Die::One, Die::Three),
-        Entry::Resigned(Level::Normal),
-        Entry::Rejected,
-        turn(&rt, &[(8, 5), (6, 5)]),
-        rolled(Die::Two, Die::Four),
-        Entry::Resigned(Level::Gammon),
-        Entry::Rejected,
-        turn(&rt, &[(8, 4), (6, 4)]),
-        Entry::Resigned(Level::Normal),
-    ] {
-        record.push(entry)?;
-    }
-    let written = export_mat(rt.alloc(), &record)?;
-    let imported = import_mat(rt.alloc(), 1, Rules::One, written.as_slice())?;
-    let kept = [
-        Entry::Opening(Die::One, Die::Three),
-        turn(&rt, &[(8, 5), (6, 5)]),
-        rolled(Die::Two, Die::Four),
-        turn(&rt, &[(8, 4), (6, 4)]),
-    ];
-    check_entries(&imported.record, &kept)
+fn offers_that_are_not_accepted(rt: HostRuntime) {
+    let mut record = Record::new(rt.alloc(), 1, 3, Rules::Two).expect(&rt, "a record");
+    push_lines(&rt, &mut record, OFFERS);
+    let written = export(&rt, rt.alloc(), &record);
+    let imported = read(&rt, rt.alloc(), text_of(&written));
+    check_transcript(&rt, rt.alloc(), &imported.record, NO_OFFERS);
 }
 
 /// A record without entries is a length, and records are read back as they were.
+const ROWS: [&str; 6] = [
+    "",
+    "  1) 31: 8/5 6/5\n",
+    "  1) 31: 8/5 6/5   42:\n",
+    "                    31: 8/5 6/5\nDoubles => 2\n",
+    "31: 8/5 6/5   Doubles => 2\nTakes   42: 8/4 6/4\n 12) Doubles => 4   Takes\n",
+    "31: 8/5 6/5   66: 24/18(2) 13/7(2)\n                    Wins 2 points\n",
+];
+
 #[test]
-fn records_read_back(rt: HostRuntime) -> Result<(), Fail> {
-    let rows = [
-        "",
-        "  1) 31: 8/5 6/5\n",
-        "  1) 31: 8/5 6/5   42:\n",
-        "                    31: 8/5 6/5\nDoubles => 2\n",
-        "31: 8/5 6/5   Doubles => 2\nTakes   42: 8/4 6/4\n 12) Doubles => 4   Takes\n",
-        "31: 8/5 6/5   66: 24/18(2) 13/7(2)\n                    Wins 2 points\n",
-    ];
-    for rows in rows {
-        let imported = read_rows(rt.alloc(), THREE_POINTS, rows)?;
-        let written = export_mat(rt.alloc(), &imported.record)?;
-        let again = import_mat(rt.alloc(), 1, Rules::One, written.as_slice())?;
-        check_same(&again.record, &imported.record)?;
+fn records_read_back(rt: HostRuntime) {
+    for row in &ROWS {
+        let imported = read_rows(&rt, rt.alloc(), THREE_POINTS, row);
+        let written = export(&rt, rt.alloc(), &imported.record);
+        let again = read(&rt, rt.alloc(), text_of(&written));
+        check_same(&rt, row, &again.record, &imported.record);
     }
-    Ok(())
 }

@@ -1,50 +1,46 @@
 //! Refused growths.
 use super::records::{check_len, check_lines, check_same};
+use crate::checks::check_no_growth_is_left;
 use bg_mat::{ImportFault, Imported, export_mat, import_mat};
-use bg_match::Rules;
+use bg_match::{Record, Rules};
 use std::alloc::{AllocError, Global};
-use std::test::Fail;
+use std::process::Abort;
 
-const MATCH: &str = " 1 point match\n Game 1\n X : 0 O : 0\n  1) 64: 24/14\n      Wins 1 point\n";
+const MATCH: &[u8] = b" 1 point match\n Game 1\n X : 0 O : 0\n  1) 64: 24/14\n      Wins 1 point\n";
 
-/// Fails where the growth that comes next is refused: so `tools/checks/refuse_growths` learns how many came before.
-fn check_no_growth_is_left(alloc: Global) -> Result<(), Fail> {
-    match Vec::<u8>::with_capacity(alloc, 1) {
-        Ok(_) => Ok(()),
-        Err(AllocError) => Err(Fail::from("no growth is left")),
+/// What is read of a match file, also where memory is refused once.
+fn read(rt: &impl Abort, alloc: Global, text: &[u8]) -> Imported {
+    match import_mat(alloc, 1, Rules::One, text) {
+        Err(ImportFault::Memory) => import_mat(alloc, 1, Rules::One, text),
+        read => read,
     }
-}
-
-/// What is read of MATCH, also where memory is refused once.
-fn read(alloc: Global) -> Result<Imported, Fail> {
-    match import_mat(alloc, 1, Rules::One, MATCH.as_bytes()) {
-        Err(ImportFault::Memory) => Ok(import_mat(alloc, 1, Rules::One, MATCH.as_bytes())?),
-        read => Ok(read?),
-    }
+    .expect(rt, "a good match file")
 }
 
 /// Where memory is refused the same call then succeeds. No run of the tests refuses any, but
 /// `tools/checks/refuse_growths` refuses each growth in turn.
 #[test]
-fn refused_growths_of_imports(rt: HostRuntime) -> Result<(), Fail> {
-    let imported = read(rt.alloc())?;
-    check_len(&imported.record, 4)?;
-    check_lines(&imported, &[4, 4, 5, 5])?;
-    check_no_growth_is_left(rt.alloc())
+fn refused_growths_of_imports(rt: HostRuntime) {
+    let imported = read(&rt, rt.alloc(), MATCH);
+    check_len(&rt, &imported.record, 4);
+    check_lines(&rt, &imported, &[4, 4, 5, 5]);
+    check_no_growth_is_left(&rt, rt.alloc());
+}
+
+/// What is written of a record, also where memory is refused once.
+fn export(rt: &impl Abort, alloc: Global, record: &Record) -> Vec<u8> {
+    match export_mat(alloc, record) {
+        Ok(written) => written,
+        Err(AllocError) => export_mat(alloc, record).expect(rt, "memory"),
+    }
 }
 
 /// The same, of exports.
 #[test]
-fn refused_growths_of_exports(rt: HostRuntime) -> Result<(), Fail> {
-    let imported = read(rt.alloc())?;
-    let written = match export_mat(rt.alloc(), &imported.record) {
-        Ok(written) => written,
-        Err(AllocError) => export_mat(rt.alloc(), &imported.record)?,
-    };
-    let again = match import_mat(rt.alloc(), 1, Rules::One, written.as_slice()) {
-        Err(ImportFault::Memory) => import_mat(rt.alloc(), 1, Rules::One, written.as_slice())?,
-        read => read?,
-    };
-    check_same(&again.record, &imported.record)?;
-    check_no_growth_is_left(rt.alloc())
+fn refused_growths_of_exports(rt: HostRuntime) {
+    let imported = read(&rt, rt.alloc(), MATCH);
+    let written = export(&rt, rt.alloc(), &imported.record);
+    let again = read(&rt, rt.alloc(), &written);
+    check_same(&rt, "read back", &again.record, &imported.record);
+    check_no_growth_is_left(&rt, rt.alloc());
 }

@@ -1,10 +1,8 @@
 //! A whole match that another program wrote.
-use super::records::{check_len, check_lines, check_same, read};
-use crate::checks::check_facts;
+use super::records::{check_len, check_lines, check_same, export, read};
+use crate::checks::{check_row, text_of};
 use bg_board::Player;
-use bg_mat::{export_mat, import_mat};
-use bg_match::{Phase, Rules};
-use std::test::Fail;
+use bg_match::Phase;
 
 /// X resigns at the end, which only the points of the last line tell.
 const MATCH: &str = " 1 point match
@@ -36,18 +34,16 @@ const MATCH: &str = " 1 point match
 ";
 
 #[test]
-fn match_of_another_program(rt: HostRuntime) -> Result<(), Fail> {
-    let imported = read(rt.alloc(), MATCH)?;
-    check_len(&imported.record, 82)?;
-    let written = export_mat(rt.alloc(), &imported.record)?;
-    let again = import_mat(rt.alloc(), 7, Rules::One, written.as_slice())?;
-    check_same(&again.record, &imported.record)?;
+fn match_of_another_program(rt: HostRuntime) {
+    let imported = read(&rt, rt.alloc(), MATCH);
+    check_len(&rt, &imported.record, 82);
+    let written = export(&rt, rt.alloc(), &imported.record);
+    let again = read(&rt, rt.alloc(), text_of(&written));
+    check_same(&rt, MATCH, &again.record, &imported.record);
     let lines = imported.lines.as_slice();
-    check_lines(&again, lines)?;
+    check_lines(&rt, &again, lines);
+    check_row(&rt, "first line", lines.first() == Some(&5));
+    check_row(&rt, "last line", lines.last() == Some(&25));
     let phase = imported.record.standing().phase();
-    check_facts(&[
-        ("phase", phase == Phase::Over(Player::O)),
-        ("first line", lines.first() == Some(&5)),
-        ("last line", lines.last() == Some(&25)),
-    ])
+    check_row(&rt, "phase", phase == Phase::Over(Player::O));
 }

@@ -1,161 +1,163 @@
 //! What is said of files that were judged.
+use super::told;
+use crate::checks::{check_row, check_told};
 use bg_reports::check_text;
 use bg_text::Verdict;
+use std::alloc::Global;
 use std::process::Abort;
-use std::test::Fail;
 
-/// The bytes of a file, the columns of the screen, if there is one, what is said of the file, and its verdict.
-type Row<'a> = (&'a [u8], Option<usize>, &'a str, Verdict);
+/// This is said of a file on a screen of so many columns, if there is one, and the verdict stands behind it.
+fn check_said(rt: &impl Abort, alloc: Global, bytes: &[u8], columns: Option<usize>, wanted: &str) {
+    let told = told(rt, alloc, check_text(alloc, "a/file", bytes, columns));
+    check_told(rt, wanted, told.as_str(), wanted);
+}
 
-/// What is said of files.
-fn check_said(rt: &(impl AllocGlobal + Abort), rows: &[Row<'_>]) -> Result<(), Fail> {
-    for row in rows {
-        let (bytes, columns, said, verdict) = *row;
-        let line = format!(in rt.alloc(); "a/file: {said}\n")?;
-        let (text, found) = check_text(rt.alloc(), "a/file", bytes, columns)?;
-        assert!(rt;
-            text.as_slice() == line.as_bytes() && found == verdict,
-            "{said}"
-        );
+/// This is said of files where there is no screen.
+fn check_files(rt: &impl Abort, alloc: Global, rows: &[(&[u8], &str)]) {
+    for &(bytes, wanted) in rows {
+        check_said(rt, alloc, bytes, None, wanted);
     }
-    Ok(())
 }
 
 #[test]
-fn files_that_are_good(rt: HostRuntime) -> Result<(), Fail> {
+fn files_that_are_good(rt: HostRuntime) {
     let moved = b"length 1\nopen 3 1\nX move 8-5 6-5";
     let unplayed = b"length 99 rules 2\n";
-    let rows: [Row<'_>; 6] = [
-        (moved, None, "ok 2", Verdict::Fine(2)),
-        (moved, Some(80), "ok 2", Verdict::Fine(2)),
-        (moved, Some(0), "ok 2", Verdict::Fine(2)),
-        (unplayed, None, "ok 0", Verdict::Fine(0)),
-        (unplayed, Some(80), "ok 0", Verdict::Fine(0)),
-        (unplayed, Some(0), "ok 0", Verdict::Fine(0)),
-    ];
-    check_said(&rt, &rows)
+    for columns in [None, Some(80), Some(0)] {
+        check_said(&rt, rt.alloc(), moved, columns, "a/file: ok 2\nFine(2)");
+        check_said(&rt, rt.alloc(), unplayed, columns, "a/file: ok 0\nFine(0)");
+    }
 }
 
-/// This is refused at a line; what is said of the file names the line, and shows it.
-fn refused<'a>(text: &'a [u8], line: u32, said: &'a str) -> Row<'a> {
-    (text, None, said, Verdict::Refused(line))
-}
-
-#[test]
-fn files_that_are_refused(rt: HostRuntime) -> Result<(), Fail> {
-    let rows = [
-        refused(
-            b"length 1\nopen 3 1\nX move 8-5\n",
-            3,
-            "refused at line 3: more can be played: X move 8-5",
-        ),
-        refused(
-            b"length 1\r\nopen 3 1\r\n",
-            1,
-            "refused at line 1: not a length line: length 1\\r",
-        ),
-        refused(
-            b"length 100\n",
-            1,
-            "refused at line 1: length out of range: length 100",
-        ),
-        refused(
-            b"length 1\nopen 3 3",
-            2,
-            "refused at line 2: equal opening: open 3 3",
-        ),
-        refused(
-            b"length 1\nopen 3 1\nO roll 3 1\nrubbish\n",
-            3,
-            "refused at line 3: wrong player: O roll 3 1",
-        ),
-        refused(
-            b"\x00\x1b[2J\xff\t\\\x7f\n",
-            1,
-            "refused at line 1: not a length line: \\x00\\x1b[2J\\xff\\t\\\\\\x7f",
-        ),
-        refused(
-            "length 1\nX Ærø 日".as_bytes(),
-            2,
-            "refused at line 2: not a line: X \\xc3\\x86r\\xc3\\xb8 \\xe6\\x97\\xa5",
-        ),
-    ];
-    check_said(&rt, &rows)
-}
+/// The line is named, and shown.
+const REFUSED: [(&[u8], &str); 7] = [
+    (
+        b"length 1\nopen 3 1\nX move 8-5\n",
+        "a/file: refused at line 3: more can be played: X move 8-5\nRefused(3)",
+    ),
+    (
+        b"length 1\r\nopen 3 1\r\n",
+        "a/file: refused at line 1: not a length line: length 1\\r\nRefused(1)",
+    ),
+    (
+        b"length 100\n",
+        "a/file: refused at line 1: length out of range: length 100\nRefused(1)",
+    ),
+    (
+        b"length 1\nopen 3 3",
+        "a/file: refused at line 2: equal opening: open 3 3\nRefused(2)",
+    ),
+    (
+        b"length 1\nopen 3 1\nO roll 3 1\nrubbish\n",
+        "a/file: refused at line 3: wrong player: O roll 3 1\nRefused(3)",
+    ),
+    (
+        b"\x00\x1b[2J\xff\t\\\x7f\n",
+        "a/file: refused at line 1: not a length line: \\x00\\x1b[2J\\xff\\t\\\\\\x7f\nRefused(1)",
+    ),
+    (
+        b"length 1\nX \xc3\x86r\xc3\xb8 \xe6\x97\xa5",
+        "a/file: refused at line 2: not a line: X \\xc3\\x86r\\xc3\\xb8 \\xe6\\x97\\xa5\nRefused(2)",
+    ),
+];
 
 #[test]
-fn refused_lines_of_which_nothing_is_seen(rt: HostRuntime) -> Result<(), Fail> {
-    let rows = [
-        refused(
-            b"length 1\n\nopen 3 1\n",
-            2,
-            "refused at line 2: not a line",
-        ),
-        refused(b"\n", 1, "refused at line 1: not a length line"),
-        refused(b"", 1, "refused at line 1: not a length line"),
-    ];
-    check_said(&rt, &rows)
+fn files_that_are_refused(rt: HostRuntime) {
+    check_files(&rt, rt.alloc(), &REFUSED);
+}
+
+const NOTHING_SEEN: [(&[u8], &str); 3] = [
+    (
+        b"length 1\n\nopen 3 1\n",
+        "a/file: refused at line 2: not a line\nRefused(2)",
+    ),
+    (
+        b"\n",
+        "a/file: refused at line 1: not a length line\nRefused(1)",
+    ),
+    (
+        b"",
+        "a/file: refused at line 1: not a length line\nRefused(1)",
+    ),
+];
+
+#[test]
+fn refused_lines_of_which_nothing_is_seen(rt: HostRuntime) {
+    check_files(&rt, rt.alloc(), &NOTHING_SEEN);
 }
 
 /// A match file of another program is one where its first line that tells something is a length, and is judged by what
 /// it imports to; any other file is judged as a transcript.
+const OTHER_KINDS: [(&[u8], &str); 5] = [
+    (
+        b"; [Site \"here\"]\n\n 3 point match\n",
+        "a/file: ok 0\nFine(0)",
+    ),
+    (
+        b" 1 point match\n\n Game 1\n A : 0 B : 0\n 1) 31: 8/5 6/5\n",
+        "a/file: ok 2\nFine(2)",
+    ),
+    (
+        b" 1 point match\n\n Game 1\n A : 0 B : 0\n 1) 31: 8/5 6/4\n",
+        "a/file: refused at line 5: no legal turn has this movement:  1) 31: 8/5 6/4\nRefused(5)",
+    ),
+    (
+        b"; nothing\n 0 point match\n",
+        "a/file: refused at line 2: a money game:  0 point match\nRefused(2)",
+    ),
+    (
+        b"; [Site \"here\"]\n\n Game 1\n",
+        "a/file: refused at line 1: not a length line: ; [Site \"here\"]\nRefused(1)",
+    ),
+];
+
 #[test]
-fn files_of_other_kinds(rt: HostRuntime) -> Result<(), Fail> {
-    let unplayed = b"; [Site \"here\"]\n\n 3 point match\n";
-    let games = b" 1 point match\n\n Game 1\n A : 0 B : 0\n 1) 31: 8/5 6/5\n";
-    let rows: [Row<'_>; 5] = [
-        (unplayed, None, "ok 0", Verdict::Fine(0)),
-        (games, None, "ok 2", Verdict::Fine(2)),
-        refused(
-            b" 1 point match\n\n Game 1\n A : 0 B : 0\n 1) 31: 8/5 6/4\n",
-            5,
-            "refused at line 5: no legal turn has this movement:  1) 31: 8/5 6/4",
-        ),
-        refused(
-            b"; nothing\n 0 point match\n",
-            2,
-            "refused at line 2: a money game:  0 point match",
-        ),
-        refused(
-            b"; [Site \"here\"]\n\n Game 1\n",
-            1,
-            "refused at line 1: not a length line: ; [Site \"here\"]",
-        ),
-    ];
-    check_said(&rt, &rows)
+fn files_of_other_kinds(rt: HostRuntime) {
+    check_files(&rt, rt.alloc(), &OTHER_KINDS);
 }
+
+const CUT: [(usize, &str); 8] = [
+    (
+        100,
+        "a/file: refused at line 2: not a line: open 3 1 and more\nRefused(2)",
+    ),
+    (
+        56,
+        "a/file: refused at line 2: not a line: open 3 1 and more\nRefused(2)",
+    ),
+    (
+        55,
+        "a/file: refused at line 2: not a line: open 3 1 and ...\nRefused(2)",
+    ),
+    (
+        43,
+        "a/file: refused at line 2: not a line: o...\nRefused(2)",
+    ),
+    (42, "a/file: refused at line 2: not a line: ...\nRefused(2)"),
+    (41, "a/file: refused at line 2: not a line\nRefused(2)"),
+    (39, "a/file: refused at line 2: not a line\nRefused(2)"),
+    (0, "a/file: refused at line 2: not a line\nRefused(2)"),
+];
 
 /// The line is cut where the screen ends, and says so.
 #[test]
-fn lines_are_cut(rt: HostRuntime) -> Result<(), Fail> {
-    for (columns, shown) in [
-        (100, ": open 3 1 and more"),
-        (56, ": open 3 1 and more"),
-        (55, ": open 3 1 and ..."),
-        (43, ": o..."),
-        (42, ": ..."),
-        (41, ""),
-        (39, ""),
-        (0, ""),
-    ] {
-        let said = format!(in rt.alloc(); "refused at line 2: not a line{shown}")?;
+fn lines_are_cut(rt: HostRuntime) {
+    for &(columns, wanted) in &CUT {
         let bytes = b"length 1\nopen 3 1 and more";
-        check_said(
-            &rt,
-            &[(bytes, Some(columns), said.as_str(), Verdict::Refused(2))],
-        )?;
+        check_said(&rt, rt.alloc(), bytes, Some(columns), wanted);
     }
-    Ok(())
 }
 
 /// A line without an end is cut where there is no screen too.
 #[test]
-fn endless_lines_are_cut(rt: HostRuntime) -> Result<(), Fail> {
-    let bytes = vec![in rt.alloc(); 0; 100_000]?;
-    let (text, verdict) = check_text(rt.alloc(), "a/file", &bytes, None)?;
+fn endless_lines_are_cut(rt: HostRuntime) {
+    let bytes = vec![in rt.alloc(); 0; 100_000].expect(&rt, "memory");
+    let checked = check_text(rt.alloc(), "a/file", &bytes, None);
+    let (text, verdict) = checked.expect(&rt, "memory");
+    check_row(&rt, "verdict", verdict == Verdict::Refused(1));
     // The name, the verdict, and 1000 columns with what stands before them; an escape takes four.
-    assert!(rt; verdict == Verdict::Refused(1) && text.len() == 44 + 1000 + 1);
+    check_row(&rt, "length", text.len() == 44 + 1000 + 1);
     let front = b"a/file: refused at line 1: not a length line: \\x00\\x00\\x00";
-    assert!(rt; text.starts_with(front) && text.ends_with(b"\\x00\\x0...\n"));
-    Ok(())
+    check_row(&rt, "front", text.starts_with(front));
+    check_row(&rt, "end", text.ends_with(b"\\x00\\x0...\n"));
 }

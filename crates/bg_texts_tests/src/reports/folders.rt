@@ -1,14 +1,10 @@
 //! What is shown of the saved files of a folder.
 use super::saved_files::{
-    AFTER_THE_MOVE, AFTER_THE_OPENING, OPENING, REFEREE, SEAT, saved_by, with_byte,
+    AFTER_THE_MOVE, AFTER_THE_OPENING, OPENING, REFEREE, SEAT, check_shown, with_bytes,
 };
 use bg_reports::{SlotBytes, folder_text, party_text};
 use std::alloc::{AllocError, Global};
 use std::process::Abort;
-use std::test::Fail;
-
-/// Files, two for each party, the lines that are shown of them, the board, and whether one of them loads.
-type Row<'a> = ([&'a [u8]; 6], &'a str, &'a str, bool);
 
 /// The files of a party.
 pub(super) fn slots(alloc: Global, zero: &[u8], one: &[u8]) -> Result<SlotBytes, AllocError> {
@@ -18,29 +14,40 @@ pub(super) fn slots(alloc: Global, zero: &[u8], one: &[u8]) -> Result<SlotBytes,
     })
 }
 
-/// What is shown of six files, and whether one of them loads.
-fn shown(alloc: Global, files: [&[u8]; 6]) -> Result<(Vec<u8>, bool), AllocError> {
-    let [a, b, c, d, e, f] = files;
-    let (referee, x, o) = (
-        slots(alloc, a, b)?,
-        slots(alloc, c, d)?,
-        slots(alloc, e, f)?,
-    );
-    folder_text(alloc, &referee, &x, &o)
+/// A file, and its bytes that are others, by their offsets.
+type File = (&'static [u8], &'static [(usize, u8)]);
+
+const EMPTY: File = (b"", &[]);
+
+const NO_SAVE: File = (b"BGS0", &[]);
+
+const OF_REFEREE: File = (&REFEREE, &[]);
+
+const OF_SEAT: File = (&SEAT, &[]);
+
+/// The referee's save 2 as it would be of X, and of O.
+const OF_X: File = (&REFEREE, &[(4, 1)]);
+
+const OF_O: File = (&REFEREE, &[(4, 2)]);
+
+fn files_of(rt: &impl Abort, alloc: Global, zero: File, one: File) -> SlotBytes {
+    SlotBytes {
+        zero: with_bytes(rt, alloc, zero.0, zero.1),
+        one: with_bytes(rt, alloc, one.0, one.1),
+    }
 }
 
-/// What is shown of folders.
-fn check_folders(rt: &(impl AllocGlobal + Abort), rows: &[Row<'_>]) -> Result<(), Fail> {
-    for row in rows {
-        let (files, lines, board, loads) = *row;
-        let wanted = format!(in rt.alloc(); "{lines}{board}")?;
-        let (text, found) = shown(rt.alloc(), files)?;
-        assert!(rt;
-            text.as_slice() == wanted.as_bytes() && found == loads,
-            "{lines}"
-        );
-    }
-    Ok(())
+/// Files of the referee, of X and of O, two of each, the lines that are shown of them, and the board. Where there is no
+/// board none of them loads.
+type Row = ([File; 6], &'static str, &'static str);
+
+fn check_folder(rt: &impl Abort, alloc: Global, row: &Row) {
+    let (files, lines, board) = *row;
+    let referee = files_of(rt, alloc, files[0], files[1]);
+    let x = files_of(rt, alloc, files[2], files[3]);
+    let o = files_of(rt, alloc, files[4], files[5]);
+    let shown = folder_text(alloc, &referee, &x, &o);
+    check_shown(rt, alloc, shown, lines, board, !board.is_empty());
 }
 
 const SEAT_BEHIND_THE_REFEREE: &str = "party-0.0: party 0 match 1 length 1 save 2 entries 2
@@ -88,101 +95,94 @@ party 1: no save
 party 2: no save
 ";
 
+const BEHIND_OTHERS: [Row; 4] = [
+    (
+        [OF_REFEREE, EMPTY, EMPTY, OF_SEAT, NO_SAVE, EMPTY],
+        SEAT_BEHIND_THE_REFEREE,
+        AFTER_THE_MOVE,
+    ),
+    (
+        [EMPTY, (&OPENING, &[]), OF_X, EMPTY, OF_O, (b"B", &[])],
+        REFEREE_BEHIND_A_SEAT,
+        AFTER_THE_MOVE,
+    ),
+    (
+        [OF_REFEREE, (&OPENING, &[]), EMPTY, OF_SEAT, EMPTY, EMPTY],
+        NEWER_FILES_COUNT,
+        AFTER_THE_OPENING,
+    ),
+    (
+        [(b"B", &[]), EMPTY, EMPTY, EMPTY, NO_SAVE, EMPTY],
+        NOTHING_LOADS,
+        "",
+    ),
+];
+
 #[test]
-fn parties_behind_others(rt: HostRuntime) -> Result<(), Fail> {
-    let (x, o) = (saved_by(1), saved_by(2));
-    let rows: [Row<'_>; 4] = [
-        (
-            [&REFEREE, b"", b"", &SEAT, b"BGS0", b""],
-            SEAT_BEHIND_THE_REFEREE,
-            AFTER_THE_MOVE,
-            true,
-        ),
-        (
-            [b"", &OPENING, &x, b"", &o, b"B"],
-            REFEREE_BEHIND_A_SEAT,
-            AFTER_THE_MOVE,
-            true,
-        ),
-        (
-            [&REFEREE, &OPENING, b"", &SEAT, b"", b""],
-            NEWER_FILES_COUNT,
-            AFTER_THE_OPENING,
-            true,
-        ),
-        (
-            [b"B", b"", b"", b"", b"BGS0", b""],
-            NOTHING_LOADS,
-            "",
-            false,
-        ),
-    ];
-    check_folders(&rt, &rows)
-}
-
-/// What is shown of a folder with the files of one party: the party, its files, the lines, the board, and whether one of
-/// them loads.
-type OneRow<'a> = (u8, [&'a [u8]; 2], &'a str, &'a str, bool);
-
-/// What is shown of folders with the files of one party.
-fn check_parties(rt: &(impl AllocGlobal + Abort), rows: &[OneRow<'_>]) -> Result<(), Fail> {
-    for row in rows {
-        let (party, [zero, one], lines, board, loads) = *row;
-        let wanted = format!(in rt.alloc(); "{lines}{board}")?;
-        let (text, found) = party_text(rt.alloc(), party, &slots(rt.alloc(), zero, one)?)?;
-        assert!(rt;
-            text.as_slice() == wanted.as_bytes() && found == loads,
-            "{lines}"
-        );
+fn parties_behind_others(rt: HostRuntime) {
+    for row in &BEHIND_OTHERS {
+        check_folder(&rt, rt.alloc(), row);
     }
-    Ok(())
 }
 
-#[test]
-fn parties_alone(rt: HostRuntime) -> Result<(), Fail> {
-    let rows: [OneRow<'_>; 4] = [
-        (
-            0,
-            [&REFEREE, &OPENING],
-            "party-0.0: party 0 match 1 length 1 save 2 entries 2
+/// A party, its two files in a folder with no others, the lines that are shown of them, the board, and whether one of
+/// them loads.
+type OneRow = (u8, [File; 2], &'static str, &'static str, bool);
+
+fn check_party(rt: &impl Abort, alloc: Global, row: &OneRow) {
+    let (party, [zero, one], lines, board, loads) = *row;
+    let shown = party_text(alloc, party, &files_of(rt, alloc, zero, one));
+    check_shown(rt, alloc, shown, lines, board, loads);
+}
+
+const ALONE: [OneRow; 4] = [
+    (
+        0,
+        [OF_REFEREE, (&OPENING, &[])],
+        "party-0.0: party 0 match 1 length 1 save 2 entries 2
 party-0.1: party 0 match 1 length 1 save 3 entries 1
 party 0: 1 entries
 ",
-            AFTER_THE_OPENING,
-            true,
-        ),
-        (
-            1,
-            [b"BGS0", &SEAT],
-            "party-1.0: bad magic
+        AFTER_THE_OPENING,
+        true,
+    ),
+    (
+        1,
+        [NO_SAVE, OF_SEAT],
+        "party-1.0: bad magic
 party-1.1: party 1 match 1 length 1 save 1 entries 1 claim 2
 party 1: 1 entries
 ",
-            AFTER_THE_OPENING,
-            true,
-        ),
-        (
-            2,
-            [b"", &SEAT],
-            "party-2.0: empty
+        AFTER_THE_OPENING,
+        true,
+    ),
+    (
+        2,
+        [EMPTY, OF_SEAT],
+        "party-2.0: empty
 party-2.1: party 1 match 1 length 1 save 1 entries 1 claim 2
 party 2: no save
 ",
-            "",
-            true,
-        ),
-        (
-            0,
-            [b"", b""],
-            "party-0.0: empty
+        "",
+        true,
+    ),
+    (
+        0,
+        [EMPTY, EMPTY],
+        "party-0.0: empty
 party-0.1: empty
 party 0: no save
 ",
-            "",
-            false,
-        ),
-    ];
-    check_parties(&rt, &rows)
+        "",
+        false,
+    ),
+];
+
+#[test]
+fn parties_alone(rt: HostRuntime) {
+    for row in &ALONE {
+        check_party(&rt, rt.alloc(), row);
+    }
 }
 
 /// Seats whose entries are others than the referee's: the dice of the opening, and the turn behind it.
@@ -230,36 +230,49 @@ bar X 0 O 0 off X 0 O 0
 O to roll
 ";
 
+/// Another turn and another opening, another number and other rules, and another length.
+const DIFFERENT: [Row; 3] = [
+    (
+        [
+            OF_REFEREE,
+            EMPTY,
+            (&REFEREE, &[(4, 1), (29, 24), (30, 21), (31, 24), (32, 23)]),
+            EMPTY,
+            EMPTY,
+            (&OPENING, &[(4, 2), (25, 4)]),
+        ],
+        ENTRIES_THAT_DIFFER,
+        AFTER_THE_MOVE,
+    ),
+    (
+        [
+            OF_REFEREE,
+            EMPTY,
+            (&REFEREE, &[(4, 1), (12, 2)]),
+            EMPTY,
+            (&REFEREE, &[(4, 2), (14, 2)]),
+            EMPTY,
+        ],
+        OTHER_NUMBER_AND_RULES,
+        AFTER_THE_MOVE,
+    ),
+    (
+        [
+            OF_X,
+            EMPTY,
+            (&REFEREE, &[(4, 1), (13, 3)]),
+            EMPTY,
+            OF_O,
+            EMPTY,
+        ],
+        OTHER_LENGTH_AND_PARTY,
+        BOARD_OF_LENGTH_3,
+    ),
+];
+
 #[test]
-fn saves_that_differ(rt: HostRuntime) -> Result<(), Fail> {
-    let (x, o) = (saved_by(1), saved_by(2));
-    let mut turn = x;
-    turn[29] = 24;
-    turn[30] = 21;
-    turn[31] = 24;
-    turn[32] = 23;
-    let opening = with_byte(with_byte(OPENING, 4, 2), 25, 4);
-    let (number, rules) = (with_byte(x, 12, 2), with_byte(o, 14, 2));
-    let length = with_byte(x, 13, 3);
-    let rows: [Row<'_>; 3] = [
-        (
-            [&REFEREE, b"", &turn, b"", b"", &opening],
-            ENTRIES_THAT_DIFFER,
-            AFTER_THE_MOVE,
-            true,
-        ),
-        (
-            [&REFEREE, b"", &number, b"", &rules, b""],
-            OTHER_NUMBER_AND_RULES,
-            AFTER_THE_MOVE,
-            true,
-        ),
-        (
-            [&x, b"", &length, b"", &o, b""],
-            OTHER_LENGTH_AND_PARTY,
-            BOARD_OF_LENGTH_3,
-            true,
-        ),
-    ];
-    check_folders(&rt, &rows)
+fn saves_that_differ(rt: HostRuntime) {
+    for row in &DIFFERENT {
+        check_folder(&rt, rt.alloc(), row);
+    }
 }

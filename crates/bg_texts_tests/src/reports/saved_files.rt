@@ -1,4 +1,7 @@
-//! Saved files of a match of length 1, and the boards of what they restore.
+//! Saved files of a match of length 1, the boards of what they restore, and the comparison of what is shown of them.
+use crate::checks::{check_row, check_told, text_of};
+use std::alloc::{AllocError, Global};
+use std::process::Abort;
 
 /// Save 2 of the referee of match 1, length 1: an opening and its move.
 pub(super) const REFEREE: [u8; 33] = [
@@ -42,16 +45,31 @@ bar X 0 O 0 off X 0 O 0
 X to move 3 1
 ";
 
-/// A saved file with another byte at an offset.
-pub(super) fn with_byte<const N: usize>(bytes: [u8; N], offset: usize, byte: u8) -> [u8; N] {
-    let mut bytes = bytes;
-    if let Some(place) = bytes.get_mut(offset) {
-        *place = byte;
+/// A saved file with other bytes at some offsets.
+pub(super) fn with_bytes(
+    rt: &impl Abort,
+    alloc: Global,
+    bytes: &[u8],
+    others: &[(usize, u8)],
+) -> Vec<u8> {
+    let mut bytes = Vec::from_slice(alloc, bytes).expect(rt, "memory");
+    for &(offset, byte) in others {
+        *bytes.get_mut(offset).expect(rt, "an offset in the file") = byte;
     }
     bytes
 }
 
-/// The referee's save 2 as it would be of this party.
-pub(super) fn saved_by(party: u8) -> [u8; 33] {
-    with_byte(REFEREE, 4, party)
+/// What is shown has these lines and the board, and a file loads or none.
+pub(super) fn check_shown(
+    rt: &impl Abort,
+    alloc: Global,
+    shown: Result<(Vec<u8>, bool), AllocError>,
+    lines: &str,
+    board: &str,
+    loads: bool,
+) {
+    let (text, found) = shown.expect(rt, "memory");
+    let wanted = format!(in alloc; "{lines}{board}").expect(rt, "memory");
+    check_told(rt, lines, text_of(&text), wanted.as_str());
+    check_row(rt, lines, found == loads);
 }

@@ -1,9 +1,8 @@
 //! The board as it is drawn on screens of each width.
-use crate::checks::text_of;
-use crate::pictures::records::record_of;
+use super::views::check_view;
+use crate::checks::check_row;
 use bg_board::Player;
-use bg_table::{Drawing, seat_view_text};
-use std::test::Fail;
+use bg_table::Drawing;
 
 /// O has six checkers on his 13 point, which is the 12 point of X.
 const SIX: &str = "length 3\nopen 5 6\nO move 24-18 18-13\n";
@@ -48,27 +47,27 @@ X to roll
 ";
 
 /// The columns of a screen, a player, and what he sees there.
+const VIEWS: [(usize, Player, &str); 4] = [
+    (80, Player::X, SIX_IN_STACKS),
+    (400, Player::X, SIX_IN_STACKS),
+    (49, Player::O, SIX_AS_POINTS),
+    (20, Player::O, SIX_AS_POINTS),
+];
+
 #[test]
-fn boards_of_screens(rt: HostRuntime) -> Result<(), Fail> {
-    let record = record_of(rt.alloc(), SIX)?;
-    for (columns, player, wanted) in [
-        (80, Player::X, SIX_IN_STACKS),
-        (400, Player::X, SIX_IN_STACKS),
-        (49, Player::O, SIX_AS_POINTS),
-        (20, Player::O, SIX_AS_POINTS),
-    ] {
-        let view = seat_view_text(rt.alloc(), &record, player, Drawing::fitting(columns))?;
-        assert!(rt; text_of(&view) == wanted, "{columns} columns");
+fn boards_of_screens(rt: HostRuntime) {
+    for &(columns, player, wanted) in &VIEWS {
+        check_view(
+            &rt,
+            rt.alloc(),
+            SIX,
+            player,
+            Drawing::fitting(columns),
+            wanted,
+        );
     }
-    let drawn = [49, 50, 79, 80].map(Drawing::fitting);
-    assert!(rt;
-        drawn
-            == [
-                Drawing::Points,
-                Drawing::Rows,
-                Drawing::Rows,
-                Drawing::Stacks
-            ]
-    );
-    Ok(())
+    check_row(&rt, "49", Drawing::fitting(49) == Drawing::Points);
+    check_row(&rt, "50", Drawing::fitting(50) == Drawing::Rows);
+    check_row(&rt, "79", Drawing::fitting(79) == Drawing::Rows);
+    check_row(&rt, "80", Drawing::fitting(80) == Drawing::Stacks);
 }

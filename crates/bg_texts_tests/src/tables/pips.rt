@@ -1,45 +1,24 @@
 //! Pip counts.
-use bg_board::{Board, Player};
+use crate::boards::board;
+use bg_board::Player;
 use bg_table::pip_count;
-use std::test::Fail;
+use std::process::Abort;
 
-/// A player's checkers: so many on each of these points, and none elsewhere.
-pub(crate) fn counts(held: &[(usize, u8)]) -> [u8; 26] {
-    let mut counts = [0; 26];
-    for &(point, count) in held {
-        if let Some(place) = counts.get_mut(point) {
-            *place = count;
-        }
-    }
-    counts
+/// Where the checkers of X and of O stand so, the pip counts are these.
+fn check_pips(rt: &impl Abort, x: &str, o: &str, of_x: u16, of_o: u16) {
+    let board = board(rt, x, o);
+    let (found_x, found_o) = (pip_count(&board, Player::X), pip_count(&board, Player::O));
+    assert!(rt;
+        found_x == of_x && found_o == of_o,
+        "{x} / {o}: {found_x}, {found_o}"
+    );
 }
 
-/// The checkers of X and of O, and the pip count of each.
 #[test]
-fn pips_of_boards(rt: HostRuntime) -> Result<(), Fail> {
-    let start = counts(&[(24, 2), (13, 5), (8, 3), (6, 5)]);
-    for (row, (x, o, x_pips, o_pips)) in [
-        (start, start, 167, 167),
-        (counts(&[(25, 15)]), counts(&[(0, 15)]), 375, 0),
-        (
-            counts(&[(25, 1), (6, 12), (0, 2)]),
-            counts(&[(1, 15)]),
-            97,
-            15,
-        ),
-        (
-            counts(&[(1, 14), (24, 1)]),
-            counts(&[(25, 3), (6, 8), (0, 4)]),
-            38,
-            123,
-        ),
-    ]
-    .into_iter()
-    .enumerate()
-    {
-        let board = Board::from_counts(x, o)?;
-        assert!(rt; pip_count(&board, Player::X) == x_pips, "row {row}");
-        assert!(rt; pip_count(&board, Player::O) == o_pips, "row {row}");
-    }
-    Ok(())
+fn pips_of_boards(rt: HostRuntime) {
+    let start = "24:2 13:5 8:3 6:5";
+    check_pips(&rt, start, start, 167, 167);
+    check_pips(&rt, "25:15", "0:15", 375, 0);
+    check_pips(&rt, "25:1 6:12 0:2", "1:15", 97, 15);
+    check_pips(&rt, "1:14 24:1", "25:3 6:8 0:4", 38, 123);
 }

@@ -1,147 +1,149 @@
 //! What may be done now.
-use crate::checks::text_of;
-use crate::pictures::records::record_of;
+use crate::boards::board;
+use crate::checks::{check_told, text_of};
+use crate::records::record_of;
 use bg_board::{Board, Die, Player};
 use bg_match::{Cube, Phase, Rules, Standing};
 use bg_table::prompt_text;
 use bg_turns::Dice;
 use std::alloc::Global;
-use std::test::Fail;
+use std::process::Abort;
 
-const RESIGN: &str = "resign normal, resign gammon, resign backgammon\n";
-
-/// A transcript, and what is said to X and to O at its end: behind `your turn, X: `, or else the whole line.
-#[test]
-fn prompts_of_transcripts(rt: HostRuntime) -> Result<(), Fail> {
-    let opened = "open 1 3\nO move 8-5 6-5\n";
-    let (moving, of_x, of_o) = (
-        "move .. (`legal` lists the turns), ",
-        "it is X's turn\n",
-        "it is O's turn\n",
-    );
-    let referee = "it is the referee's turn\n";
-    for (row, (first, lines, x, o)) in [
-        ("length 3\n", "", ("", referee), ("", referee)),
-        ("length 3\nopen 1 3\n", "", ("", of_o), (moving, RESIGN)),
-        ("length 3\n", opened, ("roll, double, ", RESIGN), ("", of_x)),
-        // no cube in a Crawford game
-        ("length 1\n", opened, ("roll, ", RESIGN), ("", of_x)),
-    ]
-    .into_iter()
-    .enumerate()
-    {
-        check_prompts(rt.alloc(), row, first, lines, x, o)?;
-    }
-    let doubled = "open 1 3\nO move 8-5 6-5\nX double\n";
-    let taken = "open 1 3\nO move 8-5 6-5\nX double\nO take\n";
-    let moved = "open 1 3\nO move 8-5 6-5\nX double\nO take\nX roll 3 1\nX move 8-5 6-5\n";
-    let offered = "open 1 3\nO move 8-5 6-5\nX resign normal\n";
-    let over = "open 1 3\nO move 8-5 6-5\nX resign normal\nO accept\n";
-    let ended = "the match is over\n";
-    for (row, (first, lines, x, o)) in [
-        ("length 3\n", doubled, ("", of_o), ("take, drop", "\n")),
-        // the cube is O's
-        ("length 3\n", taken, ("roll, ", RESIGN), ("", of_x)),
-        ("length 3\n", moved, ("", of_o), ("roll, double, ", RESIGN)),
-        ("length 3\n", offered, ("", of_o), ("accept, reject", "\n")),
-        ("length 1\n", over, ("", ended), ("", ended)),
-    ]
-    .into_iter()
-    .enumerate()
-    {
-        check_prompts(rt.alloc(), row, first, lines, x, o)?;
-    }
-    Ok(())
+/// A player is told this of a standing.
+fn check_prompt(
+    rt: &impl Abort,
+    alloc: Global,
+    row: &str,
+    standing: &Standing,
+    player: Player,
+    wanted: &str,
+) {
+    let prompt = prompt_text(alloc, standing, player).expect(rt, "memory");
+    check_told(rt, row, text_of(&prompt), wanted);
 }
 
-/// Checks what is said to both players: where the first of the two texts is empty the whole line, unless he may answer.
-fn check_prompts(
-    alloc: Global,
-    row: usize,
-    first: &str,
-    lines: &str,
-    x: (&str, &str),
-    o: (&str, &str),
-) -> Result<(), Fail> {
-    let transcript = format!(in alloc; "{first}{lines}")?;
-    let standing = record_of(alloc, transcript.as_str())?.standing();
-    for (player, (acts, rest)) in [(Player::X, x), (Player::O, o)] {
-        let wanted = if acts.is_empty() {
-            format!(in alloc; "{rest}")?
-        } else {
-            format!(in alloc; "your turn, {player}: {acts}{rest}")?
-        };
-        let prompt = prompt_text(alloc, &standing, player)?;
-        if text_of(&prompt) != wanted.as_str() {
-            return Err(Fail::new(format_args!("row {row} of {player}")));
-        }
+/// X and O are told this at the end of a transcript.
+fn check_prompts(rt: &impl Abort, alloc: Global, row: &[&str; 3]) {
+    let [transcript, to_x, to_o] = *row;
+    let standing = record_of(rt, alloc, transcript).standing();
+    check_prompt(rt, alloc, transcript, &standing, Player::X, to_x);
+    check_prompt(rt, alloc, transcript, &standing, Player::O, to_o);
+}
+
+const TO_ROLL: &str =
+    "your turn, X: roll, double, resign normal, resign gammon, resign backgammon\n";
+
+const NO_CUBE: &str = "your turn, X: roll, resign normal, resign gammon, resign backgammon\n";
+
+/// A transcript, and what is said to X and to O at its end.
+const PROMPTS: [[&str; 3]; 9] = [
+    [
+        "length 3\n",
+        "it is the referee's turn\n",
+        "it is the referee's turn\n",
+    ],
+    [
+        "length 3\nopen 1 3\n",
+        "it is O's turn\n",
+        "your turn, O: move .. (`legal` lists the turns), resign normal, resign gammon, resign backgammon\n",
+    ],
+    [
+        "length 3\nopen 1 3\nO move 8-5 6-5\n",
+        TO_ROLL,
+        "it is X's turn\n",
+    ],
+    // no cube in a Crawford game
+    [
+        "length 1\nopen 1 3\nO move 8-5 6-5\n",
+        NO_CUBE,
+        "it is X's turn\n",
+    ],
+    [
+        "length 3\nopen 1 3\nO move 8-5 6-5\nX double\n",
+        "it is O's turn\n",
+        "your turn, O: take, drop\n",
+    ],
+    // the cube is O's
+    [
+        "length 3\nopen 1 3\nO move 8-5 6-5\nX double\nO take\n",
+        NO_CUBE,
+        "it is X's turn\n",
+    ],
+    [
+        "length 3\nopen 1 3\nO move 8-5 6-5\nX double\nO take\nX roll 3 1\nX move 8-5 6-5\n",
+        "it is O's turn\n",
+        "your turn, O: roll, double, resign normal, resign gammon, resign backgammon\n",
+    ],
+    [
+        "length 3\nopen 1 3\nO move 8-5 6-5\nX resign normal\n",
+        "it is O's turn\n",
+        "your turn, O: accept, reject\n",
+    ],
+    [
+        "length 1\nopen 1 3\nO move 8-5 6-5\nX resign normal\nO accept\n",
+        "the match is over\n",
+        "the match is over\n",
+    ],
+];
+
+#[test]
+fn prompts_of_transcripts(rt: HostRuntime) {
+    for row in &PROMPTS {
+        check_prompts(&rt, rt.alloc(), row);
     }
-    Ok(())
+}
+
+/// The standing where X is to act, and has the cube at this value.
+fn with_cube(rt: &impl Abort, value: u8) -> Standing {
+    let cube = Cube {
+        value,
+        owner: Some(Player::X),
+    };
+    let phase = Phase::ToAct(Player::X);
+    let board = Board::start();
+    Standing::from_parts(99, Rules::One, board, phase, cube, (0, 0), false, 1).expect(
+        rt,
+        "a standing",
+    )
 }
 
 /// The cube of X, and whether he may double with it.
+const CUBES: [(u8, &str, &str); 3] = [
+    (2, "the cube at 2", TO_ROLL),
+    (64, "the cube at 64", TO_ROLL),
+    (128, "the cube at 128", NO_CUBE),
+];
+
 #[test]
-fn doubles_below_the_cap(rt: HostRuntime) -> Result<(), Fail> {
-    for (value, words) in [
-        (2, "roll, double, "),
-        (64, "roll, double, "),
-        (128, "roll, "),
-    ] {
-        let cube = Cube {
-            value,
-            owner: Some(Player::X),
-        };
-        let phase = Phase::ToAct(Player::X);
-        let standing = Standing::from_parts(
-            99,
-            Rules::One,
-            Board::start(),
-            phase,
-            cube,
-            (0, 0),
-            false,
-            1,
-        )
-        .ok_or("standing")?;
-        let wanted = format!(in rt.alloc(); "your turn, X: {words}{RESIGN}")?;
-        let prompt = prompt_text(rt.alloc(), &standing, Player::X)?;
-        assert!(rt; text_of(&prompt) == wanted.as_str(), "the cube at {value}");
+fn doubles_below_the_cap(rt: HostRuntime) {
+    for &(value, row, wanted) in &CUBES {
+        let standing = with_cube(&rt, value);
+        check_prompt(&rt, rt.alloc(), row, &standing, Player::X, wanted);
     }
-    Ok(())
 }
 
-/// A player without a step moves nothing under rules one, and under rules two the referee passes his turn.
-#[test]
-fn turns_without_a_step(rt: HostRuntime) -> Result<(), Fail> {
-    let mut x = [0; 26];
-    let mut o = [0; 26];
-    (x[25], x[6]) = (1, 14);
-    (o[1], o[2], o[3], o[4], o[5], o[6]) = (2, 2, 2, 2, 2, 5);
-    let board = Board::from_counts(x, o)?;
+/// The standing where X is to move by these rules, and has no step.
+fn without_a_step(rt: &impl Abort, rules: Rules) -> Standing {
+    let board = board(rt, "25:1 6:14", "1:2 2:2 3:2 4:2 5:2 6:5");
     let dice = Dice {
         first: Die::Six,
         second: Die::One,
     };
-    for (rules, wanted) in [
-        (
-            Rules::One,
-            "your turn, X: move .. (`legal` lists the turns), resign normal, resign gammon, resign backgammon\n",
-        ),
-        (Rules::Two, "it is the referee's turn\n"),
-    ] {
-        let phase = Phase::ToMove(Player::X, dice);
-        let standing = Standing::from_parts(
-            3,
-            rules,
-            board,
-            phase,
-            Cube::MIDDLE,
-            (0, 0),
-            false,
-            1,
-        ).ok_or("standing")?;
-        let prompt = prompt_text(rt.alloc(), &standing, Player::X)?;
-        assert!(rt; text_of(&prompt) == wanted);
-    }
-    Ok(())
+    let phase = Phase::ToMove(Player::X, dice);
+    Standing::from_parts(3, rules, board, phase, Cube::MIDDLE, (0, 0), false, 1).expect(
+        rt,
+        "a standing",
+    )
+}
+
+/// A player without a step moves nothing under rules one, and under rules two the referee passes his turn.
+#[test]
+fn turns_without_a_step(rt: HostRuntime) {
+    let first = without_a_step(&rt, Rules::One);
+    let moving =
+        "your turn, X: move .. (`legal` lists the turns), resign normal, resign gammon, resign backgammon\n";
+    check_prompt(&rt, rt.alloc(), "rules one", &first, Player::X, moving);
+    let second = without_a_step(&rt, Rules::Two);
+    let passing = "it is the referee's turn\n";
+    check_prompt(&rt, rt.alloc(), "rules two", &second, Player::X, passing);
 }

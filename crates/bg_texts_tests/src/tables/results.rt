@@ -1,44 +1,65 @@
 //! What a game came to.
-use crate::checks::text_of;
-use crate::pictures::records::record_of;
+use crate::checks::{check_told, text_of};
+use crate::records::record_of;
 use bg_board::Player;
+use bg_match::Standing;
 use bg_table::result_text;
-use std::test::Fail;
+use std::alloc::Global;
+use std::process::Abort;
 
-/// A transcript, its next line, and what X and O are told of it.
+/// A player is told this.
+fn check_result(
+    rt: &impl Abort,
+    alloc: Global,
+    standings: &(Standing, Standing),
+    player: Player,
+    wanted: &str,
+) {
+    let text = result_text(alloc, &standings.0, &standings.1, player).expect(rt, "memory");
+    check_told(rt, wanted, text_of(&text), wanted);
+}
+
+/// A transcript, the same with its next line, and what X and O are told of that.
+fn check_results(rt: &impl Abort, alloc: Global, row: &[&str; 4]) {
+    let [before, after, to_x, to_o] = *row;
+    let standings = (
+        record_of(rt, alloc, before).standing(),
+        record_of(rt, alloc, after).standing(),
+    );
+    check_result(rt, alloc, &standings, Player::X, to_x);
+    check_result(rt, alloc, &standings, Player::O, to_o);
+}
+
+const RESULTS: [[&str; 4]; 4] = [
+    [
+        "length 5\nopen 6 1\n",
+        "length 5\nopen 6 1\nX move 13-7 8-7\n",
+        "",
+        "",
+    ],
+    [
+        "length 5\nopen 6 1\nX move 13-7 8-7\nO double\n",
+        "length 5\nopen 6 1\nX move 13-7 8-7\nO double\nX drop\n",
+        "O wins 1 point: 1 to 0\n",
+        "you win 1 point: 1 to 0\n",
+    ],
+    [
+        "length 5\nopen 6 1\nX resign normal\nO accept\nopen 1 6\nO resign gammon\n",
+        "length 5\nopen 6 1\nX resign normal\nO accept\nopen 1 6\nO resign gammon\nX accept\n",
+        "you win 2 points: 2 to 1\n",
+        "X wins 2 points: 2 to 1\n",
+    ],
+    [
+        "length 2\nopen 6 1\nX resign backgammon\n",
+        "length 2\nopen 6 1\nX resign backgammon\nO accept\n",
+        "O wins the match 3 to 0\n",
+        "you win the match 3 to 0\n",
+    ],
+];
+
 #[test]
-fn results_of_games(rt: HostRuntime) -> Result<(), Fail> {
-    for (row, (transcript, line, to_x, to_o)) in [
-        ("length 5\nopen 6 1\n", "X move 13-7 8-7\n", "", ""),
-        (
-            "length 5\nopen 6 1\nX move 13-7 8-7\nO double\n",
-            "X drop\n",
-            "O wins 1 point: 1 to 0\n",
-            "you win 1 point: 1 to 0\n",
-        ),
-        (
-            "length 5\nopen 6 1\nX resign normal\nO accept\nopen 1 6\nO resign gammon\n",
-            "X accept\n",
-            "you win 2 points: 2 to 1\n",
-            "X wins 2 points: 2 to 1\n",
-        ),
-        (
-            "length 2\nopen 6 1\nX resign backgammon\n",
-            "O accept\n",
-            "O wins the match 3 to 0\n",
-            "you win the match 3 to 0\n",
-        ),
-    ]
-    .into_iter()
-    .enumerate()
-    {
-        let before = record_of(rt.alloc(), transcript)?.standing();
-        let ended = format!(in rt.alloc(); "{transcript}{line}")?;
-        let after = record_of(rt.alloc(), ended.as_str())?.standing();
-        let x = result_text(rt.alloc(), &before, &after, Player::X)?;
-        assert!(rt; text_of(&x) == to_x, "row {row} of X");
-        let o = result_text(rt.alloc(), &before, &after, Player::O)?;
-        assert!(rt; text_of(&o) == to_o, "row {row} of O");
+fn results_of_games(rt: HostRuntime) {
+    for row in &RESULTS {
+        check_results(&rt, rt.alloc(), row);
     }
-    Ok(())
 }

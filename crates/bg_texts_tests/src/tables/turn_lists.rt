@@ -1,79 +1,85 @@
 //! Lists of turns. The turns are worked out by hand.
-use crate::checks::text_of;
-use crate::tables::pips::counts;
-use bg_board::{Board, Die, Player};
+use crate::boards::board;
+use crate::checks::{check_told, text_of};
+use bg_board::{Die, Player};
 use bg_table::legal_turns_text;
 use bg_turns::Dice;
-use std::test::Fail;
+use std::alloc::Global;
+use std::process::Abort;
 
-/// The checkers of X and of O, the dice of X, how many letters a line has, and the list.
+const TWO_ONE: Dice = Dice {
+    first: Die::Two,
+    second: Die::One,
+};
+
+const SIX_FIVE: Dice = Dice {
+    first: Die::Six,
+    second: Die::Five,
+};
+
+/// Where the checkers of X and of O stand as the first two words say, this is the list of the turns of X with these
+/// dice, where a line has so many letters.
+fn check_list(rt: &impl Abort, alloc: Global, row: &[&str; 3], dice: Dice, columns: u16) {
+    let [x, o, wanted] = *row;
+    let board = board(rt, x, o);
+    let text = legal_turns_text(alloc, &board, Player::X, dice, columns).expect(rt, "memory");
+    check_told(rt, wanted, text_of(&text), wanted);
+}
+
+/// The turns with 2 and 1, by how many letters a line has.
+const TWO_CHECKERS: [(u16, [&str; 3]); 4] = [
+    (
+        80,
+        ["8:1 6:1", "1:15", "3 turns:\n 8-7 7-5  8-7 6-4  6-5 5-3\n"],
+    ),
+    (
+        17,
+        ["8:1 6:1", "1:15", "3 turns:\n 8-7 7-5  8-7 6-4\n 6-5 5-3\n"],
+    ),
+    (
+        16,
+        [
+            "8:1 6:1",
+            "1:15",
+            "3 turns:\n 8-7 7-5\n 8-7 6-4\n 6-5 5-3\n",
+        ],
+    ),
+    (
+        0,
+        [
+            "8:1 6:1",
+            "1:15",
+            "3 turns:\n 8-7 7-5\n 8-7 6-4\n 6-5 5-3\n",
+        ],
+    ),
+];
+
+/// A hit on 5 tells turns apart.
+const A_HIT: [&str; 3] = [
+    "8:1 6:1",
+    "20:1 1:14",
+    "4 turns:\n 8-7 7-5*  8-7 6-4\n 6-5* 5-3  6-4 4-3\n",
+];
+
+/// All three legal turns lead to one position.
+const ONE_POSITION: [&str; 3] = [
+    "3:1 1:1",
+    "1:15",
+    "the only turn: 3-2 2-off (`m` plays it)\n",
+];
+
+const NONE: [&str; 3] = [
+    "25:1",
+    "6:2 5:2 1:11",
+    "you can't move: `move` passes your turn\n",
+];
+
 #[test]
-fn lists_of_turns(rt: HostRuntime) -> Result<(), Fail> {
-    let two = counts(&[(8, 1), (6, 1), (0, 13)]);
-    let far = counts(&[(1, 15)]);
-    let blot = counts(&[(20, 1), (1, 14)]);
-    let (two_one, six_five) = ((Die::Two, Die::One), (Die::Six, Die::Five));
-    for (row, (x, o, dice, columns, wanted)) in [
-        (
-            two,
-            far,
-            two_one,
-            80,
-            "3 turns:\n 8-7 7-5  8-7 6-4  6-5 5-3\n",
-        ),
-        (
-            two,
-            far,
-            two_one,
-            17,
-            "3 turns:\n 8-7 7-5  8-7 6-4\n 6-5 5-3\n",
-        ),
-        (
-            two,
-            far,
-            two_one,
-            16,
-            "3 turns:\n 8-7 7-5\n 8-7 6-4\n 6-5 5-3\n",
-        ),
-        (
-            two,
-            far,
-            two_one,
-            0,
-            "3 turns:\n 8-7 7-5\n 8-7 6-4\n 6-5 5-3\n",
-        ),
-        // a hit on 5 tells turns apart
-        (
-            two,
-            blot,
-            two_one,
-            20,
-            "4 turns:\n 8-7 7-5*  8-7 6-4\n 6-5* 5-3  6-4 4-3\n",
-        ),
-        // all three legal turns lead to one position
-        (
-            counts(&[(3, 1), (1, 1), (0, 13)]),
-            far,
-            two_one,
-            80,
-            "the only turn: 3-2 2-off (`m` plays it)\n",
-        ),
-        (
-            counts(&[(25, 1), (0, 14)]),
-            counts(&[(6, 2), (5, 2), (1, 11)]),
-            six_five,
-            80,
-            "you can't move: `move` passes your turn\n",
-        ),
-    ]
-    .into_iter()
-    .enumerate()
-    {
-        let board = Board::from_counts(x, o)?;
-        let (first, second) = dice;
-        let dice = Dice { first, second };
-        let text = legal_turns_text(rt.alloc(), &board, Player::X, dice, columns)?;
-        assert!(rt; text_of(&text) == wanted, "row {row}: {}", text_of(&text));
+fn lists_of_turns(rt: HostRuntime) {
+    for (columns, row) in &TWO_CHECKERS {
+        check_list(&rt, rt.alloc(), row, TWO_ONE, *columns);
     }
-    Ok(())
+    check_list(&rt, rt.alloc(), &A_HIT, TWO_ONE, 20);
+    check_list(&rt, rt.alloc(), &ONE_POSITION, TWO_ONE, 80);
+    check_list(&rt, rt.alloc(), &NONE, SIX_FIVE, 80);
 }

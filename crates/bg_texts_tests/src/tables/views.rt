@@ -1,9 +1,10 @@
 //! What a player sees.
-use crate::checks::text_of;
-use crate::pictures::records::record_of;
+use crate::checks::{check_told, text_of};
+use crate::records::record_of;
 use bg_board::Player;
 use bg_table::{Drawing, seat_view_text};
-use std::test::Fail;
+use std::alloc::Global;
+use std::process::Abort;
 
 /// O has won the opening.
 const OPENED: &str = "length 3\nopen 1 3\n";
@@ -163,27 +164,37 @@ last: X resign normal
 O wins the match
 ";
 
+/// A player sees this at the end of a transcript.
+pub(crate) fn check_view(
+    rt: &impl Abort,
+    alloc: Global,
+    transcript: &str,
+    player: Player,
+    drawing: Drawing,
+    wanted: &str,
+) {
+    let record = record_of(rt, alloc, transcript);
+    let view = seat_view_text(alloc, &record, player, drawing).expect(rt, "memory");
+    check_told(rt, wanted, text_of(&view), wanted);
+}
+
 /// A transcript, a player, and all that he sees at its end.
+const VIEWS: [(&str, Player, &str); 10] = [
+    (OPENED, Player::O, OPENED_OF_O),
+    (CRAWFORD, Player::O, CRAWFORD_OF_O),
+    (TAKEN, Player::X, TAKEN_OF_X),
+    (TAKEN, Player::O, TAKEN_OF_O),
+    (DOUBLED, Player::O, DOUBLED_OF_O),
+    (RESIGNED, Player::O, RESIGNED_OF_O),
+    (HIT, Player::X, HIT_OF_X),
+    (HIT, Player::O, HIT_OF_O),
+    (WON, Player::X, WON_OF_X),
+    (WON, Player::O, WON_OF_O),
+];
+
 #[test]
-fn words_of_views(rt: HostRuntime) -> Result<(), Fail> {
-    for (row, (transcript, player, wanted)) in [
-        (OPENED, Player::O, OPENED_OF_O),
-        (CRAWFORD, Player::O, CRAWFORD_OF_O),
-        (TAKEN, Player::X, TAKEN_OF_X),
-        (TAKEN, Player::O, TAKEN_OF_O),
-        (DOUBLED, Player::O, DOUBLED_OF_O),
-        (RESIGNED, Player::O, RESIGNED_OF_O),
-        (HIT, Player::X, HIT_OF_X),
-        (HIT, Player::O, HIT_OF_O),
-        (WON, Player::X, WON_OF_X),
-        (WON, Player::O, WON_OF_O),
-    ]
-    .into_iter()
-    .enumerate()
-    {
-        let record = record_of(rt.alloc(), transcript)?;
-        let view = seat_view_text(rt.alloc(), &record, player, Drawing::Rows)?;
-        assert!(rt; text_of(&view) == wanted, "row {row}");
+fn words_of_views(rt: HostRuntime) {
+    for &(transcript, player, wanted) in &VIEWS {
+        check_view(&rt, rt.alloc(), transcript, player, Drawing::Rows, wanted);
     }
-    Ok(())
 }

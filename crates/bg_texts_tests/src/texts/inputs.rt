@@ -1,138 +1,147 @@
 //! Inputs whose first or second line is refused, and inputs that are too long.
-use super::pictures::{HEADER, LOWER, UPPER, check_board, check_judged};
-use bg_text::{MAX_INPUT, Verdict};
+use super::pictures::{HEADER, START, check_drawings, check_each, check_judged};
+use bg_text::MAX_INPUT;
 use std::alloc::Global;
-use std::test::Fail;
+use std::process::Abort;
 
-pub(crate) const TOO_LONG: &str = "refused: input too long\n";
+pub(crate) const TOO_LONG: &str = "refused: input too long\nTooLong";
+
+pub(crate) const NO_LENGTH: &str = "refused at line 1: not a length line\nRefused(1)";
+
+pub(crate) const LENGTH_OUT_OF_RANGE: &str = "refused at line 1: length out of range\nRefused(1)";
 
 /// Some bytes, and one byte so many times.
 pub(crate) fn followed_by(
+    rt: &impl Abort,
     alloc: Global,
     start: &str,
     byte: u8,
     count: usize,
-) -> Result<Vec<u8>, Fail> {
-    let mut text = Vec::from_slice(alloc, start.as_bytes())?;
-    text.extend_from_slice(&vec![in alloc; byte; count]?)?;
-    Ok(text)
-}
-
-/// Fails where the first line is not refused for this reason.
-pub(crate) fn check_line_1(alloc: Global, input: &[u8], why: &str) -> Result<(), Fail> {
-    let mut text = Vec::from_slice(alloc, b"refused at line 1: ")?;
-    text.extend_from_slice(why.as_bytes())?;
-    text.push(b'\n')?;
-    check_judged(alloc, input, &text, Verdict::Refused(1))
+) -> Vec<u8> {
+    let mut text = vec![in alloc; byte; start.len().saturating_add(count)].expect(rt, "memory");
+    for (place, byte) in text.iter_mut().zip(start.as_bytes()) {
+        *place = *byte;
+    }
+    text
 }
 
 /// Inputs whose first line is of another shape.
-const NO_LENGTH_LINES: [&[u8]; 15] = [
-    b"",
-    b"\n",
-    b"\0",
-    b"\xff\xfe\n",
-    b"open 3 1\n",
-    b"length",
-    b"length \n",
-    b"length 1\r\n",
-    b"length 1\0\n",
-    b"length 1 \n",
-    b"length  1\n",
-    b" length 1\n",
-    b"Length 1\n",
-    b"length +1\n",
-    b"length 1000\n",
+const NO_LENGTH_LINES: [&str; 14] = [
+    "",
+    "\n",
+    "\0",
+    "open 3 1\n",
+    "length",
+    "length \n",
+    "length 1\r\n",
+    "length 1\0\n",
+    "length 1 \n",
+    "length  1\n",
+    " length 1\n",
+    "Length 1\n",
+    "length +1\n",
+    "length 1000\n",
+];
+
+/// The judge says this of some bytes, and one byte so many times.
+fn check_followed(
+    rt: &impl Abort,
+    alloc: Global,
+    start: &str,
+    byte: u8,
+    count: usize,
+    wanted: &str,
+) {
+    let input = followed_by(rt, alloc, start, byte, count);
+    check_judged(rt, alloc, start, &input, wanted);
+}
+
+#[test]
+fn no_length_lines_refused(rt: HostRuntime) {
+    check_each(&rt, rt.alloc(), &NO_LENGTH_LINES, NO_LENGTH);
+    check_judged(&rt, rt.alloc(), "no text", b"\xff\xfe\n", NO_LENGTH);
+    check_followed(&rt, rt.alloc(), "length ", b'1', 300, NO_LENGTH);
+    check_followed(&rt, rt.alloc(), "", b'X', MAX_INPUT, NO_LENGTH);
+}
+
+const OTHER_LENGTHS: [&str; 5] = [
+    "length 0\n",
+    "length 000\n",
+    "length 01\nopen 3 1\n",
+    "length 100",
+    "length 999\n",
 ];
 
 #[test]
-fn no_length_lines_refused(rt: HostRuntime) -> Result<(), Fail> {
-    for input in &NO_LENGTH_LINES {
-        check_line_1(rt.alloc(), input, "not a length line")?;
-    }
-    let many_digits = followed_by(rt.alloc(), "length ", b'1', 300)?;
-    check_line_1(rt.alloc(), &many_digits, "not a length line")?;
-    let long_line = followed_by(rt.alloc(), "", b'X', MAX_INPUT)?;
-    check_line_1(rt.alloc(), &long_line, "not a length line")
+fn other_lengths_refused(rt: HostRuntime) {
+    check_each(&rt, rt.alloc(), &OTHER_LENGTHS, LENGTH_OUT_OF_RANGE);
 }
 
-#[test]
-fn other_lengths_refused(rt: HostRuntime) -> Result<(), Fail> {
-    for input in [
-        "length 0\n",
-        "length 000\n",
-        "length 01\nopen 3 1\n",
-        "length 100",
-        "length 999\n",
-    ] {
-        check_line_1(rt.alloc(), input.as_bytes(), "length out of range")?;
-    }
-    Ok(())
-}
-
-/// Fails where not the first line alone of an input is good, and the second is no line.
-fn check_line_2(alloc: Global, input: &[u8]) -> Result<(), Fail> {
-    let board = [HEADER, UPPER, LOWER, "opening"];
-    let last = "refused at line 2: not a line";
-    check_board(alloc, input, board, last, Verdict::Refused(2))
-}
-
-#[test]
-fn lone_length_lines(rt: HostRuntime) -> Result<(), Fail> {
-    let shortest = [HEADER, UPPER, LOWER, "opening"];
-    check_board(rt.alloc(), b"length 1", shortest, "ok 0", Verdict::Fine(0))?;
-    check_board(
-        rt.alloc(),
-        b"length 1\n",
-        shortest,
-        "ok 0",
-        Verdict::Fine(0),
-    )?;
-    let header = "length 99 game 1 score 0-0 cube 1 middle";
-    let longest = [header, UPPER, LOWER, "opening"];
-    check_board(
-        rt.alloc(),
-        b"length 99\n",
-        longest,
-        "ok 0",
-        Verdict::Fine(0),
-    )
-}
-
-/// Inputs whose second line is no line.
-const LATER_LINES: [&[u8]; 5] = [
-    b"length 1\n\n",
-    b"length 1\n\nopen 3 1\n",
-    b"length 1\n\0\n",
-    b"length 1\n\xff",
-    b"length 1\nopen 3 1\r\nX move 8-5 6-5\r\n",
+const LONE_LENGTHS: [[&str; 5]; 3] = [
+    ["length 1", HEADER, START, "opening", "ok 0\nFine(0)"],
+    ["length 1\n", HEADER, START, "opening", "ok 0\nFine(0)"],
+    [
+        "length 99\n",
+        "length 99 game 1 score 0-0 cube 1 middle",
+        START,
+        "opening",
+        "ok 0\nFine(0)",
+    ],
 ];
 
 #[test]
-fn later_lines_refused(rt: HostRuntime) -> Result<(), Fail> {
-    for &input in &LATER_LINES {
-        check_line_2(rt.alloc(), input)?;
-    }
-    Ok(())
+fn lone_length_lines(rt: HostRuntime) {
+    check_drawings(&rt, rt.alloc(), &LONE_LENGTHS);
+}
+
+/// The first line alone of an input is good, and the second is no line.
+const LINE_2_REFUSED: &str = "length 1 game 1 score 0-0 cube 1 middle crawford
+  13  14  15  16  17  18  19  20  21  22  23  24
+  X5   .   .   .  O3   .  O5   .   .   .   .  X2
+  O5   .   .   .  X3   .  X5   .   .   .   .  O2
+  12  11  10   9   8   7   6   5   4   3   2   1
+bar X 0 O 0 off X 0 O 0
+opening
+refused at line 2: not a line
+Refused(2)";
+
+const LATER_LINES: [&str; 4] = [
+    "length 1\n\n",
+    "length 1\n\nopen 3 1\n",
+    "length 1\n\0\n",
+    "length 1\nopen 3 1\r\nX move 8-5 6-5\r\n",
+];
+
+#[test]
+fn later_lines_refused(rt: HostRuntime) {
+    check_each(&rt, rt.alloc(), &LATER_LINES, LINE_2_REFUSED);
+    check_judged(
+        &rt,
+        rt.alloc(),
+        "no text",
+        b"length 1\n\xff",
+        LINE_2_REFUSED,
+    );
 }
 
 #[test]
-fn long_later_lines_refused(rt: HostRuntime) -> Result<(), Fail> {
-    for (start, byte, count) in [
-        ("length 1\nopen 3 ", b'1', 300),
-        ("length 1\n", b'X', MAX_INPUT - 9),
-        ("length 1\n", b'\n', MAX_INPUT - 9),
-    ] {
-        check_line_2(rt.alloc(), &followed_by(rt.alloc(), start, byte, count)?)?;
-    }
-    Ok(())
+fn long_later_lines_refused(rt: HostRuntime) {
+    let rest = MAX_INPUT - 9;
+    check_followed(
+        &rt,
+        rt.alloc(),
+        "length 1\nopen 3 ",
+        b'1',
+        300,
+        LINE_2_REFUSED,
+    );
+    check_followed(&rt, rt.alloc(), "length 1\n", b'X', rest, LINE_2_REFUSED);
+    check_followed(&rt, rt.alloc(), "length 1\n", b'\n', rest, LINE_2_REFUSED);
 }
 
 #[test]
-fn inputs_that_are_too_long(rt: HostRuntime) -> Result<(), Fail> {
-    for start in ["", "length 1\n", "length 0\n"] {
-        let input = followed_by(rt.alloc(), start, b'X', MAX_INPUT + 1 - start.len())?;
-        check_judged(rt.alloc(), &input, TOO_LONG.as_bytes(), Verdict::TooLong)?;
-    }
-    Ok(())
+fn inputs_that_are_too_long(rt: HostRuntime) {
+    check_followed(&rt, rt.alloc(), "", b'X', MAX_INPUT + 1, TOO_LONG);
+    check_followed(&rt, rt.alloc(), "length 1\n", b'X', MAX_INPUT - 8, TOO_LONG);
+    check_followed(&rt, rt.alloc(), "length 0\n", b'X', MAX_INPUT - 8, TOO_LONG);
 }

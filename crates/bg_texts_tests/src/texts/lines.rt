@@ -1,153 +1,142 @@
 //! Lines of each kind of entry, and lines of each fault.
-use super::turn;
-use bg_board::{Die, Player};
-use bg_match::{Entry, Level};
-use bg_text::{TextFault, entry_text, parse_entry};
-use bg_turns::Dice;
-use std::test::Fail;
+use crate::checks::{check_row, check_told, parted};
+use bg_text::{entry_text, parse_entry};
+use std::alloc::Global;
+use std::process::Abort;
 
-/// Fails where a line is not read as this entry of this seat, or that is not written as the line.
-fn check_entry(line: &str, seat: Option<Player>, entry: &Entry) -> Result<(), Fail> {
-    let found = parse_entry(line.as_bytes());
-    if let Ok((by, read)) = &found {
-        let written = entry_text(*by, read);
-        if *by == seat && read == entry && written.as_str() == line {
-            return Ok(());
-        }
+/// What a line is read as, or is refused for.
+fn told_of(rt: &impl Abort, alloc: Global, line: &[u8]) -> String {
+    let read = parse_entry(line);
+    format!(in alloc; "{read:?}").expect(rt, "memory")
+}
+
+/// Whether what a line is read as is written as that line, where it is the line of an entry.
+fn is_written(line: &str) -> bool {
+    match parse_entry(line.as_bytes()) {
+        Ok((by, entry)) => entry_text(by, &entry).as_str() == line,
+        Err(_) => true,
     }
-    Err(Fail::new(format_args!("{found:?} for {line}")))
 }
 
-/// Fails where a line is not read as this turn of this seat.
-fn check_turn(line: &str, seat: Player, steps: &[(u8, u8)]) -> Result<(), Fail> {
-    check_entry(line, Some(seat), &Entry::Moved(turn(steps)?))
+/// A row's line is read as the seat and the entry, or refused for the fault, that stand behind the arrow.
+fn check_line(rt: &impl Abort, alloc: Global, row: &str) {
+    let (line, wanted) = parted(rt, row);
+    let told = told_of(rt, alloc, line.as_bytes());
+    check_told(rt, row, told.as_str(), wanted);
+    check_row(rt, row, is_written(line));
 }
+
+fn check_lines(rt: &impl Abort, alloc: Global, rows: &str) {
+    for row in rows.lines() {
+        check_line(rt, alloc, row);
+    }
+}
+
+const DICE_AND_DOUBLES: &str = "\
+open 3 1 -> Ok((None, Opening(Three, One)))
+open 4 4 -> Ok((None, Opening(Four, Four)))
+O roll 6 2 -> Ok((Some(O), Rolled(Dice { first: Six, second: Two })))
+X double -> Ok((Some(X), Doubled))
+O take -> Ok((Some(O), Taken))
+X drop -> Ok((Some(X), Dropped))
+";
 
 #[test]
-fn lines_of_dice_and_doubles() -> Result<(), Fail> {
-    let (x, o) = (Some(Player::X), Some(Player::O));
-    let dice = Dice {
-        first: Die::Six,
-        second: Die::Two,
-    };
-    for (line, seat, entry) in &[
-        ("open 3 1", None, Entry::Opening(Die::Three, Die::One)),
-        ("open 4 4", None, Entry::Opening(Die::Four, Die::Four)),
-        ("O roll 6 2", o, Entry::Rolled(dice)),
-        ("X double", x, Entry::Doubled),
-        ("O take", o, Entry::Taken),
-        ("X drop", x, Entry::Dropped),
-    ] {
-        check_entry(line, *seat, entry)?;
-    }
-    Ok(())
+fn lines_of_dice_and_doubles(rt: HostRuntime) {
+    check_lines(&rt, rt.alloc(), DICE_AND_DOUBLES);
 }
 
-/// Lines of turns.
-const TURNS: [(&str, Player, &[(u8, u8)]); 4] = [
-    ("X move", Player::X, &[]),
-    ("X move 8-5 6-5", Player::X, &[(8, 5), (6, 5)]),
-    ("O move bar-off 1-off", Player::O, &[(25, 0), (1, 0)]),
-    (
-        "X move bar-24 bar-24 bar-24 bar-24",
-        Player::X,
-        &[(25, 24); 4],
-    ),
-];
+const TURNS: &str = "\
+X move -> Ok((Some(X), Moved([])))
+X move 8-5 6-5 -> Ok((Some(X), Moved([Step { from: 8, to: 5 }, Step { from: 6, to: 5 }])))
+O move bar-off 1-off -> Ok((Some(O), Moved([Step { from: 25, to: 0 }, Step { from: 1, to: 0 }])))
+X move bar-24 bar-24 bar-24 bar-24 -> Ok((Some(X), Moved([\
+Step { from: 25, to: 24 }, Step { from: 25, to: 24 }, Step { from: 25, to: 24 }, Step { from: 25, to: 24 }])))
+";
 
 #[test]
-fn lines_of_turns() -> Result<(), Fail> {
-    for &(line, seat, steps) in &TURNS {
-        check_turn(line, seat, steps)?;
-    }
-    Ok(())
+fn lines_of_turns(rt: HostRuntime) {
+    check_lines(&rt, rt.alloc(), TURNS);
 }
+
+const RESIGNATIONS: &str = "\
+X resign normal -> Ok((Some(X), Resigned(Normal)))
+O resign gammon -> Ok((Some(O), Resigned(Gammon)))
+X resign backgammon -> Ok((Some(X), Resigned(Backgammon)))
+O accept -> Ok((Some(O), Accepted))
+X reject -> Ok((Some(X), Rejected))
+pass -> Ok((None, Passed))
+";
 
 #[test]
-fn lines_of_resignations() -> Result<(), Fail> {
-    let (x, o) = (Some(Player::X), Some(Player::O));
-    for (line, seat, entry) in &[
-        ("X resign normal", x, Entry::Resigned(Level::Normal)),
-        ("O resign gammon", o, Entry::Resigned(Level::Gammon)),
-        ("X resign backgammon", x, Entry::Resigned(Level::Backgammon)),
-        ("O accept", o, Entry::Accepted),
-        ("X reject", x, Entry::Rejected),
-        ("pass", None, Entry::Passed),
-    ] {
-        check_entry(line, *seat, entry)?;
-    }
-    Ok(())
+fn lines_of_resignations(rt: HostRuntime) {
+    check_lines(&rt, rt.alloc(), RESIGNATIONS);
 }
 
-/// Lines that are no entry, and why.
-const NO_ENTRIES: [(&str, TextFault); 44] = [
-    ("X move 0-off", TextFault::BadNumber),
-    ("X move 25-20", TextFault::BadNumber),
-    ("X move 3-0", TextFault::BadNumber),
-    ("X move 03-1", TextFault::BadNumber),
-    ("X move 5-5", TextFault::BadNumber),
-    ("X move 5-8", TextFault::BadNumber),
-    ("X move 24-23 24-23 24-23 24-23 0-off", TextFault::BadNumber),
-    ("open 0 1", TextFault::BadNumber),
-    ("open 3 7", TextFault::BadNumber),
-    ("O roll 06 2", TextFault::BadNumber),
-    (
-        "X move 24-23 24-23 24-23 24-23 24-23",
-        TextFault::TooManySteps,
-    ),
-    ("", TextFault::NotALine),
-    ("X", TextFault::NotALine),
-    ("x take", TextFault::NotALine),
-    ("X open 3 1", TextFault::NotALine),
-    ("open 3", TextFault::NotALine),
-    ("open 3 1 1", TextFault::NotALine),
-    ("roll 6 2", TextFault::NotALine),
-    ("X roll", TextFault::NotALine),
-    ("X resign", TextFault::NotALine),
-    ("X moves 8-5", TextFault::NotALine),
-    ("X move 0-off bar", TextFault::NotALine),
-    ("X move off-3", TextFault::NotALine),
-    ("X move 8-bar", TextFault::NotALine),
-    ("X move 8-5-3", TextFault::NotALine),
-    ("X move 100-5", TextFault::NotALine),
-    ("X  take", TextFault::NotALine),
-    ("X move  8-5", TextFault::NotALine),
-    (" X take", TextFault::NotALine),
-    ("X take ", TextFault::NotALine),
-    ("X move 8-5 ", TextFault::NotALine),
-    ("X take\r", TextFault::NotALine),
-    ("X take\0", TextFault::NotALine),
-    ("X take\u{80}", TextFault::NotALine),
-    ("X pass", TextFault::NotALine),
-    ("O pass", TextFault::NotALine),
-    ("pass 1", TextFault::NotALine),
-    ("pass 8-5", TextFault::NotALine),
-    ("pass ", TextFault::NotALine),
-    (" pass", TextFault::NotALine),
-    ("passed", TextFault::NotALine),
-    ("pas", TextFault::NotALine),
-    ("Pass", TextFault::NotALine),
-    ("pass\0", TextFault::NotALine),
-];
+/// Lines that are no entry, and why. A blank behind a line's words is one that the line has.
+const NO_ENTRIES: &str = "\
+X move 0-off -> Err(BadNumber)
+X move 25-20 -> Err(BadNumber)
+X move 3-0 -> Err(BadNumber)
+X move 03-1 -> Err(BadNumber)
+X move 5-5 -> Err(BadNumber)
+X move 5-8 -> Err(BadNumber)
+X move 24-23 24-23 24-23 24-23 0-off -> Err(BadNumber)
+open 0 1 -> Err(BadNumber)
+open 3 7 -> Err(BadNumber)
+O roll 06 2 -> Err(BadNumber)
+X move 24-23 24-23 24-23 24-23 24-23 -> Err(TooManySteps)
+\x20-> Err(NotALine)
+X -> Err(NotALine)
+x take -> Err(NotALine)
+X open 3 1 -> Err(NotALine)
+open 3 -> Err(NotALine)
+open 3 1 1 -> Err(NotALine)
+roll 6 2 -> Err(NotALine)
+X roll -> Err(NotALine)
+X resign -> Err(NotALine)
+X moves 8-5 -> Err(NotALine)
+X move 0-off bar -> Err(NotALine)
+X move off-3 -> Err(NotALine)
+X move 8-bar -> Err(NotALine)
+X move 8-5-3 -> Err(NotALine)
+X move 100-5 -> Err(NotALine)
+X  take -> Err(NotALine)
+X move  8-5 -> Err(NotALine)
+\x20X take -> Err(NotALine)
+X take  -> Err(NotALine)
+X move 8-5  -> Err(NotALine)
+X take\r -> Err(NotALine)
+X take\0 -> Err(NotALine)
+X take\u{80} -> Err(NotALine)
+X pass -> Err(NotALine)
+O pass -> Err(NotALine)
+pass 1 -> Err(NotALine)
+pass 8-5 -> Err(NotALine)
+pass  -> Err(NotALine)
+\x20pass -> Err(NotALine)
+passed -> Err(NotALine)
+pas -> Err(NotALine)
+Pass -> Err(NotALine)
+pass\0 -> Err(NotALine)
+";
 
-/// What a line is refused for.
-fn fault_of(line: &[u8]) -> Option<TextFault> {
-    parse_entry(line).err()
+/// A line that is no text, or a long one, has none of the shapes of a line.
+fn check_refused(rt: &impl Abort, alloc: Global, name: &str, line: &[u8]) {
+    let told = told_of(rt, alloc, line);
+    check_told(rt, name, told.as_str(), "Err(NotALine)");
 }
 
 #[test]
 fn refused_lines(rt: HostRuntime) {
-    for &(line, fault) in &NO_ENTRIES {
-        let found = fault_of(line.as_bytes());
-        assert!(rt; found == Some(fault), "{found:?} of {line}");
-    }
-    assert!(rt; fault_of(b"X take\xff") == Some(TextFault::NotALine));
-    assert!(rt; fault_of(&[b'3'; 300]) == Some(TextFault::NotALine));
+    check_lines(&rt, rt.alloc(), NO_ENTRIES);
+    check_refused(&rt, rt.alloc(), "X take\\xff", b"X take\xff");
+    check_refused(&rt, rt.alloc(), "300 digits", &[b'3'; 300]);
 }
 
 #[test]
 fn long_numbers(rt: HostRuntime) {
     let mut line = [b'1'; 307];
     line[..7].copy_from_slice(b"open 3 ");
-    assert!(rt; fault_of(&line) == Some(TextFault::NotALine));
+    check_refused(&rt, rt.alloc(), "open 3 and 300 digits", &line);
 }

@@ -1,247 +1,206 @@
 //! The judge where a turn is to be passed, and where none is. The expected texts are those of the rules and formats,
 //! worked out by hand.
-use super::pictures::{ASIDE, LOWER, UPPER};
+use super::pictures::{HEADER, START, check_drawings, check_drawn, judged};
 use super::records::full_record;
-use super::rules::{SECOND_HEADER, check_drawn};
-use crate::checks::check_facts;
+use super::rules::SECOND_HEADER;
+use crate::checks::{check_row, check_told, text_of};
+use crate::records::{push_lines, written};
 use bg_match::{Entry, MOST_ENTRIES, Record, Rules};
-use bg_text::{Verdict, judge_text, parse_entry, transcript_text};
+use bg_text::{Verdict, judge_text};
 use std::alloc::Global;
-use std::test::Fail;
-
-const FIRST: &str = "length 1\n";
-
-const SECOND: &str = "length 1 rules 2\n";
-
-const FIRST_HEADER: &str = "length 1 game 1 score 0-0 cube 1 middle crawford";
+use std::process::Abort;
 
 /// Five entries, after which X has a checker on the bar, and no step by his sixes.
 const SHUT_OUT: &str = "open 2 1\nX move 13-11 6-5\nO roll 4 3\nO move 24-20 13-10\nX roll 6 6\n";
 
-const HIT_UPPER: &str = "  X4   .  O1   .  O3   .  O5   .   .   .   .  X2";
-
-const HIT_LOWER: &str = "  O4  X1   .   .  X3   .  X4  O1   .   .   .  O1";
-
-const HIT_ASIDE: &str = "bar X 1 O 0 off X 0 O 0";
+const HIT: &str = "  13  14  15  16  17  18  19  20  21  22  23  24
+  X4   .  O1   .  O3   .  O5   .   .   .   .  X2
+  O4  X1   .   .  X3   .  X4  O1   .   .   .  O1
+  12  11  10   9   8   7   6   5   4   3   2   1
+bar X 1 O 0 off X 0 O 0
+";
 
 const DUE: &str = "X to pass 6 6";
 
-/// The same as `check_drawn`, where X was shut out: with this header, phase and last line.
-fn check_shut_out(
-    alloc: Global,
-    parts: [&str; 2],
-    header: &str,
-    phase: &str,
-    last: &str,
-    verdict: Verdict,
-) -> Result<(), Fail> {
-    let [length, line] = parts;
-    let board = [header, HIT_UPPER, HIT_LOWER, HIT_ASIDE, phase];
-    check_drawn(alloc, [length, SHUT_OUT, line, ""], board, last, verdict)
+/// The judge draws this where X was shut out, by the first rules or the second: a row has the line behind that, the
+/// phase, and what is said last with the verdict.
+fn check_shut_out(rt: &impl Abort, alloc: Global, length: &str, header: &str, row: &[&str; 3]) {
+    let [line, phase, last] = *row;
+    let input = format!(in alloc; "{length}\n{SHUT_OUT}{line}").expect(rt, "memory");
+    check_drawn(rt, alloc, &[input.as_str(), header, HIT, phase, last]);
 }
 
-#[test]
-fn pass_of_a_turn(rt: HostRuntime) -> Result<(), Fail> {
-    let header = SECOND_HEADER;
-    let passed = Verdict::Fine(6);
-    check_shut_out(
-        rt.alloc(),
-        [SECOND, "pass"],
-        header,
-        "O to roll",
-        "ok 6",
-        passed,
-    )?;
-    let due = Verdict::Fine(5);
-    check_shut_out(rt.alloc(), [SECOND, ""], header, DUE, "ok 5", due)
+/// The same by the second rules, of several rows.
+fn check_second(rt: &impl Abort, alloc: Global, rows: &[[&str; 3]]) {
+    for row in rows {
+        check_shut_out(rt, alloc, "length 1 rules 2", SECOND_HEADER, row);
+    }
 }
 
-/// Lines of either player, and an opening, which follow no turn that is to be passed.
-const NO_PASSES: [&str; 14] = [
-    "X move",
-    "X move 24-18",
-    "X move bar-24 24-23 23-22 22-21",
-    "X resign normal",
-    "X roll 1 2",
-    "X double",
-    "X accept",
-    "O move",
-    "O resign backgammon",
-    "O roll 1 2",
-    "O take",
-    "O reject",
-    "open 2 1",
-    "open 3 3",
+const PASS: [[&str; 3]; 2] = [
+    ["pass", "O to roll", "ok 6\nFine(6)"],
+    ["", DUE, "ok 5\nFine(5)"],
 ];
 
 #[test]
-fn other_entries_where_a_pass_is_due(rt: HostRuntime) -> Result<(), Fail> {
-    for &line in &NO_PASSES {
-        let last = "refused at line 7: wrong phase";
-        let verdict = Verdict::Refused(7);
-        let parts = [SECOND, line];
-        check_shut_out(rt.alloc(), parts, SECOND_HEADER, DUE, last, verdict)?;
+fn pass_of_a_turn(rt: HostRuntime) {
+    check_second(&rt, rt.alloc(), &PASS);
+}
+
+const WRONG_PHASE: &str = "refused at line 7: wrong phase\nRefused(7)";
+
+/// Lines of either player, and an opening, which follow no turn that is to be passed.
+const NO_PASSES: [[&str; 3]; 14] = [
+    ["X move", DUE, WRONG_PHASE],
+    ["X move 24-18", DUE, WRONG_PHASE],
+    ["X move bar-24 24-23 23-22 22-21", DUE, WRONG_PHASE],
+    ["X resign normal", DUE, WRONG_PHASE],
+    ["X roll 1 2", DUE, WRONG_PHASE],
+    ["X double", DUE, WRONG_PHASE],
+    ["X accept", DUE, WRONG_PHASE],
+    ["O move", DUE, WRONG_PHASE],
+    ["O resign backgammon", DUE, WRONG_PHASE],
+    ["O roll 1 2", DUE, WRONG_PHASE],
+    ["O take", DUE, WRONG_PHASE],
+    ["O reject", DUE, WRONG_PHASE],
+    ["open 2 1", DUE, WRONG_PHASE],
+    ["open 3 3", DUE, WRONG_PHASE],
+];
+
+#[test]
+fn other_entries_where_a_pass_is_due(rt: HostRuntime) {
+    check_second(&rt, rt.alloc(), &NO_PASSES);
+}
+
+const NOT_A_LINE: &str = "refused at line 7: not a line\nRefused(7)";
+
+const BAD_NUMBER: &str = "refused at line 7: bad number\nRefused(7)";
+
+const TOO_MANY_STEPS: &str = "refused at line 7: too many steps\nRefused(7)";
+
+const FAULTS_OF_LINES: [[&str; 3]; 8] = [
+    ["X pass\n", DUE, NOT_A_LINE],
+    ["O pass\n", DUE, NOT_A_LINE],
+    ["pass 1\n", DUE, NOT_A_LINE],
+    ["pass \n", DUE, NOT_A_LINE],
+    ["\n", DUE, NOT_A_LINE],
+    ["O roll 7 1\n", DUE, BAD_NUMBER],
+    ["X move 3-24\n", DUE, BAD_NUMBER],
+    ["O move 6-5 6-5 6-5 6-5 6-5\n", DUE, TOO_MANY_STEPS],
+];
+
+#[test]
+fn faults_of_lines_where_a_pass_is_due(rt: HostRuntime) {
+    check_second(&rt, rt.alloc(), &FAULTS_OF_LINES);
+}
+
+const WRONG_PLAYER: &str = "refused at line 7: wrong player\nRefused(7)";
+
+const BY_FIRST_RULES: [[&str; 3]; 5] = [
+    ["X move", "O to roll", "ok 6\nFine(6)"],
+    ["pass", "X to move 6 6", WRONG_PHASE],
+    ["O move", "X to move 6 6", WRONG_PLAYER],
+    ["O roll 1 2", "X to move 6 6", WRONG_PLAYER],
+    ["X roll 1 2", "X to move 6 6", WRONG_PHASE],
+];
+
+#[test]
+fn first_rules_where_no_step_is_left(rt: HostRuntime) {
+    for row in &BY_FIRST_RULES {
+        check_shut_out(&rt, rt.alloc(), "length 1", HEADER, row);
     }
-    Ok(())
+}
+
+const NOT_DUE: [[&str; 5]; 4] = [
+    [
+        "length 1 rules 2\npass",
+        SECOND_HEADER,
+        START,
+        "opening",
+        "refused at line 2: wrong phase\nRefused(2)",
+    ],
+    [
+        "length 1 rules 2\nopen 3 1\npass",
+        SECOND_HEADER,
+        START,
+        "X to move 3 1",
+        "refused at line 3: wrong phase\nRefused(3)",
+    ],
+    [
+        "length 1 rules 2\nopen 3 1\nO move",
+        SECOND_HEADER,
+        START,
+        "X to move 3 1",
+        "refused at line 3: wrong player\nRefused(3)",
+    ],
+    [
+        "length 1 rules 2\nopen 3 1\nX resign gammon\npass",
+        SECOND_HEADER,
+        START,
+        "X resigns gammon",
+        "refused at line 4: wrong phase\nRefused(4)",
+    ],
+];
+
+#[test]
+fn passes_that_are_not_due(rt: HostRuntime) {
+    check_drawings(&rt, rt.alloc(), &NOT_DUE);
+}
+
+const AFTER_THE_MATCH: [[&str; 5]; 2] = [
+    [
+        "length 1 rules 2\nopen 3 1\nX resign normal\nO accept\npass",
+        "length 1 rules 2 game 1 score 0-1 cube 1 middle crawford",
+        START,
+        "O wins the match",
+        "refused at line 5: match over\nRefused(5)",
+    ],
+    [
+        "length 1 rules 2\nopen 3 1\nX resign normal\nO accept\nX pass",
+        "length 1 rules 2 game 1 score 0-1 cube 1 middle crawford",
+        START,
+        "O wins the match",
+        "refused at line 5: not a line\nRefused(5)",
+    ],
+];
+
+#[test]
+fn passes_after_the_match(rt: HostRuntime) {
+    check_drawings(&rt, rt.alloc(), &AFTER_THE_MATCH);
 }
 
 #[test]
-fn faults_of_lines_where_a_pass_is_due(rt: HostRuntime) -> Result<(), Fail> {
-    for (line, last) in [
-        ("X pass", "refused at line 7: not a line"),
-        ("O pass", "refused at line 7: not a line"),
-        ("pass 1", "refused at line 7: not a line"),
-        ("pass ", "refused at line 7: not a line"),
-        ("", "refused at line 7: not a line"),
-        ("O roll 7 1", "refused at line 7: bad number"),
-        ("X move 3-24", "refused at line 7: bad number"),
-        (
-            "O move 6-5 6-5 6-5 6-5 6-5",
-            "refused at line 7: too many steps",
-        ),
-    ] {
-        let lines = [SECOND, SHUT_OUT, line, "\n"];
-        let board = [SECOND_HEADER, HIT_UPPER, HIT_LOWER, HIT_ASIDE, DUE];
-        check_drawn(rt.alloc(), lines, board, last, Verdict::Refused(7))?;
-    }
-    Ok(())
-}
-
-#[test]
-fn first_rules_where_no_step_is_left(rt: HostRuntime) -> Result<(), Fail> {
-    let moved = Verdict::Fine(6);
-    let header = FIRST_HEADER;
-    check_shut_out(
-        rt.alloc(),
-        [FIRST, "X move"],
-        header,
-        "O to roll",
-        "ok 6",
-        moved,
-    )?;
-    for (line, last) in [
-        ("pass", "refused at line 7: wrong phase"),
-        ("O move", "refused at line 7: wrong player"),
-        ("O roll 1 2", "refused at line 7: wrong player"),
-        ("X roll 1 2", "refused at line 7: wrong phase"),
-    ] {
-        let verdict = Verdict::Refused(7);
-        check_shut_out(
-            rt.alloc(),
-            [FIRST, line],
-            header,
-            "X to move 6 6",
-            last,
-            verdict,
-        )?;
-    }
-    Ok(())
-}
-
-#[test]
-fn passes_that_are_not_due(rt: HostRuntime) -> Result<(), Fail> {
-    let header = SECOND_HEADER;
-    for (entries, line, phase, last, number) in [
-        ("", "pass", "opening", "refused at line 2: wrong phase", 2),
-        (
-            "open 3 1\n",
-            "pass",
-            "X to move 3 1",
-            "refused at line 3: wrong phase",
-            3,
-        ),
-        (
-            "open 3 1\n",
-            "O move",
-            "X to move 3 1",
-            "refused at line 3: wrong player",
-            3,
-        ),
-        (
-            "open 3 1\nX resign gammon\n",
-            "pass",
-            "X resigns gammon",
-            "refused at line 4: wrong phase",
-            4,
-        ),
-    ] {
-        let board = [header, UPPER, LOWER, ASIDE, phase];
-        check_drawn(
-            rt.alloc(),
-            [SECOND, entries, line, ""],
-            board,
-            last,
-            Verdict::Refused(number),
-        )?;
-    }
-    Ok(())
-}
-
-#[test]
-fn passes_after_the_match(rt: HostRuntime) -> Result<(), Fail> {
-    let header = "length 1 rules 2 game 1 score 0-1 cube 1 middle crawford";
-    let board = [header, UPPER, LOWER, ASIDE, "O wins the match"];
-    let entries = "open 3 1\nX resign normal\nO accept\n";
-    for (line, last) in [
-        ("pass", "refused at line 5: match over"),
-        ("X pass", "refused at line 5: not a line"),
-    ] {
-        check_drawn(
-            rt.alloc(),
-            [SECOND, entries, line, ""],
-            board,
-            last,
-            Verdict::Refused(5),
-        )?;
-    }
-    Ok(())
-}
-
-#[test]
-fn passes_in_a_full_record(rt: HostRuntime) -> Result<(), Fail> {
-    let record = full_record(rt.alloc(), Rules::Two)?;
-    let mut text = transcript_text(rt.alloc(), &record)?;
-    let bytes = text.len();
-    assert!(rt; bytes == 18 + 9 + 499_999 * (20 + 9) + 20, "{bytes} bytes");
-    text.extend_from_slice(b"pass")?;
-    let judged = judge_text(rt.alloc(), &text)?;
+fn passes_in_a_full_record(rt: HostRuntime) {
+    let record = full_record(&rt, rt.alloc(), Rules::Two);
+    let mut text = written(&rt, rt.alloc(), &record);
+    let bytes = 18 + 9 + 499_999 * (20 + 9) + 20;
+    check_row(&rt, "number of bytes", text.len() == bytes);
+    text.extend_from_slice(b"pass").expect(&rt, "memory");
+    let judged = judge_text(rt.alloc(), &text).expect(&rt, "memory");
+    let refused = Verdict::Refused(MOST_ENTRIES + 2);
+    check_row(&rt, "verdict", judged.verdict == refused);
     let last = b"\nrefused at line 1000002: record full\n";
-    check_facts(&[
-        (
-            "verdict",
-            judged.verdict == Verdict::Refused(MOST_ENTRIES + 2),
-        ),
-        ("last line", judged.text.ends_with(last)),
-    ])
+    check_row(&rt, "last line", judged.text.ends_with(last));
 }
 
-/// Appends the entries of some lines.
-fn push_lines(record: &mut Record, lines: &str) -> Result<(), Fail> {
-    for line in lines.lines() {
-        let (_, entry) = parse_entry(line.as_bytes())?;
-        record.push(entry)?;
-    }
-    Ok(())
-}
+const PASSED: &str = "length 1 rules 2
+open 2 1
+X move 13-11 6-5
+O roll 4 3
+O move 24-20 13-10
+X roll 6 6
+pass
+";
 
 /// The transcript of a match in which X, who was shut out, is passed.
-fn transcript_with_a_pass(alloc: Global) -> Result<Vec<u8>, Fail> {
-    let mut record = Record::new(alloc, 1, 1, Rules::Two)?;
-    push_lines(&mut record, SHUT_OUT)?;
-    record.push(Entry::Passed)?;
-    check_facts(&[("seat of the pass", record.by(6).is_none())])?;
-    Ok(transcript_text(alloc, &record)?)
-}
-
 #[test]
-fn transcript_of_a_pass(rt: HostRuntime) -> Result<(), Fail> {
-    let transcript = transcript_with_a_pass(rt.alloc())?;
-    let mut expected = Vec::from_slice(rt.alloc(), SECOND.as_bytes())?;
-    expected.extend_from_slice(SHUT_OUT.as_bytes())?;
-    expected.extend_from_slice(b"pass\n")?;
-    let judged = judge_text(rt.alloc(), &transcript)?;
-    check_facts(&[
-        ("transcript", transcript.as_slice() == expected.as_slice()),
-        ("verdict", judged.verdict == Verdict::Fine(6)),
-    ])
+fn transcript_of_a_pass(rt: HostRuntime) {
+    let mut record = Record::new(rt.alloc(), 1, 1, Rules::Two).expect(&rt, "a record");
+    push_lines(&rt, &mut record, SHUT_OUT);
+    record.push(Entry::Passed).expect(&rt, "a pass");
+    check_row(&rt, "no seat passes", record.by(6).is_none());
+    let transcript = written(&rt, rt.alloc(), &record);
+    check_told(&rt, "transcript", text_of(&transcript), PASSED);
+    let told = judged(&rt, rt.alloc(), &transcript);
+    check_row(&rt, "verdict", told.ends_with("\nok 6\nFine(6)"));
 }

@@ -1,11 +1,10 @@
 //! The match of these tests, as a text and as a record, its picture, and a record that is full.
-use super::turn;
-use crate::checks::check_facts;
+use crate::checks::check_row;
+use crate::records::{push, push_lines, written};
 use bg_board::Die;
 use bg_match::{Entry, Level, Record, Rules};
-use bg_text::transcript_text;
 use std::alloc::Global;
-use std::test::Fail;
+use std::process::Abort;
 
 pub(crate) const MATCH: &str = "length 1\nopen 3 1\nX move 8-5 6-5\n";
 
@@ -22,40 +21,33 @@ ok 2
 ";
 
 /// The record of MATCH, also where memory for an entry is refused once.
-pub(crate) fn record(alloc: Global) -> Result<Record, Fail> {
-    let mut record = Record::new(alloc, 1, 1, Rules::One)?;
-    let moved = Entry::Moved(turn(&[(8, 5), (6, 5)])?);
-    for entry in [Entry::Opening(Die::Three, Die::One), moved] {
-        if record.push(entry.copy()).is_err() {
-            record.push(entry)?;
-        }
-    }
-    Ok(record)
+pub(crate) fn record(rt: &impl Abort, alloc: Global) -> Record {
+    let mut record = Record::new(alloc, 1, 1, Rules::One).expect(rt, "a record");
+    push_lines(rt, &mut record, "open 3 1\nX move 8-5 6-5\n");
+    record
 }
 
-/// Fails where a record is not that of MATCH, as match number 7.
-pub(crate) fn check_is_match(alloc: Global, read: &Record) -> Result<(), Fail> {
-    let written = match transcript_text(alloc, read) {
-        Ok(text) => text,
-        Err(_) => transcript_text(alloc, read)?,
-    };
-    check_facts(&[
-        ("number of the match", read.id() == 7),
-        ("number of entries", read.len() == 2),
-        ("length of the match", read.length() == 1),
-        ("rules", read.rules() == Rules::One),
-        ("transcript", written.as_slice() == MATCH.as_bytes()),
-    ])
+/// A record is that of MATCH, as match number 7.
+pub(crate) fn check_is_match(rt: &impl Abort, alloc: Global, read: &Record) {
+    let numbers = (read.id(), read.len(), read.length()) == (7, 2, 1);
+    check_row(rt, "match 7 of length 1 with 2 entries", numbers);
+    check_row(rt, "the first rules", read.rules() == Rules::One);
+    let text = written(rt, alloc, read);
+    check_row(rt, "transcript", text.as_slice() == MATCH.as_bytes());
+}
+
+fn push_offers(rt: &impl Abort, record: &mut Record) {
+    for _ in 0..499_999 {
+        push(rt, record, Entry::Resigned(Level::Backgammon));
+        push(rt, record, Entry::Rejected);
+    }
 }
 
 /// A record that is full: an opening, offers and their replies, and an offer.
-pub(crate) fn full_record(alloc: Global, rules: Rules) -> Result<Record, Fail> {
-    let mut record = Record::new(alloc, 1, 99, rules)?;
-    record.push(Entry::Opening(Die::Three, Die::One))?;
-    for _ in 0..499_999 {
-        record.push(Entry::Resigned(Level::Backgammon))?;
-        record.push(Entry::Rejected)?;
-    }
-    record.push(Entry::Resigned(Level::Backgammon))?;
-    Ok(record)
+pub(crate) fn full_record(rt: &impl Abort, alloc: Global, rules: Rules) -> Record {
+    let mut record = Record::new(alloc, 1, 99, rules).expect(rt, "a record");
+    push(rt, &mut record, Entry::Opening(Die::Three, Die::One));
+    push_offers(rt, &mut record);
+    push(rt, &mut record, Entry::Resigned(Level::Backgammon));
+    record
 }

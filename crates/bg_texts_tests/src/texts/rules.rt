@@ -1,34 +1,16 @@
 //! What is written and read of the rules: line 1, the header and the phase line. The expected texts are those of the
 //! formats, worked out by hand.
-use super::inputs::check_line_1;
-use super::pictures::{ASIDE, LOWER, UPPER, check_judged, check_picture, counts, picture};
-use crate::checks::check_facts;
+use super::inputs::{LENGTH_OUT_OF_RANGE, NO_LENGTH};
+use super::pictures::{START, check_board, check_drawings, check_each};
+use crate::checks::{check_told, text_of};
 use bg_board::{Board, Die, Player};
 use bg_match::{Cube, Phase, Rules, Standing};
-use bg_text::{Verdict, put_terms};
+use bg_text::put_terms;
 use bg_turns::Dice;
 use std::alloc::Global;
-use std::test::Fail;
+use std::process::Abort;
 
 pub(crate) const SECOND_HEADER: &str = "length 1 rules 2 game 1 score 0-0 cube 1 middle crawford";
-
-/// Fails where the judge does not draw this board of an input in four parts, or does not say this last.
-pub(crate) fn check_drawn(
-    alloc: Global,
-    parts: [&str; 4],
-    board: [&str; 5],
-    last: &str,
-    verdict: Verdict,
-) -> Result<(), Fail> {
-    let mut input = Vec::new(alloc);
-    for part in parts {
-        input.extend_from_slice(part.as_bytes())?;
-    }
-    let mut text = picture(alloc, board)?;
-    text.extend_from_slice(last.as_bytes())?;
-    text.push(b'\n')?;
-    check_judged(alloc, &input, &text, verdict)
-}
 
 /// Lines of another shape than that of a length line.
 const NO_LENGTH_LINES: [&str; 20] = [
@@ -55,94 +37,143 @@ const NO_LENGTH_LINES: [&str; 20] = [
 ];
 
 #[test]
-fn lines_that_name_no_rules(rt: HostRuntime) -> Result<(), Fail> {
-    for &input in &NO_LENGTH_LINES {
-        check_line_1(rt.alloc(), input.as_bytes(), "not a length line")?;
-    }
-    Ok(())
+fn lines_that_name_no_rules(rt: HostRuntime) {
+    check_each(&rt, rt.alloc(), &NO_LENGTH_LINES, NO_LENGTH);
 }
 
-#[test]
-fn lengths_out_of_range(rt: HostRuntime) -> Result<(), Fail> {
-    for input in [
-        "length 0 rules 2\n",
-        "length 000 rules 2\n",
-        "length 01 rules 2\nopen 3 1\n",
-        "length 100 rules 2",
-        "length 999 rules 2\n",
-    ] {
-        check_line_1(rt.alloc(), input.as_bytes(), "length out of range")?;
-    }
-    Ok(())
-}
+const OTHER_LENGTHS: [&str; 5] = [
+    "length 0 rules 2\n",
+    "length 000 rules 2\n",
+    "length 01 rules 2\nopen 3 1\n",
+    "length 100 rules 2",
+    "length 999 rules 2\n",
+];
 
 #[test]
-fn lone_lines_of_the_second_rules(rt: HostRuntime) -> Result<(), Fail> {
-    let none = Verdict::Fine(0);
-    for (line, header) in [
-        ("length 1 rules 2", SECOND_HEADER),
-        (
-            "length 99 rules 2\n",
-            "length 99 rules 2 game 1 score 0-0 cube 1 middle",
-        ),
-    ] {
-        let board = [header, UPPER, LOWER, ASIDE, "opening"];
-        check_drawn(rt.alloc(), [line, "", "", ""], board, "ok 0", none)?;
-    }
-    let board = [SECOND_HEADER, UPPER, LOWER, ASIDE, "opening"];
-    let last = "refused at line 2: not a line";
-    check_drawn(
-        rt.alloc(),
-        ["length 1 rules 2\n\n", "", "", ""],
-        board,
-        last,
-        Verdict::Refused(2),
-    )
+fn lengths_out_of_range(rt: HostRuntime) {
+    check_each(&rt, rt.alloc(), &OTHER_LENGTHS, LENGTH_OUT_OF_RANGE);
 }
+
+const LONE_LINES: [[&str; 5]; 3] = [
+    [
+        "length 1 rules 2",
+        SECOND_HEADER,
+        START,
+        "opening",
+        "ok 0\nFine(0)",
+    ],
+    [
+        "length 99 rules 2\n",
+        "length 99 rules 2 game 1 score 0-0 cube 1 middle",
+        START,
+        "opening",
+        "ok 0\nFine(0)",
+    ],
+    [
+        "length 1 rules 2\n\n",
+        SECOND_HEADER,
+        START,
+        "opening",
+        "refused at line 2: not a line\nRefused(2)",
+    ],
+];
+
+#[test]
+fn lone_lines_of_the_second_rules(rt: HostRuntime) {
+    check_drawings(&rt, rt.alloc(), &LONE_LINES);
+}
+
+/// Where the checkers of X stand, and of those of O the one that is not off.
+const X_AT_HOME: [u8; 26] = [
+    0, 1, 3, 2, 2, 2, 5, 0, 0, 0, 0, 0, 0, 0, 0, 0, 0, 0, 0, 0, 0, 0, 0, 0, 0, 0,
+];
+
+const O_ON_THE_BAR: [u8; 26] = [
+    14, 0, 0, 0, 0, 0, 0, 0, 0, 0, 0, 0, 0, 0, 0, 0, 0, 0, 0, 0, 0, 0, 0, 0, 0, 1,
+];
 
 /// The standing of a match by these rules where O is to move these dice, with a checker on the bar: a one alone lets it
 /// in.
-fn standing_of(rules: Rules, first: Die, second: Die) -> Result<Standing, Fail> {
-    let x = counts(&[(6, 5), (5, 2), (4, 2), (3, 2), (2, 3), (1, 1)]);
-    let o = counts(&[(25, 1), (0, 14)]);
+fn standing_of(rt: &impl Abort, rules: Rules, first: Die, second: Die) -> Standing {
     let cube = Cube {
         value: 2,
         owner: Some(Player::X),
     };
     let phase = Phase::ToMove(Player::O, Dice { first, second });
-    let board = Board::from_counts(x, o)?;
+    let board = Board::from_counts(X_AT_HOME, O_ON_THE_BAR).expect(rt, "a board");
     let standing = Standing::from_parts(3, rules, board, phase, cube, (1, 0), false, 2);
-    Ok(standing.ok_or("standing")?)
+    standing.expect(rt, "a standing")
 }
 
+/// A five is thrown, and another die.
+const BOTH_RULES: [(Rules, Die, &str); 4] = [
+    (
+        Rules::One,
+        Die::Four,
+        "length 3 game 2 score 1-0 cube 2 X
+  13  14  15  16  17  18  19  20  21  22  23  24
+   .   .   .   .   .   .   .   .   .   .   .   .
+   .   .   .   .   .   .  X5  X2  X2  X2  X3  X1
+  12  11  10   9   8   7   6   5   4   3   2   1
+bar X 0 O 1 off X 0 O 14
+O to move 5 4
+",
+    ),
+    (
+        Rules::Two,
+        Die::Four,
+        "length 3 rules 2 game 2 score 1-0 cube 2 X
+  13  14  15  16  17  18  19  20  21  22  23  24
+   .   .   .   .   .   .   .   .   .   .   .   .
+   .   .   .   .   .   .  X5  X2  X2  X2  X3  X1
+  12  11  10   9   8   7   6   5   4   3   2   1
+bar X 0 O 1 off X 0 O 14
+O to pass 5 4
+",
+    ),
+    (
+        Rules::One,
+        Die::One,
+        "length 3 game 2 score 1-0 cube 2 X
+  13  14  15  16  17  18  19  20  21  22  23  24
+   .   .   .   .   .   .   .   .   .   .   .   .
+   .   .   .   .   .   .  X5  X2  X2  X2  X3  X1
+  12  11  10   9   8   7   6   5   4   3   2   1
+bar X 0 O 1 off X 0 O 14
+O to move 5 1
+",
+    ),
+    (
+        Rules::Two,
+        Die::One,
+        "length 3 rules 2 game 2 score 1-0 cube 2 X
+  13  14  15  16  17  18  19  20  21  22  23  24
+   .   .   .   .   .   .   .   .   .   .   .   .
+   .   .   .   .   .   .  X5  X2  X2  X2  X3  X1
+  12  11  10   9   8   7   6   5   4   3   2   1
+bar X 0 O 1 off X 0 O 14
+O to move 5 1
+",
+    ),
+];
+
 #[test]
-fn boards_of_both_rules(rt: HostRuntime) -> Result<(), Fail> {
-    let first = "length 3 game 2 score 1-0 cube 2 X";
-    let second = "length 3 rules 2 game 2 score 1-0 cube 2 X";
-    let upper = "   .   .   .   .   .   .   .   .   .   .   .   .";
-    let lower = "   .   .   .   .   .   .  X5  X2  X2  X2  X3  X1";
-    let aside = "bar X 0 O 1 off X 0 O 14";
-    for (rules, dice, header, phase) in [
-        (Rules::One, Die::Four, first, "O to move 5 4"),
-        (Rules::Two, Die::Four, second, "O to pass 5 4"),
-        (Rules::One, Die::One, first, "O to move 5 1"),
-        (Rules::Two, Die::One, second, "O to move 5 1"),
-    ] {
-        let standing = standing_of(rules, Die::Five, dice)?;
-        check_picture(rt.alloc(), &standing, [header, upper, lower, aside, phase])?;
+fn boards_of_both_rules(rt: HostRuntime) {
+    for &(rules, die, wanted) in &BOTH_RULES {
+        let standing = standing_of(&rt, rules, Die::Five, die);
+        check_board(&rt, rt.alloc(), &standing, wanted);
     }
-    Ok(())
 }
 
-/// Fails where a length and rules are put otherwise behind other words.
-fn check_terms(alloc: Global, rules: Rules, words: &str) -> Result<(), Fail> {
-    let mut text = Vec::from_slice(alloc, b"a ")?;
-    put_terms(&mut text, 25, rules)?;
-    check_facts(&[(words, text.as_slice() == words.as_bytes())])
+/// A length and rules are put so behind other words.
+fn check_terms(rt: &impl Abort, alloc: Global, rules: Rules, words: &str) {
+    let mut text = Vec::from_slice(alloc, b"a ").expect(rt, "memory");
+    put_terms(&mut text, 25, rules).expect(rt, "memory");
+    check_told(rt, words, text_of(&text), words);
 }
 
 #[test]
-fn lengths_and_rules_in_words(rt: HostRuntime) -> Result<(), Fail> {
-    check_terms(rt.alloc(), Rules::One, "a length 25")?;
-    check_terms(rt.alloc(), Rules::Two, "a length 25 rules 2")
+fn lengths_and_rules_in_words(rt: HostRuntime) {
+    check_terms(&rt, rt.alloc(), Rules::One, "a length 25");
+    check_terms(&rt, rt.alloc(), Rules::Two, "a length 25 rules 2");
 }

@@ -1,117 +1,114 @@
 //! The transcripts of records, which the judge reads.
 use super::inputs::{TOO_LONG, followed_by};
-use super::pictures::check_judged;
+use super::pictures::{check_judged, judged};
 use super::records::{MATCH, TEXT_OF_MATCH, check_is_match, full_record, record};
-use crate::checks::check_facts;
-use bg_match::{EntryFault, MOST_ENTRIES, Rules};
-use bg_text::{
-    LineFault, MAX_INPUT, TextFault, TranscriptFault, Verdict, judge_text, read_transcript,
-    transcript_text,
-};
+use crate::checks::{check_row, check_told, text_of};
+use crate::records::{read, written};
+use bg_match::{MOST_ENTRIES, Rules};
+use bg_text::{MAX_INPUT, Verdict, judge_text, read_transcript};
 use std::alloc::Global;
-use std::test::Fail;
+use std::process::Abort;
 
 #[test]
-fn transcript_of_a_record(rt: HostRuntime) -> Result<(), Fail> {
-    let transcript = transcript_text(rt.alloc(), &record(rt.alloc())?)?;
-    assert!(rt; transcript.as_slice() == MATCH.as_bytes());
-    let text = TEXT_OF_MATCH.as_bytes();
-    check_judged(rt.alloc(), &transcript, text, Verdict::Fine(2))
+fn transcript_of_a_record(rt: HostRuntime) {
+    let transcript = written(&rt, rt.alloc(), &record(&rt, rt.alloc()));
+    check_told(&rt, MATCH, text_of(&transcript), MATCH);
+    let told = judged(&rt, rt.alloc(), &transcript);
+    let verdict = told.strip_prefix(TEXT_OF_MATCH);
+    check_row(&rt, "judgement", verdict == Some("Fine(2)"));
 }
 
 #[test]
-fn transcript_of_a_full_record(rt: HostRuntime) -> Result<(), Fail> {
-    let record = full_record(rt.alloc(), Rules::One)?;
-    let text = transcript_text(rt.alloc(), &record)?;
-    let judged = judge_text(rt.alloc(), &text)?;
+fn transcript_of_a_full_record(rt: HostRuntime) {
+    let record = full_record(&rt, rt.alloc(), Rules::One);
+    check_row(&rt, "number of entries", record.len() == MOST_ENTRIES);
+    let text = written(&rt, rt.alloc(), &record);
+    let bytes = 10 + 9 + 499_999 * (20 + 9) + 20;
+    check_row(&rt, "number of bytes", text.len() == bytes);
+    let judged = judge_text(rt.alloc(), &text).expect(&rt, "memory");
+    let fine = Verdict::Fine(MOST_ENTRIES);
+    check_row(&rt, "verdict", judged.verdict == fine);
     let last = b"X resigns backgammon\nok 1000000\n";
-    check_facts(&[
-        ("number of entries", record.len() == MOST_ENTRIES),
-        (
-            "number of bytes",
-            text.len() == 10 + 9 + 499_999 * (20 + 9) + 20,
-        ),
-        ("verdict", judged.verdict == Verdict::Fine(MOST_ENTRIES)),
-        ("last lines", judged.text.ends_with(last)),
-    ])
+    check_row(&rt, "last lines", judged.text.ends_with(last));
 }
 
 #[test]
-fn record_of_a_transcript(rt: HostRuntime) -> Result<(), Fail> {
-    check_is_match(
-        rt.alloc(),
-        &read_transcript(rt.alloc(), 7, MATCH.as_bytes())?,
-    )
+fn record_of_a_transcript(rt: HostRuntime) {
+    let record = read(&rt, rt.alloc(), 7, MATCH.as_bytes());
+    check_is_match(&rt, rt.alloc(), &record);
 }
 
 #[test]
-fn record_of_a_full_transcript(rt: HostRuntime) -> Result<(), Fail> {
-    let record = full_record(rt.alloc(), Rules::One)?;
-    let text = transcript_text(rt.alloc(), &record)?;
-    let read = read_transcript(rt.alloc(), 1, &text)?;
-    let again = transcript_text(rt.alloc(), &read)?;
-    check_facts(&[
-        ("number of entries", read.len() == MOST_ENTRIES),
-        ("transcript", again.as_slice() == text.as_slice()),
-    ])
+fn record_of_a_full_transcript(rt: HostRuntime) {
+    let text = written(&rt, rt.alloc(), &full_record(&rt, rt.alloc(), Rules::One));
+    let record = read(&rt, rt.alloc(), 1, &text);
+    check_row(&rt, "number of entries", record.len() == MOST_ENTRIES);
+    let again = written(&rt, rt.alloc(), &record);
+    check_row(&rt, "transcript", again.as_slice() == text.as_slice());
 }
 
 /// What a text that is read as a transcript is refused for.
-fn fault_of(alloc: Global, text: &[u8]) -> Option<TranscriptFault> {
-    read_transcript(alloc, 7, text).err()
+fn fault_of(rt: &impl Abort, alloc: Global, text: &[u8]) -> String {
+    let fault = read_transcript(alloc, 7, text).err();
+    format!(in alloc; "{fault:?}").expect(rt, "memory")
 }
 
-/// Whether the judge refuses this line of a text.
-fn is_refused(alloc: Global, text: &str, line: u32) -> Result<bool, Fail> {
-    let judged = judge_text(alloc, text.as_bytes())?;
-    Ok(judged.verdict == Verdict::Refused(line))
+/// A text gives no record for this reason, and the judge comes to this verdict.
+fn check_refused(rt: &impl Abort, alloc: Global, row: &[&str; 3]) {
+    let [text, wanted, verdict] = *row;
+    let fault = fault_of(rt, alloc, text.as_bytes());
+    check_told(rt, text, fault.as_str(), wanted);
+    let told = judged(rt, alloc, text.as_bytes());
+    let (_, found) = told.rsplit_once('\n').expect(rt, "lines");
+    check_told(rt, text, found, verdict);
 }
 
 /// Where the judge refuses a line no record is read, and the fault names that line and why.
+const REFUSED: [[&str; 3]; 7] = [
+    [
+        "",
+        "Some(Refused { line: 1, why: NotALengthLine })",
+        "Refused(1)",
+    ],
+    [
+        "length 100\n",
+        "Some(Refused { line: 1, why: LengthOutOfRange })",
+        "Refused(1)",
+    ],
+    [
+        "length 1\nopen 3 3\n",
+        "Some(Refused { line: 2, why: Entry(EqualOpening) })",
+        "Refused(2)",
+    ],
+    [
+        "length 1\nopen 7 1\n",
+        "Some(Refused { line: 2, why: Text(BadNumber) })",
+        "Refused(2)",
+    ],
+    [
+        "length 1\nopen 3 1\nO move 8-5 6-5\n",
+        "Some(Refused { line: 3, why: WrongPlayer })",
+        "Refused(3)",
+    ],
+    [
+        "length 1\nopen 3 1\nX move 8-5 6-5\nX roll 1 2\n",
+        "Some(Refused { line: 4, why: WrongPlayer })",
+        "Refused(4)",
+    ],
+    ["length 1", "None", "Fine(0)"],
+];
+
 #[test]
-fn no_record_of_a_refused_transcript(rt: HostRuntime) -> Result<(), Fail> {
-    for (text, line, why) in [
-        ("", 1, LineFault::NotALengthLine),
-        ("length 100\n", 1, LineFault::LengthOutOfRange),
-        (
-            "length 1\nopen 3 3\n",
-            2,
-            LineFault::Entry(EntryFault::EqualOpening),
-        ),
-        (
-            "length 1\nopen 7 1\n",
-            2,
-            LineFault::Text(TextFault::BadNumber),
-        ),
-        (
-            "length 1\nopen 3 1\nO move 8-5 6-5\n",
-            3,
-            LineFault::WrongPlayer,
-        ),
-        (
-            "length 1\nopen 3 1\nX move 8-5 6-5\nX roll 1 2\n",
-            4,
-            LineFault::WrongPlayer,
-        ),
-    ] {
-        let fault = fault_of(rt.alloc(), text.as_bytes());
-        assert!(rt;
-            fault == Some(TranscriptFault::Refused { line, why }),
-            "{fault:?} of {text}"
-        );
-        assert!(rt; is_refused(rt.alloc(), text, line)?, "{text}");
+fn no_record_of_a_refused_transcript(rt: HostRuntime) {
+    for row in &REFUSED {
+        check_refused(&rt, rt.alloc(), row);
     }
-    assert!(rt; fault_of(rt.alloc(), b"length 1").is_none());
-    assert!(rt; !is_refused(rt.alloc(), "length 1", 0)?);
-    Ok(())
 }
 
 #[test]
-fn no_record_of_a_long_transcript(rt: HostRuntime) -> Result<(), Fail> {
-    let long = followed_by(rt.alloc(), "length 1\n", b'\n', MAX_INPUT - 8)?;
-    let fault = fault_of(rt.alloc(), &long);
-    assert!(rt; fault == Some(TranscriptFault::TooLong), "{fault:?}");
-    let judged = judge_text(rt.alloc(), &long)?;
-    assert!(rt; judged.text.as_slice() == TOO_LONG.as_bytes());
-    Ok(())
+fn no_record_of_a_long_transcript(rt: HostRuntime) {
+    let long = followed_by(&rt, rt.alloc(), "length 1\n", b'\n', MAX_INPUT - 8);
+    let fault = fault_of(&rt, rt.alloc(), &long);
+    check_told(&rt, "fault", fault.as_str(), "Some(TooLong)");
+    check_judged(&rt, rt.alloc(), "judgement", &long, TOO_LONG);
 }
