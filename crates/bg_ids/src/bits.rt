@@ -1,4 +1,4 @@
-//! Bits, and the text that an identifier has of them.
+//! Bits, and the text of an identifier made of them.
 ghost use Rattle.std.specs.Prelude.{◌≡◌, ◌≤◌, ◌+◌, ◌++◌, length};
 ghost use Rattle.arrayvec.specs.ArrayVec.{array_vec_len};
 ghost use Rattle.bg_ids.specs.Bits.{number_bits, bits_number, bits_bytes, bits_text};
@@ -7,22 +7,22 @@ use arrayvec::{ArrayString, ArrayVec};
 use base64::engine::general_purpose::STANDARD_NO_PAD;
 use std::str;
 
-/// How many bits an identifier has at most.
+/// The greatest number of bits in an identifier.
 const MOST_BITS: usize = 80;
 
-/// How many bits a byte has.
+/// The number of bits in a byte.
 const BYTE_BITS: usize = 8;
 
-/// How many bytes an identifier has at most.
+/// The greatest number of bytes in an identifier.
 const MOST_BYTES: usize = 10;
 
-/// How many characters an identifier of bits has at most.
+/// The greatest number of characters in an identifier of bits.
 pub(crate) const MOST_CHARACTERS: usize = 14;
 
 /// The bits of an identifier, in their order.
 pub(crate) type Bits = ArrayVec<bool, MOST_BITS>;
 
-/// Adds a number as so many bits, the one that counts 1 first.
+/// Appends a number as `width` bits, the lowest first.
 pub(crate) fn put_number(bits: &mut Bits, number: u16, width: u8)
     requires { array_vec_len bits.old + width ≤ 80 }
     ensures items { bits.new.items ≡ bits.old.items ++ number_bits width number }
@@ -35,7 +35,7 @@ pub(crate) fn put_number(bits: &mut Bits, number: u16, width: u8)
     }
 }
 
-/// Returns the number of at most eight bits, the first of which counts 1.
+/// Returns the number with these bits, at most eight, the lowest first.
 fn byte_of(bits: &[bool]) -> u8
     requires { length bits.now ≤ 8 }
     ensures { result ≡ bits_number bits.now }
@@ -49,7 +49,7 @@ fn byte_of(bits: &[bool]) -> u8
     number as u8
 }
 
-/// Returns so many bytes of the bits, and zeros where these run out.
+/// Returns `count` bytes of the bits, with zeros where the bits run out.
 fn bytes_of(bits: &Bits, count: usize) -> ArrayVec<u8, MOST_BYTES>
     requires { count ≤ 10 }
     ensures { result.items ≡ bits_bytes count bits.now.items }
@@ -64,7 +64,7 @@ fn bytes_of(bits: &Bits, count: usize) -> ArrayVec<u8, MOST_BYTES>
     bytes
 }
 
-/// Returns the text of so many bytes of the bits.
+/// Returns the text of `count` bytes of the bits.
 pub(crate) fn text_of(bits: &Bits, count: usize) -> ArrayString<MOST_CHARACTERS>
     requires { count ≤ 10 }
     ensures { result.bytes ≡ bits_text count bits.now.items }

@@ -1,5 +1,6 @@
-//! Names positions and matches by the identifiers that other programs read: GNU Backgammon's Position ID and Match ID,
-//! and the XGID of eXtreme Gammon (docs/FORMATS.md, "IDs of positions and matches").
+//! Names positions and matches by the identifiers that other programs read: GNU Backgammon's
+//! Position ID and Match ID, and the XGID of eXtreme Gammon (docs/FORMATS.md,
+//! "IDs of positions and matches").
 //!
 //! ```
 //! let standing = Standing::start(7, Rules::One);

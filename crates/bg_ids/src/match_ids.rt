@@ -17,17 +17,17 @@ use bg_match::{Level, Phase, Standing};
 use bg_turns::Dice;
 use std::fmt;
 
-/// How many bytes a Match ID has.
+/// The number of bytes in a Match ID.
 const BYTES: usize = 9;
 
-/// A number of a Match ID, and how many bits it has there.
+/// A number in a Match ID, and its width in bits.
 #[derive(Clone, Copy)]
 struct BitField {
     number: u16,
     width: u8,
 }
 
-/// The Match ID of a standing: all that it says but for the board.
+/// The Match ID of a standing: everything but the board.
 #[derive(Clone, Copy, Debug, PartialEq, Eq)]
 pub struct MatchId {
     text: ArrayString<MOST_CHARACTERS>,
@@ -45,7 +45,7 @@ impl MatchId {
         }
     }
 
-    /// Returns its text, which has 12 characters.
+    /// Returns the text of the ID, which has 12 characters.
     pub fn as_str(&self) -> &str
         ensures { result.now ≡ self.now.text.bytes }
     {
@@ -63,7 +63,7 @@ impl fmt::Display for MatchId {
     }
 }
 
-/// Adds fields in their order.
+/// Appends fields in their order.
 fn put_fields(bits: &mut Bits, fields: &[BitField])
     requires { array_vec_len bits.old + sum_by width fields.now ≤ 80 }
     ensures { bits.new.items ≡ bits.old.items ++ flat_map field_bits fields.now }
@@ -73,7 +73,8 @@ fn put_fields(bits: &mut Bits, fields: &[BitField])
     }
 }
 
-/// Returns the fields in their order. The last says that the Jacoby rule is not used, which no match has.
+/// Returns the fields in their order. The last one says that the Jacoby rule is not used, since no
+/// match uses it.
 fn fields(standing: &Standing) -> [BitField; 14]
     ensures { result ≡ match_fields standing.now }
 {
@@ -105,7 +106,7 @@ fn field(number: u16, width: u8) -> BitField
     BitField { number, width }
 }
 
-/// Returns how often the cube was doubled, where it shows this.
+/// Returns the number of doublings after which the cube shows this value.
 pub(crate) fn doublings(value: u8) -> u16
     ensures { result ≡ doublings_of value }
 {
@@ -121,7 +122,7 @@ fn player_number(player: Player) -> u16
     }
 }
 
-/// Returns whose the cube is; 3 in the middle.
+/// Returns the number of the cube's owner; 3 where the cube is in the middle.
 fn owner_number(owner: Option<Player>) -> u16
     ensures { result ≡ number_of_owner owner }
 {
@@ -131,14 +132,15 @@ fn owner_number(owner: Option<Player>) -> u16
     }
 }
 
-/// Returns whether the game is the Crawford game. In a match of one point that is not told.
+/// Returns whether the game is the Crawford game. In a match of one point no game is marked so.
 pub(crate) fn is_crawford(standing: &Standing) -> bool
     ensures { result ≡ plays_crawford standing.now }
 {
     standing.crawford() && standing.length() > 1
 }
 
-/// Returns 0 for no game, 1 for a game that is played, and 2 for one that has ended.
+/// Returns the number of the stage: 0 for no game, 1 for a game that is played, and 2 for one that
+/// has ended.
 fn stage_number(phase: Phase) -> u16
     ensures { result ≡ number_of_stage phase }
 {
@@ -149,7 +151,7 @@ fn stage_number(phase: Phase) -> u16
     }
 }
 
-/// Returns whether a double is answered.
+/// Returns whether a double is to be answered.
 fn is_doubled(phase: Phase) -> bool
     ensures { result ≡ answers_double phase }
 {
@@ -168,7 +170,7 @@ fn resigned_number(phase: Phase) -> u16
     }
 }
 
-/// Returns the dice that are still to be moved, where they were rolled.
+/// Returns the dice that were rolled and are still to be moved, if there are any.
 fn dice_of(phase: Phase) -> Option<Dice>
     ensures { result ≡ dice_in phase }
 {
@@ -199,7 +201,7 @@ fn lesser_number(dice: Option<Dice>) -> u16
     }
 }
 
-/// Returns what the die shows that shows less.
+/// Returns the pips of the lesser die.
 pub(crate) fn smaller_pips(dice: Dice) -> u8
     ensures { result ≡ smaller_die dice }
 {

@@ -14,10 +14,11 @@ use bg_match::{GREATEST_CUBE, Phase, Standing};
 use itoa::Buffer;
 use std::fmt;
 
-/// Room for the characters of an XGID: five, 26 places, and nine fields of at most six with their colons.
+/// The greatest number of characters in an XGID: five, 26 places, and nine fields of at most six
+/// with their colons.
 const MOST_CHARACTERS: usize = 85;
 
-/// How many places an XGID has: the points and both bars.
+/// The number of places in an XGID: the points and both bars.
 const PLACES: u8 = 26;
 
 /// Why a standing has no XGID.
@@ -25,7 +26,7 @@ const PLACES: u8 = 26;
 pub enum XgidFault {
     /// A game is to be opened, and nobody is on roll.
     NoGame,
-    /// An offer to resign is to be answered, which an XGID has no sign for.
+    /// An offer to resign is to be answered, for which an XGID has no sign.
     Resigned,
     /// The match is over.
     Over,
@@ -57,9 +58,8 @@ pub struct Xgid {
 impl Xgid {
     /// Returns the XGID of a standing.
     ///
-    /// # Errors
-    /// [`XgidFault::NoGame`] where a game is to be opened, [`XgidFault::Resigned`] while an offer to resign is
-    /// answered, [`XgidFault::Over`] after the match.
+    /// [`XgidFault::NoGame`] where a game is to be opened, [`XgidFault::Resigned`] where an offer
+    /// to resign is to be answered, [`XgidFault::Over`] after the match.
     pub fn of(standing: &Standing) -> Result<Xgid, XgidFault>
         ensures ok { IsOk result ↔ (xgid_fault standing.now.phase ≡ None) }
         ensures value { IfOk result (λ id. id.text.bytes ≡ xgid_text standing.now) }
@@ -73,7 +73,7 @@ impl Xgid {
         }
     }
 
-    /// Returns its text, which has 47 to 55 characters.
+    /// Returns the text of the ID, which has 47 to 55 characters.
     pub fn as_str(&self) -> &str
         ensures { result.now ≡ self.now.text.bytes }
     {
@@ -94,7 +94,7 @@ impl fmt::Display for Xgid {
 /// The text of an XGID, as it grows.
 type Text = ArrayString<MOST_CHARACTERS>;
 
-/// Returns why a standing in this phase has no XGID.
+/// Returns the reason why a standing in this phase has no XGID, if it has none.
 fn fault_in(phase: Phase) -> Option<XgidFault>
     ensures { result ≡ xgid_fault phase }
 {
@@ -106,7 +106,7 @@ fn fault_in(phase: Phase) -> Option<XgidFault>
     }
 }
 
-/// Returns the text of a standing that has one.
+/// Returns the text of a standing that has an XGID.
 fn text_of(standing: &Standing) -> Text
     requires { xgid_fault standing.now.phase ≡ None }
     ensures { result.bytes ≡ xgid_text standing.now }
@@ -128,7 +128,7 @@ fn text_of(standing: &Standing) -> Text
     text
 }
 
-/// Adds the 26 places: the bar of O, the points of X from 1 to 24, and the bar of X.
+/// Appends the 26 places: the bar of O, the points of X from 1 to 24, and the bar of X.
 fn put_places(text: &mut Text, board: &Board)
     requires { array_string_len text.old ≤ 5 }
     ensures bytes { text.new.bytes ≡ text.old.bytes ++ places_text board.now }
@@ -154,7 +154,7 @@ fn place_mark(board: &Board, place: u8) -> u8
     }
 }
 
-/// Returns whose the cube is: 1 for X, -1 for O, 0 in the middle.
+/// Returns the sign of the cube's owner: 1 for X, -1 for O, 0 where the cube is in the middle.
 fn owner_sign(owner: Option<Player>) -> &'static str
     ensures sign { result.now ≡ sign_of_owner owner }
     ensures fits { length result.now ≤ 2 }
@@ -166,7 +166,7 @@ fn owner_sign(owner: Option<Player>) -> &'static str
     }
 }
 
-/// Adds a sign behind a colon.
+/// Appends a sign behind a colon.
 fn put_sign(text: &mut Text, sign: &str)
     requires room { array_string_len text.old ≤ 79 }
     requires short { length sign.now ≤ 5 }
@@ -177,7 +177,7 @@ fn put_sign(text: &mut Text, sign: &str)
     text.push_str(sign);
 }
 
-/// Adds a number behind a colon.
+/// Appends a number behind a colon.
 fn put_number(text: &mut Text, number: u16)
     requires { array_string_len text.old ≤ 79 }
     ensures bytes { text.new.bytes ≡ text.old.bytes ++ behind_colon (decimal number) }
@@ -186,7 +186,8 @@ fn put_number(text: &mut Text, number: u16)
     put_sign(text, Buffer::new().format(number));
 }
 
-/// Adds the dice behind a colon, the greater one first, or 00 before the roll, or D while a double is answered.
+/// Appends the dice behind a colon, the greater one first. Appends 00 before the roll, and D where
+/// a double is to be answered.
 fn put_dice(text: &mut Text, phase: Phase)
     requires { array_string_len text.old ≤ 79 }
     ensures bytes { text.new.bytes ≡ text.old.bytes ++ behind_colon (dice_sign phase) }

@@ -1,11 +1,11 @@
-//! What may stand on the next line of a match file that tells something.
+//! What may stand on the next line of a match file that has content.
 ghost use Rattle.std.specs.Prelude.{◌≡◌};
 ghost use Rattle.bg_mat.specs.Files.{after_row, is_win as is_win_cell};
 
 use crate::rows::Row;
 use crate::rows::cells::Cell;
 
-/// What may stand on the next line that tells something.
+/// What may stand on the next line that has content.
 #[derive(Clone, Copy, Debug, PartialEq, Eq)]
 pub(crate) enum Awaited {
     /// The number of a game.
@@ -16,7 +16,7 @@ pub(crate) enum Awaited {
     Row,
 }
 
-/// What may follow a row.
+/// Returns what may follow a row.
 pub(crate) fn awaited_behind(row: &Row) -> Awaited
     ensures { result ≡ after_row row.now }
 {
@@ -27,7 +27,7 @@ pub(crate) fn awaited_behind(row: &Row) -> Awaited
     }
 }
 
-/// Whether a cell says that its player wins the game.
+/// Returns whether a cell says that its player wins the game.
 fn is_win(cell: &Option<Cell>) -> bool
     ensures { result ≡ is_win_cell cell.now }
 {

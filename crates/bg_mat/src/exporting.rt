@@ -14,12 +14,13 @@ use bg_match::Record;
 use bg_text::{put_number, put_text};
 use std::alloc::{AllocError, Global};
 
-/// The match file of a record: X has the left column, and each step stands by itself (docs/FORMATS.md, "Match files of
-/// other programs"). An offer to resign that was not accepted is not in it, nor are the number of the match and its
-/// rules. The rows of a game are numbered from 1; those behind 9999 have no number.
+/// Returns the match file of a record (docs/FORMATS.md, "Match files of other programs"). X has the
+/// left column, and each step is written separately. The file omits offers to resign that were not
+/// accepted, the number of the match and its rules. The rows of a game are numbered from 1; those
+/// after 9999 have no number.
 ///
 /// # Errors
-/// AllocError where memory runs out.
+/// `AllocError` where memory runs out.
 pub fn export_mat(alloc: Global, log: &Record) -> Result<Vec<u8>, AllocError>
     ensures { IfOk result (λ text. Exports log.now text.items) }
 {
@@ -30,7 +31,7 @@ pub fn export_mat(alloc: Global, log: &Record) -> Result<Vec<u8>, AllocError>
     Ok(out)
 }
 
-/// Adds the line of the length.
+/// Appends the line with the length of the match.
 fn put_length(out: &mut Vec<u8>, length: u8) -> Result<(), AllocError>
     ensures { OnOk result (out.new.items ≡ out.old.items ++ length_text length) }
 {
@@ -39,7 +40,8 @@ fn put_length(out: &mut Vec<u8>, length: u8) -> Result<(), AllocError>
     put_text(out, " point match\n")
 }
 
-/// Whether a cell of X shares its row with the cell of O behind it: a win shares one with a drop alone.
+/// Returns whether a cell of X shares its row with the cell of O after it. A win shares a row only
+/// with a drop.
 fn share_row(left: &Cell, right: &Cell) -> bool
     ensures { result ≡ cells_share_row left.now right.now }
 {
@@ -50,7 +52,7 @@ fn share_row(left: &Cell, right: &Cell) -> bool
     }
 }
 
-/// The cell of O that stands in the row of a cell of X: the next one, where these share it.
+/// Returns the cell of O that stands in the row of a cell of X: the next one, where these share it.
 fn partner<'a>(player: Player, cell: &Cell, next: &'a [Telling]) -> Option<&'a Cell>
     ensures { MatchOption result
         (grouped (Telling.Does player cell.now ∷ next.now) ≡ Alone player cell.now ∷ grouped next.now)
@@ -63,14 +65,14 @@ fn partner<'a>(player: Player, cell: &Cell, next: &'a [Telling]) -> Option<&'a C
     }
 }
 
-/// The number of the next row. All behind 9999 have the same.
+/// Returns the number of the next row. All rows after 9999 have the same.
 fn next_row(row: u16) -> u16
     ensures { result ≡ next_row_number row }
 {
     if row < 10000 { row + 1 } else { row }
 }
 
-/// Adds a row that begins with what a player does, and gives what follows it.
+/// Appends a row that begins with what a player does, and returns the rest.
 fn put_row<'a>(
     out: &mut Vec<u8>,
     row: u16,
@@ -94,7 +96,7 @@ fn put_row<'a>(
     }
 }
 
-/// Adds the games and their rows.
+/// Appends the games and their rows.
 fn put_tellings(out: &mut Vec<u8>, tellings: &[Telling]) -> Result<(), AllocError>
     ensures { OnOk result (out.new.items ≡ out.old.items ++ lines_text 1 (grouped tellings.now)) }
 {

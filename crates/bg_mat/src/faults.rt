@@ -8,7 +8,7 @@ use bg_match::EntryFault;
 pub enum MatFault {
     /// The line has none of the shapes that may stand there.
     NotALine,
-    /// The length of the match does not come before anything else.
+    /// The length of the match doesn't come first.
     NoLength,
     /// The match is played for money: its length is 0.
     Money,
@@ -16,19 +16,19 @@ pub enum MatFault {
     LengthOutOfRange,
     /// The number of the game is not that of the next one.
     WrongGame,
-    /// The line does not name the players with their scores so far.
+    /// The line doesn't name the players with their current scores.
     WrongScores,
-    /// A game begins while the one before it goes on.
+    /// A game begins while the one before it still goes on.
     GameGoesOn,
     /// The game is over.
     GameOver,
-    /// A double was turned at once by the one who took it.
+    /// A double was turned at once by the player who took it.
     Beaver,
     /// It is not this player's turn to do so.
     OutOfTurn,
-    /// The player who loses is neither to roll nor to move, and so could not resign.
+    /// The player who loses is neither to roll nor to move, and so can't resign.
     ResignsOutOfTurn,
-    /// The file says that a turn is not known.
+    /// The file marks a turn as unknown.
     UnknownTurn,
     /// A movement has more than four steps.
     TooManySteps,
@@ -36,9 +36,9 @@ pub enum MatFault {
     NoSuchTurn,
     /// No legal turn with these dice and this movement has these hits.
     WrongHits,
-    /// The cube does not show twice as much.
+    /// The stated value of the cube is not twice the current one.
     WrongCube,
-    /// The winner does not win so many points.
+    /// The winner doesn't win this number of points.
     WrongPoints,
     /// The match is not over.
     MatchGoesOn,
@@ -49,8 +49,8 @@ pub enum MatFault {
 /// Why a match file gives no record.
 #[derive(Clone, Copy, Debug, PartialEq, Eq)]
 pub enum ImportFault {
-    /// The first line that is refused, from 1, and why. Where the input has no line that tells something it is one more
-    /// than there are.
+    /// The first line that is refused, counted from 1, and why. Where no line has content, this is
+    /// one more than the number of lines.
     Refused { line: u32, why: MatFault },
     /// The input is longer than 41943040 bytes.
     TooLong,
@@ -61,7 +61,7 @@ pub enum ImportFault {
 /// Why the lines of a match file give no record.
 #[derive(Clone, Copy, Debug, PartialEq, Eq)]
 pub(crate) enum ReadFault {
-    /// The first line that is refused, from 1, and why.
+    /// The first line that is refused, counted from 1, and why.
     Refused { line: u32, why: MatFault },
     /// There is no memory for the record.
     Memory,

@@ -30,17 +30,19 @@ use std::alloc::Global;
 pub struct Imported {
     /// The match.
     pub record: Record,
-    /// For each entry, in order, the line of the file that tells it, from 1.
+    /// For each entry, in order, the line of the file that it comes from, counted from 1.
     pub lines: Vec<u32>,
 }
 
-/// The record of a match file, as the match of this number, by these rules; X has the left column (docs/FORMATS.md,
-/// "Match files of other programs").
+/// Reads a match file as the record of the match with this number, by these rules. X has the left
+/// column (docs/FORMATS.md, "Match files of other programs").
 ///
 /// # Errors
-/// `TooLong` where the file has more than 41943040 bytes; `Refused` with the first line that is not good, and why;
-/// `Memory` where memory runs out. The line that is refused tells something: it is neither blank nor a comment. Only
-/// where no line does it is one more than there are.
+/// `TooLong` where the file has more than 41943040 bytes. `Refused` with the first line that is
+/// refused, and why. `Memory` where memory runs out.
+///
+/// The line that is refused has content: it is neither blank nor a comment. Where no line has
+/// content, its number is one more than the number of lines.
 pub fn import_mat(
     alloc: Global,
     id: u64,
@@ -62,7 +64,7 @@ pub fn import_mat(
     }
 }
 
-/// The record of a match file that is not too long.
+/// Reads the record of a match file that is not too long.
 fn read_file(alloc: Global, id: u64, rules: Rules, input: &[u8]) -> Result<Imported, ReadFault>
     requires { length input.now ≤ most_bytes }
     ensures done { IfOk result (λ imported. ReadsFile id rules (lines_of input.now) imported.record imported.lines.items) }
@@ -81,7 +83,7 @@ fn read_file(alloc: Global, id: u64, rules: Rules, input: &[u8]) -> Result<Impor
     Err(refused(number, MatFault::NoLength))
 }
 
-/// The match of the length that a line tells.
+/// Creates the record of a match with the length that a line states.
 fn begin(
     alloc: Global,
     id: u64,
@@ -108,7 +110,7 @@ fn begin(
     }
 }
 
-/// Reads the lines of games, from the line of this number on.
+/// Reads the lines of games, from the line with this number on.
 fn read_games(start: Replay, input: &[u8], first: u32) -> Result<Imported, ReadFault>
     requires replay { IsReplay start }
     requires none { start.pending ≡ None }
@@ -135,7 +137,7 @@ fn read_games(start: Replay, input: &[u8], first: u32) -> Result<Imported, ReadF
     })
 }
 
-/// Adds the scores before a game.
+/// Checks the scores before a game, and returns what may follow.
 fn add_scores(replay: &mut Replay, line: &[u8], number: u32) -> Result<Awaited, ReadFault>
     requires replay { IsReplay replay.old }
     requires closed { replay.old.pending ≡ None }
@@ -147,7 +149,7 @@ fn add_scores(replay: &mut Replay, line: &[u8], number: u32) -> Result<Awaited, 
     Ok(Awaited::Row)
 }
 
-/// Begins a game where a line says so.
+/// Begins a game where a line says so, and returns what may follow.
 fn add_game(replay: &mut Replay, game: u16, line: &[u8], number: u32) -> Result<Awaited, ReadFault>
     requires replay { IsReplay replay.old }
     requires line { IsGameLine line.now game }
@@ -159,7 +161,7 @@ fn add_game(replay: &mut Replay, game: u16, line: &[u8], number: u32) -> Result<
     Ok(Awaited::Scores)
 }
 
-/// Adds what a line tells where a game is awaited.
+/// Adds what a line says where a game is awaited, and returns what may follow.
 fn add_heading(replay: &mut Replay, line: &[u8], number: u32) -> Result<Awaited, ReadFault>
     requires { IsReplay replay.old }
     ensures done { IfOk result (AddsLine Awaited.Game line.now number replay.old replay.new) }
@@ -172,7 +174,7 @@ fn add_heading(replay: &mut Replay, line: &[u8], number: u32) -> Result<Awaited,
     }
 }
 
-/// Adds what a line tells where a row, or the next game, is awaited.
+/// Adds what a line says where a row or the next game is awaited, and returns what may follow.
 fn add_row_line(replay: &mut Replay, line: &[u8], number: u32) -> Result<Awaited, ReadFault>
     requires replay { IsReplay replay.old }
     requires row { (n : ℕ) → IsGameLine line.now n → ⊥ }
@@ -186,7 +188,7 @@ fn add_row_line(replay: &mut Replay, line: &[u8], number: u32) -> Result<Awaited
     }
 }
 
-/// Adds what a line tells, and gives what may follow.
+/// Adds what a line says, and returns what may follow.
 fn read_line(
     replay: &mut Replay,
     awaited: Awaited,
@@ -209,7 +211,7 @@ fn read_line(
     }
 }
 
-/// Adds what a cell tells, if it is there.
+/// Adds a cell, if there is one.
 fn add_cell(
     replay: &mut Replay,
     player: Player,
@@ -226,7 +228,7 @@ fn add_cell(
     }
 }
 
-/// Adds what the cells of a row tell, and gives what may follow.
+/// Adds the cells of a row, and returns what may follow.
 fn add_row(replay: &mut Replay, row: Row, number: u32) -> Result<Awaited, ReadFault>
     requires { IsReplay replay.old }
     ensures done { IfOk result (λ next. (next ≡ after_row row)

@@ -1,5 +1,5 @@
-//! Match files of other programs: the `.mat` files that most backgammon programs write and read. For whoever takes
-//! matches over from them, or hands matches on.
+//! Match files of other programs: the `.mat` files that most backgammon programs write and read.
+//! This crate is for whoever imports matches from them or exports matches to them.
 //!
 //! ```
 //! let file = b" 1 point match\n\n Game 1\n A : 0   B : 0\n 1) 31: 8/5 6/5\n";

@@ -1,4 +1,5 @@
-//! What a movement and a turn have in common: from which points checkers go to which, and what they hit.
+//! What a movement and a turn have in common: the points between which checkers move, and their
+//! hits.
 ghost use Rattle.std.specs.Prelude.{◌≡◌, ◌≤◌, ◌↔◌, length, IsTrue};
 ghost use Rattle.bg_mat.specs.Turns.{HasHits, SameMovement, coming, is_hit as is_hit_by_rule};
 ghost use Rattle.bg_mat.specs.Turns.{is_marked as is_marked_point, is_reached as is_reached_point, leaving, steps_of};
@@ -10,7 +11,7 @@ use crate::movements::legs::Leg;
 use bg_board::{BAR, Board, OFF, Player, Step};
 use bg_turns::Turn;
 
-/// The legs as steps, four at most.
+/// Returns the legs as steps, at most four.
 pub fn as_turn(legs: &[Leg]) -> Turn
     requires { length legs.now ≤ 4 }
     ensures { result ≡ steps_of legs.now }
@@ -22,7 +23,7 @@ pub fn as_turn(legs: &[Leg]) -> Turn
     turn
 }
 
-/// How many of the steps leave a point.
+/// Returns the number of steps that leave a point.
 fn count_leaving(steps: &[Step], point: u8) -> usize
     ensures value { result ≡ leaving point steps.now }
     ensures few { result ≤ length steps.now }
@@ -33,7 +34,7 @@ fn count_leaving(steps: &[Step], point: u8) -> usize
     }
 }
 
-/// How many of the steps come to a point.
+/// Returns the number of steps that come to a point.
 fn count_coming(steps: &[Step], point: u8) -> usize
     ensures value { result ≡ coming point steps.now }
     ensures few { result ≤ length steps.now }
@@ -44,8 +45,9 @@ fn count_coming(steps: &[Step], point: u8) -> usize
     }
 }
 
-/// Whether both lists of steps, of at most four each, have the same movement: whether from each point as many checkers
-/// leave, less those that come there.
+/// Returns whether two lists of steps, of at most four each, have the same movement. They do where,
+/// for each point, the number of checkers that leave it less the number that come to it is the
+/// same.
 pub fn same_movement(written: &[Step], played: &[Step]) -> bool
     requires few { length written.now ≤ 4 }
     requires short { length played.now ≤ 4 }
@@ -60,7 +62,7 @@ pub fn same_movement(written: &[Step], played: &[Step]) -> bool
     true
 }
 
-/// Whether the legs mark a hit on a point.
+/// Returns whether the legs mark a hit on a point.
 fn is_marked(legs: &[Leg], point: u8) -> bool
     ensures { result ≡ is_marked_point point legs.now }
 {
@@ -70,7 +72,7 @@ fn is_marked(legs: &[Leg], point: u8) -> bool
     }
 }
 
-/// Whether a step ends on a point.
+/// Returns whether a step ends on a point.
 pub(crate) fn is_reached(steps: &[Step], point: u8) -> bool
     ensures { result ≡ is_reached_point point steps.now }
 {
@@ -80,8 +82,9 @@ pub(crate) fn is_reached(steps: &[Step], point: u8) -> bool
     }
 }
 
-/// Whether a turn of the steps, which is played on this board, hits on a point, 0 to 25 in the player's numbering: it is
-/// not off, a single opposing checker stands there, and a step ends there.
+/// Returns whether a turn with these steps, played on this board, hits on a point, from 0 to 25 in
+/// the player's numbering. It hits where the point is not off, has a single opposing checker, and a
+/// step ends there.
 pub fn is_hit(board: &Board, player: Player, steps: &[Step], point: u8) -> bool
     requires { point ≤ 25 }
     ensures { result ≡ is_hit_by_rule board.now player steps.now point }
@@ -89,7 +92,7 @@ pub fn is_hit(board: &Board, player: Player, steps: &[Step], point: u8) -> bool
     point > OFF && board.count(player.opponent(), BAR - point) == 1 && is_reached(steps, point)
 }
 
-/// Whether the legs mark those points where the steps hit.
+/// Returns whether the legs mark exactly those points where the steps hit.
 pub(crate) fn same_hits(board: &Board, player: Player, legs: &[Leg], steps: &[Step]) -> bool
     ensures { IsTrue result ↔ HasHits board.now player legs.now steps.now }
 {

@@ -1,4 +1,4 @@
-//! What the cells of a file add to a record.
+//! The replay of a file: what its cells add to a record.
 ghost use Rattle.std.specs.Prelude.{◌≡◌, ◌⊎◌, ◌↔◌, [], ◌∷◌, None, IsTrue, OnOk};
 ghost use Rattle.std.specs.Bool.{OnTrue, OnFalse};
 ghost use Rattle.bg_match.specs.Match.{IsLog};
@@ -23,7 +23,7 @@ mod doubling;
 mod moving;
 mod winning;
 
-/// A turn that is told by its dice alone, as long as it is not known whether the player moved.
+/// A turn of which only the dice are given, pending until it is known whether the player moved.
 #[derive(Clone, Copy, Debug, PartialEq, Eq)]
 pub(crate) struct PendingTurn {
     line: u32,
@@ -31,8 +31,8 @@ pub(crate) struct PendingTurn {
     dice: Dice,
 }
 
-/// What was read so far: the record and where it stands, the line of each entry, the number of the game that is read
-/// and the scores before it, and a turn that is pending.
+/// What was read so far: the record and its standing, the line of each entry, the number of the
+/// current game, the scores before it, and a pending turn.
 #[derive(Drop)]
 pub(crate) struct Replay {
     pub(crate) log: Record,
@@ -44,7 +44,7 @@ pub(crate) struct Replay {
 }
 
 impl Replay {
-    /// Nothing is read yet of a match without entries.
+    /// Creates the replay of a match without entries, of which nothing is read yet.
     pub(crate) fn new(alloc: Global, log: Record) -> Replay
         requires log { IsLog log }
         requires empty { log.entries ≡ [] }
@@ -61,7 +61,7 @@ impl Replay {
         }
     }
 
-    /// Adds an entry, for a line.
+    /// Appends an entry, with the line that it comes from.
     fn add(&mut self, line: u32, entry: Entry) -> Result<(), ReadFault>
         requires replay { IsReplay self.old }
         requires closed { self.old.pending ≡ None }
@@ -81,7 +81,7 @@ impl Replay {
         }
     }
 
-    /// Whether the game that is read goes on.
+    /// Returns whether the current game goes on.
     fn goes_on(&self) -> bool
         ensures on { OnTrue result (GoesOn (place_of self.now)) }
         ensures over { OnFalse result (IsOver (place_of self.now)) }
@@ -92,14 +92,14 @@ impl Replay {
         }
     }
 
-    /// Whether a game is to be opened.
+    /// Returns whether a game is to be opened.
     fn is_opening(&self) -> bool
         ensures { IsTrue result ↔ (self.now.standing.phase ≡ Phase.Opening) }
     {
         matches!(self.standing.phase(), Phase::Opening)
     }
 
-    /// Why no game begins.
+    /// Returns the fault of a line that begins a game where none is to be opened.
     fn game_fault(&self) -> MatFault
         ensures { ((result ≡ MatFault.Entry EntryFault.MatchOver) × IsOverMatch self.now.standing)
             ⊎ ((result ≡ MatFault.GameGoesOn) × (IsOverMatch self.now.standing → ⊥)) }
@@ -110,7 +110,7 @@ impl Replay {
         }
     }
 
-    /// Begins the game of this number.
+    /// Begins the game with this number.
     pub(crate) fn begin_game(&mut self, line: u32, number: u16) -> Result<(), ReadFault>
         requires { IsReplay self.old }
         ensures done { OnOk result (GoesOnBy self.old self.new (record { line = line; item = Game number } ∷ [])) }
@@ -130,7 +130,7 @@ impl Replay {
         Ok(())
     }
 
-    /// Adds what a player does.
+    /// Appends what a player does, after the pending turn, if there is one.
     pub(crate) fn play(&mut self, line: u32, player: Player, cell: Cell) -> Result<(), ReadFault>
         requires { IsReplay self.old }
         ensures done { OnOk result (GoesOnBy self.old self.new
@@ -142,7 +142,7 @@ impl Replay {
         self.play_next(line, player, cell)
     }
 
-    /// Adds what a player does, where no turn is pending.
+    /// Appends what a player does, where no turn is pending.
     fn play_next(&mut self, line: u32, player: Player, cell: Cell) -> Result<(), ReadFault>
         requires replay { IsReplay self.old }
         requires closed { self.old.pending ≡ None }
@@ -158,7 +158,7 @@ impl Replay {
         }
     }
 
-    /// Adds what a player does in a game that goes on.
+    /// Appends what a player does in a game that goes on.
     fn act(&mut self, line: u32, player: Player, cell: Cell) -> Result<(), ReadFault>
         requires replay { IsReplay self.old }
         requires goes_on { GoesOn (place_of self.old) }

@@ -19,17 +19,17 @@ use crate::rows::cells::{Cell, split_cell};
 use crate::rows::numbers::read_number;
 use crate::rows::words::{count_blanks, is_blank_text, split_blanks};
 
-/// So many blanks before the first cell of a row, or more, stand for an empty left column.
+/// The least number of blanks before the first cell of a row that stands for an empty left column.
 const LEFT_COLUMN: usize = 16;
 
-/// The cells of a row. None may be there behind its number.
+/// The cells of a row. Either may be missing, or both.
 #[derive(Debug, PartialEq, Eq, Drop)]
 pub(crate) struct Row {
     pub(crate) left: Option<Cell>,
     pub(crate) right: Option<Cell>,
 }
 
-/// The digits that a text begins with, and what follows them.
+/// Returns the digits that a text begins with, and what follows them.
 fn split_digits(text: &[u8]) -> (&[u8], &[u8])
     ensures { IsDigits result.0.now × (text.now ≡ result.0.now ++ result.1.now)
         × BeginsNoDigit result.1.now }
@@ -40,7 +40,8 @@ fn split_digits(text: &[u8]) -> (&[u8], &[u8])
     }
 }
 
-/// What follows the number of a row and its bracket, as `12)`, where a line begins so.
+/// Returns what follows the number of a row and its bracket, as in `12)`, where a line begins with
+/// one.
 fn behind_row_number(line: &[u8]) -> Option<&[u8]>
     ensures { MatchOption result ((rest : List ℕ) → HasRowNumber line.now rest → ⊥)
         (λ rest. HasRowNumber line.now rest.now) }
@@ -55,7 +56,7 @@ fn behind_row_number(line: &[u8]) -> Option<&[u8]>
     }
 }
 
-/// What follows the number of a row, or the text itself where it begins with none.
+/// Returns what follows the number of a row, or the text itself where it begins with none.
 fn skip_row_number(line: &[u8]) -> &[u8]
     ensures { SkipsNumber line.now result.now }
 {
@@ -65,7 +66,7 @@ fn skip_row_number(line: &[u8]) -> &[u8]
     }
 }
 
-/// A text's first cell alone: nothing follows it.
+/// Reads the only cell of a text: nothing may follow it.
 fn read_cell(text: &[u8]) -> Result<Cell, MatFault>
     ensures told { IfOk result (λ cell. (rest : List ℕ) × TellsCell text.now cell rest × IsBlankText rest) }
     ensures fault { IfErr result (IsLastFault text.now) }
@@ -78,7 +79,7 @@ fn read_cell(text: &[u8]) -> Result<Cell, MatFault>
     }
 }
 
-/// The cells of a row behind its number.
+/// Reads the cells of a row from the text behind its number.
 fn read_cells(text: &[u8]) -> Result<Row, MatFault>
     ensures told { IfOk result (λ row. TellsCells text.now row.left row.right) }
     ensures fault { IfErr result (AreCellsFault text.now) }
@@ -108,7 +109,7 @@ fn read_cells(text: &[u8]) -> Result<Row, MatFault>
     })
 }
 
-/// The cells of a row.
+/// Reads the cells of a row, which may begin with its number.
 pub(crate) fn read_row(line: &[u8]) -> Result<Row, MatFault>
     ensures told { IfOk result (TellsRow line.now) }
     ensures fault { IfErr result (IsRowFault line.now) }

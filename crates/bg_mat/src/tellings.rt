@@ -23,16 +23,16 @@ pub(crate) struct GameStart {
     pub(crate) o: u16,
 }
 
-/// What a match file tells of a record.
+/// What a match file says of a record, piece by piece.
 #[derive(Debug, PartialEq, Eq, Drop)]
 pub(crate) enum Telling {
     /// A game begins.
     Game(GameStart),
-    /// A player does this.
+    /// A player does something.
     Does(Player, Cell),
 }
 
-/// Whether the last of these steps is the first that ends where they hit.
+/// Returns whether the last of these steps is the first that ends where they hit.
 fn last_hits(board: &Board, player: Player, steps: &[Step], last: Step) -> bool
     ensures { result ≡ is_new_hit board.now player steps.now last }
 {
@@ -40,7 +40,8 @@ fn last_hits(board: &Board, player: Player, steps: &[Step], last: Step) -> bool
     to > OFF && board.count(player.opponent(), BAR - to) == 1 && !is_reached(steps, to)
 }
 
-/// The steps of a turn as legs, each with the mark of a hit where it is the first that ends where the turn hits.
+/// Returns the steps of a turn as legs. A leg has the mark of a hit where it is the first that ends
+/// where the turn hits.
 fn legs_of(board: &Board, player: Player, steps: &[Step]) -> Legs
     requires { length steps.now ≤ 4 }
     ensures steps { steps_of result.items ≡ steps.now }
@@ -54,7 +55,7 @@ fn legs_of(board: &Board, player: Player, steps: &[Step]) -> Legs
     legs
 }
 
-/// The dice that are left to move in a phase, as a turn without a movement.
+/// Returns the dice that are left to move in a phase, as a turn without a movement.
 pub(crate) fn dice_left(phase: Phase) -> Option<Telling>
     ensures { TellsDice phase result }
 {
@@ -66,7 +67,7 @@ pub(crate) fn dice_left(phase: Phase) -> Option<Telling>
     }
 }
 
-/// The turn of these steps.
+/// Returns the turn with these steps.
 fn turn_in(standing: &Standing, steps: &[Step]) -> Option<Telling>
     requires { length steps.now ≤ 4 }
     ensures { TellsMove standing.now.board standing.now.phase steps.now result }
@@ -80,7 +81,7 @@ fn turn_in(standing: &Standing, steps: &[Step]) -> Option<Telling>
     }
 }
 
-/// What the player does who is to roll, or to answer a double.
+/// Returns this cell for the player who is to roll, or to answer a double.
 fn deed_in(phase: Phase, cell: Cell) -> Option<Telling>
     ensures { IsDeedIn phase cell result }
 {
@@ -90,7 +91,7 @@ fn deed_in(phase: Phase, cell: Cell) -> Option<Telling>
     }
 }
 
-/// The start of the game that is to be opened.
+/// Returns the start of the game that is to be opened.
 fn game_of(standing: &Standing) -> Telling
     ensures told { result ≡ Telling.Game (record {
       number = standing.now.game;
@@ -108,7 +109,7 @@ fn game_of(standing: &Standing) -> Telling
     Telling::Game(GameStart { number, x, o })
 }
 
-/// What the cube shows once it is turned.
+/// Returns the value of the cube after the next double.
 fn doubled_cube(standing: &Standing) -> u16
     ensures value { result ≡ 2 * standing.now.cube.value }
     ensures few { result ≤ 510 }
@@ -116,8 +117,8 @@ fn doubled_cube(standing: &Standing) -> u16
     2 * u16::from(standing.cube().value)
 }
 
-/// What an entry tells, but for a win. Dice are told with their move; or without one, where there is none: so they are
-/// left to be told where a game is resigned.
+/// Returns what an entry says, except for a win. Dice come with their move, so a roll itself says
+/// nothing. Dice that are left when a game is resigned come without a move, with the acceptance.
 pub(crate) fn told_by(before: &Standing, entry: &Entry) -> Option<Telling>
     ensures { TellsEntry before.now entry.now result }
 {
@@ -134,7 +135,7 @@ pub(crate) fn told_by(before: &Standing, entry: &Entry) -> Option<Telling>
     }
 }
 
-/// The win of a player whose score has grown.
+/// Returns the win of a player whose score has grown.
 fn win_of(winner: Player, before: u16, after: u16, length: u8) -> Telling
     requires { before < after }
     ensures { IsWinOf winner before after length result }
@@ -144,7 +145,7 @@ fn win_of(winner: Player, before: u16, after: u16, length: u8) -> Telling
     Telling::Does(winner, Cell::Wins(Win { points, ends_match }))
 }
 
-/// The win that an entry leads to.
+/// Returns the win that an entry leads to.
 pub(crate) fn win_between(before: &Standing, after: &Standing) -> Option<Telling>
     ensures { TellsWin before.now after.now result }
 {

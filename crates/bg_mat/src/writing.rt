@@ -4,7 +4,7 @@ ghost use Rattle.std.specs.Prelude.{◌≡◌, ◌++◌, ◌-◌, ◌≤◌, len
 use bg_text::put_text;
 use std::alloc::AllocError;
 
-/// Adds so many blanks.
+/// Appends this number of blanks.
 pub(crate) fn put_blanks(out: &mut Vec<u8>, count: usize) -> Result<(), AllocError>
     ensures { OnOk result (out.new.items ≡ out.old.items ++ replicate count 32) }
 {
@@ -14,7 +14,7 @@ pub(crate) fn put_blanks(out: &mut Vec<u8>, count: usize) -> Result<(), AllocErr
     Ok(())
 }
 
-/// Fills what was written from a place on with blanks, at least one, up to this width.
+/// Appends blanks up to this width of the text from `start` on, but at least one.
 pub(crate) fn pad(out: &mut Vec<u8>, start: usize, width: usize) -> Result<(), AllocError>
     requires { start ≤ length out.old.items }
     ensures { OnOk result (out.new.items

@@ -1,4 +1,4 @@
-//! A word of a movement, as `24/18*/15` or `8/5(2)`.
+//! A word of a movement, as in `24/18*/15` or `8/5(2)`.
 ghost use Rattle.std.specs.Prelude.{◌≡◌, ◌≢◌, ◌+◌, ◌<◌, ◌≤◌, ◌++◌, [], ℕ, List, length, MatchOption, IfErr, IfOk, OnErr, OnOk, Err, false, true};
 ghost use Rattle.bg_mat.specs.Legs.{AddsLegs, IsCounted, IsPointText, TellsLeg, TellsLegs, TellsPath, TellsWord};
 ghost use Rattle.bg_mat.specs.Legs.{BeginsSlash, IsBracketed, IsPart, RefusesLegs, mark, repeated};
@@ -9,16 +9,17 @@ use crate::rows::numbers::read_number;
 use arrayvec::ArrayVec;
 use bg_board::{BAR, OFF, Step};
 
-/// A part of a movement: one checker goes from a point to a lower one, by one die or by several, and may hit there.
+/// A part of a movement: one checker moves from a point to a lower one, with one die or several,
+/// and may hit there.
 #[derive(Clone, Copy, Debug, PartialEq, Eq)]
 pub struct Leg {
     /// The points, in the player's own numbering.
     pub step: Step,
-    /// A hit is marked where it ends.
+    /// Whether a hit is marked on the point where the leg ends.
     pub hits: bool,
 }
 
-/// The leg from 1 to 0, which fills the spare places of a list of legs.
+/// The default is the leg from 1 to 0, which fills the spare places of a list of legs.
 impl Default for Leg {
     fn default() -> Self {
         Leg {
@@ -28,19 +29,19 @@ impl Default for Leg {
     }
 }
 
-/// The legs of a movement, in the order in which they are written.
+/// The legs of a movement, in the order in which they are written, at most four.
 pub type Legs = ArrayVec<Leg, 4>;
 
-/// Why a word is no part of a movement.
+/// Why a word can't be added to a movement.
 #[derive(Clone, Copy, Debug, PartialEq, Eq)]
 pub enum LegFault {
-    /// It has another shape.
+    /// The word has another shape.
     NotAMovement,
-    /// It tells legs, and with them there are more than four.
+    /// The word describes legs, but with them the movement has more than four.
     TooMany,
 }
 
-/// The point that a word names.
+/// Returns the point that a word names, from 0 to 25.
 fn read_point(word: &[u8]) -> Option<u8>
     ensures { MatchOption result ((point : ℕ) → point ≤ 25 → IsPointText word.now point → ⊥) (IsPointText word.now) }
 {
@@ -58,7 +59,7 @@ fn read_point(word: &[u8]) -> Option<u8>
     }
 }
 
-/// A word without the mark of a hit at its end, and whether there is one.
+/// Returns a word without the mark of a hit at its end, and whether it has one.
 fn split_mark(word: &[u8]) -> (&[u8], bool)
     ensures marked { word.now ≡ result.0.now ++ mark result.1 }
     ensures none { result.1 ≡ false → (point : List ℕ) → word.now ≡ point ++ mark true → ⊥ }
@@ -69,7 +70,7 @@ fn split_mark(word: &[u8]) -> (&[u8], bool)
     }
 }
 
-/// The leg from a point to the one that a word names.
+/// Returns the leg from a point to the one that a word names.
 fn read_leg(from: u8, word: &[u8]) -> Option<Leg>
     ensures { MatchOption result ((leg : LegOf) → TellsLeg from word.now leg → ⊥) (TellsLeg from word.now) }
 {
@@ -83,7 +84,7 @@ fn read_leg(from: u8, word: &[u8]) -> Option<Leg>
     Some(Leg { step, hits })
 }
 
-/// The bytes that a text begins with up to its first slash, and what follows them.
+/// Returns the bytes of a text before its first slash, and what follows them.
 fn split_slash(text: &[u8]) -> (&[u8], &[u8])
     ensures { IsPart result.0.now × (text.now ≡ result.0.now ++ result.1.now) × BeginsSlash result.1.now }
 {
@@ -93,7 +94,7 @@ fn split_slash(text: &[u8]) -> (&[u8], &[u8])
     }
 }
 
-/// Adds the legs that a text tells from a point on, each behind a slash.
+/// Appends the legs that a text describes from a point on, each behind a slash.
 fn add_legs(legs: &mut Legs, from: u8, text: &[u8]) -> Result<(), LegFault>
     ensures added { OnOk result (AddsLegs (TellsLegs from text.now) legs.old.items legs.new.items) }
     ensures fault { IfErr result (RefusesLegs (TellsLegs from text.now) legs.old.items) }
@@ -117,7 +118,7 @@ fn add_legs(legs: &mut Legs, from: u8, text: &[u8]) -> Result<(), LegFault>
     add_legs(legs, to, rest)
 }
 
-/// The legs of one checker on its way.
+/// Reads the legs that one checker moves.
 fn read_path(text: &[u8]) -> Result<Legs, LegFault>
     ensures told { IfOk result (λ legs. TellsPath text.now legs.items) }
     ensures fault { IfErr result (RefusesLegs (TellsPath text.now) []) }
@@ -134,7 +135,8 @@ fn read_path(text: &[u8]) -> Result<Legs, LegFault>
     Ok(legs)
 }
 
-/// The path of a word, and how many checkers go it, as `(2)` says behind it.
+/// Returns the path of a word, and the number of checkers that take it: 2 where `(2)` follows the
+/// path, and 1 where nothing does.
 fn split_count(word: &[u8]) -> (&[u8], u8)
     ensures counted { IsCounted word.now result.0.now result.1 }
     ensures bracketed { (path : List ℕ) (count : ℕ) → IsBracketed word.now path count
@@ -146,7 +148,7 @@ fn split_count(word: &[u8]) -> (&[u8], u8)
     }
 }
 
-/// Adds these legs so many times.
+/// Appends these legs `count` times.
 fn add_times(legs: &mut Legs, path: &[Leg], count: u8) -> Result<(), LegFault>
     ensures added { OnOk result (legs.new.items ≡ legs.old.items ++ repeated count path.now) }
     ensures fault { result ≢ Err LegFault.NotAMovement }
@@ -161,12 +163,12 @@ fn add_times(legs: &mut Legs, path: &[Leg], count: u8) -> Result<(), LegFault>
     add_times(legs, path, count - 1)
 }
 
-/// Adds the legs that a word of a movement tells, as `24/18*/15`, `8/5(2)`, `bar/20` or `6/off` (docs/FORMATS.md, "Match
-/// files of other programs").
+/// Appends the legs that a word of a movement describes (docs/FORMATS.md,
+/// "Match files of other programs"). Such words are `24/18*/15`, `8/5(2)`, `bar/20` and `6/off`.
 ///
 /// # Errors
-/// `NotAMovement` where it tells none, and nothing is added; `TooMany` where with its legs there are more than four, of
-/// which some may have been added.
+/// `NotAMovement` where the word describes no legs; then nothing is appended. `TooMany` where with
+/// its legs there are more than four; some of them may have been appended.
 pub fn add_word(legs: &mut Legs, word: &[u8]) -> Result<(), LegFault>
     ensures added { OnOk result (AddsLegs (TellsWord word.now) legs.old.items legs.new.items) }
     ensures same { result ≡ Err LegFault.NotAMovement → legs.new ≡ legs.old }

@@ -1,4 +1,4 @@
-//! Which turn a movement tells.
+//! The turn that a movement describes.
 ghost use Rattle.std.specs.Prelude.{◌≤◌, ◌↔◌, List, IsTrue, IfOk, MatchOption, length};
 ghost use Rattle.bg_board.specs.FromTo.{FromTo};
 ghost use Rattle.bg_turns.specs.Turn.{IsLegalTurn};
@@ -12,7 +12,7 @@ use bg_board::{Board, Player};
 use bg_turns::{Dice, Turn, judge_turn, legal_turns};
 use std::alloc::{AllocError, Global};
 
-/// Whether a turn is legal, and hits where the legs say so.
+/// Returns whether a turn is legal, and hits exactly where the legs say so.
 fn has_hits(board: &Board, player: Player, dice: Dice, legs: &[Leg], turn: &Turn) -> bool
     ensures { IsTrue result ↔ (IsLegalTurn board.now player dice turn.now
         × HasHits board.now player legs.now turn.now) }
@@ -23,7 +23,8 @@ fn has_hits(board: &Board, player: Player, dice: Dice, legs: &[Leg], turn: &Turn
     }
 }
 
-/// Whether a turn has the movement that is written, and hits where the legs say so.
+/// Returns whether a turn has the movement of the written one, and hits exactly where the legs say
+/// so.
 fn fits(board: &Board, player: Player, legs: &[Leg], written: &Turn, turn: &Turn) -> bool
     ensures { IsTrue result ↔ (SameMovement written.now turn.now × HasHits board.now player legs.now turn.now) }
 {
@@ -35,11 +36,12 @@ fn fits(board: &Board, player: Player, legs: &[Leg], written: &Turn, turn: &Turn
     }
 }
 
-/// The turn that a movement of at most four legs tells: the legs as steps, where these are a legal turn with these hits;
-/// else the greatest legal turn of this movement and these hits. `None` where there is none.
+/// Returns the turn that a movement of at most four legs describes. That is the turn with the legs
+/// as steps, where it is legal and has these hits. Otherwise it is the greatest legal turn with
+/// this movement and these hits; `None` where there is none.
 ///
 /// # Errors
-/// Want of memory for the list of legal turns.
+/// `AllocError` where there is no memory for the list of legal turns.
 pub fn find_turn(
     alloc: Global,
     board: &Board,
@@ -65,11 +67,11 @@ pub fn find_turn(
     Ok(None)
 }
 
-/// Why a movement of at most four legs that tells no turn tells none: `WrongHits` where there is a legal turn of this
-/// movement, with other hits, and else `NoSuchTurn`.
+/// Returns the fault of a movement of at most four legs that describes no turn. It is `WrongHits`
+/// where a legal turn has this movement, but other hits, and otherwise `NoSuchTurn`.
 ///
 /// # Errors
-/// Want of memory for the list of legal turns.
+/// `AllocError` where there is no memory for the list of legal turns.
 pub fn turn_fault(
     alloc: Global,
     board: &Board,

@@ -13,28 +13,28 @@ use bg_board::Player;
 use bg_match::{Entry, Phase};
 
 impl Replay {
-    /// Whether the player is to act.
+    /// Returns whether the player is to act.
     fn is_to_act(&self, player: Player) -> bool
         ensures { IsTrue result ↔ (self.now.standing.phase ≡ Phase.ToAct player) }
     {
         matches!(self.standing.phase(), Phase::ToAct(acting) if acting == player)
     }
 
-    /// Whether the player is to answer a double.
+    /// Returns whether the player is to answer a double.
     fn is_doubled(&self, player: Player) -> bool
         ensures { IsTrue result ↔ (self.now.standing.phase ≡ Phase.Doubled player) }
     {
         matches!(self.standing.phase(), Phase::Doubled(acting) if acting == player)
     }
 
-    /// What the cube shows once it is turned.
+    /// Returns the value of the cube after the next double.
     fn doubled_cube(&self) -> u16
         ensures { result ≡ 2 * self.now.standing.cube.value }
     {
         2 * u16::from(self.standing.cube().value)
     }
 
-    /// Whether the cube will show what is said, if something is.
+    /// Returns whether the cube will show the stated value, if there is one.
     fn shows(&self, said: Option<u16>) -> bool
         ensures { IsTrue result ↔ IfSome said (λ n. n ≡ 2 * self.now.standing.cube.value) }
     {

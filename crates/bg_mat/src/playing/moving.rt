@@ -25,7 +25,7 @@ use bg_match::{Actor, Entry, EntryFault, Phase, Standing};
 use bg_turns::{Dice, Turn, can_step};
 use std::alloc::AllocError;
 
-/// The opening by which a player brings dice.
+/// Returns the opening in which a player brings dice.
 fn opening_of(player: Player, dice: Dice) -> Entry
     requires { first_pips dice ≢ second_pips dice }
     ensures { (s : State) → BringsDice s player dice result }
@@ -41,7 +41,7 @@ fn opening_of(player: Player, dice: Dice) -> Entry
     }
 }
 
-/// The entry by which a player brings dice: he opens the game, or rolls.
+/// Returns the entry in which a player brings dice: they open the game, or roll.
 pub(super) fn entry_of_dice(
     player: Player,
     dice: Dice,
@@ -59,7 +59,7 @@ pub(super) fn entry_of_dice(
 }
 
 impl Replay {
-    /// Adds the entry by which a player brings dice.
+    /// Appends the entry in which a player brings dice.
     fn roll(&mut self, line: u32, player: Player, dice: Dice) -> Result<(), ReadFault>
         requires replay { IsReplay self.old }
         requires closed { self.old.pending ≡ None }
@@ -72,7 +72,7 @@ impl Replay {
         }
     }
 
-    /// The turn that a movement tells where the match stands.
+    /// Returns the turn that a movement describes on the current board.
     fn turn_of(&self, line: u32, player: Player, dice: Dice, legs: &Legs) -> Result<Turn, ReadFault>
         ensures done { IfOk result (TellsTurn self.now.standing.board player dice legs.now.items) }
         ensures fault { IfErr result (RefusesAt line
@@ -91,7 +91,7 @@ impl Replay {
         }
     }
 
-    /// Adds a turn of a movement.
+    /// Appends the dice and the move of a turn.
     pub(super) fn turn(
         &mut self,
         line: u32,
@@ -111,7 +111,7 @@ impl Replay {
         self.add(line, Entry::Moved(turn))
     }
 
-    /// Adds the turn of a player who can't move: dice, and the turn without steps, or a pass.
+    /// Appends the turn of a player who can't move: dice, and the turn without steps, or a pass.
     pub(super) fn cannot_move(
         &mut self,
         line: u32,
@@ -129,7 +129,7 @@ impl Replay {
         self.add_empty(line, player, dice)
     }
 
-    /// The turn without steps, where the match stands.
+    /// Returns the turn without steps on the current board.
     fn empty_turn(&self, line: u32, player: Player, dice: Dice) -> Result<Turn, ReadFault>
         ensures done { IfOk result (TellsTurn self.now.standing.board player dice []) }
         ensures fault { IfErr result (RefusesAt line (IsMovementFault self.now.standing.board player dice [])) }
@@ -137,7 +137,7 @@ impl Replay {
         self.turn_of(line, player, dice, &ArrayVec::new())
     }
 
-    /// Adds an empty move, or a pass where one is due.
+    /// Appends an empty move, or a pass where one is due.
     fn add_empty(&mut self, line: u32, player: Player, dice: Dice) -> Result<(), ReadFault>
         requires replay { IsReplay self.old }
         requires closed { self.old.pending ≡ None }
@@ -152,7 +152,8 @@ impl Replay {
         self.add(line, Entry::Moved(turn))
     }
 
-    /// Adds the turn that was pending: its dice alone where it stays without a turn, else with an empty move or a pass.
+    /// Appends a turn that was pending: its dice alone where it stays without a move, and otherwise
+    /// also an empty move or a pass.
     fn add_pending(&mut self, turn: PendingTurn, stays: bool) -> Result<(), ReadFault>
         requires replay { IsReplay self.old }
         requires goes_on { GoesOn (place_of self.old) }
@@ -170,7 +171,7 @@ impl Replay {
         self.add_empty(turn.line, turn.player, turn.dice)
     }
 
-    /// Adds the turn that is pending, if there is one: its dice alone where it stays without a turn.
+    /// Appends the pending turn, if there is one: its dice alone where it stays without a move.
     pub(super) fn close(&mut self, stays: bool) -> Result<(), ReadFault>
         requires { IsReplay self.old }
         ensures done { OnOk result (ClosesBy stays self.old self.new) }
@@ -182,7 +183,7 @@ impl Replay {
         }
     }
 
-    /// Whether the turn that is pending is that of a player who loses to this one.
+    /// Returns whether the pending turn is that of a player who loses to this one.
     fn is_lost_to(&self, winner: Player) -> bool
         ensures { IfSome self.now.pending (λ turn. IsTrue result ↔ (turn.player ≢ winner)) }
     {
@@ -192,7 +193,8 @@ impl Replay {
         }
     }
 
-    /// Whether the dice that are pending stay without a turn before a cell: their player loses by it.
+    /// Returns whether the pending dice stay without a move before a cell: their player loses by
+    /// it.
     pub(super) fn stays_before(&self, player: Player, cell: &Cell) -> bool
         ensures { IfSome self.now.pending (λ turn.
             IsTrue result ↔ LosesBy turn.player (Does player (deed_of cell.now))) }
@@ -203,7 +205,7 @@ impl Replay {
         }
     }
 
-    /// Whether the player whose turn is pending has a step.
+    /// Returns whether the player whose turn is pending has a legal step.
     fn can_move(&self) -> bool
         ensures { IfSome self.now.pending (λ turn.
             result ≡ has_step self.now.standing.board turn.player turn.dice) }
@@ -214,7 +216,8 @@ impl Replay {
         }
     }
 
-    /// Ends the replay: a turn that is pending is without steps where none can be played, and else still to come.
+    /// Ends the replay. A pending turn is without steps where none can be played, and is still to
+    /// be moved otherwise.
     pub(crate) fn finish(&mut self) -> Result<(), ReadFault>
         requires { IsReplay self.old }
         ensures done { OnOk result (Closes self.old self.new) }

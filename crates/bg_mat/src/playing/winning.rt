@@ -15,14 +15,14 @@ use crate::rows::cells::Win;
 use bg_board::Player;
 use bg_match::{Entry, Level, Phase};
 
-/// Whether a score has grown by so many points, at least one.
+/// Returns whether a score has grown by this number of points, at least one.
 fn has_grown(before: u16, after: u16, points: u16) -> bool
     ensures { IsTrue result ↔ ((0 < points) × (after ≡ before + points)) }
 {
     points > 0 && u32::from(after) == u32::from(before) + u32::from(points)
 }
 
-/// The level at which so many points are won with the cube.
+/// Returns the level at which this number of points is won with the cube.
 fn level_of_points(won: u16, cube: u8) -> Option<Level>
     ensures { MatchOption result ((level : LevelOf) → won ≡ points_of level * cube → ⊥)
         (λ level. won ≡ points_of level * cube) }
@@ -40,7 +40,8 @@ fn level_of_points(won: u16, cube: u8) -> Option<Level>
 }
 
 impl Replay {
-    /// Adds a win: nothing where the game was won so, else the other player's offer to resign, and its acceptance.
+    /// Appends a win: nothing where the game was won so already, and otherwise the other player's
+    /// offer to resign and its acceptance.
     pub(super) fn win(&mut self, line: u32, winner: Player, win: Win) -> Result<(), ReadFault>
         requires replay { IsReplay self.old }
         requires closed { self.old.pending ≡ None }
@@ -55,7 +56,7 @@ impl Replay {
         }
     }
 
-    /// Adds an offer to resign and its acceptance, by the row of a win.
+    /// Appends an offer to resign and its acceptance, for the row of a win.
     fn win_by_offer(&mut self, line: u32, winner: Player, win: Win) -> Result<(), ReadFault>
         requires replay { IsReplay self.old }
         requires goes_on { GoesOn (place_of self.old) }
@@ -68,7 +69,7 @@ impl Replay {
         self.check_end(line, win)
     }
 
-    /// Adds nothing, by the row of a win that the entries before it tell.
+    /// Checks the row of a win that follows from the entries before it, and appends nothing.
     fn win_by_play(&self, line: u32, winner: Player, win: Win) -> Result<(), ReadFault>
         requires replay { IsReplay self.now }
         requires over { IsOver (place_of self.now) }
@@ -83,7 +84,7 @@ impl Replay {
         self.check_end(line, win)
     }
 
-    /// Whether the player has so many points more than before the game.
+    /// Returns whether the player has this number of points more than before the game.
     fn has_won(&self, winner: Player, points: u16) -> bool
         ensures { IsTrue result ↔ HasWon (place_of self.now) winner points }
     {
@@ -94,7 +95,7 @@ impl Replay {
         }
     }
 
-    /// Refuses a win that ends the match by the file alone.
+    /// Refuses a win that ends the match according to the file alone.
     fn check_end(&self, line: u32, win: Win) -> Result<(), ReadFault>
         ensures done { OnOk result (win.ends_match ≡ true → IsOverMatch self.now.standing) }
         ensures fault { IfErr result (RefusesAt line (IsEndFault self.now.standing win.ends_match)) }
@@ -106,7 +107,7 @@ impl Replay {
         }
     }
 
-    /// Whether the player may offer to resign.
+    /// Returns whether the player may offer to resign.
     fn may_lose(&self, loser: Player) -> bool
         ensures { IsTrue result ↔ MayResign self.now.standing loser }
     {
@@ -117,7 +118,7 @@ impl Replay {
         }
     }
 
-    /// The level at which so many points are won with the cube as it is.
+    /// Returns the level at which this number of points is won with the current cube.
     fn level_for(&self, won: u16) -> Option<Level>
         ensures { MatchOption result ((level : LevelOf) → won ≡ points_of level * self.now.standing.cube.value → ⊥)
             (λ level. won ≡ points_of level * self.now.standing.cube.value) }
@@ -125,7 +126,7 @@ impl Replay {
         level_of_points(won, self.standing.cube().value)
     }
 
-    /// Adds an offer to resign and its acceptance.
+    /// Appends an offer to resign and its acceptance.
     fn resign(&mut self, line: u32, winner: Player, won: u16) -> Result<(), ReadFault>
         requires replay { IsReplay self.old }
         requires closed { self.old.pending ≡ None }

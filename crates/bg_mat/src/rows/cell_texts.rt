@@ -10,7 +10,7 @@ use bg_text::{put_number, put_text};
 use bg_turns::Dice;
 use std::alloc::AllocError;
 
-/// Adds two dice, as `31:`.
+/// Appends two dice, as in `31:`.
 fn put_dice(out: &mut Vec<u8>, dice: Dice) -> Result<(), AllocError>
     ensures { OnOk result (out.new.items ≡ out.old.items ++ dice_text dice) }
 {
@@ -19,14 +19,14 @@ fn put_dice(out: &mut Vec<u8>, dice: Dice) -> Result<(), AllocError>
     put_text(out, ":")
 }
 
-/// Adds the mark of a hit.
+/// Appends the mark of a hit, where there is one.
 fn put_mark(out: &mut Vec<u8>, hits: bool) -> Result<(), AllocError>
     ensures { OnOk result (out.new.items ≡ out.old.items ++ mark hits) }
 {
     if hits { put_text(out, "*") } else { Ok(()) }
 }
 
-/// Adds a leg as a word, as ` 24/18*`.
+/// Appends a leg as a word, as in ` 24/18*`.
 fn put_leg(out: &mut Vec<u8>, leg: &Leg) -> Result<(), AllocError>
     ensures { OnOk result (out.new.items ≡ out.old.items ++ leg_text leg.now) }
 {
@@ -37,7 +37,7 @@ fn put_leg(out: &mut Vec<u8>, leg: &Leg) -> Result<(), AllocError>
     put_mark(out, leg.hits)
 }
 
-/// Adds legs.
+/// Appends legs.
 fn put_legs(out: &mut Vec<u8>, legs: &[Leg]) -> Result<(), AllocError>
     ensures { OnOk result (out.new.items ≡ out.old.items ++ legs_text legs.now) }
 {
@@ -48,7 +48,7 @@ fn put_legs(out: &mut Vec<u8>, legs: &[Leg]) -> Result<(), AllocError>
     put_legs(out, rest)
 }
 
-/// Adds the word for so many points.
+/// Appends the word for this number of points.
 fn put_points(out: &mut Vec<u8>, points: u16) -> Result<(), AllocError>
     ensures { OnOk result (out.new.items ≡ out.old.items ++ points_text points) }
 {
@@ -59,7 +59,7 @@ fn put_points(out: &mut Vec<u8>, points: u16) -> Result<(), AllocError>
     }
 }
 
-/// Adds that a win ends the match, where it does.
+/// Appends the words for the end of the match, where a win ends it.
 fn put_ending(out: &mut Vec<u8>, ends_match: bool) -> Result<(), AllocError>
     ensures { OnOk result (out.new.items ≡ out.old.items ++ ending_text ends_match) }
 {
@@ -70,7 +70,7 @@ fn put_ending(out: &mut Vec<u8>, ends_match: bool) -> Result<(), AllocError>
     }
 }
 
-/// Adds a win.
+/// Appends a win.
 fn put_win(out: &mut Vec<u8>, win: Win) -> Result<(), AllocError>
     ensures { OnOk result (out.new.items ≡ out.old.items ++ win_text win) }
 {
@@ -80,7 +80,7 @@ fn put_win(out: &mut Vec<u8>, win: Win) -> Result<(), AllocError>
     put_ending(out, win.ends_match)
 }
 
-/// Adds a double, after which the cube shows so much.
+/// Appends a double, after which the cube shows this value.
 fn put_double(out: &mut Vec<u8>, shows: u16) -> Result<(), AllocError>
     ensures { OnOk result (out.new.items ≡ out.old.items ++ cell_text (Cell.Doubles (Some shows))) }
 {
@@ -88,7 +88,7 @@ fn put_double(out: &mut Vec<u8>, shows: u16) -> Result<(), AllocError>
     put_number(out, shows.into())
 }
 
-/// Adds dice and a movement.
+/// Appends dice and a movement.
 fn put_turn(out: &mut Vec<u8>, dice: Dice, legs: &[Leg]) -> Result<(), AllocError>
     ensures { OnOk result (out.new.items ≡ out.old.items ++ (dice_text dice ++ legs_text legs.now)) }
 {
@@ -96,7 +96,7 @@ fn put_turn(out: &mut Vec<u8>, dice: Dice, legs: &[Leg]) -> Result<(), AllocErro
     put_legs(out, legs)
 }
 
-/// Adds dice, and what stands in place of a movement.
+/// Appends dice, and words in place of a movement.
 fn put_dice_and(out: &mut Vec<u8>, dice: Dice, words: &str) -> Result<(), AllocError>
     ensures { OnOk result (out.new.items ≡ out.old.items ++ (dice_text dice ++ words.now)) }
 {
@@ -104,7 +104,7 @@ fn put_dice_and(out: &mut Vec<u8>, dice: Dice, words: &str) -> Result<(), AllocE
     put_text(out, words)
 }
 
-/// Adds what a player does.
+/// Appends what a player does.
 pub(crate) fn put_cell(out: &mut Vec<u8>, cell: &Cell) -> Result<(), AllocError>
     ensures { OnOk result (out.new.items ≡ out.old.items ++ cell_text cell.now) }
 {

@@ -16,19 +16,19 @@ use bg_turns::Dice;
 /// What one player does.
 #[derive(Debug, PartialEq, Eq, Drop)]
 pub(crate) enum Cell {
-    /// He rolls these dice, and moves.
+    /// They roll these dice, and move.
     Turn(Dice, Legs),
-    /// He rolls these dice, and can't move.
+    /// They roll these dice, and can't move.
     CannotMove(Dice),
-    /// He rolls these dice, and it is not known what he moves.
+    /// They roll these dice, and it is not known what they move.
     Unknown(Dice),
-    /// He turns the cube, which then shows so much, where the file says so.
+    /// They double. The number is the new value of the cube, where the file states it.
     Doubles(Option<u16>),
-    /// He takes the cube.
+    /// They take the cube.
     Takes,
-    /// He drops the game.
+    /// They drop the double, and so the game.
     Drops,
-    /// He wins so many points.
+    /// They win a number of points.
     Wins(Win),
 }
 
@@ -36,11 +36,12 @@ pub(crate) enum Cell {
 #[derive(Clone, Copy, Debug, PartialEq, Eq)]
 pub(crate) struct Win {
     pub(crate) points: u16,
-    /// The win ends the match, as the file says. It need not say so.
+    /// Whether the file states that the win ends the match. It may omit that.
     pub(crate) ends_match: bool,
 }
 
-/// Adds the movement that a text begins with, all its words up to another one, and gives what follows.
+/// Appends the legs of the movement that a text begins with, up to the first word that describes
+/// none, and returns what follows.
 fn split_movement<'a>(legs: &mut Legs, text: &'a [u8]) -> Result<&'a [u8], MatFault>
     ensures told { IfOk result (λ rest. AddsMovement text.now rest.now legs.old.items legs.new.items) }
     ensures all { IfOk result (λ rest. EndsMovement rest.now) }
@@ -56,7 +57,7 @@ fn split_movement<'a>(legs: &mut Legs, text: &'a [u8]) -> Result<&'a [u8], MatFa
     }
 }
 
-/// The points that a text begins with, and what follows.
+/// Returns the points that a text begins with, and what follows.
 fn split_points(text: &[u8]) -> Option<(u16, &[u8])>
     ensures { MatchOption result ((points : ℕ) (rest : List ℕ) → TellsPoints text.now points rest → ⊥)
         (λ found. TellsPoints text.now found.0 found.1.now) }
@@ -71,7 +72,7 @@ fn split_points(text: &[u8]) -> Option<(u16, &[u8])>
     }
 }
 
-/// The win that a text begins with, and what follows.
+/// Returns the win that a text begins with, and what follows.
 fn split_win(text: &[u8]) -> Option<(Win, &[u8])>
     ensures { MatchOption result ((win : WinOf) (rest : List ℕ) → TellsWin text.now win rest → ⊥)
         (λ found. TellsWin text.now found.0 found.1.now) }
@@ -86,7 +87,8 @@ fn split_win(text: &[u8]) -> Option<(Win, &[u8])>
     Some((Win { points, ends_match }, end))
 }
 
-/// The dice that a text begins with, what the player moves, and what follows. None where it begins with no dice.
+/// Returns the dice that a text begins with and what the player moves, as one cell, and what
+/// follows. `None` where the text begins with no dice.
 fn split_turn(text: &[u8]) -> Result<Option<(Cell, &[u8])>, MatFault>
     ensures told { IfOk result (λ found. MatchOption found (HasDice text.now → ⊥)
         (λ parts. TellsCell text.now parts.0 parts.1.now)) }
@@ -107,14 +109,14 @@ fn split_turn(text: &[u8]) -> Result<Option<(Cell, &[u8])>, MatFault>
     Ok(Some((Cell::Turn(dice, legs), rest)))
 }
 
-/// Whether a word is the double of a double, which the match rules do not have.
+/// Returns whether a word is the double of a double, which the match rules don't have.
 fn is_beaver(word: &[u8]) -> bool
     ensures { IsTrue result ↔ IsBeaverWord word.now }
 {
     is_either(word, b"Beaver", b"Beavers") || is_either(word, b"Raccoon", b"Raccoons")
 }
 
-/// Whether a text begins with such a word.
+/// Returns whether a text begins with such a word.
 fn begins_with_beaver(text: &[u8]) -> bool
     ensures { IsTrue result ↔ IsBeaver text.now }
 {
@@ -124,7 +126,7 @@ fn begins_with_beaver(text: &[u8]) -> bool
     }
 }
 
-/// The cell that a text begins with, and what follows it.
+/// Returns the cell that a text begins with, and what follows it.
 pub(crate) fn split_cell(text: &[u8]) -> Result<(Cell, &[u8]), MatFault>
     ensures told { IfOk result (λ parts. TellsCell text.now parts.0 parts.1.now) }
     ensures fault { IfErr result (IsCellFault text.now) }

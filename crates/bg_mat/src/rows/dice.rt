@@ -1,4 +1,4 @@
-//! What a cell begins with that brings dice.
+//! The start of a cell with dice.
 ghost use Rattle.std.specs.Prelude.{◌≡◌, ◌==◌, ◌↔◌, ℕ, List, IsTrue, MatchOption, true};
 ghost use Rattle.std.specs.List.{All};
 ghost use Rattle.bg_mat.specs.Rows.Cells.{AreDice, BeginsDice, SaysCannotMove, SaysUnknown};
@@ -8,7 +8,7 @@ use crate::rows::words::{skip_word, split_blanks, split_word};
 use bg_board::Die;
 use bg_turns::Dice;
 
-/// The dice that three bytes name, as `31:`.
+/// Reads dice from three bytes, as in `31:`.
 fn read_dice(word: &[u8]) -> Option<Dice>
     ensures { MatchOption result ((dice : DiceOf) → AreDice word.now dice → ⊥) (AreDice word.now) }
 {
@@ -21,7 +21,8 @@ fn read_dice(word: &[u8]) -> Option<Dice>
     }
 }
 
-/// The dice that a text begins with, as `31:`, and what follows, at once or behind blanks.
+/// Returns the dice that a text begins with, as in `31:`, and what follows them, with or without
+/// blanks between.
 pub(crate) fn split_dice(text: &[u8]) -> Option<(Dice, &[u8])>
     ensures { MatchOption result ((dice : DiceOf) (rest : List ℕ) → BeginsDice text.now dice rest → ⊥)
         (λ found. BeginsDice text.now found.0 found.1.now) }
@@ -35,7 +36,7 @@ pub(crate) fn split_dice(text: &[u8]) -> Option<(Dice, &[u8])>
     }
 }
 
-/// What follows the words `Cannot Move` that a text begins with.
+/// Returns what follows the words `Cannot Move` at the start of a text.
 pub(crate) fn skip_cannot_move(text: &[u8]) -> Option<&[u8]>
     ensures { MatchOption result ((rest : List ℕ) → SaysCannotMove text.now rest → ⊥)
         (λ rest. SaysCannotMove text.now rest.now) }
@@ -43,14 +44,14 @@ pub(crate) fn skip_cannot_move(text: &[u8]) -> Option<&[u8]>
     skip_word(skip_word(text, b"Cannot")?, b"Move")
 }
 
-/// Whether all bytes are question marks.
+/// Returns whether all bytes are question marks.
 fn is_unknown(word: &[u8]) -> bool
     ensures { IsTrue result ↔ All (λ byte. (byte == 63) ≡ true) word.now }
 {
     word.iter().all(|byte| *byte == b'?')
 }
 
-/// What follows a word of question marks that a text begins with.
+/// Returns what follows a word of question marks at the start of a text.
 pub(crate) fn skip_unknown(text: &[u8]) -> Option<&[u8]>
     ensures { MatchOption result ((rest : List ℕ) → SaysUnknown text.now rest → ⊥)
         (λ rest. SaysUnknown text.now rest.now) }

@@ -1,4 +1,4 @@
-//! A double.
+//! The text of a double.
 ghost use Rattle.std.specs.Prelude.{◌≡◌, ◌++◌, ℕ, List, Option, MatchOption};
 ghost use Rattle.bg_mat.specs.Rows.Cells.{BeginsArrow, EndsName, IsNameText, SaysDouble, TellsDouble};
 ghost use Rattle.bg_mat.specs.Rows.Cells.{ends_name as ends_name_byte};
@@ -6,14 +6,14 @@ ghost use Rattle.bg_mat.specs.Rows.Cells.{ends_name as ends_name_byte};
 use crate::rows::numbers::read_number;
 use crate::rows::words::{is_blank, is_either, split_blanks, split_word};
 
-/// Whether a byte ends the name of what a player does: a blank, or an equals sign.
+/// Returns whether a byte ends the name of an action: a blank, or an equals sign.
 fn ends_name(byte: u8) -> bool
     ensures { result ≡ ends_name_byte byte }
 {
     is_blank(byte) || byte == b'='
 }
 
-/// The bytes that a text begins with up to the first that ends a name, and what follows them.
+/// Returns the bytes of a text before the first one that ends a name, and what follows them.
 fn split_name(text: &[u8]) -> (&[u8], &[u8])
     ensures { IsNameText result.0.now × (text.now ≡ result.0.now ++ result.1.now) × EndsName result.1.now }
 {
@@ -23,7 +23,7 @@ fn split_name(text: &[u8]) -> (&[u8], &[u8])
     }
 }
 
-/// What follows the word `Double` or `Doubles` that a text begins with.
+/// Returns what follows the word `Double` or `Doubles` at the start of a text.
 fn skip_double(text: &[u8]) -> Option<&[u8]>
     ensures { MatchOption result ((rest : List ℕ) → SaysDouble text.now rest → ⊥)
         (λ rest. SaysDouble text.now rest.now) }
@@ -36,7 +36,7 @@ fn skip_double(text: &[u8]) -> Option<&[u8]>
     }
 }
 
-/// What follows an arrow that a text begins with, as `=>`.
+/// Returns what follows an arrow, as in `=>`, at the start of a text.
 fn skip_arrow(text: &[u8]) -> Option<&[u8]>
     ensures { MatchOption result ((rest : List ℕ) → BeginsArrow text.now rest → ⊥)
         (λ rest. BeginsArrow text.now rest.now) }
@@ -44,7 +44,8 @@ fn skip_arrow(text: &[u8]) -> Option<&[u8]>
     split_blanks(text).1.strip_prefix(b"=>")
 }
 
-/// The double that a text begins with: what the cube will show where the file says so, and what follows.
+/// Reads the double that a text begins with. Returns the new value of the cube where the file
+/// states it, and what follows.
 pub(crate) fn split_double(text: &[u8]) -> Option<(Option<u16>, &[u8])>
     ensures { MatchOption result ((shows : Option ℕ) (rest : List ℕ) → TellsDouble text.now shows rest → ⊥)
         (λ found. TellsDouble text.now found.0 found.1.now) }

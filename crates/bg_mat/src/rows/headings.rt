@@ -9,7 +9,8 @@ use crate::rows::numbers::read_number;
 use crate::rows::words::{is_blank, is_blank_text, is_points, skip_word, split_blanks, split_word};
 use itoa::Buffer;
 
-/// Whether a line tells nothing before the length of a match: it is blank, or of a header.
+/// Returns whether a line may stand before the length of a match: it is blank, or belongs to a
+/// header.
 pub(crate) fn is_header(line: &[u8]) -> bool
     ensures { IsTrue result ↔ IsHeader line.now }
 {
@@ -19,7 +20,7 @@ pub(crate) fn is_header(line: &[u8]) -> bool
     }
 }
 
-/// Whether a word begins a line of a header.
+/// Returns whether a word begins a line of a header.
 fn begins_header(word: &[u8]) -> bool
     ensures { IsTrue result ↔ IsHeaderWord word.now }
 {
@@ -29,7 +30,7 @@ fn begins_header(word: &[u8]) -> bool
     }
 }
 
-/// Whether a line tells nothing: it is blank, or a comment.
+/// Returns whether a line has no content: it is blank, or a comment.
 pub(crate) fn is_filler(line: &[u8]) -> bool
     ensures { IsTrue result ↔ IsFiller line.now }
 {
@@ -39,7 +40,7 @@ pub(crate) fn is_filler(line: &[u8]) -> bool
     }
 }
 
-/// Whether a word begins a comment.
+/// Returns whether a word begins a comment.
 fn is_comment(word: &[u8]) -> bool
     ensures { IsTrue result ↔ IsComment word.now }
 {
@@ -49,7 +50,7 @@ fn is_comment(word: &[u8]) -> bool
     }
 }
 
-/// The length of a match, by the line `N point match`.
+/// Reads the length of a match from the line `N point match`.
 pub(crate) fn read_length(line: &[u8]) -> Option<u16>
     ensures { MatchOption result ((n : ℕ) → IsLengthLine line.now n → ⊥) (IsLengthLine line.now) }
 {
@@ -66,7 +67,7 @@ pub(crate) fn read_length(line: &[u8]) -> Option<u16>
     }
 }
 
-/// Whether a text is what follows the number of a length line: `point match`.
+/// Returns whether a text is what follows the number in a length line: `point match`.
 fn ends_length(text: &[u8]) -> bool
     ensures { IsTrue result ↔ EndsLength text.now }
 {
@@ -79,14 +80,14 @@ fn ends_length(text: &[u8]) -> bool
     }
 }
 
-/// Whether a line tells the length of a match.
+/// Returns whether a line states the length of a match.
 pub(crate) fn tells_length(line: &[u8]) -> bool
     ensures { IsTrue result ↔ ((n : ℕ) × IsLengthLine line.now n) }
 {
     read_length(line).is_some()
 }
 
-/// The number of a game, with a colon behind it or not.
+/// Reads the number of a game, with or without a colon behind it.
 fn read_game_number(word: &[u8]) -> Option<u16>
     ensures { MatchOption result ((n : ℕ) → IsGameNumber word.now n → ⊥) (IsGameNumber word.now) }
 {
@@ -96,7 +97,7 @@ fn read_game_number(word: &[u8]) -> Option<u16>
     }
 }
 
-/// The number of a game, by the line `Game N`.
+/// Reads the number of a game from the line `Game N`.
 pub(crate) fn read_game(line: &[u8]) -> Option<u16>
     ensures { MatchOption result ((n : ℕ) → IsGameLine line.now n → ⊥) (IsGameLine line.now) }
 {
@@ -116,7 +117,7 @@ pub(crate) fn read_game(line: &[u8]) -> Option<u16>
     }
 }
 
-/// A text without the blanks at its end, and these.
+/// Returns a text without the blanks at its end, and these blanks.
 fn trim_end(text: &[u8]) -> (&[u8], &[u8])
     ensures cut { (text.now ≡ result.0.now ++ result.1.now) × IsBlankText result.1.now }
     ensures solid { EndsSolid result.0.now }
@@ -128,7 +129,7 @@ fn trim_end(text: &[u8]) -> (&[u8], &[u8])
     (&text[..end], &text[end..])
 }
 
-/// What stands before the end of a text where that is this one.
+/// Returns what stands before the end of a text, where it ends with these bytes.
 pub(crate) fn front_before<'a>(text: &'a [u8], end: &[u8]) -> Option<&'a [u8]>
     ensures { MatchOption result ((front : List ℕ) → text.now ≡ front ++ end.now → ⊥)
         (λ front. text.now ≡ front.now ++ end.now) }
@@ -136,7 +137,7 @@ pub(crate) fn front_before<'a>(text: &'a [u8], end: &[u8]) -> Option<&'a [u8]>
     text.strip_suffix(end)
 }
 
-/// What follows the start of a text where that is this one.
+/// Returns what follows the start of a text, where it begins with these bytes.
 fn rest_behind<'a>(text: &'a [u8], start: &[u8]) -> Option<&'a [u8]>
     ensures { MatchOption result ((rest : List ℕ) → text.now ≡ start.now ++ rest → ⊥)
         (λ rest. text.now ≡ start.now ++ rest.now) }
@@ -144,7 +145,7 @@ fn rest_behind<'a>(text: &'a [u8], start: &[u8]) -> Option<&'a [u8]>
     text.strip_prefix(start)
 }
 
-/// What stands before a colon and this score at the end of a text.
+/// Returns what stands before a colon and this score at the end of a text.
 fn before_score(text: &[u8], score: u16) -> Option<&[u8]>
     ensures { MatchOption result ((front : List ℕ) → EndsWithScore text.now score front → ⊥)
         (λ front. EndsWithScore text.now score front.now
@@ -159,7 +160,7 @@ fn before_score(text: &[u8], score: u16) -> Option<&[u8]>
     front_before(named.0, b":")
 }
 
-/// Whether a text begins with this score, behind any blanks, and a blank or the end follows.
+/// Returns whether a text begins with this score, after any blanks, and a blank or the end follows.
 fn begins_with_score(text: &[u8], score: u16) -> bool
     ensures { IsTrue result ↔ BeginsWithScore text.now score }
 {
@@ -171,7 +172,7 @@ fn begins_with_score(text: &[u8], score: u16) -> bool
     }
 }
 
-/// Whether a word ends where a text begins: it is empty, or begins with a blank.
+/// Returns whether a word ends where a text begins: the text is empty, or begins with a blank.
 fn ends_word(text: &[u8]) -> bool
     ensures { IsTrue result ↔ EndsWord text.now }
 {
@@ -181,7 +182,7 @@ fn ends_word(text: &[u8]) -> bool
     }
 }
 
-/// Whether a text has a colon and this score somewhere.
+/// Returns whether a text has a colon and this score somewhere.
 fn has_score(text: &[u8], score: u16) -> bool
     ensures { IsTrue result ↔ HasScore text.now score }
 {
@@ -195,7 +196,7 @@ fn has_score(text: &[u8], score: u16) -> bool
     false
 }
 
-/// Whether a line names both players, each with this score, X's first.
+/// Returns whether a line names both players, each with their score, and X first.
 pub(crate) fn has_scores(line: &[u8], x: u16, o: u16) -> bool
     ensures { IsTrue result ↔ IsScoresLine line.now x o }
 {

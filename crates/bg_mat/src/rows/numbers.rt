@@ -2,10 +2,10 @@
 ghost use Rattle.std.specs.Prelude.{ℕ, MatchOption};
 ghost use Rattle.bg_mat.specs.Rows.Numbers.{IsNumber};
 
-/// The most digits of a number.
+/// The greatest number of digits in a number.
 const MOST_DIGITS: usize = 4;
 
-/// The number that one to four digits write.
+/// Reads a number from a word of one to four digits.
 pub(crate) fn read_number(word: &[u8]) -> Option<u16>
     ensures { MatchOption result ((n : ℕ) → IsNumber word.now n → ⊥) (λ number. IsNumber word.now number) }
 {

@@ -13,16 +13,16 @@ use bg_board::Player;
 use bg_text::{put_number, put_text};
 use std::alloc::AllocError;
 
-/// The width of the left column.
+/// The width of the left column, in bytes.
 const LEFT_WIDTH: usize = 28;
 
-/// The width of the name and score of X.
+/// The width of the name and score of X, in bytes.
 const NAME_WIDTH: usize = 31;
 
-/// The greatest number of a row that is written.
+/// The greatest row number that is written.
 const LAST_NUMBER: u16 = 9999;
 
-/// How many blanks stand before the number of a row.
+/// Returns the number of blanks before the number of a row.
 fn blanks_before(row: u16) -> usize
     ensures { result ≡ blanks_before_number row }
 {
@@ -35,7 +35,7 @@ fn blanks_before(row: u16) -> usize
     }
 }
 
-/// Adds a number at the right of three places, and a bracket.
+/// Appends a number, aligned right in three places, and a bracket.
 fn put_right(out: &mut Vec<u8>, row: u16) -> Result<(), AllocError>
     ensures { OnOk result (out.new.items
         ≡ out.old.items ++ (replicate (blanks_before_number row) 32 ++ decimal row ++ codes ") ")) }
@@ -45,7 +45,7 @@ fn put_right(out: &mut Vec<u8>, row: u16) -> Result<(), AllocError>
     put_text(out, ") ")
 }
 
-/// Adds the number of a row.
+/// Appends the number of a row.
 fn put_row_number(out: &mut Vec<u8>, row: u16) -> Result<(), AllocError>
     ensures { OnOk result (out.new.items ≡ out.old.items ++ row_number row) }
 {
@@ -56,7 +56,7 @@ fn put_row_number(out: &mut Vec<u8>, row: u16) -> Result<(), AllocError>
     }
 }
 
-/// Adds a cell, with blanks behind it up to the right column.
+/// Appends a cell, and blanks up to the right column.
 fn put_left(out: &mut Vec<u8>, cell: &Cell) -> Result<(), AllocError>
     ensures { OnOk result (out.new.items ≡ out.old.items ++ padded 28 (cell_text cell.now)) }
 {
@@ -65,7 +65,7 @@ fn put_left(out: &mut Vec<u8>, cell: &Cell) -> Result<(), AllocError>
     pad(out, start, LEFT_WIDTH)
 }
 
-/// Adds a row of two cells.
+/// Appends a row of two cells.
 pub(crate) fn put_both(
     out: &mut Vec<u8>,
     row: u16,
@@ -80,7 +80,7 @@ pub(crate) fn put_both(
     put_text(out, "\n")
 }
 
-/// Adds what a row of one cell begins with. The row of a win has no number.
+/// Appends the start of a row of one cell. The row of a win has no number.
 fn put_start(out: &mut Vec<u8>, row: u16, cell: &Cell) -> Result<(), AllocError>
     ensures { OnOk result (out.new.items ≡ out.old.items ++ row_start row cell.now) }
 {
@@ -90,8 +90,8 @@ fn put_start(out: &mut Vec<u8>, row: u16, cell: &Cell) -> Result<(), AllocError>
     }
 }
 
-/// Adds a cell that is alone in its row, in the player's column. Behind one of X, but for a win, blanks
-/// fill it.
+/// Appends a cell that is alone in its row, in the player's column. Blanks fill the left column
+/// behind a cell of X, unless that is a win.
 fn put_in_column(out: &mut Vec<u8>, player: Player, cell: &Cell) -> Result<(), AllocError>
     ensures { OnOk result (out.new.items ≡ out.old.items ++ in_column player cell.now) }
 {
@@ -105,7 +105,7 @@ fn put_in_column(out: &mut Vec<u8>, player: Player, cell: &Cell) -> Result<(), A
     }
 }
 
-/// Adds a row of one cell.
+/// Appends a row of one cell.
 pub(crate) fn put_alone(
     out: &mut Vec<u8>,
     row: u16,
@@ -119,7 +119,7 @@ pub(crate) fn put_alone(
     put_text(out, "\n")
 }
 
-/// Adds the name of a player, and his score.
+/// Appends the name of a player, and their score.
 fn put_score(out: &mut Vec<u8>, name: &str, score: u16) -> Result<(), AllocError>
     ensures { OnOk result (out.new.items ≡ out.old.items ++ score_text name.now score) }
 {
@@ -128,7 +128,7 @@ fn put_score(out: &mut Vec<u8>, name: &str, score: u16) -> Result<(), AllocError
     put_number(out, score.into())
 }
 
-/// Adds the name of X and his score, with blanks behind them.
+/// Appends the name of X and their score, and blanks up to the name of O.
 fn put_first_score(out: &mut Vec<u8>, score: u16) -> Result<(), AllocError>
     ensures { OnOk result (out.new.items ≡ out.old.items ++ padded 31 (score_text (codes "X") score)) }
 {
@@ -137,7 +137,7 @@ fn put_first_score(out: &mut Vec<u8>, score: u16) -> Result<(), AllocError>
     pad(out, start, NAME_WIDTH)
 }
 
-/// Adds the lines that head a game: a blank one, its number, and the scores before it.
+/// Appends the lines that head a game: a blank one, its number, and the scores before it.
 pub(crate) fn put_game(out: &mut Vec<u8>, game: GameStart) -> Result<(), AllocError>
     ensures { OnOk result (out.new.items ≡ out.old.items ++ game_text game) }
 {

@@ -5,14 +5,14 @@ ghost use Rattle.bg_mat.specs.Rows.Words.{IsBlankText};
 ghost use Rattle.bg_mat.specs.Rows.Words.{IsEither, IsFirstWord, IsSolid, Says, SaysEither};
 ghost use Rattle.bg_mat.specs.Rows.Headings.{IsPoints};
 
-/// Whether a byte is blank: a space, a tab, or the carriage return before a line feed.
+/// Returns whether a byte is blank: a space, a tab, or the carriage return before a line feed.
 pub(crate) fn is_blank(byte: u8) -> bool
     ensures { result ≡ is_blank_byte byte }
 {
     byte == b' ' || byte == b'\t' || byte == b'\r'
 }
 
-/// The blanks that a text begins with, and what follows them.
+/// Returns the blanks that a text begins with, and what follows them.
 pub(crate) fn split_blanks(text: &[u8]) -> (&[u8], &[u8])
     ensures { IsBlankText result.0.now × (text.now ≡ result.0.now ++ result.1.now) × BeginsSolid result.1.now }
 {
@@ -22,14 +22,14 @@ pub(crate) fn split_blanks(text: &[u8]) -> (&[u8], &[u8])
     }
 }
 
-/// How many blanks a text begins with.
+/// Returns the number of blanks that a text begins with.
 pub(crate) fn count_blanks(text: &[u8]) -> usize
     ensures { result ≡ leading_blanks text.now }
 {
     split_blanks(text).0.len()
 }
 
-/// The bytes that a text begins with up to its first blank, and what follows them.
+/// Returns the bytes of a text before its first blank, and what follows them.
 fn split_solid(text: &[u8]) -> (&[u8], &[u8])
     ensures { IsSolid result.0.now × (text.now ≡ result.0.now ++ result.1.now) × EndsWord result.1.now }
 {
@@ -39,8 +39,8 @@ fn split_solid(text: &[u8]) -> (&[u8], &[u8])
     }
 }
 
-/// The first word of a text, and what follows it: the first of its longest runs of bytes that are no space, tab or
-/// carriage return. None where the text is blank.
+/// Returns the first word of a text, and what follows it. A word is one of the longest runs of
+/// bytes other than space, tab and carriage return. `None` where the text is blank.
 pub fn split_word(text: &[u8]) -> Option<(&[u8], &[u8])>
     ensures { MatchOption result (IsBlankText text.now) (λ parts. IsFirstWord text.now parts.0.now parts.1.now) }
 {
@@ -51,14 +51,14 @@ pub fn split_word(text: &[u8]) -> Option<(&[u8], &[u8])>
     Some(split_solid(text))
 }
 
-/// Whether a text has no word.
+/// Returns whether a text has no word.
 pub(crate) fn is_blank_text(text: &[u8]) -> bool
     ensures { IsTrue result ↔ IsBlankText text.now }
 {
     split_blanks(text).1.is_empty()
 }
 
-/// What follows a text's first word where that is this one, in capitals or not.
+/// Returns what follows the first word of a text, where that is the expected one, ignoring case.
 pub(crate) fn skip_word<'a>(text: &'a [u8], expected: &[u8]) -> Option<&'a [u8]>
     ensures { MatchOption result ((rest : List ℕ) → Says text.now expected.now rest → ⊥)
         (λ rest. Says text.now expected.now rest.now) }
@@ -73,7 +73,7 @@ pub(crate) fn skip_word<'a>(text: &'a [u8], expected: &[u8]) -> Option<&'a [u8]>
     }
 }
 
-/// What follows a text's first word where that is one of these two, in capitals or not.
+/// Returns what follows the first word of a text, where that is one of these two, ignoring case.
 pub(crate) fn skip_either<'a>(text: &'a [u8], one: &[u8], other: &[u8]) -> Option<&'a [u8]>
     ensures { MatchOption result ((rest : List ℕ) → SaysEither text.now one.now other.now rest → ⊥)
         (λ rest. SaysEither text.now one.now other.now rest.now) }
@@ -84,14 +84,14 @@ pub(crate) fn skip_either<'a>(text: &'a [u8], one: &[u8], other: &[u8]) -> Optio
     }
 }
 
-/// Whether a word is one of these two, in capitals or not.
+/// Returns whether a word is one of these two, ignoring case.
 pub(crate) fn is_either(word: &[u8], one: &[u8], other: &[u8]) -> bool
     ensures { IsTrue result ↔ IsEither word.now one.now other.now }
 {
     word.eq_ignore_ascii_case(one) || word.eq_ignore_ascii_case(other)
 }
 
-/// Whether a word is `point`, of one or of several.
+/// Returns whether a word is `point` or `points`.
 pub(crate) fn is_points(word: &[u8]) -> bool
     ensures { IsTrue result ↔ IsPoints word.now }
 {

@@ -1,4 +1,4 @@
-//! What a record tells in a match file, from its first entry to its last.
+//! What a match file says of a record, from its first entry to its last.
 ghost use Rattle.std.specs.Prelude.{◌≡◌, OnOk, IfOk};
 ghost use Rattle.bg_match.specs.Follows.{CanFollow, Follows};
 ghost use Rattle.bg_mat.specs.Retelling.{AddsEntry, TellsRecord};
@@ -8,7 +8,7 @@ use crate::tellings::{Telling, dice_left, told_by, win_between};
 use bg_match::{Entry, Record, Standing};
 use std::alloc::{AllocError, Global};
 
-/// Adds a telling, if it is there.
+/// Appends a telling, if there is one.
 fn add_telling(tellings: &mut Vec<Telling>, telling: Option<Telling>) -> Result<(), AllocError>
     ensures { OnOk result (tellings.new.items ≡ with_telling tellings.old.items telling) }
 {
@@ -18,7 +18,7 @@ fn add_telling(tellings: &mut Vec<Telling>, telling: Option<Telling>) -> Result<
     Ok(())
 }
 
-/// Adds what an entry tells, and gives where it leads.
+/// Appends what an entry says, and returns the standing after it.
 fn add_entry(
     tellings: &mut Vec<Telling>,
     before: &Standing,
@@ -34,7 +34,7 @@ fn add_entry(
     Ok(after)
 }
 
-/// What a match file tells of a record.
+/// Returns what a match file says of a record.
 pub(crate) fn tellings_of(alloc: Global, log: &Record) -> Result<Vec<Telling>, AllocError>
     ensures { IfOk result (λ tellings. TellsRecord log.now tellings.items) }
 {

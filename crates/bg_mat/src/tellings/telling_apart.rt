@@ -6,8 +6,9 @@ use crate::marks::behind_mark;
 use crate::rows::headings::{is_header, tells_length};
 use bg_text::split_line;
 
-/// Whether an input is taken for a match file, which may be refused all the same: its first line that tells something
-/// is the length of a match, as in `7 point match` (docs/FORMATS.md, "Match files of other programs").
+/// Returns whether an input is taken for a match file, which may still be refused. That is so where
+/// its first line with content is the length of a match, as in `7 point match` (docs/FORMATS.md,
+/// "Match files of other programs").
 pub fn is_match_file(input: &[u8]) -> bool
     ensures { IsTrue result ↔ BeginAsMatchFile (lines_in input.now) }
 {
