@@ -1,7 +1,6 @@
 -- What a cell begins with, and what it is not.
-use Rattle.std.specs.Prelude.{◌≡◌, ◌==◌, ℕ, ◌+◌, ◌<◌, ◌≤◌, nat_lt, false, Some, None, List, [], ◌∷◌, ◌++◌, codes, if◌then◌else◌}
-use Rattle.std.specs.Char.{to_ascii_lowercase}
-use Rattle.std.proofs.Common.{refl, sym, ◌∙◌, ap, subst, inl, inr, arith}
+use Rattle.std.specs.Prelude.{◌≡◌, ◌==◌, ℕ, ◌+◌, ◌<◌, ◌≤◌, nat_lt, Some, None, List, codes, if◌then◌else◌}
+use Rattle.std.proofs.Common.{refl, sym, ◌∙◌, ap, inl, inr, arith}
 use Rattle.bg_board.specs.Die.{pips}
 use Rattle.bg_board.specs.declared.dice.Die.{Die}
 use Rattle.bg_board.specs.declared.dice.Die.TheVariants.{One, Two, Three, Four, Five, Six}

@@ -2,7 +2,7 @@
 use Rattle.std.specs.Prelude.{◌≡◌, ◌⊎◌, ◌↔◌, ℕ, Bool, true, false, List, [], ◌∷◌, ◌++◌, codes, map, IsTrue, Option, None, Some, MatchOption}
 use Rattle.std.specs.Char.{to_ascii_lowercase}
 use Rattle.std.specs.Str.{all_ascii_digits}
-use Rattle.std.proofs.Common.{refl, sym, ◌∙◌, ap, subst, inl, inr}
+use Rattle.std.proofs.Common.{sym, ◌∙◌, ap, subst, inl, inr}
 use Rattle.std.proofs.lemmas.Bool.{and_parts}
 use Rattle.std.proofs.lemmas.List.{append_cancel_right}
 use Rattle.bg_mat.specs.Rows.Headings.{EndsLength, IsBlankOr, IsGameLine, IsHeaderWord, IsGameNumber, IsLengthLine, IsPoints}

@@ -5,7 +5,7 @@ use Rattle.std.specs.List.{All}
 use Rattle.bg_mat.specs.Rows.Cells.{BeginsArrow, EndsWin, SaysCannotMove, SaysDouble, SaysUnknown, TellsDouble, TellsPoints, TellsWin, ending}
 use Rattle.bg_mat.specs.Rows.Headings.{IsPoints}
 use Rattle.bg_mat.specs.Rows.Numbers.{IsNumber}
-use Rattle.bg_mat.specs.Rows.Words.{BeginsWith, IsBlankText, IsFirstWord, Says, SaysAll, SaysEither}
+use Rattle.bg_mat.specs.Rows.Words.{IsBlankText, IsFirstWord, Says, SaysAll, SaysEither}
 use Rattle.bg_mat.specs.declared.rows.cells.Win.{Win}
 use Rattle.bg_mat.proofs.OfReading.CellLemmas.{arrow_same, doubles_same, points_same}
 use Rattle.bg_mat.proofs.OfReading.HeadingLemmas.{either_rest, says_rest}

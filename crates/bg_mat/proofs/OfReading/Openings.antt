@@ -1,5 +1,5 @@
 -- What a text begins with behind its blanks.
-use Rattle.std.specs.Prelude.{◌≡◌, ◌⊎◌, ◌==◌, ℕ, suc, ◌+◌, ◌<◌, ◌≤◌, true, false, List, [], ◌∷◌, ◌++◌, codes, length, map}
+use Rattle.std.specs.Prelude.{◌≡◌, ◌⊎◌, ◌==◌, ℕ, ◌+◌, ◌<◌, ◌≤◌, true, false, List, [], ◌∷◌, ◌++◌, codes, length, map}
 use Rattle.std.specs.Char.{is_ascii_digit, to_ascii_lowercase}
 use Rattle.std.specs.Str.{all_ascii_digits}
 use Rattle.std.proofs.Common.{append_assoc, refl, sym, ◌∙◌, ap, subst, inl, inr, arith}
@@ -11,7 +11,7 @@ use Rattle.bg_board.specs.declared.dice.Die.{Die}
 use Rattle.bg_board.specs.declared.dice.Die.TheVariants.{One, Two, Three, Four, Five, Six}
 use Rattle.bg_turns.specs.Dice.{first_pips, second_pips}
 use Rattle.bg_turns.specs.declared.throws.Dice.{Dice}
-use Rattle.bg_mat.specs.Legs.{IsPointText, TellsLeg, TellsLegs, TellsPath, TellsWord}
+use Rattle.bg_mat.specs.Legs.{IsPointText, TellsPath, TellsWord}
 use Rattle.bg_mat.specs.Rows.Cells.{BeginsDice, EndsMovement, HasRowNumber, MayMove, SaysCannotMove, SaysUnknown}
 use Rattle.bg_mat.specs.Rows.Numbers.{IsNumber}
 use Rattle.bg_mat.specs.Rows.Words.{is_blank, BeginsSolid, EndsWord, IsBlankText, IsFirstWord, IsSolid, Says, SaysEither}

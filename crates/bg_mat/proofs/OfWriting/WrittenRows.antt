@@ -1,6 +1,6 @@
 -- What the texts of rows, and of the lines that head a game, tell.
 use Rattle.std.specs.Prelude.{◌≡◌, ℕ, zero, suc, ◌+◌, ◌-◌, ◌<◌, ◌≤◌, max, nat_lt, Bool, true, false, Some, None, List, [], ◌∷◌, ◌++◌, length, replicate, codes, if◌then◌else◌}
-use Rattle.std.proofs.Common.{append_assoc, append-nil, refl, sym, ◌∙◌, ap, subst, inl, inr, arith, length-append}
+use Rattle.std.proofs.Common.{append_assoc, append-nil, refl, sym, ◌∙◌, ap, subst, inl, inr, arith}
 use Rattle.std.specs.Fmt.{decimal}
 use Rattle.std.proofs.lemmas.Bool.Decides.{nat_tests}
 use Rattle.std.proofs.lemmas.Fmt.{decimal_nonempty}
@@ -18,7 +18,7 @@ use Rattle.bg_mat.specs.declared.rows.cells.Cell.TheVariants as cell
 use Rattle.bg_mat.specs.declared.rows.Row.{Row}
 use Rattle.bg_mat.proofs.OfReading.CellHeads.{blank_behind, cell_behind_cell, cell_no_number}
 use Rattle.bg_mat.proofs.OfReading.ToldLines.{name_told}
-use Rattle.bg_mat.proofs.OfWriting.PlainTexts.{IsOfLine, IsPlain, blanks, blanks_of_line, decimal_plain, leading_both, no_blanks, number_is, of_line_both, of_line_by, one_blank, plain_both, plain_by, plain_of_line, word_first}
+use Rattle.bg_mat.proofs.OfWriting.PlainTexts.{IsOfLine, blanks, blanks_of_line, decimal_plain, leading_both, no_blanks, number_is, of_line_both, of_line_by, one_blank, plain_by, plain_of_line, word_first}
 use Rattle.bg_mat.proofs.OfWriting.WrittenCells.{cell_behind, cell_is}
 
 -- what a row begins with

@@ -1,5 +1,5 @@
 -- The lines that head a match and its games.
-use Rattle.std.specs.Prelude.{◌≡◌, ◌⊎◌, ℕ, List, [], ◌∷◌, ◌++◌, codes}
+use Rattle.std.specs.Prelude.{◌≡◌, ◌⊎◌, ℕ, List, ◌++◌, codes}
 use Rattle.std.specs.Fmt.{decimal}
 use Rattle.bg_mat.specs.Rows.Words.{IsBlankText, EndsWord, IsEither, IsFirstWord, Says}
 use Rattle.bg_mat.specs.Rows.Numbers.{IsNumber}

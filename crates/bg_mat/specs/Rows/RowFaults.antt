@@ -1,5 +1,5 @@
 -- Why a row is refused for its shape.
-use Rattle.std.specs.Prelude.{◌≡◌, ◌⊎◌, ℕ, ◌+◌, ◌<◌, Option, Some, None, List, [], codes, length}
+use Rattle.std.specs.Prelude.{◌≡◌, ◌⊎◌, ℕ, ◌+◌, ◌<◌, Option, List, [], codes, length}
 use Rattle.bg_turns.specs.declared.throws.Dice.{Dice}
 use Rattle.bg_mat.specs.Rows.Cells.{BeginsDice, SkipsNumber, TellsCell, TellsCells, TellsLegsAt, TellsRow}
 use Rattle.bg_mat.specs.Rows.Cells.{left_column, most_legs}

@@ -1,5 +1,4 @@
-use Rattle.std.proofs.Common.{ℕ, List, take, subst, sym}
-use Rattle.bg_turns.specs.declared.throws.Dice.{Dice}
+use Rattle.std.proofs.Common.{ℕ, List, subst, sym}
 use Rattle.bg_mat.specs.Rows.Cells.{AreDice}
 use Rattle.bg_mat.proofs.OfReading.Fronts.{other_dice, short_dice}
 use Rattle.bg_mat.proofs.rows.dice.split_dice.Goals as goal
