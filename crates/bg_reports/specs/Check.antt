@@ -12,7 +12,7 @@ use Rattle.bg_text.specs.declared.faults.TranscriptFault.TheVariants as transcri
 use Rattle.bg_text.specs.declared.judging.verdicts.Verdict.{Verdict}
 use Rattle.bg_text.specs.declared.judging.verdicts.Verdict.TheVariants.{Fine, Refused, TooLong}
 use Rattle.bg_mat.specs.FaultWords.{import_fault_words}
-use Rattle.bg_mat.specs.Files.{BeginAsMatchFile, Imports}
+use Rattle.bg_mat.specs.Files.{BeginAsMatchFile, Imports, lines_in}
 use Rattle.bg_mat.specs.Refusals.{IsRefusal}
 use Rattle.bg_mat.specs.declared.faults.ImportFault.{ImportFault}
 use Rattle.bg_mat.specs.declared.faults.ImportFault.TheVariants as import_fault
@@ -60,7 +60,7 @@ IsMatchFileVerdict bytes words (Fine n) =
     (log : Log) × (lines : List ℕ) × Imports 0 rules.One bytes log lines × (n ≡ length log.entries)
     × (words ≡ fine_line n)
 IsMatchFileVerdict bytes words (Refused n) =
-    (why : MatFault) × IsRefusal 0 rules.One (lines_of bytes) (import_fault.Refused n why)
+    (why : MatFault) × IsRefusal 0 rules.One (lines_in bytes) (import_fault.Refused n why)
     × (words ≡ import_fault_words (import_fault.Refused n why))
 IsMatchFileVerdict bytes words TooLong =
     (most_bytes < length bytes) × (words ≡ import_fault_words import_fault.TooLong)
@@ -116,5 +116,5 @@ IsImportFaultText name bytes fault columns text verdict =
 -- what is printed of a file: it is a match file where its first line that tells something is the length of a match
 abbrev pub IsCheckText : List ℕ → List ℕ → Option ℕ → List ℕ → Verdict → Type 0
 IsCheckText name bytes columns text verdict =
-    (BeginAsMatchFile (lines_of bytes) × IsMatchFileText name bytes columns text verdict)
-    ⊎ ((BeginAsMatchFile (lines_of bytes) → ⊥) × IsTranscriptText name bytes columns text verdict)
+    (BeginAsMatchFile (lines_in bytes) × IsMatchFileText name bytes columns text verdict)
+    ⊎ ((BeginAsMatchFile (lines_in bytes) → ⊥) × IsTranscriptText name bytes columns text verdict)

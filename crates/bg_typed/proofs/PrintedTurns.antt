@@ -85,11 +85,11 @@ source_point n low = elim (cases_lt n 25) [
   | inl below ↦ let other : (n == 25) ≡ false = ne_eqb n 25 (λ e. omega (arith, e)) in
       rw other (inr (inr (number_is n (omega arith))))
   | inr above ↦ let e : 25 ≡ n = omega arith in
-      subst (λ (m : ℕ). IsPointText (source_text m) m) e (inl (refl, inl refl))
+      subst (λ (m : ℕ). IsPointText (source_text m) m) e (inl (refl, refl))
 ]
 
 target_point : (n : ℕ) → n ≤ 25 → IsPointText (target_text n) n
-target_point zero low = inr (inl (refl, inl refl))
+target_point zero low = inr (inl (refl, refl))
 target_point (suc n) low =
     let other : (suc n == 0) ≡ false = ne_eqb (suc n) 0 (λ e. omega (arith, e)) in
     rw other (inr (inr (number_is (suc n) (omega arith))))

@@ -71,9 +71,9 @@ bar_and_off = (
   inr (codes "m", word_first [] (codes "m") (codes " bar/20* 6/off") no_blanks (plain_by (codes "m") refl) (omega arith) refl, inl refl),
   word_before (codes " bar/20* 6/off") (codes "bar/20*") (codes " 6/off") (leg 25 20 true ∷ []) (leg 6 0 false ∷ [])
       (word_first (codes " ") (codes "bar/20*") (codes " 6/off") one_blank (plain_by (codes "bar/20*") refl) (omega arith) refl)
-      (one_leg (codes "bar/20*") (codes "bar") (codes "/20*") (codes "20") 25 20 true refl (inl (refl, inl refl)) refl (inr (inr twenty)) (omega arith) (omega arith))
+      (one_leg (codes "bar/20*") (codes "bar") (codes "/20*") (codes "20") 25 20 true refl (inl (refl, refl)) refl (inr (inr twenty)) (omega arith) (omega arith))
       (word_before (codes " 6/off") (codes "6/off") [] (leg 6 0 false ∷ []) []
       (word_first (codes " ") (codes "6/off") [] one_blank (plain_by (codes "6/off") refl) (omega arith) tt)
-      (one_leg (codes "6/off") (codes "6") (codes "/off") (codes "off") 6 0 false refl (inr (inr six)) refl (inr (inl (refl, inl refl))) (omega arith) (omega arith))
+      (one_leg (codes "6/off") (codes "6") (codes "/off") (codes "off") 6 0 false refl (inr (inr six)) refl (inr (inl (refl, refl))) (omega arith) (omega arith))
       (no_words [] no_blanks)),
 )
