@@ -1,4 +1,5 @@
-//! Laws of the definitions, for the crates above: each is the contract of a function that does nothing.
+//! Laws of the definitions, for the crates above: each is the contract of a function that does
+//! nothing.
 ghost use Rattle.bg_ids.specs.Laws.{PositionIdsDiffer, MatchIdsDiffer, IdsAreWhole};
 
 /// A Position ID is that of one board, where it is known who is on roll.

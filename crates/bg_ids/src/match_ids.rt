@@ -73,7 +73,8 @@ fn put_fields(bits: &mut Bits, fields: &[BitField])
     }
 }
 
-/// Returns the fields in their order. The last says that the Jacoby rule is not used, which no match has.
+/// Returns the fields in their order. The last says that the Jacoby rule is not used, which no
+/// match has.
 fn fields(standing: &Standing) -> [BitField; 14]
     ensures { result ≡ match_fields standing.now }
 {

@@ -15,8 +15,8 @@ use std::fmt;
 /// How many bytes a Position ID has.
 const BYTES: usize = 10;
 
-/// The Position ID of a board: the checkers of both players, as the player on roll sees them. It does not tell who that
-/// is.
+/// The Position ID of a board: the checkers of both players, as the player on roll sees them. It
+/// does not tell who that is.
 #[derive(Clone, Copy, Debug, PartialEq, Eq)]
 pub struct PositionId {
     text: ArrayString<MOST_CHARACTERS>,

@@ -5,8 +5,8 @@ ghost use Rattle.bg_ids.specs.Turns.{on_roll as player_on_roll, to_act as player
 use bg_board::Player;
 use bg_match::Phase;
 
-/// Returns the player on roll: who rolls or has rolled, also while the other one answers his double or his offer to
-/// resign. Before a game that is X, and after the match the player who lost it.
+/// Returns the player on roll: who rolls or has rolled, also while the other one answers his double
+/// or his offer to resign. Before a game that is X, and after the match the player who lost it.
 pub fn on_roll(phase: Phase) -> Player
     ensures { result ≡ player_on_roll phase }
 {
@@ -17,7 +17,8 @@ pub fn on_roll(phase: Phase) -> Player
     }
 }
 
-/// Returns the player who is to act: who answers a double or an offer to resign, and else the player on roll.
+/// Returns the player who is to act: who answers a double or an offer to resign, and else the
+/// player on roll.
 pub fn to_act(phase: Phase) -> Player
     ensures { result ≡ player_to_act phase }
 {
