@@ -70,7 +70,7 @@ bits_of_bytes (suc count) bits rest e =
     ]
 
 -- every byte is below 256
-bytes_small : (count : ℕ) (bits : List Bool) → IsBytes (bits_bytes count bits)
+pub bytes_small : (count : ℕ) (bits : List Bool) → IsBytes (bits_bytes count bits)
 unfolding bits_bytes
 bytes_small zero bits i = omega arith
 bytes_small (suc count) bits zero = bits_of_byte (take 8 bits) (omega (arith, length-take 8 bits))

@@ -6,3 +6,5 @@ pub mod Sides
 pub mod Lengths
 pub mod Fields
 mod WorkedIds
+pub mod Read
+pub mod Points

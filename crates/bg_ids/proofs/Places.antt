@@ -3,7 +3,7 @@ use Rattle.std.proofs.Common.{◌≡◌, ◌≤◌, ◌+◌, ℕ, List, [], ◌�
 use mir.Val.{bool_byte}
 use Rattle.std.specs.Prelude.{Bool, true, false}
 use Rattle.std.specs.List.{range_with_len}
-use Rattle.std.proofs.lemmas.List.{length-append, append-nil}
+use Rattle.std.proofs.lemmas.List.{length-append}
 use Rattle.std.proofs.lemmas.List.FromFn.{map-range_with_len_more}
 use Rattle.bg_board.specs.Position.{Position}
 use Rattle.bg_ids.specs.MatchIds.{yes_number}
@@ -33,9 +33,3 @@ pushed_length text new before n mark e added = ap length added ∙ length-append
 pub yes_byte : (b : Bool) → bool_byte b ≡ yes_number b
 yes_byte true = refl
 yes_byte false = refl
-
--- nine texts behind another, one after the other
-pub nine_joined : (p a b c d e f g h i : List ℕ)
-    → ((((((((p ++ a) ++ b) ++ c) ++ d) ++ e) ++ f) ++ g) ++ h) ++ i
-    ≡ p ++ (a ++ (b ++ (c ++ (d ++ (e ++ (f ++ (g ++ (h ++ (i ++ [])))))))))
-nine_joined p a b c d e f g h i = simp (append_assoc, append-nil)

@@ -1,5 +1,5 @@
 -- IDs of worked standings, computed: each is as GNU Backgammon has it.
-use Rattle.std.specs.Prelude.{◌≡◌, ℕ, false, Option, Some, None, List, [], ◌∷◌, codes}
+use Rattle.std.specs.Prelude.{◌≡◌, Some, [], ◌∷◌, codes}
 use Rattle.std.proofs.Common.{refl}
 use Rattle.bg_board.specs.Position.{Position, start_position}
 use Rattle.bg_board.specs.declared.dice.Die.TheVariants.{One, Three}
@@ -7,15 +7,14 @@ use Rattle.bg_board.specs.declared.players.Player.TheVariants.{X, O}
 use Rattle.bg_match.specs.State.{State, start_of}
 use Rattle.bg_match.specs.Terms.{terms_of}
 use Rattle.bg_match.specs.declared.limits.Rules.TheVariants as rules
-use Rattle.bg_match.specs.declared.levels.Level.TheVariants.{Gammon}
-use Rattle.bg_match.specs.declared.phases.Phase.TheVariants.{ToAct, Doubled, ToMove, Resigned}
+use Rattle.bg_match.specs.declared.phases.Phase.TheVariants.{Doubled, ToMove}
 use Rattle.std.specs.Int.Count.{count_trailing_zeros}
 use Rattle.std.specs.Fmt.{digits}
 use Rattle.base64.specs.Rfc4648.{encode_symbols}
 use Rattle.bg_ids.specs.Bits.{number_bits, bits_bytes, bits_text}
 use Rattle.bg_ids.specs.PositionIds.{position_text}
 use Rattle.bg_ids.specs.MatchIds.{match_text}
-use Rattle.bg_ids.specs.Xgids.{places_text, xgid_text}
+use Rattle.bg_ids.specs.Xgids.{places_text, cube_text, turn_text, score_text, terms_text, xgid_text}
 
 -- a match of seven points
 abbrev seven : State
@@ -66,9 +65,9 @@ unfolding bits_text bits_bytes number_bits encode_symbols count_trailing_zeros
 offered_double = refl
 
 first_roll_xgid : xgid_text rolled ≡ codes "XGID=-b----E-C---eE---c-e----B-:0:0:1:31:0:0:0:7:7"
-unfolding places_text count_trailing_zeros digits
+unfolding places_text cube_text turn_text score_text terms_text count_trailing_zeros digits
 first_roll_xgid = refl
 
 offered_double_xgid : xgid_text doubled ≡ codes "XGID=-b----E-C---eE---c-e----B-:1:1:1:D:3:5:0:9:7"
-unfolding places_text count_trailing_zeros digits
+unfolding places_text cube_text turn_text score_text terms_text count_trailing_zeros digits
 offered_double_xgid = refl

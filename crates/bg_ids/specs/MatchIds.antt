@@ -37,7 +37,8 @@ owner_number (Some player) = player_number player
 abbrev pub yes_number : Bool → ℕ
 yes_number b = if b then 1 else 0
 
--- the game is played without the cube, as in a match of one point none is played otherwise: there it is not told
+-- the game is played without the cube, as in a match of one point none is played otherwise: there
+-- it is not told
 abbrev pub is_crawford : State → Bool
 is_crawford s = s.crawford && nat_lt 1 (match_length s.terms)
 
@@ -80,8 +81,8 @@ lesser_number (Some dice) = smaller_die dice
 abbrev pub field : ℕ → ℕ → BitField
 field number width = record { number = number; width = width }
 
--- the fields in their order, each a number and how many bits it has. The last says that the Jacoby rule is not used,
--- which no match has
+-- the fields in their order, each a number and how many bits it has. The last says that the Jacoby
+-- rule is not used, which no match has
 abbrev pub match_fields : State → List BitField
 match_fields s =
     field (doublings s.cube.value) 4

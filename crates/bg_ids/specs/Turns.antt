@@ -5,8 +5,8 @@ use Rattle.bg_board.specs.declared.players.Player.TheVariants as player
 use Rattle.bg_match.specs.declared.phases.Phase.{Phase}
 use Rattle.bg_match.specs.declared.phases.Phase.TheVariants.{Opening, ToAct, Doubled, ToMove, Resigned, Over}
 
--- the player on roll: who rolls or has rolled, also while the other one answers his double or his offer to resign.
--- Before a game that is X, and after the match the player who lost it
+-- the player on roll: who rolls or has rolled, also while the other one answers his double or his
+-- offer to resign. Before a game that is X, and after the match the player who lost it
 abbrev pub on_roll : Phase → Player
 on_roll Opening = player.X
 on_roll (ToAct p) = p

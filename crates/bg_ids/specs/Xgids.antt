@@ -1,6 +1,6 @@
 -- The XGID of a standing.
-use Rattle.std.specs.Prelude.{◌==◌, ℕ, ◌+◌, ◌*◌, ◌-◌, nat_lt, Option, Some, None, List, [], ◌∷◌, ◌++◌, map, codes, if◌then◌else◌}
-use Rattle.std.specs.List.{flat_map, range_with_len}
+use Rattle.std.specs.Prelude.{◌==◌, ℕ, ◌+◌, ◌*◌, ◌-◌, nat_lt, Option, Some, None, List, ◌++◌, map, codes, if◌then◌else◌}
+use Rattle.std.specs.List.{range_with_len}
 use Rattle.std.specs.Fmt.{decimal}
 use Rattle.bg_board.specs.Position.{Position, count}
 use Rattle.bg_board.specs.declared.players.Player.{Player}
@@ -9,6 +9,7 @@ use Rattle.bg_turns.specs.Dice.{larger_die}
 use Rattle.bg_match.specs.State.{State}
 use Rattle.bg_match.specs.Limits.{greatest_cube}
 use Rattle.bg_match.specs.Terms.{match_length}
+use Rattle.bg_match.specs.declared.phases.Cube.{Cube}
 use Rattle.bg_match.specs.declared.phases.Phase.{Phase}
 use Rattle.bg_match.specs.declared.phases.Phase.TheVariants.{Opening, Doubled, ToMove, Resigned, Over}
 use Rattle.bg_ids.specs.Turns.{on_roll}
@@ -42,26 +43,33 @@ dice_sign _ = codes "00"
 unfoldable pub places_text : Position → List ℕ
 places_text b = map (place_mark b) (range_with_len 0 26)
 
--- the fields behind the places
-abbrev pub xgid_fields : State → List (List ℕ)
-xgid_fields s =
-    decimal (doublings s.cube.value)
-    ∷ owner_sign s.cube.owner
-    ∷ player_sign (on_roll s.phase)
-    ∷ dice_sign s.phase
-    ∷ decimal s.x_score
-    ∷ decimal s.o_score
-    ∷ decimal (yes_number (is_crawford s))
-    ∷ decimal (match_length s.terms)
-    ∷ decimal (doublings greatest_cube)
-    ∷ []
-
+-- the fields behind the places, each behind a colon
 abbrev pub behind_colon : List ℕ → List ℕ
 behind_colon text = codes ":" ++ text
 
+-- how often the cube was doubled, and whose it is
+unfoldable pub cube_text : Cube → List ℕ
+cube_text cube = behind_colon (decimal (doublings cube.value)) ++ behind_colon (owner_sign cube.owner)
+
+-- who is on roll, and the dice
+unfoldable pub turn_text : Phase → List ℕ
+turn_text phase = behind_colon (player_sign (on_roll phase)) ++ behind_colon (dice_sign phase)
+
+-- the score, that of X first
+unfoldable pub score_text : ℕ → ℕ → List ℕ
+score_text x o = behind_colon (decimal x) ++ behind_colon (decimal o)
+
+-- whether it is the Crawford game, the length of the match, and how often a cube can be doubled
+unfoldable pub terms_text : State → List ℕ
+terms_text s =
+    behind_colon (decimal (yes_number (is_crawford s))) ++ behind_colon (decimal (match_length s.terms))
+    ++ behind_colon (decimal (doublings greatest_cube))
+
 -- the XGID, with X as the player at the bottom
 abbrev pub xgid_text : State → List ℕ
-xgid_text s = codes "XGID=" ++ places_text s.board ++ flat_map behind_colon (xgid_fields s)
+xgid_text s =
+    codes "XGID=" ++ places_text s.board ++ cube_text s.cube ++ turn_text s.phase ++ score_text s.x_score s.o_score
+    ++ terms_text s
 
 -- why a standing has no XGID, where it has none
 abbrev pub xgid_fault : Phase → Option XgidFault

@@ -17,17 +17,17 @@ use bg_match::{Level, Phase, Standing};
 use bg_turns::Dice;
 use std::fmt;
 
-/// The number of bytes in a Match ID.
+/// How many bytes a Match ID has.
 const BYTES: usize = 9;
 
-/// A number in a Match ID, and its width in bits.
+/// A number of a Match ID, and how many bits it has there.
 #[derive(Clone, Copy)]
 struct BitField {
     number: u16,
     width: u8,
 }
 
-/// The Match ID of a standing: everything but the board.
+/// The Match ID of a standing: all that it says but for the board.
 #[derive(Clone, Copy, Debug, PartialEq, Eq)]
 pub struct MatchId {
     text: ArrayString<MOST_CHARACTERS>,
@@ -45,7 +45,7 @@ impl MatchId {
         }
     }
 
-    /// Returns the text of the ID, which has 12 characters.
+    /// Returns its text, which has 12 characters.
     pub fn as_str(&self) -> &str
         ensures { result.now ≡ self.now.text.bytes }
     {
@@ -63,7 +63,7 @@ impl fmt::Display for MatchId {
     }
 }
 
-/// Appends fields in their order.
+/// Adds fields in their order.
 fn put_fields(bits: &mut Bits, fields: &[BitField])
     requires { array_vec_len bits.old + sum_by width fields.now ≤ 80 }
     ensures { bits.new.items ≡ bits.old.items ++ flat_map field_bits fields.now }
@@ -73,8 +73,8 @@ fn put_fields(bits: &mut Bits, fields: &[BitField])
     }
 }
 
-/// Returns the fields in their order. The last one says that the Jacoby rule is not used, since no
-/// match uses it.
+/// Returns the fields in their order. The last says that the Jacoby rule is not used, which no
+/// match has.
 fn fields(standing: &Standing) -> [BitField; 14]
     ensures { result ≡ match_fields standing.now }
 {
@@ -106,7 +106,7 @@ fn field(number: u16, width: u8) -> BitField
     BitField { number, width }
 }
 
-/// Returns the number of doublings after which the cube shows this value.
+/// Returns how often the cube was doubled, where it shows this.
 pub(crate) fn doublings(value: u8) -> u16
     ensures { result ≡ doublings_of value }
 {
@@ -122,7 +122,7 @@ fn player_number(player: Player) -> u16
     }
 }
 
-/// Returns the number of the cube's owner; 3 where the cube is in the middle.
+/// Returns whose the cube is; 3 in the middle.
 fn owner_number(owner: Option<Player>) -> u16
     ensures { result ≡ number_of_owner owner }
 {
@@ -132,15 +132,14 @@ fn owner_number(owner: Option<Player>) -> u16
     }
 }
 
-/// Returns whether the game is the Crawford game. In a match of one point no game is marked so.
+/// Returns whether the game is the Crawford game. In a match of one point that is not told.
 pub(crate) fn is_crawford(standing: &Standing) -> bool
     ensures { result ≡ plays_crawford standing.now }
 {
     standing.crawford() && standing.length() > 1
 }
 
-/// Returns the number of the stage: 0 for no game, 1 for a game that is played, and 2 for one that
-/// has ended.
+/// Returns 0 for no game, 1 for a game that is played, and 2 for one that has ended.
 fn stage_number(phase: Phase) -> u16
     ensures { result ≡ number_of_stage phase }
 {
@@ -151,7 +150,7 @@ fn stage_number(phase: Phase) -> u16
     }
 }
 
-/// Returns whether a double is to be answered.
+/// Returns whether a double is answered.
 fn is_doubled(phase: Phase) -> bool
     ensures { result ≡ answers_double phase }
 {
@@ -170,7 +169,7 @@ fn resigned_number(phase: Phase) -> u16
     }
 }
 
-/// Returns the dice that were rolled and are still to be moved, if there are any.
+/// Returns the dice that are still to be moved, where they were rolled.
 fn dice_of(phase: Phase) -> Option<Dice>
     ensures { result ≡ dice_in phase }
 {
@@ -201,7 +200,7 @@ fn lesser_number(dice: Option<Dice>) -> u16
     }
 }
 
-/// Returns the pips of the lesser die.
+/// Returns what the die shows that shows less.
 pub(crate) fn smaller_pips(dice: Dice) -> u8
     ensures { result ≡ smaller_die dice }
 {

@@ -12,11 +12,11 @@ use bg_board::{Board, Player};
 use bg_match::Standing;
 use std::fmt;
 
-/// The number of bytes in a Position ID.
+/// How many bytes a Position ID has.
 const BYTES: usize = 10;
 
 /// The Position ID of a board: the checkers of both players, as the player on roll sees them. It
-/// doesn't say who that is.
+/// does not tell who that is.
 #[derive(Clone, Copy, Debug, PartialEq, Eq)]
 pub struct PositionId {
     text: ArrayString<MOST_CHARACTERS>,
@@ -30,7 +30,7 @@ impl PositionId {
         PositionId::of_board(&standing.board(), on_roll(standing.phase()))
     }
 
-    /// Returns the Position ID of a board, with this player on roll.
+    /// Returns the Position ID of a board, where this player is on roll.
     pub fn of_board(board: &Board, on_roll: Player) -> PositionId
         ensures { result.text.bytes ≡ position_text board.now on_roll }
     {
@@ -42,7 +42,7 @@ impl PositionId {
         }
     }
 
-    /// Returns the text of the ID, which has 14 characters.
+    /// Returns its text, which has 14 characters.
     pub fn as_str(&self) -> &str
         ensures { result.now ≡ self.now.text.bytes }
     {
@@ -60,7 +60,7 @@ impl fmt::Display for PositionId {
     }
 }
 
-/// Appends the points of a player, from their 1 to their bar.
+/// Adds the points of a player, from his 1 to his bar.
 fn put_side(bits: &mut Bits, counts: &[u8])
     requires points { length counts.now ≡ 26 }
     requires room { array_vec_len bits.old ≤ 40 }
@@ -71,7 +71,7 @@ fn put_side(bits: &mut Bits, counts: &[u8])
     put_points(bits, &counts[1..]);
 }
 
-/// Appends points in their order.
+/// Adds points in their order.
 fn put_points(bits: &mut Bits, counts: &[u8])
     requires { array_vec_len bits.old + length counts.now + sum counts.now ≤ 80 }
     ensures items { bits.new.items ≡ bits.old.items ++ flat_map point_bits counts.now }
@@ -82,7 +82,7 @@ fn put_points(bits: &mut Bits, counts: &[u8])
     }
 }
 
-/// Appends the checkers on a point.
+/// Adds the checkers on a point.
 fn put_point(bits: &mut Bits, count: u8)
     requires { array_vec_len bits.old + count < 80 }
     ensures items { bits.new.items ≡ bits.old.items ++ point_bits count }

@@ -1,13 +1,12 @@
-//! The player on roll, and the player who is to act.
+//! Who is on roll, and who is to act.
 ghost use Rattle.std.specs.Prelude.{◌≡◌};
 ghost use Rattle.bg_ids.specs.Turns.{on_roll as player_on_roll, to_act as player_to_act};
 
 use bg_board::Player;
 use bg_match::Phase;
 
-/// Returns the player on roll: the one who is to roll or has rolled. They stay on roll while the
-/// other player answers their double or their offer to resign. Before a game that is X, and after
-/// the match the player who lost it.
+/// Returns the player on roll: who rolls or has rolled, also while the other one answers his double
+/// or his offer to resign. Before a game that is X, and after the match the player who lost it.
 pub fn on_roll(phase: Phase) -> Player
     ensures { result ≡ player_on_roll phase }
 {
@@ -18,8 +17,8 @@ pub fn on_roll(phase: Phase) -> Player
     }
 }
 
-/// Returns the player who is to act: the one who answers a double or an offer to resign, and
-/// otherwise the player on roll.
+/// Returns the player who is to act: who answers a double or an offer to resign, and else the
+/// player on roll.
 pub fn to_act(phase: Phase) -> Player
     ensures { result ≡ player_to_act phase }
 {

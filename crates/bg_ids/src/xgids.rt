@@ -4,21 +4,21 @@ ghost use Rattle.std.specs.Fmt.{decimal};
 ghost use Rattle.arrayvec.specs.ArrayString.{array_string_len};
 ghost use Rattle.bg_ids.specs.Xgids.{mark, place_mark as mark_at, places_text, owner_sign as sign_of_owner};
 ghost use Rattle.bg_ids.specs.Xgids.{player_sign as sign_of_player, dice_sign, xgid_fault, xgid_text};
-ghost use Rattle.bg_ids.specs.Xgids.{xgid_fault_words, behind_colon};
+ghost use Rattle.bg_ids.specs.Xgids.{xgid_fault_words, behind_colon, cube_text, turn_text, score_text, terms_text};
 
 use crate::match_ids::{doublings, is_crawford, smaller_pips};
 use crate::turns::on_roll;
 use arrayvec::ArrayString;
 use bg_board::{BAR, Board, OFF, Player};
-use bg_match::{GREATEST_CUBE, Phase, Standing};
+use bg_match::{Cube, GREATEST_CUBE, Phase, Standing};
 use itoa::Buffer;
 use std::fmt;
 
-/// The greatest number of characters in an XGID: five, 26 places, and nine fields of at most six
-/// with their colons.
+/// Room for the characters of an XGID: five, 26 places, and nine fields of at most six with their
+/// colons.
 const MOST_CHARACTERS: usize = 85;
 
-/// The number of places in an XGID: the points and both bars.
+/// How many places an XGID has: the points and both bars.
 const PLACES: u8 = 26;
 
 /// Why a standing has no XGID.
@@ -26,7 +26,7 @@ const PLACES: u8 = 26;
 pub enum XgidFault {
     /// A game is to be opened, and nobody is on roll.
     NoGame,
-    /// An offer to resign is to be answered, for which an XGID has no sign.
+    /// An offer to resign is to be answered, which an XGID has no sign for.
     Resigned,
     /// The match is over.
     Over,
@@ -58,8 +58,9 @@ pub struct Xgid {
 impl Xgid {
     /// Returns the XGID of a standing.
     ///
-    /// [`XgidFault::NoGame`] where a game is to be opened, [`XgidFault::Resigned`] where an offer
-    /// to resign is to be answered, [`XgidFault::Over`] after the match.
+    /// # Errors
+    /// [`XgidFault::NoGame`] where a game is to be opened, [`XgidFault::Resigned`] while an offer
+    /// to resign is answered, [`XgidFault::Over`] after the match.
     pub fn of(standing: &Standing) -> Result<Xgid, XgidFault>
         ensures ok { IsOk result ↔ (xgid_fault standing.now.phase ≡ None) }
         ensures value { IfOk result (λ id. id.text.bytes ≡ xgid_text standing.now) }
@@ -73,7 +74,7 @@ impl Xgid {
         }
     }
 
-    /// Returns the text of the ID, which has 47 to 55 characters.
+    /// Returns its text, which has 47 to 55 characters.
     pub fn as_str(&self) -> &str
         ensures { result.now ≡ self.now.text.bytes }
     {
@@ -94,7 +95,7 @@ impl fmt::Display for Xgid {
 /// The text of an XGID, as it grows.
 type Text = ArrayString<MOST_CHARACTERS>;
 
-/// Returns the reason why a standing in this phase has no XGID, if it has none.
+/// Returns why a standing in this phase has no XGID.
 fn fault_in(phase: Phase) -> Option<XgidFault>
     ensures { result ≡ xgid_fault phase }
 {
@@ -106,29 +107,67 @@ fn fault_in(phase: Phase) -> Option<XgidFault>
     }
 }
 
-/// Returns the text of a standing that has an XGID.
+/// Returns the text of a standing that has one.
 fn text_of(standing: &Standing) -> Text
     requires { xgid_fault standing.now.phase ≡ None }
     ensures { result.bytes ≡ xgid_text standing.now }
 {
-    let (x_score, o_score) = standing.score();
-    let cube = standing.cube();
     let mut text = ArrayString::new();
     text.push_str("XGID=");
     put_places(&mut text, &standing.board());
-    put_number(&mut text, doublings(cube.value));
-    put_sign(&mut text, owner_sign(cube.owner));
-    put_sign(&mut text, owner_sign(Some(on_roll(standing.phase()))));
-    put_dice(&mut text, standing.phase());
-    put_number(&mut text, x_score);
-    put_number(&mut text, o_score);
-    put_number(&mut text, is_crawford(standing).into());
-    put_number(&mut text, standing.length().into());
-    put_number(&mut text, doublings(GREATEST_CUBE));
+    put_cube(&mut text, standing.cube());
+    put_turn(&mut text, standing.phase());
+    put_score(&mut text, standing.score());
+    put_terms(&mut text, standing);
     text
 }
 
-/// Appends the 26 places: the bar of O, the points of X from 1 to 24, and the bar of X.
+/// Adds how often the cube was doubled, and whose it is.
+#[tactic(auto, unfolding(crate::specs::Xgids::cube_text))]
+fn put_cube(text: &mut Text, cube: Cube)
+    requires { array_string_len text.old ≤ 31 }
+    ensures bytes { text.new.bytes ≡ text.old.bytes ++ cube_text cube }
+    ensures fits { array_string_len text.new ≤ array_string_len text.old + 12 }
+{
+    put_number(text, doublings(cube.value));
+    put_sign(text, owner_sign(cube.owner));
+}
+
+/// Adds who is on roll, and the dice.
+#[tactic(auto, unfolding(crate::specs::Xgids::turn_text))]
+fn put_turn(text: &mut Text, phase: Phase)
+    requires { array_string_len text.old ≤ 43 }
+    ensures bytes { text.new.bytes ≡ text.old.bytes ++ turn_text phase }
+    ensures fits { array_string_len text.new ≤ array_string_len text.old + 12 }
+{
+    put_sign(text, owner_sign(Some(on_roll(phase))));
+    put_dice(text, phase);
+}
+
+/// Adds the score, that of X first.
+#[tactic(auto, unfolding(crate::specs::Xgids::score_text))]
+fn put_score(text: &mut Text, score: (u16, u16))
+    requires { array_string_len text.old ≤ 55 }
+    ensures bytes { text.new.bytes ≡ text.old.bytes ++ score_text score.0 score.1 }
+    ensures fits { array_string_len text.new ≤ array_string_len text.old + 12 }
+{
+    put_number(text, score.0);
+    put_number(text, score.1);
+}
+
+/// Adds whether the game is the Crawford game, the length of the match, and how often a cube can be
+/// doubled.
+#[tactic(auto, using(crate::proofs::Places::yes_byte), unfolding(crate::specs::Xgids::terms_text))]
+fn put_terms(text: &mut Text, standing: &Standing)
+    requires { array_string_len text.old ≤ 67 }
+    ensures bytes { text.new.bytes ≡ text.old.bytes ++ terms_text standing.now }
+{
+    put_number(text, is_crawford(standing).into());
+    put_number(text, standing.length().into());
+    put_number(text, doublings(GREATEST_CUBE));
+}
+
+/// Adds the 26 places: the bar of O, the points of X from 1 to 24, and the bar of X.
 fn put_places(text: &mut Text, board: &Board)
     requires { array_string_len text.old ≤ 5 }
     ensures bytes { text.new.bytes ≡ text.old.bytes ++ places_text board.now }
@@ -154,7 +193,7 @@ fn place_mark(board: &Board, place: u8) -> u8
     }
 }
 
-/// Returns the sign of the cube's owner: 1 for X, -1 for O, 0 where the cube is in the middle.
+/// Returns whose the cube is: 1 for X, -1 for O, 0 in the middle.
 fn owner_sign(owner: Option<Player>) -> &'static str
     ensures sign { result.now ≡ sign_of_owner owner }
     ensures fits { length result.now ≤ 2 }
@@ -166,7 +205,7 @@ fn owner_sign(owner: Option<Player>) -> &'static str
     }
 }
 
-/// Appends a sign behind a colon.
+/// Adds a sign behind a colon.
 fn put_sign(text: &mut Text, sign: &str)
     requires room { array_string_len text.old ≤ 79 }
     requires short { length sign.now ≤ 5 }
@@ -177,7 +216,7 @@ fn put_sign(text: &mut Text, sign: &str)
     text.push_str(sign);
 }
 
-/// Appends a number behind a colon.
+/// Adds a number behind a colon.
 fn put_number(text: &mut Text, number: u16)
     requires { array_string_len text.old ≤ 79 }
     ensures bytes { text.new.bytes ≡ text.old.bytes ++ behind_colon (decimal number) }
@@ -186,8 +225,8 @@ fn put_number(text: &mut Text, number: u16)
     put_sign(text, Buffer::new().format(number));
 }
 
-/// Appends the dice behind a colon, the greater one first. Appends 00 before the roll, and D where
-/// a double is to be answered.
+/// Adds the dice behind a colon, the greater one first, or 00 before the roll, or D while a double
+/// is answered.
 fn put_dice(text: &mut Text, phase: Phase)
     requires { array_string_len text.old ≤ 79 }
     ensures bytes { text.new.bytes ≡ text.old.bytes ++ behind_colon (dice_sign phase) }

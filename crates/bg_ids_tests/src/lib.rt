@@ -2,6 +2,8 @@
 #![tactic(auto)]
 
 #[cfg(test)]
+mod boards;
+#[cfg(test)]
 mod rows;
 #[cfg(test)]
 mod words;

@@ -1,5 +1,5 @@
-//! Standings, each with its Position ID, its Match ID, and its XGID or why it has none. Both IDs are as GNU Backgammon
-//! prints them, and it reads each XGID as this standing.
+//! Standings, each with its Position ID, its Match ID, and its XGID or why it has none. Both IDs
+//! are as GNU Backgammon prints them, and it reads each XGID as this standing.
 use crate::words::{parted, standing};
 use bg_ids::{MatchId, PositionId, Xgid};
 use bg_match::Standing;
@@ -48,8 +48,8 @@ fn check_rows(rt: &(impl AllocGlobal + Abort), rows: &str) {
     }
 }
 
-/// Starts of games, before and after the first roll. The greater die comes first, whichever was named first. In a match
-/// of one point the Crawford game is not told.
+/// Starts of games, before and after the first roll. The greater die comes first, whichever was
+/// named first. In a match of one point the Crawford game is not told.
 const STARTS: &str = "\
 7, start, X acts, 1, 0-0, plain; 4HPwATDgc/ABMA cAngAAAAAAAE XGID=-b----E-C---eE---c-e----B-:0:0:1:00:0:0:0:7:7
 7, start, O acts, 1, 0-0, plain; 4HPwATDgc/ABMA MAHgAAAAAAAE XGID=-b----E-C---eE---c-e----B-:0:0:-1:00:0:0:0:7:7

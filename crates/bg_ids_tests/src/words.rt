@@ -1,5 +1,5 @@
-//! What the words of the tests say: boards, phases, cubes, and standings part by part. A word that says nothing of the
-//! kind ends the test.
+//! What the words of the tests say: boards, phases, cubes, and standings part by part. A word that
+//! says nothing of the kind ends the test.
 use bg_board::{Board, Die, Player};
 use bg_match::{Cube, Level, Phase, Rules, Standing};
 use bg_turns::Dice;
@@ -57,7 +57,7 @@ fn counts(rt: &impl Abort, words: &str) -> [u8; 26] {
 }
 
 /// The boards of the tests, the checkers of X before those of O.
-const BOARDS: [(&str, &str); 16] = [
+const BOARDS: [(&str, &str); 18] = [
     ("start", "24:2 13:5 8:3 6:5 / 24:2 13:5 8:3 6:5"),
     (
         "mid",
@@ -86,6 +86,8 @@ const BOARDS: [(&str, &str); 16] = [
     ("borne off", "0:15 / 6:2 1:4 0:9"),
     ("gone", "0:15 / 1:3 0:12"),
     ("lost", "23:1 6:14 / 0:15"),
+    ("barred", "25:15 / 25:15"),
+    ("all off", "0:15 / 0:15"),
 ];
 
 /// A board by its name.
@@ -100,7 +102,8 @@ const LEVELS: [(&str, Level); 3] = [
     ("backgammon", Level::Backgammon),
 ];
 
-/// A phase, as "opening", "X acts", "X moves 3 1", "X is doubled", "X resigned gammon 3 1" or "X won".
+/// A phase, as "opening", "X acts", "X moves 3 1", "X is doubled", "X resigned gammon 3 1" or "X
+/// won".
 fn phase(rt: &impl Abort, words: &str) -> Phase {
     if words == "opening" {
         return Phase::Opening;
@@ -157,8 +160,9 @@ fn score(rt: &impl Abort, words: &str) -> (u16, u16) {
     )
 }
 
-/// The standing that has these parts, in the first game by its number: the length, the board, the phase, the cube, the
-/// score, and whether it is the Crawford game, as "7, start, X acts, 2 O, 3-2, plain".
+/// The standing that has these parts, in the first game by its number: the length, the board, the
+/// phase, the cube, the score, and whether it is the Crawford game, as "7, start, X acts, 2 O, 3-2,
+/// plain".
 pub(crate) fn standing(rt: &impl Abort, line: &str) -> Standing {
     let (length, rest) = parted(rt, line, ", ");
     let (points, rest) = parted(rt, rest, ", ");
