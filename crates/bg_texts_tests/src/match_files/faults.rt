@@ -90,7 +90,7 @@ const GAMES: [(&str, &str); 9] = [
     ("31: 8/5 6/5\n      Wins 4 points\n", "6 WrongPoints"),
     (
         "31: 8/5 6/5\n                  Wins 1 point\n",
-        "6 OutOfTurn",
+        "6 ResignsOutOfTurn",
     ),
     (
         "31: 8/5 6/5\n      Wins 1 point and the match\n",
@@ -143,7 +143,7 @@ const SEVERAL: [(&str, &str); 16] = [
     ("31: 8/5 6/5  Drops\n      Wins 9 points\n", "5 OutOfTurn"),
     (
         "31: 8/5 6/5\n                  Wins 9 points\n",
-        "6 OutOfTurn",
+        "6 ResignsOutOfTurn",
     ),
     (
         "31: 8/5 6/5\n      Wins 9 points and the match\n",

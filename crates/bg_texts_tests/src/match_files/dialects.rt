@@ -1,0 +1,102 @@
+//! Spellings of other programs: each is read as its plain form is, or refused with a reason.
+use super::records::THREE_POINTS;
+use bg_mat::{ImportFault, Imported, import_mat};
+use bg_match::{Record, Rules};
+use std::alloc::{AllocError, Global};
+use std::test::Fail;
+
+/// A spelling, and behind a bar its plain form or its refusal. A tilde stands for a line feed. Rows of a first game stand
+/// behind the lines before it; what begins with an at sign is a whole file.
+const SPELLINGS: &str = "\
+@\u{FEFF} 3 point match~Game 1~X : 0 O : 0~31: 8/5 6/5 | 31: 8/5 6/5
+@ 3 Point MATCH~gAME 1~X : 0 O : 0~31: 8/5 6/5 | 31: 8/5 6/5
+@ 3 POINTS match~Game 1:~X : 0 O : 0~31: 8/5 6/5 | 31: 8/5 6/5
+@# x~[Site \"y\"]~; [Crawford \"On\"]~ 3 point match~Game 1~X : 0 O : 0~31: 8/5 6/5 | 31: 8/5 6/5
+@\t3\tpoint match~Game\t1~X : 0\t\tO : 0~1)\t31: 8/5\t6/5\t42: 8/4 6/4 | 31: 8/5 6/5 42: 8/4 6/4
+31: 8/5 6/5 doubles => 2~TAKES 42: 8/4 6/4 | 31: 8/5 6/5 Doubles => 2~Takes 42: 8/4 6/4
+31: 8/5 6/5 Double => 2~Take 42: 8/4 6/4 | 31: 8/5 6/5 Doubles => 2~Takes 42: 8/4 6/4
+31: 8/5 6/5 Doubles=>2~Drop | 31: 8/5 6/5 Doubles => 2~Drops
+31: 8/5 6/5 Doubles =>2~drops | 31: 8/5 6/5 Doubles => 2~Drops
+31: 8/5 6/5 Double~Drops | 31: 8/5 6/5 Doubles => 2~Drops
+31: 8/5 6/5 Doubles=>4 | refused at line 5: not twice the cube
+31: 8/5 6/5 Doubles=2 | refused at line 5: not a line of a match file
+31: 8/5 6/5~ WINS 2 Points | 31: 8/5 6/5~ Wins 2 points
+31: 8/5 6/5~ win 3 point AND the MATCH | 31: 8/5 6/5~ Wins 3 points and the match
+31:8/5 6/5 42:8/4 6/4 | 31: 8/5 6/5 42: 8/4 6/4
+1)31:8/5 6/5~2) 42: | refused at line 6: out of turn
+1)31:8/5 6/5 | 31: 8/5 6/5
+31: 8/5 6/5~2)~ 3)  ~                 42: 8/4 6/4 | 31: 8/5 6/5 42: 8/4 6/4
+31: 8/5 6/5~2) hello | refused at line 6: not a line of a match file
+31: 8/5 6/5 62: 24/18 13/11~61: 13/7* 8/7 41: BAR/21 11/10 | 31: 8/5 6/5 62: 24/18 13/11~61: 13/7* 8/7 41: 25/21 11/10
+31: 8/5 6/5 62: 24/18 13/11~61: 13/7* 8/7 66: Cannot Move~51: 13/8 6/5 | 31: 8/5 6/5 62: 24/18 13/11~61: 13/7* 8/7 66:~51: 13/8 6/5
+31: 8/5 6/5 62: 24/18 13/11~61: 13/7* 8/7 66:cannot move | 31: 8/5 6/5 62: 24/18 13/11~61: 13/7* 8/7 66:
+31: 8/5 6/5 42: Cannot Move | refused at line 5: no legal turn has this movement
+31: 8/5 6/5 42: Cannot Go | refused at line 5: not a line of a match file
+31: 8/5 6/5 42: ???? | refused at line 5: a turn that is not known
+31: ? | refused at line 5: a turn that is not known
+31: 8/5 6/5 ???? | refused at line 5: not a line of a match file
+31: 8/5 6/5 Beaver => 4 | refused at line 5: a beaver
+31: 8/5 6/5 RACCOONS | refused at line 5: a beaver
+31: 8/5 6/5~                 Wins 1 point | refused at line 6: the loser resigns out of turn
+31: 8/5 6/5 42: 8/4 6/4~ Wins 1 point | refused at line 6: the loser resigns out of turn
+# x | refused at line 5: not a line of a match file
+";
+
+/// What is read of a text, in which a tilde stands for a line feed.
+fn read_text(alloc: Global, text: &str) -> Result<Result<Imported, ImportFault>, AllocError> {
+    let mut bytes = Vec::new(alloc);
+    if !text.starts_with('@') {
+        bytes.extend_from_slice(THREE_POINTS.as_bytes())?;
+    }
+    for byte in text.as_bytes() {
+        match *byte {
+            b'@' => {}
+            b'~' => bytes.push(b'\n')?,
+            other => bytes.push(other)?,
+        }
+    }
+    Ok(import_mat(alloc, 7, Rules::One, bytes.as_slice()))
+}
+
+/// Whether a fault has these words.
+fn has_words(alloc: Global, fault: ImportFault, words: &str) -> Result<bool, AllocError> {
+    let said = format!(in alloc; "{fault}")?;
+    Ok(said.as_str() == words)
+}
+
+/// Whether two records have the same entries.
+fn are_same(read: &Record, expected: &Record) -> bool {
+    for written in 0..expected.len() {
+        if read.entry(written + 1) != expected.entry(written + 1) {
+            return false;
+        }
+    }
+    read.len() == expected.len()
+}
+
+/// Whether a spelling is read as its plain form, or refused so.
+fn is_read_as(alloc: Global, spelling: &str, plain: &str) -> Result<bool, AllocError> {
+    match read_text(alloc, spelling)? {
+        Ok(imported) => match read_text(alloc, plain)? {
+            Ok(expected) => Ok(are_same(&imported.record, &expected.record)),
+            Err(_) => Ok(false),
+        },
+        Err(fault) => has_words(alloc, fault, plain),
+    }
+}
+
+/// Whether a row holds.
+fn holds(alloc: Global, row: &str) -> Result<bool, AllocError> {
+    match row.split_once(" | ") {
+        Some((spelling, plain)) => is_read_as(alloc, spelling, plain),
+        None => Ok(false),
+    }
+}
+
+#[test]
+fn spellings_of_other_programs(rt: HostRuntime) -> Result<(), Fail> {
+    for row in SPELLINGS.lines() {
+        assert!(rt; holds(rt.alloc(), row)?, "{row}");
+    }
+    Ok(())
+}
