@@ -2,9 +2,9 @@
 ghost use Rattle.std.specs.Prelude.{◌≡◌, ◌<◌, ◌≤◌, ◌+◌, ◌++◌, length, IfOk, IfErr, IsOk, None, Some, ◌↔◌};
 ghost use Rattle.std.specs.Fmt.{decimal};
 ghost use Rattle.arrayvec.specs.ArrayString.{array_string_len};
-ghost use Rattle.bg_ids.specs.Xgids.{mark, place_mark as mark_at, places_text, owner_sign as sign_of_owner};
-ghost use Rattle.bg_ids.specs.Xgids.{player_sign as sign_of_player, dice_sign, xgid_fault, xgid_text};
-ghost use Rattle.bg_ids.specs.Xgids.{xgid_fault_words, behind_colon, cube_text, turn_text, score_text, terms_text};
+ghost use Rattle.bg_ids.specs.Xgids.{place_mark as mark_at, places_text, owner_sign as sign_of_owner};
+ghost use Rattle.bg_ids.specs.Xgids.{dice_sign, xgid_fault, xgid_text};
+ghost use Rattle.bg_ids.specs.Xgids.{behind_colon, cube_text, turn_text, score_text, terms_text};
 
 use crate::match_ids::{doublings, is_crawford, smaller_pips};
 use crate::turns::on_roll;

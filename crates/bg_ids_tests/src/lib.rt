@@ -6,4 +6,6 @@ mod boards;
 #[cfg(test)]
 mod rows;
 #[cfg(test)]
+mod uses;
+#[cfg(test)]
 mod words;
