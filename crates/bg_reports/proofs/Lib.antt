@@ -4,3 +4,4 @@ pub mod LineAt
 pub mod SameFronts
 mod LastLines
 mod SaidFaults
+mod MatchFileVerdicts
