@@ -9,7 +9,7 @@ use std::alloc::Global;
 const ABOUT_ID: &str =
     "Name where the match stands whose transcript is on the standard input, for other programs.
 
-    $ printf 'length 7\nopen 3 1\n' | bg_relay id
+    $ printf 'length 7\\nopen 3 1\\n' | bg_relay id
     Position ID: 4HPwATDgc/ABMA
     Match ID: cInlAAAAAAAE
     XGID=-b----E-C---eE---c-e----B-:0:0:1:31:0:0:0:7:7
