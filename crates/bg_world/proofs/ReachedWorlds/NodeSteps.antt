@@ -1,14 +1,15 @@
 -- What the node of a party does over honest devices is what the event does to the world.
-use Rattle.std.specs.Prelude.{ℕ, zero, suc, Option, Some, None, MatchOption, ⊤}
-use Rattle.std.proofs.Common.{sym, ap, subst, ◌∙◌}
+use Rattle.std.specs.Prelude.{◌≡◌, ℕ, zero, suc, Option, Some, None, MatchOption, ⊤}
+use Rattle.std.proofs.Common.{refl, sym, ap, subst, ◌∙◌}
 use Rattle.bg_board.specs.declared.players.Player.{Player}
 use Rattle.bg_board.specs.declared.players.Player.TheVariants.{X, O}
 use Rattle.bg_match.specs.declared.actions.Action.{Action}
 use Rattle.bg_wire.specs.Parties.{party_of}
+use Rattle.bg_party.specs.Views.{SeatView}
 use Rattle.bg_world.specs.Worlds.Calls.{Calls, ChooseCalls, DueCalls, RestartCalls, SaveCalls, TakeCalls, TickCalls}
 use Rattle.bg_world.specs.Worlds.Interleavings.{NodeCalls, NodeRestarts, NodeSaves, NodeTakes, NodeTicks, with_referee_node, with_seat_node}
 use Rattle.bg_world.specs.Worlds.Nodes.{RefereeNodeView, SeatNodeView}
-use Rattle.bg_world.specs.Worlds.Views.{LinkView, WorldView}
+use Rattle.bg_world.specs.Worlds.Views.{KeeperView, LinkView, WorldView, seat_core, with_seat_core, with_seat_keeper}
 use Rattle.bg_world.specs.declared.events.Event.{Event}
 use Rattle.bg_world.specs.declared.events.Event.TheVariants as events
 use Rattle.bg_world.specs.declared.events.Outcome.{Outcome}
@@ -52,63 +53,63 @@ tick_calls_referee w o new h =
 
 -- ---- a seat
 
+-- a world whose seat is put back is as it was
+put_back : (w : WorldView) (player : Player) → with_seat_core w player (seat_core w player) ≡ w
+put_back w X = refl
+put_back w O = refl
+
+-- so it is over another link
+put_back_over : (w : WorldView) (player : Player) (link : LinkView)
+    → with_seat_core (record w { link = link }) player (seat_core w player) ≡ record w { link = link }
+put_back_over w X link = refl
+put_back_over w O link = refl
+
 choose_calls : (w : WorldView) (player : Player) (action : Action) (o : Outcome) (new : WorldView)
     → NodeCalls ⊤ ⊤ w (events.Choose player action) o new → ChooseCalls w player action o new
-choose_calls w X action o new h = subst (λ (v : WorldView). ChooseCalls w X action o v) (sym h.2)
-    (cases w.x
-    (λ d. (d.0, ap (with_seat_node w X) d.1))
-    (λ core d. (d.0, d.1, d.2, d.3, ap (with_seat_node w X) d.4))
-    h.1)
-choose_calls w O action o new h = subst (λ (v : WorldView). ChooseCalls w O action o v) (sym h.2)
-    (cases w.o
-    (λ d. (d.0, ap (with_seat_node w O) d.1))
-    (λ core d. (d.0, d.1, d.2, d.3, ap (with_seat_node w O) d.4))
+choose_calls w player action o new h =
+    let at = λ (n : SeatNodeView). with_seat_node w player n in
+    subst (λ (v : WorldView). ChooseCalls w player action o v) (sym h.2)
+    (cases (seat_core w player)
+    (λ d. (d.0, ap at d.1 ∙ put_back w player))
+    (λ core d. (d.0, d.1, d.2, d.3, ap at d.4))
     h.1)
 
 take_calls_seat : (w : WorldView) (player : Player) (pick word : ℕ) (o : Outcome) (new : WorldView)
     → NodeTakes ⊤ w (roles.Seat player) (party_of player) pick word o new
     → TakeCalls ⊤ w (roles.Seat player) (party_of player) pick word o new
-take_calls_seat w X pick word o new h =
-    let at = λ (n : SeatNodeView). with_seat_node (record w { link = h.0 }) X n in
-    subst (λ (v : WorldView). TakeCalls ⊤ w (roles.Seat X) (party_of X) pick word o v) (sym h.3)
-    (cases w.x
-    (λ d. (d.0, ap at d.2 ∙ ap (λ (l : LinkView). record w { link = l }) d.1))
-    (λ core d. (h.0, d.0, d.1, ap at d.2))
-    h.2)
-take_calls_seat w O pick word o new h =
-    let at = λ (n : SeatNodeView). with_seat_node (record w { link = h.0 }) O n in
-    subst (λ (v : WorldView). TakeCalls ⊤ w (roles.Seat O) (party_of O) pick word o v) (sym h.3)
-    (cases w.o
-    (λ d. (d.0, ap at d.2 ∙ ap (λ (l : LinkView). record w { link = l }) d.1))
+take_calls_seat w player pick word o new h =
+    let at = λ (n : SeatNodeView). with_seat_node (record w { link = h.0 }) player n in
+    subst (λ (v : WorldView). TakeCalls ⊤ w (roles.Seat player) (party_of player) pick word o v) (sym h.3)
+    (cases (seat_core w player)
+    (λ d. (d.0, ap at d.2 ∙ put_back_over w player h.0 ∙ ap (λ (l : LinkView). record w { link = l }) d.1))
     (λ core d. (h.0, d.0, d.1, ap at d.2))
     h.2)
 
 tick_calls_seat : (w : WorldView) (player : Player) (o : Outcome) (new : WorldView)
     → NodeTicks ⊤ w (roles.Seat player) o new → TickCalls ⊤ w (roles.Seat player) o new
-tick_calls_seat w X o new h =
-    let at = λ (n : SeatNodeView). with_seat_node (record w { link = h.0 }) X n in
-    subst (λ (v : WorldView). TickCalls ⊤ w (roles.Seat X) o v) (sym h.3)
-    (cases w.x
-    (λ d. (d.0, ap at d.2 ∙ ap (λ (l : LinkView). record w { link = l }) d.1))
+tick_calls_seat w player o new h =
+    let at = λ (n : SeatNodeView). with_seat_node (record w { link = h.0 }) player n in
+    subst (λ (v : WorldView). TickCalls ⊤ w (roles.Seat player) o v) (sym h.3)
+    (cases (seat_core w player)
+    (λ d. (d.0, ap at d.2 ∙ put_back_over w player h.0 ∙ ap (λ (l : LinkView). record w { link = l }) d.1))
     (λ core d. (h.0, d.0, d.1, ap at d.2))
     h.2)
-tick_calls_seat w O o new h =
-    let at = λ (n : SeatNodeView). with_seat_node (record w { link = h.0 }) O n in
-    subst (λ (v : WorldView). TickCalls ⊤ w (roles.Seat O) o v) (sym h.3)
-    (cases w.o
-    (λ d. (d.0, ap at d.2 ∙ ap (λ (l : LinkView). record w { link = l }) d.1))
-    (λ core d. (h.0, d.0, d.1, ap at d.2))
-    h.2)
+
+-- a seat and its keeper are put in place in either order
+either_order : (w : WorldView) (player : Player) (core : Option SeatView) (keeper : KeeperView)
+    → with_seat_core (with_seat_keeper w player keeper) player core
+    ≡ with_seat_keeper (with_seat_core w player core) player keeper
+either_order w X core keeper = refl
+either_order w O core keeper = refl
 
 save_calls_seat : (w : WorldView) (player : Player) (o : Outcome) (new : WorldView)
     → NodeSaves ⊤ w (roles.Seat player) o new → SaveCalls ⊤ w (roles.Seat player) o new
-save_calls_seat w X o new h = ((h.0).keeper, (h.0).core, (h.1).0, h.2)
-save_calls_seat w O o new h = ((h.0).keeper, (h.0).core, (h.1).0, h.2)
+save_calls_seat w player o new h = (h.0, (h.1).core, (h.2).0, h.3 ∙ either_order w player (h.1).core h.0)
 
 restart_calls_seat : (w : WorldView) (player : Player) (party : ℕ) (o : Outcome) (new : WorldView)
     → NodeRestarts ⊤ w (roles.Seat player) party o new → RestartCalls ⊤ w (roles.Seat player) party o new
-restart_calls_seat w X party o new h = ((h.0).keeper, (h.0).core, (h.1).0, h.2)
-restart_calls_seat w O party o new h = ((h.0).keeper, (h.0).core, (h.1).0, h.2)
+restart_calls_seat w player party o new h =
+    (h.0, (h.1).core, (h.2).0, h.3 ∙ either_order w player (h.1).core h.0)
 
 -- ---- any event
 
@@ -120,7 +121,7 @@ node_calls w (events.Take (suc zero) pick word) o new h = take_calls_seat w X pi
 node_calls w (events.Take (suc (suc zero)) pick word) o new h = take_calls_seat w O pick word o new h
 node_calls w (events.Take (suc (suc (suc i))) pick word) o new h = h
 node_calls w (events.Choose player action) o new h = choose_calls w player action o new h
-node_calls w (events.Save zero) o new h = ((h.0).keeper, (h.0).core, (h.1).0, h.2)
+node_calls w (events.Save zero) o new h = (h.0, (h.1).core, (h.2).0, h.3)
 node_calls w (events.Save (suc zero)) o new h = save_calls_seat w X o new h
 node_calls w (events.Save (suc (suc zero))) o new h = save_calls_seat w O o new h
 node_calls w (events.Save (suc (suc (suc i)))) o new h = h
@@ -128,7 +129,7 @@ node_calls w (events.Tick zero) o new h = tick_calls_referee w o new h
 node_calls w (events.Tick (suc zero)) o new h = tick_calls_seat w X o new h
 node_calls w (events.Tick (suc (suc zero))) o new h = tick_calls_seat w O o new h
 node_calls w (events.Tick (suc (suc (suc i)))) o new h = h
-node_calls w (events.Restart zero) o new h = ((h.0).keeper, (h.0).core, (h.1).0, h.2)
+node_calls w (events.Restart zero) o new h = (h.0, (h.1).core, (h.2).0, h.3)
 node_calls w (events.Restart (suc zero)) o new h = restart_calls_seat w X 1 o new h
 node_calls w (events.Restart (suc (suc zero))) o new h = restart_calls_seat w O 2 o new h
 node_calls w (events.Restart (suc (suc (suc i)))) o new h = h

@@ -1,7 +1,6 @@
 -- Parties that run each in a process of its own, over one network: their calls, one after the other in any order.
 use Rattle.std.specs.Prelude.{◌≡◌, ℕ, List, [], ◌∷◌, ⊤, MatchOption, slice_get, slice_set}
 use Rattle.bg_board.specs.declared.players.Player.{Player}
-use Rattle.bg_board.specs.declared.players.Player.TheVariants.{X, O}
 use Rattle.bg_party.specs.Claims.{WatcherTicks}
 use Rattle.bg_party.specs.Views.{WatcherView, fresh_watcher}
 use Rattle.bg_world.specs.Worlds.Calls.{NoCalls, WatcherTakes}
@@ -9,7 +8,8 @@ use Rattle.bg_world.specs.Devices.LinkCalls.{FollowerTakeCalls, FollowerTickCall
 use Rattle.bg_world.specs.Worlds.Nodes.{RefereeNodeDues, RefereeNodeRestarts, RefereeNodeSaves, RefereeNodeTakes, RefereeNodeTicks, RefereeNodeView}
 use Rattle.bg_world.specs.Worlds.Nodes.{SeatNodeChooses, SeatNodeRestarts, SeatNodeSaves, SeatNodeTakes, SeatNodeTicks, SeatNodeView}
 use Rattle.bg_world.specs.Protocol.Roles.{role}
-use Rattle.bg_world.specs.Worlds.Views.{KeeperView, LinkView, WorldView, parties}
+use Rattle.bg_world.specs.Worlds.Views.{KeeperView, LinkView, WorldView, parties, seat_core, seat_keeper, with_seat_core}
+use Rattle.bg_world.specs.Worlds.Views.{with_seat_keeper}
 use Rattle.bg_world.specs.declared.events.Event.{Event}
 use Rattle.bg_world.specs.declared.events.Event.TheVariants as events
 use Rattle.bg_world.specs.declared.events.Outcome.{Outcome}
@@ -20,18 +20,16 @@ use Rattle.bg_world.specs.declared.roles.Role.TheVariants as roles
 -- ---- the nodes of a world
 
 abbrev pub referee_node : WorldView → RefereeNodeView
-referee_node w = record { id = w.id; terms = w.terms; keeper = w.referee_keeper; core = w.referee }
+referee_node w = record { id = w.id; terms = w.terms; core = w.referee }
 
 abbrev pub with_referee_node : WorldView → RefereeNodeView → WorldView
-with_referee_node w n = record w { referee_keeper = n.keeper; referee = n.core }
+with_referee_node w n = record w { referee = n.core }
 
 abbrev pub seat_node : WorldView → Player → SeatNodeView
-seat_node w X = record { player = X; id = w.id; terms = w.terms; keeper = w.x_keeper; core = w.x }
-seat_node w O = record { player = O; id = w.id; terms = w.terms; keeper = w.o_keeper; core = w.o }
+seat_node w player = record { player = player; id = w.id; terms = w.terms; core = seat_core w player }
 
 abbrev pub with_seat_node : WorldView → Player → SeatNodeView → WorldView
-with_seat_node w X n = record w { x_keeper = n.keeper; x = n.core }
-with_seat_node w O n = record w { o_keeper = n.keeper; o = n.core }
+with_seat_node w player n = with_seat_core w player n.core
 
 -- ---- one event: the node that it names makes its call over the link, and all else stays
 
@@ -66,16 +64,24 @@ NodeTicks honest w (roles.Watcher index) o v =
 
 abbrev pub NodeSaves : Type 0 → WorldView → Role → Outcome → WorldView → Type 0
 NodeSaves honest w roles.Referee o v =
-    (node : RefereeNodeView) × RefereeNodeSaves honest (referee_node w) o node × (v ≡ with_referee_node w node)
+    (keeper : KeeperView) × (node : RefereeNodeView)
+    × RefereeNodeSaves honest w.referee_keeper (referee_node w) o keeper node
+    × (v ≡ with_referee_node (record w { referee_keeper = keeper }) node)
 NodeSaves honest w (roles.Seat player) o v =
-    (node : SeatNodeView) × SeatNodeSaves honest (seat_node w player) o node × (v ≡ with_seat_node w player node)
+    (keeper : KeeperView) × (node : SeatNodeView)
+    × SeatNodeSaves honest (seat_keeper w player) (seat_node w player) o keeper node
+    × (v ≡ with_seat_node (with_seat_keeper w player keeper) player node)
 NodeSaves honest w (roles.Watcher index) o v = NoCalls outcomes.NoSuchParty w o v
 
 abbrev pub NodeRestarts : Type 0 → WorldView → Role → ℕ → Outcome → WorldView → Type 0
 NodeRestarts honest w roles.Referee party o v =
-    (node : RefereeNodeView) × RefereeNodeRestarts honest (referee_node w) o node × (v ≡ with_referee_node w node)
+    (keeper : KeeperView) × (node : RefereeNodeView)
+    × RefereeNodeRestarts honest w.referee_keeper (referee_node w) o keeper node
+    × (v ≡ with_referee_node (record w { referee_keeper = keeper }) node)
 NodeRestarts honest w (roles.Seat player) party o v =
-    (node : SeatNodeView) × SeatNodeRestarts honest (seat_node w player) o node × (v ≡ with_seat_node w player node)
+    (keeper : KeeperView) × (node : SeatNodeView)
+    × SeatNodeRestarts honest (seat_keeper w player) (seat_node w player) o keeper node
+    × (v ≡ with_seat_node (with_seat_keeper w player keeper) player node)
 NodeRestarts honest w (roles.Watcher index) party o v =
     MatchOption (slice_get w.watchers index) (NoCalls outcomes.NoSuchParty w o v)
     (λ core. (o ≡ outcomes.Restarted)

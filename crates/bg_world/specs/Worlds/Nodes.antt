@@ -14,28 +14,25 @@ use Rattle.bg_party.specs.declared.outcomes.ChooseFault.{ChooseFault}
 use Rattle.bg_world.specs.Worlds.Calls.{SeatTakes, WatcherTakes, referee_parts, seat_parts}
 use Rattle.bg_world.specs.Devices.KeeperCalls.{RestartCallsAt, SaveCallsAt}
 use Rattle.bg_world.specs.Devices.LinkCalls.{FollowerTakeCalls, FollowerTickCalls, RefereeTakeCalls, RefereeTickCalls}
-use Rattle.bg_world.specs.Worlds.Views.{KeeperView, LinkView, keeper_view}
-use Rattle.bg_world.specs.declared.devices.Keeper as keeper
+use Rattle.bg_world.specs.Worlds.Views.{KeeperView, LinkView}
 use Rattle.bg_world.specs.declared.events.Outcome.{Outcome}
 use Rattle.bg_world.specs.declared.events.Outcome.TheVariants as outcomes
 use Rattle.bg_world.specs.declared.nodes.referee.RefereeNode.{RefereeNode}
 use Rattle.bg_world.specs.declared.nodes.seat.SeatNode.{SeatNode}
 
--- ---- the referee's node: its match, its keeper, and its core while it is up
+-- ---- the referee's node: its match, and its core while it is up
 
 pub record RefereeNodeView : Type 0 where
   pub id : ℕ
   pub terms : Terms
-  pub keeper : KeeperView
   pub core : Option RefereeView
 
-abbrev pub referee_node_of : {K : Type 0} → keeper.Ghosts K → RefereeNode K → RefereeNodeView
-referee_node_of k n = record { id = n.id; terms = n.terms; keeper = keeper_view k n.keeper; core = n.core }
+abbrev pub referee_node_of : RefereeNode → RefereeNodeView
+referee_node_of n = record { id = n.id; terms = n.terms; core = n.core }
 
 -- up, in a match with no entry
-abbrev pub fresh_referee_node : ℕ → Terms → KeeperView → RefereeNodeView
-fresh_referee_node id terms keeper =
-    record { id = id; terms = terms; keeper = keeper; core = Some (fresh_referee id terms) }
+abbrev pub fresh_referee_node : ℕ → Terms → RefereeNodeView
+fresh_referee_node id terms = record { id = id; terms = terms; core = Some (fresh_referee id terms) }
 
 -- it opens a game, or passes a turn
 abbrev pub RefereeNodeDues : RefereeNodeView → ℕ → Outcome → RefereeNodeView → Type 0
@@ -60,17 +57,17 @@ RefereeNodeTicks honest parties old_link old result new_link new =
     × (new ≡ record old { core = Some after }))
 
 -- it saves
-abbrev pub RefereeNodeSaves : Type 0 → RefereeNodeView → Outcome → RefereeNodeView → Type 0
-RefereeNodeSaves honest old result new =
-    SaveCallsAt referee_parts referee_after_save honest old.keeper old.core result new.keeper new.core
-    × (new ≡ record old { keeper = new.keeper; core = new.core })
+abbrev pub RefereeNodeSaves : Type 0 → KeeperView → RefereeNodeView → Outcome → KeeperView → RefereeNodeView → Type 0
+RefereeNodeSaves honest old_keeper old result new_keeper new =
+    SaveCallsAt referee_parts referee_after_save honest old_keeper old.core result new_keeper new.core
+    × (new ≡ record old { core = new.core })
 
 -- it comes back with what its slots restore
-abbrev pub RefereeNodeRestarts : Type 0 → RefereeNodeView → Outcome → RefereeNodeView → Type 0
-RefereeNodeRestarts honest old result new =
-    RestartCallsAt resumed_referee (fresh_referee old.id old.terms) honest referee old.id old.terms old.keeper result
-    new.keeper new.core
-    × (new ≡ record old { keeper = new.keeper; core = new.core })
+abbrev pub RefereeNodeRestarts : Type 0 → KeeperView → RefereeNodeView → Outcome → KeeperView → RefereeNodeView → Type 0
+RefereeNodeRestarts honest old_keeper old result new_keeper new =
+    RestartCallsAt resumed_referee (fresh_referee old.id old.terms) honest referee old.id old.terms old_keeper result
+    new_keeper new.core
+    × (new ≡ record old { core = new.core })
 
 -- ---- the node of a seat: also its player
 
@@ -78,21 +75,14 @@ pub record SeatNodeView : Type 0 where
   pub player : Player
   pub id : ℕ
   pub terms : Terms
-  pub keeper : KeeperView
   pub core : Option SeatView
 
-abbrev pub seat_node_of : {K : Type 0} → keeper.Ghosts K → SeatNode K → SeatNodeView
-seat_node_of k n =
-    record { player = n.player; id = n.id; terms = n.terms; keeper = keeper_view k n.keeper; core = n.core }
+abbrev pub seat_node_of : SeatNode → SeatNodeView
+seat_node_of n = record { player = n.player; id = n.id; terms = n.terms; core = n.core }
 
-abbrev pub fresh_seat_node : Player → ℕ → Terms → KeeperView → SeatNodeView
-fresh_seat_node player id terms keeper = record {
-  player = player;
-  id = id;
-  terms = terms;
-  keeper = keeper;
-  core = Some (fresh_seat player id terms);
-}
+abbrev pub fresh_seat_node : Player → ℕ → Terms → SeatNodeView
+fresh_seat_node player id terms =
+    record { player = player; id = id; terms = terms; core = Some (fresh_seat player id terms) }
 
 -- it claims what its player chooses
 abbrev pub SeatNodeChooses : SeatNodeView → Action → Outcome → SeatNodeView → Type 0
@@ -114,16 +104,16 @@ SeatNodeTicks honest parties old_link old result new_link new =
     (λ core. (after : SeatView) × FollowerTickCalls SeatTicks honest parties old_link core result new_link after
     × (new ≡ record old { core = Some after }))
 
-abbrev pub SeatNodeSaves : Type 0 → SeatNodeView → Outcome → SeatNodeView → Type 0
-SeatNodeSaves honest old result new =
-    SaveCallsAt seat_parts seat_after_save honest old.keeper old.core result new.keeper new.core
-    × (new ≡ record old { keeper = new.keeper; core = new.core })
+abbrev pub SeatNodeSaves : Type 0 → KeeperView → SeatNodeView → Outcome → KeeperView → SeatNodeView → Type 0
+SeatNodeSaves honest old_keeper old result new_keeper new =
+    SaveCallsAt seat_parts seat_after_save honest old_keeper old.core result new_keeper new.core
+    × (new ≡ record old { core = new.core })
 
-abbrev pub SeatNodeRestarts : Type 0 → SeatNodeView → Outcome → SeatNodeView → Type 0
-SeatNodeRestarts honest old result new =
+abbrev pub SeatNodeRestarts : Type 0 → KeeperView → SeatNodeView → Outcome → KeeperView → SeatNodeView → Type 0
+SeatNodeRestarts honest old_keeper old result new_keeper new =
     RestartCallsAt resumed_seat (fresh_seat old.player old.id old.terms) honest (party_of old.player) old.id old.terms
-    old.keeper result new.keeper new.core
-    × (new ≡ record old { keeper = new.keeper; core = new.core })
+    old_keeper result new_keeper new.core
+    × (new ≡ record old { core = new.core })
 
 -- the claim of a seat that is up
 abbrev pub seat_claim : Option SeatView → Option (ℕ × Action)

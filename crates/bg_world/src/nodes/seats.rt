@@ -8,14 +8,14 @@ use bg_board::Player;
 
 /// The seat of X and the seat of O.
 #[derive(Drop)]
-pub(crate) struct Seats<K> {
-    pub(crate) x: SeatNode<K>,
-    pub(crate) o: SeatNode<K>,
+pub(crate) struct Seats {
+    pub(crate) x: SeatNode,
+    pub(crate) o: SeatNode,
 }
 
-impl<K> Seats<K> {
+impl Seats {
     /// Returns the seat of a player.
-    pub(crate) fn of(&self, player: Player) -> &SeatNode<K>
+    pub(crate) fn of(&self, player: Player) -> &SeatNode
         ensures { result.now ≡ seat_of self.now player }
     {
         match player {
@@ -25,8 +25,8 @@ impl<K> Seats<K> {
     }
 
     /// Returns the seat of a player, for a call that changes it. The other seat stays as it is.
-    pub(crate) fn of_mut(&mut self, player: Player) -> &mut SeatNode<K>
-        ensures* lends { sem 𝓛 (LendsSeat K.row self.entry player result) }
+    pub(crate) fn of_mut(&mut self, player: Player) -> &mut SeatNode
+        ensures* lends { sem 𝓛 (LendsSeat self.entry player result) }
         ensures value { result.now ≡ seat_of self.old player }
     {
         match player {

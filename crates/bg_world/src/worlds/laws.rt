@@ -102,12 +102,12 @@ pub fn processes_agree()
     ensures step { (old : WorldView) (event : Event) (outcome : Outcome) (new : WorldView)
         → NodeCalls ⊤ ⊤ old event outcome new → Calls ⊤ ⊤ old event outcome new }
     // The start of a process is its party's restart, whatever the party held before.
-    ensures referee_begins { (old new : RefereeNodeView) (outcome : Outcome)
-        → RefereeNodeRestarts ⊤ (fresh_referee_node old.id old.terms old.keeper) outcome new
-        → RefereeNodeRestarts ⊤ old outcome new }
-    ensures seat_begins { (old new : SeatNodeView) (outcome : Outcome)
-        → SeatNodeRestarts ⊤ (fresh_seat_node old.player old.id old.terms old.keeper) outcome new
-        → SeatNodeRestarts ⊤ old outcome new }
+    ensures referee_begins { (old new : RefereeNodeView) (old_keeper new_keeper : KeeperView) (outcome : Outcome)
+        → RefereeNodeRestarts ⊤ old_keeper (fresh_referee_node old.id old.terms) outcome new_keeper new
+        → RefereeNodeRestarts ⊤ old_keeper old outcome new_keeper new }
+    ensures seat_begins { (old new : SeatNodeView) (old_keeper new_keeper : KeeperView) (outcome : Outcome)
+        → SeatNodeRestarts ⊤ old_keeper (fresh_seat_node old.player old.id old.terms) outcome new_keeper new
+        → SeatNodeRestarts ⊤ old_keeper old outcome new_keeper new }
     // Any calls are a run, where each process has devices of its own, what was sent is common, and
     // what was saved stays.
     ensures runs { (old : WorldView) (events : List Event) (outcomes : List Outcome) (new : WorldView)

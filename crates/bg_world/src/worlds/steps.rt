@@ -111,7 +111,7 @@ impl<L: Link, K: Keeper> World<L, K> {
             result (view_of L.Link K.Keeper self.new) }
     {
         match Role::of(party) {
-            Role::Referee => self.referee.save(),
+            Role::Referee => self.referee.save(&mut self.keepers.referee),
             Role::Seat(player) => self.save_seat(player),
             Role::Watcher(_) => Outcome::NoSuchParty,
         }
@@ -121,7 +121,10 @@ impl<L: Link, K: Keeper> World<L, K> {
         ensures { SaveCalls K.is_honest (view_of L.Link K.Keeper self.old) (roles.Seat player)
             result (view_of L.Link K.Keeper self.new) }
     {
-        self.seats.of_mut(player).save()
+        match player {
+            Player::X => self.seats.x.save(&mut self.keepers.x),
+            Player::O => self.seats.o.save(&mut self.keepers.o),
+        }
     }
 
     /// Restarts a party.
@@ -130,7 +133,7 @@ impl<L: Link, K: Keeper> World<L, K> {
             result (view_of L.Link K.Keeper self.new) }
     {
         match Role::of(party) {
-            Role::Referee => self.referee.restart(),
+            Role::Referee => self.referee.restart(&mut self.keepers.referee),
             Role::Seat(player) => self.restart_seat(player),
             Role::Watcher(index) => self.restart_watcher(index),
         }
@@ -140,7 +143,10 @@ impl<L: Link, K: Keeper> World<L, K> {
         ensures { (party : ℕ) → RestartCalls K.is_honest (view_of L.Link K.Keeper self.old) (roles.Seat player) party
             result (view_of L.Link K.Keeper self.new) }
     {
-        self.seats.of_mut(player).restart()
+        match player {
+            Player::X => self.seats.x.restart(&mut self.keepers.x),
+            Player::O => self.seats.o.restart(&mut self.keepers.o),
+        }
     }
 
     fn restart_watcher(&mut self, index: usize) -> Outcome

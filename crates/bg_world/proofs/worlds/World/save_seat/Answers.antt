@@ -1,8 +1,12 @@
-use Rattle.bg_world.specs.Worlds.World.{view_of}
-use Rattle.bg_world.proofs.Seats.{seat_saves}
+use Rattle.std.proofs.Common.{refl}
+use Rattle.bg_world.specs.Worlds.Views.{keeper_view}
 use Rattle.bg_world.proofs.worlds.World.save_seat.Goals as goal
 
-pub returns : goal.returns
-returns g c =
-    seat_saves g.K.Keeper g.K.Keeper.is_honest (view_of g.L.Link g.K.Keeper c.args.self.now) c.args.self.now.seats
-    c.args.player c.of_mut.result.now c.save.new.self c.save.result c.of_mut.ensures.value c.save.ensures
+pub returns-in-X : goal.returns-in-X
+returns-in-X g c =
+    rw c.in-X.is (keeper_view g.K.Keeper c.save.new.keeper, (c.save.new.self).core, (c.save.ensures).0, refl)
+
+pub returns-in-O : goal.returns-in-O
+returns-in-O g c =
+    rw c.in-O.is
+    (keeper_view g.K.Keeper c.save-in-O.new.keeper, (c.save-in-O.new.self).core, (c.save-in-O.ensures).0, refl)

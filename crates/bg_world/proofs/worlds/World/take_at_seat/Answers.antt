@@ -9,10 +9,10 @@ invariant_of-self g c =
     let world = c.args.self.now in
     let node = c.take.new.self in
     let stay : AreSeatsOf world.id world.terms (with_seat world.seats c.args.player node) =
-    stay_seats g.K.Keeper world.id world.terms world.seats c.args.player c.of_mut.result.now node
+    stay_seats world.id world.terms world.seats c.args.player c.of_mut.result.now node
     (seats_of world) c.of_mut.ensures.value
-    (taking_keeps g.L.Link.is_honest (link_view g.L.Link world.link) (seat_node_of g.K.Keeper c.of_mut.result.now)
-    c.args.pick c.take.result (link_view g.L.Link c.take.new.link) (seat_node_of g.K.Keeper node)
+    (taking_keeps g.L.Link.is_honest (link_view g.L.Link world.link) (seat_node_of c.of_mut.result.now)
+    c.args.pick c.take.result (link_view g.L.Link c.take.new.link) (seat_node_of node)
     c.take.ensures) in
     record {
       length_in_range = world.length_in_range;

@@ -9,11 +9,11 @@ invariant_of-self g c =
     let world = c.args.self.now in
     let node = c.tick.new.self in
     let stay : AreSeatsOf world.id world.terms (with_seat world.seats c.args.player node) =
-    stay_seats g.K.Keeper world.id world.terms world.seats c.args.player c.of_mut.result.now node
+    stay_seats world.id world.terms world.seats c.args.player c.of_mut.result.now node
     (seats_of world) c.of_mut.ensures.value
     (ticking_keeps g.L.Link.is_honest c.parties-parties.result (link_view g.L.Link world.link)
-    (seat_node_of g.K.Keeper c.of_mut.result.now) c.tick.result (link_view g.L.Link c.tick.new.link)
-    (seat_node_of g.K.Keeper node)
+    (seat_node_of c.of_mut.result.now) c.tick.result (link_view g.L.Link c.tick.new.link)
+    (seat_node_of node)
     c.tick.ensures) in
     record {
       length_in_range = world.length_in_range;
