@@ -17,14 +17,14 @@ use Rattle.bg_processes.specs.WatcherRounds.{WatcherMoment}
 -- ---- a process runs a party of a world, over devices of its own: what was ever sent, and what the slots have, is common
 
 pub record RunsReferee (w : WorldView) (at : RefereeMoment) : Type 0 where
-  pub node : at.node ≡ record (referee_node w) { keeper = (at.node).keeper }
-  pub slots : ((at.node).keeper).slots ≡ (w.referee_keeper).slots
+  pub node : at.node ≡ referee_node w
+  pub slots : (at.keeper).slots ≡ (w.referee_keeper).slots
   pub datagrams : (at.link).sent ≡ (w.link).sent
 
 pub record RunsSeat (player : Player) (w : WorldView) (at : SeatMoment) : Type 0 where
   pub player_is : at.player ≡ player
-  pub node : at.node ≡ record (seat_node w player) { keeper = (at.node).keeper }
-  pub slots : ((at.node).keeper).slots ≡ (seat_keeper w player).slots
+  pub node : at.node ≡ seat_node w player
+  pub slots : (at.keeper).slots ≡ (seat_keeper w player).slots
   pub datagrams : (at.link).sent ≡ (w.link).sent
 
 pub record RunsWatcher (index : ℕ) (w : WorldView) (at : WatcherMoment) : Type 0 where

@@ -9,7 +9,7 @@ use Rattle.bg_referee.specs.declared.outcomes.DueFault.TheVariants as due
 use Rattle.bg_referee.specs.declared.outcomes.TakeOutcome.TheVariants as takes
 use Rattle.bg_world.specs.Worlds.Nodes.{RefereeNodeDues, RefereeNodeRestarts, RefereeNodeSaves, RefereeNodeTakes, RefereeNodeTicks, RefereeNodeView, fresh_referee_node, referee_node_of}
 use Rattle.bg_world.specs.Worlds.Starts.{referee_log}
-use Rattle.bg_world.specs.Worlds.Views.{KeeperView, LinkView, link_view}
+use Rattle.bg_world.specs.Worlds.Views.{KeeperView, LinkView, keeper_view, link_view}
 use Rattle.bg_world.specs.declared.devices.Keeper as keeper
 use Rattle.bg_world.specs.declared.devices.Link as link
 use Rattle.bg_world.specs.declared.events.Event.{Event}
@@ -25,17 +25,23 @@ use Rattle.bg_processes.specs.declared.processes.rounds.Going.{Going}
 
 -- ---- the process at a moment
 
--- its node and its link, the bytes of the key that its dice go by, and what it notes: the attempt at its next entry, how
--- many entries are saved, and for how many ticks nobody was heard of that lacks one
+-- its node with its link and its keeper, the bytes of the key that its dice go by, and what it notes: the attempt at its
+-- next entry, how many entries are saved, and for how many ticks nobody was heard of that lacks one
 pub record RefereeMoment : Type 0 where
   pub node : RefereeNodeView
   pub link : LinkView
+  pub keeper : KeeperView
   pub key : List ℕ
   pub notes : RefereeNotes
 
 abbrev pub referee_moment : {L K : Type 0} → link.Ghosts L → keeper.Ghosts K → RefereeProcess L K → RefereeMoment
-referee_moment l k p =
-    record { node = referee_node_of k p.node; link = link_view l p.link; key = p.key; notes = p.notes }
+referee_moment l k p = record {
+  node = referee_node_of p.node;
+  link = link_view l p.link;
+  keeper = keeper_view k p.keeper;
+  key = p.key;
+  notes = p.notes;
+}
 
 -- its record, where it is up
 abbrev pub log_of : RefereeMoment → Option Log
@@ -63,23 +69,24 @@ pub record NotesOfReferee
 
 module _ (link_honest keeper_honest : Type 0) where
   -- The event is a call of the node: it takes what comes first, and words are those for its next entry.
-  abbrev pub RefereeCalls : RefereeMoment → Event → Outcome → LinkView → RefereeNodeView → Type 0
-  RefereeCalls at (events.Due word) outcome link node =
-      (word ≡ word_at at) × RefereeNodeDues at.node word outcome node × (link ≡ at.link)
-  RefereeCalls at (events.Take party pick word) outcome link node =
+  abbrev pub RefereeCalls : RefereeMoment → Event → Outcome → LinkView → KeeperView → RefereeNodeView → Type 0
+  RefereeCalls at (events.Due word) outcome link keeper node =
+      (word ≡ word_at at) × RefereeNodeDues at.node word outcome node × (link ≡ at.link) × (keeper ≡ at.keeper)
+  RefereeCalls at (events.Take party pick word) outcome link keeper node =
       (party ≡ referee) × (pick ≡ 0) × (word ≡ word_at at)
-      × RefereeNodeTakes link_honest most_parties at.link at.node pick word outcome link node
-  RefereeCalls at (events.Save party) outcome link node =
-      (party ≡ referee) × RefereeNodeSaves keeper_honest at.node outcome node × (link ≡ at.link)
-  RefereeCalls at (events.Tick party) outcome link node =
+      × RefereeNodeTakes link_honest most_parties at.link at.node pick word outcome link node × (keeper ≡ at.keeper)
+  RefereeCalls at (events.Save party) outcome link keeper node =
+      (party ≡ referee) × RefereeNodeSaves keeper_honest at.keeper at.node outcome keeper node × (link ≡ at.link)
+  RefereeCalls at (events.Tick party) outcome link keeper node =
       (party ≡ referee) × RefereeNodeTicks link_honest most_parties at.link at.node outcome link node
-  RefereeCalls at (events.Restart party) outcome link node =
-      (party ≡ referee) × RefereeNodeRestarts keeper_honest at.node outcome node × (link ≡ at.link)
-  RefereeCalls at (events.Choose player action) outcome link node = ⊥
+      × (keeper ≡ at.keeper)
+  RefereeCalls at (events.Restart party) outcome link keeper node =
+      (party ≡ referee) × RefereeNodeRestarts keeper_honest at.keeper at.node outcome keeper node × (link ≡ at.link)
+  RefereeCalls at (events.Choose player action) outcome link keeper node = ⊥
 
   -- an event happens at the process
   pub record RefereeHappens (old : RefereeMoment) (event : Event) (outcome : Outcome) (new : RefereeMoment) : Type 0 where
-    pub calls : RefereeCalls old event outcome new.link new.node
+    pub calls : RefereeCalls old event outcome new.link new.keeper new.node
     pub notes : NotesOfReferee old.notes event outcome (held_entries (log_of new)) new.notes
     pub key : new.key ≡ old.key
 
@@ -177,7 +184,7 @@ module _ (link_honest keeper_honest : Type 0) where
 pub record RefereeBegins
     (honest : Type 0) (id : ℕ) (terms : Terms) (key : List ℕ) (link : LinkView) (keeper : KeeperView) (outcome : Outcome)
     (new : RefereeMoment) : Type 0 where
-  pub restarts : RefereeNodeRestarts honest (fresh_referee_node id terms keeper) outcome new.node
+  pub restarts : RefereeNodeRestarts honest keeper (fresh_referee_node id terms) outcome new.keeper new.node
   pub link_is : new.link ≡ link
   pub key_is : new.key ≡ key
   pub notes_are : new.notes ≡ record {

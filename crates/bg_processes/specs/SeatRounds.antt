@@ -10,7 +10,7 @@ use Rattle.bg_match.specs.declared.phases.Actor.TheVariants.{Seat}
 use Rattle.bg_wire.specs.Parties.{party_of}
 use Rattle.bg_world.specs.Worlds.Nodes.{SeatNodeChooses, SeatNodeRestarts, SeatNodeSaves, SeatNodeTakes, SeatNodeTicks, SeatNodeView, fresh_seat_node, seat_claim, seat_node_of}
 use Rattle.bg_world.specs.Worlds.Starts.{seat_log}
-use Rattle.bg_world.specs.Worlds.Views.{KeeperView, LinkView, link_view}
+use Rattle.bg_world.specs.Worlds.Views.{KeeperView, LinkView, keeper_view, link_view}
 use Rattle.bg_world.specs.declared.devices.Keeper as keeper
 use Rattle.bg_world.specs.declared.devices.Link as link
 use Rattle.bg_world.specs.declared.events.Event.{Event}
@@ -26,17 +26,23 @@ use Rattle.bg_processes.specs.declared.processes.seat.notes.SeatNotes.{SeatNotes
 
 -- ---- the process at a moment
 
--- its player, its node and its link, and what it notes: how many entries are saved, and whether its last claim is to be
--- saved still
+-- its player, its node with its link and its keeper, and what it notes: how many entries are saved, and whether its last
+-- claim is to be saved still
 pub record SeatMoment : Type 0 where
   pub player : Player
   pub node : SeatNodeView
   pub link : LinkView
+  pub keeper : KeeperView
   pub notes : SeatNotes
 
 abbrev pub seat_moment : {L K : Type 0} → link.Ghosts L → keeper.Ghosts K → SeatProcess L K → SeatMoment
-seat_moment l k p =
-    record { player = p.player; node = seat_node_of k p.node; link = link_view l p.link; notes = p.notes }
+seat_moment l k p = record {
+  player = p.player;
+  node = seat_node_of p.node;
+  link = link_view l p.link;
+  keeper = keeper_view k p.keeper;
+  notes = p.notes;
+}
 
 -- its record, where it is up
 abbrev pub log_of : SeatMoment → Option Log
@@ -80,23 +86,26 @@ pub record NotesOfSeat
 
 module _ (link_honest keeper_honest : Type 0) where
   -- The event is a call of the node: it takes what comes first.
-  abbrev pub SeatCalls : SeatMoment → Event → Outcome → LinkView → SeatNodeView → Type 0
-  SeatCalls at (events.Due word) outcome link node = ⊥
-  SeatCalls at (events.Take party pick word) outcome link node =
+  abbrev pub SeatCalls : SeatMoment → Event → Outcome → LinkView → KeeperView → SeatNodeView → Type 0
+  SeatCalls at (events.Due word) outcome link keeper node = ⊥
+  SeatCalls at (events.Take party pick word) outcome link keeper node =
       (party ≡ party_of at.player) × (pick ≡ 0) × (word ≡ 0)
-      × SeatNodeTakes link_honest at.link at.node pick outcome link node
-  SeatCalls at (events.Choose player action) outcome link node =
-      (player ≡ at.player) × SeatNodeChooses at.node action outcome node × (link ≡ at.link)
-  SeatCalls at (events.Save party) outcome link node =
-      (party ≡ party_of at.player) × SeatNodeSaves keeper_honest at.node outcome node × (link ≡ at.link)
-  SeatCalls at (events.Tick party) outcome link node =
+      × SeatNodeTakes link_honest at.link at.node pick outcome link node × (keeper ≡ at.keeper)
+  SeatCalls at (events.Choose player action) outcome link keeper node =
+      (player ≡ at.player) × SeatNodeChooses at.node action outcome node × (link ≡ at.link) × (keeper ≡ at.keeper)
+  SeatCalls at (events.Save party) outcome link keeper node =
+      (party ≡ party_of at.player) × SeatNodeSaves keeper_honest at.keeper at.node outcome keeper node
+      × (link ≡ at.link)
+  SeatCalls at (events.Tick party) outcome link keeper node =
       (party ≡ party_of at.player) × SeatNodeTicks link_honest most_parties at.link at.node outcome link node
-  SeatCalls at (events.Restart party) outcome link node =
-      (party ≡ party_of at.player) × SeatNodeRestarts keeper_honest at.node outcome node × (link ≡ at.link)
+      × (keeper ≡ at.keeper)
+  SeatCalls at (events.Restart party) outcome link keeper node =
+      (party ≡ party_of at.player) × SeatNodeRestarts keeper_honest at.keeper at.node outcome keeper node
+      × (link ≡ at.link)
 
   -- an event happens at the process
   pub record SeatHappens (old : SeatMoment) (event : Event) (outcome : Outcome) (new : SeatMoment) : Type 0 where
-    pub calls : SeatCalls old event outcome new.link new.node
+    pub calls : SeatCalls old event outcome new.link new.keeper new.node
     pub notes : NotesOfSeat old.notes event outcome (held_entries (log_of new)) new.notes
     pub player : new.player ≡ old.player
 
@@ -184,6 +193,6 @@ pub record SeatBegins
     (honest : Type 0) (player : Player) (id : ℕ) (terms : Terms) (link : LinkView) (keeper : KeeperView)
     (outcome : Outcome) (new : SeatMoment) : Type 0 where
   pub player_is : new.player ≡ player
-  pub restarts : SeatNodeRestarts honest (fresh_seat_node player id terms keeper) outcome new.node
+  pub restarts : SeatNodeRestarts honest keeper (fresh_seat_node player id terms) outcome new.keeper new.node
   pub link_is : new.link ≡ link
   pub notes_are : new.notes ≡ record { saved = held_at new; claim_waits = false }

@@ -5,3 +5,4 @@ pub mod ReachedWorlds
 pub mod Outcomes
 pub mod Lines
 pub mod Seats
+pub mod TwoSteps

@@ -1,5 +1,5 @@
--- That the seats of a world stay of its match, and keep their players.
-use Rattle.std.proofs.Common.{◌≡◌, ℕ, ap, ◌∙◌}
+-- The seats of a world: they stay of its match and keep their players, and where they are put back nothing changes.
+use Rattle.std.proofs.Common.{◌≡◌, ℕ, refl, ap, ◌∙◌}
 use Rattle.bg_board.specs.declared.players.Player.{Player}
 use Rattle.bg_board.specs.declared.players.Player.TheVariants.{X, O}
 use Rattle.bg_match.specs.Terms.{Terms}
@@ -12,7 +12,7 @@ use Rattle.bg_world.specs.Worlds.Calls.{SeatTakes}
 use Rattle.bg_world.specs.Worlds.Nodes.{SeatNodeTakes, SeatNodeTicks, SeatNodeView}
 use Rattle.bg_world.specs.Worlds.Nodes.{seat_node_of}
 use Rattle.bg_world.specs.Worlds.Seats.{seat_of, with_seat}
-use Rattle.bg_world.specs.Worlds.Views.{LinkView}
+use Rattle.bg_world.specs.Worlds.Views.{KeeperView, LinkView, WorldView, seat_core, with_seat_core, with_seat_keeper}
 use Rattle.bg_world.specs.declared.events.Outcome.{Outcome}
 use Rattle.bg_world.specs.declared.events.Outcome.TheVariants as outcomes
 use Rattle.bg_world.specs.declared.nodes.seat.SeatNode.{SeatNode}
@@ -95,3 +95,29 @@ stay_seats id terms seats player was node s is same = of_player player is
       same_terms = (s.same_terms.0, same.same_terms ∙ (ap (λ (n : SeatNode). n.terms) e ∙ s.same_terms.1));
       players = (s.players.0, same.same_player ∙ (ap (λ (n : SeatNode). n.player) e ∙ s.players.1));
     }
+
+-- ---- a seat is put in its place
+
+-- a world whose seat is put back is as it was
+pub put_back : (w : WorldView) (player : Player) → with_seat_core w player (seat_core w player) ≡ w
+put_back w X = refl
+put_back w O = refl
+
+-- so it is over another link
+pub put_back_over : (w : WorldView) (player : Player) (link : LinkView)
+    → with_seat_core (record w { link = link }) player (seat_core w player) ≡ record w { link = link }
+put_back_over w X link = refl
+put_back_over w O link = refl
+
+-- with another keeper its core is the same
+pub same_core : (w : WorldView) (player : Player) (keeper : KeeperView)
+    → seat_core (with_seat_keeper w player keeper) player ≡ seat_core w player
+same_core w X keeper = refl
+same_core w O keeper = refl
+
+-- a seat and its keeper are put in their places in either order
+pub either_order : (w : WorldView) (player : Player) (core : Option SeatView) (keeper : KeeperView)
+    → with_seat_core (with_seat_keeper w player keeper) player core
+    ≡ with_seat_keeper (with_seat_core w player core) player keeper
+either_order w X core keeper = refl
+either_order w O core keeper = refl

@@ -4,6 +4,8 @@ pub mod Calls
 pub mod WorldState
 pub mod WorldRuns
 pub mod World
+pub mod TwoSteps
+pub mod UnderWay
 pub mod Nodes
 pub mod Seats
 pub mod Interleavings

@@ -37,7 +37,7 @@ pub use devices::plans::{FailRead, FailSend, Plan, Tear};
 pub use devices::{DeviceFault, Keeper, Link, Taken};
 pub use events::{Event, Outcome, RestoreCause};
 pub(crate) use nodes::{Seats, Watchers};
-pub use nodes::{RefereeNode, SeatNode, WatcherNode};
+pub use nodes::{RefereeNode, Save, SeatNode, WatcherNode};
 pub use roles::Role;
 pub use texts::event_lines::{event_texts_differ, parse_event};
 pub use texts::final_texts::final_text;
@@ -47,7 +47,7 @@ pub use worlds::World;
 pub use worlds::laws::{
     claims_are_kept, memory_is_seen_as_any_device, new_worlds_are_at_the_start, nothing_is_refused,
     outcomes_are_fixed, parties_agree, processes_agree, saved_entries_alone_are_shown,
-    saves_survive, slots_are_given_back,
+    saves_survive, slots_are_given_back, two_steps_are_a_save,
 };
 pub use worlds::runs::RunReport;
 pub use worlds::setups::{Keepers, MOST_WATCHERS, Setup, WorldFault};

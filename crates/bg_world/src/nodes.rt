@@ -18,6 +18,7 @@ mod watcher;
 mod watchers;
 
 pub use referee::RefereeNode;
+pub use saves::Save;
 pub use seat::SeatNode;
 pub(crate) use seats::Seats;
 pub use watcher::WatcherNode;

@@ -16,7 +16,8 @@ use std::rt::Files;
 /// The seat of a player, alone in its process.
 #[derive(Drop)]
 pub struct LoneSeat<'a, R> {
-    node: SeatNode<FileKeeper<'a, R>>,
+    node: SeatNode,
+    keeper: FileKeeper<'a, R>,
     pub link: PostLink,
     /// True while it has a claim that is not saved yet.
     unsaved: bool,
@@ -31,11 +32,12 @@ impl<'a, R: Files<File = File> + AllocGlobal> LoneSeat<'a, R> {
         id: u64,
         terms: Terms,
     ) -> Result<LoneSeat<'a, R>, ProcessFault> {
-        let keeper = FileKeeper::new(rt, folder, party_of(player))?;
-        let (node, outcome) = SeatNode::begin(rt.alloc(), player, id, terms, keeper)?;
+        let mut keeper = FileKeeper::new(rt, folder, party_of(player))?;
+        let (node, outcome) = SeatNode::begin(rt.alloc(), player, id, terms, &mut keeper)?;
         check_restart(outcome)?;
         Ok(LoneSeat {
             node,
+            keeper,
             link: PostLink::new(rt.alloc()),
             unsaved: false,
         })
@@ -69,13 +71,13 @@ impl<'a, R: Files<File = File> + AllocGlobal> LoneSeat<'a, R> {
     }
 
     fn save(&mut self) -> Result<(), ProcessFault> {
-        match self.node.save() {
+        match self.node.save(&mut self.keeper) {
             Outcome::Saved(_) => {}
             // It is retried in the next turn.
             Outcome::Memory => return Ok(()),
             // The write failed and the party is down. Where its files lack the claim, the player
             // may choose again.
-            Outcome::SaveFault => check_restart(self.node.restart())?,
+            Outcome::SaveFault => check_restart(self.node.restart(&mut self.keeper))?,
             outcome => return Err(ProcessFault::Stopped(outcome)),
         }
         self.unsaved = false;

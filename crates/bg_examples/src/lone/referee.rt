@@ -37,7 +37,8 @@ pub fn check_restart(outcome: Outcome) -> Result<(), ProcessFault> {
 /// The referee of a match, alone in its process.
 #[derive(Drop)]
 pub struct LoneReferee<'a, R> {
-    node: RefereeNode<FileKeeper<'a, R>>,
+    node: RefereeNode,
+    keeper: FileKeeper<'a, R>,
     pub link: PostLink,
     words: ChaCha20Rng,
     /// The number of entries that its last save has.
@@ -54,11 +55,12 @@ impl<'a, R: Files<File = File> + AllocGlobal> LoneReferee<'a, R> {
         terms: Terms,
         words: ChaCha20Rng,
     ) -> Result<LoneReferee<'a, R>, ProcessFault> {
-        let keeper = FileKeeper::new(rt, folder, REFEREE)?;
-        let (node, outcome) = RefereeNode::begin(rt.alloc(), id, terms, keeper)?;
+        let mut keeper = FileKeeper::new(rt, folder, REFEREE)?;
+        let (node, outcome) = RefereeNode::begin(rt.alloc(), id, terms, &mut keeper)?;
         check_restart(outcome)?;
         let mut referee = LoneReferee {
             node,
+            keeper,
             link: PostLink::new(rt.alloc()),
             words,
             saved: 0,
@@ -97,12 +99,12 @@ impl<'a, R: Files<File = File> + AllocGlobal> LoneReferee<'a, R> {
     }
 
     fn save(&mut self) -> Result<(), ProcessFault> {
-        match self.node.save() {
+        match self.node.save(&mut self.keeper) {
             Outcome::Saved(_) => {}
             // It is retried in the next turn.
             Outcome::Memory => return Ok(()),
             // The write failed and the party is down: what its files then restore is what holds.
-            Outcome::SaveFault => check_restart(self.node.restart())?,
+            Outcome::SaveFault => check_restart(self.node.restart(&mut self.keeper))?,
             outcome => return Err(ProcessFault::Stopped(outcome)),
         }
         self.saved = self.entries();

@@ -41,8 +41,9 @@ const QUIET_TICKS: u32 = 50;
 /// come, adds what is due, saves, and sends. Between two rounds the process waits.
 #[derive(Drop)]
 pub struct RefereeProcess<L, K> {
-    node: RefereeNode<K>,
+    node: RefereeNode,
     link: L,
+    keeper: K,
     key: [u8; 32],
     notes: RefereeNotes,
 }
@@ -60,13 +61,13 @@ impl<L: Link + Drop, K: Keeper + Drop> RefereeProcess<L, K> {
         terms: Terms,
         key: [u8; 32],
         link: L,
-        keeper: K,
+        mut keeper: K,
     ) -> Result<(RefereeProcess<L, K>, Outcome), LengthFault>
         ensures ok { IsOk result ↔ IsMatchLength (match_length terms) }
         ensures begins { IfOk result (λ begun. RefereeBegins K.is_honest id terms key (link_view L.Link link)
             (keeper_view K.Keeper keeper) begun.1 (referee_moment L.Link K.Keeper begun.0)) }
     {
-        let (node, outcome) = RefereeNode::begin(alloc, id, terms, keeper)?;
+        let (node, outcome) = RefereeNode::begin(alloc, id, terms, &mut keeper)?;
         let notes = RefereeNotes {
             dice: DiceAttempts::first(entries_of(node.held())),
             saved: count_of(node.held()),
@@ -75,6 +76,7 @@ impl<L: Link + Drop, K: Keeper + Drop> RefereeProcess<L, K> {
         let process = RefereeProcess {
             node,
             link,
+            keeper,
             key,
             notes,
         };

@@ -34,8 +34,9 @@ use std::alloc::Global;
 #[derive(Drop)]
 pub struct SeatProcess<L, K> {
     player: Player,
-    node: SeatNode<K>,
+    node: SeatNode,
     link: L,
+    keeper: K,
     notes: SeatNotes,
 }
 
@@ -52,13 +53,13 @@ impl<L: Link + Drop, K: Keeper + Drop> SeatProcess<L, K> {
         id: u64,
         terms: Terms,
         link: L,
-        keeper: K,
+        mut keeper: K,
     ) -> Result<(SeatProcess<L, K>, Outcome), LengthFault>
         ensures ok { IsOk result ↔ IsMatchLength (match_length terms) }
         ensures begins { IfOk result (λ begun. SeatBegins K.is_honest player id terms (link_view L.Link link)
             (keeper_view K.Keeper keeper) begun.1 (seat_moment L.Link K.Keeper begun.0)) }
     {
-        let (node, outcome) = SeatNode::begin(alloc, player, id, terms, keeper)?;
+        let (node, outcome) = SeatNode::begin(alloc, player, id, terms, &mut keeper)?;
         let notes = SeatNotes {
             saved: count_of(node.held()),
             claim_waits: false,
@@ -67,6 +68,7 @@ impl<L: Link + Drop, K: Keeper + Drop> SeatProcess<L, K> {
             player,
             node,
             link,
+            keeper,
             notes,
         };
         Ok((process, outcome))

@@ -1,19 +1,19 @@
 -- What the node of a party does over honest devices is what the event does to the world.
-use Rattle.std.specs.Prelude.{◌≡◌, ℕ, zero, suc, Option, Some, None, MatchOption, ⊤}
-use Rattle.std.proofs.Common.{refl, sym, ap, subst, ◌∙◌}
+use Rattle.std.specs.Prelude.{ℕ, zero, suc, Option, Some, None, MatchOption, ⊤}
+use Rattle.std.proofs.Common.{sym, ap, subst, ◌∙◌}
 use Rattle.bg_board.specs.declared.players.Player.{Player}
 use Rattle.bg_board.specs.declared.players.Player.TheVariants.{X, O}
 use Rattle.bg_match.specs.declared.actions.Action.{Action}
 use Rattle.bg_wire.specs.Parties.{party_of}
-use Rattle.bg_party.specs.Views.{SeatView}
 use Rattle.bg_world.specs.Worlds.Calls.{Calls, ChooseCalls, DueCalls, RestartCalls, SaveCalls, TakeCalls, TickCalls}
 use Rattle.bg_world.specs.Worlds.Interleavings.{NodeCalls, NodeRestarts, NodeSaves, NodeTakes, NodeTicks, with_referee_node, with_seat_node}
 use Rattle.bg_world.specs.Worlds.Nodes.{RefereeNodeView, SeatNodeView}
-use Rattle.bg_world.specs.Worlds.Views.{KeeperView, LinkView, WorldView, seat_core, with_seat_core, with_seat_keeper}
+use Rattle.bg_world.specs.Worlds.Views.{LinkView, WorldView, seat_core}
 use Rattle.bg_world.specs.declared.events.Event.{Event}
 use Rattle.bg_world.specs.declared.events.Event.TheVariants as events
 use Rattle.bg_world.specs.declared.events.Outcome.{Outcome}
 use Rattle.bg_world.specs.declared.roles.Role.TheVariants as roles
+use Rattle.bg_world.proofs.Seats.{either_order, put_back, put_back_over}
 
 -- where each case follows from the same case
 cases : {A : Type 0} {P Q : Type 0} {F G : A → Type 0} → (o : Option A) → (P → Q) → ((a : A) → F a → G a)
@@ -53,17 +53,6 @@ tick_calls_referee w o new h =
 
 -- ---- a seat
 
--- a world whose seat is put back is as it was
-put_back : (w : WorldView) (player : Player) → with_seat_core w player (seat_core w player) ≡ w
-put_back w X = refl
-put_back w O = refl
-
--- so it is over another link
-put_back_over : (w : WorldView) (player : Player) (link : LinkView)
-    → with_seat_core (record w { link = link }) player (seat_core w player) ≡ record w { link = link }
-put_back_over w X link = refl
-put_back_over w O link = refl
-
 choose_calls : (w : WorldView) (player : Player) (action : Action) (o : Outcome) (new : WorldView)
     → NodeCalls ⊤ ⊤ w (events.Choose player action) o new → ChooseCalls w player action o new
 choose_calls w player action o new h =
@@ -94,13 +83,6 @@ tick_calls_seat w player o new h =
     (λ d. (d.0, ap at d.2 ∙ put_back_over w player h.0 ∙ ap (λ (l : LinkView). record w { link = l }) d.1))
     (λ core d. (h.0, d.0, d.1, ap at d.2))
     h.2)
-
--- a seat and its keeper are put in place in either order
-either_order : (w : WorldView) (player : Player) (core : Option SeatView) (keeper : KeeperView)
-    → with_seat_core (with_seat_keeper w player keeper) player core
-    ≡ with_seat_keeper (with_seat_core w player core) player keeper
-either_order w X core keeper = refl
-either_order w O core keeper = refl
 
 save_calls_seat : (w : WorldView) (player : Player) (o : Outcome) (new : WorldView)
     → NodeSaves ⊤ w (roles.Seat player) o new → SaveCalls ⊤ w (roles.Seat player) o new

@@ -18,13 +18,32 @@ use Rattle.bg_world.specs.declared.devices.DeviceFault.{DeviceFault}
 use Rattle.bg_world.specs.declared.events.Outcome.{Outcome}
 use Rattle.bg_world.specs.declared.events.Outcome.TheVariants as outcomes
 use Rattle.bg_world.specs.declared.events.RestoreCause.TheVariants as causes
+use Rattle.bg_world.specs.declared.nodes.saves.Save.{Save}
 
 -- ---- saves
+
+-- what the core gives is the save that is begun; or the outcome says why there is none
+abbrev pub begun : Result (Slot × ℕ × Vec ℕ) SaveRefusal → Result Save Outcome
+begun (Ok next) = Ok (record { slot = next.0; number = next.1; text = next.2 })
+begun (Err save_refusals.SavesSpent) = Err outcomes.SavesSpent
+begun (Err save_refusals.Memory) = Err outcomes.Memory
+
+-- a save is begun: what the core gives is to be written; of a party that is down there is none
+abbrev pub BeginsSave : {C : Type 0} → (C → SavedParts) → Option C → Result Save Outcome → Type 0
+BeginsSave parts_of None result = result ≡ Err outcomes.Down
+BeginsSave parts_of (Some core) result =
+    (next : Result (Slot × ℕ × Vec ℕ) SaveRefusal) × IsNextSave (parts_of core) next × (result ≡ begun next)
 
 -- the save was written, and the core is as it is then; or the party is down
 abbrev pub SaveTold : {C : Type 0} → ℕ → C → Result (Unit {0}) DeviceFault → Outcome → Option C → Type 0
 SaveTold save after_save (Ok done) result after = (result ≡ outcomes.Saved save) × (after ≡ Some after_save)
 SaveTold save after_save (Err fault) result after = (result ≡ outcomes.SaveFault) × (after ≡ None)
+
+-- the save of this number is ended, whose write had this answer; none is ended at a party that is down
+abbrev pub EndsSave : {C : Type 0} → (C → ℕ → C) → Option C → ℕ → Result (Unit {0}) DeviceFault → Outcome → Option C →
+    Type 0
+EndsSave after_save None save answer result after = ⊥
+EndsSave after_save (Some core) save answer result after = SaveTold save (after_save core save) answer result after
 
 -- one write where there is a text to save, and none where there is not
 abbrev pub SaveGoesOn : {C : Type 0} → (C → ℕ → C) → Type 0 → KeeperView → C → Result (Slot × ℕ × Vec ℕ) SaveRefusal →

@@ -12,9 +12,10 @@ use Rattle.bg_party.specs.Claims.{SeatChooses, SeatTicks, WatcherTicks}
 use Rattle.bg_party.specs.Views.{SeatView, WatcherView, fresh_seat, fresh_watcher, resumed_seat, seat_after_save}
 use Rattle.bg_party.specs.declared.outcomes.ChooseFault.{ChooseFault}
 use Rattle.bg_world.specs.Worlds.Calls.{SeatTakes, WatcherTakes, referee_parts, seat_parts}
-use Rattle.bg_world.specs.Devices.KeeperCalls.{RestartCallsAt, SaveCallsAt}
+use Rattle.bg_world.specs.Devices.KeeperCalls.{EndsSave, RestartCallsAt, SaveCallsAt}
 use Rattle.bg_world.specs.Devices.LinkCalls.{FollowerTakeCalls, FollowerTickCalls, RefereeTakeCalls, RefereeTickCalls}
 use Rattle.bg_world.specs.Worlds.Views.{KeeperView, LinkView}
+use Rattle.bg_world.specs.declared.devices.DeviceFault.{DeviceFault}
 use Rattle.bg_world.specs.declared.events.Outcome.{Outcome}
 use Rattle.bg_world.specs.declared.events.Outcome.TheVariants as outcomes
 use Rattle.bg_world.specs.declared.nodes.referee.RefereeNode.{RefereeNode}
@@ -62,6 +63,11 @@ RefereeNodeSaves honest old_keeper old result new_keeper new =
     SaveCallsAt referee_parts referee_after_save honest old_keeper old.core result new_keeper new.core
     × (new ≡ record old { core = new.core })
 
+-- its save of this number is ended, whose write had this answer
+abbrev pub RefereeNodeEndsSave : RefereeNodeView → ℕ → Result (Unit {0}) DeviceFault → Outcome → RefereeNodeView → Type 0
+RefereeNodeEndsSave old save answer result new =
+    EndsSave referee_after_save old.core save answer result new.core × (new ≡ record old { core = new.core })
+
 -- it comes back with what its slots restore
 abbrev pub RefereeNodeRestarts : Type 0 → KeeperView → RefereeNodeView → Outcome → KeeperView → RefereeNodeView → Type 0
 RefereeNodeRestarts honest old_keeper old result new_keeper new =
@@ -108,6 +114,10 @@ abbrev pub SeatNodeSaves : Type 0 → KeeperView → SeatNodeView → Outcome �
 SeatNodeSaves honest old_keeper old result new_keeper new =
     SaveCallsAt seat_parts seat_after_save honest old_keeper old.core result new_keeper new.core
     × (new ≡ record old { core = new.core })
+
+abbrev pub SeatNodeEndsSave : SeatNodeView → ℕ → Result (Unit {0}) DeviceFault → Outcome → SeatNodeView → Type 0
+SeatNodeEndsSave old save answer result new =
+    EndsSave seat_after_save old.core save answer result new.core × (new ≡ record old { core = new.core })
 
 abbrev pub SeatNodeRestarts : Type 0 → KeeperView → SeatNodeView → Outcome → KeeperView → SeatNodeView → Type 0
 SeatNodeRestarts honest old_keeper old result new_keeper new =

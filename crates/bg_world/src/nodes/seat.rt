@@ -1,15 +1,19 @@
 //! The seat of a player, by itself.
-ghost use Rattle.std.specs.Prelude.{◌≡◌, ◌≤◌, ◌↔◌, IsOk, IfOk, MatchResult, option_copied};
+ghost use Rattle.std.specs.Prelude.{◌≡◌, ◌≤◌, ◌↔◌, None, Some, IsOk, IfOk, IsSome, MatchOption, MatchResult};
+ghost use Rattle.std.specs.Prelude.{option_copied};
 ghost use Rattle.bg_match.specs.Limits.{IsMatchLength};
 ghost use Rattle.bg_match.specs.Terms.{match_length};
+ghost use Rattle.bg_world.specs.Devices.KeeperCalls.{BeginsSave};
+ghost use Rattle.bg_world.specs.Worlds.Calls.{seat_parts};
+ghost use Rattle.bg_world.specs.Worlds.UnderWay.{IsUnderWay, under_way_after, under_way_from};
 ghost use Rattle.bg_world.specs.Worlds.Starts.{seat_log};
 ghost use Rattle.bg_world.specs.Worlds.Views.{keeper_view, link_view};
 
 use crate::nodes::restarts::restart_seat;
-use crate::nodes::saves::save_seat;
+use crate::nodes::saves::{begin_save, end_save, end_where_changed, save_party};
 use crate::nodes::takes::take_at_seat;
 use crate::nodes::ticks::tick_seat;
-use crate::{Keeper, Link, Outcome};
+use crate::{DeviceFault, Keeper, Link, Outcome, Save};
 use bg_board::Player;
 use bg_match::{Action, LengthFault, Number, Record, Terms};
 use bg_party::Seat;
@@ -21,7 +25,11 @@ use std::alloc::Global;
 /// (docs/PROTOCOL.md, "Parties in processes of their own"). Each call is handed the link or the
 /// keeper that it is to use.
 ///
-/// Contracts see its player, the match, and the core while it is up.
+/// A save in two steps is [`begin_save`](Self::begin_save), a write by the host, and
+/// [`end_save`](Self::end_save).
+///
+/// Contracts see its player, the match, the core while it is up, and the number of the save that is
+/// under way.
 #[derive(Drop)]
 pub struct SeatNode {
     alloc: Global,
@@ -29,12 +37,16 @@ pub struct SeatNode {
     id: u64,
     terms: Terms,
     core: Option<Seat>,
+    /// The number of the save that is under way.
+    under_way: Option<u32>,
     ghost length_in_range: { IsMatchLength (match_length terms) },
+    ghost next: { IsUnderWay seat_parts core under_way },
 }
 
 impl SeatNode {
-    ghost use Rattle.bg_world.specs.Worlds.Nodes.{SeatNodeChooses, SeatNodeRestarts, SeatNodeSaves, SeatNodeTakes};
-    ghost use Rattle.bg_world.specs.Worlds.Nodes.{SeatNodeTicks, fresh_seat_node, seat_claim, seat_node_of};
+    ghost use Rattle.bg_world.specs.Worlds.Nodes.{SeatNodeChooses, SeatNodeEndsSave, SeatNodeRestarts, SeatNodeSaves};
+    ghost use Rattle.bg_world.specs.Worlds.Nodes.{SeatNodeTakes, SeatNodeTicks, fresh_seat_node, seat_claim};
+    ghost use Rattle.bg_world.specs.Worlds.Nodes.{seat_node_of};
 
     /// Starts the seat of a player from what the slots of its keeper restore, and returns it with
     /// the outcome of that. It is down where the outcome is not `Restarted`. Each process starts
@@ -80,6 +92,7 @@ impl SeatNode {
             id,
             terms,
             core: Some(core),
+            under_way: None,
         })
     }
 
@@ -106,23 +119,33 @@ impl SeatNode {
 
     /// Claims the action that its player chooses.
     pub fn choose(&mut self, action: Action) -> Outcome
-        ensures { SeatNodeChooses (seat_node_of self.old) action result (seat_node_of self.new) }
+        ensures under_way { self.new.under_way ≡ under_way_after self.old.under_way result }
+        ensures chooses { SeatNodeChooses (seat_node_of self.old) action result (seat_node_of self.new) }
     {
         match &mut self.core {
             None => Outcome::Down,
-            Some(core) => Outcome::Chose(core.choose(action)),
+            Some(core) => {
+                let outcome = Outcome::Chose(core.choose(action));
+                end_where_changed(&mut self.under_way, &outcome);
+                outcome
+            }
         }
     }
 
     /// Takes what the link gives for this pick.
     pub fn take<L: Link>(&mut self, link: &mut L, pick: u32) -> Outcome
-        ensures { SeatNodeTakes L.is_honest (link_view L.Link link.old) (seat_node_of self.old) pick
+        ensures under_way { self.new.under_way ≡ under_way_after self.old.under_way result }
+        ensures takes { SeatNodeTakes L.is_honest (link_view L.Link link.old) (seat_node_of self.old) pick
             result (link_view L.Link link.new) (seat_node_of self.new) }
     {
         let party = party_of(self.player);
         match &mut self.core {
             None => Outcome::Down,
-            Some(core) => take_at_seat(link, party, core, pick),
+            Some(core) => {
+                let outcome = take_at_seat(link, party, core, pick);
+                end_where_changed(&mut self.under_way, &outcome);
+                outcome
+            }
         }
     }
 
@@ -130,7 +153,8 @@ impl SeatNode {
     /// are from 0, the referee among them.
     pub fn tick<L: Link>(&mut self, link: &mut L, parties: usize) -> Outcome
         requires { 1 ≤ parties }
-        ensures { SeatNodeTicks L.is_honest parties (link_view L.Link link.old) (seat_node_of self.old)
+        ensures under_way { self.new.under_way ≡ self.old.under_way }
+        ensures ticks { SeatNodeTicks L.is_honest parties (link_view L.Link link.old) (seat_node_of self.old)
             result (link_view L.Link link.new) (seat_node_of self.new) }
     {
         match &mut self.core {
@@ -139,19 +163,59 @@ impl SeatNode {
         }
     }
 
-    /// Saves what the seat holds. It is down where the write fails.
+    /// Begins a save, and returns what is to be written, for a host that writes it by itself, for
+    /// instance together with the saves of others. The save is under way until
+    /// [`end_save`](Self::end_save) is told what became of the write, and a change of the record or of the claim ends it.
+    ///
+    /// # Errors
+    /// The outcome of the save: `Down`, `SavesSpent` or `Memory`. Then nothing changes.
+    pub fn begin_save(&mut self) -> Result<Save, Outcome>
+        ensures begins { BeginsSave seat_parts self.old.core result }
+        ensures same { seat_node_of self.new ≡ seat_node_of self.old }
+        ensures under_way { self.new.under_way ≡ under_way_from self.old.under_way result }
+    {
+        match begin_save(&self.core) {
+            Ok(save) => {
+                self.under_way = Some(save.number);
+                Ok(save)
+            }
+            Err(outcome) => Err(outcome),
+        }
+    }
+
+    /// Ends the save of this number that is under way, whose write had this answer, and returns the
+    /// outcome of the save. The seat is down where the write failed. Returns `None`, and changes
+    /// nothing, exactly where no save of this number is under way: then another is to be begun.
+    pub fn end_save(&mut self, number: u32, written: Result<(), DeviceFault>) -> Option<Outcome>
+        ensures ok { IsSome result ↔ (self.old.under_way ≡ Some number) }
+        ensures ends { MatchOption result (self.new ≡ self.old) (λ outcome. (self.new.under_way ≡ None)
+            × SeatNodeEndsSave (seat_node_of self.old) number written outcome (seat_node_of self.new)) }
+    {
+        if self.under_way != Some(number) {
+            return None;
+        }
+        self.under_way = None;
+        Some(end_save(&mut self.core, number, written))
+    }
+
+    /// Saves what the seat holds. It is down where the write fails. A save that was under way is so
+    /// no longer.
     pub fn save<K: Keeper>(&mut self, keeper: &mut K) -> Outcome
-        ensures { SeatNodeSaves K.is_honest (keeper_view K.Keeper keeper.old) (seat_node_of self.old) result
+        ensures under_way { self.new.under_way ≡ None }
+        ensures saves { SeatNodeSaves K.is_honest (keeper_view K.Keeper keeper.old) (seat_node_of self.old) result
             (keeper_view K.Keeper keeper.new) (seat_node_of self.new) }
     {
-        save_seat(keeper, &mut self.core)
+        self.under_way = None;
+        save_party(keeper, &mut self.core)
     }
 
     /// Discards what the seat holds, and restarts it from what its slots restore.
     pub fn restart<K: Keeper>(&mut self, keeper: &mut K) -> Outcome
-        ensures { SeatNodeRestarts K.is_honest (keeper_view K.Keeper keeper.old) (seat_node_of self.old) result
+        ensures under_way { self.new.under_way ≡ None }
+        ensures restarts { SeatNodeRestarts K.is_honest (keeper_view K.Keeper keeper.old) (seat_node_of self.old) result
             (keeper_view K.Keeper keeper.new) (seat_node_of self.new) }
     {
+        self.under_way = None;
         let (alloc, player, id, terms) = (self.alloc, self.player, self.id, self.terms);
         restart_seat(alloc, keeper, &mut self.core, player, id, terms)
     }

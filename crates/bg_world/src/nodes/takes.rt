@@ -1,4 +1,5 @@
 //! Takes of datagrams by a party.
+ghost use Rattle.std.specs.Prelude.{◌≡◌};
 ghost use Rattle.bg_referee.specs.Takes.{AnswerFits, RefereeTakes};
 ghost use Rattle.bg_wire.specs.Packets.PacketText.{IsPacket};
 ghost use Rattle.bg_world.specs.Worlds.Calls.{SeatTakes, WatcherTakes};
@@ -30,6 +31,7 @@ fn send_answer<L: Link>(link: &mut L, parties: usize, took: TakeOutcome) -> Outc
 fn hand_to_referee(core: &mut Referee, packet: &Packet, word: u32) -> TakeOutcome
     requires { IsPacket packet.now }
     ensures takes { RefereeTakes core.old packet.now word result core.new }
+    ensures next { core.new.next_save ≡ core.old.next_save }
     ensures fits { AnswerFits result }
 {
     core.take(packet, word)
@@ -37,7 +39,8 @@ fn hand_to_referee(core: &mut Referee, packet: &Packet, word: u32) -> TakeOutcom
 
 fn hand_to_seat(core: &mut Seat, packet: &Packet) -> Learned
     requires { IsPacket packet.now }
-    ensures { SeatTakes core.old packet.now result core.new }
+    ensures takes { SeatTakes core.old packet.now result core.new }
+    ensures next { core.new.next_save ≡ core.old.next_save }
 {
     core.take(packet)
 }
@@ -58,7 +61,8 @@ pub(crate) fn take_at_referee<L: Link>(
     pick: u32,
     word: u32,
 ) -> Outcome
-    ensures { RefereeTakeCalls L.is_honest parties (link_view L.Link link.old) core.old pick word
+    ensures next { core.new.next_save ≡ core.old.next_save }
+    ensures calls { RefereeTakeCalls L.is_honest parties (link_view L.Link link.old) core.old pick word
         result (link_view L.Link link.new) core.new }
 {
     match receive(link, REFEREE, pick) {
@@ -72,7 +76,8 @@ pub(crate) fn take_at_referee<L: Link>(
 
 /// Takes a datagram at a seat.
 pub(crate) fn take_at_seat<L: Link>(link: &mut L, party: u8, core: &mut Seat, pick: u32) -> Outcome
-    ensures { FollowerTakeCalls SeatTakes L.is_honest party (link_view L.Link link.old) core.old pick
+    ensures next { core.new.next_save ≡ core.old.next_save }
+    ensures calls { FollowerTakeCalls SeatTakes L.is_honest party (link_view L.Link link.old) core.old pick
         result (link_view L.Link link.new) core.new }
 {
     match receive(link, party, pick) {

@@ -1,5 +1,5 @@
 //! Ticks of a party, on which it sends what its core returns without being asked.
-ghost use Rattle.std.specs.Prelude.{length, ◌≤◌, IfSome};
+ghost use Rattle.std.specs.Prelude.{◌≡◌, length, ◌≤◌, IfSome};
 ghost use Rattle.std.specs.List.{AllByRecursion};
 ghost use Rattle.bg_party.specs.Claims.{SeatTicks, WatcherTicks};
 ghost use Rattle.bg_wire.specs.Packets.PacketText.{IsPacket};
@@ -53,7 +53,8 @@ fn send_to_referee<L: Link>(link: &mut L, parties: usize, packet: &Option<Packet
 /// Sends what the referee's tick returns. `parties` is the number of parties, whose numbers are
 /// from 0.
 pub(crate) fn tick_referee<L: Link>(link: &mut L, parties: usize, core: &mut Referee) -> Outcome
-    ensures { RefereeTickCalls L.is_honest parties (link_view L.Link link.old) core.old
+    ensures next { core.new.next_save ≡ core.old.next_save }
+    ensures calls { RefereeTickCalls L.is_honest parties (link_view L.Link link.old) core.old
         result (link_view L.Link link.new) core.new }
 {
     let packets = core.tick();
@@ -63,7 +64,8 @@ pub(crate) fn tick_referee<L: Link>(link: &mut L, parties: usize, core: &mut Ref
 /// Sends what a seat's tick returns.
 pub(crate) fn tick_seat<L: Link>(link: &mut L, parties: usize, core: &mut Seat) -> Outcome
     requires { 1 ≤ parties }
-    ensures { FollowerTickCalls SeatTicks L.is_honest parties (link_view L.Link link.old) core.old
+    ensures next { core.new.next_save ≡ core.old.next_save }
+    ensures calls { FollowerTickCalls SeatTicks L.is_honest parties (link_view L.Link link.old) core.old
         result (link_view L.Link link.new) core.new }
 {
     let packet = core.tick();

@@ -1,14 +1,21 @@
 //! Laws of the protocol, for whole runs, and of worlds. Each is the contract of a function that
 //! does nothing.
-ghost use Rattle.std.specs.Prelude.{◌≡◌, List, ⊤};
+ghost use Rattle.std.specs.Prelude.{◌≡◌, ℕ, List, Result, Ok, Err, ⊤};
 ghost use Rattle.bg_board.specs.declared.players.Player.{Player};
 ghost use Rattle.bg_world.specs.Promises.Agreement.{Agreement};
-ghost use Rattle.bg_world.specs.Worlds.Calls.{Calls};
+ghost use Rattle.bg_world.specs.Devices.DeviceCalls.{WritesOnce};
+ghost use Rattle.bg_world.specs.Devices.KeeperCalls.{BeginsSave};
+ghost use Rattle.bg_world.specs.Worlds.Calls.{Calls, referee_parts, seat_parts};
 ghost use Rattle.bg_world.specs.Promises.Claims.{AreClaimsKept};
 ghost use Rattle.bg_world.specs.Promises.GivenBack.{AreSlotsGivenBack};
 ghost use Rattle.bg_world.specs.Promises.Headline.{Headline};
 ghost use Rattle.bg_world.specs.Worlds.Interleavings.{Interleaves, NodeCalls};
-ghost use Rattle.bg_world.specs.Worlds.Nodes.{RefereeNodeRestarts, RefereeNodeView, SeatNodeRestarts, SeatNodeView};
+ghost use Rattle.bg_world.specs.Worlds.Nodes.{RefereeNodeEndsSave, RefereeNodeRestarts, RefereeNodeSaves};
+ghost use Rattle.bg_world.specs.Worlds.Nodes.{RefereeNodeView, SeatNodeEndsSave, SeatNodeRestarts, SeatNodeSaves};
+ghost use Rattle.bg_world.specs.Worlds.Nodes.{SeatNodeView};
+ghost use Rattle.bg_world.specs.Worlds.TwoSteps.{HostWrites, SaveBegins, SaveEnds, told_next};
+ghost use Rattle.bg_world.specs.Worlds.UnderWay.{told_by};
+ghost use Rattle.bg_world.specs.Protocol.Roles.{role};
 ghost use Rattle.bg_world.specs.Worlds.Nodes.{fresh_referee_node, fresh_seat_node};
 ghost use Rattle.bg_world.specs.Promises.Refusals.{IsNoPacketRefused, IsNoSlotRefused};
 ghost use Rattle.bg_world.specs.Protocol.Runs.{IsReached};
@@ -25,8 +32,11 @@ ghost use Rattle.bg_world.specs.Worlds.WorldLaws.{ComeToOneList, ComeToOneOutcom
 ghost use Rattle.bg_world.specs.Worlds.WorldLaws.{OutcomesAreFixed};
 ghost use Rattle.bg_world.specs.Worlds.WorldRuns.{RunsProtocol};
 ghost use Rattle.bg_world.specs.Worlds.WorldState.{IsReachedWorld};
+ghost use Rattle.bg_world.specs.declared.devices.DeviceFault.{DeviceFault};
 ghost use Rattle.bg_world.specs.declared.events.Event.{Event};
+ghost use Rattle.bg_world.specs.declared.events.Event.TheVariants as events;
 ghost use Rattle.bg_world.specs.declared.events.Outcome.{Outcome};
+ghost use Rattle.bg_world.specs.declared.nodes.saves.Save.{Save as ASave};
 ghost use Rattle.bg_world.specs.declared.worlds.setups.Setup.{Setup};
 
 use crate::{Keeper, Link, MemoryKeeper, MemoryNet, World};
@@ -91,6 +101,36 @@ pub fn outcomes_are_fixed<L: Link, K: Keeper>()
     ensures unheard { OutcomesAreFixed L.is_honest K.is_honest }
     ensures all { ComeToOneOutcome L.is_honest K.is_honest }
     ensures lists { ComeToOneList L.is_honest K.is_honest }
+{}
+
+/// States that a save in two steps is the event [`Event::Save`], at its end. A save is begun, the
+/// host writes it to the party's keeper, and it is ended with the keeper's answer. Meanwhile other
+/// parties may do what they like, but what the next save of this party tells is at the end what it
+/// was at the beginning. A save that is not begun is the event too, without a write.
+pub fn two_steps_are_a_save<L: Link, K: Keeper>()
+    ensures referee { (begun old new : RefereeNodeView) (save : ASave) (answer : Result (Unit {0}) DeviceFault)
+        (old_keeper new_keeper : KeeperView) (outcome : Outcome)
+        → BeginsSave referee_parts begun.core (Ok save)
+        → told_by referee_parts begun.core ≡ told_by referee_parts old.core
+        → WritesOnce K.is_honest old_keeper save.slot save.text.items answer new_keeper
+        → RefereeNodeEndsSave old save.number answer outcome new
+        → RefereeNodeSaves K.is_honest old_keeper old outcome new_keeper new }
+    ensures seat { (begun old new : SeatNodeView) (save : ASave) (answer : Result (Unit {0}) DeviceFault)
+        (old_keeper new_keeper : KeeperView) (outcome : Outcome)
+        → BeginsSave seat_parts begun.core (Ok save)
+        → told_by seat_parts begun.core ≡ told_by seat_parts old.core
+        → WritesOnce K.is_honest old_keeper save.slot save.text.items answer new_keeper
+        → SeatNodeEndsSave old save.number answer outcome new
+        → SeatNodeSaves K.is_honest old_keeper old outcome new_keeper new }
+    ensures world { (begun old written new : WorldView) (party : ℕ) (save : ASave)
+        (answer : Result (Unit {0}) DeviceFault) (outcome : Outcome)
+        → SaveBegins begun (role party) (Ok save) → told_next begun (role party) ≡ told_next old (role party)
+        → HostWrites K.is_honest old (role party) save answer written
+        → SaveEnds written (role party) save.number answer outcome new
+        → Calls L.is_honest K.is_honest old (events.Save party) outcome new }
+    ensures none { (old : WorldView) (party : ℕ) (outcome : Outcome)
+        → SaveBegins old (role party) (Err outcome)
+        → Calls L.is_honest K.is_honest old (events.Save party) outcome old }
 {}
 
 /// States that parties which run each in a process of its own agree (docs/PROTOCOL.md,

@@ -1,10 +1,10 @@
 //! One event, at the node of the party that it names.
-ghost use Rattle.std.specs.Prelude.{◌+◌, ℕ};
+ghost use Rattle.std.specs.Prelude.{◌≡◌, ◌+◌, ◌↔◌, ℕ, Some, IsSome, MatchOption};
 ghost use Rattle.bg_wire.specs.Entries.Codes.{first_watcher};
 ghost use Rattle.bg_wire.specs.Parties.{party_of};
 ghost use Rattle.bg_world.specs.declared.roles.Role.TheVariants as roles;
 
-use crate::{Event, Keeper, Link, Outcome, Role, World};
+use crate::{DeviceFault, Event, Keeper, Link, Outcome, Role, Save, World};
 use bg_board::Player;
 use bg_match::Action;
 
@@ -13,6 +13,8 @@ impl<L: Link, K: Keeper> World<L, K> {
     ghost use Rattle.bg_world.specs.Worlds.Calls.{Calls, ChooseCalls, DueCalls, RestartCalls, SaveCalls, TakeCalls};
     ghost use Rattle.bg_world.specs.Worlds.Calls.{TickCalls};
     ghost use Rattle.bg_world.specs.Worlds.NotRefused.{IsNotRefused};
+    ghost use Rattle.bg_world.specs.Worlds.TwoSteps.{SaveBegins, SaveEnds, save_under_way};
+    ghost use Rattle.bg_world.specs.Worlds.UnderWay.{under_way_from};
     ghost use Rattle.bg_world.specs.Worlds.World.{view_of};
     ghost use Rattle.bg_world.specs.Worlds.WorldRuns.{StepsProtocol};
     ghost use Rattle.bg_world.specs.Worlds.WorldState.{IsReachedWorld};
@@ -103,6 +105,79 @@ impl<L: Link, K: Keeper> World<L, K> {
     {
         let parties = self.parties();
         self.seats.of_mut(player).tick(&mut self.link, parties)
+    }
+
+    /// Begins a save of a party, and returns what is to be written, for a host that writes it by
+    /// itself, for instance together with the saves of other matches. It changes nothing that a
+    /// party holds. The save is under way until [`end_save`](Self::end_save) is told what became of
+    /// the write. A change of the party's record or claim ends it, and so does another save of the
+    /// party, or its restart.
+    ///
+    /// # Errors
+    /// The outcome of the save: `NoSuchParty`, `Down`, `SavesSpent` or `Memory`. Then nothing
+    /// changes.
+    pub fn begin_save(&mut self, party: u8) -> Result<Save, Outcome>
+        ensures begins { SaveBegins (view_of L.Link K.Keeper self.old) (role party) result }
+        ensures same { view_of L.Link K.Keeper self.new ≡ view_of L.Link K.Keeper self.old }
+        ensures under_way { save_under_way self.new (role party)
+            ≡ under_way_from (save_under_way self.old (role party)) result }
+    {
+        match Role::of(party) {
+            Role::Referee => self.referee.begin_save(),
+            Role::Seat(player) => self.begin_save_of(player),
+            Role::Watcher(_) => Err(Outcome::NoSuchParty),
+        }
+    }
+
+    fn begin_save_of(&mut self, player: Player) -> Result<Save, Outcome>
+        ensures begins { SaveBegins (view_of L.Link K.Keeper self.old) (roles.Seat player) result }
+        ensures same { view_of L.Link K.Keeper self.new ≡ view_of L.Link K.Keeper self.old }
+        ensures under_way { save_under_way self.new (roles.Seat player)
+            ≡ under_way_from (save_under_way self.old (roles.Seat player)) result }
+    {
+        match player {
+            Player::X => self.seats.x.begin_save(),
+            Player::O => self.seats.o.begin_save(),
+        }
+    }
+
+    /// Ends the save of this number that is under way at a party, whose write by the host had this
+    /// answer, and returns the outcome of the save. The party is down where the write failed. The
+    /// keepers are asked nothing. Returns `None`, and changes nothing, exactly where no save of
+    /// this number is under way at the party: then another is to be begun.
+    pub fn end_save(
+        &mut self,
+        party: u8,
+        number: u32,
+        written: Result<(), DeviceFault>,
+    ) -> Option<Outcome>
+        ensures ok { IsSome result ↔ (save_under_way self.old (role party) ≡ Some number) }
+        ensures ends { MatchOption result (self.new ≡ self.old)
+            (λ outcome. SaveEnds (view_of L.Link K.Keeper self.old) (role party) number written outcome
+            (view_of L.Link K.Keeper self.new)) }
+    {
+        match Role::of(party) {
+            Role::Referee => self.referee.end_save(number, written),
+            Role::Seat(player) => self.end_save_of(player, number, written),
+            Role::Watcher(_) => None,
+        }
+    }
+
+    fn end_save_of(
+        &mut self,
+        player: Player,
+        number: u32,
+        written: Result<(), DeviceFault>,
+    ) -> Option<Outcome>
+        ensures ok { IsSome result ↔ (save_under_way self.old (roles.Seat player) ≡ Some number) }
+        ensures ends { MatchOption result (self.new ≡ self.old)
+            (λ outcome. SaveEnds (view_of L.Link K.Keeper self.old) (roles.Seat player) number written outcome
+            (view_of L.Link K.Keeper self.new)) }
+    {
+        match player {
+            Player::X => self.seats.x.end_save(number, written),
+            Player::O => self.seats.o.end_save(number, written),
+        }
     }
 
     /// Saves what a party holds.

@@ -26,8 +26,8 @@ fn referee_over(
     one: &[u8],
 ) -> Result<Number, RestoreCause> {
     let recorder = Recorder::new(rt.alloc(), NO_FAILURE);
-    let keeper = keeper(rt, &recorder, 0, zero, one);
-    let (node, outcome) = begun_referee(rt.alloc(), TERMS, keeper).expect(rt, "a referee");
+    let mut keeper = keeper(rt, &recorder, 0, zero, one);
+    let (node, outcome) = begun_referee(rt.alloc(), TERMS, &mut keeper).expect(rt, "a referee");
     let held = node.held().map(|record| record.len());
     if let Outcome::RestoreFault(cause) = outcome {
         assert!(rt; held.is_none());
@@ -44,8 +44,9 @@ fn refusal_of_seat(
     one: &[u8],
 ) -> Option<RestoreCause> {
     let recorder = Recorder::new(rt.alloc(), NO_FAILURE);
-    let keeper = keeper(rt, &recorder, 1, zero, one);
-    let (seat, outcome) = begun_seat(rt.alloc(), Player::X, TERMS, keeper).expect(rt, "a seat");
+    let mut keeper = keeper(rt, &recorder, 1, zero, one);
+    let (seat, outcome) =
+        begun_seat(rt.alloc(), Player::X, TERMS, &mut keeper).expect(rt, "a seat");
     assert!(rt; seat.held().is_none() && seat.claim().is_none());
     match outcome {
         Outcome::RestoreFault(cause) => Some(cause),
@@ -111,10 +112,10 @@ fn check_length(rt: &(impl AllocGlobal + Abort), length: u8) {
     let terms = Terms { length, ..TERMS };
     let refused = Some(LengthFault::LengthOutOfRange);
     let recorder = Recorder::new(rt.alloc(), NO_FAILURE);
-    let of_referee = keeper(rt, &recorder, 0, b"", b"");
-    let of_seat = keeper(rt, &recorder, 2, b"", b"");
-    assert!(rt; begun_referee(rt.alloc(), terms, of_referee).err() == refused);
-    assert!(rt; begun_seat(rt.alloc(), Player::O, terms, of_seat).err() == refused);
+    let mut of_referee = keeper(rt, &recorder, 0, b"", b"");
+    let mut of_seat = keeper(rt, &recorder, 2, b"", b"");
+    assert!(rt; begun_referee(rt.alloc(), terms, &mut of_referee).err() == refused);
+    assert!(rt; begun_seat(rt.alloc(), Player::O, terms, &mut of_seat).err() == refused);
     assert!(rt; WatcherNode::fresh(rt.alloc(), 3, ID, terms).err() == refused);
 }
 

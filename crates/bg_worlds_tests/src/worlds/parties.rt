@@ -5,16 +5,13 @@ use crate::devices::{Failing, Recorder};
 use crate::worlds::lines::{check_outcome, event};
 use bg_board::Player;
 use bg_match::{Action, LengthFault, Number, Record, Rules, Terms};
-use bg_wire::{FIRST_WATCHER, party_of};
+use bg_wire::FIRST_WATCHER;
 use bg_world::{
-    Event, FailRead, FailSend, Outcome, RefereeNode, Role, SeatNode, Tear, WatcherNode, WorldFault,
+    Event, FailRead, FailSend, Keepers, Outcome, RefereeNode, Role, SeatNode, Tear, WatcherNode,
+    WorldFault,
 };
 use std::alloc::Global;
 use std::process::Abort;
-
-pub(crate) type OwnReferee<'a> = RefereeNode<OwnKeeper<'a>>;
-
-pub(crate) type OwnSeat<'a> = SeatNode<OwnKeeper<'a>>;
 
 /// The match of the tests: of length 1, by the first rules.
 pub(crate) const ID: u64 = 1;
@@ -28,16 +25,16 @@ const COUNT: usize = 5;
 
 /// The nodes of five parties.
 #[derive(Drop)]
-struct Nodes<'a> {
-    referee: OwnReferee<'a>,
-    x: OwnSeat<'a>,
-    o: OwnSeat<'a>,
+struct Nodes {
+    referee: RefereeNode,
+    x: SeatNode,
+    o: SeatNode,
     third: WatcherNode,
     fourth: WatcherNode,
 }
 
-impl<'a> Nodes<'a> {
-    fn seat(&mut self, player: Player) -> &mut OwnSeat<'a> {
+impl Nodes {
+    fn seat(&mut self, player: Player) -> &mut SeatNode {
         match player {
             Player::X => &mut self.x,
             Player::O => &mut self.o,
@@ -58,32 +55,41 @@ impl<'a> Nodes<'a> {
 pub(crate) struct Parties<'a> {
     alloc: Global,
     pub(crate) link: OwnLink<'a>,
-    nodes: Nodes<'a>,
+    keepers: Keepers<OwnKeeper<'a>>,
+    nodes: Nodes,
 }
 
 /// A referee that begins over the slots of its keeper, and what that came to.
-pub(crate) fn begun_referee<'a>(
+pub(crate) fn begun_referee(
     alloc: Global,
     terms: Terms,
-    keeper: OwnKeeper<'a>,
-) -> Result<(OwnReferee<'a>, Outcome), LengthFault> {
+    keeper: &mut OwnKeeper,
+) -> Result<(RefereeNode, Outcome), LengthFault> {
     RefereeNode::begin(alloc, ID, terms, keeper)
 }
 
 /// A seat that begins over the slots of its keeper, and what that came to.
-pub(crate) fn begun_seat<'a>(
+pub(crate) fn begun_seat(
     alloc: Global,
     player: Player,
     terms: Terms,
-    keeper: OwnKeeper<'a>,
-) -> Result<(OwnSeat<'a>, Outcome), LengthFault> {
+    keeper: &mut OwnKeeper,
+) -> Result<(SeatNode, Outcome), LengthFault> {
     SeatNode::begin(alloc, player, ID, terms, keeper)
 }
 
+/// Keepers with empty slots, for which there may be no memory.
+fn empty_keepers<'a>(recorder: &'a Recorder) -> Result<Keepers<OwnKeeper<'a>>, WorldFault> {
+    Ok(Keepers {
+        referee: OwnKeeper::over(recorder, 0, &[], &[])?,
+        x: OwnKeeper::over(recorder, 1, &[], &[])?,
+        o: OwnKeeper::over(recorder, 2, &[], &[])?,
+    })
+}
+
 /// A referee of the match that begins over empty slots, for which there may be no memory.
-fn referee<'a>(recorder: &'a Recorder) -> Result<OwnReferee<'a>, WorldFault> {
-    let keeper = OwnKeeper::over(recorder, 0, &[], &[])?;
-    match begun_referee(recorder.alloc, TERMS, keeper) {
+fn referee(alloc: Global, keeper: &mut OwnKeeper) -> Result<RefereeNode, WorldFault> {
+    match begun_referee(alloc, TERMS, keeper) {
         Ok((referee, Outcome::Restarted)) => Ok(referee),
         Ok(_) => Err(WorldFault::Memory),
         Err(_) => Err(WorldFault::LengthOutOfRange),
@@ -91,9 +97,8 @@ fn referee<'a>(recorder: &'a Recorder) -> Result<OwnReferee<'a>, WorldFault> {
 }
 
 /// A seat of the match that begins over empty slots, for which there may be no memory.
-fn seat<'a>(recorder: &'a Recorder, player: Player) -> Result<OwnSeat<'a>, WorldFault> {
-    let keeper = OwnKeeper::over(recorder, party_of(player), &[], &[])?;
-    match begun_seat(recorder.alloc, player, TERMS, keeper) {
+fn seat(alloc: Global, player: Player, keeper: &mut OwnKeeper) -> Result<SeatNode, WorldFault> {
+    match begun_seat(alloc, player, TERMS, keeper) {
         Ok((seat, Outcome::Restarted)) => Ok(seat),
         Ok(_) => Err(WorldFault::Memory),
         Err(_) => Err(WorldFault::LengthOutOfRange),
@@ -113,16 +118,19 @@ impl<'a> Parties<'a> {
         recorder: &'a Recorder,
     ) -> Result<Parties<'a>, WorldFault> {
         let alloc = recorder.alloc;
+        let mut keepers = empty_keepers(recorder)?;
+        let nodes = Nodes {
+            referee: referee(alloc, &mut keepers.referee)?,
+            x: seat(alloc, Player::X, &mut keepers.x)?,
+            o: seat(alloc, Player::O, &mut keepers.o)?,
+            third: watcher(rt, alloc, 3),
+            fourth: watcher(rt, alloc, 4),
+        };
         Ok(Parties {
             alloc,
             link: OwnLink::by_picks(recorder),
-            nodes: Nodes {
-                referee: referee(recorder)?,
-                x: seat(recorder, Player::X)?,
-                o: seat(recorder, Player::O)?,
-                third: watcher(rt, alloc, 3),
-                fourth: watcher(rt, alloc, 4),
-            },
+            keepers,
+            nodes,
         })
     }
 
@@ -179,16 +187,18 @@ impl<'a> Parties<'a> {
 
     fn save(&mut self, party: u8) -> Outcome {
         match Role::of(party) {
-            Role::Referee => self.nodes.referee.save(),
-            Role::Seat(player) => self.nodes.seat(player).save(),
+            Role::Referee => self.nodes.referee.save(&mut self.keepers.referee),
+            Role::Seat(Player::X) => self.nodes.x.save(&mut self.keepers.x),
+            Role::Seat(Player::O) => self.nodes.o.save(&mut self.keepers.o),
             Role::Watcher(_) => Outcome::NoSuchParty,
         }
     }
 
     fn restart(&mut self, rt: &impl Abort, party: u8) -> Outcome {
         match Role::of(party) {
-            Role::Referee => self.nodes.referee.restart(),
-            Role::Seat(player) => self.nodes.seat(player).restart(),
+            Role::Referee => self.nodes.referee.restart(&mut self.keepers.referee),
+            Role::Seat(Player::X) => self.nodes.x.restart(&mut self.keepers.x),
+            Role::Seat(Player::O) => self.nodes.o.restart(&mut self.keepers.o),
             Role::Watcher(index) => match self.nodes.watcher(index) {
                 None => Outcome::NoSuchParty,
                 Some(node) => {

@@ -49,7 +49,7 @@ impl<L: Link, K: Keeper> RefereeProcess<L, K> {
         ensures { RefereeHappens L.is_honest K.is_honest (referee_moment L.Link K.Keeper self.old)
             (Event.Save referee_party) result (referee_moment L.Link K.Keeper self.new) }
     {
-        let outcome = self.node.save();
+        let outcome = self.node.save(&mut self.keeper);
         let held = entries_of(self.node.held());
         let event = Event::Save { party: REFEREE };
         self.notes.note(observer, &event, &outcome, held);
@@ -60,7 +60,7 @@ impl<L: Link, K: Keeper> RefereeProcess<L, K> {
         ensures { RefereeHappens L.is_honest K.is_honest (referee_moment L.Link K.Keeper self.old)
             (Event.Restart referee_party) result (referee_moment L.Link K.Keeper self.new) }
     {
-        let outcome = self.node.restart();
+        let outcome = self.node.restart(&mut self.keeper);
         let held = entries_of(self.node.held());
         let event = Event::Restart { party: REFEREE };
         self.notes.note(observer, &event, &outcome, held);

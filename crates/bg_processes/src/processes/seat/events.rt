@@ -43,7 +43,7 @@ impl<L: Link, K: Keeper> SeatProcess<L, K> {
         ensures { SeatHappens L.is_honest K.is_honest (seat_moment L.Link K.Keeper self.old)
             (Event.Save (party_of self.old.player)) result (seat_moment L.Link K.Keeper self.new) }
     {
-        let outcome = self.node.save();
+        let outcome = self.node.save(&mut self.keeper);
         let held = entries_of(self.node.held());
         let event = Event::Save {
             party: party_of(self.player),
@@ -56,7 +56,7 @@ impl<L: Link, K: Keeper> SeatProcess<L, K> {
         ensures { SeatHappens L.is_honest K.is_honest (seat_moment L.Link K.Keeper self.old)
             (Event.Restart (party_of self.old.player)) result (seat_moment L.Link K.Keeper self.new) }
     {
-        let outcome = self.node.restart();
+        let outcome = self.node.restart(&mut self.keeper);
         let held = entries_of(self.node.held());
         let event = Event::Restart {
             party: party_of(self.player),
