@@ -114,9 +114,13 @@ module _ (honest : Type 0) (save : Save) (answer : Result (Unit {0}) DeviceFault
 -- where nothing is begun
 pub none_in_world : (honest : Type 0) (party : ℕ) (old : WorldView) (o : Outcome) → SaveBegins old (role party) (Err o)
     → SaveCalls honest old (role party) o old
-none_in_world honest zero old o begins =
-    (old.referee_keeper, old.referee, no_steps referee_parts referee_after_save honest old.referee old.referee_keeper o
-    begins, refl)
+none_in_world honest zero old o begins = (
+  old.referee_keeper,
+  old.referee,
+  no_steps referee_parts referee_after_save honest old.referee old.referee_keeper o
+      begins,
+  refl,
+)
 none_in_world honest (suc zero) old o begins =
     (old.x_keeper, old.x, no_steps seat_parts seat_after_save honest old.x old.x_keeper o begins, refl)
 none_in_world honest (suc (suc zero)) old o begins =

@@ -5,6 +5,7 @@
 //! of the same nodes (docs/PROTOCOL.md, "Parties in processes of their own"). Their fields are
 //! private: a caller that holds a node can only make its events.
 
+mod followers;
 pub(crate) mod keeper_calls;
 pub(crate) mod link_calls;
 mod referee;

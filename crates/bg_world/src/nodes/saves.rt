@@ -138,7 +138,10 @@ pub(crate) fn end_save<C: Saves + Drop>(
 }
 
 /// Saves what a party holds. It is down where the write fails.
-pub(crate) fn save_party<C: Saves + Drop, K: Keeper>(keeper: &mut K, core: &mut Option<C>) -> Outcome
+pub(crate) fn save_party<C: Saves + Drop, K: Keeper>(
+    keeper: &mut K,
+    core: &mut Option<C>,
+) -> Outcome
     ensures { SaveCallsAt C.parts C.after_save K.is_honest (keeper_view K.Keeper keeper.old) core.old
         result (keeper_view K.Keeper keeper.new) core.new }
 {

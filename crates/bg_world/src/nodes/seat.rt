@@ -11,8 +11,8 @@ ghost use Rattle.bg_world.specs.Worlds.Views.{keeper_view, link_view};
 
 use crate::nodes::restarts::restart_seat;
 use crate::nodes::saves::{begin_save, end_save, end_where_changed, save_party};
-use crate::nodes::takes::take_at_seat;
-use crate::nodes::ticks::tick_seat;
+use crate::nodes::takes::take_at_follower;
+use crate::nodes::ticks::tick_follower;
 use crate::{DeviceFault, Keeper, Link, Outcome, Save};
 use bg_board::Player;
 use bg_match::{Action, LengthFault, Number, Record, Terms};
@@ -142,7 +142,7 @@ impl SeatNode {
         match &mut self.core {
             None => Outcome::Down,
             Some(core) => {
-                let outcome = take_at_seat(link, party, core, pick);
+                let outcome = take_at_follower(link, party, core, pick);
                 end_where_changed(&mut self.under_way, &outcome);
                 outcome
             }
@@ -159,7 +159,7 @@ impl SeatNode {
     {
         match &mut self.core {
             None => Outcome::Down,
-            Some(core) => tick_seat(link, parties, core),
+            Some(core) => tick_follower(link, parties, core),
         }
     }
 

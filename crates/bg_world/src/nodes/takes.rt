@@ -2,13 +2,12 @@
 ghost use Rattle.std.specs.Prelude.{◌≡◌};
 ghost use Rattle.bg_referee.specs.Takes.{AnswerFits, RefereeTakes};
 ghost use Rattle.bg_wire.specs.Packets.PacketText.{IsPacket};
-ghost use Rattle.bg_world.specs.Worlds.Calls.{SeatTakes, WatcherTakes};
 ghost use Rattle.bg_world.specs.Devices.LinkCalls.{AnswerCalls, FollowerTakeCalls, RefereeTakeCalls};
 ghost use Rattle.bg_world.specs.Worlds.Views.{link_view};
 
+use crate::nodes::followers::Follows;
 use crate::nodes::link_calls::{link_outcome, post, receive};
 use crate::{Link, Outcome};
-use bg_party::{Learned, Seat, Watcher};
 use bg_referee::{Referee, TakeOutcome};
 use bg_wire::{Packet, REFEREE};
 
@@ -37,21 +36,6 @@ fn hand_to_referee(core: &mut Referee, packet: &Packet, word: u32) -> TakeOutcom
     core.take(packet, word)
 }
 
-fn hand_to_seat(core: &mut Seat, packet: &Packet) -> Learned
-    requires { IsPacket packet.now }
-    ensures takes { SeatTakes core.old packet.now result core.new }
-    ensures next { core.new.next_save ≡ core.old.next_save }
-{
-    core.take(packet)
-}
-
-fn hand_to_watcher(core: &mut Watcher, packet: &Packet) -> Learned
-    requires { IsPacket packet.now }
-    ensures { WatcherTakes core.old packet.now result core.new }
-{
-    core.take(packet)
-}
-
 /// Takes a datagram at the referee, and sends its answer. `parties` is the number of parties, whose
 /// numbers are from 0.
 pub(crate) fn take_at_referee<L: Link>(
@@ -74,30 +58,19 @@ pub(crate) fn take_at_referee<L: Link>(
     }
 }
 
-/// Takes a datagram at a seat.
-pub(crate) fn take_at_seat<L: Link>(link: &mut L, party: u8, core: &mut Seat, pick: u32) -> Outcome
-    ensures next { core.new.next_save ≡ core.old.next_save }
-    ensures calls { FollowerTakeCalls SeatTakes L.is_honest party (link_view L.Link link.old) core.old pick
-        result (link_view L.Link link.new) core.new }
-{
-    match receive(link, party, pick) {
-        Err(why) => why,
-        Ok(packet) => Outcome::Learned(hand_to_seat(core, &packet)),
-    }
-}
-
-/// Takes a datagram at a watcher.
-pub(crate) fn take_at_watcher<L: Link>(
+/// Takes a datagram at a follower, whose number is `party`.
+pub(crate) fn take_at_follower<F: Follows, L: Link>(
     link: &mut L,
     party: u8,
-    core: &mut Watcher,
+    core: &mut F,
     pick: u32,
 ) -> Outcome
-    ensures { FollowerTakeCalls WatcherTakes L.is_honest party (link_view L.Link link.old) core.old pick
+    ensures next { F.next core.new ≡ F.next core.old }
+    ensures calls { FollowerTakeCalls F.takes L.is_honest party (link_view L.Link link.old) core.old pick
         result (link_view L.Link link.new) core.new }
 {
     match receive(link, party, pick) {
         Err(why) => why,
-        Ok(packet) => Outcome::Learned(hand_to_watcher(core, &packet)),
+        Ok(packet) => Outcome::Learned(core.hear(&packet)),
     }
 }

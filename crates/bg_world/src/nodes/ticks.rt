@@ -1,14 +1,13 @@
 //! Ticks of a party, on which it sends what its core returns without being asked.
 ghost use Rattle.std.specs.Prelude.{◌≡◌, length, ◌≤◌, IfSome};
 ghost use Rattle.std.specs.List.{AllByRecursion};
-ghost use Rattle.bg_party.specs.Claims.{SeatTicks, WatcherTicks};
 ghost use Rattle.bg_wire.specs.Packets.PacketText.{IsPacket};
 ghost use Rattle.bg_world.specs.Devices.LinkCalls.{FollowerTickCalls, RefereeTickCalls, SendCalls, to_referee};
 ghost use Rattle.bg_world.specs.Worlds.Views.{link_view};
 
+use crate::nodes::followers::Follows;
 use crate::nodes::link_calls::{link_outcome, post};
 use crate::{Link, Outcome};
-use bg_party::{Seat, Watcher};
 use bg_referee::Referee;
 use bg_wire::{Packet, REFEREE};
 
@@ -61,23 +60,18 @@ pub(crate) fn tick_referee<L: Link>(link: &mut L, parties: usize, core: &mut Ref
     send_all(link, parties, packets.as_slice())
 }
 
-/// Sends what a seat's tick returns.
-pub(crate) fn tick_seat<L: Link>(link: &mut L, parties: usize, core: &mut Seat) -> Outcome
+/// Sends what a follower's tick returns. `parties` is the number of parties, whose numbers are from
+/// 0, the referee among them.
+pub(crate) fn tick_follower<F: Follows, L: Link>(
+    link: &mut L,
+    parties: usize,
+    core: &mut F,
+) -> Outcome
     requires { 1 ≤ parties }
-    ensures next { core.new.next_save ≡ core.old.next_save }
-    ensures calls { FollowerTickCalls SeatTicks L.is_honest parties (link_view L.Link link.old) core.old
+    ensures next { F.next core.new ≡ F.next core.old }
+    ensures calls { FollowerTickCalls F.ticks L.is_honest parties (link_view L.Link link.old) core.old
         result (link_view L.Link link.new) core.new }
 {
-    let packet = core.tick();
-    send_to_referee(link, parties, &packet)
-}
-
-/// Sends what a watcher's tick returns.
-pub(crate) fn tick_watcher<L: Link>(link: &mut L, parties: usize, core: &mut Watcher) -> Outcome
-    requires { 1 ≤ parties }
-    ensures { FollowerTickCalls WatcherTicks L.is_honest parties (link_view L.Link link.old) core.old
-        result (link_view L.Link link.new) core.new }
-{
-    let packet = core.tick();
+    let packet = core.ask();
     send_to_referee(link, parties, &packet)
 }

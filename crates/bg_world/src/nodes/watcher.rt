@@ -9,8 +9,8 @@ ghost use Rattle.bg_world.specs.Worlds.Calls.{WatcherTakes};
 ghost use Rattle.bg_world.specs.Devices.LinkCalls.{FollowerTakeCalls, FollowerTickCalls};
 ghost use Rattle.bg_world.specs.Worlds.Views.{link_view};
 
-use crate::nodes::takes::take_at_watcher;
-use crate::nodes::ticks::tick_watcher;
+use crate::nodes::takes::take_at_follower;
+use crate::nodes::ticks::tick_follower;
 use crate::{Link, Outcome};
 use bg_match::{LengthFault, Record, Terms};
 use bg_party::Watcher;
@@ -71,7 +71,7 @@ impl WatcherNode {
         ensures { FollowerTakeCalls WatcherTakes L.is_honest self.old.party (link_view L.Link link.old) self.old pick
             result (link_view L.Link link.new) self.new }
     {
-        take_at_watcher(link, self.party, &mut self.core, pick)
+        take_at_follower(link, self.party, &mut self.core, pick)
     }
 
     /// Sends the packet that its core returns. `parties` is the number of parties, whose numbers
@@ -81,6 +81,6 @@ impl WatcherNode {
         ensures { FollowerTickCalls WatcherTicks L.is_honest parties (link_view L.Link link.old) self.old
             result (link_view L.Link link.new) self.new }
     {
-        tick_watcher(link, parties, &mut self.core)
+        tick_follower(link, parties, &mut self.core)
     }
 }
