@@ -1,7 +1,7 @@
 -- A save in two steps is the event Save.
 use Rattle.std.specs.Prelude.{◌≡◌, ℕ, zero, suc, Option, Some, None, Result, Ok, Err}
 use Rattle.std.specs.Global.{Vec}
-use Rattle.std.proofs.Common.{refl, sym, subst, ◌∙◌}
+use Rattle.std.proofs.Common.{refl, subst, ◌∙◌}
 use Rattle.bg_board.specs.declared.players.Player.{Player}
 use Rattle.bg_board.specs.declared.players.Player.TheVariants.{X, O}
 use Rattle.bg_wire.specs.Saved.SavedText.{SavedParts}
@@ -20,7 +20,6 @@ use Rattle.bg_world.specs.Worlds.Views.{KeeperView, WorldView, seat_core, seat_k
 use Rattle.bg_world.specs.Protocol.Roles.{role}
 use Rattle.bg_world.specs.declared.devices.DeviceFault.{DeviceFault}
 use Rattle.bg_world.specs.declared.events.Outcome.{Outcome}
-use Rattle.bg_world.specs.declared.events.Outcome.TheVariants as outcomes
 use Rattle.bg_world.specs.declared.nodes.saves.Save.{Save}
 use Rattle.bg_world.specs.declared.roles.Role.TheVariants as roles
 use Rattle.bg_world.proofs.Seats.{either_order, same_core}

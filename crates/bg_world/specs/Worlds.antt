@@ -5,6 +5,7 @@ pub mod WorldState
 pub mod WorldRuns
 pub mod World
 pub mod TwoSteps
+pub mod HeldKeepers
 pub mod UnderWay
 pub mod Nodes
 pub mod Seats

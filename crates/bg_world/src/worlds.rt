@@ -111,6 +111,8 @@ impl<L: Link + Drop, K: Keeper + Drop> World<L, K> {
 
 impl<L: Link, K: Keeper> World<L, K> {
     ghost use Rattle.bg_world.specs.Protocol.Roles.{role};
+    ghost use Rattle.std.specs.Borrow.{sem};
+    ghost use Rattle.bg_world.specs.Worlds.HeldKeepers.{LendsKeepers};
     ghost use Rattle.bg_world.specs.Worlds.Starts.{held_of};
     ghost use Rattle.bg_world.specs.Worlds.Views.{link_view, parties};
     ghost use Rattle.bg_world.specs.Worlds.World.{view_of};
@@ -120,6 +122,15 @@ impl<L: Link, K: Keeper> World<L, K> {
         ensures { link_view L.Link result.now ≡ (view_of L.Link K.Keeper self.now).link }
     {
         &self.link
+    }
+
+    /// Returns the keepers, for a host that writes the saves that it has begun. All else of the world
+    /// stays.
+    pub fn keepers_mut(&mut self) -> &mut Keepers<K>
+        ensures* lends { sem 𝓛 (LendsKeepers L.row K.row self.entry result) }
+        ensures value { result.now ≡ self.old.keepers }
+    {
+        &mut self.keepers
     }
 
     /// Returns the number of parties; they have the numbers from 0.

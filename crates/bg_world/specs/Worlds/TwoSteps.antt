@@ -1,5 +1,5 @@
 -- A save of a party of a world in two steps: it is begun, the host writes, and it is ended.
-use Rattle.std.specs.Prelude.{◌≡◌, ℕ, Option, Some, None, Result, Ok, Err}
+use Rattle.std.specs.Prelude.{◌≡◌, ℕ, Option, None, Result, Err}
 use Rattle.bg_board.specs.declared.players.Player.TheVariants.{X, O}
 use Rattle.bg_wire.specs.Saved.SavedText.{SavedParts}
 use Rattle.bg_referee.specs.Referee.{referee_after_save}
