@@ -15,6 +15,7 @@ mod outcomes;
 mod parties;
 mod scripts;
 mod simulations;
+mod two_steps;
 mod worked_matches;
 
 use crate::checks::check_party;

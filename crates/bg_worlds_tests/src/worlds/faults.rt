@@ -19,7 +19,7 @@ use std::process::Abort;
 /// In `failed_writes` the first save of the seat of O fails: it is down until it restarts, and the others are up.
 ///
 /// In `parties_that_are_not_there` events are at parties that are not there, or that save nothing.
-const PLAYS: &str = "\
+pub(crate) const PLAYS: &str = "\
 the_drawn_run
 watchers 1
 fails: write 0 2 20

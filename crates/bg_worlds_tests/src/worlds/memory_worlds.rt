@@ -29,12 +29,12 @@ fn number(rt: &impl Abort, word: &str) -> u32 {
 }
 
 /// The small number that a word says: a party, a length, or how many watch.
-fn small_number(rt: &impl Abort, word: &str) -> u8 {
+pub(crate) fn small_number(rt: &impl Abort, word: &str) -> u8 {
     word.parse().expect(rt, "a number up to 255")
 }
 
 /// What stands before these words and behind them.
-fn parted<'a>(rt: &impl Abort, line: &'a str, by: &str) -> (&'a str, &'a str) {
+pub(crate) fn parted<'a>(rt: &impl Abort, line: &'a str, by: &str) -> (&'a str, &'a str) {
     line.split_once(by).expect(rt, "two parts")
 }
 

@@ -21,7 +21,7 @@ use std::process::Abort;
 ///
 /// In `a_claim_is_lost` the seat of X restarts before it has saved its claim: that is gone, and so is what the seat had
 /// learned. It wants all entries.
-const PLAYS: &str = "\
+pub(crate) const PLAYS: &str = "\
 a_turn_with_a_watcher
 watchers 1
 as a_turn

@@ -1,0 +1,194 @@
+//! Saves in two steps: a host is told what to write, writes it, and says what became of the write.
+use crate::worlds::faults::PLAYS as FAULTS;
+use crate::worlds::lines::{check_outcome, event, lines_of};
+use crate::worlds::memory_worlds::{
+    MemoryWorld, check_line, check_lines, held, parted, small_number, step, world_of,
+};
+use crate::worlds::worked_matches::PLAYS as WORKED;
+use bg_world::{DeviceFault, Keeper, Outcome, Save};
+use std::process::Abort;
+
+fn begin(world: &mut MemoryWorld, party: u8) -> Result<Save, Outcome> {
+    world.begin_save(party)
+}
+
+fn end(
+    world: &mut MemoryWorld,
+    party: u8,
+    number: u32,
+    written: Result<(), DeviceFault>,
+) -> Option<Outcome> {
+    world.end_save(party, number, written)
+}
+
+/// The host writes a save to the keeper of its party.
+fn write(world: &mut MemoryWorld, party: u8, save: &Save) -> Result<(), DeviceFault> {
+    let keepers = world.keepers_mut();
+    match party {
+        0 => keepers.referee.write(save.slot, save.text.as_slice()),
+        1 => keepers.x.write(save.slot, save.text.as_slice()),
+        _ => keepers.o.write(save.slot, save.text.as_slice()),
+    }
+}
+
+/// A party saves in two steps: what the save comes to.
+fn save_in_two_steps(rt: &impl Abort, world: &mut MemoryWorld, party: u8) -> Outcome {
+    match begin(world, party) {
+        Err(outcome) => outcome,
+        Ok(save) => {
+            let written = write(world, party, &save);
+            end(world, party, save.number, written).expect(rt, "a save that is under way")
+        }
+    }
+}
+
+/// All lines of a play hold, where each party saves in two steps.
+fn check_play(rt: &(impl AllocGlobal + Abort), plays: &'static str, name: &str) {
+    let lines = lines_of(rt, plays, name);
+    let mut world = world_of(rt, &lines);
+    for line in &lines {
+        if let Some(row) = line.strip_prefix("save ") {
+            let (party, expected) = parted(rt, row, " -> ");
+            let outcome = save_in_two_steps(rt, &mut world, small_number(rt, party));
+            check_outcome(rt, line, &outcome, expected);
+        } else {
+            check_line(rt, &mut world, line);
+        }
+    }
+}
+
+#[test]
+fn plays_in_two_steps(rt: HostRuntime) {
+    for name in [
+        "the_drawn_run",
+        "failed_reads",
+        "failed_writes",
+        "parties_that_are_not_there",
+    ] {
+        check_play(&rt, FAULTS, name);
+    }
+    for name in [
+        "a_turn_with_a_watcher",
+        "a_roll_is_saved",
+        "a_roll_is_lost",
+        "a_claim_is_kept",
+    ] {
+        check_play(&rt, WORKED, name);
+    }
+}
+
+/// What has happened before a save is begun.
+const BEFORE: &str = "\
+nothing
+length 1
+
+an_opening
+due 12 -> entry 1
+
+an_answer
+as the_opening
+tick 1 -> sent 1
+take 0 0 0 -> answer to 1: entries 1 to 1
+
+a_learned_opening
+as the_opening
+tick 1 -> sent 1
+take 0 0 0 -> answer to 1: entries 1 to 1
+take 1 0 0 -> learned 1
+
+a_claim
+as to_the_choice
+
+a_sent_claim
+as to_the_choice
+as to_the_claim
+";
+
+fn world_after(rt: &(impl AllocGlobal + Abort), name: &str) -> MemoryWorld {
+    let lines = lines_of(rt, BEFORE, name);
+    let mut world = world_of(rt, &lines);
+    check_lines(rt, &mut world, &lines);
+    world
+}
+
+/// Whether a save of the party is still under way after this event.
+fn is_under_way_after(
+    rt: &(impl AllocGlobal + Abort),
+    before: &str,
+    party: u8,
+    line: &str,
+) -> bool {
+    let mut world = world_after(rt, before);
+    let save = begin(&mut world, party).expect(rt, "a save");
+    step(&mut world, event(rt, line));
+    match end(&mut world, party, save.number, Ok(())) {
+        None => false,
+        Some(outcome) => {
+            assert!(rt; outcome == Outcome::Saved(save.number), "{line}");
+            true
+        }
+    }
+}
+
+/// The record or the claim of the party changes, or it saves or begins again.
+#[test]
+fn what_ends_a_save(rt: HostRuntime) {
+    for (before, party, line) in [
+        ("nothing", 0, "due 12"),
+        ("a_sent_claim", 0, "take 0 1 0"),
+        ("an_answer", 1, "take 1 0 0"),
+        ("a_learned_opening", 1, "choose X move 8-5 6-5"),
+        ("an_opening", 0, "save 0"),
+        ("an_opening", 0, "restart 0"),
+        ("a_claim", 1, "save 1"),
+        ("a_claim", 1, "restart 1"),
+    ] {
+        assert!(rt; !is_under_way_after(&rt, before, party, line), "{before}: {line}");
+    }
+}
+
+/// Nothing that is saved changes, or it changes at another party.
+#[test]
+fn what_a_save_outlives(rt: HostRuntime) {
+    for (before, party, line) in [
+        ("an_opening", 0, "due 12"),
+        ("an_answer", 0, "take 0 0 0"),
+        ("an_answer", 0, "tick 0"),
+        ("an_answer", 0, "take 1 0 0"),
+        ("an_answer", 2, "take 1 0 0"),
+        ("a_claim", 1, "take 1 0 0"),
+        ("a_claim", 1, "tick 1"),
+        ("a_claim", 1, "choose X move 24-23 24-21"),
+        ("a_claim", 0, "save 1"),
+        ("a_claim", 1, "restart 0"),
+        ("a_claim", 2, "restart 1"),
+    ] {
+        assert!(rt; is_under_way_after(&rt, before, party, line), "{before}: {line}");
+    }
+}
+
+#[test]
+fn saves_of_another_number(rt: HostRuntime) {
+    let mut world = world_after(&rt, "an_opening");
+    assert!(rt; end(&mut world, 0, 1, Ok(())).is_none(), "none was begun");
+    let save = begin(&mut world, 0).expect(&rt, "a save");
+    assert!(rt; save.number == 1 && save.text.len() == 33);
+    assert!(rt; end(&mut world, 0, 2, Ok(())).is_none(), "another number");
+    assert!(rt; end(&mut world, 1, 1, Ok(())).is_none(), "another party");
+    assert!(rt; end(&mut world, 3, 1, Ok(())).is_none(), "no party");
+    assert!(rt; end(&mut world, 0, 1, Ok(())) == Some(Outcome::Saved(1)));
+    assert!(rt; end(&mut world, 0, 1, Ok(())).is_none(), "it was ended");
+}
+
+#[test]
+fn saves_that_fail(rt: HostRuntime) {
+    for fault in [DeviceFault::Failed, DeviceFault::Memory] {
+        let mut world = world_after(&rt, "an_opening");
+        let save = begin(&mut world, 0).expect(&rt, "a save");
+        let outcome = end(&mut world, 0, save.number, Err(fault));
+        assert!(rt; outcome == Some(Outcome::SaveFault));
+        assert!(rt; held(&world, 0).is_none() && held(&world, 1) == Some(0));
+        assert!(rt; begin(&mut world, 0).err() == Some(Outcome::Down));
+        assert!(rt; begin(&mut world, 3).err() == Some(Outcome::NoSuchParty));
+    }
+}
