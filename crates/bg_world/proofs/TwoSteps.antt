@@ -1,7 +1,7 @@
 -- A save in two steps is the event Save.
 use Rattle.std.specs.Prelude.{◌≡◌, ℕ, zero, suc, Option, Some, None, Result, Ok, Err}
 use Rattle.std.specs.Global.{Vec}
-use Rattle.std.proofs.Common.{refl, subst, ◌∙◌}
+use Rattle.std.proofs.Common.{refl, sym, subst, ◌∙◌}
 use Rattle.bg_board.specs.declared.players.Player.{Player}
 use Rattle.bg_board.specs.declared.players.Player.TheVariants.{X, O}
 use Rattle.bg_wire.specs.Saved.SavedText.{SavedParts}
@@ -14,14 +14,16 @@ use Rattle.bg_party.specs.Views.{SeatView, seat_after_save}
 use Rattle.bg_world.specs.Devices.DeviceCalls.{WritesOnce}
 use Rattle.bg_world.specs.Devices.KeeperCalls.{BeginsSave, EndsSave, SaveCallsAt, SaveTold, begun}
 use Rattle.bg_world.specs.Worlds.Calls.{SaveCalls, referee_parts, seat_parts}
-use Rattle.bg_world.specs.Worlds.TwoSteps.{HostWrites, SaveBegins, SaveEnds, told_next}
+use Rattle.bg_world.specs.Worlds.TwoSteps.{HostWrites, OtherSavesStay, SaveBegins, SaveEnds, save_under_way, told_next}
 use Rattle.bg_world.specs.Worlds.UnderWay.{told_by}
 use Rattle.bg_world.specs.Worlds.Views.{KeeperView, WorldView, seat_core, seat_keeper}
 use Rattle.bg_world.specs.Protocol.Roles.{role}
 use Rattle.bg_world.specs.declared.devices.DeviceFault.{DeviceFault}
 use Rattle.bg_world.specs.declared.events.Outcome.{Outcome}
 use Rattle.bg_world.specs.declared.nodes.saves.Save.{Save}
+use Rattle.bg_world.specs.declared.roles.Role.{Role}
 use Rattle.bg_world.specs.declared.roles.Role.TheVariants as roles
+use Rattle.bg_world.specs.declared.worlds.World.{World}
 use Rattle.bg_world.proofs.Seats.{either_order, same_core}
 
 -- ---- at one party, whose core may be of any kind
@@ -125,3 +127,11 @@ none_in_world honest (suc zero) old o begins =
 none_in_world honest (suc (suc zero)) old o begins =
     (old.o_keeper, old.o, no_steps seat_parts seat_after_save honest old.o old.o_keeper o begins, refl)
 none_in_world honest (suc (suc (suc i))) old o begins = (cc begins, refl)
+
+-- what stays under way at all parties but one, party by party
+pub others_stay : {L K : Type 0} (own : Role) (old new : World L K) → OtherSavesStay own old new → (other : Role)
+    → (other ≡ own → ⊥) → save_under_way new other ≡ save_under_way old other
+others_stay own old new h roles.Referee differs = h.referee (λ e. differs (sym e))
+others_stay own old new h (roles.Seat X) differs = h.x (λ e. differs (sym e))
+others_stay own old new h (roles.Seat O) differs = h.o (λ e. differs (sym e))
+others_stay own old new h (roles.Watcher index) differs = refl

@@ -8,7 +8,6 @@ pub mod TwoSteps
 pub mod HeldKeepers
 pub mod UnderWay
 pub mod Nodes
-pub mod Seats
 pub mod Interleavings
 pub mod Starts
 pub mod NotRefused

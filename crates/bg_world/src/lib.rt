@@ -36,7 +36,7 @@ pub use devices::notes::{count_failed, note_taken};
 pub use devices::plans::{FailRead, FailSend, Plan, Tear};
 pub use devices::{DeviceFault, Keeper, Link, Taken};
 pub use events::{Event, Outcome, RestoreCause};
-pub(crate) use nodes::{Seats, Watchers};
+pub(crate) use nodes::Watchers;
 pub use nodes::{RefereeNode, Save, SeatNode, WatcherNode};
 pub use roles::Role;
 pub use texts::event_lines::{event_texts_differ, parse_event};

@@ -1,9 +1,9 @@
-//! The parties of a match, each by itself: its core, while it is up, and the keeper of its saved
-//! texts.
+//! The parties of a match, each by itself: its core, while it is up, and the save that is under way.
 //!
 //! A process that runs one party makes the calls of its node, and a [`World`](crate::World) is made
-//! of the same nodes (docs/PROTOCOL.md, "Parties in processes of their own"). Their fields are
-//! private: a caller that holds a node can only make its events.
+//! of the same nodes (docs/PROTOCOL.md, "Parties in processes of their own"). Each call is handed
+//! the link or the keeper that it is to use. The fields of a node are private: a caller that holds
+//! one can only make its events.
 
 mod followers;
 pub(crate) mod keeper_calls;
@@ -12,7 +12,6 @@ mod referee;
 pub(crate) mod restarts;
 pub(crate) mod saves;
 mod seat;
-mod seats;
 pub(crate) mod takes;
 pub(crate) mod ticks;
 mod watcher;
@@ -21,6 +20,5 @@ mod watchers;
 pub use referee::RefereeNode;
 pub use saves::Save;
 pub use seat::SeatNode;
-pub(crate) use seats::Seats;
 pub use watcher::WatcherNode;
 pub(crate) use watchers::Watchers;

@@ -12,9 +12,7 @@ pub(crate) mod setups;
 pub(crate) mod simulations;
 pub(crate) mod steps;
 
-use crate::{
-    Keeper, Keepers, Link, RefereeNode, Role, SeatNode, Seats, Setup, Watchers, WorldFault,
-};
+use crate::{Keeper, Keepers, Link, RefereeNode, Role, SeatNode, Setup, Watchers, WorldFault};
 use bg_board::Player;
 use bg_match::{Record, Terms};
 use bg_wire::FIRST_WATCHER;
@@ -32,12 +30,13 @@ pub struct World<L, K> {
     pub(crate) link: L,
     pub(crate) keepers: Keepers<K>,
     pub(crate) referee: RefereeNode,
-    pub(crate) seats: Seats,
+    pub(crate) x: SeatNode,
+    pub(crate) o: SeatNode,
     pub(crate) watchers: Watchers,
     ghost length_in_range: { IsMatchLength (match_length terms) },
-    ghost same_id: { (referee.id ≡ id) × (seats.x.id ≡ id) × (seats.o.id ≡ id) },
-    ghost same_terms: { (referee.terms ≡ terms) × (seats.x.terms ≡ terms) × (seats.o.terms ≡ terms) },
-    ghost players: { (seats.x.player ≡ X) × (seats.o.player ≡ O) },
+    ghost same_id: { (referee.id ≡ id) × (x.id ≡ id) × (o.id ≡ id) },
+    ghost same_terms: { (referee.terms ≡ terms) × (x.terms ≡ terms) × (o.terms ≡ terms) },
+    ghost players: { (x.player ≡ X) × (o.player ≡ O) },
 }
 
 impl<L: Link + Drop, K: Keeper + Drop> World<L, K> {
@@ -100,10 +99,8 @@ impl<L: Link + Drop, K: Keeper + Drop> World<L, K> {
             link,
             keepers,
             referee: RefereeNode::fresh(alloc, id, terms).unwrap(),
-            seats: Seats {
-                x: SeatNode::fresh(alloc, Player::X, id, terms).unwrap(),
-                o: SeatNode::fresh(alloc, Player::O, id, terms).unwrap(),
-            },
+            x: SeatNode::fresh(alloc, Player::X, id, terms).unwrap(),
+            o: SeatNode::fresh(alloc, Player::O, id, terms).unwrap(),
             watchers,
         })
     }
@@ -115,7 +112,7 @@ impl<L: Link, K: Keeper> World<L, K> {
     ghost use Rattle.bg_world.specs.Worlds.HeldKeepers.{LendsKeepers};
     ghost use Rattle.bg_world.specs.Worlds.Starts.{held_of};
     ghost use Rattle.bg_world.specs.Worlds.Views.{link_view, parties};
-    ghost use Rattle.bg_world.specs.Worlds.World.{view_of};
+    ghost use Rattle.bg_world.specs.Worlds.World.{seat_of, view_of};
 
     /// Returns the link.
     pub fn link(&self) -> &L
@@ -142,6 +139,16 @@ impl<L: Link, K: Keeper> World<L, K> {
         usize::from(FIRST_WATCHER) + self.watchers.len()
     }
 
+    /// Returns the seat of a player.
+    fn seat(&self, player: Player) -> &SeatNode
+        ensures { result.now ≡ seat_of self.now player }
+    {
+        match player {
+            Player::X => &self.x,
+            Player::O => &self.o,
+        }
+    }
+
     /// Returns the record of a party, from 0, or `None` exactly where there is no such party, or it
     /// is down.
     pub fn held(&self, party: u8) -> Option<&Record>
@@ -149,7 +156,7 @@ impl<L: Link, K: Keeper> World<L, K> {
     {
         match Role::of(party) {
             Role::Referee => self.referee.held(),
-            Role::Seat(player) => self.seats.of(player).held(),
+            Role::Seat(player) => self.seat(player).held(),
             Role::Watcher(index) => self.watchers.held(index),
         }
     }

@@ -85,16 +85,6 @@ pushes_alike r (one ∷ some) (x ∷ xs) (y ∷ ys) h k =
 
 -- ---- what the referee makes of a packet
 
-can_answer : (a : Action) (dice : Option Dice) (e : Entry) → Answers a dice e → CanAnswer a dice
-can_answer action.Roll dice e h = λ none. let bad = sym none ∙ h.1 in absurd cc
-can_answer action.Double dice e h = tt
-can_answer action.Take dice e h = tt
-can_answer action.Drop dice e h = tt
-can_answer (action.Move turn) dice e h = tt
-can_answer (action.Resign level) dice e h = tt
-can_answer action.Accept dice e h = tt
-can_answer action.Reject dice e h = tt
-
 module _ (old new : RefereeView) (a : Action) (dice : Option Dice) where
   follows_not : (e f : Entry) → Answers a dice e → Answers a dice f → (IsNext old.log.terms old.log.entries e → ⊥)
       → IsNext old.log.terms old.log.entries f → ⊥

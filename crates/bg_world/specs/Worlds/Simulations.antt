@@ -55,8 +55,8 @@ memory_view w = record {
   x_keeper = memory_keeper_view w.keepers.x;
   o_keeper = memory_keeper_view w.keepers.o;
   referee = w.referee.core;
-  x = w.seats.x.core;
-  o = w.seats.o.core;
+  x = w.x.core;
+  o = w.o.core;
   watchers = w.watchers;
 }
 

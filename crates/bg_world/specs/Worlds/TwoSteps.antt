@@ -9,7 +9,10 @@ use Rattle.bg_world.specs.Devices.KeeperCalls.{BeginsSave, EndsSave}
 use Rattle.bg_world.specs.Worlds.Calls.{referee_parts, seat_parts}
 use Rattle.bg_world.specs.Worlds.UnderWay.{told_by}
 use Rattle.bg_world.specs.Worlds.Views.{KeeperView, WorldView, seat_core, seat_keeper, with_seat_core, with_seat_keeper}
+use Rattle.bg_world.specs.Protocol.Roles.{role}
 use Rattle.bg_world.specs.declared.devices.DeviceFault.{DeviceFault}
+use Rattle.bg_world.specs.declared.events.Event.{Event}
+use Rattle.bg_world.specs.declared.events.Event.TheVariants as events
 use Rattle.bg_world.specs.declared.events.Outcome.{Outcome}
 use Rattle.bg_world.specs.declared.events.Outcome.TheVariants as outcomes
 use Rattle.bg_world.specs.declared.nodes.saves.Save.{Save}
@@ -20,9 +23,24 @@ use Rattle.bg_world.specs.declared.worlds.World.{World}
 -- the save of a party that is under way
 abbrev pub save_under_way : {L K : Type 0} → World L K → Role → Option ℕ
 save_under_way w roles.Referee = w.referee.under_way
-save_under_way w (roles.Seat X) = w.seats.x.under_way
-save_under_way w (roles.Seat O) = w.seats.o.under_way
+save_under_way w (roles.Seat X) = w.x.under_way
+save_under_way w (roles.Seat O) = w.o.under_way
 save_under_way w (roles.Watcher index) = None
+
+-- the saves of all parties but this one stay as they were
+pub record OtherSavesStay {L K : Type 0} (own : Role) (old new : World L K) : Type 0 where
+  pub referee : (own ≡ roles.Referee → ⊥) → new.referee.under_way ≡ old.referee.under_way
+  pub x : (own ≡ roles.Seat X → ⊥) → new.x.under_way ≡ old.x.under_way
+  pub o : (own ≡ roles.Seat O → ⊥) → new.o.under_way ≡ old.o.under_way
+
+-- the party at which the event happens
+abbrev pub role_of : Event → Role
+role_of (events.Due word) = roles.Referee
+role_of (events.Take party pick word) = role party
+role_of (events.Choose player action) = roles.Seat player
+role_of (events.Save party) = role party
+role_of (events.Tick party) = role party
+role_of (events.Restart party) = role party
 
 -- what the next save of the party tells, where it is up
 abbrev pub told_next : WorldView → Role → Option SavedParts

@@ -1,7 +1,10 @@
 -- A world as contracts see it.
+use Rattle.bg_board.specs.declared.players.Player.{Player}
+use Rattle.bg_board.specs.declared.players.Player.TheVariants.{X, O}
 use Rattle.bg_world.specs.Worlds.Views.{WorldView, keeper_view, link_view}
 use Rattle.bg_world.specs.declared.devices.Keeper as keeper
 use Rattle.bg_world.specs.declared.devices.Link as link
+use Rattle.bg_world.specs.declared.nodes.seat.SeatNode.{SeatNode}
 use Rattle.bg_world.specs.declared.worlds.World.{World}
 
 abbrev pub view_of : {L K : Type 0} → link.Ghosts L → keeper.Ghosts K → World L K → WorldView
@@ -13,7 +16,12 @@ view_of l k w = record {
   x_keeper = keeper_view k w.keepers.x;
   o_keeper = keeper_view k w.keepers.o;
   referee = w.referee.core;
-  x = w.seats.x.core;
-  o = w.seats.o.core;
+  x = w.x.core;
+  o = w.o.core;
   watchers = w.watchers;
 }
+
+-- the seat of a player
+abbrev pub seat_of : {L K : Type 0} → World L K → Player → SeatNode
+seat_of w X = w.x
+seat_of w O = w.o

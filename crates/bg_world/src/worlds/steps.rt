@@ -2,6 +2,7 @@
 ghost use Rattle.std.specs.Prelude.{◌≡◌, ◌+◌, ◌↔◌, ℕ, Some, IsSome, MatchOption};
 ghost use Rattle.bg_wire.specs.Entries.Codes.{first_watcher};
 ghost use Rattle.bg_wire.specs.Parties.{party_of};
+ghost use Rattle.bg_world.specs.declared.roles.Role.{Role as ARole};
 ghost use Rattle.bg_world.specs.declared.roles.Role.TheVariants as roles;
 
 use crate::{DeviceFault, Event, Keeper, Link, Outcome, Role, Save, World};
@@ -13,7 +14,7 @@ impl<L: Link, K: Keeper> World<L, K> {
     ghost use Rattle.bg_world.specs.Worlds.Calls.{Calls, ChooseCalls, DueCalls, RestartCalls, SaveCalls, TakeCalls};
     ghost use Rattle.bg_world.specs.Worlds.Calls.{TickCalls};
     ghost use Rattle.bg_world.specs.Worlds.NotRefused.{IsNotRefused};
-    ghost use Rattle.bg_world.specs.Worlds.TwoSteps.{SaveBegins, SaveEnds, save_under_way};
+    ghost use Rattle.bg_world.specs.Worlds.TwoSteps.{OtherSavesStay, SaveBegins, SaveEnds, role_of, save_under_way};
     ghost use Rattle.bg_world.specs.Worlds.UnderWay.{under_way_from};
     ghost use Rattle.bg_world.specs.Worlds.World.{view_of};
     ghost use Rattle.bg_world.specs.Worlds.WorldRuns.{StepsProtocol};
@@ -26,6 +27,9 @@ impl<L: Link, K: Keeper> World<L, K> {
     pub fn step(&mut self, event: Event) -> Outcome
         ensures calls { Calls L.is_honest K.is_honest (view_of L.Link K.Keeper self.old) event
             result (view_of L.Link K.Keeper self.new) }
+        // What other parties have under way to be saved stays so.
+        ensures others { (other : ARole) → (other ≡ role_of event → ⊥)
+            → save_under_way self.new other ≡ save_under_way self.old other }
         // Over honest devices it is a step of the protocol,
         ensures protocol { L.is_honest → K.is_honest → StepsProtocol (view_of L.Link K.Keeper self.old) event result
             (view_of L.Link K.Keeper self.new) }
@@ -38,7 +42,8 @@ impl<L: Link, K: Keeper> World<L, K> {
 
     /// Makes the calls of an event.
     pub(crate) fn happen(&mut self, event: Event) -> Outcome
-        ensures { Calls L.is_honest K.is_honest (view_of L.Link K.Keeper self.old) event
+        ensures others { OtherSavesStay (role_of event) self.old self.new }
+        ensures calls { Calls L.is_honest K.is_honest (view_of L.Link K.Keeper self.old) event
             result (view_of L.Link K.Keeper self.new) }
     {
         match event {
@@ -53,22 +58,28 @@ impl<L: Link, K: Keeper> World<L, K> {
 
     /// Opens a game at the referee, or passes a turn.
     fn due(&mut self, word: u32) -> Outcome
-        ensures { DueCalls (view_of L.Link K.Keeper self.old) word result (view_of L.Link K.Keeper self.new) }
+        ensures others { OtherSavesStay roles.Referee self.old self.new }
+        ensures calls { DueCalls (view_of L.Link K.Keeper self.old) word result (view_of L.Link K.Keeper self.new) }
     {
         self.referee.due(word)
     }
 
     /// Claims what a player chooses, at the player's seat.
     fn choose(&mut self, player: Player, action: Action) -> Outcome
-        ensures { ChooseCalls (view_of L.Link K.Keeper self.old) player action
+        ensures others { OtherSavesStay (roles.Seat player) self.old self.new }
+        ensures calls { ChooseCalls (view_of L.Link K.Keeper self.old) player action
             result (view_of L.Link K.Keeper self.new) }
     {
-        self.seats.of_mut(player).choose(action)
+        match player {
+            Player::X => self.x.choose(action),
+            Player::O => self.o.choose(action),
+        }
     }
 
     /// Takes what the link gives for this pick, at a party.
     fn take(&mut self, party: u8, pick: u32, word: u32) -> Outcome
-        ensures { TakeCalls L.is_honest (view_of L.Link K.Keeper self.old) (role party) party pick word
+        ensures others { OtherSavesStay (role party) self.old self.new }
+        ensures calls { TakeCalls L.is_honest (view_of L.Link K.Keeper self.old) (role party) party pick word
             result (view_of L.Link K.Keeper self.new) }
     {
         let parties = self.parties();
@@ -80,15 +91,20 @@ impl<L: Link, K: Keeper> World<L, K> {
     }
 
     fn take_at_seat(&mut self, player: Player, pick: u32) -> Outcome
-        ensures { (word : ℕ) → TakeCalls L.is_honest (view_of L.Link K.Keeper self.old) (roles.Seat player)
+        ensures others { OtherSavesStay (roles.Seat player) self.old self.new }
+        ensures calls { (word : ℕ) → TakeCalls L.is_honest (view_of L.Link K.Keeper self.old) (roles.Seat player)
             (party_of player) pick word result (view_of L.Link K.Keeper self.new) }
     {
-        self.seats.of_mut(player).take(&mut self.link, pick)
+        match player {
+            Player::X => self.x.take(&mut self.link, pick),
+            Player::O => self.o.take(&mut self.link, pick),
+        }
     }
 
     /// Sends what a party's core returns.
     fn tick(&mut self, party: u8) -> Outcome
-        ensures { TickCalls L.is_honest (view_of L.Link K.Keeper self.old) (role party)
+        ensures others { OtherSavesStay (role party) self.old self.new }
+        ensures calls { TickCalls L.is_honest (view_of L.Link K.Keeper self.old) (role party)
             result (view_of L.Link K.Keeper self.new) }
     {
         let parties = self.parties();
@@ -100,11 +116,15 @@ impl<L: Link, K: Keeper> World<L, K> {
     }
 
     fn tick_seat(&mut self, player: Player) -> Outcome
-        ensures { TickCalls L.is_honest (view_of L.Link K.Keeper self.old) (roles.Seat player)
+        ensures others { OtherSavesStay (roles.Seat player) self.old self.new }
+        ensures calls { TickCalls L.is_honest (view_of L.Link K.Keeper self.old) (roles.Seat player)
             result (view_of L.Link K.Keeper self.new) }
     {
         let parties = self.parties();
-        self.seats.of_mut(player).tick(&mut self.link, parties)
+        match player {
+            Player::X => self.x.tick(&mut self.link, parties),
+            Player::O => self.o.tick(&mut self.link, parties),
+        }
     }
 
     /// Begins a save of a party, and returns what is to be written, for a host that writes it by
@@ -136,8 +156,8 @@ impl<L: Link, K: Keeper> World<L, K> {
             ≡ under_way_from (save_under_way self.old (roles.Seat player)) result }
     {
         match player {
-            Player::X => self.seats.x.begin_save(),
-            Player::O => self.seats.o.begin_save(),
+            Player::X => self.x.begin_save(),
+            Player::O => self.o.begin_save(),
         }
     }
 
@@ -175,14 +195,15 @@ impl<L: Link, K: Keeper> World<L, K> {
             (view_of L.Link K.Keeper self.new)) }
     {
         match player {
-            Player::X => self.seats.x.end_save(number, written),
-            Player::O => self.seats.o.end_save(number, written),
+            Player::X => self.x.end_save(number, written),
+            Player::O => self.o.end_save(number, written),
         }
     }
 
     /// Saves what a party holds.
     fn save(&mut self, party: u8) -> Outcome
-        ensures { SaveCalls K.is_honest (view_of L.Link K.Keeper self.old) (role party)
+        ensures others { OtherSavesStay (role party) self.old self.new }
+        ensures calls { SaveCalls K.is_honest (view_of L.Link K.Keeper self.old) (role party)
             result (view_of L.Link K.Keeper self.new) }
     {
         match Role::of(party) {
@@ -193,18 +214,20 @@ impl<L: Link, K: Keeper> World<L, K> {
     }
 
     fn save_seat(&mut self, player: Player) -> Outcome
-        ensures { SaveCalls K.is_honest (view_of L.Link K.Keeper self.old) (roles.Seat player)
+        ensures others { OtherSavesStay (roles.Seat player) self.old self.new }
+        ensures calls { SaveCalls K.is_honest (view_of L.Link K.Keeper self.old) (roles.Seat player)
             result (view_of L.Link K.Keeper self.new) }
     {
         match player {
-            Player::X => self.seats.x.save(&mut self.keepers.x),
-            Player::O => self.seats.o.save(&mut self.keepers.o),
+            Player::X => self.x.save(&mut self.keepers.x),
+            Player::O => self.o.save(&mut self.keepers.o),
         }
     }
 
     /// Restarts a party.
     fn restart(&mut self, party: u8) -> Outcome
-        ensures { RestartCalls K.is_honest (view_of L.Link K.Keeper self.old) (role party) party
+        ensures others { OtherSavesStay (role party) self.old self.new }
+        ensures calls { RestartCalls K.is_honest (view_of L.Link K.Keeper self.old) (role party) party
             result (view_of L.Link K.Keeper self.new) }
     {
         match Role::of(party) {
@@ -215,17 +238,19 @@ impl<L: Link, K: Keeper> World<L, K> {
     }
 
     fn restart_seat(&mut self, player: Player) -> Outcome
-        ensures { (party : ℕ) → RestartCalls K.is_honest (view_of L.Link K.Keeper self.old) (roles.Seat player) party
+        ensures others { OtherSavesStay (roles.Seat player) self.old self.new }
+        ensures calls { (party : ℕ) → RestartCalls K.is_honest (view_of L.Link K.Keeper self.old) (roles.Seat player) party
             result (view_of L.Link K.Keeper self.new) }
     {
         match player {
-            Player::X => self.seats.x.restart(&mut self.keepers.x),
-            Player::O => self.seats.o.restart(&mut self.keepers.o),
+            Player::X => self.x.restart(&mut self.keepers.x),
+            Player::O => self.o.restart(&mut self.keepers.o),
         }
     }
 
     fn restart_watcher(&mut self, index: usize) -> Outcome
-        ensures { RestartCalls K.is_honest (view_of L.Link K.Keeper self.old) (roles.Watcher index)
+        ensures others { OtherSavesStay (roles.Watcher index) self.old self.new }
+        ensures calls { RestartCalls K.is_honest (view_of L.Link K.Keeper self.old) (roles.Watcher index)
             (first_watcher + index) result (view_of L.Link K.Keeper self.new) }
     {
         self.watchers

@@ -7,8 +7,8 @@ use Rattle.bg_world.specs.declared.roles.Role.{Role}
 use Rattle.bg_world.specs.declared.roles.Role.TheVariants as roles
 use Rattle.bg_world.proofs.worlds.World.take.Goals as goal
 
-pub returns-in-Seat : goal.returns-in-Seat
-returns-in-Seat g c =
+pub returns-in-Seat-clause-calls : goal.returns-in-Seat-clause-calls
+returns-in-Seat-clause-calls g c =
     let honest = g.L.Link.is_honest in
     let old = view_of g.L.Link g.K.Keeper c.args.self.now in
     let new = view_of g.L.Link g.K.Keeper c.take_at_seat.new.self in
@@ -17,4 +17,4 @@ returns-in-Seat g c =
     let role_is : roles.Seat player ≡ role c.args.party = c.in-Seat.ensures.value in
     subst (λ (r : Role). TakeCalls honest old r c.args.party c.args.pick c.args.word c.take_at_seat.result new) role_is
     (subst (λ (p : ℕ). TakeCalls honest old (roles.Seat player) p c.args.pick c.args.word c.take_at_seat.result new)
-    party (c.take_at_seat.ensures c.args.word))
+    party (c.take_at_seat.ensures.calls c.args.word))
