@@ -8,10 +8,9 @@ use Rattle.arrayvec.specs.ArrayVec.{ArrayVec}
 use Rattle.bg_match.specs.Terms.{rules_of}
 use Rattle.bg_turns.specs.Dice.{dice_of}
 use Rattle.bg_turns.specs.declared.throws.Dice.{Dice}
-use Rattle.bg_match.specs.Answers.{Answers, CanAnswer}
+use Rattle.bg_match.specs.Answers.{Answers}
 use Rattle.bg_match.specs.Match.{IsNext, IsRecordFault}
 use Rattle.bg_match.specs.declared.actions.Action.{Action}
-use Rattle.bg_match.specs.declared.actions.Action.TheVariants as action
 use Rattle.bg_match.specs.declared.entries.Entry.{Entry}
 use Rattle.bg_match.specs.declared.phases.Actor.{Actor}
 use Rattle.bg_match.proofs.Answering.{one_answer}
