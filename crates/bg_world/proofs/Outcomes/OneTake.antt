@@ -13,7 +13,7 @@ use Rattle.bg_match.specs.Match.{IsNext, IsRecordFault}
 use Rattle.bg_match.specs.declared.actions.Action.{Action}
 use Rattle.bg_match.specs.declared.entries.Entry.{Entry}
 use Rattle.bg_match.specs.declared.phases.Actor.{Actor}
-use Rattle.bg_match.proofs.Answering.{one_answer}
+use Rattle.bg_match.proofs.Answering.{can_answer, one_answer}
 use Rattle.bg_match.proofs.Legal.{one_actor}
 use Rattle.bg_wire.specs.declared.packets.Packet.{Packet}
 use Rattle.bg_wire.specs.declared.packets.Packet.TheVariants as packet
