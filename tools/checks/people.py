@@ -3,6 +3,7 @@ import fcntl
 import os
 import pty
 import re
+import select
 import signal
 import struct
 import termios
@@ -10,6 +11,8 @@ import time
 
 # A person types when the screen has stood still for so long.
 STILL = 0.03
+# A person waits so long for what is to come.
+MOST_SECONDS = 20
 PROMPT = re.compile(r"^your turn, [XO]: ((?:.|\n)*)", re.M)
 # What the legal turns are answered with.
 LISTED = r"turns:|the only turn|can't move"
@@ -22,34 +25,71 @@ WORDS = re.compile(r"no word from the referee for three\s+seconds[^`]*?heard\s+a
                    + r"|[XO] is (?:not here yet|here now|away:[^`]*?waits|back)\n[^\n]*\n")
 # What bold and coloured letters begin and end with.
 LOOKS = re.compile(r"\x1b\[\d*m")
+CTRL_D = b"\x04"
+# What is said where a turn is played at once, to who leaves, and below the first lines of the legal turns.
+PLAYED = "the only turn is played: "
+LEFT = "you left the table: the match goes on by the same command"
+MORE = "`more` lists further turns"
 
 
 class Person:
-    """One who plays at a terminal. `lines` says of a prompt which lines he tries first, each with what is to answer it.
-    What came is kept in `raw`, and what he reads, without colours, in `screen`."""
+    """One who plays at a terminal. `lines` says of a prompt which lines he tries first, each with what is to answer it,
+    and `tries` what he types once where the board lets it be refused. What came is kept in `raw`, and what he reads,
+    without colours, in `screen`; `lives` says where in it each call of the command begins, and with how many columns.
+    Where `exports` is not set, an option says how many there are, and no variable."""
 
-    def __init__(self, command, player, columns, rows, lines, choices, has_colours=False):
+    def __init__(self, command, player, columns, rows, lines, choices, has_colours=False, exports=True, tries=()):
         self.command, self.player, self.size, self.lines, self.choices = command, player, (columns, rows), lines, choices
-        self.no_color = "" if has_colours else "1"
+        self.no_color, self.exports, self.tries = "" if has_colours else "1", exports, list(tries)
         self.raw, self.screen, self.seen, self.changed, self.wrong = "", "", 0, time.time(), []
         self.awaited, self.typed_turns, self.style, self.later, self.prompt = None, [], 0, {}, ""
+        self.lives, self.has_undone, self.pages = [], False, 0
         self.start()
 
     def start(self):
+        columns = str(self.size[0])
+        command = self.command if self.exports else [*self.command, "--columns", columns]
         pid, self.terminal = pty.fork()
         if pid == 0:
-            os.environ.update(COLUMNS=str(self.size[0]), TERM="xterm", NO_COLOR=self.no_color)
-            os.execv(self.command[0], self.command)
+            os.environ.pop("COLUMNS", None)
+            if self.exports:
+                os.environ["COLUMNS"] = columns
+            os.environ.update(TERM="xterm", NO_COLOR=self.no_color)
+            os.execv(command[0], command)
         self.pid, self.status = pid, None
+        self.seen, self.awaited, self.later = len(self.screen), None, {}
+        self.lives.append((self.seen, self.size[0]))
         fcntl.ioctl(self.terminal, termios.TIOCSWINSZ, struct.pack("HHHH", self.size[1], self.size[0], 0, 0))
 
-    def start_again(self):
-        """His terminal is killed, and the same command begun again."""
+    def kill(self):
+        """His terminal is killed."""
         os.kill(self.pid, signal.SIGKILL)
         os.waitpid(self.pid, 0)
         os.close(self.terminal)
-        self.seen, self.awaited = len(self.screen), None
+
+    def leave(self, typed):
+        """He leaves by what he types, and begins the same command again."""
+        self.type(typed)
+        until = time.time() + MOST_SECONDS
+        while self.status is None and time.time() < until:
+            if select.select([self.terminal], [], [], 0.1)[0]:
+                self.read()
+        if self.status is None:
+            self.wrong.append(f"{self.player} did not leave by {typed!r}: {self.screen[-300:]!r}")
+            return self.kill()
+        os.close(self.terminal)
+        left = self.screen[self.seen:].split()[-len(LEFT.split()):]
+        if self.status != 0 or " ".join(left) != LEFT:
+            self.wrong.append(f"{self.player} left by {typed!r} with status {self.status}, and saw {left}")
         self.start()
+
+    def is_asked(self):
+        """Whether the last thing on his screen is a prompt that he has not answered."""
+        return self.awaited is None and self.screen.endswith("\n") and bool(PROMPT.search(self.new()))
+
+    def new(self):
+        """What came since he typed last, or behind a turn that was played for him."""
+        return self.screen[self.seen:].split(PLAYED)[-1]
 
     def read(self):
         self.changed = time.time()
@@ -61,15 +101,15 @@ class Person:
             self.status = os.waitstatus_to_exitcode(status)
 
     def type(self, line, awaited=None):
-        """Types a line; the screen is to answer with what is awaited, a pattern."""
+        """Types a line, or ctrl-D; the screen is to answer with what is awaited, a pattern."""
         self.seen, self.awaited = len(self.screen), (line, awaited) if awaited else None
-        os.write(self.terminal, f"{line}\n".encode())
+        os.write(self.terminal, CTRL_D if line == "ctrl-D" else f"{line}\n".encode())
 
     def act(self):
         """Types what the screen asks for behind what was typed last, where it stands still."""
         if time.time() - self.changed < STILL or not self.screen.endswith("\n"):
             return
-        new = self.screen[self.seen:]
+        new = self.new()
         if PROMPT.search(new):
             self.prompt = " ".join(PROMPT.findall(new)[-1].split())
         if self.awaited:
@@ -83,8 +123,20 @@ class Person:
         (line, pattern), self.awaited = self.awaited, None
         if not re.search(pattern, new):
             self.wrong.append(f"{self.player} typed {line!r} and saw {new!r}, and not {pattern!r}")
-        if line == "l":
+        if line == "l" and MORE in " ".join(new.split()):
+            self.listed = new
+            self.type("more", r"\n \S+-\S+")
+        elif line == "l":
             self.choose(new)
+        elif line == "more":
+            self.pages += 1
+            self.choose(self.listed)
+        elif line == "undo" and self.later:
+            first = next(iter(self.later))
+            self.type(first, rf"so\s+far {first.replace('/', '-')}")
+        elif line in self.later and not self.has_undone:
+            self.has_undone = True
+            self.type("undo", r"taken\s+back")
         elif line in self.later:
             self.type(self.later.pop(line))
         else:
@@ -95,6 +147,11 @@ class Person:
         kind = re.match(r"\w+", self.prompt)[0]
         if self.lines.get(kind):
             return self.type(*self.lines[kind].pop(0))
+        for attempt in self.tries:
+            found = attempt(self.player, kind, self.screen)
+            if found:
+                self.tries.remove(attempt)
+                return self.type(*found)
         for choice in self.choices:
             word, offered, line = choice
             if word == kind and offered in self.prompt:

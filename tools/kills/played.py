@@ -11,6 +11,7 @@ PROGRAM = os.environ.get("BG_RELAY", os.path.join(TOP, "crates", "bg_relay", "ou
 LENGTHS = [1, 2, 3, 4, 5, 6, 7]
 MOST_SECONDS = 300
 PLAYERS = ["referee", "X", "O"]
+OF_SILENCE = ("bg_relay: no word from the referee", "bg_relay: the referee is heard again")
 WATCHERS = ["watcher A", "watcher B"]
 
 
@@ -160,8 +161,9 @@ class Match:
         self.look()
 
     def said(self, name):
+        """What a process said, but of a referee that was killed and that it didn't hear for a while."""
         with open(f"{self.top}/{name}.err", encoding="utf-8", errors="replace") as file:
-            return file.read()
+            return "".join(line for line in file if not line.startswith(OF_SILENCE))
 
     def check_end(self):
         """Checks what is left of the match, and returns how many entries it has."""

@@ -3,8 +3,13 @@
 //! commands of a program.
 //!
 //! ```
-//! // A party that can't save is down, and why is said on the standard error.
-//! assert!(rt; stopped(&rt, &Outcome::SavesSpent) == Ending::Failed);
+//! // A party that can't save is down, and why is said on the standard error, with what to do.
+//! let saves = OwnSaves {
+//!     folder,
+//!     party: REFEREE,
+//!     asked: Asked::Options(7, 3, Rules::One),
+//! };
+//! assert!(rt; stopped(&rt, saves, &Outcome::SavesSpent) == Ending::Failed);
 //! // Where nothing has failed, a reporter has nothing to say.
 //! let failures = Failures::new();
 //! FailureReporter::new(&rt, &failures, folder).say_failures();
@@ -15,16 +20,18 @@ mod failure_reporters;
 mod logbooks;
 mod operators;
 mod others_saves;
+mod own_saves;
 mod results;
+mod silence_reporters;
 mod silences;
 mod sockets;
-mod words;
 
 pub use failure_reporters::{FailureReporter, is_out_of_step};
 pub use logbooks::Logbook;
 pub use operators::Operator;
-pub use others_saves::{check_seat_folder, say_whose_saves};
+pub use others_saves::check_seat_folder;
+pub use own_saves::{Asked, OwnSaves, stopped};
 pub use results::{GameResult, MatchResult, Results};
+pub use silence_reporters::{Audience, SilenceReporter};
 pub use silences::Silence;
 pub use sockets::{no_socket, socket_of};
-pub use words::{stopped, tell_liveness};

@@ -30,6 +30,8 @@ pub struct Operator<'a, R> {
     rounds: u32,
     /// Number of entries that the referee last held.
     referee: Number,
+    /// The party of the last event.
+    last_party: u8,
     reporter: FailureReporter<'a, R>,
     saves: [Saves; SAVING],
 }
@@ -49,6 +51,7 @@ impl<'a, R: Clock + Eprint> Operator<'a, R> {
             progress,
             rounds,
             referee: 0,
+            last_party: REFEREE,
             reporter: FailureReporter::new(rt, failures, folder),
             saves: [Saves::Untried; SAVING],
         }
@@ -63,6 +66,12 @@ impl<'a, R: Clock + Eprint> Operator<'a, R> {
                 say_number(self.rt, "no save of party ", party as u64, " succeeded");
             }
         }
+    }
+
+    /// Returns the party at which something happened last: where the match has stopped early, that
+    /// for which it did.
+    pub fn last_party(&self) -> u8 {
+        self.last_party
     }
 
     /// Notes the outcome of a save.
@@ -92,6 +101,7 @@ impl<'a, R: Clock + Eprint> Observer for Operator<'a, R> {
     fn happened(&mut self, event: &Event, outcome: &Outcome, held: Option<Number>) {
         self.reporter.say_failures();
         let party = party_at(event);
+        self.last_party = party;
         if party == REFEREE {
             self.referee = held.unwrap_or_default();
         }

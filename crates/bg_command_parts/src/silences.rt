@@ -1,4 +1,4 @@
-//! The reasons why nothing is heard of a referee, as far as the machine shows.
+//! The reasons why nothing is heard of a referee, as far as the machine shows, and what to do.
 
 use bg_processes::MatchFile;
 use std::fmt::{Display, Formatter, Write};
@@ -36,14 +36,6 @@ impl Silence {
             Err(_) => Silence::Unknown,
         }
     }
-
-    /// Returns the punctuation behind its words where a sentence follows.
-    pub fn stop(self) -> &'static str {
-        match self {
-            Silence::NoProcess(_) => ".",
-            Silence::NoAnswer(..) | Silence::Unknown => "",
-        }
-    }
 }
 
 /// Returns whether one of the sockets that the system lists has this port.
@@ -62,13 +54,16 @@ impl Display for Silence {
     fn fmt<W: Write>(&self, f: &mut Formatter<W>) -> fmt::Result {
         match *self {
             Silence::NoProcess(port) => {
-                write!(f, "no process has its port {port}, so it is not running")
+                write!(
+                    f,
+                    "no process has its port {port}, so it is not running: start it"
+                )
             }
             Silence::NoAnswer(port, id) => write!(
                 f,
-                "the process at its port {port} doesn't answer: is it the referee of match {id}?"
+                "the process at its port {port} doesn't answer: is it the referee of match {id}? If not, end it"
             ),
-            Silence::Unknown => f.write_str("is it running?"),
+            Silence::Unknown => f.write_str("is it running? If not, start it"),
         }
     }
 }

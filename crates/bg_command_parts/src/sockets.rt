@@ -11,6 +11,11 @@ use std::time::Clock;
 /// The number of the last party, and so the number of ports that a match has above its own.
 const LAST_PARTY: u32 = 255;
 
+/// The words of the message on a port that is taken, between the numbers and behind them.
+const RUNNING_OR: &str = "running already, or a match whose ports begin at";
+
+const END_IT: &str = "End that process first";
+
 /// Opens the socket of a party of the match that has this port, with its keys. Later failures are
 /// noted in `failures`. Ends with `Failed` where the port is taken, or there is no socket.
 pub fn socket_of<'a, R: Net + Clock + Eprint>(
@@ -28,7 +33,7 @@ pub fn socket_of<'a, R: Net + Clock + Eprint>(
             Err(failed(
                 rt,
                 format_args!(
-                    "port {own} is taken: is party {party} running already, or a match whose ports begin at {least} or above?"
+                    "port {own} is taken: is party {party} {RUNNING_OR} {least} or above? {END_IT}"
                 ),
             ))
         }

@@ -2,7 +2,7 @@
 use crate::folders::new_folder;
 use bg_auto::NoObserver;
 use bg_board::{Die, Player};
-use bg_command_parts::{FailureReporter, stopped};
+use bg_command_parts::{Asked, FailureReporter, OwnSaves, stopped};
 use bg_console::{Progress, Telling, check_folder};
 use bg_file_commands::show;
 use bg_match::{Entry, Record, Rules};
@@ -73,8 +73,13 @@ fn no_saved_files_are_shown(rt: HostRuntime) -> Result<(), Fail> {
 fn a_party_stops(rt: HostRuntime) -> Result<(), Fail> {
     let folder = "x";
     // bg_command_parts
-    // A party that can't save is down, and why is said on the standard error.
-    assert!(rt; stopped(&rt, &Outcome::SavesSpent) == Ending::Failed);
+    // A party that can't save is down, and why is said on the standard error, with what to do.
+    let saves = OwnSaves {
+        folder,
+        party: REFEREE,
+        asked: Asked::Options(7, 3, Rules::One),
+    };
+    assert!(rt; stopped(&rt, saves, &Outcome::SavesSpent) == Ending::Failed);
     // Where nothing has failed, a reporter has nothing to say.
     let failures = Failures::new();
     FailureReporter::new(&rt, &failures, folder).say_failures();

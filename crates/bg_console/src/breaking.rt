@@ -2,8 +2,8 @@
 
 use std::alloc::{AllocError, Global};
 
-/// Returns the lines broken between words, each of at most this number of columns. A longer word
-/// has a line of its own.
+/// Returns the lines broken between words, each of at most this number of columns. Lines that fit
+/// stay as they are. A longer word has a line of its own.
 ///
 /// # Errors
 /// AllocError where there is no memory for them.
@@ -17,6 +17,10 @@ pub fn broken(alloc: Global, lines: &[u8], columns: usize) -> Result<Vec<u8>, Al
 
 /// Appends a line of words, broken into as many lines as it takes.
 fn put_broken(text: &mut Vec<u8>, line: &[u8], columns: usize) -> Result<(), AllocError> {
+    if line.len() <= columns {
+        text.extend_from_slice(line)?;
+        return Ok(text.push(b'\n')?);
+    }
     let mut column = 0usize;
     for word in line.split(|byte| *byte == b' ') {
         let end = column.saturating_add(1).saturating_add(word.len());

@@ -21,6 +21,13 @@ use std::{fs, io};
 const OF_NO_SEAT: &str =
     " is the key file of those who watch: for a player it is `match-x` or `match-o`";
 
+/// The messages on a file that is no match file, and on one that is no key file.
+const NO_MATCH_FILE: &str =
+    " is no match file: any key file of the match, without its last line, is one";
+
+const NO_KEY_FILE: &str =
+    " is no key file: name the one that `bg_relay new` made for this party, or a copy of it";
+
 /// Locks a folder, and returns the lock. Ends with `Failed` where another process plays over it, or
 /// it can't be locked.
 pub fn lock_of(
@@ -31,7 +38,10 @@ pub fn lock_of(
         Ok(lock) => Ok(lock),
         Err(TryLockError::WouldBlock) => {
             let shown = Printable(folder);
-            Err(failed(rt, format_args!("another process plays over {shown}")))
+            Err(failed(
+                rt,
+                format_args!("another process plays over {shown}: `fuser {shown}` names it"),
+            ))
         }
         Err(TryLockError::Error(error)) => {
             Err(failed_at(rt, folder, " could not be locked", &error))
@@ -136,7 +146,7 @@ pub fn match_of(
 ) -> Result<NamedMatch, Ending> {
     match NamedMatch::read(rt, path) {
         Ok(Some(file)) => Ok(file),
-        Ok(None) => Err(wrong_at(rt, path, " is no match file")),
+        Ok(None) => Err(wrong_at(rt, path, NO_MATCH_FILE)),
         Err(error) => Err(failed_at(rt, path, " could not be read", &error)),
     }
 }
@@ -216,7 +226,7 @@ fn no_key_file(rt: &(impl Files<File = File> + Eprint + AllocGlobal), path: &str
             " has no key: hand out `match-x`, `match-o` and `match-watch`, which `bg_relay keys` makes where they are missing",
         );
     }
-    wrong_at(rt, path, " is no key file")
+    wrong_at(rt, path, NO_KEY_FILE)
 }
 
 /// Returns the wait for a party's socket, and for standard input if that is wanted, and the party's

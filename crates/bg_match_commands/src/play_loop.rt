@@ -1,18 +1,20 @@
 //! The command that plays a match over sockets and files.
 
 use bg_auto::LoopFault;
-use bg_command_parts::Operator;
-use bg_console::{Progress, check_folder, failed, failed_barely, lock_of, tell_if_open, unwritten};
+use bg_command_parts::{Asked, Operator, OwnSaves, stopped};
+use bg_console::{
+    Progress, allocated, check_folder, failed, failed_barely, lock_of, tell_if_open, unwritten,
+};
 use bg_options::LoopOptions;
-use bg_processes::{Failures, play_loop};
+use bg_processes::{Failures, Printable, play_loop};
 use bg_reports::Ending;
 use bg_streams::Writing;
 use bg_world::WorldFault;
 use std::fs::File;
-use std::io;
 use std::net::Net;
 use std::rt::Files;
 use std::time::Clock;
+use std::{fs, io};
 
 /// Plays the match that the options name.
 pub fn run<R>(rt: &R, options: LoopOptions<'_>, progress: Progress) -> Result<Ending, Ending>
@@ -28,6 +30,7 @@ where
     } = options;
     check_folder(rt, folder, " is no folder")?;
     let _lock = lock_of(rt, folder)?;
+    check_no_match(rt, folder)?;
     tell_if_open(rt, folder);
     let mut output = Writing::new(io::writer(rt));
     let failures = Failures::new();
@@ -44,22 +47,41 @@ where
         &mut operator,
     );
     operator.end();
+    let saves = OwnSaves {
+        folder,
+        party: operator.last_party(),
+        asked: Asked::Options(seed, length, rules),
+    };
     match result {
         Ok(()) => Ok(Ending::Simulated),
+        Err(LoopFault::Stopped(outcome)) => Err(stopped(rt, saves, &outcome)),
         Err(fault) => Err(loop_failed(rt, fault, output.error())),
     }
+}
+
+/// Refuses the folder of the referee of a match between processes, whose saves would be lost.
+fn check_no_match<R>(rt: &R, folder: &str) -> Result<(), Ending>
+where
+    R: Files<File = File> + Eprint + AllocGlobal,
+{
+    let path = allocated(rt, format!(in rt.alloc(); "{folder}/match"))?;
+    if fs::metadata(rt, path.as_str()).is_err() {
+        return Ok(());
+    }
+    let shown = Printable(folder);
+    Err(failed(
+        rt,
+        format_args!("{shown} has a match between processes: give another --dir"),
+    ))
 }
 
 /// Reports that the match ended with a fault, and the reason if writing failed.
 fn loop_failed(rt: &impl Eprint, fault: LoopFault, reason: Option<&io::Error>) -> Ending {
     match (fault, reason) {
         (LoopFault::Write, Some(error)) => unwritten(rt, error),
-        (
-            fault @ (LoopFault::Stopped(_)
-            | LoopFault::Memory
-            | LoopFault::World(WorldFault::Memory)),
-            _,
-        ) => failed_barely(rt, fault),
+        (fault @ (LoopFault::Memory | LoopFault::World(WorldFault::Memory)), _) => {
+            failed_barely(rt, fault)
+        }
         (fault, _) => failed(rt, fault),
     }
 }

@@ -1,6 +1,6 @@
 //! The command that runs the referee of a match.
 
-use bg_command_parts::{FailureReporter, Logbook, say_whose_saves, socket_of, stopped};
+use bg_command_parts::{Asked, FailureReporter, Logbook, OwnSaves, socket_of, stopped};
 use bg_console::{
     Progress, check_folder, check_writable, failed_at, has_key_secret, key_files_of, lock_of,
     match_of, no_memory, say_failures, tell_if_open, waited, waiting_for, wrong,
@@ -46,6 +46,7 @@ where
     };
     let ended = serve(
         rt,
+        saves_of(folder, &file.table),
         process,
         waiting,
         ticking,
@@ -95,10 +96,18 @@ where
         return Err(wrong(rt, "length out of range"));
     };
     if outcome != Outcome::Restarted {
-        say_whose_saves(rt, folder, REFEREE, table, &outcome);
-        return Err(stopped(rt, &outcome));
+        return Err(stopped(rt, saves_of(folder, table), &outcome));
     }
     Ok((process, waiting, ticking))
+}
+
+/// Returns the saves of the referee of a match in a folder.
+fn saves_of<'a>(folder: &'a str, table: &'a MatchFile) -> OwnSaves<'a> {
+    OwnSaves {
+        folder,
+        party: REFEREE,
+        asked: Asked::File(table),
+    }
 }
 
 /// Returns the keys of all parties: derived from the folder's secret, or those of its key files.
@@ -126,6 +135,7 @@ where
 /// Runs rounds until the match is over.
 fn serve<R>(
     rt: &R,
+    saves: OwnSaves<'_>,
     process: Referee<'_, R>,
     waiting: Waiting,
     ticking: Ticking,
@@ -144,7 +154,7 @@ where
         match process.round(tick, &mut reporter) {
             Ok(Going::On) => {}
             Ok(Going::Over) => return Ok(Ending::Served),
-            Err(outcome) => return Err(stopped(rt, &outcome)),
+            Err(outcome) => return Err(stopped(rt, saves, &outcome)),
         }
         reporter.check_files()?;
         logbook.after_round(process.link(), process.held(), tick);

@@ -8,7 +8,7 @@ mod showing;
 
 use crate::watch::live_boards::LiveBoard;
 use crate::watch::showing::{Lines, Showing};
-use bg_command_parts::{FailureReporter, Logbook, no_socket};
+use bg_command_parts::{Audience, FailureReporter, Logbook, SilenceReporter, no_socket};
 use bg_console::{
     MatchBeside, Outputs, Published, Telling, Terminal, failed, key_file_of, matches_beside,
     title_of, waited, waiting_for, wrong, wrong_at,
@@ -68,6 +68,8 @@ where
     // Log lines would tear the board, where both are at one terminal.
     let is_quiet = is_quiet || (is_watched && drawn_on.is_some());
     let mut logbook = Logbook::begin(rt, is_quiet, party, &file, process.held());
+    let audience = audience_of(is_quiet, is_watched, drawn_on.is_some());
+    let silence = SilenceReporter::new(rt, file.table, audience);
     let says_too = !is_watched;
     let mut showing = match drawn_on {
         Some(terminal) => {
@@ -79,9 +81,6 @@ where
             telling: Telling::new(),
             // A watcher has no file as a device, and so no folder to name.
             reporter: FailureReporter::new(rt, &failures, ""),
-            table: file.table,
-            is_quiet,
-            is_watched,
         }),
     };
     let ended = watch(
@@ -91,12 +90,24 @@ where
         ticking,
         &mut showing,
         &mut logbook,
+        silence,
         published,
         is_watched,
     );
     logbook.end(ended.is_ok());
     ended?;
     Ok(Ending::Served)
+}
+
+/// Returns the audience of the standard error, by whether only errors are to be reported, whether a
+/// person watches it, and whether the board is drawn on the standard output.
+fn audience_of(is_quiet: bool, is_watched: bool, is_drawn: bool) -> Audience {
+    match (is_watched, is_quiet) {
+        (true, _) if is_drawn => Audience::Nobody,
+        (true, false) => Audience::Person,
+        (_, true) => Audience::Log,
+        (false, false) => Audience::LogWithLogbook,
+    }
 }
 
 /// Refuses one file for two of the outputs, where each would replace the other.
@@ -191,6 +202,7 @@ fn watch<R>(
     ticking: Ticking,
     showing: &mut Showing<'_, R>,
     logbook: &mut Logbook<'_, R>,
+    silence: SilenceReporter<'_, R>,
     published: Published<'_>,
     is_watched: bool,
 ) -> Result<(), Ending>
@@ -198,14 +210,14 @@ where
     R: Net + Files<File = File> + Clock + Print + Eprint + AllocGlobal,
 {
     let (mut process, mut waiting, mut ticking) = (process, waiting, ticking);
-    let mut published = published;
-    let mut liveness = Liveness::new(rt);
+    let (mut published, mut silence) = (published, silence);
+    let mut liveness = Liveness::new();
     for _ in 0..u64::MAX {
         let (_, tick) = waited(rt, ticking.next_round(rt, &mut waiting))?;
         let going = process.round(tick, showing);
-        let word = liveness.after_round(rt, process.link(), tick);
+        let word = liveness.after_round(process.link(), tick);
         let is_heard = process.link().heard() > 0;
-        showing.tell_liveness(word, is_heard);
+        silence.after_round(process.link(), &liveness);
         // A watcher at a terminal is told sooner whether the referee is heard.
         logbook.after_round(process.link(), Some(process.held()), tick && !is_watched);
         let news = showing.go_on(process.held(), word, is_heard)?;

@@ -6,3 +6,4 @@ pub mod Stepping
 pub mod RefereeInstance
 pub mod SeatInstance
 pub mod WatcherInstance
+pub mod Silences

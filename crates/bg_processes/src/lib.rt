@@ -35,7 +35,7 @@ pub use bg_system::{
 };
 pub use files::file_keepers::FileKeeper;
 pub use loops::{play_loop, run_loop};
-pub use processes::laws::processes_are_instances;
+pub use processes::laws::{processes_are_instances, silence_is_counted};
 pub use processes::referee::RefereeProcess;
 pub use processes::rounds::{Going, MOST_PARTIES};
 pub use processes::seat::SeatProcess;

@@ -136,7 +136,8 @@ take 1 opening
 take 2 nothing
 ";
 
-/// What is said of the referee, who is away from tick 10 to tick 50, ten of which are a second.
+/// What is said of the referee, who is away from tick 10 to tick 50. Ten of these are a second, but
+/// before tick 5 the process stands still for ten.
 fn said_at(tick: u32) -> Option<LivenessChange> {
     match tick {
         31 => Some(LivenessChange::Silent),
@@ -159,14 +160,15 @@ fn silence_of_the_referee(rt: HostRuntime) {
 fn check_silence(rt: &impl Host) {
     let (clock, failures) = (SetClock::new(), Failures::new());
     let mut sockets = Sockets::new(rt, &clock, &failures);
-    let mut liveness = Liveness::new(&clock);
+    let mut liveness = Liveness::new();
     for tick in 0..100u32 {
-        clock.milliseconds.set(u64::from(tick) * 100);
+        let stood_still = if tick < 5 { 0 } else { 10_000 };
+        clock.milliseconds.set(u64::from(tick) * 100 + stood_still);
         if !(10..50).contains(&tick) {
             take(rt, sockets.of(0), 0);
         }
         take(rt, sockets.of(1), 1);
-        let word = liveness.after_round(&clock, sockets.of(1), true);
+        let word = liveness.after_round(sockets.of(1), true);
         assert!(rt; word == said_at(tick), "tick {tick}");
     }
 }

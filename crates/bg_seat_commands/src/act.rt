@@ -2,7 +2,7 @@
 
 use crate::seats::Seat;
 use crate::typed_lines::joined;
-use bg_command_parts::{Silence, tell_liveness};
+use bg_command_parts::{Audience, Silence};
 use bg_console::{
     allocated, failed, print_board, put_entries, say, say_number, write_out, written, wrong,
 };
@@ -56,7 +56,8 @@ enum Stage {
     Claimed(Number),
 }
 
-/// Makes the one action that the options name, or waits for the player's turn.
+/// Makes the one action that the options name, or waits for the player's turn. `is_watched` says
+/// whether the standard error is a terminal.
 pub fn run<R>(rt: &R, options: ActOptions<'_, '_>, is_watched: bool) -> Result<Ending, Ending>
 where
     R: Net + Files<File = File> + Clock + Print + Eprint + AllocGlobal,
@@ -67,8 +68,14 @@ where
         ticks: options.seconds.saturating_mul(TICKS_A_SECOND),
     };
     let failures = Failures::new();
-    let seat = Seat::open(rt, &failures, options.seat, false)?;
-    act(rt, seat, &wanted, is_watched)
+    // A script is told at the end.
+    let audience = if is_watched {
+        Audience::Person
+    } else {
+        Audience::Nobody
+    };
+    let seat = Seat::open(rt, &failures, options.seat, false, audience)?;
+    act(rt, seat, &wanted)
 }
 
 /// Returns the action that some words spell; `None` where there are no words.
@@ -81,7 +88,7 @@ fn action_of<R: Eprint + AllocGlobal>(rt: &R, words: &[&str]) -> Result<Option<A
     }
 }
 
-fn act<R>(rt: &R, seat: Seat<'_, R>, wanted: &Wanted, is_watched: bool) -> Result<Ending, Ending>
+fn act<R>(rt: &R, seat: Seat<'_, R>, wanted: &Wanted) -> Result<Ending, Ending>
 where
     R: Net + Files<File = File> + Clock + Print + Eprint + AllocGlobal,
 {
@@ -95,7 +102,6 @@ where
     let mut ticks = 0u32;
     for _ in 0..u64::MAX {
         let round = seat.next_round()?;
-        tell_liveness(rt, &seat.table, round.word, is_watched);
         if round.foreign.is_some() {
             return Err(Ending::ActionRefused);
         }

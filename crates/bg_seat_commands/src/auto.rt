@@ -2,7 +2,7 @@
 
 use crate::seats::Seat;
 use bg_auto::auto_action;
-use bg_command_parts::tell_liveness;
+use bg_command_parts::Audience;
 use bg_console::{Telling, no_memory};
 use bg_options::SeatOptions;
 use bg_processes::{Failures, Going};
@@ -12,17 +12,23 @@ use std::net::Net;
 use std::rt::Files;
 use std::time::Clock;
 
-/// Plays for the player that the options name, and prints the transcript of the match.
+/// Plays for the player that the options name, and prints the transcript of the match. `is_watched`
+/// says whether the standard error is a terminal.
 pub fn run<R>(rt: &R, options: SeatOptions<'_>, is_watched: bool) -> Result<Ending, Ending>
 where
     R: Net + Files<File = File> + Clock + Print + Eprint + AllocGlobal,
 {
     let failures = Failures::new();
-    let seat = Seat::open(rt, &failures, options, false)?;
-    play(rt, seat, is_watched)
+    let audience = if is_watched {
+        Audience::Person
+    } else {
+        Audience::Log
+    };
+    let seat = Seat::open(rt, &failures, options, false, audience)?;
+    play(rt, seat)
 }
 
-fn play<R>(rt: &R, seat: Seat<'_, R>, is_watched: bool) -> Result<Ending, Ending>
+fn play<R>(rt: &R, seat: Seat<'_, R>) -> Result<Ending, Ending>
 where
     R: Net + Files<File = File> + Clock + Print + Eprint + AllocGlobal,
 {
@@ -30,7 +36,6 @@ where
     let mut telling = Telling::new();
     for _ in 0..u64::MAX {
         let round = seat.next_round()?;
-        tell_liveness(rt, &seat.table, round.word, is_watched);
         if let Some(record) = seat.process.held() {
             telling.go_on(rt, record)?;
         }

@@ -1,6 +1,8 @@
 //! The command of a person who plays at a terminal.
 
 mod choosing;
+mod help;
+mod joining;
 mod moves;
 mod opponents;
 mod players;
@@ -9,11 +11,13 @@ mod showing;
 mod turn_words;
 mod wishes;
 
+use crate::play::joining::Joining;
 use crate::play::screens::Screen;
 use crate::play::wishes::{Wish, wish_of};
 use crate::seats::Seat;
 use crate::typed_lines::TypedLines;
 use bg_board::Player;
+use bg_command_parts::Audience;
 use bg_console::{Terminal, allocated, unread};
 use bg_match::{Number, Standing};
 use bg_options::PlayOptions;
@@ -27,23 +31,6 @@ use std::time::Clock;
 
 /// Number of typed lines that are obeyed between two rounds, at most.
 const MOST_LINES: u32 = 64;
-
-/// The help on what may be typed.
-const HELP: &str = "When it is your turn you type one of these:
-  roll, double        or r, d
-  take, drop          or t, p: after the other player's double
-  accept, reject      or a, n: after his offer to resign
-  resign              at a level: normal, gammon or backgammon
-  8/5 6/5             a turn, step by step; also 24/14 by both dice, 13/8(2) for
-                      two checkers, bar/20, 6/off, 8-5 for 8/5, and m before it
-  8/5                 the first step of a turn: then type the next, or undo
-  m                   the only legal turn, also where nothing can be moved
-and at any time:
-  board               the board, from your side; so does an empty line
-  legal               the turns that are legal now, and more what did not fit
-  help                this, and so does ?
-  quit                ends; the same command goes on later
-";
 
 /// The message to a player who leaves.
 const GOES_ON: &[u8] = b"you left the table: the match goes on by the same command";
@@ -62,13 +49,15 @@ where
     R: Input + Net + Files<File = File> + Clock + Print + Eprint + AllocGlobal,
 {
     let failures = Failures::new();
-    let seat = Seat::open(rt, &failures, options.seat, true)?;
+    let seat = Seat::open(rt, &failures, options.seat, true, Audience::Nobody)?;
     let mut table = Table {
         rt,
         player: seat.player,
         screen: Screen::new(rt, options.columns, terminal),
         seat,
         plays_forced: options.plays_forced,
+        joining: Joining::Waiting(0),
+        caught_up: 0,
         shown: 0,
         stood: None,
         typed: Vec::new(rt.alloc()),
@@ -88,6 +77,10 @@ struct Table<'a, R> {
     seat: Seat<'a, R>,
     /// Whether a turn that is the only one is played at once.
     plays_forced: bool,
+    /// How far the player has come to the table.
+    joining: Joining,
+    /// Number of entries that the seat held at the last tick.
+    caught_up: Number,
     /// Number of entries that were printed.
     shown: Number,
     /// The standing of the match when they were.
@@ -109,14 +102,18 @@ where
     fn play(&mut self) -> Result<Ending, Ending> {
         let mut reader = self.rt.reader();
         let mut lines = TypedLines::new(self.rt.alloc());
-        self.greet()?;
         for _ in 0..u64::MAX {
             let round = self.seat.next_round()?;
+            self.join(round)?;
             self.show_round(round)?;
             if round.going == Going::Over {
                 return Ok(Ending::Served);
             }
             let is_open = !round.input || self.hear(&mut reader, &mut lines)?;
+            if is_open && !self.is_seated() {
+                continue;
+            }
+            self.sit_down()?;
             if self.obey_all(&mut lines)? || !is_open {
                 self.screen.say(GOES_ON)?;
                 return Ok(Ending::Served);
@@ -156,7 +153,7 @@ where
         match allocated(self.rt, wish_of(self.rt.alloc(), line))? {
             Wish::Quit => return Ok(true),
             Wish::Nothing | Wish::Board => self.look_at_table()?,
-            Wish::Help => self.screen.print(HELP.as_bytes())?,
+            Wish::Help => self.help()?,
             Wish::Legal => self.list_turns(0)?,
             Wish::More => self.list_turns(self.listed)?,
             Wish::Undo => self.undo()?,

@@ -1,7 +1,10 @@
 //! The process of a seat, for the commands that play.
 
 use bg_board::Player;
-use bg_command_parts::{FailureReporter, check_seat_folder, say_whose_saves, socket_of, stopped};
+use bg_command_parts::{
+    Asked, Audience, FailureReporter, OwnSaves, SilenceReporter, check_seat_folder, socket_of,
+    stopped,
+};
 use bg_console::{
     check_writable, no_memory, own_folder, say_failures, say_number, seat_key_file_of, waited,
     waiting_for, wrong,
@@ -13,6 +16,7 @@ use bg_processes::{
     Names, PartySocket, SeatProcess, Ticking, Waiting,
 };
 use bg_reports::{Ending, ending_of};
+use bg_wire::party_of;
 use bg_world::Outcome;
 use std::fs::File;
 use std::net::Net;
@@ -31,7 +35,9 @@ pub(crate) struct Seat<'a, R> {
     /// The names of the players.
     pub(crate) names: Names,
     pub(crate) waiting: Waiting,
+    folder: &'a str,
     reporter: FailureReporter<'a, R>,
+    silence: SilenceReporter<'a, R>,
     ticking: Ticking,
     liveness: Liveness,
     pub(crate) player: Player,
@@ -59,12 +65,14 @@ where
     R: Net + Files<File = File> + Clock + Eprint + AllocGlobal,
 {
     /// Opens the seat that the options name, over a folder of its own. Its devices note their
-    /// failures in `failures`. It waits for standard input too if `with_input` is set.
+    /// failures in `failures`. It waits for standard input too if `with_input` is set. `audience`
+    /// is that of the standard error.
     pub(crate) fn open(
         rt: &'a R,
         failures: &'a Failures,
         options: SeatOptions<'a>,
         with_input: bool,
+        audience: Audience,
     ) -> Result<Seat<'a, R>, Ending> {
         let SeatOptions {
             player,
@@ -92,8 +100,13 @@ where
             return Err(wrong(rt, "length out of range"));
         };
         if outcome != Outcome::Restarted {
-            say_whose_saves(rt, folder, party, &table, &outcome);
-            return Err(stopped(rt, &outcome));
+            let asked = Asked::File(&table);
+            let saves = OwnSaves {
+                folder,
+                party,
+                asked,
+            };
+            return Err(stopped(rt, saves, &outcome));
         }
         let known = count_of(process.held());
         Ok(Seat {
@@ -104,9 +117,11 @@ where
             process,
             names,
             waiting,
+            folder,
             reporter: FailureReporter::new(rt, failures, folder),
+            silence: SilenceReporter::new(rt, table, audience),
             ticking,
-            liveness: Liveness::new(rt),
+            liveness: Liveness::new(),
             _lock: lock,
         })
     }
@@ -119,18 +134,30 @@ where
         let claim = self.process.open_claim();
         let played = self.process.round(tick, &mut self.reporter);
         self.reporter.check_files()?;
-        match played {
-            Ok(going) => Ok(Round {
-                input: ready.input,
-                tick,
-                going,
-                word: self
-                    .liveness
-                    .after_round(self.rt, self.process.link(), tick),
-                foreign: self.news_of_others(&claim),
-            }),
-            Err(outcome) => Err(stopped(self.rt, &outcome)),
-        }
+        let going = match played {
+            Ok(going) => going,
+            Err(outcome) => return Err(self.stopped(&outcome)),
+        };
+        let word = self.liveness.after_round(self.process.link(), tick);
+        self.silence
+            .after_round(self.process.link(), &self.liveness);
+        Ok(Round {
+            input: ready.input,
+            tick,
+            going,
+            word,
+            foreign: self.news_of_others(&claim),
+        })
+    }
+
+    /// Reports why the seat can't go on.
+    fn stopped(&self, outcome: &Outcome) -> Ending {
+        let saves = OwnSaves {
+            folder: self.folder,
+            party: party_of(self.player),
+            asked: Asked::File(&self.table),
+        };
+        stopped(self.rt, saves, outcome)
     }
 
     /// Looks through the entries that came. Returns and reports the first in the player's name that
@@ -148,7 +175,7 @@ where
     pub(crate) fn choose(&mut self, action: Action) -> Result<Outcome, Ending> {
         match self.process.choose(action, &mut self.reporter) {
             Ok(outcome) => Ok(outcome),
-            Err(outcome) => Err(stopped(self.rt, &outcome)),
+            Err(outcome) => Err(self.stopped(&outcome)),
         }
     }
 

@@ -2,10 +2,10 @@
 
 use crate::watch::live_boards::LiveBoard;
 use bg_auto::Observer;
-use bg_command_parts::{FailureReporter, tell_liveness};
+use bg_command_parts::FailureReporter;
 use bg_console::Telling;
 use bg_match::{Number, Record};
-use bg_processes::{LivenessChange, MatchFile};
+use bg_processes::LivenessChange;
 use bg_reports::Ending;
 use bg_world::{Event, Outcome};
 use std::fs::File;
@@ -17,12 +17,6 @@ pub(super) struct Lines<'a, R> {
     pub(super) rt: &'a R,
     pub(super) telling: Telling,
     pub(super) reporter: FailureReporter<'a, R>,
-    /// The match of the key file.
-    pub(super) table: MatchFile,
-    /// Whether only errors are reported.
-    pub(super) is_quiet: bool,
-    /// Whether somebody watches the standard error.
-    pub(super) is_watched: bool,
 }
 
 /// The way in which a match is shown: its transcript, or a board that is redrawn.
@@ -33,16 +27,6 @@ pub(super) enum Showing<'a, R> {
 }
 
 impl<'a, R: Files<File = File> + Print + Eprint + AllocGlobal> Showing<'a, R> {
-    /// Reports whether the referee is heard of, where that has changed. Somebody who watches is
-    /// always told. A log is told until the referee was heard once, as it may be another match's. A
-    /// board shows it.
-    pub(super) fn tell_liveness(&self, word: Option<LivenessChange>, is_heard: bool) {
-        if let Showing::Lines(lines) = self {
-            let is_told = !lines.is_quiet && (lines.is_watched || !is_heard);
-            tell_liveness(lines.rt, &lines.table, word, is_told);
-        }
-    }
-
     /// Shows what a round brought, and returns whether there were new entries.
     pub(super) fn go_on(
         &mut self,

@@ -1,7 +1,8 @@
-//! A law of processes: the contract of a function that does nothing.
+//! Laws of processes. Each is the contract of a function that does nothing.
 ghost use Rattle.std.specs.Prelude.{ℕ, ⊤};
 ghost use Rattle.bg_board.specs.declared.players.Player.{Player as APlayer};
 ghost use Rattle.bg_world.specs.declared.roles.Role.TheVariants as roles;
+ghost use Rattle.bg_processes.specs.Liveness.{CountsSilence};
 ghost use Rattle.bg_processes.specs.Instances.{IsInstance, RunsReferee, RunsSeat, RunsWatcher};
 ghost use Rattle.bg_processes.specs.RefereeRounds.{RefereeHappens};
 ghost use Rattle.bg_processes.specs.SeatRounds.{SeatHappens};
@@ -16,4 +17,11 @@ pub fn processes_are_instances()
     ensures referee { IsInstance (RefereeHappens ⊤ ⊤) RunsReferee roles.Referee }
     ensures seat { (player : APlayer) → IsInstance (SeatHappens ⊤ ⊤) (RunsSeat player) (roles.Seat player) }
     ensures watcher { (index : ℕ) → IsInstance (WatcherHappens ⊤) (RunsWatcher index) (roles.Watcher index) }
+{}
+
+/// States when a referee counts as silent: exactly where 31 ticks were due in the rounds since
+/// something of it came, or since the process began. A tick comes a tenth of a second after the one
+/// before, or later, so these are three seconds at least.
+pub fn silence_is_counted()
+    ensures { CountsSilence }
 {}

@@ -87,7 +87,7 @@ where
     }
 
     /// Plays the only legal turn, where there is one.
-    pub(super) fn play_forced(&mut self) -> Result<(), Ending> {
+    fn play_forced(&mut self) -> Result<(), Ending> {
         match self.only_way()? {
             Some(turn) => {
                 let line = allocated(self.rt, forced(self.rt.alloc(), self.player, &turn))?;
@@ -98,11 +98,20 @@ where
         }
     }
 
+    /// Plays the only legal turn, where there is one and such a turn is to be played at once.
+    pub(super) fn play_if_forced(&mut self) -> Result<(), Ending> {
+        if self.plays_forced && self.claims_nothing() {
+            self.play_forced()
+        } else {
+            Ok(())
+        }
+    }
+
     /// Prints why a line is not a move now.
     fn refuse_move(&mut self, line: &[u8]) -> Result<(), Ending> {
         match typed_steps(self.rt.alloc(), line) {
             Ok(turn) => self.choose(Action::Move(turn)),
-            Err(_) => self.screen.say(NOT_UNDERSTOOD.as_bytes()),
+            Err(fault) => self.tell_fault(&fault),
         }
     }
 
@@ -122,7 +131,8 @@ where
             return self.tell_typed();
         }
         let text = turn_refusal_text(rt.alloc(), board, self.player, dice, &turn, fault);
-        self.screen.say(&allocated(rt, text)?)
+        self.screen.say(&allocated(rt, text)?)?;
+        self.tell_typed()
     }
 
     /// Prints why what was typed is not a turn.
@@ -177,7 +187,7 @@ where
         let text = legal_turns_text(rt.alloc(), &board, self.player, dice, columns);
         let text = allocated(rt, text)?;
         let (shown, is_last) = lines_behind(&text, behind, LINES_AT_ONCE);
-        self.screen.print(shown)?;
+        self.screen.say(shown)?;
         self.listed = if is_last {
             0
         } else {

@@ -6,11 +6,15 @@ use bg_console::{
 };
 use bg_match::Number;
 use bg_reports::Ending;
+use bg_table::Drawing;
 use bg_text::{put_number, put_text};
 use std::alloc::{AllocError, Global};
 
 /// The columns of a screen of unknown size.
 const USUAL_COLUMNS: usize = 80;
+
+/// The columns of a board in rows: one more than the narrowest screen that has it.
+const COLUMNS_OF_ROWS: usize = 51;
 
 /// A screen, its number of columns, and whether it has colours.
 #[derive(Drop)]
@@ -43,13 +47,18 @@ impl<'a, R: Print + Eprint + AllocGlobal> Screen<'a, R> {
         self.print(&text)
     }
 
-    /// Prints a text with a board, on which the checkers of this player are bold if there are
-    /// colours.
+    /// Prints a text with a board as [`say`](Self::say) does, with the rows of the board whole. The
+    /// checkers of this player are bold if there are colours.
     pub(crate) fn show_board(&self, text: &[u8], own: Player) -> Result<(), Ending> {
+        let columns = match Drawing::fitting(self.columns) {
+            Drawing::Points => self.columns,
+            Drawing::Rows | Drawing::Stacks => self.columns.max(COLUMNS_OF_ROWS),
+        };
+        let text = allocated(self.rt, broken(self.rt.alloc(), text, columns))?;
         if !self.has_colours {
-            return self.print(text);
+            return self.print(&text);
         }
-        let coloured = with_coloured_checkers(self.rt.alloc(), text, own);
+        let coloured = with_coloured_checkers(self.rt.alloc(), &text, own);
         self.print(&allocated(self.rt, coloured)?)
     }
 

@@ -1,6 +1,7 @@
 //! The views of a person at a terminal.
 
 use crate::play::Table;
+use crate::play::joining::Joining;
 use crate::play::players::players_text;
 use crate::seats::{NOT_CHOSEN, Round};
 use bg_command_parts::Silence;
@@ -15,7 +16,8 @@ use std::rt::Files;
 use std::time::Clock;
 
 /// The message behind the reason why nothing is heard of the referee.
-const KEPT_MEANWHILE: &str = "What you choose now is kept, and sent when it is heard again";
+const KEPT_MEANWHILE: &str =
+    "What you choose now is kept, and sent when the referee is heard again";
 
 impl<'a, R> Table<'a, R>
 where
@@ -75,21 +77,26 @@ where
         self.tell_typed()
     }
 
-    /// Shows what a round brought, and below it what the player may do.
+    /// Shows a player at the table what a round brought, and below it whose turn it is and what the
+    /// player may do.
     pub(super) fn show_round(&mut self, round: Round) -> Result<(), Ending> {
+        if !self.is_seated() {
+            return Ok(());
+        }
+        let mut wants_prompt = false;
         if let Some(word) = round.word {
             self.is_silent = word == LivenessChange::Silent;
             self.say_liveness(word)?;
+            wants_prompt = true;
         }
         if let Some(number) = round.foreign {
             self.screen.say_number(NOT_CHOSEN.0, number, NOT_CHOSEN.1)?;
+            wants_prompt = true;
         }
-        let has_news = self.seat.held() > self.shown;
-        if has_news {
-            self.show_news(round.going)?;
+        if self.joining == Joining::Joined && self.seat.held() > self.shown {
+            wants_prompt = !self.show_news(round.going)?;
         }
-        let is_told = self.tell_of_opponent()?;
-        if is_told || !has_news && (round.word.is_some() || round.foreign.is_some()) {
+        if self.tell_of_opponent()? || wants_prompt {
             return self.prompt();
         }
         Ok(())
@@ -101,7 +108,7 @@ where
         let alloc = self.rt.alloc();
         let line = if word == LivenessChange::Silent {
             let why = Silence::of(self.rt, &self.seat.table);
-            format!(in alloc; "{word}: {why}{} {KEPT_MEANWHILE}", why.stop())
+            format!(in alloc; "{word}: {why}. {KEPT_MEANWHILE}")
         } else {
             format!(in alloc; "{word}")
         };
@@ -109,10 +116,10 @@ where
     }
 
     /// Shows the entries that came, the result of a game or the match, and the board where they
-    /// matter to the player.
-    fn show_news(&mut self, going: Going) -> Result<(), Ending> {
+    /// matter to the player. Returns whether it showed the board, which has a prompt below it.
+    fn show_news(&mut self, going: Going) -> Result<bool, Ending> {
         let Some(record) = self.seat.process.held() else {
-            return Ok(());
+            return Ok(false);
         };
         let rt = self.rt;
         let mut text = Vec::new(rt.alloc());
@@ -128,9 +135,7 @@ where
         if acts {
             self.show_table()?;
         }
-        if self.plays_forced && self.claims_nothing() {
-            return self.play_forced();
-        }
-        Ok(())
+        self.play_if_forced()?;
+        Ok(acts)
     }
 }

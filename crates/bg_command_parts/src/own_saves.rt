@@ -1,0 +1,207 @@
+//! The saves of a party, and the messages where they are why it can't go on.
+
+use crate::others_saves::Owner;
+use bg_console::{failed_barely, say};
+use bg_match::Rules;
+use bg_processes::{MatchFile, Printable, SlotName, read_saved};
+use bg_reports::Ending;
+use bg_system::number_of_rules;
+use bg_wire::{REFEREE, Saved, Slot, load};
+use bg_world::{Outcome, RestoreCause, outcome_text};
+use std::fmt;
+use std::fmt::{Display, Formatter, Write};
+use std::fs::File;
+use std::rt::Files;
+
+/// A match, as a message describes that of a save or a match file.
+#[derive(Clone, Copy, PartialEq, Eq)]
+struct MatchWords {
+    id: u64,
+    length: u8,
+    rules: u8,
+}
+
+impl MatchWords {
+    fn of_save(saved: &Saved) -> MatchWords {
+        MatchWords {
+            id: saved.log.id(),
+            length: saved.log.length(),
+            rules: number_of_rules(saved.log.rules()),
+        }
+    }
+}
+
+impl Display for MatchWords {
+    fn fmt<W: Write>(&self, f: &mut Formatter<W>) -> fmt::Result {
+        let MatchWords { id, length, rules } = *self;
+        write!(f, "match {id}, length {length}, rules {rules}")
+    }
+}
+
+/// The match that a party is to play, by what asks for it.
+#[derive(Clone, Copy)]
+pub enum Asked<'a> {
+    /// That of a match file or a key file.
+    File(&'a MatchFile),
+    /// That of the options of `loop`: the seed, the length and the rules.
+    Options(u64, u8, Rules),
+}
+
+impl<'a> Asked<'a> {
+    fn words(self) -> MatchWords {
+        match self {
+            Asked::File(table) => MatchWords {
+                id: table.id,
+                length: table.terms.length,
+                rules: number_of_rules(table.terms.rules),
+            },
+            Asked::Options(id, length, rules) => MatchWords {
+                id,
+                length,
+                rules: number_of_rules(rules),
+            },
+        }
+    }
+}
+
+impl<'a> Display for Asked<'a> {
+    fn fmt<W: Write>(&self, f: &mut Formatter<W>) -> fmt::Result {
+        f.write_str(match self {
+            Asked::File(_) => "the match file",
+            Asked::Options(..) => "this call",
+        })
+    }
+}
+
+/// The saves of a party: the folder that they are in, and the match that the party is to play.
+#[derive(Clone, Copy)]
+pub struct OwnSaves<'a> {
+    pub folder: &'a str,
+    pub party: u8,
+    pub asked: Asked<'a>,
+}
+
+/// Reports why a party is down for good, in a line of its own. Where its saves are why, the line
+/// before that says whose saves they are, and what to do.
+pub fn stopped<R>(rt: &R, saves: OwnSaves<'_>, outcome: &Outcome) -> Ending
+where
+    R: Files<File = File> + Eprint + AllocGlobal,
+{
+    say_remedy(rt, saves, outcome);
+    let line = outcome_text(outcome);
+    failed_barely(rt, line.as_str())
+}
+
+/// Reports what is wrong with the saves of a party that is down for good, and what to do, where
+/// they are why.
+fn say_remedy<R>(rt: &R, saves: OwnSaves<'_>, outcome: &Outcome)
+where
+    R: Files<File = File> + Eprint + AllocGlobal,
+{
+    let (folder, owner) = (Printable(saves.folder), Owner(saves.party));
+    match outcome {
+        Outcome::RestoreFault(RestoreCause::Damaged) => say(
+            rt,
+            format_args!(
+                "the saves of {owner} in {folder} are damaged: `bg_relay show {folder}` says how"
+            ),
+        ),
+        Outcome::RestoreFault(RestoreCause::WrongMatch) => {
+            if let Some(saved) = newest_save(rt, saves.folder, saves.party) {
+                say_other_match(rt, saves, &saved);
+            }
+        }
+        Outcome::SavesSpent => {
+            let remedy = if saves.party == REFEREE {
+                "`bg_relay recover` makes one that it can go on with"
+            } else {
+                "give another --dir"
+            };
+            say(
+                rt,
+                format_args!("{owner} can save no more in {folder}: {remedy}"),
+            );
+        }
+        _ => {}
+    }
+}
+
+/// Reports that a folder has a save that isn't of this match, or isn't of this party.
+fn say_other_match(rt: &impl Eprint, saves: OwnSaves<'_>, saved: &Saved) {
+    let (folder, whose, asked) = (Printable(saves.folder), Owner(saved.party), saves.asked);
+    let (theirs, own) = (MatchWords::of_save(saved), asked.words());
+    let remedy = Remedy::of(saves, theirs);
+    say(
+        rt,
+        format_args!("{folder} has saves of {whose} of {theirs}; {asked} is of {own}: {remedy}"),
+    );
+}
+
+/// The remedy where the folder of a party has saves of another match or another party.
+#[derive(Clone, Copy)]
+enum Remedy {
+    /// For the referee, whose folder has files of the match with this number.
+    OfReferee(u64),
+    /// For a seat, whose folder has saves of the match with this number.
+    OtherMatch(u64),
+    /// For a call of `loop`, whose folder has saves of this match.
+    OtherOptions(MatchWords),
+    /// For a seat, whose folder has other saves of its match.
+    OtherFolder,
+}
+
+impl Remedy {
+    /// Returns the remedy where a party has saves of this match.
+    fn of(saves: OwnSaves<'_>, theirs: MatchWords) -> Remedy {
+        match saves.asked {
+            Asked::Options(..) if theirs != saves.asked.words() => Remedy::OtherOptions(theirs),
+            Asked::Options(..) => Remedy::OtherFolder,
+            Asked::File(_) if saves.party == REFEREE => Remedy::OfReferee(theirs.id),
+            Asked::File(table) if theirs.id != table.id => Remedy::OtherMatch(theirs.id),
+            Asked::File(_) => Remedy::OtherFolder,
+        }
+    }
+}
+
+impl Display for Remedy {
+    fn fmt<W: Write>(&self, f: &mut Formatter<W>) -> fmt::Result {
+        match *self {
+            Remedy::OfReferee(id) => write!(
+                f,
+                "put the saves of this match in their place, or all files of match {id}"
+            ),
+            Remedy::OtherMatch(id) => {
+                write!(f, "give another --dir, or the key file of match {id}")
+            }
+            Remedy::OtherOptions(MatchWords { id, length, rules }) => write!(
+                f,
+                "give another --dir, or --seed {id} --length {length} --rules {rules}"
+            ),
+            Remedy::OtherFolder => f.write_str("give another --dir"),
+        }
+    }
+}
+
+/// Returns the latest save of a party in a folder; `None` where neither file holds a save.
+fn newest_save<R>(rt: &R, folder: &str, party: u8) -> Option<Saved>
+where
+    R: Files<File = File> + AllocGlobal,
+{
+    let zero = save_in(rt, folder, party, Slot::Zero);
+    let one = save_in(rt, folder, party, Slot::One);
+    match (zero, one) {
+        (Some(zero), Some(one)) if zero.save < one.save => Some(one),
+        (Some(zero), _) => Some(zero),
+        (None, one) => one,
+    }
+}
+
+/// Reads a party's file in a folder, if it holds a save.
+fn save_in<R>(rt: &R, folder: &str, party: u8, slot: Slot) -> Option<Saved>
+where
+    R: Files<File = File> + AllocGlobal,
+{
+    let name = SlotName { party, slot };
+    let path = format!(in rt.alloc(); "{folder}/{name}").ok()?;
+    load(rt.alloc(), &read_saved(rt, path.as_str()).ok()?).ok()
+}

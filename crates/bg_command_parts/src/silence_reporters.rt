@@ -1,0 +1,85 @@
+//! The messages on a referee that isn't heard.
+
+use crate::silences::Silence;
+use bg_console::say;
+use bg_processes::{Liveness, LivenessChange, MatchFile, PartySocket};
+use bg_wire::REFEREE;
+use std::fs::File;
+use std::rt::Files;
+use std::time::Clock;
+
+/// The message to a log where a referee that was heard is silent.
+const A_MINUTE: &str = "no word from the referee for a minute";
+
+/// The audience of the standard error, by which it depends what is told of a referee that isn't
+/// heard.
+#[derive(Clone, Copy, Debug, PartialEq, Eq)]
+pub enum Audience {
+    /// Nobody, as the screen shows it.
+    Nobody,
+    /// A person at a terminal, who is told of each silence of three seconds.
+    Person,
+    /// A log, which is told where the referee was never heard for three seconds, and later where it
+    /// isn't heard for a minute.
+    Log,
+    /// A log in which a [`Logbook`](crate::Logbook) tells of that minute.
+    LogWithLogbook,
+}
+
+/// Reports on the standard error that the referee of a match isn't heard, and that it is heard
+/// again (docs/OPERATING.md, "Messages").
+#[derive(Drop)]
+pub struct SilenceReporter<'a, R> {
+    rt: &'a R,
+    table: MatchFile,
+    audience: Audience,
+    /// Whether a silence was reported that has not ended.
+    is_told: bool,
+}
+
+impl<'a, R> SilenceReporter<'a, R>
+where
+    R: Files<File = File> + Clock + Eprint + AllocGlobal,
+{
+    /// Creates a reporter on the referee of the match of this file, which has reported nothing yet.
+    pub fn new(rt: &'a R, table: MatchFile, audience: Audience) -> SilenceReporter<'a, R> {
+        SilenceReporter {
+            rt,
+            table,
+            audience,
+            is_told: false,
+        }
+    }
+
+    /// Reports what has changed after a round over this socket, by the referee's liveness.
+    pub fn after_round<C: Clock>(&mut self, socket: &PartySocket<'_, C>, liveness: &Liveness) {
+        let was_heard = socket.heard() > 0;
+        let is_told = liveness.is_silent()
+            && match self.audience {
+                Audience::Nobody => false,
+                Audience::Person => true,
+                Audience::Log => !was_heard || !socket.hears(REFEREE),
+                Audience::LogWithLogbook => !was_heard,
+            };
+        if is_told == self.is_told {
+            return;
+        }
+        self.is_told = is_told;
+        if is_told {
+            self.say_silence(was_heard);
+        } else if self.audience != Audience::LogWithLogbook {
+            say(self.rt, LivenessChange::HeardAgain);
+        }
+    }
+
+    /// Reports a silence, and why it may be.
+    fn say_silence(&self, was_heard: bool) {
+        let why = Silence::of(self.rt, &self.table);
+        if was_heard && self.audience == Audience::Log {
+            say(self.rt, format_args!("{A_MINUTE}: {why}"));
+        } else {
+            let silent = LivenessChange::Silent;
+            say(self.rt, format_args!("{silent}: {why}"));
+        }
+    }
+}
