@@ -1,9 +1,11 @@
 //! The options that several commands have, and their values.
 
+use crate::RequestFault;
 use crate::arguments::{Argument, Kind, Need};
 use bg_board::Player;
 use bg_match::{LONGEST_MATCH, Rules, SHORTEST_MATCH};
 use bg_picture::Numbering;
+use bg_system::Name;
 use bg_wire::{FIRST_WATCHER, LAST_WATCHER};
 use clap::{Arg, ArgMatches};
 use std::alloc::Global;
@@ -102,6 +104,25 @@ pub(crate) fn player_in(options: &ArgMatches<'_>) -> Option<Player> {
         "O" | "o" => Some(Player::O),
         _ => None,
     }
+}
+
+/// The options whose text is a name, or stands above a match and is as clean as a name.
+const NAMES: [&str; 7] = ["name-x", "name-o", "x", "o", "date", "event", "place"];
+
+/// Refuses a text of these options that is not a valid name. A command without such an option gives
+/// none.
+///
+/// # Errors
+/// `Name`, for the first that is not valid.
+pub(crate) fn check_names(options: &ArgMatches<'_>) -> Result<(), RequestFault> {
+    for option in NAMES {
+        if let Some(text) = options.get_str(option) {
+            if let Err(why) = Name::new(text) {
+                return Err(RequestFault::Name(option, why));
+            }
+        }
+    }
+    Ok(())
 }
 
 pub(crate) const NUMBERING: Argument = Argument {

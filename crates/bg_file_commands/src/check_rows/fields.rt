@@ -39,6 +39,19 @@ impl Row {
         self.put_value(out, text)
     }
 
+    /// Appends a field with a text, or nothing where there is none.
+    pub(super) fn optional(
+        self,
+        out: &mut Vec<u8>,
+        name: &str,
+        text: Option<&str>,
+    ) -> Result<(), AllocError> {
+        match text {
+            Some(text) => self.text(out, name, text),
+            None => self.missing(out, 1),
+        }
+    }
+
     /// Appends a field with a text that has no character to escape but for JSON.
     pub(super) fn shown(self, out: &mut Vec<u8>, name: &str, text: &str) -> Result<(), AllocError> {
         self.put_name(out, name)?;
