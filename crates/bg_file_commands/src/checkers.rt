@@ -208,12 +208,7 @@ where
     }
 
     /// Appends the result of a file with this name, and returns whether it is good.
-    fn put_result(
-        &self,
-        out: &mut Vec<u8>,
-        name: &str,
-        bytes: &[u8],
-    ) -> Result<bool, AllocError> {
+    fn put_result(&self, out: &mut Vec<u8>, name: &str, bytes: &[u8]) -> Result<bool, AllocError> {
         let alloc = self.rt.alloc();
         if self.format == CheckFormat::Text {
             return put_report(alloc, out, name, bytes, self.columns);

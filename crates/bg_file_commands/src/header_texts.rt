@@ -41,7 +41,10 @@ pub(crate) fn put_with_headers(
 ) -> Result<(), AllocError> {
     put_above(out, headers)?;
     for line in text.lines() {
-        match line.strip_prefix(" X : ").and_then(|scores| scores.split_once("O : ")) {
+        match line
+            .strip_prefix(" X : ")
+            .and_then(|scores| scores.split_once("O : "))
+        {
             Some((x, o)) => put_scores(out, headers, x.trim_end(), o)?,
             None => put_text(out, line)?,
         }

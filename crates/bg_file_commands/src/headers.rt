@@ -182,7 +182,7 @@ fn split_header(line: &[u8]) -> Option<(&[u8], &[u8])> {
     Some((key.trim_ascii(), text.strip_prefix(b"\"")?))
 }
 
-/// Returns the names in a line with both scores, as in `Ada : 0   Zoe : 0`.
+/// Returns the names in a line with both scores before the first game, as in `Ada : 0   Zoe : 0`.
 fn split_names(line: &[u8]) -> Option<(&[u8], &[u8])> {
     let front = before_score(line)?;
     for (colon, byte) in front.iter().enumerate() {
@@ -202,13 +202,12 @@ fn before_score(line: &[u8]) -> Option<&[u8]> {
     front.trim_ascii_end().strip_suffix(b":")
 }
 
-/// Returns what follows a score behind a colon, where a blank stands between.
+/// Returns what follows a colon and the score 0, where a blank stands behind them.
 fn behind_score(text: &[u8]) -> Option<&[u8]> {
     let score = text.strip_prefix(b":")?.trim_ascii_start();
-    let end = score.iter().position(|byte| !byte.is_ascii_digit())?;
-    let behind = &score[end..];
+    let behind = score.strip_prefix(b"0")?;
     match behind.first() {
-        Some(blank) if end > 0 && blank.is_ascii_whitespace() => Some(behind),
+        Some(blank) if blank.is_ascii_whitespace() => Some(behind),
         _ => None,
     }
 }

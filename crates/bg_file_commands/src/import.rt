@@ -16,11 +16,7 @@ const MATCH_FILE: &str = "the match file";
 
 /// Prints the transcript of the match file on the standard input, or writes those of the named files
 /// into a folder.
-pub fn run<R>(
-    rt: &R,
-    options: ImportOptions<'_, '_>,
-    progress: Progress,
-) -> Result<Ending, Ending>
+pub fn run<R>(rt: &R, options: ImportOptions<'_, '_>, progress: Progress) -> Result<Ending, Ending>
 where
     R: Input + Files<File = File> + Clock + Print + Eprint + AllocGlobal,
 {
@@ -37,12 +33,7 @@ where
 }
 
 /// Writes the headers of a match file into a file, and reports the first that is malformed.
-fn keep_headers<R>(
-    rt: &R,
-    path: &str,
-    headers: &Headers<'_>,
-    is_forced: bool,
-) -> Result<(), Ending>
+fn keep_headers<R>(rt: &R, path: &str, headers: &Headers<'_>, is_forced: bool) -> Result<(), Ending>
 where
     R: Files<File = File> + Eprint + AllocGlobal,
 {

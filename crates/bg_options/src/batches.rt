@@ -43,7 +43,7 @@ pub(crate) const FORCE: Argument = Argument {
 
 /// Returns the argument for the files.
 pub(crate) fn files_of_batch<'a>(alloc: Global) -> Arg<'a> {
-    Arg::new(alloc, FILES)
-        .num_args(0..)
-        .help("The files to convert, with --out; without it the standard input is read")
+    Arg::new(alloc, FILES).num_args(0..).help(
+        "The files to convert, with --out; without it the standard input is read",
+    )
 }

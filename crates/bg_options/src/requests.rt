@@ -1,7 +1,7 @@
 //! The request that arguments make.
 
-use crate::commands::act::ActOptions;
 use crate::batches::{FILES, OUT};
+use crate::commands::act::ActOptions;
 use crate::commands::check::CheckOptions;
 use crate::commands::export::ExportOptions;
 use crate::commands::import::{HEADERS, ImportOptions};
@@ -72,7 +72,9 @@ impl Display for RequestFault {
                 let why = "a file is handed in on the standard input: bg_relay";
                 write!(f, "{why} {command} < FILE")
             }
-            RequestFault::NoFiles => f.write_str("--out needs the files to convert: --out DIR FILE.."),
+            RequestFault::NoFiles => f.write_str(
+                "--out needs the files to convert: --out DIR FILE..",
+            ),
             RequestFault::HeadersOfMany => {
                 f.write_str("--headers is for one match file: leave it out with --out")
             }

@@ -20,9 +20,7 @@ mod showing;
 
 pub use answers::ending_of;
 pub use checking::tallies::Tally;
-pub use checking::{
-    MOST_SHOWN, check_text, said_of_import_fault, said_of_transcript_fault,
-};
+pub use checking::{MOST_SHOWN, check_text, said_of_import_fault, said_of_transcript_fault};
 pub use endings::{DONE, Ending, FAILED, Found, REFUSED};
 pub use escapes::harmless;
 pub use folders::comparing::{Compared, compare};

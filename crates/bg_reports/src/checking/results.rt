@@ -12,14 +12,14 @@ use std::alloc::{AllocError, Global};
 /// game.
 pub(super) fn words_of_match(
     alloc: Global,
-    record: &Record,
+    log: &Record,
     is_cut: bool,
 ) -> Result<Vec<u8>, AllocError>
-    ensures { IfOk result (λ words. IsSaidOfMatch record.now is_cut words.items) }
+    ensures { IfOk result (λ words. IsSaidOfMatch log.now is_cut words.items) }
 {
     let mut words = Vec::from_slice(alloc, b"ok ")?;
-    put_number(&mut words, record.len().into())?;
-    put_result(&mut words, &record.standing(), is_cut)?;
+    put_number(&mut words, log.len().into())?;
+    put_result(&mut words, &log.standing(), is_cut)?;
     Ok(words)
 }
 
