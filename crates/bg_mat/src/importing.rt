@@ -1,13 +1,13 @@
 //! A match file read as a record.
-ghost use Rattle.std.specs.Prelude.{◌≡◌, ◌≢◌, ◌+◌, ◌<◌, ◌≤◌, ◌↔◌, ℕ, None, Err, IfOk, IfErr, IsOk, OnOk, length};
+ghost use Rattle.std.specs.Prelude.{◌≡◌, ◌≢◌, ◌+◌, ◌<◌, ◌≤◌, ◌↔◌, ℕ, None, Err, IfOk, IfErr, IsOk, length};
 ghost use Rattle.bg_mat.specs.Telling.{Game};
 ghost use Rattle.bg_match.specs.Match.{IsLog, empty_log};
 ghost use Rattle.bg_match.specs.Terms.{terms_of};
-ghost use Rattle.bg_mat.specs.Files.{EndsFile, Imports, ReadsFile, after_row, items_of, lines_in, numbered};
+ghost use Rattle.bg_mat.specs.Files.{EndsFile, Imports, ReadsFile, lines_in};
 ghost use Rattle.bg_mat.specs.Rows.Headings.{IsGameLine, IsLengthLine};
 ghost use Rattle.bg_text.specs.Judge.Judging.{lines_of};
 ghost use Rattle.bg_text.specs.Limits.{most_bytes};
-ghost use Rattle.bg_mat.specs.Replaying.{GoesOnBy, IsReplay};
+ghost use Rattle.bg_mat.specs.Replaying.{IsReplay};
 ghost use Rattle.bg_mat.specs.Reading.{AddsLine, EndsGames, ReadsGames};
 ghost use Rattle.bg_mat.specs.Refusals.{AreRefusedGames, IsBeginFault, IsReadFault, IsRefusal};
 ghost use Rattle.bg_mat.specs.Refusals.{IsRefusedItem, IsRefusedLine, Refuses};

@@ -1,8 +1,7 @@
 -- Turns that are found in a list of the legal ones.
-use Rattle.std.specs.Prelude.{◌≤◌, ◌≡◌, ◌≢◌, ◌⊎◌, ◌↔◌, ℕ, zero, suc, ◌+◌, ◌<◌, Bool, true, false, List, [], ◌∷◌, length, slice_index_or, AllPairs, Contains, Result, Ok, Err, IsOk}
+use Rattle.std.specs.Prelude.{◌≤◌, ◌≡◌, ◌≢◌, ◌↔◌, ℕ, zero, suc, Bool, false, List, [], ◌∷◌, length, slice_index_or, AllPairs, Contains, Result, Ok, Err, IsOk}
 use Rattle.std.specs.Result.{is_ok}
-use Rattle.std.proofs.Common.{refl, sym, ◌∙◌, ap, subst, inl, inr, arith}
-use Rattle.std.proofs.lemmas.Bool.{cases_lt}
+use Rattle.std.proofs.Common.{refl, sym, ◌∙◌, subst, arith}
 use Rattle.bg_board.specs.FromTo.{FromTo}
 use Rattle.bg_board.specs.Position.{Position}
 use Rattle.bg_board.specs.declared.players.Player.{Player}
@@ -10,7 +9,7 @@ use Rattle.bg_turns.specs.Turn.{IsLegalTurn}
 use Rattle.bg_turns.specs.TurnOrder.{IsGreater}
 use Rattle.bg_turns.specs.declared.throws.Dice.{Dice}
 use Rattle.bg_mat.specs.FirstTurns.{HitsOtherwise, IsFirst}
-use Rattle.bg_mat.specs.Turns.{HitAlike, SameMovement, steps_of}
+use Rattle.bg_mat.specs.Turns.{SameMovement, steps_of}
 use Rattle.bg_mat.specs.declared.movements.legs.Leg.{Leg}
 use Rattle.bg_mat.proofs.OfReading.FoundTurns.{ListsLegal, first_greatest, first_is_greatest, first_legal}
 use Rattle.bg_typed.specs.Meanings.{IsOnly}

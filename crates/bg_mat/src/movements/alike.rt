@@ -1,5 +1,5 @@
 //! Turns of one movement, and whether they hit alike.
-ghost use Rattle.std.specs.Prelude.{◌≡◌, ◌≤◌, ◌↔◌, List, IfOk, IsTrue, MatchOption, length};
+ghost use Rattle.std.specs.Prelude.{◌≤◌, ◌↔◌, List, IfOk, IsTrue, MatchOption, length};
 ghost use Rattle.bg_board.specs.FromTo.{FromTo};
 ghost use Rattle.bg_mat.specs.FirstTurns.{HitsOtherwise, IsFirst, IsNone};
 ghost use Rattle.bg_mat.specs.Turns.{HitAlike, IsUnambiguous, SameMovement};

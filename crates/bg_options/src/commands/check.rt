@@ -12,7 +12,7 @@ each, in the order given.
     $ bg_relay check good.txt bad.txt other.mat
     good.txt: ok 2, not over
     bad.txt: refused at line 3: more can be played: X move 8-5
-    other.mat: ok 10, X wins 1-0
+    other.mat: ok 10, O wins 1-0
     bg_relay: 2 ok, 1 refused
 
 A file is taken for a match file of another program, by the first rules, where its first line that is
