@@ -102,7 +102,7 @@ impl<'m, 'a> Request<'m, 'a> {
             }
             _ => {}
         }
-        check_names(options)?;
+        check_names(options, task.names())?;
         of_task(task, options).ok_or(RequestFault::Missing)
     }
 }

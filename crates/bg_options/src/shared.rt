@@ -106,16 +106,15 @@ pub(crate) fn player_in(options: &ArgMatches<'_>) -> Option<Player> {
     }
 }
 
-/// The options whose text is a name, or stands above a match and is as clean as a name.
-const NAMES: [&str; 7] = ["name-x", "name-o", "x", "o", "date", "event", "place"];
-
-/// Refuses a text of these options that is not a valid name. A command without such an option gives
-/// none.
+/// Refuses a text of an option with one of these names that is not a valid name of a player.
 ///
 /// # Errors
 /// `Name`, for the first that is not valid.
-pub(crate) fn check_names(options: &ArgMatches<'_>) -> Result<(), RequestFault> {
-    for option in NAMES {
+pub(crate) fn check_names(
+    options: &ArgMatches<'_>,
+    names: &[&'static str],
+) -> Result<(), RequestFault> {
+    for option in names.iter().copied() {
         if let Some(text) = options.get_str(option) {
             if let Err(why) = Name::new(text) {
                 return Err(RequestFault::Name(option, why));
