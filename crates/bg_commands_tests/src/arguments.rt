@@ -5,11 +5,11 @@ use crate::command_lines::check_refused;
 use bg_options::{Request, RequestFault, command_line};
 use bg_system::NameFault;
 use clap::error::ErrorKind;
-use requests::{is_between_processes, is_in_one_process, is_of_files, is_shown};
+use requests::{is_between_processes, is_converted, is_in_one_process, is_of_files, is_shown};
 use std::test::Fail;
 
 /// The words of commands, without the program's name.
-const WORDS: [&[&str]; 29] = [
+const WORDS: [&[&str]; 33] = [
     &["judge"],
     &["check", "--quiet", "a", "-", "b"],
     &[
@@ -116,6 +116,15 @@ const WORDS: [&[&str]; 29] = [
         "Anna \u{d6}",
     ],
     &["page", "--match", "m"],
+    &["import", "--out", "d", "--force", "a", "b"],
+    &["import", "--headers", "h"],
+    &[
+        "export", "--x", "Anna", "--o", "Otto", "--date", "1", "--event", "2", "--place", "3",
+        "--out", "d", "a",
+    ],
+    &[
+        "recover", "--match", "m", "--x", " x", "--o", "o", "--dir", "d",
+    ],
 ];
 
 /// Whether the words of this row ask for what they should.
@@ -128,6 +137,7 @@ fn asks(rt: &impl AllocGlobal, row: usize, words: &[&str]) -> Result<bool, Fail>
     Ok(match Request::read(&matches) {
         Ok(request) => {
             is_of_files(row, &request)
+                || is_converted(row, &request)
                 || is_shown(row, &request)
                 || is_in_one_process(row, &request)
                 || is_between_processes(row, &request)
@@ -153,6 +163,41 @@ fn misplaced_files(rt: HostRuntime) -> Result<(), Fail> {
         let matches = line.try_get_matches_from(words.as_slice())?;
         let fault = Request::read(&matches).err();
         assert!(rt; fault == Some(RequestFault::MisplacedFile(name)), "{name}");
+    }
+    Ok(())
+}
+
+/// Options for files and a folder that don't fit are said.
+#[test]
+fn batches_that_are_refused(rt: HostRuntime) -> Result<(), Fail> {
+    let no_files = Some(RequestFault::NoFiles);
+    let headers = Some(RequestFault::HeadersOfMany);
+    for (words, wanted) in [
+        (&["bg_relay", "import", "--out", "d"] as &[&str], no_files),
+        (&["bg_relay", "export", "--out", "d"], no_files),
+        (
+            &["bg_relay", "import", "--out", "d", "--headers", "h", "a"],
+            headers,
+        ),
+    ] {
+        let line = command_line(rt.alloc(), words.get(1).copied())?;
+        let matches = line.try_get_matches_from(words)?;
+        assert!(rt; Request::read(&matches).err() == wanted, "{wanted:?}");
+    }
+    Ok(())
+}
+
+/// A text above a match is as clean as a name.
+#[test]
+fn headers_that_are_refused(rt: HostRuntime) -> Result<(), Fail> {
+    for option in ["x", "o", "date", "event", "place"] {
+        let flag = format!(in rt.alloc(); "--{option}=")?;
+        let words = ["bg_relay", "export", flag.as_str()];
+        let line = command_line(rt.alloc(), Some("export"))?;
+        let matches = line.try_get_matches_from(words.as_slice())?;
+        let fault = Request::read(&matches).err();
+        let wanted = Some(RequestFault::Name(option, NameFault::Length));
+        assert!(rt; fault == wanted, "{option}");
     }
     Ok(())
 }

@@ -1,6 +1,6 @@
 //! Judging many files, one after the other.
 
-use crate::check_rows::{Found, HEADINGS, found_in, row_of};
+use crate::check_rows::{HEADINGS, Row, put_row, put_unread_row};
 use crate::inputs::read_input;
 use crate::walks::files_below;
 use bg_console::{
@@ -182,13 +182,16 @@ where
         if self.format == CheckFormat::Text {
             return Ok(());
         }
-        let row = unread_row(self.rt.alloc(), self.format, name, error);
-        print_text(self.rt, &allocated(self.rt, row)?)
+        let mut text = Vec::new(self.rt.alloc());
+        let row = Row::new(self.rt.alloc(), self.format);
+        allocated(self.rt, put_unread_row(row, &mut text, name, error))?;
+        print_text(self.rt, &text)
     }
 
     /// Judges a file with these bytes, and prints the result.
     fn judge(&mut self, name: &str, bytes: &[u8]) -> Result<(), Ending> {
-        let Ok((text, is_good)) = self.checked(name, bytes) else {
+        let mut text = Vec::new(self.rt.alloc());
+        let Ok(is_good) = self.put_result(&mut text, name, bytes) else {
             say_of(self.rt, name, " could not be judged: out of memory");
             self.pass_over();
             return Ok(());
@@ -204,17 +207,13 @@ where
         print_text(self.rt, &text)
     }
 
-    /// Returns the report on a file with this name, and whether it is good.
-    fn checked(&self, name: &str, bytes: &[u8]) -> Result<(Vec<u8>, bool), AllocError> {
+    /// Appends the result of a file with this name, and returns whether it is good.
+    fn put_result(&self, out: &mut Vec<u8>, name: &str, bytes: &[u8]) -> Result<bool, AllocError> {
         let alloc = self.rt.alloc();
         if self.format == CheckFormat::Text {
-            let name = format!(in alloc; "{}", Printable(name))?;
-            let (text, verdict) = check_text(alloc, name.as_str(), bytes, self.columns)?;
-            return Ok((text, matches!(verdict, Verdict::Fine(_))));
+            return put_report(alloc, out, name, bytes, self.columns);
         }
-        let found = found_in(alloc, bytes)?;
-        let row = row_of(alloc, self.format, name, bytes, &found)?;
-        Ok((row, matches!(found, Found::Good(_))))
+        put_row(Row::new(alloc, self.format), out, name, bytes)
     }
 
     /// Counts a file that is not judged, after the reason was reported.
@@ -229,15 +228,18 @@ where
     }
 }
 
-/// Returns the row of a file that could not be read.
-fn unread_row(
+/// Appends the report on a file with this name, and returns whether it is good.
+fn put_report(
     alloc: Global,
-    format: CheckFormat,
+    out: &mut Vec<u8>,
     name: &str,
-    error: &io::Error,
-) -> Result<Vec<u8>, AllocError> {
-    let reason = format!(in alloc; "{error}")?;
-    row_of(alloc, format, name, b"", &Found::Unread(reason))
+    bytes: &[u8],
+    columns: Option<usize>,
+) -> Result<bool, AllocError> {
+    let name = format!(in alloc; "{}", Printable(name))?;
+    let (text, verdict) = check_text(alloc, name.as_str(), bytes, columns)?;
+    out.extend_from_slice(&text)?;
+    Ok(matches!(verdict, Verdict::Fine(_)))
 }
 
 /// Reports that the list of files could not be read.

@@ -1,17 +1,40 @@
-//! The command that writes a match for other programs.
+//! The command that writes matches for other programs.
 
-use crate::inputs::read_record;
-use bg_console::{allocated, print_text};
-use bg_mat::export_mat;
+use crate::batches::{Conversion, convert_all};
+use crate::inputs::{standard_input, transcript_as_match_file};
+use bg_console::{Progress, print_text, wrong};
+use bg_options::{ExportOptions, HeaderOptions};
 use bg_reports::Ending;
+use std::fs::File;
+use std::rt::Files;
+use std::time::Clock;
 
-/// Prints the match file of the transcript on the standard input.
-pub fn run<R>(rt: &R) -> Result<Ending, Ending>
+/// The name of a transcript on the standard input, in messages.
+const TRANSCRIPT: &str = "the transcript";
+
+/// Prints the match file of the transcript on the standard input, or writes those of the named files
+/// into a folder.
+pub fn run<R>(rt: &R, options: ExportOptions<'_, '_>, progress: Progress) -> Result<Ending, Ending>
 where
-    R: Input + Print + Eprint + AllocGlobal,
+    R: Input + Files<File = File> + Clock + Print + Eprint + AllocGlobal,
 {
-    let record = read_record(rt)?;
-    let text = allocated(rt, export_mat(rt.alloc(), &record))?;
+    check_first_name(rt, &options.headers)?;
+    if let Some(batch) = options.batch {
+        return convert_all(rt, Conversion::Export(options.headers), batch, progress);
+    }
+    let bytes = standard_input(rt)?;
+    let text = transcript_as_match_file(rt, TRANSCRIPT, &options.headers, &bytes)?;
     print_text(rt, &text)?;
     Ok(Ending::Told)
+}
+
+/// Refuses a name of X that begins with a semicolon, as the line that it heads would be a comment.
+fn check_first_name(rt: &impl Eprint, headers: &HeaderOptions<'_>) -> Result<(), Ending> {
+    match headers.x {
+        Some(name) if name.starts_with(';') => Err(wrong(
+            rt,
+            "--x is refused: a match file takes a line that begins with a semicolon for a comment",
+        )),
+        _ => Ok(()),
+    }
 }

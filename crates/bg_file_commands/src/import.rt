@@ -1,18 +1,46 @@
-//! The command that imports a match file of another program.
+//! The command that imports match files of other programs.
 
-use crate::inputs::read_match_file;
-use bg_console::{allocated, print_text};
-use bg_match::Rules;
+use crate::batches::{Conversion, convert_all, put_file};
+use crate::header_texts::put_headers;
+use crate::headers::Headers;
+use crate::inputs::{match_file_text, standard_input};
+use bg_console::{Progress, allocated, print_text, say};
+use bg_options::ImportOptions;
 use bg_reports::Ending;
-use bg_text::transcript_text;
+use std::fs::File;
+use std::rt::Files;
+use std::time::Clock;
 
-/// Prints the transcript of the match file on the standard input, under these rules.
-pub fn run<R>(rt: &R, rules: Rules) -> Result<Ending, Ending>
+/// The name of a match file on the standard input, in messages.
+const MATCH_FILE: &str = "the match file";
+
+/// Prints the transcript of the match file on the standard input, or writes those of the named files
+/// into a folder.
+pub fn run<R>(rt: &R, options: ImportOptions<'_, '_>, progress: Progress) -> Result<Ending, Ending>
 where
-    R: Input + Print + Eprint + AllocGlobal,
+    R: Input + Files<File = File> + Clock + Print + Eprint + AllocGlobal,
 {
-    let record = read_match_file(rt, rules)?;
-    let text = allocated(rt, transcript_text(rt.alloc(), &record))?;
+    if let Some(batch) = options.batch {
+        return convert_all(rt, Conversion::Import(options.rules), batch, progress);
+    }
+    let bytes = standard_input(rt)?;
+    let text = match_file_text(rt, MATCH_FILE, options.rules, &bytes)?;
+    if let Some(path) = options.headers {
+        keep_headers(rt, path, &Headers::read(&bytes), options.is_forced)?;
+    }
     print_text(rt, &text)?;
     Ok(Ending::Told)
+}
+
+/// Writes the headers of a match file into a file, and reports the first that is malformed.
+fn keep_headers<R>(rt: &R, path: &str, headers: &Headers<'_>, is_forced: bool) -> Result<(), Ending>
+where
+    R: Files<File = File> + Eprint + AllocGlobal,
+{
+    if let Some(fault) = headers.fault {
+        say(rt, format_args!("{fault}: it is left out"));
+    }
+    let mut text = Vec::new(rt.alloc());
+    allocated(rt, put_headers(&mut text, headers))?;
+    put_file(rt, path, &text, is_forced)
 }

@@ -1,10 +1,13 @@
 //! Reading the bytes of an input.
 
-use bg_console::{no_memory, say, unread};
-use bg_mat::import_mat;
+use crate::header_texts::put_with_headers;
+use bg_console::{allocated, no_memory, say, unread};
+use bg_mat::{export_mat, import_mat};
 use bg_match::{Record, Rules};
+use bg_options::HeaderOptions;
 use bg_reports::{Ending, said_of_import_fault, said_of_transcript_fault};
-use bg_text::{MAX_INPUT, Verdict, read_transcript};
+use bg_system::Printable;
+use bg_text::{MAX_INPUT, Verdict, read_transcript, transcript_text};
 use std::alloc::{AllocError, Global};
 use std::io;
 use std::io::Read;
@@ -15,9 +18,6 @@ const NO_NUMBER: u64 = 0;
 /// The name of a transcript on the standard input, in messages.
 const TRANSCRIPT: &str = "the transcript";
 
-/// The name of a match file of another program, in messages.
-const MATCH_FILE: &str = "the match file";
-
 /// Reads the bytes of an input, up to the limit of what is judged, and one more of a longer one.
 pub(crate) fn read_input(alloc: Global, input: impl Read + Drop) -> io::Result<Vec<u8>> {
     let mut bytes = Vec::new(alloc);
@@ -27,7 +27,7 @@ pub(crate) fn read_input(alloc: Global, input: impl Read + Drop) -> io::Result<V
 
 /// Reads the bytes of the standard input, up to the limit of what is judged. Reports why where it
 /// can't be read.
-fn standard_input<R: Input + Eprint + AllocGlobal>(rt: &R) -> Result<Vec<u8>, Ending> {
+pub(crate) fn standard_input<R: Input + Eprint + AllocGlobal>(rt: &R) -> Result<Vec<u8>, Ending> {
     match read_input(rt.alloc(), rt.reader()) {
         Ok(bytes) => Ok(bytes),
         Err(error) => Err(unread(rt, &error)),
@@ -58,20 +58,50 @@ where
     }
 }
 
-/// Reads the record of the match file on the standard input, under these rules. Reports why where
-/// it has none.
-pub(crate) fn read_match_file<R>(rt: &R, rules: Rules) -> Result<Record, Ending>
+/// Returns the transcript of a match file with this name, under these rules. Reports why where it
+/// has none.
+pub(crate) fn match_file_text<R>(
+    rt: &R,
+    name: &str,
+    rules: Rules,
+    bytes: &[u8],
+) -> Result<Vec<u8>, Ending>
 where
-    R: Input + Eprint + AllocGlobal,
+    R: Eprint + AllocGlobal,
 {
-    let bytes = standard_input(rt)?;
-    match import_mat(rt.alloc(), NO_NUMBER, rules, &bytes) {
-        Ok(imported) => Ok(imported.record),
+    match import_mat(rt.alloc(), NO_NUMBER, rules, bytes) {
+        Ok(imported) => allocated(rt, transcript_text(rt.alloc(), &imported.record)),
         Err(fault) => {
-            let said = said_of_import_fault(rt.alloc(), MATCH_FILE, &bytes, fault, None);
+            let name = allocated(rt, shown(rt.alloc(), name))?;
+            let said = said_of_import_fault(rt.alloc(), name.as_str(), bytes, fault, None);
             Err(refused(rt, said))
         }
     }
+}
+
+/// Returns the match file of a transcript with this name, with these headers. Reports why where it
+/// has none.
+pub(crate) fn transcript_as_match_file<R>(
+    rt: &R,
+    name: &str,
+    headers: &HeaderOptions<'_>,
+    bytes: &[u8],
+) -> Result<Vec<u8>, Ending>
+where
+    R: Eprint + AllocGlobal,
+{
+    let shown = allocated(rt, shown(rt.alloc(), name))?;
+    let record = record_in(rt, shown.as_str(), NO_NUMBER, bytes)?;
+    let plain = allocated(rt, export_mat(rt.alloc(), &record))?;
+    let mut text = Vec::new(rt.alloc());
+    let plain = str::from_utf8(&plain).unwrap_or_default();
+    allocated(rt, put_with_headers(&mut text, headers, plain))?;
+    Ok(text)
+}
+
+/// Returns the name of a file as it is printed.
+fn shown(alloc: Global, name: &str) -> Result<String, AllocError> {
+    format!(in alloc; "{}", Printable(name))
 }
 
 /// Reports why an input is refused, as `check` reports it of a file.

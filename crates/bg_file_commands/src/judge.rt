@@ -1,20 +1,30 @@
 //! The command that judges a transcript.
 
-use bg_console::engine_failed;
+use crate::marks::Noting;
+use bg_console::{engine_failed, say};
 use bg_reports::Ending;
 use bg_streams::{Reading, Writing};
-use bg_text::judge;
+use bg_text::{Verdict, judge};
 use std::io;
 
-/// Judges the transcript on the standard input.
+/// Judges the transcript on the standard input. Where the line that is refused has what other
+/// programs write, and transcripts don't have, it is named on the standard error.
 pub fn run<R>(rt: &R) -> Result<Ending, Ending>
 where
     R: Input + Print + Eprint + AllocGlobal,
 {
-    let mut input = Reading::new(rt.reader());
+    let mut noting = Noting::new(rt.reader());
+    let mut input = Reading::new(&mut noting);
     let mut output = Writing::new(io::writer(rt));
-    match judge(rt.alloc(), &mut input, &mut output) {
-        Ok(verdict) => Ok(Ending::Judged(verdict)),
-        Err(fault) => Err(engine_failed(rt, fault, input.error(), output.error())),
+    let verdict = match judge(rt.alloc(), &mut input, &mut output) {
+        Ok(verdict) => verdict,
+        Err(fault) => return Err(engine_failed(rt, fault, input.error(), output.error())),
+    };
+    if let Verdict::Refused(line) = verdict {
+        if let Some(mark) = noting.mark_of(line) {
+            let mark = mark.words();
+            say(rt, format_args!("met at line {line}: {mark}"));
+        }
     }
+    Ok(Ending::Judged(verdict))
 }

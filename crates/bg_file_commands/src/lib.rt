@@ -13,10 +13,13 @@
 //! ```
 #![tactic(auto)]
 
+mod batches;
 pub mod check;
 mod check_rows;
 mod checkers;
 pub mod export;
+mod header_texts;
+mod headers;
 mod held_records;
 pub mod id;
 pub mod import;
@@ -25,6 +28,7 @@ mod json;
 pub mod judge;
 pub mod keys;
 pub mod list;
+mod marks;
 mod new_folders;
 pub mod new_match;
 pub mod page;

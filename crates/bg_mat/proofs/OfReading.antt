@@ -16,6 +16,7 @@ pub mod OneReading
 pub mod FaultsApart
 pub mod ScoreLemmas
 pub mod TurnLemmas
+pub mod FoundTurns
 pub mod ToldApart
 pub mod Parts
 pub mod Hits

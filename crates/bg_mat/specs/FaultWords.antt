@@ -10,6 +10,7 @@ use Rattle.bg_mat.specs.declared.faults.ImportFault.TheVariants as import_fault
 -- why a line is refused
 abbrev pub mat_fault_words : MatFault → List ℕ
 mat_fault_words mat.NotALine = codes "not a line of a match file"
+mat_fault_words mat.NoCrawford = codes "a match without a Crawford game"
 mat_fault_words mat.NoLength = codes "no length of the match"
 mat_fault_words mat.Money = codes "a money game"
 mat_fault_words mat.LengthOutOfRange = codes "length out of range"

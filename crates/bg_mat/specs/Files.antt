@@ -1,5 +1,5 @@
 -- A whole match file: what its lines tell, one after the other.
-use Rattle.std.specs.Prelude.{◌≡◌, ◌⊎◌, ◌||◌, ℕ, ◌+◌, Bool, true, false, Option, Some, None, List, [], ◌∷◌, ◌++◌, map}
+use Rattle.std.specs.Prelude.{◌≡◌, ◌⊎◌, ◌||◌, ℕ, ◌≤◌, ◌<◌, ◌+◌, Bool, true, false, Option, Some, None, List, [], ◌∷◌, ◌++◌, map}
 use Rattle.std.specs.Prelude.{if◌then◌else◌, take, drop}
 use Rattle.std.specs.Str.{bytes_eq}
 use Rattle.bg_board.specs.declared.players.Player.{Player}
@@ -12,7 +12,7 @@ use Rattle.bg_match.specs.declared.limits.Rules.{Rules}
 use Rattle.bg_match.specs.declared.entries.Entry.{Entry}
 use Rattle.bg_match.specs.declared.entries.Entry.TheVariants as entry
 use Rattle.bg_mat.specs.Rows.Cells.{TellsRow}
-use Rattle.bg_mat.specs.Rows.Headings.{IsFiller, IsGameLine, IsHeader, IsLengthLine, IsScoresLine}
+use Rattle.bg_mat.specs.Rows.Headings.{IsFiller, IsGameLine, IsHeader, IsLengthLine, IsScoresLine, SaysNoCrawford}
 use Rattle.bg_text.specs.Judge.Judging.{lines_of}
 use Rattle.bg_mat.specs.Telling.{Item, Game, Scores, Does, Told, Place, AreTold, deed_of}
 use Rattle.bg_mat.specs.declared.rows.cells.Cell.{Cell}
@@ -81,12 +81,31 @@ behind_mark input = if bytes_eq (take 3 input) byte_order_mark then drop 3 input
 abbrev pub lines_in : List ℕ → List (List ℕ)
 lines_in input = lines_of (behind_mark input)
 
--- lines, of which the first has the number n, are a match file: first its length, then its games
-abbrev pub TellsFile : ℕ → List (List ℕ) → ℕ → List Told → Type 0
-TellsFile n [] points told = ⊥
-TellsFile n (line ∷ lines) points told =
-    (IsHeader line × TellsFile (n + 1) lines points told)
-    ⊎ (IsLengthLine line points × ((there : Awaited) × TellsLines awaited.Game (n + 1) lines told there))
+-- lines are those of a match that would have a Crawford game: the first of them that tells something is its length, and
+-- that is more than one point
+abbrev pub HasCrawford : List (List ℕ) → Type 0
+HasCrawford [] = ⊥
+HasCrawford (line ∷ lines) =
+    (IsHeader line × HasCrawford lines)
+    ⊎ ((IsHeader line → ⊥) × ((points : ℕ) × IsLengthLine line points × (1 < points)))
+
+-- lines, of which the first has the number n, are a match file: first its length, then its games. Something may follow
+abbrev pub TellsFile : ℕ → List (List ℕ) → ℕ → List Told → Awaited → Type 0
+TellsFile n [] points told there = ⊥
+TellsFile n (line ∷ lines) points told there =
+    (IsHeader line × (SaysNoCrawford line → points ≤ 1) × TellsFile (n + 1) lines points told there)
+    ⊎ (IsLengthLine line points × TellsLines awaited.Game (n + 1) lines told there)
+
+-- a file that may go on so ends within a game: no row of a win has ended the last one that it tells
+abbrev pub is_within_game : Awaited → Bool
+is_within_game awaited.Game = false
+is_within_game _ = true
+
+-- lines are a match file, and it is said whether it ends within a game
+abbrev pub EndsFile : List (List ℕ) → Bool → Type 0
+EndsFile lines within =
+    (points : ℕ) × (told : List Told) × (there : Awaited) × TellsFile 1 lines points told there
+    × (within ≡ is_within_game there)
 
 -- where a match stands before anything is told of it
 abbrev pub start_place : Terms → Place
@@ -102,8 +121,9 @@ BeginAsMatchFile (line ∷ lines) =
 pub record ReadsFile (id : ℕ) (rules : Rules) (input : List (List ℕ)) (log : Log) (lines : List ℕ) : Type 0 where
   pub points : ℕ
   pub told : List Told
+  pub there : Awaited
   pub place : Place
-  pub file : TellsFile 1 input points told
+  pub file : TellsFile 1 input points told there
   pub leads : AreTold (start_place (terms_of points rules)) told log.entries lines place
   pub terms : log.terms ≡ terms_of points rules
   pub match_id : log.id ≡ id
@@ -129,7 +149,8 @@ kept_entries entries = kept_behind None entries
 -- the text is a match file that tells what it keeps of the record
 pub record Exports (log : Log) (text : List ℕ) : Type 0 where
   pub told : List Told
+  pub there : Awaited
   pub lines : List ℕ
   pub place : Place
-  pub file : TellsFile 1 (lines_in text) (match_length log.terms) told
+  pub file : TellsFile 1 (lines_in text) (match_length log.terms) told there
   pub leads : AreTold (start_place log.terms) told (kept_entries log.entries) lines place

@@ -20,7 +20,7 @@ use Rattle.bg_match.specs.declared.entries.EntryFault.TheVariants as entry_fault
 use Rattle.bg_mat.specs.Telling.{BringsDice, Deed, Turn, CannotMove, Unknown, Doubles, Takes, Drops, Wins, Does, Game}
 use Rattle.bg_mat.specs.Telling.{Scores, GoesOn}
 use Rattle.bg_mat.specs.Telling.{IsOver, IsOverMatch, Item, MayResign, Place, before_of}
-use Rattle.bg_mat.specs.Turns.{HasMovement, SameMovement, TellsTurn, steps_of}
+use Rattle.bg_mat.specs.Turns.{HasMovement, IsToldTurn, IsUnambiguous, SameMovement, steps_of}
 use Rattle.bg_mat.specs.declared.faults.MatFault.{MatFault}
 use Rattle.bg_mat.specs.declared.faults.MatFault.TheVariants as why
 use Rattle.bg_mat.specs.declared.movements.legs.Leg.{Leg}
@@ -50,11 +50,17 @@ IsMovementFault board player dice legs why.WrongHits =
     × ((turn : List FromTo) → HasMovement board player dice legs turn → ⊥)
 IsMovementFault board player dice legs _ = ⊥
 
+-- the movement tells no turn, for this fault
+abbrev pub TellsNoTurn : Position → Player → Dice → List Leg → MatFault → Type 0
+TellsNoTurn board player dice legs fault =
+    IsMovementFault board player dice legs fault
+    × ((turn : List FromTo) → IsUnambiguous board player dice legs turn → ⊥)
+
 -- no turn is told behind the dice, or the rules refuse it
 abbrev pub IsMoveFault : Log → State → Player → Dice → List Leg → MatFault → Type 0
 IsMoveFault log s player dice legs fault =
-    IsMovementFault s.board player dice legs fault
-    ⊎ ((turn : List FromTo) × TellsTurn s.board player dice legs turn × RefusesEntry log (entry.Moved turn) fault)
+    TellsNoTurn s.board player dice legs fault
+    ⊎ ((turn : List FromTo) × IsToldTurn s.board player dice legs turn × RefusesEntry log (entry.Moved turn) fault)
 
 -- neither the empty turn is legal behind the dice, nor is the turn passed
 abbrev pub IsEmptyFault : Log → State → Player → Dice → MatFault → Type 0

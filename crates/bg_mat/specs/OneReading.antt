@@ -16,11 +16,12 @@ AreAlike [] [] = Unit {0}
 AreAlike (a ∷ told) (b ∷ more) = (a.line ≡ b.line) × IsAlike a.item b.item × AreAlike told more
 AreAlike _ _ = ⊥
 
--- the lines of a file tell one length, and one after the other the same, whatever the scores
+-- the lines of a file tell one length, and one after the other the same, whatever the scores, and one thing may follow
 abbrev pub FilesReadOnce : Type 0
 FilesReadOnce =
-    (n : ℕ) (lines : List (List ℕ)) (points others : ℕ) (told more : List Told) → TellsFile n lines points told
-    → TellsFile n lines others more → (points ≡ others) × AreAlike told more
+    (n : ℕ) (lines : List (List ℕ)) (points others : ℕ) (told more : List Told) (there then : Awaited)
+    → TellsFile n lines points told there → TellsFile n lines others more then
+    → (points ≡ others) × AreAlike told more × (there ≡ then)
 
 -- a line tells one thing at a place of a match, and one thing may follow it: the scores are those of the place
 abbrev pub LinesReadOnce : Type 0

@@ -1,8 +1,8 @@
 -- How the lines of games are read.
-use Rattle.std.specs.Prelude.{◌≡◌, ℕ, List, ◌++◌}
+use Rattle.std.specs.Prelude.{◌≡◌, ℕ, Bool, List, ◌++◌}
 use Rattle.bg_match.specs.Match.{Log, IsLog}
 use Rattle.bg_match.specs.declared.entries.Entry.{Entry}
-use Rattle.bg_mat.specs.Files.{TellsAwaited, TellsLines, numbered}
+use Rattle.bg_mat.specs.Files.{TellsAwaited, TellsLines, is_within_game, numbered}
 use Rattle.bg_mat.specs.Replaying.{GoesOnBy, pending_items, place_of}
 use Rattle.bg_mat.specs.Telling.{AreTold, Item, Place, Told}
 use Rattle.bg_mat.specs.declared.awaiting.Awaited.{Awaited}
@@ -13,6 +13,12 @@ use Rattle.bg_mat.specs.declared.playing.Replay.{Replay}
 abbrev pub AddsLine : Awaited → List ℕ → ℕ → Replay → Replay → Awaited → Type 0
 AddsLine here line n old new next =
     (items : List Item) × TellsAwaited here line items next × GoesOnBy old new (numbered n items)
+
+-- the lines of games, of which the first has the number n, end within a game or not
+abbrev pub EndsGames : ℕ → List (List ℕ) → Bool → Type 0
+EndsGames n lines within =
+    (told : List Told) × (there : Awaited) × TellsLines awaited.Game n lines told there
+    × (within ≡ is_within_game there)
 
 -- from a replay on, the lines of games, of which the first has the number n, are read as this record and these numbers
 -- of lines

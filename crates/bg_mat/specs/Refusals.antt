@@ -6,10 +6,10 @@ use Rattle.bg_turns.specs.HasStep.{has_step}
 use Rattle.bg_match.specs.Match.{empty_log}
 use Rattle.bg_match.specs.Terms.{terms_of}
 use Rattle.bg_match.specs.declared.limits.Rules.{Rules}
-use Rattle.bg_mat.specs.Files.{TellsAwaited, TellsLines, numbered}
+use Rattle.bg_mat.specs.Files.{HasCrawford, TellsAwaited, TellsLines, numbered}
 use Rattle.bg_mat.specs.ItemFaults.{IsItemFault, IsPendingFault}
 use Rattle.bg_mat.specs.Replaying.{Begins, ClosesBy, GoesOnBy, place_of}
-use Rattle.bg_mat.specs.Rows.Headings.{IsFiller, IsHeader, IsLengthLine, IsScoresLine}
+use Rattle.bg_mat.specs.Rows.Headings.{IsFiller, IsHeader, IsLengthLine, IsScoresLine, SaysNoCrawford}
 use Rattle.bg_mat.specs.Rows.RowFaults.{IsPlaceFault, IsRowPlace}
 use Rattle.bg_mat.specs.Telling.{Does, Item, Told, Wins}
 use Rattle.bg_mat.specs.declared.awaiting.Awaited.{Awaited}
@@ -120,12 +120,14 @@ AreRefusedGames from first lines number fault =
     IsToldLine first lines number
     × (AreRefusedLines from first lines number fault ⊎ IsRefusedEnd from first lines number fault)
 
--- the lines, of which the first has the number n, are refused before there is a length, or at a later line that tells
--- something
+-- the lines, of which the first has the number n, are refused: at a header that takes the Crawford game away, or as there
+-- is no length, or at a later line that tells something
 abbrev pub AreRefused : ℕ → Rules → ℕ → List (List ℕ) → ℕ → MatFault → Type 0
 AreRefused id rules n [] number fault = (number ≡ n) × (fault ≡ why.NoLength)
 AreRefused id rules n (line ∷ lines) number fault =
-    (IsHeader line × AreRefused id rules (n + 1) lines number fault)
+    (IsHeader line
+    × (((number ≡ n) × (fault ≡ why.NoCrawford) × SaysNoCrawford line × HasCrawford lines)
+    ⊎ ((SaysNoCrawford line → HasCrawford lines → ⊥) × AreRefused id rules (n + 1) lines number fault)))
     ⊎ ((IsHeader line → ⊥) × (((number ≡ n) × IsLengthFault line fault)
     ⊎ ((points : ℕ) × IsLengthLine line points × (1 ≤ points) × (points ≤ 99)
     × ((from : Replay) × Begins (empty_log id (terms_of points rules)) from

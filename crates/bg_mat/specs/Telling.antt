@@ -13,7 +13,7 @@ use Rattle.bg_match.specs.declared.levels.Level.{Level}
 use Rattle.bg_match.specs.declared.phases.Phase.TheVariants as phase
 use Rattle.bg_match.specs.declared.entries.Entry.{Entry}
 use Rattle.bg_match.specs.declared.entries.Entry.TheVariants as entry
-use Rattle.bg_mat.specs.Turns.{TellsTurn}
+use Rattle.bg_mat.specs.Turns.{IsToldTurn}
 use Rattle.bg_mat.specs.declared.movements.legs.Leg.{Leg}
 use Rattle.bg_mat.specs.declared.rows.cells.Cell.{Cell}
 use Rattle.bg_mat.specs.declared.rows.cells.Cell.TheVariants as cell
@@ -83,7 +83,7 @@ BringsDice s player dice _ = ⊥
 
 -- the entry by which he moves: a turn that the legs tell, or a pass where there are none
 abbrev pub MovesBy : Position → Player → Dice → List Leg → Entry → Type 0
-MovesBy board player dice legs (entry.Moved turn) = TellsTurn board player dice legs turn
+MovesBy board player dice legs (entry.Moved turn) = IsToldTurn board player dice legs turn
 MovesBy board player dice legs entry.Passed = legs ≡ []
 MovesBy board player dice legs _ = ⊥
 

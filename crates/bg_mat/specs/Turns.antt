@@ -70,3 +70,35 @@ pub record TellsTurn (board : Position) (player : Player) (dice : Dice) (legs : 
   pub chosen : (turn ≡ steps_of legs)
       ⊎ ((IsAsWritten board player dice legs → ⊥)
       × ((other : List FromTo) → HasMovement board player dice legs other → (other ≡ turn) ⊎ IsGreater turn other))
+
+-- both turns hit on the same points
+abbrev pub HitAlike : Position → Player → List FromTo → List FromTo → Type 0
+HitAlike board player one other =
+    (point : ℕ) → point ≤ 25 → is_hit board player one point ≡ is_hit board player other point
+
+-- a legal turn of this movement
+pub record IsOfMovement (board : Position) (player : Player) (dice : Dice) (legs : List Leg) (turn : List FromTo)
+    : Type 0 where
+  pub legal : IsLegalTurn board player dice turn
+  pub moved : SameMovement (steps_of legs) turn
+
+-- no legal turn of this movement is greater
+pub record IsGreatest (board : Position) (player : Player) (dice : Dice) (legs : List Leg) (turn : List FromTo)
+    : Type 0 where
+  pub movement : IsOfMovement board player dice legs turn
+  pub greatest : (other : List FromTo) → IsOfMovement board player dice legs other
+      → (other ≡ turn) ⊎ IsGreater turn other
+
+-- the greatest turn of this movement, where all of them hit on the same points
+pub record IsUnambiguous (board : Position) (player : Player) (dice : Dice) (legs : List Leg) (turn : List FromTo)
+    : Type 0 where
+  pub greatest : IsGreatest board player dice legs turn
+  pub alike : (other : List FromTo) → IsOfMovement board player dice legs other → HitAlike board player turn other
+
+-- the turn that a file tells by a movement: one with its hits. Where no legal turn has these it is the greatest of this
+-- movement, if all turns of it hit on the same points
+abbrev pub IsToldTurn : Position → Player → Dice → List Leg → List FromTo → Type 0
+IsToldTurn board player dice legs turn =
+    TellsTurn board player dice legs turn
+    ⊎ (((other : List FromTo) → HasMovement board player dice legs other → ⊥)
+    × IsUnambiguous board player dice legs turn)

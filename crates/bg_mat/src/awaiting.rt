@@ -1,6 +1,6 @@
 //! What may stand on the next line of a match file that has content.
 ghost use Rattle.std.specs.Prelude.{◌≡◌};
-ghost use Rattle.bg_mat.specs.Files.{after_row, is_win as is_win_cell};
+ghost use Rattle.bg_mat.specs.Files.{after_row, is_win as is_win_cell, is_within_game as is_within};
 
 use crate::rows::Row;
 use crate::rows::cells::Cell;
@@ -14,6 +14,16 @@ pub(crate) enum Awaited {
     Scores,
     /// A row of the game, or the number of the next game.
     Row,
+}
+
+/// Returns whether a file that may go on so ends within a game.
+pub(crate) fn is_within_game(awaited: Awaited) -> bool
+    ensures { result ≡ is_within awaited }
+{
+    match awaited {
+        Awaited::Game => false,
+        Awaited::Scores | Awaited::Row => true,
+    }
 }
 
 /// Returns what may follow a row.

@@ -12,6 +12,7 @@ impl fmt::Display for MatFault {
     fn fmt<W: fmt::Write>(&self, f: &mut fmt::Formatter<W>) -> fmt::Result {
         match self {
             MatFault::NotALine => f.write_str("not a line of a match file"),
+            MatFault::NoCrawford => f.write_str("a match without a Crawford game"),
             MatFault::NoLength => f.write_str("no length of the match"),
             MatFault::Money => f.write_str("a money game"),
             MatFault::LengthOutOfRange => f.write_str("length out of range"),

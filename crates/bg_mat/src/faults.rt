@@ -8,6 +8,8 @@ use bg_match::EntryFault;
 pub enum MatFault {
     /// The line has none of the shapes that may stand there.
     NotALine,
+    /// A header says that the match, which has more than one point, has no Crawford game.
+    NoCrawford,
     /// The length of the match doesn't come first.
     NoLength,
     /// The match is played for money: its length is 0.

@@ -1,26 +1,28 @@
 //! A match file read as a record.
-ghost use Rattle.std.specs.Prelude.{◌≡◌, ◌≢◌, ◌+◌, ◌<◌, ◌≤◌, ◌↔◌, ℕ, None, Err, IfOk, IfErr, IsOk, OnOk, length};
+ghost use Rattle.std.specs.Prelude.{◌≡◌, ◌≢◌, ◌+◌, ◌<◌, ◌≤◌, ◌↔◌, ℕ, None, Err, IfOk, IfErr, IsOk, length};
 ghost use Rattle.bg_mat.specs.Telling.{Game};
 ghost use Rattle.bg_match.specs.Match.{IsLog, empty_log};
 ghost use Rattle.bg_match.specs.Terms.{terms_of};
-ghost use Rattle.bg_mat.specs.Files.{Imports, ReadsFile, after_row, item_of, items_of, lines_in, numbered};
+ghost use Rattle.bg_mat.specs.Files.{EndsFile, Imports, ReadsFile, lines_in};
 ghost use Rattle.bg_mat.specs.Rows.Headings.{IsGameLine, IsLengthLine};
 ghost use Rattle.bg_text.specs.Judge.Judging.{lines_of};
 ghost use Rattle.bg_text.specs.Limits.{most_bytes};
-ghost use Rattle.bg_mat.specs.Replaying.{GoesOnBy, IsReplay};
-ghost use Rattle.bg_mat.specs.Reading.{AddsLine, ReadsGames};
-ghost use Rattle.bg_mat.specs.Refusals.{AreRefusedGames, AreRefusedItems, IsBeginFault, IsReadFault, IsRefusal};
+ghost use Rattle.bg_mat.specs.Replaying.{IsReplay};
+ghost use Rattle.bg_mat.specs.Reading.{AddsLine, EndsGames, ReadsGames};
+ghost use Rattle.bg_mat.specs.Refusals.{AreRefusedGames, IsBeginFault, IsReadFault, IsRefusal};
 ghost use Rattle.bg_mat.specs.Refusals.{IsRefusedItem, IsRefusedLine, Refuses};
 
-use crate::awaiting::{Awaited, awaited_behind};
+mod row_cells;
+
+use crate::awaiting::{Awaited, is_within_game};
 use crate::faults::{ReadFault, refused};
+use crate::importing::row_cells::add_row;
 use crate::marks::behind_mark;
 use crate::playing::Replay;
-use crate::rows::cells::Cell;
+use crate::rows::crawford::{has_crawford, takes_away};
 use crate::rows::headings::{is_filler, is_header, read_game, read_length};
-use crate::rows::{Row, read_row};
+use crate::rows::read_row;
 use crate::{ImportFault, MatFault};
-use bg_board::Player;
 use bg_match::{LONGEST_MATCH, LengthFault, Record, Rules};
 use bg_text::{MAX_INPUT, split_line};
 use std::alloc::Global;
@@ -32,6 +34,9 @@ pub struct Imported {
     pub record: Record,
     /// For each entry, in order, the line of the file that it comes from, counted from 1.
     pub lines: Vec<u32>,
+    /// Whether the file ends within a game: no row of a win ends its last game. If the match isn't over
+    /// either, the file was cut, or the game is still being played.
+    pub within_game: bool,
 }
 
 /// Reads a match file as the record of the match with this number, by these rules. X has the left
@@ -41,8 +46,9 @@ pub struct Imported {
 /// `TooLong` where the file has more than 41943040 bytes. `Refused` with the first line that is
 /// refused, and why. `Memory` where memory runs out.
 ///
-/// The line that is refused has content: it is neither blank nor a comment. Where no line has
-/// content, its number is one more than the number of lines.
+/// The line that is refused has content: it is neither blank nor a comment, except for a header that
+/// takes the Crawford game away. Where no line has content, its number is one more than the number
+/// of lines.
 pub fn import_mat(
     alloc: Global,
     id: u64,
@@ -51,6 +57,7 @@ pub fn import_mat(
 ) -> Result<Imported, ImportFault>
     ensures imports { IfOk result
         (λ imported. Imports id rules input.now imported.record imported.lines.items) }
+    ensures ends { IfOk result (λ imported. EndsFile (lines_in input.now) imported.within_game) }
     ensures too_long { (result ≡ Err ImportFault.TooLong) ↔ (most_bytes < length input.now) }
     ensures refused { IfErr result (IsRefusal id rules (lines_in input.now)) }
 {
@@ -68,14 +75,19 @@ pub fn import_mat(
 fn read_file(alloc: Global, id: u64, rules: Rules, input: &[u8]) -> Result<Imported, ReadFault>
     requires { length input.now ≤ most_bytes }
     ensures done { IfOk result (λ imported. ReadsFile id rules (lines_of input.now) imported.record imported.lines.items) }
+    ensures ends { IfOk result (λ imported. EndsFile (lines_of input.now) imported.within_game) }
     ensures fault { IfErr result (IsReadFault id rules (lines_of input.now)) }
 {
+    let crawford = has_crawford(input);
     let mut rest = input;
     let mut number: u32 = 1;
     while let Some((line, after)) = split_line(rest) {
         if !is_header(line) {
             let record = begin(alloc, id, rules, line, number)?;
             return read_games(Replay::new(alloc, record), after, number + 1);
+        }
+        if takes_away(crawford, line) {
+            return Err(refused(number, MatFault::NoCrawford));
         }
         rest = after;
         number += 1;
@@ -117,6 +129,7 @@ fn read_games(start: Replay, input: &[u8], first: u32) -> Result<Imported, ReadF
     requires few { first + length input.now < 4294967296 }
     ensures done { IfOk result (λ imported.
         ReadsGames start first (lines_of input.now) imported.record imported.lines.items) }
+    ensures ends { IfOk result (λ imported. EndsGames first (lines_of input.now) imported.within_game) }
     ensures fault { IfErr result (Refuses (AreRefusedGames start first (lines_of input.now))) }
 {
     let mut replay = start;
@@ -134,6 +147,7 @@ fn read_games(start: Replay, input: &[u8], first: u32) -> Result<Imported, ReadF
     Ok(Imported {
         record: replay.log,
         lines: replay.lines,
+        within_game: is_within_game(awaited),
     })
 }
 
@@ -209,35 +223,4 @@ fn read_line(
             None => add_row_line(replay, line, number),
         },
     }
-}
-
-/// Adds a cell, if there is one.
-fn add_cell(
-    replay: &mut Replay,
-    player: Player,
-    cell: Option<Cell>,
-    number: u32,
-) -> Result<(), ReadFault>
-    requires { IsReplay replay.old }
-    ensures done { OnOk result (GoesOnBy replay.old replay.new (numbered number (item_of player cell))) }
-    ensures fault { IfErr result (Refuses (AreRefusedItems replay.old number (item_of player cell))) }
-{
-    match cell {
-        Some(cell) => replay.play(number, player, cell),
-        None => Ok(()),
-    }
-}
-
-/// Adds the cells of a row, and returns what may follow.
-fn add_row(replay: &mut Replay, row: Row, number: u32) -> Result<Awaited, ReadFault>
-    requires { IsReplay replay.old }
-    ensures done { IfOk result (λ next. (next ≡ after_row row)
-        × GoesOnBy replay.old replay.new (numbered number (items_of row.left row.right))) }
-    ensures fault { IfErr result (Refuses (AreRefusedItems replay.old number (items_of row.left row.right))) }
-{
-    let next = awaited_behind(&row);
-    let Row { left, right } = row;
-    add_cell(replay, Player::X, left, number)?;
-    add_cell(replay, Player::O, right, number)?;
-    Ok(next)
 }

@@ -26,6 +26,7 @@ mod writing;
 pub use exporting::export_mat;
 pub use faults::{ImportFault, MatFault};
 pub use importing::{Imported, import_mat};
+pub use movements::alike::{first_moved, first_otherwise};
 pub use movements::legs::{Leg, LegFault, Legs, add_word};
 pub use movements::turns::{find_turn, turn_fault};
 pub use movements::{as_turn, is_hit, same_movement};

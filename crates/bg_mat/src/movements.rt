@@ -4,6 +4,7 @@ ghost use Rattle.std.specs.Prelude.{◌≡◌, ◌≤◌, ◌↔◌, length, IsT
 ghost use Rattle.bg_mat.specs.Turns.{HasHits, SameMovement, coming, is_hit as is_hit_by_rule};
 ghost use Rattle.bg_mat.specs.Turns.{is_marked as is_marked_point, is_reached as is_reached_point, leaving, steps_of};
 
+pub(crate) mod alike;
 pub(crate) mod legs;
 pub(crate) mod turns;
 

@@ -7,6 +7,7 @@ ghost use Rattle.bg_mat.specs.Rows.Words.{IsBlankText};
 
 pub(crate) mod cell_texts;
 pub(crate) mod cells;
+pub(crate) mod crawford;
 mod dice;
 mod doubles;
 pub(crate) mod headings;

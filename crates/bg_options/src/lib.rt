@@ -13,13 +13,17 @@
 #![tactic(auto)]
 
 mod arguments;
+mod batches;
 mod commands;
 mod requests;
 mod shared;
 mod tasks;
 
+pub use batches::BatchOptions;
 pub use commands::act::ActOptions;
 pub use commands::check::{CheckFormat, CheckOptions};
+pub use commands::export::{ExportOptions, HeaderOptions};
+pub use commands::import::ImportOptions;
 pub use commands::list::{ListFormat, ListOptions};
 pub use commands::new_match::NewOptions;
 pub use commands::page::PageOptions;

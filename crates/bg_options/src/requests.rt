@@ -1,9 +1,12 @@
 //! The request that arguments make.
 
+use crate::batches::{FILES, OUT};
 use crate::commands::act::ActOptions;
 use crate::commands::check::CheckOptions;
+use crate::commands::export::ExportOptions;
+use crate::commands::import::{HEADERS, ImportOptions};
 use crate::commands::list::ListOptions;
-use crate::commands::new_match::{NewOptions, check_names};
+use crate::commands::new_match::NewOptions;
 use crate::commands::page::PageOptions;
 use crate::commands::play::{PlayOptions, SeatOptions};
 use crate::commands::play_loop::LoopOptions;
@@ -13,9 +16,8 @@ use crate::commands::script::ScriptOptions;
 use crate::commands::show::ShowOptions;
 use crate::commands::sim::SimOptions;
 use crate::commands::watch::WatchOptions;
-use crate::shared::{has_misplaced_file, numbering_in, rules_in};
+use crate::shared::{check_names, has_misplaced_file, numbering_in};
 use crate::tasks::Task;
-use bg_match::Rules;
 use bg_picture::Numbering;
 use bg_system::NameFault;
 use clap::ArgMatches;
@@ -27,8 +29,8 @@ use std::fmt::{Display, Formatter, Write};
 pub enum Request<'m, 'a> {
     Judge,
     Check(CheckOptions<'m, 'a>),
-    Import { rules: Rules },
-    Export,
+    Import(ImportOptions<'m, 'a>),
+    Export(ExportOptions<'m, 'a>),
     Show(ShowOptions<'a>),
     List(ListOptions<'m, 'a>),
     Page(PageOptions<'a>),
@@ -53,6 +55,10 @@ pub enum RequestFault {
     /// A file is named to a command that reads the standard input. Holds the command with the
     /// options that it needs.
     MisplacedFile(&'static str),
+    /// A folder is named for files, and none of these.
+    NoFiles,
+    /// A file for the headers of one match is named with files that are converted into a folder.
+    HeadersOfMany,
     /// A player's name is not valid. Holds the option and the reason.
     Name(&'static str, NameFault),
     /// An option is missing. The parser of the command line lets no needed option be missing.
@@ -66,6 +72,12 @@ impl Display for RequestFault {
                 let why = "a file is handed in on the standard input: bg_relay";
                 write!(f, "{why} {command} < FILE")
             }
+            RequestFault::NoFiles => f.write_str(
+                "--out needs the files to convert: --out DIR FILE..",
+            ),
+            RequestFault::HeadersOfMany => {
+                f.write_str("--headers is for one match file: leave it out with --out")
+            }
             RequestFault::Name(option, why) => write!(f, "--{option} is refused: {why}"),
             RequestFault::Missing => f.write_str("an option is missing"),
         }
@@ -76,20 +88,34 @@ impl<'m, 'a> Request<'m, 'a> {
     /// Reads the request from parsed arguments.
     ///
     /// # Errors
-    /// `MisplacedFile` where a file is named to a command that reads the standard input. `Name`
-    /// where a player's name is not valid. `Missing` where there is no command, or it lacks an
-    /// option.
+    /// `MisplacedFile` where a file is named to a command that reads the standard input. `NoFiles`
+    /// and `HeadersOfMany` where the options for files and a folder don't fit. `Name` where a
+    /// player's name, or another text above a match, is not valid. `Missing` where there is no
+    /// command, or it lacks an option.
     pub fn read(matches: &'m ArgMatches<'a>) -> Result<Request<'m, 'a>, RequestFault> {
         let (name, options) = matches.subcommand().ok_or(RequestFault::Missing)?;
         let task = Task::named(name).ok_or(RequestFault::Missing)?;
-        if let Some(command) = task.reading() {
-            if has_misplaced_file(options) {
+        match task.reading() {
+            Some(_) if options.contains_id(OUT.name) => check_batch(options)?,
+            Some(command) if has_misplaced_file(options) => {
                 return Err(RequestFault::MisplacedFile(command));
             }
+            _ => {}
         }
-        check_names(options)?;
+        check_names(options, task.names())?;
         of_task(task, options).ok_or(RequestFault::Missing)
     }
+}
+
+/// Refuses a folder for files where none is named, and headers of many files.
+fn check_batch(options: &ArgMatches<'_>) -> Result<(), RequestFault> {
+    if !options.contains_id(FILES) {
+        return Err(RequestFault::NoFiles);
+    }
+    if options.contains_id(HEADERS.name) {
+        return Err(RequestFault::HeadersOfMany);
+    }
+    Ok(())
 }
 
 /// Returns the request for a task with these options.
@@ -97,10 +123,8 @@ fn of_task<'m, 'a>(task: Task, options: &'m ArgMatches<'a>) -> Option<Request<'m
     Some(match task {
         Task::Judge => Request::Judge,
         Task::Check => Request::Check(CheckOptions::read(options)),
-        Task::Import => Request::Import {
-            rules: rules_in(options)?,
-        },
-        Task::Export => Request::Export,
+        Task::Import => Request::Import(ImportOptions::read(options)?),
+        Task::Export => Request::Export(ExportOptions::read(options)),
         Task::Show => Request::Show(ShowOptions::read(options)),
         Task::List => Request::List(ListOptions::read(options)),
         Task::Page => Request::Page(PageOptions::read(options)),

@@ -1,9 +1,11 @@
 //! The options that several commands have, and their values.
 
+use crate::RequestFault;
 use crate::arguments::{Argument, Kind, Need};
 use bg_board::Player;
 use bg_match::{LONGEST_MATCH, Rules, SHORTEST_MATCH};
 use bg_picture::Numbering;
+use bg_system::Name;
 use bg_wire::{FIRST_WATCHER, LAST_WATCHER};
 use clap::{Arg, ArgMatches};
 use std::alloc::Global;
@@ -102,6 +104,24 @@ pub(crate) fn player_in(options: &ArgMatches<'_>) -> Option<Player> {
         "O" | "o" => Some(Player::O),
         _ => None,
     }
+}
+
+/// Refuses a text of an option with one of these names that is not a valid name of a player.
+///
+/// # Errors
+/// `Name`, for the first that is not valid.
+pub(crate) fn check_names(
+    options: &ArgMatches<'_>,
+    names: &[&'static str],
+) -> Result<(), RequestFault> {
+    for option in names.iter().copied() {
+        if let Some(text) = options.get_str(option) {
+            if let Err(why) = Name::new(text) {
+                return Err(RequestFault::Name(option, why));
+            }
+        }
+    }
+    Ok(())
 }
 
 pub(crate) const NUMBERING: Argument = Argument {

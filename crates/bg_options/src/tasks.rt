@@ -70,6 +70,16 @@ impl Task {
         None
     }
 
+    /// Returns the options of the command whose text is the name of a player, or stands above a
+    /// match and is as clean as a name.
+    pub(crate) fn names(self) -> &'static [&'static str] {
+        match self {
+            Task::New => &["name-x", "name-o"],
+            Task::Export => &["x", "o", "date", "event", "place"],
+            _ => &[],
+        }
+    }
+
     /// Returns the command with the options that it needs, if it reads the standard input alone.
     pub(crate) fn reading(self) -> Option<&'static str> {
         match self {

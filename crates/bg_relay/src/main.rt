@@ -65,8 +65,8 @@ fn obey(rt: &HostRuntime, request: Request<'_, '_>) -> Result<Ending, Ending> {
     match request {
         Request::Judge => judge::run(rt),
         Request::Check(options) => check::run(rt, options, columns(rt), progress),
-        Request::Import { rules } => import::run(rt, rules),
-        Request::Export => export::run(rt),
+        Request::Import(options) => import::run(rt, options, progress),
+        Request::Export(options) => export::run(rt, options, progress),
         Request::Show(options) => show::run(rt, options),
         Request::List(options) => list::run(rt, options),
         Request::Page(options) => page::run(rt, options),

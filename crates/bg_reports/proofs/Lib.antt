@@ -2,6 +2,5 @@ pub mod CutLines
 pub mod HeldFiles
 pub mod LineAt
 pub mod SameFronts
-mod LastLines
-mod SaidFaults
 mod MatchFileVerdicts
+mod TranscriptVerdicts

@@ -1,23 +1,25 @@
 -- What `check` prints of a file.
-use Rattle.std.specs.Prelude.{◌≡◌, ◌⊎◌, ◌==◌, ◌<◌, ℕ, ◌-◌, List, [], ◌∷◌, ◌++◌, length, slice_index_or, Option, None, Some}
+use Rattle.std.specs.Prelude.{◌≡◌, ◌⊎◌, ◌==◌, ◌<◌, ℕ, ◌-◌, Bool, false, List, [], ◌++◌, length, slice_index_or, Option, None, Some}
 use Rattle.std.specs.Prelude.{codes, if◌then◌else◌}
 use Rattle.bg_match.specs.Match.{Log}
 use Rattle.bg_match.specs.declared.limits.Rules.TheVariants as rules
 use Rattle.bg_text.specs.Boards.BoardText.{line_text}
-use Rattle.bg_text.specs.Judge.Judging.{IsJudgement, fine_line, lines_of}
-use Rattle.bg_text.specs.Judge.Transcripts.{RefusesTranscript, transcript_fault_words}
+use Rattle.bg_text.specs.Judge.Judging.{lines_of}
+use Rattle.bg_text.specs.Judge.Transcripts.{ReadsTranscript, RefusesTranscript, transcript_fault_words}
 use Rattle.bg_text.specs.Limits.{most_bytes}
+use Rattle.bg_text.specs.declared.faults.LineFault.{LineFault}
 use Rattle.bg_text.specs.declared.faults.TranscriptFault.{TranscriptFault}
 use Rattle.bg_text.specs.declared.faults.TranscriptFault.TheVariants as transcript_fault
 use Rattle.bg_text.specs.declared.judging.verdicts.Verdict.{Verdict}
 use Rattle.bg_text.specs.declared.judging.verdicts.Verdict.TheVariants.{Fine, Refused, TooLong}
 use Rattle.bg_mat.specs.FaultWords.{import_fault_words}
-use Rattle.bg_mat.specs.Files.{BeginAsMatchFile, Imports, lines_in}
+use Rattle.bg_mat.specs.Files.{BeginAsMatchFile, EndsFile, Imports, lines_in}
 use Rattle.bg_mat.specs.Refusals.{IsRefusal}
 use Rattle.bg_mat.specs.declared.faults.ImportFault.{ImportFault}
 use Rattle.bg_mat.specs.declared.faults.ImportFault.TheVariants as import_fault
 use Rattle.bg_mat.specs.declared.faults.MatFault.{MatFault}
 use Rattle.bg_reports.specs.Harmless.{shown, cut}
+use Rattle.bg_reports.specs.Result.{IsSaidOfMatch}
 
 -- so many columns of a refused line are shown where there is no screen
 abbrev pub most_shown : ℕ
@@ -27,11 +29,6 @@ most_shown = 1000
 abbrev pub room_in : Option ℕ → ℕ → ℕ
 room_in None taken = most_shown
 room_in (Some columns) taken = columns - taken
-
--- the last line, or another where there is none
-abbrev pub last_line : List ℕ → List (List ℕ) → List ℕ
-last_line other [] = other
-last_line other (line ∷ lines) = last_line line lines
 
 -- the line that is refused, and nothing where none is
 abbrev pub refused_in : Verdict → List (List ℕ) → List ℕ
@@ -48,17 +45,22 @@ abbrev pub check_line : List ℕ → List ℕ → List ℕ → Option ℕ → Li
 check_line name words line columns =
     let front = name ++ codes ": " ++ words in front ++ refused_part (room_in columns (length front)) line
 
--- what is said of a transcript: the last line that the judge says of it
-pub record IsTranscriptVerdict (bytes words : List ℕ) (verdict : Verdict) : Type 0 where
-  pub judgement : List ℕ
-  pub judged : IsJudgement bytes judgement verdict
-  pub last : words ≡ last_line [] (lines_of judgement)
+-- what is said of a transcript: how many entries its match has and what became of it, or why it has none
+abbrev pub IsTranscriptVerdict : List ℕ → List ℕ → Verdict → Type 0
+IsTranscriptVerdict bytes words (Fine n) =
+    (log : Log) × ReadsTranscript 0 bytes log × (n ≡ length log.entries) × IsSaidOfMatch log false words
+IsTranscriptVerdict bytes words (Refused n) =
+    (why : LineFault) × RefusesTranscript (transcript_fault.Refused n why) bytes
+    × (words ≡ transcript_fault_words (transcript_fault.Refused n why))
+IsTranscriptVerdict bytes words TooLong =
+    RefusesTranscript transcript_fault.TooLong bytes × (words ≡ transcript_fault_words transcript_fault.TooLong)
 
--- what is said of a match file, which is read by the first rules: how many entries its match has, or why it has none
+-- what is said of a match file, which is read by the first rules: how many entries its match has and what became of it,
+-- or why it has none. It is cut where it ends within a game
 abbrev pub IsMatchFileVerdict : List ℕ → List ℕ → Verdict → Type 0
 IsMatchFileVerdict bytes words (Fine n) =
-    (log : Log) × (lines : List ℕ) × Imports 0 rules.One bytes log lines × (n ≡ length log.entries)
-    × (words ≡ fine_line n)
+    (log : Log) × (lines : List ℕ) × (is_cut : Bool) × Imports 0 rules.One bytes log lines
+    × EndsFile (lines_in bytes) is_cut × (n ≡ length log.entries) × IsSaidOfMatch log is_cut words
 IsMatchFileVerdict bytes words (Refused n) =
     (why : MatFault) × IsRefusal 0 rules.One (lines_in bytes) (import_fault.Refused n why)
     × (words ≡ import_fault_words (import_fault.Refused n why))
@@ -93,13 +95,6 @@ abbrev pub IsTranscriptFaultText : List ℕ → List ℕ → TranscriptFault →
 IsTranscriptFaultText name bytes fault columns text verdict =
     (transcript_verdict fault ≡ Some verdict)
     × (text ≡ printed_line name (transcript_fault_words fault) verdict bytes columns)
-
--- what is printed of a transcript with the fault for which it gives no record is what is printed of it
-abbrev pub TranscriptFaultsAreSaid : Type 0
-TranscriptFaultsAreSaid =
-    (name bytes : List ℕ) (fault : TranscriptFault) (columns : Option ℕ) (text : List ℕ) (verdict : Verdict)
-    → RefusesTranscript fault bytes → IsTranscriptFaultText name bytes fault columns text verdict
-    → IsTranscriptText name bytes columns text verdict
 
 -- what is printed of a match file
 abbrev pub IsMatchFileText : List ℕ → List ℕ → Option ℕ → List ℕ → Verdict → Type 0

@@ -1,18 +1,21 @@
 //! The report on a file that was judged.
 ghost use Rattle.std.specs.Prelude.{◌≡◌, ◌++◌, [], Some, IfOk, OnOk, slice_index_or};
-ghost use Rattle.bg_text.specs.Judge.Judging.{fine_line, lines_of};
+ghost use Rattle.bg_text.specs.Judge.Judging.{lines_of};
+ghost use Rattle.bg_text.specs.Judge.Transcripts.{transcript_fault_words};
 ghost use Rattle.bg_mat.specs.FaultWords.{import_fault_words};
 ghost use Rattle.bg_reports.specs.Check.{IsCheckText, IsImportFaultText, IsMatchFileText, IsMatchFileVerdict};
-ghost use Rattle.bg_reports.specs.Check.{IsTranscriptFaultText, IsTranscriptText, TranscriptFaultsAreSaid};
-ghost use Rattle.bg_reports.specs.Check.{import_verdict};
-ghost use Rattle.bg_reports.specs.Check.{last_line as last_of, printed_line, refused_in, refused_part, room_in};
+ghost use Rattle.bg_reports.specs.Check.{IsTranscriptFaultText, IsTranscriptText, IsTranscriptVerdict};
+ghost use Rattle.bg_reports.specs.Check.{import_verdict, transcript_verdict};
+ghost use Rattle.bg_reports.specs.Check.{printed_line, refused_in, refused_part, room_in};
 
+mod results;
 pub(crate) mod tallies;
 
+use crate::checking::results::words_of_match;
 use crate::escapes::harmless;
 use bg_mat::{ImportFault, import_mat, is_match_file};
-use bg_match::{Number, Rules};
-use bg_text::{TranscriptFault, Verdict, judge_text, put_number, put_text, split_line};
+use bg_match::Rules;
+use bg_text::{TranscriptFault, Verdict, put_text, read_transcript, split_line};
 use std::alloc::{AllocError, Global};
 
 /// The number of a match that is checked, which no file gives.
@@ -52,17 +55,22 @@ fn said_of_transcript(
 ) -> Result<(Vec<u8>, Verdict), AllocError>
     ensures { IfOk result (λ checked. IsTranscriptText name.now bytes.now columns checked.0.items checked.1) }
 {
-    let judgement = judge_text(alloc, bytes)?;
-    let verdict = judgement.verdict;
-    let text = said(
-        alloc,
-        name,
-        last_line(&judgement.text),
-        bytes,
-        verdict,
-        columns,
-    )?;
+    let (words, verdict) = verdict_on_transcript(alloc, bytes)?;
+    let text = said(alloc, name, &words, bytes, verdict, columns)?;
     Ok((text, verdict))
+}
+
+/// Returns the verdict on a transcript, in words and as a value.
+fn verdict_on_transcript(alloc: Global, bytes: &[u8]) -> Result<(Vec<u8>, Verdict), AllocError>
+    ensures { IfOk result (λ told. IsTranscriptVerdict bytes.now told.0.items told.1) }
+{
+    match read_transcript(alloc, NO_NUMBER, bytes) {
+        Ok(record) => {
+            let words = words_of_match(alloc, &record, false)?;
+            Ok((words, Verdict::Fine(record.len())))
+        }
+        Err(fault) => verdict_of_transcript_fault(alloc, fault),
+    }
 }
 
 /// Returns the report on a match file of another program, and its verdict.
@@ -86,20 +94,11 @@ fn verdict_on_match_file(alloc: Global, bytes: &[u8]) -> Result<(Vec<u8>, Verdic
 {
     match import_mat(alloc, NO_NUMBER, Rules::One, bytes) {
         Ok(imported) => {
-            let entries = imported.record.len();
-            Ok((fine_words(alloc, entries)?, Verdict::Fine(entries)))
+            let words = words_of_match(alloc, &imported.record, imported.within_game)?;
+            Ok((words, Verdict::Fine(imported.record.len())))
         }
         Err(fault) => verdict_of_import_fault(alloc, fault),
     }
-}
-
-/// Returns the words for a good match with this number of entries.
-fn fine_words(alloc: Global, entries: Number) -> Result<Vec<u8>, AllocError>
-    ensures { IfOk result (λ words. words.items ≡ fine_line entries) }
-{
-    let mut words = Vec::from_slice(alloc, b"ok ")?;
-    put_number(&mut words, entries.into())?;
-    Ok(words)
 }
 
 /// Returns the report on a match file with this name and these bytes, which gives no record because
@@ -136,20 +135,28 @@ pub fn said_of_transcript_fault(
 ) -> Result<(Vec<u8>, Verdict), AllocError>
     ensures { IfOk result (λ told. IsTranscriptFaultText name.now bytes.now fault columns told.0.items told.1) }
 {
+    let (words, verdict) = verdict_of_transcript_fault(alloc, fault)?;
+    let text = said(alloc, name, &words, bytes, verdict, columns)?;
+    Ok((text, verdict))
+}
+
+/// Returns the verdict on a transcript that gives no record because of this fault, in words and as a
+/// value.
+fn verdict_of_transcript_fault(
+    alloc: Global,
+    fault: TranscriptFault,
+) -> Result<(Vec<u8>, Verdict), AllocError>
+    ensures { IfOk result (λ told. (told.0.items ≡ transcript_fault_words fault)
+        × (transcript_verdict fault ≡ Some told.1)) }
+{
     let verdict = match fault {
         TranscriptFault::Refused { line, .. } => Verdict::Refused(line),
         TranscriptFault::TooLong => Verdict::TooLong,
         TranscriptFault::Memory => return Err(AllocError),
     };
     let words = format!(in alloc; "{fault}")?;
-    let text = said(alloc, name, words.as_bytes(), bytes, verdict, columns)?;
-    Ok((text, verdict))
+    Ok((words.into_bytes(), verdict))
 }
-
-/// States that the report on a transcript by its fault is the same as the one without.
-pub fn transcript_faults_are_said()
-    ensures { TranscriptFaultsAreSaid }
-{}
 
 /// Returns the verdict on a match file that gives no record because of this fault, in words and as
 /// a value.
@@ -187,19 +194,6 @@ fn said(
     put_refused(alloc, &mut text, refused_line(bytes, verdict), room)?;
     put_text(&mut text, "\n")?;
     Ok(text)
-}
-
-/// Returns the last line of a text, without its line feed; nothing where it has none.
-fn last_line(text: &[u8]) -> &[u8]
-    ensures { result.now ≡ last_of [] (lines_of text.now) }
-{
-    let mut last: &[u8] = &[];
-    let mut rest = text;
-    while let Some((line, after)) = split_line(rest) {
-        last = line;
-        rest = after;
-    }
-    last
 }
 
 /// Returns the line of a file that its verdict refuses; nothing where it refuses none.

@@ -3,7 +3,7 @@
 //!
 //! ```
 //! let (text, verdict) = check_text(alloc, "a.txt", b"length 1\nopen 3 1\n", None)?;
-//! assert!(rt; text.as_slice() == b"a.txt: ok 1\n".as_slice());
+//! assert!(rt; text.as_slice() == b"a.txt: ok 1, not over\n".as_slice());
 //! assert!(rt; Ending::Judged(verdict).status() == DONE);
 //! let (text, loads) = show_text(alloc, b"", b"BGS0")?;
 //! assert!(rt; text.as_slice() == b"file 0: short\nfile 1: bad magic\n".as_slice());
@@ -20,10 +20,7 @@ mod showing;
 
 pub use answers::ending_of;
 pub use checking::tallies::Tally;
-pub use checking::{
-    MOST_SHOWN, check_text, said_of_import_fault, said_of_transcript_fault,
-    transcript_faults_are_said,
-};
+pub use checking::{MOST_SHOWN, check_text, said_of_import_fault, said_of_transcript_fault};
 pub use endings::{DONE, Ending, FAILED, Found, REFUSED};
 pub use escapes::harmless;
 pub use folders::comparing::{Compared, compare};

@@ -7,12 +7,12 @@ use Rattle.bg_board.specs.declared.players.Player.{Player}
 use Rattle.bg_turns.specs.Turn.{IsLegalTurn}
 use Rattle.bg_turns.specs.TurnOrder.{IsGreater}
 use Rattle.bg_turns.specs.declared.throws.Dice.{Dice}
-use Rattle.bg_mat.specs.Turns.{HasHits, HasMovement, IsAsWritten, TellsTurn, steps_of}
+use Rattle.bg_mat.specs.Turns.{HasHits, HasMovement, IsAsWritten, IsGreatest, TellsTurn, steps_of}
 use Rattle.bg_mat.specs.declared.movements.legs.Leg.{Leg}
 use Rattle.bg_mat.proofs.OfReading.CellLemmas.{movement_same}
 use Rattle.bg_mat.proofs.OfReading.RowLemmas.{no_word_ends}
 use Rattle.bg_typed.specs.Laws.{TypedTurnsAreLegal, TypedTurnsMeanOne}
-use Rattle.bg_typed.specs.Meanings.{IsGreatest, MeansLegs, MeansTurn, MeansUnmarked, has_marks}
+use Rattle.bg_typed.specs.Meanings.{MeansLegs, MeansTurn, MeansUnmarked, has_marks}
 use Rattle.bg_typed.specs.TypedFaults.{IsMeaningFault, IsTypedFault}
 use Rattle.bg_typed.specs.TypedWords.{TellsTyped, TellsWords}
 use Rattle.bg_typed.specs.declared.faults.TypedFault.{TypedFault}

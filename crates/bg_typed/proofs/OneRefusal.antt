@@ -7,7 +7,8 @@ use Rattle.bg_board.specs.declared.players.Player.{Player}
 use Rattle.bg_turns.specs.declared.throws.Dice.{Dice}
 use Rattle.bg_mat.specs.declared.movements.legs.Leg.{Leg}
 use Rattle.bg_typed.specs.Laws.{TypedFaultsDiffer}
-use Rattle.bg_typed.specs.Meanings.{HitAlike, has_marks}
+use Rattle.bg_mat.specs.Turns.{HitAlike}
+use Rattle.bg_typed.specs.Meanings.{has_marks}
 use Rattle.bg_typed.specs.TypedFaults.{AreTwo, IsMeaningFault, IsTypedFault}
 use Rattle.bg_typed.specs.TypedWords.{TellsTyped}
 use Rattle.bg_typed.specs.declared.faults.TypedFault.{TypedFault}

@@ -1,7 +1,6 @@
 pub mod Spelling
 pub mod TypedWords
 pub mod Meanings
-pub mod FirstTurns
 pub mod TypedFaults
 pub mod FaultWords
 pub mod Laws

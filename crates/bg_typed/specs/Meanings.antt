@@ -5,39 +5,14 @@ use Rattle.bg_board.specs.FromTo.{FromTo}
 use Rattle.bg_board.specs.Position.{Position}
 use Rattle.bg_board.specs.declared.players.Player.{Player}
 use Rattle.bg_turns.specs.Turn.{IsLegalTurn}
-use Rattle.bg_turns.specs.TurnOrder.{IsGreater}
 use Rattle.bg_turns.specs.declared.throws.Dice.{Dice}
-use Rattle.bg_mat.specs.Turns.{SameMovement, TellsTurn, is_hit, steps_of}
+use Rattle.bg_mat.specs.Turns.{IsUnambiguous, TellsTurn, steps_of}
 use Rattle.bg_mat.specs.declared.movements.legs.Leg.{Leg}
 use Rattle.bg_typed.specs.TypedWords.{TellsTyped}
 
 -- a hit is marked
 abbrev pub has_marks : List Leg → Bool
 has_marks legs = list_any (λ leg. leg.hits) legs
-
--- both turns hit on the same points
-abbrev pub HitAlike : Position → Player → List FromTo → List FromTo → Type 0
-HitAlike board player one other =
-    (point : ℕ) → point ≤ 25 → is_hit board player one point ≡ is_hit board player other point
-
--- a legal turn of this movement
-pub record IsOfMovement (board : Position) (player : Player) (dice : Dice) (legs : List Leg) (turn : List FromTo)
-    : Type 0 where
-  pub legal : IsLegalTurn board player dice turn
-  pub moved : SameMovement (steps_of legs) turn
-
--- no legal turn of this movement is greater
-pub record IsGreatest (board : Position) (player : Player) (dice : Dice) (legs : List Leg) (turn : List FromTo)
-    : Type 0 where
-  pub movement : IsOfMovement board player dice legs turn
-  pub greatest : (other : List FromTo) → IsOfMovement board player dice legs other
-      → (other ≡ turn) ⊎ IsGreater turn other
-
--- the greatest turn of this movement, where all of them hit on the same points
-pub record IsUnambiguous (board : Position) (player : Player) (dice : Dice) (legs : List Leg) (turn : List FromTo)
-    : Type 0 where
-  pub greatest : IsGreatest board player dice legs turn
-  pub alike : (other : List FromTo) → IsOfMovement board player dice legs other → HitAlike board player turn other
 
 -- the turn of legs that mark no hit: the legs as steps where these are a legal turn, and else the unambiguous one
 abbrev pub MeansUnmarked : Position → Player → Dice → List Leg → List FromTo → Type 0

@@ -6,9 +6,9 @@ use Rattle.bg_board.specs.declared.players.Player.{Player}
 use Rattle.bg_turns.specs.Turn.{IsLegalTurn}
 use Rattle.bg_turns.specs.TurnOrder.{IsGreater}
 use Rattle.bg_turns.specs.declared.throws.Dice.{Dice}
-use Rattle.bg_mat.specs.Turns.{HasMovement, steps_of}
+use Rattle.bg_mat.specs.Turns.{HasMovement, HitAlike, IsGreatest, IsOfMovement, steps_of}
 use Rattle.bg_mat.specs.declared.movements.legs.Leg.{Leg}
-use Rattle.bg_typed.specs.Meanings.{HitAlike, IsGreatest, IsOfMovement, IsOnly, has_marks}
+use Rattle.bg_typed.specs.Meanings.{IsOnly, has_marks}
 use Rattle.bg_typed.specs.TypedWords.{TellsTyped}
 use Rattle.bg_typed.specs.declared.faults.TypedFault.{TypedFault}
 use Rattle.bg_typed.specs.declared.faults.TypedFault.TheVariants as typed_fault

@@ -1,27 +1,13 @@
 //! The turn that the legs of a typed movement mean.
-ghost use Rattle.std.specs.Prelude.{◌≡◌, ◌≢◌, ◌≤◌, ◌↔◌, [], true, false, IfErr, IfOk, IsTrue, MatchOption, length};
-ghost use Rattle.bg_mat.specs.Turns.{SameMovement};
-ghost use Rattle.bg_typed.specs.FirstTurns.{HitsOtherwise, IsFirst, IsNone};
-ghost use Rattle.bg_typed.specs.Meanings.{HitAlike, MeansLegs, has_marks as is_marked};
+ghost use Rattle.std.specs.Prelude.{◌≡◌, ◌≢◌, ◌≤◌, [], true, false, IfErr, IfOk, length};
+ghost use Rattle.bg_typed.specs.Meanings.{MeansLegs, has_marks as is_marked};
 ghost use Rattle.bg_typed.specs.TypedFaults.{IsMeaningFault};
 
 use crate::TypedFault;
-use bg_board::{BAR, Board, Player, Step};
-use bg_mat::{Leg, MatFault, as_turn, find_turn, is_hit, same_movement, turn_fault};
+use bg_board::{Board, Player};
+use bg_mat::{Leg, MatFault, as_turn, find_turn, first_moved, first_otherwise, turn_fault};
 use bg_turns::{Dice, Turn, judge_turn, legal_turns};
 use std::alloc::Global;
-
-/// Returns whether two lists of steps hit on the same points.
-fn hit_alike(board: &Board, player: Player, one: &[Step], other: &[Step]) -> bool
-    ensures { IsTrue result ↔ HitAlike board.now player one.now other.now }
-{
-    for point in 0..BAR + 1 {
-        if is_hit(board, player, one, point) != is_hit(board, player, other, point) {
-            return false;
-        }
-    }
-    true
-}
 
 /// Returns whether a leg marks a hit.
 fn has_marks(legs: &[Leg]) -> bool
@@ -90,54 +76,6 @@ fn unmarked_turn(
         Some(other) => Err(TypedFault::Ambiguous(first, other)),
         None => Ok(first),
     }
-}
-
-/// Returns the first of some turns that has this movement.
-fn first_moved(written: &[Step], turns: &[Turn]) -> Option<Turn>
-    requires few { length written.now ≤ 4 }
-    ensures { MatchOption result (IsNone (SameMovement written.now) turns.now)
-        (λ turn. IsFirst (SameMovement written.now) turns.now turn) }
-{
-    for turn in turns {
-        if same_movement(written, turn.steps()) {
-            return Some(turn.copy());
-        }
-    }
-    None
-}
-
-/// Returns the first of some turns that has this movement, and hits otherwise than these steps.
-fn first_otherwise(
-    board: &Board,
-    player: Player,
-    written: &[Step],
-    turns: &[Turn],
-    steps: &[Step],
-) -> Option<Turn>
-    requires few { length written.now ≤ 4 }
-    ensures { MatchOption result (IsNone (HitsOtherwise board.now player written.now steps.now) turns.now)
-        (λ turn. IsFirst (HitsOtherwise board.now player written.now steps.now) turns.now turn) }
-{
-    for turn in turns {
-        if hits_otherwise(board, player, written, steps, turn) {
-            return Some(turn.copy());
-        }
-    }
-    None
-}
-
-/// Returns whether a turn has this movement, and hits otherwise than these steps.
-fn hits_otherwise(
-    board: &Board,
-    player: Player,
-    written: &[Step],
-    steps: &[Step],
-    turn: &Turn,
-) -> bool
-    requires few { length written.now ≤ 4 }
-    ensures { IsTrue result ↔ HitsOtherwise board.now player written.now steps.now turn.now }
-{
-    same_movement(written, turn.steps()) && !hit_alike(board, player, steps, turn.steps())
 }
 
 /// Returns the turn that at most four legs mean.

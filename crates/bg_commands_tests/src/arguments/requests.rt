@@ -23,7 +23,7 @@ fn is_seat(seat: &SeatOptions<'_>, player: Player) -> bool {
 /// Whether the words of this row ask for what a file's command does with these options.
 pub(crate) fn is_of_files(row: usize, request: &Request<'_, '_>) -> bool {
     match (row, request) {
-        (0, Request::Judge) | (5, Request::Export) => true,
+        (0, Request::Judge) => true,
         (
             1,
             Request::Check(
@@ -48,8 +48,6 @@ pub(crate) fn is_of_files(row: usize, request: &Request<'_, '_>) -> bool {
                 },
             ),
         ) => { files.is_empty() && *list == Some("-") && !*is_quiet }
-        (3, Request::Import { rules }) => *rules == Rules::One,
-        (4, Request::Import { rules }) => *rules == Rules::Two,
         (
             20,
             Request::Recover(
@@ -68,6 +66,37 @@ pub(crate) fn is_of_files(row: usize, request: &Request<'_, '_>) -> bool {
                 && *transcripts == ["t", "-"].as_slice()
         }
         (21, Request::Keys { folder }) => *folder == "d",
+        _ => false,
+    }
+}
+
+/// The same of what converts files.
+pub(crate) fn is_converted(row: usize, request: &Request<'_, '_>) -> bool {
+    match (row, request) {
+        (3, Request::Import(import)) => {
+            import.rules == Rules::One && import.batch.is_none() && import.headers.is_none()
+        }
+        (4, Request::Import(import)) => import.rules == Rules::Two,
+        (5, Request::Export(export)) => export.headers.x.is_none() && export.batch.is_none(),
+        (29, Request::Import(import)) => match import.batch {
+            Some(batch) => {
+                batch.files == ["a", "b"].as_slice() && batch.folder == "d" && batch.is_forced
+            }
+            None => false,
+        },
+        (30, Request::Import(import)) => import.headers == Some("h") && !import.is_forced,
+        (31, Request::Export(export)) => match export.batch {
+            Some(batch) => {
+                let headers = export.headers;
+                (headers.x, headers.o) == (Some("Anna"), Some("Otto"))
+                    && (headers.date, headers.event, headers.place)
+                        == (Some("1"), Some("2"), Some("3"))
+                    && batch.files == ["a"].as_slice()
+                    && !batch.is_forced
+            }
+            None => false,
+        },
+        (32, Request::Recover(recover)) => recover.x == " x",
         _ => false,
     }
 }

@@ -1,4 +1,4 @@
-//! The row of a file, field by field.
+//! The fields of a row, one after the other.
 
 use crate::json::put_quoted;
 use bg_options::CheckFormat;
@@ -6,82 +6,99 @@ use bg_system::Printable;
 use bg_text::{put_number, put_text};
 use std::alloc::{AllocError, Global};
 
-/// The row of a file, to which its fields are appended in the order of the headings.
-#[derive(Drop)]
-pub(super) struct Row {
-    alloc: Global,
+/// The form of a row. Its fields are appended in the order of the headings.
+#[derive(Clone, Copy)]
+pub(crate) struct Row {
+    pub(super) alloc: Global,
     is_json: bool,
-    out: Vec<u8>,
 }
 
 impl Row {
-    /// Begins the row of the file with this name.
-    pub(super) fn begin(alloc: Global, format: CheckFormat, name: &str) -> Result<Row, AllocError> {
+    /// Creates the form of rows in a format for programs.
+    pub(crate) fn new(alloc: Global, format: CheckFormat) -> Row {
         let is_json = format == CheckFormat::Json;
-        let mut out = Vec::new(alloc);
-        if is_json {
-            put_quoted(alloc, &mut out, "{\"file\":", name)?;
-        } else {
-            let shown = format!(in alloc; "{}", Printable(name))?;
-            put_text(&mut out, shown.as_str())?;
-        }
-        Ok(Row {
-            alloc,
-            is_json,
-            out,
-        })
+        Row { alloc, is_json }
     }
 
-    /// Appends the end of the row, and returns it.
-    pub(super) fn end(self) -> Result<Vec<u8>, AllocError> {
-        let mut out = self.out;
-        put_text(&mut out, if self.is_json { "}\n" } else { "\n" })?;
-        Ok(out)
+    /// Appends the start of the row of the file with this name.
+    pub(super) fn begin(self, out: &mut Vec<u8>, name: &str) -> Result<(), AllocError> {
+        if self.is_json {
+            put_text(out, "{\"file\":")?;
+        }
+        self.put_value(out, name)
     }
 
-    /// Appends the start of a field with this name.
-    pub(super) fn field(&mut self, name: &str) -> Result<(), AllocError> {
-        if !self.is_json {
-            return put_text(&mut self.out, "\t");
-        }
-        put_text(&mut self.out, ",\"")?;
-        put_text(&mut self.out, name)?;
-        put_text(&mut self.out, "\":")
+    /// Appends the end of the row.
+    pub(super) fn end(self, out: &mut Vec<u8>) -> Result<(), AllocError> {
+        put_text(out, if self.is_json { "}\n" } else { "\n" })
     }
 
     /// Appends a field with a text.
-    pub(super) fn text(&mut self, name: &str, text: &str) -> Result<(), AllocError> {
-        self.field(name)?;
-        if self.is_json {
-            return put_quoted(self.alloc, &mut self.out, "", text);
+    pub(super) fn text(self, out: &mut Vec<u8>, name: &str, text: &str) -> Result<(), AllocError> {
+        self.put_name(out, name)?;
+        self.put_value(out, text)
+    }
+
+    /// Appends a field with a text, or nothing where there is none.
+    pub(super) fn optional(
+        self,
+        out: &mut Vec<u8>,
+        name: &str,
+        text: Option<&str>,
+    ) -> Result<(), AllocError> {
+        match text {
+            Some(text) => self.text(out, name, text),
+            None => self.missing(out, 1),
         }
-        let shown = format!(in self.alloc; "{}", Printable(text))?;
-        put_text(&mut self.out, shown.as_str())
+    }
+
+    /// Appends a field with a text that has no character to escape but for JSON.
+    pub(super) fn shown(self, out: &mut Vec<u8>, name: &str, text: &str) -> Result<(), AllocError> {
+        self.put_name(out, name)?;
+        if self.is_json {
+            return put_quoted(self.alloc, out, "", text);
+        }
+        put_text(out, text)
     }
 
     /// Appends a field with a number.
-    pub(super) fn number(&mut self, name: &str, number: u64) -> Result<(), AllocError> {
-        self.field(name)?;
-        put_number(&mut self.out, number)
+    pub(super) fn number(
+        self,
+        out: &mut Vec<u8>,
+        name: &str,
+        number: u64,
+    ) -> Result<(), AllocError> {
+        self.put_name(out, name)?;
+        put_number(out, number)
     }
 
     /// Appends this number of fields of which nothing is known, which JSON leaves out.
-    pub(super) fn without(&mut self, fields: u8) -> Result<(), AllocError> {
+    pub(super) fn missing(self, out: &mut Vec<u8>, fields: u8) -> Result<(), AllocError> {
         if self.is_json {
             return Ok(());
         }
         for _ in 0..fields {
-            put_text(&mut self.out, "\t")?;
+            put_text(out, "\t")?;
         }
         Ok(())
     }
 
-    /// Appends a field with a text that can be printed as it is.
-    pub(super) fn shown(&mut self, name: &str, text: &str) -> Result<(), AllocError> {
-        self.field(name)?;
-        if self.is_json {
-            return put_quoted(self.alloc, &mut self.out, "", text);
+    /// Appends the start of a field with this name.
+    fn put_name(self, out: &mut Vec<u8>, name: &str) -> Result<(), AllocError> {
+        if !self.is_json {
+            return put_text(out, "\t");
         }
-        put_text(&mut self.out, text)
+        put_text(out, ",\"")?;
+        put_text(out, name)?;
+        put_text(out, "\":")
+    }
+
+    /// Appends a text with its unprintable characters escaped.
+    fn put_value(self, out: &mut Vec<u8>, text: &str) -> Result<(), AllocError> {
+        if self.is_json {
+            return put_quoted(self.alloc, out, "", text);
+        }
+        let shown = format!(in self.alloc; "{}", Printable(text))?;
+        put_text(out, shown.as_str())
     }
 }

@@ -28,6 +28,7 @@ one_of_three P why.NotALine h = inl refl
 one_of_three P why.Beaver h = inr (inl refl)
 one_of_three P why.TooManySteps h = inr (inr refl)
 one_of_three P why.NoLength h = absurd h
+one_of_three P why.NoCrawford h = absurd h
 one_of_three P why.Money h = absurd h
 one_of_three P why.LengthOutOfRange h = absurd h
 one_of_three P why.WrongGame h = absurd h

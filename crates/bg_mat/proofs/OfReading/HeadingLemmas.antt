@@ -1,11 +1,11 @@
 -- The first words of headings.
-use Rattle.std.specs.Prelude.{◌≡◌, ◌⊎◌, ◌↔◌, ℕ, Bool, true, false, List, [], ◌∷◌, ◌++◌, codes, map, IsTrue, Option, None, Some, MatchOption}
+use Rattle.std.specs.Prelude.{◌≡◌, ◌⊎◌, ◌↔◌, ℕ, ◌<◌, Bool, true, false, List, [], ◌∷◌, ◌++◌, codes, map, IsTrue, Option, None, Some, MatchOption}
 use Rattle.std.specs.Char.{to_ascii_lowercase}
 use Rattle.std.specs.Str.{all_ascii_digits}
 use Rattle.std.proofs.Common.{sym, ◌∙◌, ap, subst, inl, inr}
 use Rattle.std.proofs.lemmas.Bool.{and_parts}
 use Rattle.std.proofs.lemmas.List.{append_cancel_right}
-use Rattle.bg_mat.specs.Rows.Headings.{EndsLength, IsBlankOr, IsGameLine, IsHeaderWord, IsGameNumber, IsLengthLine, IsPoints}
+use Rattle.bg_mat.specs.Rows.Headings.{EndsLength, IsBlankOr, IsGameLine, IsGameNumber, IsHeaderWord, IsLengthLine, IsPoints, SaysNoCrawford, SkipsSemicolon}
 use Rattle.bg_mat.specs.Rows.Numbers.{IsNumber}
 use Rattle.bg_mat.specs.Rows.Words.{IsBlankText, IsFirstWord, SameLetters, Says, SaysEither}
 use Rattle.bg_mat.proofs.OfReading.WordLemmas.{first_word_same, no_first_word}
@@ -159,3 +159,58 @@ game_number_same word n m (inr (digits, d, is)) (inr (other, e, at)) =
     let here : IsNumber digits m =
     subst (λ (w : List ℕ). IsNumber w m) (append_cancel_right other digits (codes ":") (sym e ∙ d)) at in
     is.value ∙ sym here.value
+
+-- a line tells one length
+pub length_same : (line : List ℕ) (n m : ℕ) → IsLengthLine line n → IsLengthLine line m → n ≡ m
+length_same line n m (number, rest, first, digits, ends) (other, behind, one, figures, stops) =
+    let here : IsNumber number m =
+    subst (λ (w : List ℕ). IsNumber w m) (first_word_same line other behind number rest one first).0 figures in
+    digits.value ∙ sym here.value
+
+pub long_or_not : (line : List ℕ) (points : ℕ) (b : Bool) → IsLengthLine line points → (b ≡ true → 1 < points) → (1 < points → b ≡ true)
+    → IsTrue b ↔ ((n : ℕ) × IsLengthLine line n × (1 < n))
+long_or_not line points b is long more = (
+  λ t. (points, is, long t),
+  λ h.
+      let (n, at, above) = h in
+      more (subst (λ (k : ℕ). 1 < k) (length_same line n points at is) above),
+)
+
+-- a semicolon that stands alone
+semicolon_same : (line a b : List ℕ) → SkipsSemicolon line a → SkipsSemicolon line b → a ≡ b
+semicolon_same line a b (inl f) (inl g) = says_rest line (codes ";") (codes ";") a b f g
+semicolon_same line a b (inl f) (inr (e, none)) = absurd (none a f)
+semicolon_same line a b (inr (e, none)) (inl g) = absurd (none b g)
+semicolon_same line a b (inr (e, none)) (inr (d, never)) = e ∙ sym d
+
+-- the line that takes the Crawford game away
+pub no_crawford_name : (line text : List ℕ) → SkipsSemicolon line text
+    → ((r : List ℕ) → SaysEither text (codes "[Crawford") (codes ";[Crawford") r → ⊥) → SaysNoCrawford line → ⊥
+no_crawford_name line text skips none (other, after, rest, skip, name, off, blank) =
+    none after (subst (λ (t : List ℕ). SaysEither t (codes "[Crawford") (codes ";[Crawford") after)
+    (semicolon_same line other text skip skips) name)
+
+crawford_after : (line text after : List ℕ) → SkipsSemicolon line text
+    → SaysEither text (codes "[Crawford") (codes ";[Crawford") after → SaysNoCrawford line
+    → (rest : List ℕ) × Says after (codes "\"Off\"]") rest × IsBlankText rest
+crawford_after line text after skips named (other, then, rest, skip, name, off, blank) =
+    let here : SaysEither text (codes "[Crawford") (codes ";[Crawford") then =
+    subst (λ (t : List ℕ). SaysEither t (codes "[Crawford") (codes ";[Crawford") then) (semicolon_same line other text skip skips) name in
+    let same = either_rest text (codes "[Crawford") (codes ";[Crawford") (codes "[Crawford") (codes ";[Crawford") then after here named in
+    (rest, subst (λ (t : List ℕ). Says t (codes "\"Off\"]") rest) same off, blank)
+
+pub no_crawford_off : (line text after : List ℕ) → SkipsSemicolon line text
+    → SaysEither text (codes "[Crawford") (codes ";[Crawford") after
+    → ((r : List ℕ) → Says after (codes "\"Off\"]") r → ⊥) → SaysNoCrawford line → ⊥
+no_crawford_off line text after skips named none h =
+    let (rest, off, blank) = crawford_after line text after skips named h in none rest off
+
+pub crawford_off : (line text after rest : List ℕ) (b : Bool) → SkipsSemicolon line text
+    → SaysEither text (codes "[Crawford") (codes ";[Crawford") after → Says after (codes "\"Off\"]") rest
+    → IsTrue b ↔ IsBlankText rest → IsTrue b ↔ SaysNoCrawford line
+crawford_off line text after rest b skips named off is = (
+  λ t. (text, after, rest, skips, named, off, is.0 t),
+  λ h.
+      let (other, then, blank) = crawford_after line text after skips named h in
+      is.1 (subst (λ (t : List ℕ). IsBlankText t) (says_rest after (codes "\"Off\"]") (codes "\"Off\"]") other rest then off) blank),
+)

@@ -5,8 +5,7 @@ use Rattle.bg_match.specs.declared.entries.Entry.{Entry}
 use Rattle.bg_mat.specs.Files.{BeginsGame, TellsAwaited, TellsLine, TellsLines, after_row, items_of, numbered}
 use Rattle.bg_mat.specs.OneReading.{AreAlike, FilesReadOnce, IsAlike, LinesReadOnce}
 use Rattle.bg_mat.specs.Rows.Cells.{TellsCell, TellsCells, TellsRow}
-use Rattle.bg_mat.specs.Rows.Headings.{IsGameLine, IsLengthLine}
-use Rattle.bg_mat.specs.Rows.Numbers.{IsNumber}
+use Rattle.bg_mat.specs.Rows.Headings.{IsGameLine}
 use Rattle.bg_mat.specs.Rows.Words.{IsBlankText}
 use Rattle.bg_mat.specs.Telling.{AreTold, Does, Game, Item, Place, Scores, Told}
 use Rattle.bg_mat.specs.declared.awaiting.Awaited.{Awaited}
@@ -15,11 +14,10 @@ use Rattle.bg_mat.specs.declared.rows.Row.{Row}
 use Rattle.bg_mat.specs.declared.rows.cells.Cell.{Cell}
 use Rattle.bg_mat.proofs.OfReading.CellHeads.{cell_opens, first_of, second_of}
 use Rattle.bg_mat.proofs.OfReading.CellLemmas.{cell_same}
-use Rattle.bg_mat.proofs.OfReading.HeadingLemmas.{game_number_same, game_words}
+use Rattle.bg_mat.proofs.OfReading.HeadingLemmas.{game_number_same, game_words, length_same}
 use Rattle.bg_mat.proofs.OfReading.Openings.{opens_some}
 use Rattle.bg_mat.proofs.OfReading.RowLemmas.{skip_same}
 use Rattle.bg_mat.proofs.OfReading.ToldLines.{length_told, row_no_game}
-use Rattle.bg_mat.proofs.OfReading.WordLemmas.{first_word_same}
 
 blank_no_cell : (text : List ℕ) (c : Cell) (rest : List ℕ) → IsBlankText text → TellsCell text c rest → ⊥
 blank_no_cell text c rest blank tells = opens_some text (first_of c) (second_of c) (cell_opens text c rest tells) blank
@@ -68,12 +66,6 @@ row_same line a b (cells, skips, tells) (others, skip, told) =
 game_same : (line : List ℕ) (n m : ℕ) → IsGameLine line n → IsGameLine line m → n ≡ m
 game_same line n m (after, number, rest, first, second, is, blank) h =
     game_number_same number n m is (game_words line after number rest m first second h).0
-
-length_same : (line : List ℕ) (n m : ℕ) → IsLengthLine line n → IsLengthLine line m → n ≡ m
-length_same line n m (number, rest, first, digits, ends) (other, behind, one, figures, stops) =
-    let here : IsNumber number m =
-    subst (λ (w : List ℕ). IsNumber w m) (first_word_same line other behind number rest one first).0 figures in
-    digits.value ∙ sym here.value
 
 begins_same : (line : List ℕ) (items others : List Item) (next after : Awaited) → BeginsGame line items next
     → BeginsGame line others after → (items ≡ others) × (next ≡ after)
@@ -141,24 +133,25 @@ alike_both [] (y ∷ b) c d h k = absurd h
 alike_both (x ∷ a) [] c d h k = absurd h
 
 alike_lines : (here : Awaited) (n : ℕ) (lines : List (List ℕ)) (told more : List Told) (there then : Awaited)
-    → TellsLines here n lines told there → TellsLines here n lines more then → AreAlike told more
-alike_lines here n [] told more there then (e, f) (g, h) = rw (e, g) tt
+    → TellsLines here n lines told there → TellsLines here n lines more then → AreAlike told more × (there ≡ then)
+alike_lines here n [] told more there then (e, f) (g, h) = (rw (e, g) tt, f ∙ sym h)
 alike_lines here n (line ∷ lines) told more there then (items, behind, next, tells, rest, e) (others, last, after, also, end, g) =
     let first = alike_line here n line items others next after tells also in
     let left = alike_lines next (n + 1) lines behind last there then rest
     (subst (λ (a : Awaited). TellsLines a (n + 1) lines last then) (sym first.1) end) in
-    rw (e, g) (alike_both (numbered n items) (numbered n others) behind last first.0 left)
+    (rw (e, g) (alike_both (numbered n items) (numbered n others) behind last first.0 left.0), left.1)
 
 pub files_once : FilesReadOnce
-files_once n [] points others told more h k = absurd h
-files_once n (line ∷ lines) points others told more (inl (filler, h)) (inl (blank, k)) =
-    files_once (n + 1) lines points others told more h k
-files_once n (line ∷ lines) points others told more (inl (filler, h)) (inr (is, (there, k))) =
+files_once n [] points others told more there then h k = absurd h
+files_once n (line ∷ lines) points others told more there then (inl (filler, says, h)) (inl (blank, also, k)) =
+    files_once (n + 1) lines points others told more there then h k
+files_once n (line ∷ lines) points others told more there then (inl (filler, says, h)) (inr (is, k)) =
     absurd (length_told line others is filler)
-files_once n (line ∷ lines) points others told more (inr (is, (there, h))) (inl (filler, k)) =
+files_once n (line ∷ lines) points others told more there then (inr (is, h)) (inl (filler, says, k)) =
     absurd (length_told line points is filler)
-files_once n (line ∷ lines) points others told more (inr (is, (there, h))) (inr (at, (then, k))) =
-    (length_same line points others is at, alike_lines awaited.Game (n + 1) lines told more there then h k)
+files_once n (line ∷ lines) points others told more there then (inr (is, h)) (inr (at, k)) =
+    let alike = alike_lines awaited.Game (n + 1) lines told more there then h k in
+    (length_same line points others is at, alike.0, alike.1)
 
 -- the scores of a place
 scores_at : (n x o : ℕ) (p q : Place) (entries : List Entry) (numbers : List ℕ)

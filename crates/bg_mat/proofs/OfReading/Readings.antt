@@ -1,11 +1,11 @@
 -- How far the lines of games are read.
-use Rattle.std.specs.Prelude.{◌≡◌, ℕ, ◌+◌, List, [], ◌∷◌, ◌++◌, length}
+use Rattle.std.specs.Prelude.{◌≡◌, ℕ, ◌+◌, List, [], ◌∷◌, ◌++◌, length, Bool}
 use Rattle.std.proofs.Common.{append_assoc, length-append, refl, sym, ◌∙◌, ap, subst, inl, inr, arith}
-use Rattle.bg_mat.specs.Files.{TellsAwaited, TellsLine, TellsLines, numbered}
+use Rattle.bg_mat.specs.Files.{TellsAwaited, TellsLine, TellsLines, numbered, is_within_game}
 use Rattle.bg_mat.specs.Rows.Headings.{IsFiller}
 use Rattle.bg_text.specs.Judge.Judging.{lines_of}
 use Rattle.bg_mat.specs.Replaying.{Closes, GoesOnBy, IsReplay, pending_items, place_of}
-use Rattle.bg_mat.specs.Reading.{ReadsGames}
+use Rattle.bg_mat.specs.Reading.{EndsGames, ReadsGames}
 use Rattle.bg_mat.specs.Telling.{AreTold, Item, Told}
 use Rattle.bg_mat.specs.declared.awaiting.Awaited.{Awaited}
 use Rattle.bg_mat.specs.declared.awaiting.Awaited.TheVariants as awaited
@@ -122,6 +122,12 @@ all_read from first input now closed here n rest r none (goes, empty) =
       numbered = all.numbered;
       legal = all.replay.log;
     }
+
+-- whether all lines end within a game
+pub all_end : (from : Replay) (first : ℕ) (input : List ℕ) (now : Replay) (here : Awaited) (n : ℕ) (rest : List ℕ) (within : Bool)
+    → IsReadUpTo from first input now here n rest → rest ≡ [] → within ≡ is_within_game here
+    → EndsGames first (lines_of input) within
+all_end from first input now here n rest within r none is = (r.told, here, all_before from first input now here n rest r none, is)
 
 numbered_both : (n : ℕ) (a b : List Item) → numbered n a ++ numbered n b ≡ numbered n (a ++ b)
 numbered_both n [] b = refl

@@ -1,9 +1,9 @@
 -- Which line a fault names.
-use Rattle.std.specs.Prelude.{◌≡◌, ℕ, ◌+◌, ◌≤◌, Bool, Option, Some, List, [], ◌∷◌, ◌++◌, Result, Ok, Err, IfErr, IfSome}
+use Rattle.std.specs.Prelude.{◌≡◌, ◌↔◌, ℕ, ◌+◌, ◌≤◌, Bool, true, false, IsTrue, Option, Some, List, [], ◌∷◌, ◌++◌, Result, Ok, Err, IfErr, IfSome}
 use Rattle.std.proofs.Common.{append_assoc, refl, sym, ◌∙◌, ap, subst, inl, inr}
 use Rattle.std.specs.List.{AllByRecursion}
-use Rattle.bg_mat.specs.Files.{numbered}
-use Rattle.bg_mat.specs.Rows.Headings.{IsFiller, IsHeader, IsLengthLine}
+use Rattle.bg_mat.specs.Files.{HasCrawford, numbered}
+use Rattle.bg_mat.specs.Rows.Headings.{IsFiller, IsHeader, IsLengthLine, SaysNoCrawford}
 use Rattle.bg_text.specs.Judge.Judging.{lines_of}
 use Rattle.bg_turns.specs.HasStep.{has_step}
 use Rattle.bg_match.specs.Match.{empty_log}
@@ -17,6 +17,7 @@ use Rattle.bg_mat.proofs.OfReading.Replays.{stays}
 use Rattle.bg_mat.specs.declared.awaiting.Awaited.{Awaited}
 use Rattle.bg_mat.specs.Telling.{Item, Told}
 use Rattle.bg_mat.specs.declared.faults.MatFault.{MatFault}
+use Rattle.bg_mat.specs.declared.faults.MatFault.TheVariants as reason
 use Rattle.bg_mat.specs.declared.faults.ReadFault.{ReadFault}
 use Rattle.bg_mat.specs.declared.faults.ReadFault.TheVariants as read_fault
 use Rattle.bg_mat.specs.declared.playing.PendingTurn.{PendingTurn}
@@ -190,9 +191,25 @@ abbrev pub RefusesFrom : ℕ → Rules → List ℕ → ℕ → List ℕ → Typ
 RefusesFrom id rules input n rest =
     (number : ℕ) (why : MatFault) → AreRefused id rules n (lines_of rest) number why → AreRefused id rules 1 (lines_of input) number why
 
-pub filler_refused : (id : ℕ) (rules : Rules) (input : List ℕ) (n : ℕ) (rest line after : List ℕ) → RefusesFrom id rules input n rest
-    → lines_of rest ≡ line ∷ lines_of after → IsHeader line → RefusesFrom id rules input (n + 1) after
-filler_refused id rules input n rest line after from split filler number why h = from number why (rw split (inl (filler, h)))
+pub filler_refused : (id : ℕ) (rules : Rules) (input : List ℕ) (n : ℕ) (rest line after : List ℕ) (counts taken : Bool)
+    → RefusesFrom id rules input n rest → lines_of rest ≡ line ∷ lines_of after → IsHeader line
+    → IsTrue counts ↔ HasCrawford (lines_of after) → IsTrue taken ↔ ((counts ≡ true) × SaysNoCrawford line) → taken ≡ false
+    → RefusesFrom id rules input (n + 1) after
+filler_refused id rules input n rest line after counts taken from split filler has takes not number why h =
+    from number why (rw split (inl (filler, inr (never, h)))) where
+      never : SaysNoCrawford line → HasCrawford (lines_of after) → ⊥
+      never says crawford =
+          let c : counts ≡ true = has.1 crawford in
+          let t : taken ≡ true = takes.1 (c, says) in
+          absurd (cc (t, not))
+
+-- a header takes the Crawford game away
+pub crawford_refused : (id : ℕ) (rules : Rules) (input : List ℕ) (n : ℕ) (rest line after : List ℕ) (counts taken : Bool)
+    → RefusesFrom id rules input n rest → lines_of rest ≡ line ∷ lines_of after → IsHeader line
+    → IsTrue counts ↔ HasCrawford (lines_of after) → IsTrue taken ↔ ((counts ≡ true) × SaysNoCrawford line) → taken ≡ true
+    → AreRefused id rules 1 (lines_of input) n reason.NoCrawford
+crawford_refused id rules input n rest line after counts taken from split header has takes is =
+    let both = takes.0 is in from n reason.NoCrawford (rw split (inl (header, inl (refl, refl, both.1, has.0 both.0))))
 
 pub begin_refused : (id : ℕ) (rules : Rules) (input : List ℕ) (n : ℕ) (rest line after : List ℕ) (fault : ReadFault) → RefusesFrom id rules input n rest
     → lines_of rest ≡ line ∷ lines_of after → (IsHeader line → ⊥) → IsBeginFault line n fault

@@ -1,8 +1,8 @@
 -- How a match file is told apart from other files.
-use Rattle.std.specs.Prelude.{◌≡◌, ◌↔◌, ℕ, Bool, List, ◌∷◌, Option, None, Some, IsTrue, MatchOption}
+use Rattle.std.specs.Prelude.{◌≡◌, ◌↔◌, ℕ, ◌<◌, Bool, List, ◌∷◌, Option, None, Some, IsTrue, MatchOption}
 use Rattle.std.specs.Option.{is_some}
 use Rattle.std.proofs.Common.{subst, inl, inr}
-use Rattle.bg_mat.specs.Files.{BeginAsMatchFile}
+use Rattle.bg_mat.specs.Files.{BeginAsMatchFile, HasCrawford}
 use Rattle.bg_mat.specs.Rows.Headings.{IsHeader, IsLengthLine}
 
 -- a line that tells something begins a match file where it is the length of a match
@@ -14,6 +14,18 @@ length_begins line lines all r e solid tells = (
 ) where
   of_length : (line : List ℕ) (lines : List (List ℕ)) → (IsHeader line → ⊥) → BeginAsMatchFile (line ∷ lines)
       → (n : ℕ) × IsLengthLine line n
+  of_length line lines solid (inl (filler, more)) = absurd (solid filler)
+  of_length line lines solid (inr (same, tells)) = tells
+
+-- the same of a match of more than one point
+pub long_begins : (line : List ℕ) (lines all : List (List ℕ)) (r : Bool) → all ≡ line ∷ lines → (IsHeader line → ⊥)
+    → IsTrue r ↔ ((n : ℕ) × IsLengthLine line n × (1 < n)) → IsTrue r ↔ HasCrawford all
+long_begins line lines all r e solid tells = (
+  λ is. rw e (inr (solid, tells.0 is)),
+  λ begun. tells.1 (of_length line lines solid (subst (λ (t : List (List ℕ)). HasCrawford t) e begun)),
+) where
+  of_length : (line : List ℕ) (lines : List (List ℕ)) → (IsHeader line → ⊥) → HasCrawford (line ∷ lines)
+      → (n : ℕ) × IsLengthLine line n × (1 < n)
   of_length line lines solid (inl (filler, more)) = absurd (solid filler)
   of_length line lines solid (inr (same, tells)) = tells
 

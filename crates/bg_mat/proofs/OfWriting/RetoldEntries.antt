@@ -193,8 +193,8 @@ entry_told terms kept s entry.Dropped t tellings told won (player, ph, is) h tel
     (subst (λ (y : State). TellsWin c y won) same (subst (λ (y : State). TellsWin y t won) made_as wins)))
 entry_told terms kept s (entry.Moved turn) t tellings told won (player, dice, ph, on, legal, is) h tells wins =
     let (legs, said, steps, hits) = subst (λ (x : Phase). TellsMove s.board x turn told) ph tells in
-    let by : MovesBy s.board player dice legs.items (entry.Moved turn) = written_turn s.board player dice legs.items turn (sym steps)
-    (record { legal = rw steps legal; hits = rw steps hits }) in
+    let by : MovesBy s.board player dice legs.items (entry.Moved turn) = inl (written_turn s.board player dice legs.items turn (sym steps)
+    (record { legal = rw steps legal; hits = rw steps hits })) in
     let range = legal_in_range s.board player dice turn legal in
     let many : length legs.items ≡ length turn = as_many legs.items ∙ ap (λ (xs : List FromTo). length xs) steps in
     let low : AllByRecursion IsOnBoard legs.items × (length legs.items ≤ 4) =

@@ -282,8 +282,9 @@ record_written log points tellings start text is few tells first all =
     ap lines_of (whole ∙ spelled) ∙ first_line line rest (length_of_line points few) in
     record {
       told = games.told;
+      there = tells.there;
       lines = on.0;
       place = tells.place;
-      file = rw (lines, ← is) (inr (length_line points few, (tells.there, games.lines)));
+      file = rw (lines, ← is) (inr (length_line points few, games.lines));
       leads = on.1;
     }

@@ -1,7 +1,7 @@
 -- The lines that head a match and its games.
 use Rattle.std.specs.Prelude.{◌≡◌, ◌⊎◌, ℕ, List, ◌++◌, codes}
 use Rattle.std.specs.Fmt.{decimal}
-use Rattle.bg_mat.specs.Rows.Words.{IsBlankText, EndsWord, IsEither, IsFirstWord, Says}
+use Rattle.bg_mat.specs.Rows.Words.{IsBlankText, EndsWord, IsEither, IsFirstWord, Says, SaysEither}
 use Rattle.bg_mat.specs.Rows.Numbers.{IsNumber}
 
 -- the word begins with a semicolon
@@ -24,6 +24,18 @@ IsHeaderWord word =
 -- a line that tells nothing before the length of a match: it is blank, or begins with one of these three
 abbrev pub IsHeader : List ℕ → Type 0
 IsHeader line = IsBlankOr IsHeaderWord line
+
+-- a line may begin with a semicolon that stands alone
+abbrev pub SkipsSemicolon : List ℕ → List ℕ → Type 0
+SkipsSemicolon line text =
+    Says line (codes ";") text ⊎ ((text ≡ line) × ((rest : List ℕ) → Says line (codes ";") rest → ⊥))
+
+-- the line of a header that says that the match has no Crawford game: `; [Crawford "Off"]`, or without the semicolon
+abbrev pub SaysNoCrawford : List ℕ → Type 0
+SaysNoCrawford line =
+    (text after rest : List ℕ) × SkipsSemicolon line text
+    × SaysEither text (codes "[Crawford") (codes ";[Crawford") after × Says after (codes "\"Off\"]") rest
+    × IsBlankText rest
 
 -- `point`, of one or of several
 abbrev pub IsPoints : List ℕ → Type 0

@@ -5,10 +5,10 @@ ghost use Rattle.bg_match.specs.State.{State};
 ghost use Rattle.bg_turns.specs.Dice.{first_pips, second_pips};
 ghost use Rattle.bg_turns.specs.HasStep.{has_step};
 ghost use Rattle.bg_turns.specs.declared.throws.Dice.{Dice as DiceOf};
-ghost use Rattle.bg_mat.specs.Turns.{TellsTurn};
+ghost use Rattle.bg_mat.specs.Turns.{IsToldTurn};
 ghost use Rattle.bg_mat.specs.Telling.{Turn as Turns, CannotMove, Does, GoesOn, BringsDice, deed_of};
 ghost use Rattle.bg_mat.specs.Replaying.{AddsMove, Closes, ClosesBy, IsReplay, Plays, Rolls, place_of};
-ghost use Rattle.bg_mat.specs.ItemFaults.{IsDiceFault, IsEmptyFault, IsMoveFault, IsMovementFault, IsPendingFault};
+ghost use Rattle.bg_mat.specs.ItemFaults.{IsDiceFault, IsEmptyFault, IsMoveFault, IsPendingFault, TellsNoTurn};
 ghost use Rattle.bg_mat.specs.ItemFaults.{IsRollFault, IsThrowFault};
 ghost use Rattle.bg_mat.specs.Refusals.{LosesBy, RefusesAt, RefusesPending};
 ghost use Rattle.std.specs.Prelude.{IfErr};
@@ -16,6 +16,7 @@ ghost use Rattle.std.specs.Prelude.{IfErr};
 use super::{PendingTurn, Replay};
 use crate::MatFault;
 use crate::faults::{ReadFault, refused};
+use crate::movements::alike::find_alike;
 use crate::movements::legs::Legs;
 use crate::movements::turns::{find_turn, turn_fault};
 use crate::rows::cells::Cell;
@@ -74,13 +75,18 @@ impl Replay {
 
     /// Returns the turn that a movement describes on the current board.
     fn turn_of(&self, line: u32, player: Player, dice: Dice, legs: &Legs) -> Result<Turn, ReadFault>
-        ensures done { IfOk result (TellsTurn self.now.standing.board player dice legs.now.items) }
+        ensures done { IfOk result (IsToldTurn self.now.standing.board player dice legs.now.items) }
         ensures fault { IfErr result (RefusesAt line
-            (IsMovementFault self.now.standing.board player dice legs.now.items)) }
+            (TellsNoTurn self.now.standing.board player dice legs.now.items)) }
     {
         let alloc = *self.lines.allocator();
         let board = self.standing.board();
         match find_turn(alloc, &board, player, dice, legs.as_slice()) {
+            Ok(Some(turn)) => return Ok(turn),
+            Ok(None) => {}
+            Err(AllocError) => return Err(ReadFault::Memory),
+        }
+        match find_alike(alloc, &board, player, dice, legs.as_slice()) {
             Ok(Some(turn)) => return Ok(turn),
             Ok(None) => {}
             Err(AllocError) => return Err(ReadFault::Memory),
@@ -131,8 +137,8 @@ impl Replay {
 
     /// Returns the turn without steps on the current board.
     fn empty_turn(&self, line: u32, player: Player, dice: Dice) -> Result<Turn, ReadFault>
-        ensures done { IfOk result (TellsTurn self.now.standing.board player dice []) }
-        ensures fault { IfErr result (RefusesAt line (IsMovementFault self.now.standing.board player dice [])) }
+        ensures done { IfOk result (IsToldTurn self.now.standing.board player dice []) }
+        ensures fault { IfErr result (RefusesAt line (TellsNoTurn self.now.standing.board player dice [])) }
     {
         self.turn_of(line, player, dice, &ArrayVec::new())
     }

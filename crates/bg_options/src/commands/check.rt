@@ -10,9 +10,9 @@ const ABOUT_CHECK: &str =
 each, in the order given.
 
     $ bg_relay check good.txt bad.txt other.mat
-    good.txt: ok 2
+    good.txt: ok 2, not over
     bad.txt: refused at line 3: more can be played: X move 8-5
-    other.mat: ok 10
+    other.mat: ok 10, O wins 1-0
     bg_relay: 2 ok, 1 refused
 
 A file is taken for a match file of another program, by the first rules, where its first line that is
@@ -22,7 +22,12 @@ names; links to folders are not followed, and files whose names begin with a dot
 
 For programs, --format tsv prints a line of names and then a line for each file, with a tab between
 the fields, and --format json an object for each file: the file, its kind, the verdict, the line that
-is refused and why, and of a good match its entries, length, rules, score, game, winner and state.
+is refused and why; of a good match its entries, length, rules, score, game, winner and state; and of
+a match file the names of the players, the date, the event and the place.
+
+One process judges one file after the other. Several at once are judged by xargs:
+
+    find archive -name '*.mat' -print0 | xargs -0 -n 1000 -P 4 bg_relay check --quiet
 
 Behind the reason stands the line itself, cut to the width of the screen where the standard output is
 one (COLUMNS says how wide it is, and else it is taken for 80 columns), and to 1000 columns elsewhere.

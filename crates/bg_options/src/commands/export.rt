@@ -1,8 +1,8 @@
 //! The options and help of the command that writes a match for other programs.
 
-use crate::arguments::{described, with};
-use crate::shared::misplaced_file;
-use clap::{Command, Error};
+use crate::arguments::{Argument, Kind, Need, described, with, with_all};
+use crate::batches::{BatchOptions, FORCE, OUT, files_of_batch};
+use clap::{ArgMatches, Command, Error};
 use std::alloc::Global;
 
 /// The help on `export`, with an example.
@@ -24,9 +24,59 @@ it prints
       1) 31: 8/5 6/5
 
 Offers to resign that were not accepted are left out, as is what such files don't have: the number of
-the match and its rules. A transcript that is refused is named on the standard error as `check` names
-it, and nothing is printed. Ends with status 0; with 2 where the transcript is refused, and 1 where
-reading, writing or memory failed.";
+the match and its rules. A transcript has no names: --x and --o give those of the players, in place of
+X and O, and --date, --event and --place what else stands above a match. Each has 1 to 64 bytes.
+
+A transcript that is refused is named on the standard error as `check` names it, and nothing is
+printed. With --out each FILE is written into a folder: `export --out DIR a.txt b.txt` writes DIR/a.mat
+and DIR/b.mat. Nothing is overwritten without --force. A file that is refused is named, and the others
+are written all the same.
+
+Ends with status 0; with 2 where a transcript is refused, and 1 where reading, writing or memory
+failed.";
+
+/// What stands above a match, for people. Each text is a valid name.
+#[derive(Clone, Copy)]
+pub struct HeaderOptions<'a> {
+    pub x: Option<&'a str>,
+    pub o: Option<&'a str>,
+    pub date: Option<&'a str>,
+    pub event: Option<&'a str>,
+    pub place: Option<&'a str>,
+}
+
+/// The options of `export`.
+#[derive(Clone, Copy)]
+pub struct ExportOptions<'m, 'a> {
+    pub headers: HeaderOptions<'a>,
+    /// The files that are written into a folder, in place of the standard input.
+    pub batch: Option<BatchOptions<'m, 'a>>,
+}
+
+impl<'m, 'a> ExportOptions<'m, 'a> {
+    pub(crate) fn read(options: &'m ArgMatches<'a>) -> ExportOptions<'m, 'a> {
+        ExportOptions {
+            headers: HeaderOptions {
+                x: options.get_str("x"),
+                o: options.get_str("o"),
+                date: options.get_str("date"),
+                event: options.get_str("event"),
+                place: options.get_str("place"),
+            },
+            batch: BatchOptions::read(options),
+        }
+    }
+}
+
+/// Returns an option for a text that stands above a match.
+fn header(name: &'static str, value: &'static str, about: &'static str) -> Argument {
+    Argument {
+        name,
+        kind: Kind::Text(value),
+        need: Need::Optional,
+        about,
+    }
+}
 
 /// Returns the command with its options and help.
 pub(crate) fn command<'a>(alloc: Global) -> Result<Command<'a>, Error> {
@@ -36,5 +86,14 @@ pub(crate) fn command<'a>(alloc: Global) -> Result<Command<'a>, Error> {
         "Write a transcript as a match file for other programs",
         ABOUT_EXPORT,
     );
-    with(command, misplaced_file(alloc))
+    let arguments = [
+        header("x", "NAME", "The name of player X"),
+        header("o", "NAME", "The name of player O"),
+        header("date", "DATE", "The date of the match"),
+        header("event", "EVENT", "The event that the match belongs to"),
+        header("place", "PLACE", "Where the match was played"),
+        OUT,
+        FORCE,
+    ];
+    with(with_all(alloc, command, &arguments)?, files_of_batch(alloc))
 }

@@ -1,8 +1,10 @@
 //! The options and help of the command that imports a match file of another program.
 
-use crate::arguments::{described, with, with_all};
-use crate::shared::{RULES, misplaced_file};
-use clap::{Command, Error};
+use crate::arguments::{Argument, Kind, Need, described, with, with_all};
+use crate::batches::{BatchOptions, FORCE, OUT, files_of_batch};
+use crate::shared::{RULES, rules_in};
+use bg_match::Rules;
+use clap::{ArgMatches, Command, Error};
 use std::alloc::Global;
 
 /// The help on `import`, with an example.
@@ -24,8 +26,46 @@ it prints
     X move 8-5 6-5
 
 A file that is none, or that the match rules don't have, as a money game or a cube above 128, is
-refused with its line on the standard error, and nothing is printed. Ends with status 0; with 2 where
-the file is refused, and 1 where reading, writing or memory failed.";
+refused with its line on the standard error, and nothing is printed. With --headers the names of the
+players, the date, the event and the place of the match are written into a file, as far as the match
+file says them.
+
+With --out each FILE is taken over into a folder: `import --out DIR a.mat b.mat` writes DIR/a.txt and
+DIR/b.txt. Nothing is overwritten without --force. A file that is refused is named on the standard
+error, as `check` names it, and the others are written all the same.
+
+Ends with status 0; with 2 where a file is refused, and 1 where reading, writing or memory failed.";
+
+/// The options of `import`.
+#[derive(Clone, Copy)]
+pub struct ImportOptions<'m, 'a> {
+    /// The rules of the match, which no match file gives.
+    pub rules: Rules,
+    /// The file into which the headers of the match file are written.
+    pub headers: Option<&'a str>,
+    /// Whether a file that exists may be overwritten.
+    pub is_forced: bool,
+    /// The files that are taken over into a folder, in place of the standard input.
+    pub batch: Option<BatchOptions<'m, 'a>>,
+}
+
+impl<'m, 'a> ImportOptions<'m, 'a> {
+    pub(crate) fn read(options: &'m ArgMatches<'a>) -> Option<ImportOptions<'m, 'a>> {
+        Some(ImportOptions {
+            rules: rules_in(options)?,
+            headers: options.get_str(HEADERS.name),
+            is_forced: options.get_flag(FORCE.name),
+            batch: BatchOptions::read(options),
+        })
+    }
+}
+
+pub(crate) const HEADERS: Argument = Argument {
+    name: "headers",
+    kind: Kind::Text("FILE"),
+    need: Need::Optional,
+    about: "Write names, date, event and place of the match into this file",
+};
 
 /// Returns the command with its options and help.
 pub(crate) fn command<'a>(alloc: Global) -> Result<Command<'a>, Error> {
@@ -35,5 +75,6 @@ pub(crate) fn command<'a>(alloc: Global) -> Result<Command<'a>, Error> {
         "Take over a match file of another program",
         ABOUT_IMPORT,
     );
-    with(with_all(alloc, command, &[RULES])?, misplaced_file(alloc))
+    let arguments = [RULES, HEADERS, OUT, FORCE];
+    with(with_all(alloc, command, &arguments)?, files_of_batch(alloc))
 }

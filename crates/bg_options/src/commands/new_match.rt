@@ -1,7 +1,6 @@
 //! The options and help of the command that makes a match between processes.
 
 use crate::arguments::{Argument, Kind, Need, described, with_all};
-use crate::requests::RequestFault;
 use crate::shared::{FOLDER, LENGTH, RULES, THREE_TERMINALS, byte_in, number_in, rules_in};
 use bg_match::Terms;
 use bg_system::{HIGHEST_PORT, LOWEST_PORT, Name, Names};
@@ -57,21 +56,6 @@ impl<'a> NewOptions<'a> {
             o: named(self.name_o),
         }
     }
-}
-
-/// Refuses a player's name that is not valid. A command without such options gives none.
-///
-/// # Errors
-/// `Name`, for the first of the two that is not valid.
-pub(crate) fn check_names(options: &ArgMatches<'_>) -> Result<(), RequestFault> {
-    for option in [NAME_X.name, NAME_O.name] {
-        if let Some(text) = options.get_str(option) {
-            if let Err(why) = Name::new(text) {
-                return Err(RequestFault::Name(option, why));
-            }
-        }
-    }
-    Ok(())
 }
 
 /// Returns the name that a text is, which was checked before.

@@ -11,6 +11,7 @@ const SPELLINGS: &str = "\
 @\u{FEFF} 3 point match~Game 1~X : 0 O : 0~31: 8/5 6/5 | 31: 8/5 6/5
 @ 3 Point MATCH~gAME 1~X : 0 O : 0~31: 8/5 6/5 | 31: 8/5 6/5
 @ 3 POINTS match~Game 1:~X : 0 O : 0~31: 8/5 6/5 | 31: 8/5 6/5
+@; [Crawford \"Off\"]~ 1 point match~Game 1~X:0 O:0~31: 8/5 6/5 | @ 1 point match~Game 1~X:0 O:0~31: 8/5 6/5
 @# x~[Site \"y\"]~; [Crawford \"On\"]~ 3 point match~Game 1~X : 0 O : 0~31: 8/5 6/5 | 31: 8/5 6/5
 @\t3\tpoint match~Game\t1~X : 0\t\tO : 0~1)\t31: 8/5\t6/5\t42: 8/4 6/4 | 31: 8/5 6/5 42: 8/4 6/4
 31: 8/5 6/5 doubles => 2~TAKES 42: 8/4 6/4 | 31: 8/5 6/5 Doubles => 2~Takes 42: 8/4 6/4
@@ -39,6 +40,17 @@ const SPELLINGS: &str = "\
 31: 8/5 6/5 RACCOONS | refused at line 5: a beaver
 31: 8/5 6/5~                 Wins 1 point | refused at line 6: the loser resigns out of turn
 31: 8/5 6/5 42: 8/4 6/4~ Wins 1 point | refused at line 6: the loser resigns out of turn
+@; [Crawford \"Off\"]~ 3 point match~Game 1~X:0 O:0~31: 8/5 6/5 | refused at line 1: a match without a Crawford game
+@~;[crawford \"off\"] ~ 2 point match~hello | refused at line 2: a match without a Crawford game
+@[Crawford \"OFF\"]~ 100 point match | refused at line 1: a match without a Crawford game
+@; [Crawford \"Off\"]~ 0 point match | refused at line 2: a money game
+@; [Crawford \"Off\"]~hello | refused at line 2: no length of the match
+31: 8/5* 6/5 | 31: 8/5 6/5
+31: 8/5 6/5 62: 24/18 13/11~61: 13/7 8/7 41: bar/21* 11/10 | 31: 8/5 6/5 62: 24/18 13/11~61: 13/7* 8/7 41: bar/21 11/10
+61: 13/7 8/7 32: 24/21 13/11~44: 8/4(2) 6/2(2) | 61: 13/7 8/7 32: 24/21 13/11~44: 8/4*(2) 6/2(2)
+31: 8/5 6/5 63: 13/7 13/10~64: 24/14 | 31: 8/5 6/5 63: 13/7 13/10~64: 24/20/14
+31: 8/5 6/5 63: 13/7 13/10~64: 24/18*/14 | 31: 8/5 6/5 63: 13/7 13/10~64: 24/18* 18/14
+31: 8/5 6/5 63: 13/7 13/10~64: 24/14* | refused at line 6: no legal turn has this movement with these hits
 # x | refused at line 5: not a line of a match file
 ";
 
@@ -91,6 +103,39 @@ fn holds(alloc: Global, row: &str) -> Result<bool, AllocError> {
         Some((spelling, plain)) => is_read_as(alloc, spelling, plain),
         None => Ok(false),
     }
+}
+
+/// Returns whether the file of a text ends within a game; nothing where it is refused.
+fn ends_within(alloc: Global, text: &str) -> Result<Option<bool>, AllocError> {
+    match read_text(alloc, text)? {
+        Ok(imported) => Ok(Some(imported.within_game)),
+        Err(_) => Ok(None),
+    }
+}
+
+#[test]
+fn files_that_end_within_a_game(rt: HostRuntime) -> Result<(), Fail> {
+    let whole = [
+        "@ 3 point match",
+        "31: 8/5 6/5~Wins 1 point",
+        "31: 8/5 6/5~Wins 3 points~~",
+    ];
+    for text in whole {
+        assert!(rt; ends_within(rt.alloc(), text)? == Some(false), "{text}");
+    }
+    let cut = [
+        "@ 3 point match~Game 1",
+        "",
+        "31: 8/5 6/5",
+        "31: 8/5 6/5 42:",
+        "31: 8/5 6/5 Doubles",
+        "31: 8/5 6/5 Doubles~Drops",
+        "31: 8/5 6/5~Wins 1 point~Game 2",
+    ];
+    for text in cut {
+        assert!(rt; ends_within(rt.alloc(), text)? == Some(true), "{text}");
+    }
+    Ok(())
 }
 
 #[test]

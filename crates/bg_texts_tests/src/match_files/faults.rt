@@ -63,7 +63,7 @@ const CELLS: [(&str, &str); 16] = [
     ("  1) 31: 8/5(4) 6/5\n", "5 TooManySteps"),
     ("  1) 31: 8/5 6/4\n", "5 NoSuchTurn"),
     ("  1) 31: 8/5\n", "5 NoSuchTurn"),
-    ("  1) 31: 8/5* 6/5\n", "5 WrongHits"),
+    ("31: 8/5 6/5 63: 13/7 13/10\n64: 24/14*\n", "6 WrongHits"),
     ("  1) 33: 8/5(2) 6/3(2)\n", "5 Entry(EqualOpening)"),
     ("  1) 31: 8/5 6/5\n  2) 42: 8/4 6/4\n", "6 OutOfTurn"),
     ("  1) 31: 8/5 6/5  Drops\n", "5 OutOfTurn"),
@@ -139,7 +139,7 @@ const SEVERAL: [(&str, &str); 16] = [
         "6 TooManySteps",
     ),
     ("31: 8/5  31: 8/5*\n", "5 NoSuchTurn"),
-    ("31: 8/5* 6/5  Takes\n", "5 WrongHits"),
+    ("31: 8/4 6/5  Takes\n", "5 NoSuchTurn"),
     ("31: 8/5 6/5  Drops\n      Wins 9 points\n", "5 OutOfTurn"),
     (
         "31: 8/5 6/5\n                  Wins 9 points\n",

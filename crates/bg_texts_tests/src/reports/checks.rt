@@ -24,8 +24,49 @@ fn files_that_are_good(rt: HostRuntime) {
     let moved = b"length 1\nopen 3 1\nX move 8-5 6-5";
     let unplayed = b"length 99 rules 2\n";
     for columns in [None, Some(80), Some(0)] {
-        check_said(&rt, rt.alloc(), moved, columns, "a/file: ok 2\nFine(2)");
-        check_said(&rt, rt.alloc(), unplayed, columns, "a/file: ok 0\nFine(0)");
+        let wanted = "a/file: ok 2, not over\nFine(2)";
+        check_said(&rt, rt.alloc(), moved, columns, wanted);
+        let wanted = "a/file: ok 0, not over\nFine(0)";
+        check_said(&rt, rt.alloc(), unplayed, columns, wanted);
+    }
+}
+
+/// The winner stands first, with his points before those of the other player. Only a match file is cut.
+const RESULTS: [(&str, &str); 7] = [
+    (
+        "length 1\nopen 3 1\nX resign normal\nO accept\n",
+        "a/file: ok 3, O wins 1-0\nFine(3)",
+    ),
+    (
+        "length 2\nopen 1 3\nO resign normal\nX accept\nopen 3 1\nX resign gammon\nO accept\n",
+        "a/file: ok 6, O wins 2-1\nFine(6)",
+    ),
+    (
+        "length 2\nopen 1 3\nO resign backgammon\nX accept\n",
+        "a/file: ok 3, X wins 3-0\nFine(3)",
+    ),
+    (
+        "length 2\nopen 1 3\nO resign normal\nX accept\n",
+        "a/file: ok 3, not over\nFine(3)",
+    ),
+    (
+        " 2 point match\n Game 1\n A : 0 B : 0\n 1) 31: 8/5 6/5 Doubles\n Drops Wins 1 point\n",
+        "a/file: ok 4, not over\nFine(4)",
+    ),
+    (
+        " 2 point match\n Game 1\n A : 0 B : 0\n 1) 31: 8/5 6/5 Doubles\n Drops Wins 1 point\n Game 2\n",
+        "a/file: ok 4, cut within a game\nFine(4)",
+    ),
+    (
+        " 1 point match\n Game 1\n A : 0 B : 0\n 1) 31: 8/5 6/5\n                 42:\n Wins 1 point\n",
+        "a/file: ok 5, X wins 1-0\nFine(5)",
+    ),
+];
+
+#[test]
+fn files_of_matches_that_end_and_that_go_on(rt: HostRuntime) {
+    for &(text, wanted) in &RESULTS {
+        check_said(&rt, rt.alloc(), text.as_bytes(), None, wanted);
     }
 }
 
@@ -91,11 +132,11 @@ fn refused_lines_of_which_nothing_is_seen(rt: HostRuntime) {
 const OTHER_KINDS: [(&[u8], &str); 5] = [
     (
         b"; [Site \"here\"]\n\n 3 point match\n",
-        "a/file: ok 0\nFine(0)",
+        "a/file: ok 0, not over\nFine(0)",
     ),
     (
         b" 1 point match\n\n Game 1\n A : 0 B : 0\n 1) 31: 8/5 6/5\n",
-        "a/file: ok 2\nFine(2)",
+        "a/file: ok 2, cut within a game\nFine(2)",
     ),
     (
         b" 1 point match\n\n Game 1\n A : 0 B : 0\n 1) 31: 8/5 6/4\n",

@@ -7,7 +7,7 @@ fn reports(rt: HostRuntime) -> Result<(), Fail> {
     let alloc = rt.alloc();
     // bg_reports
     let (text, verdict) = check_text(alloc, "a.txt", b"length 1\nopen 3 1\n", None)?;
-    assert!(rt; text.as_slice() == b"a.txt: ok 1\n".as_slice());
+    assert!(rt; text.as_slice() == b"a.txt: ok 1, not over\n".as_slice());
     assert!(rt; Ending::Judged(verdict).status() == DONE);
     let (text, loads) = show_text(alloc, b"", b"BGS0")?;
     assert!(rt; text.as_slice() == b"file 0: short\nfile 1: bad magic\n".as_slice());

@@ -2,7 +2,7 @@ use Rattle.std.proofs.Common.{◌≡◌, [], arith, rules}
 use Rattle.std.proofs.lemmas.Grind.{common_steps}
 use Rattle.bg_text.specs.Judge.Judging.{lines_of}
 use Rattle.bg_mat.specs.Refusals.{AreRefusedGames, IsToldLine, Refuses}
-use Rattle.bg_mat.proofs.OfReading.Readings.{all_read, filler_read, line_read, reading_begins}
+use Rattle.bg_mat.proofs.OfReading.Readings.{all_end, all_read, filler_read, line_read, reading_begins}
 use Rattle.bg_mat.proofs.OfReading.Refusing.{end_refused, line_refused, pending_on, told_here}
 use Rattle.bg_mat.proofs.importing.read_games.Goals as goal
 use Rattle.bg_mat.proofs.importing.read_games.Goals.{then-not-is_filler+in_ok-awaited, else-not-is_filler}
@@ -70,3 +70,9 @@ returns-clause-done c =
     let none : c.loop-line.rest.now ≡ [] = grind (arith, common_steps, c.split_line.ensures.none, c.in_default.is) in
     all_read c.args.start c.args.first c.args.input.now c.loop-line.replay c.finish.new.self c.loop-line.awaited
     c.loop-line.number c.loop-line.rest.now c.loop-line.invariant.read none c.in_ok-finish.ensures.done
+
+pub returns-clause-ends : goal.returns-clause-ends
+returns-clause-ends c =
+    let none : c.loop-line.rest.now ≡ [] = grind (arith, common_steps, c.split_line.ensures.none, c.in_default.is) in
+    all_end c.args.start c.args.first c.args.input.now c.loop-line.replay c.loop-line.awaited c.loop-line.number c.loop-line.rest.now
+    c.is_within_game.result c.loop-line.invariant.read none c.is_within_game.ensures

@@ -1,5 +1,6 @@
 use Rattle.std.proofs.Common.{inr}
-use Rattle.bg_typed.proofs.FoundTurns.{none_moves, unambiguous_found, refused_by, two_found}
+use Rattle.bg_mat.proofs.OfReading.FoundTurns.{none_moves, unambiguous_found}
+use Rattle.bg_typed.proofs.FoundTurns.{refused_by, two_found}
 use Rattle.bg_typed.proofs.meanings.unmarked_turn.Goals as goal
 
 pub returns-in_default-clause-fault : goal.returns-in_default-clause-fault

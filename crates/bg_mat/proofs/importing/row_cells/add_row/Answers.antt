@@ -4,7 +4,7 @@ use Rattle.bg_board.specs.declared.players.Player.TheVariants.{X, O}
 use Rattle.bg_mat.specs.Files.{item_of}
 use Rattle.bg_mat.specs.Refusals.{AreRefusedItems, Refuses}
 use Rattle.bg_mat.proofs.OfReading.Refusing.{first_refused, refuses, second_refused}
-use Rattle.bg_mat.proofs.importing.add_row.Goals as goal
+use Rattle.bg_mat.proofs.importing.row_cells.add_row.Goals as goal
 
 pub returns-clause-done : goal.returns-clause-done
 returns-clause-done c = (

@@ -1,7 +1,7 @@
 use Rattle.std.proofs.Common.{ℕ, ◌<◌, List, slice_index_or}
 use Rattle.bg_board.specs.FromTo.{FromTo}
 use Rattle.bg_mat.specs.Turns.{SameMovement}
-use Rattle.bg_typed.proofs.meanings.first_moved.Given as goal
+use Rattle.bg_mat.proofs.movements.alike.first_moved.Given as goal
 
 abbrev pub invariant-loop-turn : goal.invariant-loop-turn
 invariant-loop-turn l =

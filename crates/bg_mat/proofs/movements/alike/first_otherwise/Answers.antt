@@ -1,8 +1,8 @@
 use Rattle.std.proofs.Common.{◌≡◌, true, sym, arith}
 use Rattle.std.proofs.lemmas.List.{get_or_read}
-use Rattle.bg_typed.specs.FirstTurns.{HitsOtherwise}
-use Rattle.bg_typed.proofs.FoundTurns.{none_further}
-use Rattle.bg_typed.proofs.meanings.first_otherwise.Goals as goal
+use Rattle.bg_mat.specs.FirstTurns.{HitsOtherwise}
+use Rattle.bg_mat.proofs.OfReading.FoundTurns.{none_further}
+use Rattle.bg_mat.proofs.movements.alike.first_otherwise.Goals as goal
 
 pub loop-turn-preserved : goal.loop-turn-preserved
 loop-turn-preserved c =

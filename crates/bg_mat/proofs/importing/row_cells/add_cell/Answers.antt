@@ -7,7 +7,7 @@ use Rattle.bg_mat.specs.Telling.{Does, deed_of}
 use Rattle.bg_mat.specs.declared.rows.cells.Cell.{Cell}
 use Rattle.bg_mat.proofs.OfReading.Refusing.{if_err, one_refused, refuses}
 use Rattle.bg_mat.proofs.OfReading.Replays.{stays}
-use Rattle.bg_mat.proofs.importing.add_cell.Goals as goal
+use Rattle.bg_mat.proofs.importing.row_cells.add_cell.Goals as goal
 
 pub returns-in-None-clause-done : goal.returns-in-None-clause-done
 returns-in-None-clause-done c =

@@ -3,8 +3,7 @@ use Rattle.std.specs.Prelude.{◌≡◌, ℕ, ◌<◌, List, length, slice_index
 use Rattle.bg_board.specs.FromTo.{FromTo}
 use Rattle.bg_board.specs.Position.{Position}
 use Rattle.bg_board.specs.declared.players.Player.{Player}
-use Rattle.bg_mat.specs.Turns.{SameMovement}
-use Rattle.bg_typed.specs.Meanings.{HitAlike}
+use Rattle.bg_mat.specs.Turns.{HitAlike, SameMovement}
 
 -- it holds of none of the turns
 abbrev pub IsNone : (List FromTo → Type 0) → List (List FromTo) → Type 0

@@ -1,0 +1,128 @@
+//! Files that are converted into a folder, one after the other.
+
+mod targets;
+
+use crate::batches::targets::{NameEndings, check_targets, target_of};
+use crate::inputs::{match_file_text, read_input, transcript_as_match_file};
+use bg_console::{Progress, allocated, check_folder, failed_at, say, wrong, wrong_at};
+use bg_match::Rules;
+use bg_options::{BatchOptions, HeaderOptions};
+use bg_reports::{Ending, Tally};
+use bg_system::publish;
+use std::fs;
+use std::fs::File;
+use std::rt::Files;
+use std::time::Clock;
+
+/// What is made of each file.
+#[derive(Clone, Copy)]
+pub(crate) enum Conversion<'a> {
+    /// The transcript of a match file, by these rules.
+    Import(Rules),
+    /// The match file of a transcript, with these headers.
+    Export(HeaderOptions<'a>),
+}
+
+impl<'a> Conversion<'a> {
+    /// Returns the end of the names of the files that are read, and of those that are written.
+    fn endings(&self) -> NameEndings {
+        match self {
+            Conversion::Import(_) => (".mat", ".txt"),
+            Conversion::Export(_) => (".txt", ".mat"),
+        }
+    }
+
+    /// Returns what is made of a file with this name and these bytes. Reports why where it is
+    /// refused.
+    fn text<R>(&self, rt: &R, name: &str, bytes: &[u8]) -> Result<Vec<u8>, Ending>
+    where
+        R: Eprint + AllocGlobal,
+    {
+        match self {
+            Conversion::Import(rules) => match_file_text(rt, name, *rules, bytes),
+            Conversion::Export(headers) => transcript_as_match_file(rt, name, headers, bytes),
+        }
+    }
+}
+
+/// Converts files into a folder, each by itself. Reports those that are refused, and the numbers of
+/// all.
+pub(crate) fn convert_all<R>(
+    rt: &R,
+    conversion: Conversion<'_>,
+    batch: BatchOptions<'_, '_>,
+    progress: Progress,
+) -> Result<Ending, Ending>
+where
+    R: Files<File = File> + Clock + Eprint + AllocGlobal,
+{
+    let mut progress = progress;
+    check_folder(rt, batch.folder, " is no folder")?;
+    check_targets(rt, &batch, conversion.endings())?;
+    let mut tally = Tally::default();
+    for name in batch.files {
+        count(&mut tally, convert(rt, &conversion, &batch, name));
+        let files = tally.files();
+        progress.tell_of(rt, format_args!("{files} files are done"));
+    }
+    say(rt, tally);
+    Ok(Ending::Checked(tally.worst()))
+}
+
+/// Counts a file that was converted, or wasn't.
+fn count(tally: &mut Tally, done: Result<(), Ending>) {
+    let number = match done {
+        Ok(()) => &mut tally.good,
+        Err(Ending::Judged(_) | Ending::WrongArguments) => &mut tally.refused,
+        Err(_) => &mut tally.unjudged,
+    };
+    *number = number.saturating_add(1);
+}
+
+/// Converts a file. Reports why where it isn't converted.
+fn convert<R>(
+    rt: &R,
+    conversion: &Conversion<'_>,
+    batch: &BatchOptions<'_, '_>,
+    name: &str,
+) -> Result<(), Ending>
+where
+    R: Files<File = File> + Eprint + AllocGlobal,
+{
+    let bytes = bytes_of(rt, name)?;
+    let text = conversion.text(rt, name, &bytes)?;
+    let target = target_of(rt.alloc(), batch.folder, name, conversion.endings());
+    put_file(rt, allocated(rt, target)?.as_str(), &text, batch.is_forced)
+}
+
+/// Returns the bytes of a file with this name. Reports why where it can't be read.
+fn bytes_of<R>(rt: &R, name: &str) -> Result<Vec<u8>, Ending>
+where
+    R: Files<File = File> + Eprint + AllocGlobal,
+{
+    if name.is_empty() {
+        return Err(wrong(rt, "the name of a file is empty"));
+    }
+    let bytes = match File::open(rt, name) {
+        Ok(file) => read_input(rt.alloc(), file),
+        Err(error) => Err(error),
+    };
+    match bytes {
+        Ok(bytes) => Ok(bytes),
+        Err(error) => Err(failed_at(rt, name, " could not be read", &error)),
+    }
+}
+
+/// Writes a file, whole. Refuses one that exists, unless it may be overwritten.
+pub(crate) fn put_file<R>(rt: &R, path: &str, bytes: &[u8], is_forced: bool) -> Result<(), Ending>
+where
+    R: Files<File = File> + Eprint + AllocGlobal,
+{
+    if !is_forced && fs::metadata(rt, path).is_ok() {
+        return Err(wrong_at(rt, path, " exists: --force overwrites it"));
+    }
+    match publish(rt, path, bytes) {
+        Ok(()) => Ok(()),
+        Err(error) => Err(failed_at(rt, path, " could not be written", &error)),
+    }
+}

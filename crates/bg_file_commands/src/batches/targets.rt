@@ -1,0 +1,62 @@
+//! The files that are written for others, in a folder.
+
+use bg_console::{no_memory, wrong_at};
+use bg_options::BatchOptions;
+use bg_reports::Ending;
+use std::alloc::{AllocError, Global};
+
+/// The ends of the names of the files that are read, and of those that are written.
+pub(super) type NameEndings = (&'static str, &'static str);
+
+/// Returns the path of the file that is written for a file: its name in the folder, with the other
+/// ending.
+pub(super) fn target_of(
+    alloc: Global,
+    folder: &str,
+    name: &str,
+    endings: NameEndings,
+) -> Result<String, AllocError> {
+    let base = match name.rsplit_once('/') {
+        Some((_, base)) => base,
+        None => name,
+    };
+    let stem = base.strip_suffix(endings.0).unwrap_or(base);
+    let ending = endings.1;
+    format!(in alloc; "{folder}/{stem}{ending}")
+}
+
+/// Refuses two files of the same name, as the second would overwrite what is written for the first.
+pub(super) fn check_targets<R>(
+    rt: &R,
+    batch: &BatchOptions<'_, '_>,
+    endings: NameEndings,
+) -> Result<(), Ending>
+where
+    R: Eprint + AllocGlobal,
+{
+    let Ok(targets) = sorted_targets(rt.alloc(), batch, endings) else {
+        return Err(no_memory(rt));
+    };
+    let mut before = "";
+    for target in &targets {
+        if target.as_str() == before {
+            return Err(wrong_at(rt, before, " would be written twice: rename a file"));
+        }
+        before = target.as_str();
+    }
+    Ok(())
+}
+
+/// Returns the paths of all files that are written, sorted.
+fn sorted_targets(
+    alloc: Global,
+    batch: &BatchOptions<'_, '_>,
+    endings: NameEndings,
+) -> Result<Vec<String>, AllocError> {
+    let mut targets = Vec::new(alloc);
+    for name in batch.files {
+        targets.push(target_of(alloc, batch.folder, name, endings)?)?;
+    }
+    targets.sort_by(|one: &String, other: &String| one.as_str().cmp(other.as_str()))?;
+    Ok(targets)
+}

@@ -1,0 +1,131 @@
+//! What other programs write in lines, and no line of a transcript has.
+
+use bg_match::Number;
+use std::io;
+use std::io::Read;
+
+/// The bytes that some programs write in front of a text in UTF-8.
+pub(crate) const BYTE_ORDER_MARK: &[u8] = b"\xef\xbb\xbf";
+
+/// What other programs write in a line, and no line of a transcript has.
+#[derive(Clone, Copy, Debug, PartialEq, Eq)]
+pub(crate) enum Mark {
+    ByteOrderMark,
+    Comment,
+    CarriageReturn,
+}
+
+impl Mark {
+    /// Returns the words for a mark.
+    pub(crate) fn words(self) -> &'static str {
+        match self {
+            Mark::ByteOrderMark => "byte order mark at the start of the line",
+            Mark::Comment => "comment",
+            Mark::CarriageReturn => "carriage return at the end of the line",
+        }
+    }
+
+    /// Returns the first mark of a line, if it has one.
+    pub(crate) fn in_line(line: &[u8]) -> Option<Mark> {
+        Mark::between(line, line.last().copied())
+    }
+
+    /// Returns the first mark of a line that begins with these bytes, and has this last one.
+    fn between(front: &[u8], last: Option<u8>) -> Option<Mark> {
+        if front.starts_with(BYTE_ORDER_MARK) {
+            return Some(Mark::ByteOrderMark);
+        }
+        match front.first() {
+            Some(b';' | b'#') => Some(Mark::Comment),
+            _ if last == Some(b'\r') => Some(Mark::CarriageReturn),
+            _ => None,
+        }
+    }
+}
+
+/// A line that has a mark: its number, from 1, and the mark.
+#[derive(Clone, Copy)]
+struct Marked {
+    line: Number,
+    mark: Mark,
+}
+
+/// A reader that notes the first line with a mark. A transcript is refused there at the latest.
+#[derive(Drop)]
+pub(crate) struct Noting<R> {
+    reader: R,
+    /// The number of the line that is read, from 1.
+    line: Number,
+    /// The first bytes of that line, as many as a byte order mark has, or fewer.
+    front: [u8; 3],
+    /// Number of these bytes.
+    count: usize,
+    /// The last byte of that line so far.
+    last: Option<u8>,
+    found: Option<Marked>,
+}
+
+impl<R> Noting<R> {
+    /// Creates a reader that has read nothing yet.
+    pub(crate) fn new(reader: R) -> Noting<R> {
+        Noting {
+            reader,
+            line: 1,
+            front: [0; 3],
+            count: 0,
+            last: None,
+            found: None,
+        }
+    }
+
+    /// Returns the mark of a line with this number, if it is the first line with a mark. All of the
+    /// line was read.
+    pub(crate) fn mark_of(&self, line: Number) -> Option<Mark> {
+        match self.found {
+            Some(found) if found.line == line => Some(found.mark),
+            None if self.line == line => self.mark(),
+            _ => None,
+        }
+    }
+
+    /// Returns the mark of the line that is read.
+    fn mark(&self) -> Option<Mark> {
+        Mark::between(&self.front[..self.count.min(3)], self.last)
+    }
+
+    /// Notes a byte.
+    fn note(&mut self, byte: u8) {
+        if byte == b'\n' {
+            return self.end_line();
+        }
+        if self.count < 3 {
+            self.front[self.count] = byte;
+            self.count += 1;
+        }
+        self.last = Some(byte);
+    }
+
+    /// Notes the end of a line.
+    fn end_line(&mut self) {
+        if let Some(mark) = self.mark() {
+            let line = self.line;
+            self.found = Some(Marked { line, mark });
+        }
+        self.line = self.line.saturating_add(1);
+        self.count = 0;
+        self.last = None;
+    }
+}
+
+impl<R: Read> Read for Noting<R> {
+    fn read(&mut self, buffer: &mut [u8]) -> io::Result<usize> {
+        let count = self.reader.read(buffer)?;
+        for byte in &buffer[..count] {
+            if self.found.is_some() {
+                break;
+            }
+            self.note(*byte);
+        }
+        Ok(count)
+    }
+}

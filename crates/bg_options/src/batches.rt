@@ -1,0 +1,49 @@
+//! The options of commands that convert many files into a folder.
+
+use crate::arguments::{Argument, Kind, Need};
+use clap::{Arg, ArgMatches};
+use std::alloc::Global;
+
+/// The files that are converted, and the folder that they are written into.
+#[derive(Clone, Copy)]
+pub struct BatchOptions<'m, 'a> {
+    pub files: &'m [&'a str],
+    pub folder: &'a str,
+    /// Whether files that exist may be overwritten.
+    pub is_forced: bool,
+}
+
+impl<'m, 'a> BatchOptions<'m, 'a> {
+    /// Returns the batch that the options ask for, if they name a folder.
+    pub(crate) fn read(options: &'m ArgMatches<'a>) -> Option<BatchOptions<'m, 'a>> {
+        Some(BatchOptions {
+            folder: options.get_str(OUT.name)?,
+            files: options.get_strs(FILES).unwrap_or_default(),
+            is_forced: options.get_flag(FORCE.name),
+        })
+    }
+}
+
+/// The name of the argument for the files.
+pub(crate) const FILES: &str = "FILE";
+
+pub(crate) const OUT: Argument = Argument {
+    name: "out",
+    kind: Kind::Text("DIR"),
+    need: Need::Optional,
+    about: "Write a file for each FILE into this folder",
+};
+
+pub(crate) const FORCE: Argument = Argument {
+    name: "force",
+    kind: Kind::Flag,
+    need: Need::Optional,
+    about: "Overwrite files that exist",
+};
+
+/// Returns the argument for the files.
+pub(crate) fn files_of_batch<'a>(alloc: Global) -> Arg<'a> {
+    Arg::new(alloc, FILES).num_args(0..).help(
+        "The files to convert, with --out; without it the standard input is read",
+    )
+}
