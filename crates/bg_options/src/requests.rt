@@ -3,7 +3,7 @@
 use crate::commands::act::ActOptions;
 use crate::commands::check::CheckOptions;
 use crate::commands::list::ListOptions;
-use crate::commands::new_match::{NewOptions, check_names};
+use crate::commands::new_match::NewOptions;
 use crate::commands::page::PageOptions;
 use crate::commands::play::{PlayOptions, SeatOptions};
 use crate::commands::play_loop::LoopOptions;
@@ -13,7 +13,7 @@ use crate::commands::script::ScriptOptions;
 use crate::commands::show::ShowOptions;
 use crate::commands::sim::SimOptions;
 use crate::commands::watch::WatchOptions;
-use crate::shared::{has_misplaced_file, numbering_in, rules_in};
+use crate::shared::{check_names, has_misplaced_file, numbering_in, rules_in};
 use crate::tasks::Task;
 use bg_match::Rules;
 use bg_picture::Numbering;

@@ -9,6 +9,8 @@ pub mod Stacks
 pub mod Tables
 pub mod Pictures
 pub mod Escapes
+pub mod ItemData
 pub mod Items
 pub mod PageParts
 pub mod Pages
+pub mod Laws

@@ -5,7 +5,12 @@
 //! let record = Record::new(alloc, 1, 5, Rules::One)?;
 //! let picture = picture_text(alloc, &record.standing(), Numbering::Mover)?;
 //! assert!(rt; picture.starts_with(b"<svg "));
-//! let page = page_text(alloc, &record, "Anna & Otto", Numbering::Mover, 0)?;
+//! let words = PageWords {
+//!     title: "Anna & Otto",
+//!     x: "Anna",
+//!     o: "Otto",
+//! };
+//! let page = page_text(alloc, &record, words, Numbering::Mover, 0)?;
 //! assert!(rt; page.starts_with(b"<!DOCTYPE html>"));
 //! ```
 #![tactic(auto)]
@@ -15,8 +20,11 @@ mod captions;
 mod descriptions;
 mod elements;
 mod escapes;
+mod item_data;
 mod items;
+mod laws;
 mod numberings;
+mod page_heads;
 mod page_parts;
 mod pages;
 mod pictures;
@@ -26,6 +34,8 @@ mod stacks;
 mod tables;
 mod wins;
 
+pub use laws::{escaped_texts_are_plain, item_names_differ, items_tell_positions};
 pub use numberings::Numbering;
+pub use page_heads::PageWords;
 pub use pages::page_text;
 pub use pictures::picture_text;
