@@ -13,4 +13,6 @@ pub mod ItemData
 pub mod Items
 pub mod PageParts
 pub mod Pages
+pub mod IndexParts
+pub mod Indexes
 pub mod Laws

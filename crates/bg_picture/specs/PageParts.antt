@@ -47,12 +47,12 @@ view =
     ++ codes "<div id='list'>\n"
 
 -- the script: keys, buttons, links and the list of games choose an item. It draws the item from its data, as Pictures
--- says, and rings around the checkers of the last move. A live page is replaced once a newer one has come whole
+-- says, and rings around the checkers of the last move. It takes the games of a newer page
 unfoldable pub script : List ℕ
 script =
     codes "const named = name => document.getElementById(name), title = document.title;\n"
     ++ codes "const mover = document.body.dataset.numbering === 'mover';\n"
-    ++ codes "let items, starts, seconds, at = -1, reached = -1, came = Date.now();\n"
+    ++ codes "let items, starts, seconds, at = -1, reached = -1;\n"
     ++ codes "const use = (shape, x, y) => `<use href='#${shape}' x='${x}' y='${y}'/>`;\n"
     ++ codes "const text = (x, y, words) => `<text x='${x}' y='${y}'>${words}</text>`;\n"
     ++ codes "const group = (name, parts) => `<g class='${name}'>${parts}</g>`;\n"
@@ -184,6 +184,14 @@ script =
     ++ codes "  begin();\n"
     ++ codes "  find(name);\n"
     ++ codes "}\n"
+    ++ codes "let told = named('list').innerHTML;\n"
+    ++ codes "begin();\n"
+    ++ codes "find(location.hash);\n"
+
+-- the script of a live page: it asks for a newer one, takes it once it has come whole, and says when it came
+unfoldable pub live_script : List ℕ
+live_script =
+    codes "let came = Date.now();\n"
     ++ codes "function tell() {\n"
     ++ codes "  const late = seconds && Date.now() - came > 60000, time = new Date(came).toLocaleTimeString();\n"
     ++ codes "  document.body.classList.toggle('late', late);\n"
@@ -205,8 +213,5 @@ script =
     ++ codes "  const again = location.protocol === 'file:' ? () => location.reload() : renew;\n"
     ++ codes "  setTimeout(again, 1000 * seconds);\n"
     ++ codes "}\n"
-    ++ codes "let told = named('list').innerHTML;\n"
-    ++ codes "begin();\n"
-    ++ codes "find(location.hash);\n"
     ++ codes "if (seconds) setInterval(tell, 1000);\n"
     ++ codes "wait();\n"

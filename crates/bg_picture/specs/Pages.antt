@@ -10,7 +10,7 @@ use Rattle.bg_match.specs.declared.entries.Entry.{Entry}
 use Rattle.bg_picture.specs.Descriptions.{phase_words, terms_words}
 use Rattle.bg_picture.specs.Escapes.{escaped}
 use Rattle.bg_picture.specs.Items.{AreItemsOf, game_start}
-use Rattle.bg_picture.specs.PageParts.{head_start, page_style, script, view}
+use Rattle.bg_picture.specs.PageParts.{head_start, live_script, page_style, script, view}
 use Rattle.bg_picture.specs.Shapes.{style, shapes}
 use Rattle.bg_text.specs.Entries.EntryText.{letter}
 use Rattle.bg_picture.specs.Numberings.{reader_of}
@@ -97,7 +97,7 @@ end_text numbering s =
 
 unfoldable pub page_end : Numbering → State → List ℕ
 page_end numbering s =
-    end_text numbering s ++ codes "<script>\n" ++ script ++ codes "</script>\n</body>\n</html>\n"
+    end_text numbering s ++ codes "<script>\n" ++ script ++ live_script ++ codes "</script>\n</body>\n</html>\n"
 
 -- new is old with the items of all entries of a match
 abbrev pub PutsEntries : Log → List ℕ → List ℕ → Type 0

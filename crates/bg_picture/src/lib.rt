@@ -1,5 +1,5 @@
-//! Pictures of matches, for programs that show them in a browser: a standing as an SVG file, and a
-//! match as an HTML page.
+//! Pictures of matches, for programs that show them in a browser: a standing as an SVG file, a match
+//! as an HTML page, and an index of many matches.
 //!
 //! ```
 //! let record = Record::new(alloc, 1, 5, Rules::One)?;
@@ -20,6 +20,8 @@ mod captions;
 mod descriptions;
 mod elements;
 mod escapes;
+mod index_parts;
+mod indexes;
 mod item_data;
 mod items;
 mod laws;
@@ -34,6 +36,7 @@ mod stacks;
 mod tables;
 mod wins;
 
+pub use indexes::{IndexMatch, begin_index, begin_section, end_index, end_section, put_match};
 pub use laws::{escaped_texts_are_plain, item_names_differ, items_tell_positions};
 pub use numberings::Numbering;
 pub use page_heads::PageWords;

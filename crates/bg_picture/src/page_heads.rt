@@ -38,7 +38,7 @@ pub(crate) fn put_head(out: &mut Vec<u8>, title: &str, seconds: u16) -> Result<(
 
 /// Appends the number of seconds after which a browser without scripts reloads the page.
 #[tactic(auto, unfolding(crate::specs::Pages::refresh_text))]
-fn put_refresh(out: &mut Vec<u8>, seconds: u16) -> Result<(), AllocError>
+pub(crate) fn put_refresh(out: &mut Vec<u8>, seconds: u16) -> Result<(), AllocError>
     ensures { OnOk result (out.new.items ≡ out.old.items ++ refresh_text seconds) }
 {
     if seconds == 0 {
@@ -51,7 +51,7 @@ fn put_refresh(out: &mut Vec<u8>, seconds: u16) -> Result<(), AllocError>
 
 /// Appends the title.
 #[tactic(auto, unfolding(crate::specs::Pages::title_text))]
-fn put_title(out: &mut Vec<u8>, title: &str) -> Result<(), AllocError>
+pub(crate) fn put_title(out: &mut Vec<u8>, title: &str) -> Result<(), AllocError>
     ensures { OnOk result (out.new.items ≡ out.old.items ++ title_text title.now) }
 {
     put_text(out, "<title>")?;
@@ -102,7 +102,7 @@ fn word_of(numbering: Numbering) -> &'static str
 
 /// Appends the number of seconds after which the script asks for a newer page.
 #[tactic(auto, unfolding(crate::specs::Pages::live_part))]
-fn put_live_part(out: &mut Vec<u8>, seconds: u16) -> Result<(), AllocError>
+pub(crate) fn put_live_part(out: &mut Vec<u8>, seconds: u16) -> Result<(), AllocError>
     ensures { OnOk result (out.new.items ≡ out.old.items ++ live_part seconds) }
 {
     if seconds == 0 {
@@ -148,7 +148,7 @@ pub(crate) fn put_headings(out: &mut Vec<u8>, words: PageWords<'_>) -> Result<()
 
 /// Appends the title as a heading.
 #[tactic(auto, unfolding(crate::specs::Pages::heading_text))]
-fn put_heading(out: &mut Vec<u8>, title: &str) -> Result<(), AllocError>
+pub(crate) fn put_heading(out: &mut Vec<u8>, title: &str) -> Result<(), AllocError>
     ensures { OnOk result (out.new.items ≡ out.old.items ++ heading_text title.now) }
 {
     put_text(out, "<h1><bdi>")?;

@@ -1,6 +1,6 @@
 //! The fixed parts of a page.
 ghost use Rattle.std.specs.Prelude.{◌≡◌, ◌++◌, OnOk};
-ghost use Rattle.bg_picture.specs.PageParts.{head_start, page_style, script, view};
+ghost use Rattle.bg_picture.specs.PageParts.{head_start, live_script, page_style, script, view};
 
 use bg_text::put_text;
 use std::alloc::AllocError;
@@ -48,12 +48,11 @@ const VIEW: &str = "\
 <div id='list'>
 ";
 
-/// The script: keys, buttons, links and games choose an item, which it draws from the item's data. A
-/// live page is replaced once a newer one has come.
+/// The script: keys, buttons, links and games choose an item, which it draws from the item's data.
 const SCRIPT: &str = "\
 const named = name => document.getElementById(name), title = document.title;
 const mover = document.body.dataset.numbering === 'mover';
-let items, starts, seconds, at = -1, reached = -1, came = Date.now();
+let items, starts, seconds, at = -1, reached = -1;
 const use = (shape, x, y) => `<use href='#${shape}' x='${x}' y='${y}'/>`;
 const text = (x, y, words) => `<text x='${x}' y='${y}'>${words}</text>`;
 const group = (name, parts) => `<g class='${name}'>${parts}</g>`;
@@ -185,6 +184,14 @@ function take(page) {
   begin();
   find(name);
 }
+let told = named('list').innerHTML;
+begin();
+find(location.hash);
+";
+
+/// The script of a live page: it asks for a newer one, and takes it once it has come whole.
+const LIVE_SCRIPT: &str = "\
+let came = Date.now();
 function tell() {
   const late = seconds && Date.now() - came > 60000, time = new Date(came).toLocaleTimeString();
   document.body.classList.toggle('late', late);
@@ -206,9 +213,6 @@ function wait() {
   const again = location.protocol === 'file:' ? () => location.reload() : renew;
   setTimeout(again, 1000 * seconds);
 }
-let told = named('list').innerHTML;
-begin();
-find(location.hash);
 if (seconds) setInterval(tell, 1000);
 wait();
 ";
@@ -243,4 +247,12 @@ pub(crate) fn put_script(out: &mut Vec<u8>) -> Result<(), AllocError>
     ensures { OnOk result (out.new.items ≡ out.old.items ++ script) }
 {
     put_text(out, SCRIPT)
+}
+
+/// Appends the script of a live page.
+#[tactic(auto, unfolding(crate::specs::PageParts::live_script))]
+pub(crate) fn put_live_script(out: &mut Vec<u8>) -> Result<(), AllocError>
+    ensures { OnOk result (out.new.items ≡ out.old.items ++ live_script) }
+{
+    put_text(out, LIVE_SCRIPT)
 }

@@ -9,7 +9,7 @@ use crate::Numbering;
 use crate::descriptions::{put_phase_words, put_standing};
 use crate::items::{put_entry, put_game_start};
 use crate::page_heads::{PageWords, put_body, put_head, put_headings, put_shared_shapes};
-use crate::page_parts::{put_script, put_view};
+use crate::page_parts::{put_live_script, put_script, put_view};
 use crate::pictures::{put_drawing, put_frame, put_titles};
 use bg_board::Player;
 use bg_match::{Record, Standing};
@@ -127,5 +127,7 @@ fn put_end(out: &mut Vec<u8>, numbering: Numbering, standing: &Standing) -> Resu
     put_last_standing(out, numbering, standing)?;
     put_text(out, "<script>\n")?;
     put_script(out)?;
-    put_text(out, "</script>\n</body>\n</html>\n")
+    put_live_script(out)?;
+    put_text(out, "</script>\n</body>\n</html>\n")?;
+    Ok(())
 }

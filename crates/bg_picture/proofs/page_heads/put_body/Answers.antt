@@ -1,4 +1,4 @@
-use Rattle.std.proofs.Common.{◌≡◌, ◌++◌, rules}
+use Rattle.std.proofs.Common.{◌≡◌, ◌++◌}
 use Rattle.std.specs.Prelude.{codes}
 use Rattle.bg_picture.specs.Pages.{body_text, live_part, numbering_word}
 use Rattle.bg_picture.proofs.Parts.{five_parts}

@@ -1,4 +1,4 @@
-use Rattle.std.proofs.Common.{◌≡◌, ◌++◌, rules}
+use Rattle.std.proofs.Common.{◌≡◌, ◌++◌}
 use Rattle.std.specs.Prelude.{codes}
 use Rattle.bg_text.specs.Entries.EntryText.{letter}
 use Rattle.bg_picture.specs.Escapes.{escaped}

@@ -1,4 +1,4 @@
-use Rattle.std.proofs.Common.{◌≡◌, ◌++◌, rules}
+use Rattle.std.proofs.Common.{◌≡◌, ◌++◌}
 use Rattle.std.specs.Prelude.{codes}
 use Rattle.bg_picture.specs.Numberings.{reader_of}
 use Rattle.bg_picture.specs.Pages.{end_text, inner_picture, summary_text}
