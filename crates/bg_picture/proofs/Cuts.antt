@@ -41,10 +41,14 @@ digits_alone n fits = decimal_by_steps (λ n ds. All (λ b. (48 ≤ b) × (b ≤
     more n ds many h = All-append (λ b. (48 ≤ b) × (b ≤ 57)) ds ((48 + n % 10) ∷ []) h (digit (n % 10) (omega arith))
 
 -- behind a number, at a byte that is no digit
-pub cut_decimal : (c m n : ℕ) (u v : List ℕ) → c < 48 → m < 2 ^ 64 → n < 2 ^ 64
+pub cut_number : (c m n : ℕ) (u v : List ℕ) → ((b : ℕ) → 48 ≤ b → b ≤ 57 → b ≡ c → ⊥) → m < 2 ^ 64 → n < 2 ^ 64
     → decimal m ++ c ∷ u ≡ decimal n ++ c ∷ v → (m ≡ n) × (u ≡ v)
-cut_decimal c m n u v low h k e =
+cut_number c m n u v other h k e =
     let lacks : (n : ℕ) → n < 2 ^ 64 → All (λ b. b ≢ c) (decimal n) =
-    λ n fits. All-weaker (λ b. (48 ≤ b) × (b ≤ 57)) (λ b. b ≢ c) (λ b d same. omega (arith, d.0, same, low)) (decimal n) (digits_alone n fits) in
+    λ n fits. All-weaker (λ b. (48 ≤ b) × (b ≤ 57)) (λ b. b ≢ c) (λ b d same. other b d.0 d.1 same) (decimal n) (digits_alone n fits) in
     let cut = cut_at c (decimal m) (decimal n) u v (lacks m h) (lacks n k) e in
     (decimal_injective m n h k cut.0, cut.1)
+
+pub cut_decimal : (c m n : ℕ) (u v : List ℕ) → c < 48 → m < 2 ^ 64 → n < 2 ^ 64
+    → decimal m ++ c ∷ u ≡ decimal n ++ c ∷ v → (m ≡ n) × (u ≡ v)
+cut_decimal c m n u v low h k e = cut_number c m n u v (λ b digit high same. omega (arith, digit, same, low)) h k e

@@ -1,5 +1,6 @@
 pub mod Anchored
 pub mod Cuts
+pub mod Drawn
 pub mod Ends
 pub mod Listed
 pub mod Parts

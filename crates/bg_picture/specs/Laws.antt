@@ -3,6 +3,7 @@ use Rattle.std.specs.Prelude.{◌≡◌, ◌≢◌, ◌==◌, ◌<◌, ◌^◌, 
 use Rattle.std.specs.Prelude.{IsTrue, codes}
 use Rattle.std.specs.List.{AllByRecursion, Contains, flat_map, list_all}
 use Rattle.bg_board.specs.Position.{IsPosition}
+use Rattle.bg_board.specs.declared.players.Player.{Player}
 use Rattle.bg_turns.specs.declared.throws.Dice.{Dice}
 use Rattle.bg_match.specs.State.{State, IsState}
 use Rattle.bg_match.specs.declared.phases.Phase.{Phase}
@@ -10,6 +11,7 @@ use Rattle.bg_match.specs.declared.phases.Phase.TheVariants as phase
 use Rattle.bg_picture.specs.Escapes.{escaped}
 use Rattle.bg_picture.specs.ItemData.{position_data}
 use Rattle.bg_picture.specs.Items.{anchor_text}
+use Rattle.bg_picture.specs.Pictures.{drawing}
 use Rattle.bg_picture.specs.declared.anchors.Anchor.{Anchor}
 use Rattle.bg_picture.specs.declared.anchors.Anchor.TheVariants as anchor
 
@@ -62,3 +64,8 @@ pub record ToldAlike (s t : State) : Type 0 where
 abbrev pub ItemsTellPositions : Type 0
 ItemsTellPositions = (s t : State) → IsState s → IsState t → IsPosition s.board → IsPosition t.board
     → position_data s ≡ position_data t → ToldAlike s t
+
+-- drawings that are one text show one board, in whosever numbers the points are
+abbrev pub DrawingsTellBoards : Type 0
+DrawingsTellBoards = (s t : State) (r q : Player) → IsPosition s.board → IsPosition t.board
+    → drawing s r ≡ drawing t q → s.board ≡ t.board
