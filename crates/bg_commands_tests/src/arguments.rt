@@ -9,7 +9,7 @@ use requests::{is_between_processes, is_in_one_process, is_of_files, is_shown};
 use std::test::Fail;
 
 /// The words of commands, without the program's name.
-const WORDS: [&[&str]; 29] = [
+const WORDS: [&[&str]; 31] = [
     &["judge"],
     &["check", "--quiet", "a", "-", "b"],
     &[
@@ -116,6 +116,8 @@ const WORDS: [&[&str]; 29] = [
         "Anna \u{d6}",
     ],
     &["page", "--match", "m"],
+    &["page", "--name-o", "Otto", "--name-x", "Anna"],
+    &["board", "--once", "--out", "p", "a", "b"],
 ];
 
 /// Whether the words of this row ask for what they should.

@@ -13,6 +13,7 @@
 //! ```
 #![tactic(auto)]
 
+pub mod board;
 pub mod check;
 mod check_rows;
 mod checkers;

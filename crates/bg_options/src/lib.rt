@@ -19,6 +19,7 @@ mod shared;
 mod tasks;
 
 pub use commands::act::ActOptions;
+pub use commands::board::BoardOptions;
 pub use commands::check::{CheckFormat, CheckOptions};
 pub use commands::list::{ListFormat, ListOptions};
 pub use commands::new_match::NewOptions;

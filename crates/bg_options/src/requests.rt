@@ -1,6 +1,7 @@
 //! The request that arguments make.
 
 use crate::commands::act::ActOptions;
+use crate::commands::board::BoardOptions;
 use crate::commands::check::CheckOptions;
 use crate::commands::list::ListOptions;
 use crate::commands::new_match::NewOptions;
@@ -31,6 +32,7 @@ pub enum Request<'m, 'a> {
     Export,
     Show(ShowOptions<'a>),
     List(ListOptions<'m, 'a>),
+    Board(BoardOptions<'m, 'a>),
     Page(PageOptions<'a>),
     Picture { numbering: Numbering },
     Id,
@@ -103,6 +105,7 @@ fn of_task<'m, 'a>(task: Task, options: &'m ArgMatches<'a>) -> Option<Request<'m
         Task::Export => Request::Export,
         Task::Show => Request::Show(ShowOptions::read(options)),
         Task::List => Request::List(ListOptions::read(options)),
+        Task::Board => Request::Board(BoardOptions::read(options)?),
         Task::Page => Request::Page(PageOptions::read(options)),
         Task::Picture => Request::Picture {
             numbering: numbering_in(options),

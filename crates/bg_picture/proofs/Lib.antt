@@ -1,6 +1,10 @@
 pub mod Anchored
 pub mod Cuts
 pub mod Drawn
+pub mod DrawnBoards
+pub mod DrawnCubes
+pub mod DrawnDice
+pub mod DrawnParts
 pub mod Ends
 pub mod Listed
 pub mod Parts

@@ -95,7 +95,7 @@ unfolding both_data
 both_before dice =
     rw (decimal_digit (pips dice.first) (pips_few dice.first), decimal_digit (pips dice.second) (pips_few dice.second)) refl
 
-same_throw : (a b : Dice) → a.first ≡ b.first → a.second ≡ b.second → a ≡ b
+pub same_throw : (a b : Dice) → a.first ≡ b.first → a.second ≡ b.second → a ≡ b
 same_throw a b first second =
     let both : ◌≡◌ {A = Die × Die} (a.first, a.second) (b.first, b.second) = cc (first, second) in
     ap (λ (q : Die × Die). record { first = q.0; second = q.1 }) both

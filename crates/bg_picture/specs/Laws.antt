@@ -1,11 +1,12 @@
 -- What holds of pictures and pages.
-use Rattle.std.specs.Prelude.{◌≡◌, ◌≢◌, ◌==◌, ◌<◌, ◌^◌, ◌⊎◌, ℕ, Bool, not, ◌&&◌, List, [], ◌∷◌, Option, Some, None}
+use Rattle.std.specs.Prelude.{◌≡◌, ◌≢◌, ◌==◌, ◌<◌, ◌*◌, ◌^◌, ◌⊎◌, ℕ, Bool, not, ◌&&◌, List, [], ◌∷◌, Option, Some, None}
 use Rattle.std.specs.Prelude.{IsTrue, codes}
 use Rattle.std.specs.List.{AllByRecursion, Contains, flat_map, list_all}
 use Rattle.bg_board.specs.Position.{IsPosition}
 use Rattle.bg_board.specs.declared.players.Player.{Player}
 use Rattle.bg_turns.specs.declared.throws.Dice.{Dice}
 use Rattle.bg_match.specs.State.{State, IsState}
+use Rattle.bg_match.specs.declared.phases.Cube.{Cube}
 use Rattle.bg_match.specs.declared.phases.Phase.{Phase}
 use Rattle.bg_match.specs.declared.phases.Phase.TheVariants as phase
 use Rattle.bg_picture.specs.Escapes.{escaped}
@@ -65,7 +66,23 @@ abbrev pub ItemsTellPositions : Type 0
 ItemsTellPositions = (s t : State) → IsState s → IsState t → IsPosition s.board → IsPosition t.board
     → position_data s ≡ position_data t → ToldAlike s t
 
--- drawings that are one text show one board, in whosever numbers the points are
-abbrev pub DrawingsTellBoards : Type 0
-DrawingsTellBoards = (s t : State) (r q : Player) → IsPosition s.board → IsPosition t.board
-    → drawing s r ≡ drawing t q → s.board ≡ t.board
+-- the cube as it is seen: before the player who answers a double, with twice its value; else beside the board, in the
+-- middle or on its owner's side
+pub data SeenCube : Type 0 where
+  Offered : (to : Player) → (value : ℕ) → SeenCube
+  Beside : (owner : Option Player) → (value : ℕ) → SeenCube
+
+abbrev pub seen_cube : Phase → Cube → SeenCube
+seen_cube (phase.Doubled p) cube = Offered p (2 * cube.value)
+seen_cube _ cube = Beside cube.owner cube.value
+
+-- what the drawing of a standing tells of it
+pub record DrawnAlike (s t : State) : Type 0 where
+  pub board : s.board ≡ t.board
+  pub cube : seen_cube s.phase s.cube ≡ seen_cube t.phase t.cube
+  pub dice : lying_dice s.phase ≡ lying_dice t.phase
+
+-- drawings that are one text show one board, one cube and one pair of dice, in whosever numbers the points are
+abbrev pub DrawingsTellPositions : Type 0
+DrawingsTellPositions = (s t : State) (r q : Player) → IsState s → IsState t → IsPosition s.board → IsPosition t.board
+    → drawing s r ≡ drawing t q → DrawnAlike s t

@@ -1,6 +1,6 @@
 //! Laws of the definitions: each is the contract of a function that does nothing.
 ghost use Rattle.bg_picture.specs.Laws.{AmpersandsBeginReferences, EscapedTextsArePlain, ItemNamesDiffer};
-ghost use Rattle.bg_picture.specs.Laws.{DrawingsTellBoards, ItemsTellPositions};
+ghost use Rattle.bg_picture.specs.Laws.{DrawingsTellPositions, ItemsTellPositions};
 
 /// States that an escaped text has none of `<`, `>`, `"` and `'`, and each `&` in it begins a
 /// reference to a character.
@@ -20,8 +20,8 @@ pub fn items_tell_positions()
     ensures { ItemsTellPositions }
 {}
 
-/// States that drawings that are one text show one board: a picture tells where each checker
-/// stands.
-pub fn drawings_tell_boards()
-    ensures { DrawingsTellBoards }
+/// States that drawings that are one text show one board, one cube and one pair of dice: a picture
+/// tells the position.
+pub fn drawings_tell_positions()
+    ensures { DrawingsTellPositions }
 {}

@@ -38,7 +38,7 @@ mod wins;
 
 pub use indexes::{IndexMatch, begin_index, begin_section, end_index, end_section, put_match};
 pub use laws::{
-    drawings_tell_boards, escaped_texts_are_plain, item_names_differ, items_tell_positions,
+    drawings_tell_positions, escaped_texts_are_plain, item_names_differ, items_tell_positions,
 };
 pub use numberings::Numbering;
 pub use page_heads::PageWords;
