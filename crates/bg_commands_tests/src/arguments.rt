@@ -9,7 +9,7 @@ use requests::{is_between_processes, is_converted, is_in_one_process, is_of_file
 use std::test::Fail;
 
 /// The words of commands, without the program's name.
-const WORDS: [&[&str]; 33] = [
+const WORDS: [&[&str]; 35] = [
     &["judge"],
     &["check", "--quiet", "a", "-", "b"],
     &[
@@ -125,6 +125,8 @@ const WORDS: [&[&str]; 33] = [
     &[
         "recover", "--match", "m", "--x", " x", "--o", "o", "--dir", "d",
     ],
+    &["page", "--name-o", "Otto", "--name-x", "Anna"],
+    &["board", "--once", "--out", "p", "a", "b"],
 ];
 
 /// Whether the words of this row ask for what they should.

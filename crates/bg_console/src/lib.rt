@@ -40,7 +40,7 @@ pub use messages::{
     allocated, engine_failed, failed, failed_at, failed_barely, failed_for, no_memory, unread,
     unwritten, written, wrong, wrong_at, wrong_for,
 };
-pub use pairings::{Called, Pairing, title_of};
+pub use pairings::{Called, Pairing, page_words, title_of};
 pub use published::{Outputs, Published, is_one_file};
 pub use screens::{Terminal, columns, output_terminal};
 pub use startup::{

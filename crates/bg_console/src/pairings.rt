@@ -1,6 +1,7 @@
 //! The names of a match's players, for people who look on.
 
 use crate::messages::allocated;
+use bg_picture::PageWords;
 use bg_reports::Ending;
 use bg_system::{Name, Names};
 use std::fmt;
@@ -65,11 +66,20 @@ impl Display for Pairing {
     }
 }
 
-/// Returns the name of a player, or the letter where there is no name.
-fn word_for<'a>(name: &'a Option<Name>, letter: &'a str) -> &'a str {
+/// Returns the name of a player, or this word where there is no name.
+fn word_for<'a>(name: &'a Option<Name>, word: &'a str) -> &'a str {
     match name {
         Some(name) => name.as_str(),
-        None => letter,
+        None => word,
+    }
+}
+
+/// Returns the words of a page that has this title, of a match whose players have these names.
+pub fn page_words<'a>(title: &'a str, names: &'a Names) -> PageWords<'a> {
+    PageWords {
+        title,
+        x: word_for(&names.x, ""),
+        o: word_for(&names.o, ""),
     }
 }
 

@@ -2,7 +2,7 @@
 
 use crate::messages::{allocated, failed_at};
 use bg_match::{Phase, Record};
-use bg_picture::{Numbering, page_text};
+use bg_picture::{Numbering, PageWords, page_text};
 use bg_reports::Ending;
 use bg_system::publish;
 use bg_text::{board_text, transcript_text};
@@ -17,7 +17,7 @@ use std::{fs, io};
 /// transcript.
 const PAUSE_TICKS: u32 = 10;
 
-/// Number of seconds after which a browser reloads the page of a running match.
+/// Number of seconds after which a browser asks for a newer page of a running match.
 const PAGE_SECONDS: u16 = 5;
 
 /// The files that are kept for others, and how.
@@ -27,8 +27,8 @@ pub struct Outputs<'a> {
     pub board: Option<&'a str>,
     pub transcript: Option<&'a str>,
     pub page: Option<&'a str>,
-    /// The title of the page.
-    pub title: &'a str,
+    /// The title of the page, and the names in it.
+    pub words: PageWords<'a>,
     /// The numbering of the page's points.
     pub numbering: Numbering,
     /// Whether a file that can't be written is reported once, and left alone until it can be. If
@@ -170,7 +170,7 @@ impl<'a> Published<'a> {
         }
     }
 
-    /// Returns the page of a record, which browsers reload by themselves until its match is over.
+    /// Returns the page of a record, of which browsers ask for a newer one until its match is over.
     fn page_of(&self, alloc: Global, record: &Record) -> Result<Vec<u8>, AllocError> {
         let seconds = match record.standing().phase() {
             Phase::Over(_) => 0,
@@ -179,7 +179,7 @@ impl<'a> Published<'a> {
         page_text(
             alloc,
             record,
-            self.outputs.title,
+            self.outputs.words,
             self.outputs.numbering,
             seconds,
         )

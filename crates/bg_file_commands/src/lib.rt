@@ -14,6 +14,7 @@
 #![tactic(auto)]
 
 mod batches;
+pub mod board;
 pub mod check;
 mod check_rows;
 mod checkers;

@@ -6,7 +6,7 @@ mod locks;
 mod objects;
 mod rows;
 mod saves;
-mod searching;
+pub(crate) mod searching;
 mod times;
 
 use crate::list::aligning::aligned;
@@ -23,7 +23,8 @@ use std::io;
 use std::rt::Files;
 
 /// The message behind the name of a folder without a match.
-const NO_MATCH: &str = " has no match, nor has a folder at most three folders deep in it";
+pub(crate) const NO_MATCH: &str =
+    " has no match, nor has a folder at most three folders deep in it";
 
 /// Lists the matches in the folders that the options name, and below them.
 pub fn run<R>(rt: &R, options: ListOptions<'_, '_>) -> Result<Ending, Ending>

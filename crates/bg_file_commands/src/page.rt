@@ -1,7 +1,7 @@
 //! The command that makes a page of a transcript.
 
 use crate::inputs::read_record;
-use bg_console::{allocated, print_text, table_of, title_of};
+use bg_console::{allocated, page_words, print_text, table_of, title_of};
 use bg_options::PageOptions;
 use bg_picture::page_text;
 use bg_reports::Ending;
@@ -10,7 +10,8 @@ use std::fs::File;
 use std::rt::Files;
 
 /// Prints the page of the transcript on the standard input, with the title and the numbering that
-/// the options name. Where they have no title, the match file or key file that they name gives it.
+/// the options name. Where they have no names, the match file or key file that they name gives
+/// them, and where they have no title, the names do.
 pub fn run<R>(rt: &R, options: PageOptions<'_>) -> Result<Ending, Ending>
 where
     R: Input + Files<File = File> + Print + Eprint + AllocGlobal,
@@ -19,16 +20,27 @@ where
         title,
         match_path,
         numbering,
+        ..
     } = options;
-    let names = match match_path {
-        Some(path) => table_of(rt, path)?.names,
-        None => Names::none(),
-    };
+    let mut names = options.names();
+    if let Some(path) = match_path {
+        let file = table_of(rt, path)?.names;
+        names = Names {
+            x: names.x.or(file.x),
+            o: names.o.or(file.o),
+        };
+    }
     let title = title_of(rt, title, &names)?;
     let record = read_record(rt)?;
     let text = allocated(
         rt,
-        page_text(rt.alloc(), &record, title.as_str(), numbering, 0),
+        page_text(
+            rt.alloc(),
+            &record,
+            page_words(title.as_str(), &names),
+            numbering,
+            0,
+        ),
     )?;
     print_text(rt, &text)?;
     Ok(Ending::Told)

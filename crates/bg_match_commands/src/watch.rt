@@ -11,7 +11,7 @@ use crate::watch::showing::{Lines, Showing};
 use bg_command_parts::{Audience, FailureReporter, Logbook, SilenceReporter, no_socket};
 use bg_console::{
     MatchBeside, Outputs, Published, Telling, Terminal, failed, key_file_of, matches_beside,
-    title_of, waited, waiting_for, wrong, wrong_at,
+    page_words, title_of, waited, waiting_for, wrong, wrong_at,
 };
 use bg_options::WatchOptions;
 use bg_processes::{
@@ -53,11 +53,12 @@ where
     let handed = key_file_of(rt, match_path, FIRST_WATCHER)?;
     let file = handed.named_match();
     let title = title_of(rt, title, &file.names)?;
+    let names = file.names;
     let published = Published::new(Outputs {
         board,
         transcript,
         page,
-        title: title.as_str(),
+        words: page_words(title.as_str(), &names),
         numbering,
         goes_on,
     });

@@ -2,6 +2,7 @@
 
 pub(crate) mod act;
 pub(crate) mod auto;
+pub(crate) mod board;
 pub(crate) mod check;
 pub(crate) mod export;
 pub(crate) mod id;

@@ -21,6 +21,7 @@ mod tasks;
 
 pub use batches::BatchOptions;
 pub use commands::act::ActOptions;
+pub use commands::board::BoardOptions;
 pub use commands::check::{CheckFormat, CheckOptions};
 pub use commands::export::{ExportOptions, HeaderOptions};
 pub use commands::import::ImportOptions;

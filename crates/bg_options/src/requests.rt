@@ -2,6 +2,7 @@
 
 use crate::batches::{FILES, OUT};
 use crate::commands::act::ActOptions;
+use crate::commands::board::BoardOptions;
 use crate::commands::check::CheckOptions;
 use crate::commands::export::ExportOptions;
 use crate::commands::import::{HEADERS, ImportOptions};
@@ -33,6 +34,7 @@ pub enum Request<'m, 'a> {
     Export(ExportOptions<'m, 'a>),
     Show(ShowOptions<'a>),
     List(ListOptions<'m, 'a>),
+    Board(BoardOptions<'m, 'a>),
     Page(PageOptions<'a>),
     Picture { numbering: Numbering },
     Id,
@@ -127,6 +129,7 @@ fn of_task<'m, 'a>(task: Task, options: &'m ArgMatches<'a>) -> Option<Request<'m
         Task::Export => Request::Export(ExportOptions::read(options)),
         Task::Show => Request::Show(ShowOptions::read(options)),
         Task::List => Request::List(ListOptions::read(options)),
+        Task::Board => Request::Board(BoardOptions::read(options)?),
         Task::Page => Request::Page(PageOptions::read(options)),
         Task::Picture => Request::Picture {
             numbering: numbering_in(options),

@@ -1,11 +1,11 @@
 //! The options that several commands have, and their values.
 
-use crate::RequestFault;
 use crate::arguments::{Argument, Kind, Need};
+use crate::requests::RequestFault;
 use bg_board::Player;
 use bg_match::{LONGEST_MATCH, Rules, SHORTEST_MATCH};
 use bg_picture::Numbering;
-use bg_system::Name;
+use bg_system::{Name, Names};
 use bg_wire::{FIRST_WATCHER, LAST_WATCHER};
 use clap::{Arg, ArgMatches};
 use std::alloc::Global;
@@ -149,6 +149,36 @@ pub(crate) const TITLE: Argument = Argument {
 /// Returns the title of a page, if the options give one.
 pub(crate) fn title_in<'a>(options: &ArgMatches<'a>) -> Option<&'a str> {
     options.get_str("title")
+}
+
+pub(crate) const NAME_X: Argument = Argument {
+    name: "name-x",
+    kind: Kind::Text("NAME"),
+    need: Need::Optional,
+    about: "The name of player X, 1 to 64 bytes",
+};
+
+pub(crate) const NAME_O: Argument = Argument {
+    name: "name-o",
+    kind: Kind::Text("NAME"),
+    need: Need::Optional,
+    about: "The name of player O, 1 to 64 bytes",
+};
+
+/// Returns the names of players that options give, which were checked before.
+pub(crate) fn names_of(x: Option<&str>, o: Option<&str>) -> Names {
+    Names {
+        x: named(x),
+        o: named(o),
+    }
+}
+
+/// Returns the name that a text is, which was checked before.
+fn named(text: Option<&str>) -> Option<Name> {
+    match Name::new(text?) {
+        Ok(name) => Some(name),
+        Err(_) => None,
+    }
 }
 
 pub(crate) const MATCH: Argument = Argument {

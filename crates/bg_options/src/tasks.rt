@@ -1,7 +1,7 @@
 //! The tasks of the program.
 
 use crate::commands::{
-    act, auto, check, export, id, import, judge, keys, list, new_match, page, picture, play,
+    act, auto, board, check, export, id, import, judge, keys, list, new_match, page, picture, play,
     play_loop, recover, referee, script, show, sim, watch,
 };
 use clap::{Command, Error};
@@ -19,6 +19,7 @@ pub enum Task {
     Export,
     Show,
     List,
+    Board,
     Page,
     Picture,
     Id,
@@ -36,13 +37,14 @@ pub enum Task {
 }
 
 /// The commands by their names, in the order in which help lists them.
-pub const TASKS: [(&str, Task); 20] = [
+pub const TASKS: [(&str, Task); 21] = [
     ("judge", Task::Judge),
     ("check", Task::Check),
     ("import", Task::Import),
     ("export", Task::Export),
     ("show", Task::Show),
     ("list", Task::List),
+    ("board", Task::Board),
     ("page", Task::Page),
     ("picture", Task::Picture),
     ("id", Task::Id),
@@ -103,6 +105,7 @@ impl Task {
             Task::Export => export::command(alloc),
             Task::Show => show::command(alloc),
             Task::List => list::command(alloc),
+            Task::Board => board::command(alloc),
             Task::Page => page::command(alloc),
             Task::Picture => picture::command(alloc),
             Task::Id => id::command(alloc),

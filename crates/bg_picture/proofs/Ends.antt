@@ -82,7 +82,7 @@ later_game s entry.Accepted t h = rw h.4 (won_game s (opponent h.0) (multiple h.
 later_game s entry.Rejected t h = same_game s t (ap (λ u. u.game) h.4)
 later_game s entry.Passed t h = same_game s t (ap (λ u. u.game) h.4)
 
-cube_limited : (ph : Phase) (value : ℕ) → IsCubeOf ph value → value ≤ greatest_cube
+pub cube_limited : (ph : Phase) (value : ℕ) → IsCubeOf ph value → value ≤ greatest_cube
 cube_limited phase.Opening value h = h
 cube_limited (phase.ToAct p) value h = h
 cube_limited (phase.Doubled p) value h = omega (arith, h)

@@ -1,4 +1,13 @@
+pub mod Anchored
+pub mod Cuts
+pub mod Drawn
+pub mod DrawnBoards
+pub mod DrawnCubes
+pub mod DrawnDice
+pub mod DrawnParts
 pub mod Ends
 pub mod Listed
 pub mod Parts
+pub mod Plain
+pub mod Told
 pub mod Written

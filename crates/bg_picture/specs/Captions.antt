@@ -1,4 +1,4 @@
--- What is said below a picture, and of the end of a game.
+-- What is said of an item below its picture, and of the end of a game.
 use Rattle.std.specs.Prelude.{ℕ, ◌==◌, List, [], ◌++◌, codes, if◌then◌else◌}
 use Rattle.std.specs.Fmt.{decimal}
 use Rattle.bg_board.specs.declared.players.Player.{Player}

@@ -9,6 +9,10 @@ pub mod Stacks
 pub mod Tables
 pub mod Pictures
 pub mod Escapes
+pub mod ItemData
 pub mod Items
 pub mod PageParts
 pub mod Pages
+pub mod IndexParts
+pub mod Indexes
+pub mod Laws

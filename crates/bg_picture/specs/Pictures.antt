@@ -5,15 +5,12 @@ use Rattle.bg_board.specs.declared.players.Player.{Player}
 use Rattle.bg_board.specs.declared.players.Player.TheVariants.{X, O}
 use Rattle.bg_match.specs.Actor.{passes}
 use Rattle.bg_match.specs.State.{State}
-use Rattle.bg_picture.specs.Captions.{caption_words}
-use Rattle.bg_picture.specs.Descriptions.{description, game_words}
+use Rattle.bg_picture.specs.Descriptions.{description, game_words, phase_words}
 use Rattle.bg_picture.specs.Elements.{element_text, group_start, group_end}
 use Rattle.bg_picture.specs.Elements.Element.{Shape, Words}
 use Rattle.bg_picture.specs.Shapes.{style, shapes}
 use Rattle.bg_picture.specs.Stacks.{checkers_text, numbers_name, numbers_text}
 use Rattle.bg_picture.specs.Tables.{cube_text, table_text}
-use Rattle.bg_picture.specs.declared.captions.Caption.{Caption}
-use Rattle.bg_picture.specs.declared.captions.Caption.TheVariants.{Next}
 
 -- the empty board, with the numbers of a player
 unfoldable pub board_text : Player → List ℕ
@@ -29,12 +26,12 @@ position_text s reader =
 unfoldable pub game_caption : State → List ℕ
 game_caption s = element_text (Words 0 25 (game_words s))
 
--- below, what is to happen next, or how the game was won
-unfoldable pub lower_caption : State → Caption → List ℕ
-lower_caption s caption = element_text (Words 0 549 (caption_words s caption))
+-- below, what is to happen next
+unfoldable pub lower_caption : State → List ℕ
+lower_caption s = element_text (Words 0 549 (phase_words s))
 
-unfoldable pub captions_text : State → Caption → List ℕ
-captions_text s caption = group_start (codes "left") ++ game_caption s ++ lower_caption s caption ++ group_end
+unfoldable pub captions_text : State → List ℕ
+captions_text s = group_start (codes "left") ++ game_caption s ++ lower_caption s ++ group_end
 
 -- a player's score, on a base line
 unfoldable pub score_text : ℕ → List ℕ → ℕ → List ℕ
@@ -47,14 +44,13 @@ scores_text s =
     ++ group_end
 
 -- what is drawn of a standing, with the numbers of a player
-unfoldable pub drawing : State → Caption → Player → List ℕ
-drawing s caption reader =
-    position_text s reader ++ table_text s.phase (passes s) ++ captions_text s caption ++ scores_text s
+unfoldable pub drawing : State → Player → List ℕ
+drawing s reader = position_text s reader ++ table_text s.phase (passes s) ++ captions_text s ++ scores_text s
 
 -- the caption below is the title, which is told first
-unfoldable pub titles_text : State → Caption → Player → List ℕ
-titles_text s caption reader =
-    codes "<title>" ++ caption_words s caption ++ codes "</title><desc>" ++ description s reader ++ codes "</desc>"
+unfoldable pub titles_text : State → Player → List ℕ
+titles_text s reader =
+    codes "<title>" ++ phase_words s ++ codes "</title><desc>" ++ description s reader ++ codes "</desc>"
 
 -- the edges of a picture, and that it is read aloud by its title and description
 unfoldable pub frame : List ℕ
@@ -69,9 +65,9 @@ shapes_text reader = codes "<defs>\n" ++ shapes ++ numbers_text reader ++ codes 
 
 -- the beginning of a picture, with its title and description
 unfoldable pub picture_start : State → Player → List ℕ
-picture_start s reader = codes "<svg xmlns='http://www.w3.org/2000/svg'" ++ frame ++ titles_text s Next reader
+picture_start s reader = codes "<svg xmlns='http://www.w3.org/2000/svg'" ++ frame ++ titles_text s reader
 
 -- an SVG file of a standing, whose points have the numbers of a player
 unfoldable pub picture_text : State → Player → List ℕ
 picture_text s reader =
-    picture_start s reader ++ style_text ++ shapes_text reader ++ drawing s Next reader ++ codes "</svg>\n"
+    picture_start s reader ++ style_text ++ shapes_text reader ++ drawing s reader ++ codes "</svg>\n"

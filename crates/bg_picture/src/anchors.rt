@@ -1,7 +1,7 @@
 //! The names of a page's items, which its address can hold.
 ghost use Rattle.std.specs.Prelude.{◌≡◌, ◌++◌, OnOk};
 ghost use Rattle.std.specs.Fmt.{decimal};
-ghost use Rattle.bg_picture.specs.Items.{anchor_text, item_start};
+ghost use Rattle.bg_picture.specs.Items.{anchor_text};
 
 use bg_match::Number;
 use bg_text::{put_number, put_text};
@@ -18,21 +18,9 @@ pub(crate) enum Anchor {
     Result(u8),
 }
 
-/// Begins an item, with a link to it.
-#[tactic(auto, unfolding(crate::specs::Items::item_start))]
-pub(crate) fn begin_item(out: &mut Vec<u8>, anchor: Anchor) -> Result<(), AllocError>
-    ensures { OnOk result (out.new.items ≡ out.old.items ++ item_start anchor) }
-{
-    put_text(out, "<li id='")?;
-    put_anchor(out, anchor)?;
-    put_text(out, "'><a href='#")?;
-    put_anchor(out, anchor)?;
-    put_text(out, "'>")
-}
-
 /// Appends the name of an item.
 #[tactic(auto, unfolding(crate::specs::Items::anchor_text))]
-fn put_anchor(out: &mut Vec<u8>, anchor: Anchor) -> Result<(), AllocError>
+pub(crate) fn put_anchor(out: &mut Vec<u8>, anchor: Anchor) -> Result<(), AllocError>
     ensures { OnOk result (out.new.items ≡ out.old.items ++ anchor_text anchor) }
 {
     match anchor {

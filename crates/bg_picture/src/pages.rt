@@ -1,44 +1,44 @@
 //! The page of a match.
 ghost use Rattle.std.specs.Prelude.{◌≡◌, ◌++◌, OnOk, IfOk};
 ghost use Rattle.bg_match.specs.State.{start_of as start_of_terms};
-ghost use Rattle.bg_picture.specs.Pages.{IsPage, PutsEntries, body_text, first_start, head_text, heading_text};
-ghost use Rattle.bg_picture.specs.Pages.{live_body};
-ghost use Rattle.bg_picture.specs.Pages.{page_end, page_start, refresh_text, shared_shapes, styles_text};
-ghost use Rattle.bg_picture.specs.Pages.{summary_text, title_text};
+ghost use Rattle.bg_picture.specs.Pages.{IsPage, PutsEntries, end_text, inner_picture, page_end, page_start};
+ghost use Rattle.bg_picture.specs.Pages.{summary_text};
+ghost use Rattle.bg_picture.specs.Items.{game_start};
 
 use crate::Numbering;
 use crate::descriptions::{put_phase_words, put_standing};
-use crate::escapes::put_escaped;
 use crate::items::{put_entry, put_game_start};
-use crate::page_parts::{put_head_start, put_page_style, put_script, put_view};
-use crate::shapes::{put_shapes, put_style};
-use crate::stacks::put_numbers;
+use crate::page_heads::{PageWords, put_body, put_head, put_headings, put_shared_shapes};
+use crate::page_parts::{put_live_script, put_script, put_view};
+use crate::pictures::{put_drawing, put_frame, put_titles};
 use bg_board::Player;
 use bg_match::{Record, Standing};
-use bg_text::{put_number, put_text};
+use bg_text::put_text;
 use std::alloc::{AllocError, Global};
 
 /// Returns the page of a match: one HTML file with the start of each game, its entries and its
-/// result, each with a picture (docs/FORMATS.md, "Pages"). The title may be any text, as it is
-/// escaped. Unless `seconds` is 0, a browser reloads the page after that many seconds, and shows it
-/// from the last item on.
+/// result. Each has the data from which the page's script draws its picture; behind them stands the
+/// picture of the record's standing (docs/FORMATS.md, "Pages"). The words may be any text, as they
+/// are escaped. Unless `seconds` is 0, a browser asks for a newer page after that many seconds, and
+/// shows it from the last item on.
 ///
 /// # Errors
 /// AllocError where there is no memory for it.
 pub fn page_text(
     alloc: Global,
     log: &Record,
-    title: &str,
+    words: PageWords<'_>,
     numbering: Numbering,
     seconds: u16,
 ) -> Result<Vec<u8>, AllocError>
-    ensures { IfOk result (λ text. IsPage title.now numbering seconds log.now.terms log.now.entries text.items) }
+    ensures { IfOk result (λ text. IsPage (record { title = words.entry.title.now; x = words.entry.x.now; o = words.entry.o.now })
+        numbering seconds log.now.terms log.now.entries text.items) }
 {
     let mut out = Vec::new(alloc);
-    put_start(&mut out, title, seconds, &log.standing())?;
-    put_first(&mut out, numbering, &start_of(log))?;
-    put_entries(&mut out, numbering, log)?;
-    put_end(&mut out)?;
+    put_start(&mut out, words, numbering, seconds)?;
+    put_game_start(&mut out, 0, &start_of(log))?;
+    put_entries(&mut out, log)?;
+    put_end(&mut out, numbering, &log.standing())?;
     Ok(out)
 }
 
@@ -50,138 +50,48 @@ fn start_of(log: &Record) -> Standing
 }
 
 /// Appends the items of all entries.
-fn put_entries(out: &mut Vec<u8>, numbering: Numbering, log: &Record) -> Result<(), AllocError>
-    ensures { OnOk result (PutsEntries numbering log.now out.old.items out.new.items) }
+fn put_entries(out: &mut Vec<u8>, log: &Record) -> Result<(), AllocError>
+    ensures { OnOk result (PutsEntries log.now out.old.items out.new.items) }
 {
     let mut standing = start_of(log);
     for written in 0..log.len() {
         let entry = log.entry(written + 1).unwrap();
-        standing = put_entry(out, numbering, written + 1, &standing, entry)?;
+        standing = put_entry(out, written + 1, &standing, entry)?;
     }
     Ok(())
 }
 
-/// Appends all that stands before the list.
+/// Appends all that stands before the games.
 #[tactic(auto, unfolding(crate::specs::Pages::page_start))]
 fn put_start(
     out: &mut Vec<u8>,
-    title: &str,
+    words: PageWords<'_>,
+    numbering: Numbering,
     seconds: u16,
-    standing: &Standing,
 ) -> Result<(), AllocError>
-    ensures { OnOk result (out.new.items ≡ out.old.items ++ page_start title.now seconds standing.now) }
+    ensures { OnOk result (out.new.items ≡ out.old.items
+        ++ page_start (record { title = words.entry.title.now; x = words.entry.x.now; o = words.entry.o.now }) numbering seconds) }
 {
-    put_head(out, title, seconds)?;
+    put_head(out, words.title, seconds)?;
+    put_body(out, numbering, seconds)?;
     put_shared_shapes(out)?;
-    put_heading(out, title)?;
-    put_summary(out, standing)
+    put_headings(out, words)?;
+    put_view(out)
 }
 
-/// Appends the start of the first game.
-#[tactic(auto, unfolding(crate::specs::Pages::first_start))]
-fn put_first(out: &mut Vec<u8>, numbering: Numbering, start: &Standing) -> Result<(), AllocError>
-    ensures { OnOk result (out.new.items ≡ out.old.items ++ first_start numbering start.now) }
+/// Appends the picture of a standing whose shapes the page has.
+#[tactic(auto, unfolding(crate::specs::Pages::inner_picture))]
+fn put_picture(out: &mut Vec<u8>, standing: &Standing, reader: Player) -> Result<(), AllocError>
+    ensures { OnOk result (out.new.items ≡ out.old.items ++ inner_picture standing.now reader) }
 {
-    put_view(out)?;
-    put_game_start(out, numbering, 0, start)
+    put_text(out, "<svg")?;
+    put_frame(out)?;
+    put_titles(out, standing, reader)?;
+    put_drawing(out, standing, reader)?;
+    put_text(out, "</svg>\n")
 }
 
-/// Appends the head of the page.
-#[tactic(auto, unfolding(crate::specs::Pages::head_text))]
-fn put_head(out: &mut Vec<u8>, title: &str, seconds: u16) -> Result<(), AllocError>
-    ensures { OnOk result (out.new.items ≡ out.old.items ++ head_text title.now seconds) }
-{
-    put_head_start(out)?;
-    put_refresh(out, seconds)?;
-    put_title(out, title)?;
-    put_styles(out)?;
-    put_body(out, seconds)
-}
-
-/// Appends the number of seconds after which a browser without scripts reloads the page.
-#[tactic(auto, unfolding(crate::specs::Pages::refresh_text))]
-fn put_refresh(out: &mut Vec<u8>, seconds: u16) -> Result<(), AllocError>
-    ensures { OnOk result (out.new.items ≡ out.old.items ++ refresh_text seconds) }
-{
-    if seconds == 0 {
-        return Ok(());
-    }
-    put_text(out, "<noscript><meta http-equiv='refresh' content='")?;
-    put_number(out, seconds.into())?;
-    put_text(out, "'></noscript>\n")
-}
-
-/// Appends the title.
-#[tactic(auto, unfolding(crate::specs::Pages::title_text))]
-fn put_title(out: &mut Vec<u8>, title: &str) -> Result<(), AllocError>
-    ensures { OnOk result (out.new.items ≡ out.old.items ++ title_text title.now) }
-{
-    put_text(out, "<title>")?;
-    put_escaped(out, title)?;
-    put_text(out, "</title>\n")
-}
-
-/// Appends the styles, and ends the head.
-#[tactic(auto, unfolding(crate::specs::Pages::styles_text))]
-fn put_styles(out: &mut Vec<u8>) -> Result<(), AllocError>
-    ensures { OnOk result (out.new.items ≡ out.old.items ++ styles_text) }
-{
-    put_text(out, "<style>\n")?;
-    put_style(out)?;
-    put_page_style(out)?;
-    put_text(
-        out,
-        "</style>\n<script>document.documentElement.className='js'</script>\n</head>\n",
-    )
-}
-
-/// Begins the body, and says after how many seconds a browser with scripts reloads the page.
-#[tactic(auto, unfolding(crate::specs::Pages::body_text))]
-fn put_body(out: &mut Vec<u8>, seconds: u16) -> Result<(), AllocError>
-    ensures { OnOk result (out.new.items ≡ out.old.items ++ body_text seconds) }
-{
-    if seconds == 0 {
-        put_text(out, "<body>\n")
-    } else {
-        put_live_body(out, seconds)
-    }
-}
-
-/// Begins the body of a page that is reloaded.
-#[tactic(auto, unfolding(crate::specs::Pages::live_body))]
-fn put_live_body(out: &mut Vec<u8>, seconds: u16) -> Result<(), AllocError>
-    ensures { OnOk result (out.new.items ≡ out.old.items ++ live_body seconds) }
-{
-    put_text(out, "<body data-seconds='")?;
-    put_number(out, seconds.into())?;
-    put_text(out, "'>\n")?;
-    Ok(())
-}
-
-/// Appends the shapes that all pictures share.
-#[tactic(auto, unfolding(crate::specs::Pages::shared_shapes))]
-fn put_shared_shapes(out: &mut Vec<u8>) -> Result<(), AllocError>
-    ensures { OnOk result (out.new.items ≡ out.old.items ++ shared_shapes) }
-{
-    put_text(out, "<svg class='shapes' aria-hidden='true'><defs>\n")?;
-    put_shapes(out)?;
-    put_numbers(out, Player::X)?;
-    put_numbers(out, Player::O)?;
-    put_text(out, "</defs></svg>\n")?;
-    Ok(())
-}
-
-/// Appends the title as a heading.
-#[tactic(auto, unfolding(crate::specs::Pages::heading_text))]
-fn put_heading(out: &mut Vec<u8>, title: &str) -> Result<(), AllocError>
-    ensures { OnOk result (out.new.items ≡ out.old.items ++ heading_text title.now) }
-{
-    put_text(out, "<h1><bdi>")?;
-    put_escaped(out, title)?;
-    put_text(out, "</bdi></h1>\n")
-}
-
-/// Appends the standing of the match.
+/// Appends the standing of the match in words.
 #[tactic(auto, unfolding(crate::specs::Pages::summary_text))]
 fn put_summary(out: &mut Vec<u8>, standing: &Standing) -> Result<(), AllocError>
     ensures { OnOk result (out.new.items ≡ out.old.items ++ summary_text standing.now) }
@@ -193,13 +103,31 @@ fn put_summary(out: &mut Vec<u8>, standing: &Standing) -> Result<(), AllocError>
     put_text(out, "</p>\n")
 }
 
-/// Ends the page.
-#[tactic(auto, unfolding(crate::specs::Pages::page_end))]
-fn put_end(out: &mut Vec<u8>) -> Result<(), AllocError>
-    ensures { OnOk result (out.new.items ≡ out.old.items ++ page_end) }
+/// Appends the standing of the match, behind its games.
+#[tactic(auto, unfolding(crate::specs::Pages::end_text))]
+fn put_last_standing(
+    out: &mut Vec<u8>,
+    numbering: Numbering,
+    standing: &Standing,
+) -> Result<(), AllocError>
+    ensures { OnOk result (out.new.items ≡ out.old.items ++ end_text numbering standing.now) }
 {
-    put_text(out, "</ol>\n</div>\n</main>\n<script>\n")?;
+    put_text(out, "</ol>\n</div>\n</main>\n<div id='end'>\n")?;
+    put_picture(out, standing, numbering.reader(standing.phase()))?;
+    put_summary(out, standing)?;
+    put_text(out, "</div>\n")?;
+    Ok(())
+}
+
+/// Ends the page of a match that has this standing.
+#[tactic(auto, unfolding(crate::specs::Pages::page_end))]
+fn put_end(out: &mut Vec<u8>, numbering: Numbering, standing: &Standing) -> Result<(), AllocError>
+    ensures { OnOk result (out.new.items ≡ out.old.items ++ page_end numbering standing.now) }
+{
+    put_last_standing(out, numbering, standing)?;
+    put_text(out, "<script>\n")?;
     put_script(out)?;
+    put_live_script(out)?;
     put_text(out, "</script>\n</body>\n</html>\n")?;
     Ok(())
 }

@@ -6,8 +6,7 @@ ghost use Rattle.bg_picture.specs.Pictures.{picture_start, picture_text as text_
 ghost use Rattle.bg_picture.specs.Pictures.{scores_text, shapes_text, style_text, titles_text};
 
 use crate::Numbering;
-use crate::captions::{Caption, put_caption};
-use crate::descriptions::{put_description, put_game};
+use crate::descriptions::{put_description, put_game, put_phase_words};
 use crate::elements::{begin_group, begin_words, end_group, end_words, put_shape};
 use crate::shapes::{put_shapes, put_style};
 use crate::stacks::{numbers_name, put_checkers, put_numbers};
@@ -35,7 +34,7 @@ pub fn picture_text(
     put_start(&mut out, standing, reader)?;
     put_style_element(&mut out)?;
     put_definitions(&mut out, reader)?;
-    put_drawing(&mut out, standing, Caption::Next, reader)?;
+    put_drawing(&mut out, standing, reader)?;
     put_text(&mut out, "</svg>\n")?;
     Ok(out)
 }
@@ -47,7 +46,7 @@ fn put_start(out: &mut Vec<u8>, standing: &Standing, reader: Player) -> Result<(
 {
     put_text(out, "<svg xmlns='http://www.w3.org/2000/svg'")?;
     put_frame(out)?;
-    put_titles(out, standing, Caption::Next, reader)?;
+    put_titles(out, standing, reader)?;
     Ok(())
 }
 
@@ -56,13 +55,12 @@ fn put_start(out: &mut Vec<u8>, standing: &Standing, reader: Player) -> Result<(
 pub(crate) fn put_titles(
     out: &mut Vec<u8>,
     standing: &Standing,
-    caption: Caption,
     reader: Player,
 ) -> Result<(), AllocError>
-    ensures { OnOk result (out.new.items ≡ out.old.items ++ titles_text standing.now caption reader) }
+    ensures { OnOk result (out.new.items ≡ out.old.items ++ titles_text standing.now reader) }
 {
     put_text(out, "<title>")?;
-    put_caption(out, standing, caption)?;
+    put_phase_words(out, standing)?;
     put_text(out, "</title><desc>")?;
     put_description(out, standing, reader)?;
     put_text(out, "</desc>")
@@ -102,14 +100,13 @@ fn put_definitions(out: &mut Vec<u8>, reader: Player) -> Result<(), AllocError>
 pub(crate) fn put_drawing(
     out: &mut Vec<u8>,
     standing: &Standing,
-    caption: Caption,
     reader: Player,
 ) -> Result<(), AllocError>
-    ensures { OnOk result (out.new.items ≡ out.old.items ++ drawing standing.now caption reader) }
+    ensures { OnOk result (out.new.items ≡ out.old.items ++ drawing standing.now reader) }
 {
     put_position(out, standing, reader)?;
     put_table(out, standing)?;
-    put_captions(out, standing, caption)?;
+    put_captions(out, standing)?;
     put_scores(out, standing)
 }
 
@@ -136,12 +133,12 @@ fn put_board(out: &mut Vec<u8>, reader: Player) -> Result<(), AllocError>
 
 /// Appends the words above and below the board.
 #[tactic(auto, unfolding(crate::specs::Pictures::captions_text))]
-fn put_captions(out: &mut Vec<u8>, standing: &Standing, caption: Caption) -> Result<(), AllocError>
-    ensures { OnOk result (out.new.items ≡ out.old.items ++ captions_text standing.now caption) }
+fn put_captions(out: &mut Vec<u8>, standing: &Standing) -> Result<(), AllocError>
+    ensures { OnOk result (out.new.items ≡ out.old.items ++ captions_text standing.now) }
 {
     begin_group(out, "left")?;
     put_game_caption(out, standing)?;
-    put_lower_caption(out, standing, caption)?;
+    put_lower_caption(out, standing)?;
     end_group(out)
 }
 
@@ -155,17 +152,13 @@ fn put_game_caption(out: &mut Vec<u8>, standing: &Standing) -> Result<(), AllocE
     end_words(out)
 }
 
-/// Appends what happens next, or how the game was won.
+/// Appends what happens next.
 #[tactic(auto, unfolding(crate::specs::Pictures::lower_caption, crate::specs::Elements::element_text))]
-fn put_lower_caption(
-    out: &mut Vec<u8>,
-    standing: &Standing,
-    caption: Caption,
-) -> Result<(), AllocError>
-    ensures { OnOk result (out.new.items ≡ out.old.items ++ lower_caption standing.now caption) }
+fn put_lower_caption(out: &mut Vec<u8>, standing: &Standing) -> Result<(), AllocError>
+    ensures { OnOk result (out.new.items ≡ out.old.items ++ lower_caption standing.now) }
 {
     begin_words(out, 0, 549)?;
-    put_caption(out, standing, caption)?;
+    put_phase_words(out, standing)?;
     end_words(out)
 }
 

@@ -8,7 +8,7 @@ pub use bg_auto::{
 };
 use bg_console::{Progress, columns, failed, no_memory, output_terminal, unwritten, wrong};
 use bg_file_commands::{
-    check, export, id, import, judge, keys, list, new_match, page, picture, recover, show,
+    board, check, export, id, import, judge, keys, list, new_match, page, picture, recover, show,
 };
 use bg_match_commands::{play_loop, referee, script, sim, watch};
 use bg_options::{Request, command_line};
@@ -69,6 +69,7 @@ fn obey(rt: &HostRuntime, request: Request<'_, '_>) -> Result<Ending, Ending> {
         Request::Export(options) => export::run(rt, options, progress),
         Request::Show(options) => show::run(rt, options),
         Request::List(options) => list::run(rt, options),
+        Request::Board(options) => board::run(rt, options),
         Request::Page(options) => page::run(rt, options),
         Request::Picture { numbering } => picture::run(rt, numbering),
         Request::Id => id::run(rt),

@@ -7,6 +7,7 @@ use bg_options::{
     WatchOptions,
 };
 use bg_picture::Numbering;
+use bg_system::Names;
 
 const X_IN_M: SeatOptions<'static> = SeatOptions {
     player: Some(Player::X),
@@ -130,7 +131,19 @@ pub(crate) fn is_shown(row: usize, request: &Request<'_, '_>) -> bool {
         (9, Request::Page(page)) => {
             (page.title, page.match_path) == (None, None) && page.numbering == Numbering::Mover
         }
-        (28, Request::Page(page)) => (page.title, page.match_path) == (None, Some("m")),
+        (28, Request::Page(page)) => {
+            (page.title, page.match_path) == (None, Some("m")) && page.names() == Names::none()
+        }
+        (33, Request::Page(page)) => {
+            page.match_path.is_none()
+                && page.names().x.is_some_and(|name| name.as_str() == "Anna")
+                && page.names().o.is_some_and(|name| name.as_str() == "Otto")
+        }
+        (34, Request::Board(board)) => {
+            *board.folders == ["a", "b"].as_slice()
+                && (board.out, board.title) == ("p", "Backgammon matches")
+                && (board.numbering, board.is_once) == (Numbering::Mover, true)
+        }
         (10, Request::Picture { numbering }) => *numbering == Numbering::X,
         (22, Request::List(ListOptions { folders, format })) => {
             *folders == ["a", "b"].as_slice() && *format == ListFormat::Text

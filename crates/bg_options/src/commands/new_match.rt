@@ -1,9 +1,11 @@
 //! The options and help of the command that makes a match between processes.
 
 use crate::arguments::{Argument, Kind, Need, described, with_all};
-use crate::shared::{FOLDER, LENGTH, RULES, THREE_TERMINALS, byte_in, number_in, rules_in};
+use crate::shared::{
+    FOLDER, LENGTH, NAME_O, NAME_X, RULES, THREE_TERMINALS, byte_in, names_of, number_in, rules_in,
+};
 use bg_match::Terms;
-use bg_system::{HIGHEST_PORT, LOWEST_PORT, Name, Names};
+use bg_system::{HIGHEST_PORT, LOWEST_PORT, Names};
 use clap::{ArgMatches, Command, Error};
 use std::alloc::Global;
 
@@ -51,34 +53,9 @@ impl<'a> NewOptions<'a> {
 
     /// Returns the names of the players.
     pub fn names(&self) -> Names {
-        Names {
-            x: named(self.name_x),
-            o: named(self.name_o),
-        }
+        names_of(self.name_x, self.name_o)
     }
 }
-
-/// Returns the name that a text is, which was checked before.
-fn named(text: Option<&str>) -> Option<Name> {
-    match Name::new(text?) {
-        Ok(name) => Some(name),
-        Err(_) => None,
-    }
-}
-
-const NAME_X: Argument = Argument {
-    name: "name-x",
-    kind: Kind::Text("NAME"),
-    need: Need::Optional,
-    about: "The name of player X, 1 to 64 bytes",
-};
-
-const NAME_O: Argument = Argument {
-    name: "name-o",
-    kind: Kind::Text("NAME"),
-    need: Need::Optional,
-    about: "The name of player O, 1 to 64 bytes",
-};
 
 const PORT: Argument = Argument {
     name: "port",

@@ -1,8 +1,11 @@
 //! The options and help of the command that makes a page of a transcript.
 
 use crate::arguments::{Argument, Kind, Need, described, with, with_all};
-use crate::shared::{NUMBERING, TITLE, misplaced_file, numbering_in, title_in};
+use crate::shared::{
+    NAME_O, NAME_X, NUMBERING, TITLE, misplaced_file, names_of, numbering_in, title_in,
+};
 use bg_picture::Numbering;
+use bg_system::Names;
 use clap::{ArgMatches, Command, Error};
 use std::alloc::Global;
 
@@ -11,12 +14,13 @@ const ABOUT_PAGE: &str = "Make a page for browsers of the transcript on the stan
 
     $ bg_relay page --title \"Anna against Otto\" < transcript.txt > match.html
 
-The page is one file that needs nothing from elsewhere. It shows each position with its entry, and
-the entries by game with the score; keys, buttons and links go through it, and without scripts it is
-a plain list. A match that was made with names has them in its match file and its key files, and --match
-takes the title from one of these. A transcript that is refused is named on the standard error as
-`check` names it, and nothing is printed. Ends with status 0; with 2 where the transcript is refused or
-FILE is no such file, and 1 where reading, writing or memory failed.";
+The page is one file that needs nothing from elsewhere. It shows each position with its entry, the pip
+counts and the last move, and the entries by game. Keys, buttons, links and the list of games go
+through it, and no result is shown before the reader is there. Without scripts it is a plain list with
+the last position behind it. The players' names are those of --name-x and --name-o, or else of the file
+of --match; both names are the title where none is given. A transcript that is refused is named on the
+standard error as `check` names it, and nothing is printed. Ends with status 0; with 2 where the
+transcript or a name is refused or FILE is no such file, and 1 where reading, writing or memory failed.";
 
 /// The contents of a page beside the positions.
 #[derive(Clone, Copy)]
@@ -25,6 +29,9 @@ pub struct PageOptions<'a> {
     pub title: Option<&'a str>,
     /// The path of the match file or key file that has the names of the players.
     pub match_path: Option<&'a str>,
+    /// The names of X and of O, as far as they are given.
+    pub name_x: Option<&'a str>,
+    pub name_o: Option<&'a str>,
     /// The numbering of the points.
     pub numbering: Numbering,
 }
@@ -34,8 +41,15 @@ impl<'a> PageOptions<'a> {
         PageOptions {
             title: title_in(options),
             match_path: options.get_str("match"),
+            name_x: options.get_str(NAME_X.name),
+            name_o: options.get_str(NAME_O.name),
             numbering: numbering_in(options),
         }
+    }
+
+    /// Returns the names of the players that the options give.
+    pub fn names(&self) -> Names {
+        names_of(self.name_x, self.name_o)
     }
 }
 
@@ -43,7 +57,7 @@ const MATCH: Argument = Argument {
     name: "match",
     kind: Kind::Text("FILE"),
     need: Need::Optional,
-    about: "A match file or a key file, whose names of both players are the title where none is given",
+    about: "A match file or a key file that has the names of the players",
 };
 
 /// Returns the command with its options and help.
@@ -55,7 +69,7 @@ pub(crate) fn command<'a>(alloc: Global) -> Result<Command<'a>, Error> {
         ABOUT_PAGE,
     );
     with(
-        with_all(alloc, command, &[TITLE, MATCH, NUMBERING])?,
+        with_all(alloc, command, &[TITLE, MATCH, NAME_X, NAME_O, NUMBERING])?,
         misplaced_file(alloc),
     )
 }

@@ -2,7 +2,7 @@
 use crate::checks::{check_no_growth_is_left, check_row};
 use crate::records::record_of;
 use bg_match::{Record, Standing};
-use bg_picture::{Numbering, page_text, picture_text};
+use bg_picture::{Numbering, PageWords, page_text, picture_text};
 use std::alloc::Global;
 use std::process::Abort;
 
@@ -26,9 +26,14 @@ fn refused_growths_of_pictures(rt: HostRuntime) {
 
 /// The page of a match, also where memory is refused once.
 fn page(rt: &impl Abort, alloc: Global, record: &Record) -> Vec<u8> {
-    match page_text(alloc, record, "title", Numbering::Mover, 0) {
+    let words = PageWords {
+        title: "title",
+        x: "Anna",
+        o: "",
+    };
+    match page_text(alloc, record, words, Numbering::Mover, 0) {
         Ok(page) => page,
-        Err(_) => page_text(alloc, record, "title", Numbering::Mover, 0).expect(rt, "memory"),
+        Err(_) => page_text(alloc, record, words, Numbering::Mover, 0).expect(rt, "memory"),
     }
 }
 

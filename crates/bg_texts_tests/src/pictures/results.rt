@@ -1,6 +1,6 @@
 //! The results of games in pages.
 use super::games::{BACKGAMMON, GAMMON, SINGLE_GAME};
-use super::pages::{behind, check_parts, page_of};
+use super::pages::{behind, check_parts, page_of, titled};
 use crate::checks::{check_row, text_of};
 use bg_picture::Numbering;
 use std::alloc::Global;
@@ -17,7 +17,7 @@ const DROP: &str = "length 5\nopen 3 1\nX move 8-5 6-5\nO double\nX take\nO roll
 
 /// The page of a transcript without a title.
 fn page(rt: &impl Abort, alloc: Global, transcript: &str) -> Vec<u8> {
-    page_of(rt, alloc, transcript, "", Numbering::Mover, 0)
+    page_of(rt, alloc, transcript, titled(""), Numbering::Mover, 0)
 }
 
 /// What stands behind the start and the result of a game, where that is this.
@@ -29,7 +29,7 @@ fn behind_game<'a>(
     told: &str,
 ) -> &'a str {
     let parts = format!(in alloc;
-        "<li id='start{game}'> .. <li id='result{game}'><a href='#result{game}'>{told}</a>"
+        "<li id='start{game}' .. <a href='#result{game}'>result<span>: {told}</span></a>"
     ).expect(rt, "memory");
     let (start, item) = parts.split_once(" .. ").expect(rt, "two parts");
     behind(rt, behind(rt, page, start), item)
@@ -99,24 +99,21 @@ fn no_result_while_a_game_is_played(rt: HostRuntime) {
     }
 }
 
-const END: &str =
-    "<title>X wins a gammon</title><desc>length 5, game 1; X 2, O 0; cube 1 in the middle; \
-    X: 0 on the bar, 15 off; O: 0 on the bar, 0 off, 1 on 7, 1 on 8, 2 on 12, 1 on 14, 1 on 15, 2 on 17, 1 on 18, \
-    3 on 19, 1 on 20, 1 on 22, 1 on 23; points as X counts</desc>";
+/// All of X's checkers are off.
+const END: &str = "data-at='paaaaaaaaaaaaaaaaaaaaaaaaa\
+    aabbabdbcabbacaaabbaaaaaaa 1 - - 2 0' data-next='X wins a gammon'>";
 
-const AFTER_A_GAMMON: [&str; 13] = [
-    "<p>length 5, game 2; X 2, O 0; cube 1 in the middle; opening</p>\n",
-    "<li id='p37'><a href='#p37'>X roll 3 3</a>",
-    "</svg></li>\n<li id='p38'><a href='#p38'>X move 1-off 1-off 1-off 1-off</a>",
+const AFTER_A_GAMMON: [&str; 10] = [
+    "<li id='p37' data-at='",
+    "<a href='#p37'>X roll 3 3</a></li>\n<li id='p38' ",
     END,
-    "<text x='0' y='25'>length 5, game 1</text><text x='0' y='549'>X wins a gammon</text>",
-    "<text x='564' y='25'>O 0</text><text x='564' y='549'>X 2</text></g></svg></li>\n",
-    "<li id='result1'><a href='#result1'>X wins a gammon, 2 points; X 2, O 0</a>",
+    "<a href='#p38'>X move 1-off 1-off 1-off 1-off</a></li>\n<li id='result1' ",
     END,
-    "<text x='564' y='25'>O 0</text><text x='564' y='549'>X 2</text></g></svg></li>\n",
-    "</ol>\n<h2>game 2; X 2, O 0</h2>\n<ol start='38'>\n<li id='start2'><a href='#start2'>start of game 2</a>",
+    "<a href='#result1'>result<span>: X wins a gammon, 2 points; X 2, O 0</span></a></li>\n</ol>\n\
+    <h2>game 2<span>; X 2, O 0</span></h2>\n<ol start='38' data-game='length 5, game 2'>\n<li id='start2' ",
+    " 1 - - 2 0' data-next='opening'><a href='#start2'>start of game 2</a></li>\n</ol>\n</div>\n",
     "<title>opening</title>",
-    "</svg></li>\n</ol>\n</div>\n</main>\n<script>\n",
+    "<p>length 5, game 2; X 2, O 0; cube 1 in the middle; opening</p>\n</div>\n<script>\n",
     "</script>\n</body>\n</html>\n",
 ];
 
@@ -127,14 +124,15 @@ fn end_of_a_game(rt: HostRuntime) {
     check_parts(&rt, &page, &AFTER_A_GAMMON);
 }
 
-const AFTER_THE_MATCH: [&str; 7] = [
-    "<p>length 1, game 1, Crawford; X 1, O 0; cube 1 in the middle; X wins the match</p>\n",
-    "<li id='p38'><a href='#p38'>X move 2-off 1-off 1-off</a>",
-    "<title>X wins a single game</title><desc>length 1, game 1, Crawford; X 1, O 0; cube 1 in the middle; \
+const AFTER_THE_MATCH: [&str; 6] = [
+    "<li id='p38' data-at='paaaaaaaaaaaaaaaaaaaaaaaaa\
+    kdcaaaaaaaaaaaaaaaaaaaaaaa 1 - - 1 0' data-next='X wins a single game'>",
+    "<a href='#p38'>X move 2-off 1-off 1-off</a></li>\n<li id='result1' ",
+    " 1 - - 1 0' data-next='X wins a single game'><a href='#result1'>result<span>: \
+    X wins a single game, 1 point; X 1, O 0; X wins the match</span></a></li>\n</ol>\n</div>\n",
+    "<title>X wins the match</title><desc>length 1, game 1, Crawford; X 1, O 0; cube 1 in the middle; \
     X: 0 on the bar, 15 off; O: 0 on the bar, 10 off, 2 on 23, 3 on 24; points as X counts</desc>",
-    "</svg></li>\n<li id='result1'><a href='#result1'>X wins a single game, 1 point; X 1, O 0; X wins the match</a>",
-    "<text x='0' y='549'>X wins a single game</text>",
-    "</svg></li>\n</ol>\n</div>\n</main>\n<script>\n",
+    "<p>length 1, game 1, Crawford; X 1, O 0; cube 1 in the middle; X wins the match</p>\n</div>\n<script>\n",
     "</script>\n</body>\n</html>\n",
 ];
 

@@ -1,6 +1,6 @@
 //! The lines of use that stand in the library's documentation, run (`tools/checks/check_uses` compares them).
 use bg_match::{Record, Rules};
-use bg_picture::{Numbering, page_text, picture_text};
+use bg_picture::{Numbering, PageWords, page_text, picture_text};
 use std::test::Fail;
 
 #[test]
@@ -10,7 +10,12 @@ fn pictures_and_pages(rt: HostRuntime) -> Result<(), Fail> {
     let record = Record::new(alloc, 1, 5, Rules::One)?;
     let picture = picture_text(alloc, &record.standing(), Numbering::Mover)?;
     assert!(rt; picture.starts_with(b"<svg "));
-    let page = page_text(alloc, &record, "Anna & Otto", Numbering::Mover, 0)?;
+    let words = PageWords {
+        title: "Anna & Otto",
+        x: "Anna",
+        o: "Otto",
+    };
+    let page = page_text(alloc, &record, words, Numbering::Mover, 0)?;
     assert!(rt; page.starts_with(b"<!DOCTYPE html>"));
     // end
     Ok(())

@@ -1,11 +1,10 @@
 use Rattle.std.specs.Prelude.{codes}
 use Rattle.bg_picture.specs.Pictures.{frame, picture_start, titles_text}
-use Rattle.bg_picture.specs.declared.captions.Caption.TheVariants.{Next}
 use Rattle.bg_picture.proofs.Parts.{three_parts}
 use Rattle.bg_picture.proofs.pictures.put_start.Goals as goal
 
 pub returns : goal.returns
 unfolding picture_start
 returns c =
-    three_parts (codes "<svg xmlns='http://www.w3.org/2000/svg'") frame (titles_text c.args.standing.now Next c.args.reader) _ _ _ _
+    three_parts (codes "<svg xmlns='http://www.w3.org/2000/svg'") frame (titles_text c.args.standing.now c.args.reader) _ _ _ _
     c.in_ok-put_text.ensures c.in_ok-put_frame.ensures c.in_ok-put_titles.ensures

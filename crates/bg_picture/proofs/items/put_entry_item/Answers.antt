@@ -3,7 +3,7 @@ use Rattle.bg_board.specs.declared.players.Player.{Player}
 use Rattle.bg_match.specs.Actor.{actor_of, seat_of}
 use Rattle.bg_text.specs.Entries.EntryText.{IsSeatOf}
 use Rattle.bg_text.proofs.Judged.ReadLines.{seat_acts}
-use Rattle.bg_picture.proofs.items.begin_entry.Goals as goal
+use Rattle.bg_picture.proofs.items.put_entry_item.Goals as goal
 
 pub entry_text-requires : goal.entry_text-requires
 entry_text-requires c =

@@ -4,7 +4,7 @@ use Rattle.bg_picture.specs.Pages.{shared_shapes}
 use Rattle.bg_picture.specs.Shapes.{shapes}
 use Rattle.bg_picture.specs.Stacks.{numbers_text}
 use Rattle.bg_picture.proofs.Parts.{five_parts}
-use Rattle.bg_picture.proofs.pages.put_shared_shapes.Goals as goal
+use Rattle.bg_picture.proofs.page_heads.put_shared_shapes.Goals as goal
 
 pub returns : goal.returns
 unfolding shared_shapes

@@ -1,0 +1,50 @@
+//! The names of the files of a match.
+
+use std::alloc::{AllocError, Global};
+
+/// The name of the index's file, which no match can have.
+const INDEX: &str = "index";
+
+/// Returns the name of a match's files: that of its folder as the search in `searched` found it,
+/// with a hyphen for each sign that an address would have to spell otherwise. If that name is taken,
+/// or is the index's, the number of the match stands behind it.
+pub(crate) fn name_of(
+    alloc: Global,
+    searched: &str,
+    path: &str,
+    id: u64,
+    is_taken: bool,
+) -> Result<String, AllocError> {
+    let mut name = String::new(alloc);
+    for part in shown_part(searched, path).chars() {
+        name.push(if is_plain(part) { part } else { '-' })?;
+    }
+    if name.is_empty() || name.starts_with('.') {
+        name = format!(in alloc; "match{name}")?;
+    }
+    if is_taken || name.as_str() == INDEX {
+        name = format!(in alloc; "{name}-{id}")?;
+    }
+    Ok(name)
+}
+
+/// Returns the part of a path below the folder that was searched, or its last part where it is that
+/// folder.
+fn shown_part<'a>(searched: &str, path: &'a str) -> &'a str {
+    let below = path
+        .strip_prefix(searched.trim_end_matches('/'))
+        .unwrap_or(path)
+        .trim_start_matches('/');
+    if !below.is_empty() {
+        return below;
+    }
+    match path.rsplit_once('/') {
+        Some((_, last)) => last,
+        None => path,
+    }
+}
+
+/// Returns whether an address has this sign as it is.
+fn is_plain(part: char) -> bool {
+    part.is_ascii_alphanumeric() || matches!(part, '.' | '_' | '-')
+}

@@ -1,0 +1,25 @@
+//! Writing files that others read at any moment, where they changed.
+
+use bg_console::failed_at;
+use bg_reports::Ending;
+use bg_system::publish;
+use std::fs;
+use std::fs::File;
+use std::rt::Files;
+
+/// Writes a text to a file, unless it has this text already. Reports where it can't, and ends with
+/// `Failed`.
+pub(crate) fn put<R>(rt: &R, path: &str, text: &[u8]) -> Result<(), Ending>
+where
+    R: Files<File = File> + Eprint + AllocGlobal,
+{
+    if let Ok(old) = fs::read(rt, path) {
+        if old.as_slice() == text {
+            return Ok(());
+        }
+    }
+    match publish(rt, path, text) {
+        Ok(()) => Ok(()),
+        Err(error) => Err(failed_at(rt, path, " could not be written", &error)),
+    }
+}

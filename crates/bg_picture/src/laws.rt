@@ -1,0 +1,27 @@
+//! Laws of the definitions: each is the contract of a function that does nothing.
+ghost use Rattle.bg_picture.specs.Laws.{AmpersandsBeginReferences, EscapedTextsArePlain, ItemNamesDiffer};
+ghost use Rattle.bg_picture.specs.Laws.{DrawingsTellPositions, ItemsTellPositions};
+
+/// States that an escaped text has none of `<`, `>`, `"` and `'`, and each `&` in it begins a
+/// reference to a character.
+pub fn escaped_texts_are_plain()
+    ensures plain { EscapedTextsArePlain }
+    ensures references { AmpersandsBeginReferences }
+{}
+
+/// States that no two items of a page have one name.
+pub fn item_names_differ()
+    ensures { ItemNamesDiffer }
+{}
+
+/// States that the data of a page's item, from which its picture is drawn, are those of one board,
+/// one cube, one pair of dice and one score.
+pub fn items_tell_positions()
+    ensures { ItemsTellPositions }
+{}
+
+/// States that drawings that are one text show one board, one cube and one pair of dice: a picture
+/// tells the position.
+pub fn drawings_tell_positions()
+    ensures { DrawingsTellPositions }
+{}
