@@ -3,7 +3,6 @@ ghost use Rattle.std.specs.Prelude.{◌≡◌, ◌++◌, OnOk, IfOk};
 ghost use Rattle.bg_match.specs.State.{start_of as start_of_terms};
 ghost use Rattle.bg_picture.specs.Pages.{IsPage, PutsEntries, end_text, inner_picture, page_end, page_start};
 ghost use Rattle.bg_picture.specs.Pages.{summary_text};
-ghost use Rattle.bg_picture.specs.Items.{game_start};
 
 use crate::Numbering;
 use crate::descriptions::{put_phase_words, put_standing};
