@@ -45,8 +45,9 @@ fn refusal_of_seat(
 ) -> Option<RestoreCause> {
     let recorder = Recorder::new(rt.alloc(), NO_FAILURE);
     let mut keeper = keeper(rt, &recorder, 1, zero, one);
-    let (seat, outcome) =
-        begun_seat(rt.alloc(), Player::X, TERMS, &mut keeper).expect(rt, "a seat");
+    let (seat, outcome) = begun_seat(rt.alloc(), Player::X, TERMS, &mut keeper).expect(
+        rt, "a seat",
+    );
     assert!(rt; seat.held().is_none() && seat.claim().is_none());
     match outcome {
         Outcome::RestoreFault(cause) => Some(cause),

@@ -143,7 +143,10 @@ fn what_ends_a_save(rt: HostRuntime) {
         ("a_claim", 1, "save 1"),
         ("a_claim", 1, "restart 1"),
     ] {
-        assert!(rt; !is_under_way_after(&rt, before, party, line), "{before}: {line}");
+        assert!(rt;
+            !is_under_way_after(&rt, before, party, line),
+            "{before}: {line}"
+        );
     }
 }
 
@@ -163,7 +166,10 @@ fn what_a_save_outlives(rt: HostRuntime) {
         ("a_claim", 1, "restart 0"),
         ("a_claim", 2, "restart 1"),
     ] {
-        assert!(rt; is_under_way_after(&rt, before, party, line), "{before}: {line}");
+        assert!(rt;
+            is_under_way_after(&rt, before, party, line),
+            "{before}: {line}"
+        );
     }
 }
 
