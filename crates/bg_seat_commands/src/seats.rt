@@ -100,12 +100,7 @@ where
             return Err(wrong(rt, "length out of range"));
         };
         if outcome != Outcome::Restarted {
-            let asked = Asked::File(&table);
-            let saves = OwnSaves {
-                folder,
-                party,
-                asked,
-            };
+            let saves = saves_of(folder, player, &table);
             return Err(stopped(rt, saves, &outcome));
         }
         let known = count_of(process.held());
@@ -152,11 +147,7 @@ where
 
     /// Reports why the seat can't go on.
     fn stopped(&self, outcome: &Outcome) -> Ending {
-        let saves = OwnSaves {
-            folder: self.folder,
-            party: party_of(self.player),
-            asked: Asked::File(&self.table),
-        };
+        let saves = saves_of(self.folder, self.player, &self.table);
         stopped(self.rt, saves, outcome)
     }
 
@@ -182,6 +173,15 @@ where
     /// Returns the number of entries that the seat holds.
     pub(crate) fn held(&self) -> Number {
         count_of(self.process.held())
+    }
+}
+
+/// Returns the saves of a player's seat of a match in a folder.
+fn saves_of<'a>(folder: &'a str, player: Player, table: &'a MatchFile) -> OwnSaves<'a> {
+    OwnSaves {
+        folder,
+        party: party_of(player),
+        asked: Asked::File(table),
     }
 }
 
