@@ -12,7 +12,7 @@ import time
 # A person types when the screen has stood still for so long.
 STILL = 0.03
 # A person waits so long for what is to come.
-MOST_SECONDS = 20
+MOST_SECONDS = 40
 PROMPT = re.compile(r"^your turn, [XO]: ((?:.|\n)*)", re.M)
 # What the legal turns are answered with.
 LISTED = r"turns:|the only turn|can't move"
