@@ -11,11 +11,15 @@ import time
 
 # A person types when the screen has stood still for so long.
 STILL = 0.03
-# A person waits so long for what is to come.
-MOST_SECONDS = 20
+# A person waits so long for what is to come, and so long for the answer to what he types.
+MOST_SECONDS = 40
+PATIENCE = 60
 PROMPT = re.compile(r"^your turn, [XO]: ((?:.|\n)*)", re.M)
-# What the legal turns are answered with.
+# What the legal turns are answered with, and one of them there.
 LISTED = r"turns:|the only turn|can't move"
+TURN = re.compile(r"(?<= )(?:[\w]+-\w+\*?)(?: [\w]+-\w+\*?)*")
+# What stands below an answer: what may be done now, to its last word.
+PROMPTED = r"(?:.|\n)*^your turn, [XO]: (?:.|\n)*?(?:backgammon|drop|reject)\n"
 # What a busy machine may add to a screen: that the referee is not heard, or is again, each time with what may be done
 # now; that a choice waits for it; and how the other player stands.
 SAID_ANEW = r"(?:your turn, [XO]: (?:.|\n)*?(?:backgammon|drop|reject)\n|it is .* turn\n)?"
@@ -43,7 +47,7 @@ class Person:
         self.no_color, self.exports, self.tries = "" if has_colours else "1", exports, list(tries)
         self.raw, self.screen, self.seen, self.changed, self.wrong = "", "", 0, time.time(), []
         self.awaited, self.typed_turns, self.style, self.later, self.prompt = None, [], 0, {}, ""
-        self.lives, self.has_undone, self.pages = [], False, 0
+        self.lives, self.has_undone, self.pages, self.listed, self.typed_at = [], False, 0, "", 0
         self.start()
 
     def start(self):
@@ -103,6 +107,7 @@ class Person:
     def type(self, line, awaited=None):
         """Types a line, or ctrl-D; the screen is to answer with what is awaited, a pattern."""
         self.seen, self.awaited = len(self.screen), (line, awaited) if awaited else None
+        self.typed_at = time.time()
         os.write(self.terminal, CTRL_D if line == "ctrl-D" else f"{line}\n".encode())
 
     def act(self):
@@ -113,16 +118,36 @@ class Person:
         if PROMPT.search(new):
             self.prompt = " ".join(PROMPT.findall(new)[-1].split())
         if self.awaited:
-            if new.count("\n") > 1:
-                self.compare(new)
+            self.compare(self.screen[self.seen:])
         elif PROMPT.search(new):
             self.go_on()
 
+    def has_all(self, line, pattern, new):
+        """Whether the whole answer to a line has come, which may be in parts: a list has as many turns as it says."""
+        if not re.search(pattern, new, re.M):
+            return False
+        if line not in ("l", "legal", "more") or MORE in " ".join(new.split()):
+            return True
+        said = re.search(r"(\d+) turns:", self.listed + new)
+        return said is None or len(turns_in(self.listed + new)) >= int(said[1])
+
     def compare(self, new):
         """Compares what the screen answers with what was to come, and goes on."""
-        (line, pattern), self.awaited = self.awaited, None
-        if not re.search(pattern, new):
+        line, pattern = self.awaited
+        if line == "l" and PLAYED in new:
+            # A turn was played for him meanwhile.
+            self.awaited = None
+            return
+        if line != "more":
+            self.listed = ""
+        has_all = self.has_all(line, pattern, new)
+        if not has_all and time.time() - self.typed_at < PATIENCE:
+            return
+        self.awaited = None
+        if not has_all:
             self.wrong.append(f"{self.player} typed {line!r} and saw {new!r}, and not {pattern!r}")
+            if line == "l":
+                return self.type("l", LISTED)
         if line == "l" and MORE in " ".join(new.split()):
             self.listed = new
             self.type("more", r"\n \S+-\S+")
@@ -136,7 +161,7 @@ class Person:
             self.type(first, rf"so\s+far {first.replace('/', '-')}")
         elif line in self.later and not self.has_undone:
             self.has_undone = True
-            self.type("undo", r"taken\s+back")
+            self.type("undo", rf"taken\s+back{PROMPTED}")
         elif line in self.later:
             self.type(self.later.pop(line))
         else:
@@ -166,8 +191,7 @@ class Person:
             return self.type("move")
         if "the only turn" in listed:
             return self.type("m")
-        turns = re.findall(r"(?<= )(?:[\w]+-\w+\*?)(?: [\w]+-\w+\*?)*", listed.split(":\n", 1)[1].replace("\n", "  "))
-        steps = turns[0].split(" ")
+        steps = turns_in(listed)[0].split(" ")
         self.style = (self.style + 1) % len(STYLES)
         lines = STYLES[self.style](steps)
         self.typed_turns.append(" ".join(steps).replace("*", ""))
@@ -175,6 +199,11 @@ class Person:
             self.later[lines[0]] = lines[1]
             return self.type(lines[0], r"so\s+far " + steps[0].replace("*", ""))
         return self.type(lines[0])
+
+
+def turns_in(listed):
+    """The turns of a list."""
+    return TURN.findall(listed.split("turns:\n", 1)[-1].replace("\n", "  "))
 
 
 def slashed(steps):
