@@ -76,7 +76,7 @@ impl Task {
     /// match and is as clean as a name.
     pub(crate) fn names(self) -> &'static [&'static str] {
         match self {
-            Task::New => &["name-x", "name-o"],
+            Task::New | Task::Page => &["name-x", "name-o"],
             Task::Export => &["x", "o", "date", "event", "place"],
             _ => &[],
         }
