@@ -140,7 +140,7 @@ pub(crate) fn is_shown(row: usize, request: &Request<'_, '_>) -> bool {
                 && page.names().o.is_some_and(|name| name.as_str() == "Otto")
         }
         (34, Request::Board(board)) => {
-            *board.folders == ["a", "b"].as_slice()
+            board.folders == ["a", "b"].as_slice()
                 && (board.out, board.title) == ("p", "Backgammon matches")
                 && (board.numbering, board.is_once) == (Numbering::Mover, true)
         }
