@@ -7,7 +7,7 @@ mod outputs;
 mod stamps;
 
 use crate::board::boards::Boards;
-use bg_console::{check_folder, check_writable, wrong};
+use bg_console::{check_folder, wrong};
 use bg_options::BoardOptions;
 use bg_reports::Ending;
 use std::fs::File;
@@ -31,7 +31,6 @@ where
         return Err(wrong(rt, "the name of a folder is empty"));
     }
     check_folder(rt, options.out, " is no folder: make it first")?;
-    check_writable(rt, options.out)?;
     let mut boards = Boards::new(rt, options);
     for look in 0..u64::MAX {
         if look % LOOKS_OF_SEARCH == 0 {

@@ -26,7 +26,7 @@ nothing, so all may run meanwhile. A match that can't be read is named on the st
 keeps the files that it has.
 
 Runs until it is ended, or with --once until each file is written. Ends with status 0; with 2 where FOLDER
-is no folder or can't be written to, and 1 where writing or memory failed.";
+is no folder, and 1 where writing or memory failed.";
 
 /// The folders whose matches are shown, and the place of the pages.
 #[derive(Clone, Copy)]
