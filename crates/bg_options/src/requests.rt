@@ -10,6 +10,7 @@ use crate::commands::play_loop::LoopOptions;
 use crate::commands::recover::RecoverOptions;
 use crate::commands::referee::RefereeOptions;
 use crate::commands::script::ScriptOptions;
+use crate::commands::serve::ServeOptions;
 use crate::commands::show::ShowOptions;
 use crate::commands::sim::SimOptions;
 use crate::commands::watch::WatchOptions;
@@ -45,6 +46,7 @@ pub enum Request<'m, 'a> {
     Act(ActOptions<'m, 'a>),
     Auto(SeatOptions<'a>),
     Watch(WatchOptions<'a>),
+    Serve(ServeOptions<'a>),
 }
 
 /// The reason why options make no request.
@@ -121,5 +123,6 @@ fn of_task<'m, 'a>(task: Task, options: &'m ArgMatches<'a>) -> Option<Request<'m
         Task::Act => Request::Act(ActOptions::read(options)?),
         Task::Auto => Request::Auto(SeatOptions::read(options)?),
         Task::Watch => Request::Watch(WatchOptions::read(options)?),
+        Task::Serve => Request::Serve(ServeOptions::read(options)?),
     })
 }

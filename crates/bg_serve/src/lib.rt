@@ -1,0 +1,19 @@
+//! A server of matches for browsers: one thread over sockets on the loopback address, and a folder for each match.
+//! What requests and messages mean is `bg_site`'s.
+#![tactic(auto)]
+
+mod channels;
+mod clients;
+mod folders;
+mod limits;
+mod quotas;
+mod seat_files;
+pub mod serve;
+mod servers;
+
+pub use folders::FolderStore;
+pub use limits::{
+    HEAD_SECONDS, HELLO_SECONDS, MOST_BODY, MOST_CLIENTS, MOST_HEAD, MOST_MADE, PING_SECONDS,
+    SILENT_SECONDS, STALL_SECONDS,
+};
+pub use servers::{Server, Turn};
