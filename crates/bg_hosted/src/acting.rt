@@ -98,7 +98,7 @@ impl<K: Keeper> HostedMatch<K> {
 }
 
 /// Whether the entry of a number is the player's, and answers the action.
-fn is_answered(log: &Record, player: Player, number: Number, action: &Action) -> bool
+pub fn is_answered(log: &Record, player: Player, number: Number, action: &Action) -> bool
     ensures { IsTrue result ↔ IsAnswered log.now player number action.now }
 {
     match log.entry(number) {

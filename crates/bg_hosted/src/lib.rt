@@ -8,7 +8,7 @@
 //! assert!(rt; hosted.told() == 1);
 //! // An action has the number of the entry that it is to become, so a repeat acts once.
 //! let acted = hosted.act(Player::X, 1, Action::Roll);
-//! assert!(rt; acted == Acted::OtherEntry(1));
+//! assert!(rt; acted == Acted::OtherEntry);
 //! ```
 #![tactic(auto)]
 
@@ -20,7 +20,7 @@ mod sent_histories;
 mod settling;
 mod waiting;
 
-pub use acting::Acted;
+pub use acting::{Acted, is_answered};
 pub use hosted_matches::HostedMatch;
 pub use laws::what_is_told_is_saved;
 pub use queue_links::{MOST_WAITING, QueueLink};

@@ -12,4 +12,4 @@ mod targets;
 
 pub use messages::{MOST_MESSAGE, Message, parse_act, parse_message};
 pub use seats::{Digest, Seats, digest_of};
-pub use targets::{Part, Target, target_of};
+pub use targets::{Part, Target, is_name, target_of};

@@ -126,8 +126,8 @@ fn count_of(digits: &str) -> Option<u32>
 /// The most bytes of a match's name.
 const MOST_NAME: usize = 64;
 
-/// Whether a match may have a name: it has letters, digits, hyphens and underscores alone, 1 to 64.
-fn is_name(name: &str) -> bool
+/// Whether a match may have a name, which has letters, digits, hyphens and underscores alone, 1 to 64.
+pub fn is_name(name: &str) -> bool
     ensures { result ≡ may_name name.now }
 {
     let bytes = name.as_bytes();

@@ -1,13 +1,16 @@
 //! A client: a connection that speaks HTTP first, and perhaps becomes a socket then.
 
-use crate::channels::{Channel, Step};
-use crate::limits::{HEAD_SECONDS, MOST_BODY, MOST_HEAD, MOST_READS, STALL_SECONDS};
-use bg_site::{Site, Store};
+use crate::limits::{
+    HEAD_SECONDS, HELLO_SECONDS, MOST_BODY, MOST_HEAD, MOST_READS, MOST_WRITES, PING_SECONDS,
+    SILENT_SECONDS, STALL_SECONDS,
+};
+use bg_site::{Channel, Peer, Site, Step, Store};
 use bg_world::Keeper;
 use http_server::{Config, Connection, State};
 use mio::net::TcpStream;
 use std::alloc::Global;
 use std::hash::RandomState;
+use std::io;
 use std::io::ErrorKind;
 
 /// A client of the server.
@@ -17,11 +20,16 @@ pub(crate) struct Client {
     pub(crate) stream: TcpStream,
     /// None once it is a socket.
     http: Option<Connection>,
+    /// Who it is, once its request for a socket was granted.
+    upgraded: Option<Peer>,
     channel: Option<Channel>,
-    /// The second in which it began, or the last answer was made.
+    /// The second in which it began, the last answer was made, or it became a socket.
     since: u64,
     /// The second in which something was sent last, or nothing waited.
     sent: u64,
+    /// The seconds in which it was heard and asked last.
+    heard: u64,
+    asked: u64,
 }
 
 /// What a client may send in a request.
@@ -40,9 +48,12 @@ impl Client {
             alloc,
             stream,
             http: Some(Connection::new(alloc, keys, config())),
+            upgraded: None,
             channel: None,
             since: now,
             sent: now,
+            heard: now,
+            asked: now,
         }
     }
 
@@ -52,9 +63,9 @@ impl Client {
     }
 
     /// Notes that it is gone.
-    pub(crate) fn leave<K: Keeper + Drop, S: Store<K> + Drop>(&mut self, site: &mut Site<K, S>) {
+    pub(crate) fn leave<K: Keeper + Drop, S: Store<K> + Drop>(&self, site: &mut Site<K, S>) {
         if let Some(channel) = &self.channel {
-            site.leave(channel.peer);
+            site.leave(channel.peer());
         }
     }
 
@@ -64,124 +75,199 @@ impl Client {
         site: &mut Site<K, S>,
         now: u64,
     ) -> Step {
-        if self.channel.is_none() {
-            let step = self.step_http(site, now);
-            if step != Step::Waits || self.http.is_some() {
-                return step;
-            }
+        if self.channel.is_some() {
+            return self.step_channel(site, now);
         }
-        let step = match &mut self.channel {
-            Some(channel) => channel.step(&mut self.stream, site, now),
-            None => Step::Gone,
-        };
-        self.note_output(now);
-        step
-    }
-
-    /// Sends what a socket lacks.
-    pub(crate) fn send<K: Keeper + Drop, S: Store<K> + Drop>(
-        &mut self,
-        site: &mut Site<K, S>,
-        now: u64,
-    ) -> Step {
-        let step = match &mut self.channel {
-            Some(channel) => channel.send(&mut self.stream, site),
-            None => Step::Waits,
-        };
-        self.note_output(now);
-        step
-    }
-
-    /// Notes in which second nothing waited to be sent.
-    fn note_output(&mut self, now: u64) {
-        if let Some(channel) = &self.channel {
-            if !channel.has_output() {
-                self.sent = now;
-            }
+        match self.step_http(site, now) {
+            Step::Waits if self.channel.is_some() => self.step_channel(site, now),
+            step => step,
         }
     }
 
-    /// Whether it may stay in this second.
-    pub(crate) fn may_stay<K: Keeper + Drop, S: Store<K> + Drop>(
-        &mut self,
-        site: &mut Site<K, S>,
-        now: u64,
-    ) -> bool {
-        if self.http.is_some() {
-            return now.saturating_sub(self.since) <= HEAD_SECONDS;
-        }
-        let Some(channel) = &mut self.channel else {
-            return false;
-        };
-        if !channel.ask(now) {
-            return false;
-        }
-        if channel.has_output() {
-            return now.saturating_sub(self.sent) <= STALL_SECONDS
-                && self.send(site, now) != Step::Gone;
-        }
-        true
-    }
-
-    /// Reads requests and sends answers. `Waits` where it is to be a socket from now on, too.
+    /// Reads requests and sends answers. It may be a socket then.
     fn step_http<K: Keeper + Drop, S: Store<K> + Drop>(
         &mut self,
         site: &mut Site<K, S>,
         now: u64,
     ) -> Step {
-        let Some(connection) = &mut self.http else {
-            return Step::Gone;
-        };
-        let mut step = Step::More;
         for _ in 0..MOST_READS {
-            let mut moved = false;
-            if connection.wants_read() {
-                match connection.read_from(&mut self.stream) {
-                    Ok(_) => moved = true,
-                    Err(error) if error.kind() == ErrorKind::WouldBlock => {}
-                    Err(error) if error.kind() == ErrorKind::Interrupted => moved = true,
-                    Err(_) => return Step::Gone,
-                }
-            }
+            let Some(connection) = &mut self.http else {
+                return Step::Gone;
+            };
+            let Some(has_read) = read_http(connection, &mut self.stream) else {
+                return Step::Gone;
+            };
             connection.advance(site);
-            if connection.wants_write() {
-                match connection.write_to(&mut self.stream) {
-                    Ok(0) => return Step::Gone,
-                    Ok(_) => {
-                        moved = true;
-                        self.since = now;
-                    }
-                    Err(error) if error.kind() == ErrorKind::WouldBlock => {}
-                    Err(_) => return Step::Gone,
-                }
+            note_upgrade(connection, site, &mut self.upgraded);
+            let Some(has_sent) = write_http(connection, &mut self.stream) else {
+                return Step::Gone;
+            };
+            if has_sent {
+                self.since = now;
                 connection.advance(site);
+                note_upgrade(connection, site, &mut self.upgraded);
             }
-            if connection.is_done() || !moved {
-                step = Step::Waits;
-                break;
+            if connection.is_done() {
+                return self.end_http(site, now);
+            }
+            if !has_read && !has_sent {
+                return Step::Waits;
             }
         }
-        if !connection.is_done() {
-            return step;
-        }
-        if connection.state() != State::Upgraded {
-            return Step::Gone;
-        }
-        self.upgrade(site, now)
+        Step::More
     }
 
-    /// Makes a socket of it.
-    fn upgrade<K: Keeper + Drop, S: Store<K> + Drop>(
+    /// Makes a socket of it, where that was granted.
+    fn end_http<K: Keeper + Drop, S: Store<K> + Drop>(
         &mut self,
         site: &mut Site<K, S>,
         now: u64,
     ) -> Step {
-        let (Some(peer), Some(connection)) = (site.take_upgraded(), self.http.take()) else {
+        let (Some(peer), Some(connection)) = (self.upgraded.take(), self.http.take()) else {
             return Step::Gone;
         };
+        site.come(&peer);
         let (input, output) = connection.into_buffers();
-        self.channel = Some(Channel::new(self.alloc, input, output, peer, now));
+        self.channel = Some(Channel::new(self.alloc, input, output, peer));
+        self.since = now;
         self.sent = now;
+        self.heard = now;
+        self.asked = now;
         Step::Waits
+    }
+
+    /// Reads messages, answers them, and sends what the peer lacks.
+    fn step_channel<K: Keeper + Drop, S: Store<K> + Drop>(
+        &mut self,
+        site: &mut Site<K, S>,
+        now: u64,
+    ) -> Step {
+        for _ in 0..MOST_READS {
+            let Some(channel) = &mut self.channel else {
+                return Step::Gone;
+            };
+            match channel.take_messages(site) {
+                Step::Waits if channel.wants_read() => {}
+                Step::Gone => {
+                    let _ = self.send(site, now);
+                    return Step::Gone;
+                }
+                _ => break,
+            }
+            match channel.read_from(&mut self.stream) {
+                Ok(0) => return Step::Gone,
+                Ok(_) => self.heard = now,
+                Err(error) if error.kind() == ErrorKind::WouldBlock => return self.send(site, now),
+                Err(error) if error.kind() == ErrorKind::Interrupted => {}
+                Err(_) => return Step::Gone,
+            }
+        }
+        match self.send(site, now) {
+            Step::Waits if self.has_output() => Step::Waits,
+            Step::Gone => Step::Gone,
+            _ => Step::More,
+        }
+    }
+
+    /// Whether anything waits for it as a socket.
+    fn has_output(&self) -> bool {
+        match &self.channel {
+            Some(channel) => channel.has_output(),
+            None => false,
+        }
+    }
+
+    /// Sends what waits, and then what the peer of a socket lacks.
+    pub(crate) fn send<K: Keeper + Drop, S: Store<K> + Drop>(
+        &mut self,
+        site: &mut Site<K, S>,
+        now: u64,
+    ) -> Step {
+        let Some(channel) = &mut self.channel else {
+            return Step::Waits;
+        };
+        for _ in 0..MOST_WRITES {
+            if !channel.has_output() {
+                self.sent = now;
+                match channel.pull(site) {
+                    Step::More => {}
+                    step => return step,
+                }
+            }
+            match channel.write_to(&mut self.stream) {
+                Ok(0) => return Step::Gone,
+                Ok(_) => self.sent = now,
+                Err(error) if error.kind() == ErrorKind::WouldBlock => return Step::Waits,
+                Err(error) if error.kind() == ErrorKind::Interrupted => {}
+                Err(_) => return Step::Gone,
+            }
+        }
+        Step::More
+    }
+
+    /// Whether it may stay in this second. A silent peer is asked whether he is there.
+    pub(crate) fn may_stay<K: Keeper + Drop, S: Store<K> + Drop>(
+        &mut self,
+        site: &mut Site<K, S>,
+        now: u64,
+    ) -> bool {
+        let Some(channel) = &mut self.channel else {
+            return now.saturating_sub(self.since) <= HEAD_SECONDS;
+        };
+        let silent = now.saturating_sub(self.heard);
+        if silent > SILENT_SECONDS
+            || !channel.peer().is_known() && now.saturating_sub(self.since) > HELLO_SECONDS
+        {
+            return false;
+        }
+        if silent >= PING_SECONDS && now.saturating_sub(self.asked) >= PING_SECONDS {
+            self.asked = now;
+            if !channel.ask() {
+                return false;
+            }
+        }
+        !self.has_output()
+            || now.saturating_sub(self.sent) <= STALL_SECONDS
+                && self.send(site, now) != Step::Gone
+    }
+}
+
+/// Reads once, where more is wanted. Whether anything came; None where the client is gone.
+fn read_http(connection: &mut Connection, stream: &mut TcpStream) -> Option<bool> {
+    if !connection.wants_read() {
+        return Some(false);
+    }
+    moved(connection.read_from(stream))
+}
+
+/// Writes once, where something waits. Whether anything went; None where the client is gone.
+fn write_http(connection: &mut Connection, stream: &mut TcpStream) -> Option<bool> {
+    if !connection.wants_write() {
+        return Some(false);
+    }
+    match connection.write_to(stream) {
+        Ok(0) => None,
+        written => moved(written),
+    }
+}
+
+/// Whether a read or a write has done anything; None where the client is gone.
+fn moved(count: io::Result<usize>) -> Option<bool> {
+    match count {
+        Ok(_) => Some(true),
+        Err(error) if error.kind() == ErrorKind::WouldBlock => Some(false),
+        Err(error) if error.kind() == ErrorKind::Interrupted => Some(true),
+        Err(_) => None,
+    }
+}
+
+/// Notes who the connection is, right after the site has granted it a socket.
+fn note_upgrade<K: Keeper + Drop, S: Store<K> + Drop>(
+    connection: &Connection,
+    site: &mut Site<K, S>,
+    upgraded: &mut Option<Peer>,
+) {
+    if upgraded.is_none() && connection.state() == State::Upgraded {
+        *upgraded = site.take_upgraded();
     }
 }

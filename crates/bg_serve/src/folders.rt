@@ -171,7 +171,7 @@ impl<'a> Store<Kept<'a>> for FolderStore<'a> {
         }
     }
 
-    fn load(&mut self, name: &str) -> Option<Record> {
+    fn load(&self, name: &str) -> Option<Record> {
         match self.try_load(name) {
             Ok(found) => found,
             Err(_) => None,

@@ -2,8 +2,8 @@
 //! What requests and messages mean is `bg_site`'s.
 #![tactic(auto)]
 
-mod channels;
 mod clients;
+mod crowds;
 mod folders;
 mod limits;
 mod quotas;

@@ -30,5 +30,5 @@ pub const STALL_SECONDS: u64 = 60;
 /// So many reads of a client are made in one turn at most, so that others have theirs.
 pub(crate) const MOST_READS: u32 = 8;
 
-/// The most bytes that wait for a client before nothing more is read of him.
-pub(crate) const MOST_WAITING: usize = 65_536;
+/// So many writes to a client are made in one turn at most.
+pub(crate) const MOST_WRITES: u32 = 64;

@@ -1,7 +1,7 @@
 //! The command that serves matches to browsers.
 
 use crate::servers::Server;
-use bg_console::{failed_for, own_folder, say, say_failures, say_number};
+use bg_console::{failed_for, own_folder, say, say_failures};
 use bg_options::ServeOptions;
 use bg_processes::Failures;
 use bg_reports::Ending;
@@ -17,8 +17,7 @@ pub fn run(rt: &HostRuntime, options: ServeOptions<'_>) -> Result<Ending, Ending
     tell_begin(rt, &server);
     for _ in 0..u64::MAX {
         match server.turn() {
-            Ok(turn) if turn.made > 0 => say_number(rt, "", turn.made, " matches made"),
-            Ok(_) => {}
+            Ok(turn) => tell_made(rt, turn.made),
             Err(error) => return Err(failed_for(rt, "the sockets can't be waited for", &error)),
         }
         say_failures(rt, &failures, options.folder);
@@ -26,11 +25,27 @@ pub fn run(rt: &HostRuntime, options: ServeOptions<'_>) -> Result<Ending, Ending
     Ok(Ending::Served)
 }
 
-/// Says how many matches are served, and where.
+/// Says what is served, and where.
 fn tell_begin(rt: &HostRuntime, server: &Server<'_>) {
+    for name in server.left_out() {
+        say(
+            rt,
+            format_args!("the match in {name} is left out: it can't be read, or another process uses it"),
+        );
+    }
     let count = server.matches();
     match server.address() {
-        Ok(address) => say(rt, format_args!("{count} matches are served at http://{address}")),
-        Err(_) => say_number(rt, "", count as u64, " matches are served"),
+        Ok(address) => say(
+            rt,
+            format_args!("serving at http://{address}, matches: {count}"),
+        ),
+        Err(_) => say(rt, format_args!("serving, matches: {count}")),
+    }
+}
+
+/// Says that matches were made, if any were.
+fn tell_made(rt: &HostRuntime, made: u64) {
+    if made > 0 {
+        say(rt, format_args!("matches made: {made}"));
     }
 }

@@ -1,24 +1,20 @@
 //! The server: its listener, its clients, and its turns.
 
-use crate::channels::Step;
 use crate::clients::Client;
 use crate::folders::{FolderStore, Kept};
-use crate::limits::{MOST_CLIENTS, MOST_MADE};
+use crate::limits::MOST_MADE;
 use crate::quotas::Quota;
 use bg_processes::{Failures, FolderLock};
+use bg_requests::is_name;
 use bg_site::Site;
 use mio::net::TcpListener;
 use mio::{Events, Interest, Poll, Token};
-use std::hash::RandomState;
 use std::io;
 use std::net::{Ipv4Addr, SocketAddr};
 use std::time::{Duration, Instant};
 
 /// The token of the listener; that of a client is one more than its index.
-const LISTENER: Token = Token(0);
-
-/// So many connections are accepted in one turn at most.
-const MOST_ACCEPTED: u32 = 64;
+pub(crate) const LISTENER: Token = Token(0);
 
 /// What happened in a turn.
 #[derive(Clone, Copy, Debug, PartialEq, Eq)]
@@ -32,23 +28,25 @@ pub struct Turn {
 /// The server of a folder.
 #[derive(Drop)]
 pub struct Server<'a> {
-    rt: &'a HostRuntime,
-    site: Site<Kept<'a>, FolderStore<'a>>,
+    pub(crate) rt: &'a HostRuntime,
+    pub(crate) site: Site<Kept<'a>, FolderStore<'a>>,
+    /// The names of what looks like a match in the folder, and can't be served.
+    left_out: Vec<String>,
     /// The locks of folders that others might play over.
     locks: Vec<FolderLock>,
-    poll: Poll,
-    events: Events,
-    listener: TcpListener,
-    clients: Vec<Option<Client>>,
-    /// The indices of clients that may have more to read.
-    again: Vec<usize>,
+    pub(crate) poll: Poll,
+    pub(crate) events: Events,
+    pub(crate) listener: TcpListener,
+    pub(crate) clients: Vec<Option<Client>>,
+    /// The indices of clients that may have more to do.
+    pub(crate) again: Vec<usize>,
     quota: Quota,
     start: Instant,
     /// The second in which all were looked at last, and the tenth in which matches ticked last.
-    looked: u64,
+    pub(crate) looked: u64,
     ticked: u64,
     /// Whether connections may wait to be accepted.
-    is_accepting: bool,
+    pub(crate) is_accepting: bool,
 }
 
 impl<'a> Server<'a> {
@@ -69,6 +67,7 @@ impl<'a> Server<'a> {
         let mut server = Server {
             rt,
             site: Site::new(rt.alloc(), FolderStore::new(rt, folder, failures)),
+            left_out: Vec::new(rt.alloc()),
             locks: Vec::new(rt.alloc()),
             poll,
             events: Events::with_capacity(rt.alloc(), 256)?,
@@ -85,18 +84,34 @@ impl<'a> Server<'a> {
         Ok(server)
     }
 
-    /// Takes in the matches of the folder. What is no match, or can't be read, is passed over.
+    /// Takes in the matches of the folder. What is no match is passed over; what can't be served is left out.
     fn open_all(&mut self) -> io::Result<()> {
-        let names = self.site.store().names()?;
-        for name in names.iter() {
-            if let Ok(Some((found, lock))) = self.site.store().find(name.as_str()) {
-                if let Some(lock) = lock {
-                    self.locks.push(lock)?;
-                }
-                let _ = self.site.open(found);
+        for name in self.site.store().names()? {
+            if !is_name(name.as_str()) {
+                continue;
+            }
+            if !self.open(name.as_str())? {
+                self.left_out.push(name)?;
             }
         }
         Ok(())
+    }
+
+    /// Takes in the match of a folder, if it is that of one. Whether it could be served.
+    fn open(&mut self, name: &str) -> io::Result<bool> {
+        let Ok(found) = self.site.store().find(name) else {
+            return Ok(false);
+        };
+        let Some((found, lock)) = found else {
+            return Ok(true);
+        };
+        if !self.site.open(found) {
+            return Ok(false);
+        }
+        if let Some(lock) = lock {
+            self.locks.push(lock)?;
+        }
+        Ok(true)
     }
 
     /// The address that it listens on.
@@ -112,6 +127,12 @@ impl<'a> Server<'a> {
         self.site.len()
     }
 
+    /// The folders whose matches are not served, as they can't be read, another process plays over them, or there are
+    /// too many.
+    pub fn left_out(&self) -> &[String] {
+        &self.left_out
+    }
+
     /// Waits until something is to be done, and does it.
     ///
     /// # Errors
@@ -122,9 +143,9 @@ impl<'a> Server<'a> {
         let since = Instant::now(self.rt)?.duration_since(self.start);
         let now = since.as_secs();
         self.site.allow_making(self.quota.has_any(now));
-        self.accept(now)?;
+        self.accept(now);
         self.step_ready(now)?;
-        self.tick(since.as_millis() as u64 / 100);
+        self.tick(tenths_of(since));
         self.look(now);
         if self.site.has_news() {
             self.send_news(now)?;
@@ -133,11 +154,7 @@ impl<'a> Server<'a> {
         self.quota.take(made);
         Ok(Turn {
             made,
-            clients: self
-                .clients
-                .iter()
-                .filter(|client| client.is_some())
-                .count(),
+            clients: self.clients.iter().flatten().count(),
         })
     }
 
@@ -161,105 +178,6 @@ impl<'a> Server<'a> {
         }
     }
 
-    /// Accepts connections. One more than are allowed is closed at once.
-    fn accept(&mut self, now: u64) -> io::Result<()> {
-        for event in &self.events {
-            if event.token() == LISTENER {
-                self.is_accepting = true;
-            }
-        }
-        for _ in 0..MOST_ACCEPTED {
-            if !self.is_accepting {
-                return Ok(());
-            }
-            match self.listener.accept() {
-                Ok((stream, _)) => self.take_in(stream, now)?,
-                Err(error) if error.kind() == io::ErrorKind::WouldBlock => self.is_accepting =
-                    false,
-                // As where there are too many open files: it is tried again in the next second.
-                Err(_) => return Ok(()),
-            }
-        }
-        Ok(())
-    }
-
-    /// Takes a client in, where there is room.
-    fn take_in(&mut self, stream: mio::net::TcpStream, now: u64) -> io::Result<()> {
-        let free = self.free_index();
-        if free >= MOST_CLIENTS {
-            return Ok(());
-        }
-        let mut stream = stream;
-        let _ = stream.set_nodelay(true);
-        self.poll.registry().register(
-            &mut stream,
-            Token(free + 1),
-            Interest::READABLE | Interest::WRITABLE,
-        )?;
-        let keys = RandomState::new(self.rt)?;
-        let client = Some(Client::new(self.rt.alloc(), keys, stream, now));
-        if free < self.clients.len() {
-            self.clients[free] = client;
-        } else {
-            self.clients.push(client)?;
-        }
-        self.again.push(free)?;
-        Ok(())
-    }
-
-    /// The first index without a client.
-    fn free_index(&self) -> usize {
-        for index in 0..self.clients.len() {
-            if self.clients[index].is_none() {
-                return index;
-            }
-        }
-        self.clients.len()
-    }
-
-    /// Lets the clients step whose sockets are ready, and those that had more to read.
-    fn step_ready(&mut self, now: u64) -> io::Result<()> {
-        let mut ready = Vec::new(self.rt.alloc());
-        for index in 0..self.again.len() {
-            ready.push(self.again[index])?;
-        }
-        self.again.clear();
-        for event in &self.events {
-            let Token(token) = event.token();
-            if token > 0 {
-                ready.push(token - 1)?;
-            }
-        }
-        for index in ready.iter() {
-            self.step(*index, now)?;
-        }
-        Ok(())
-    }
-
-    /// Lets a client step.
-    fn step(&mut self, index: usize, now: u64) -> io::Result<()> {
-        let Some(Some(client)) = self.clients.get_mut(index) else {
-            return Ok(());
-        };
-        match client.step(&mut self.site, now) {
-            Step::Waits => {}
-            Step::More => self.again.push(index)?,
-            Step::Gone => self.close(index),
-        }
-        Ok(())
-    }
-
-    /// Lets go of a client.
-    fn close(&mut self, index: usize) {
-        if let Some(slot) = self.clients.get_mut(index) {
-            if let Some(client) = slot {
-                client.leave(&mut self.site);
-                let _ = self.poll.registry().deregister(&mut client.stream);
-            }
-            *slot = None;
-        }
-    }
-
     /// Lets matches tick that have something left to do, ten times a second.
     fn tick(&mut self, tenth: u64) {
         if self.site.is_restless() && tenth != self.ticked {
@@ -267,38 +185,11 @@ impl<'a> Server<'a> {
             self.site.tick();
         }
     }
+}
 
-    /// Looks once a second whether each client may stay.
-    fn look(&mut self, now: u64) {
-        if now == self.looked {
-            return;
-        }
-        self.looked = now;
-        self.is_accepting = true;
-        for index in 0..self.clients.len() {
-            let stays = match &mut self.clients[index] {
-                Some(client) => client.may_stay(&mut self.site, now),
-                None => true,
-            };
-            if !stays {
-                self.close(index);
-            }
-        }
-    }
-
-    /// Sends what each client lacks.
-    fn send_news(&mut self, now: u64) -> io::Result<()> {
-        for index in 0..self.clients.len() {
-            let step = match &mut self.clients[index] {
-                Some(client) if client.is_live() => client.send(&mut self.site, now),
-                _ => Step::Waits,
-            };
-            match step {
-                Step::Waits => {}
-                Step::More => self.again.push(index)?,
-                Step::Gone => self.close(index),
-            }
-        }
-        Ok(())
-    }
+/// How many tenths of a second there are in a time.
+fn tenths_of(time: Duration) -> u64 {
+    time.as_secs()
+        .saturating_mul(10)
+        .saturating_add(u64::from(time.subsec_millis() / 100))
 }

@@ -1,11 +1,10 @@
 //! What a request is answered.
 
-use crate::headers::{STYLE, TEXT, add_common, answer_fixed, answer_page, answer_script, refuse};
-use crate::pages::{HOME_PAGE, MATCH_PAGE};
+use crate::files::Asked;
 use crate::places::Store;
 use crate::requests::is_own_origin;
 use crate::sites::Site;
-use crate::style::STYLE_TEXT;
+use bg_pages::{Page, add_common, answer_line, answer_page, answer_script, answer_style, refuse};
 use bg_requests::{Part, Target, target_of};
 use bg_world::Keeper;
 use bytes::Bytes;
@@ -21,17 +20,30 @@ impl<K: Keeper + Drop, S: Store<K> + Drop> Service for Site<K, S> {
         request: &Request<Bytes>,
         response: &mut Response,
     ) -> Result<(), AllocError> {
+        if self.answer(request, response).is_err() {
+            response.clear();
+            response.status = StatusCode::SERVICE_UNAVAILABLE;
+        }
+        Ok(())
+    }
+}
+
+impl<K: Keeper + Drop, S: Store<K> + Drop> Site<K, S> {
+    /// Answers a request.
+    fn answer(
+        &mut self,
+        request: &Request<Bytes>,
+        response: &mut Response,
+    ) -> Result<(), AllocError> {
         add_common(response)?;
         match request.method().as_str() {
             "GET" | "HEAD" => self.get(request, response),
-            "POST" if !is_own_origin(request) => {
-                refuse(
-                    response,
-                    StatusCode::FORBIDDEN,
-                    "this comes from a page of another site\n",
-                )
-            }
-            "POST" => self.post(request, response),
+            "POST" if is_own_origin(request) => self.post(request, response),
+            "POST" => refuse(
+                response,
+                StatusCode::FORBIDDEN,
+                "this comes from a page of another site\n",
+            ),
             _ => refuse(
                 response,
                 StatusCode::METHOD_NOT_ALLOWED,
@@ -39,17 +51,15 @@ impl<K: Keeper + Drop, S: Store<K> + Drop> Service for Site<K, S> {
             ),
         }
     }
-}
 
-impl<K: Keeper + Drop, S: Store<K> + Drop> Site<K, S> {
     /// Answers a request that changes nothing.
     fn get(&mut self, request: &Request<Bytes>, response: &mut Response) -> Result<(), AllocError> {
         match target_of(request.uri().path()) {
-            Target::Home => answer_page(response, HOME_PAGE, false),
-            Target::Play => answer_page(response, MATCH_PAGE, false),
+            Target::Home => answer_page(response, Page::Home),
+            Target::Play => answer_page(response, Page::Match),
             Target::Script => answer_script(response),
-            Target::Style => answer_fixed(response, STYLE, STYLE_TEXT),
-            Target::Health => answer_fixed(response, TEXT, "ok\n"),
+            Target::Style => answer_style(response),
+            Target::Health => answer_line(response, "ok\n"),
             Target::Matches => self.list(request, response),
             Target::PlayLive => self.upgrade(request, None, response),
             Target::Of(name, part) => match self.by_name(name) {
@@ -68,19 +78,24 @@ impl<K: Keeper + Drop, S: Store<K> + Drop> Site<K, S> {
         part: Part,
         response: &mut Response,
     ) -> Result<(), AllocError> {
-        match part {
-            Part::Page => answer_page(response, MATCH_PAGE, false),
-            Part::Embed => answer_page(response, MATCH_PAGE, true),
-            Part::Live => self.upgrade(request, Some(index), response),
-            Part::Actions => refuse(
-                response,
-                StatusCode::METHOD_NOT_ALLOWED,
-                "actions are posted\n",
-            ),
-            Part::State => self.answer_state(index, response),
-            Part::StateAfter(count) => self.answer_earlier(index, count, response),
-            Part::Transcript | Part::Mat | Part::Picture => self.answer_file(index, part, response),
-        }
+        let asked = match part {
+            Part::Page => return answer_page(response, Page::Match),
+            Part::Embed => return answer_page(response, Page::Embedded),
+            Part::Live => return self.upgrade(request, Some(index), response),
+            Part::Actions => {
+                return refuse(
+                    response,
+                    StatusCode::METHOD_NOT_ALLOWED,
+                    "actions are posted\n",
+                );
+            }
+            Part::State => Asked::State(None),
+            Part::StateAfter(count) => Asked::StateAfter(count),
+            Part::Transcript => Asked::Transcript,
+            Part::Mat => Asked::Mat,
+            Part::Picture => Asked::Picture,
+        };
+        self.answer_asked(index, asked, response)
     }
 
     /// Answers a request that may change something.

@@ -1,13 +1,13 @@
-//! Requests for what there is of a match.
+//! Requests for texts about a match.
 
 use crate::answering::missing;
-use crate::headers::{JSON, SVG, TEXT, answer_text, refuse};
 use crate::places::Store;
 use crate::sites::Site;
+use bg_board::Player;
 use bg_mat::export_mat;
 use bg_match::{Number, Record};
+use bg_pages::{Kind, answer_text, refuse};
 use bg_picture::{Numbering, picture_text};
-use bg_requests::Part;
 use bg_states::state_text;
 use bg_text::transcript_text;
 use bg_world::Keeper;
@@ -15,81 +15,96 @@ use http::StatusCode;
 use http_server::Response;
 use std::alloc::{AllocError, Global};
 
-impl<K: Keeper + Drop, S: Store<K> + Drop> Site<K, S> {
-    /// Answers with the state of a match, for those who watch.
-    pub(crate) fn answer_state(
-        &mut self,
-        index: usize,
-        response: &mut Response,
-    ) -> Result<(), AllocError> {
-        match self.state_of(index, None)? {
-            Some(text) => answer_text(response, JSON, text),
-            None => unreadable(response),
-        }
-    }
+/// A text about a match.
+#[derive(Clone, Copy, Debug, PartialEq, Eq)]
+pub(crate) enum Asked {
+    /// The state, as a player is told it, or those who watch.
+    State(Option<Player>),
+    /// The state after so many entries, for those who watch.
+    StateAfter(Number),
+    Transcript,
+    /// The match file of other programs.
+    Mat,
+    Picture,
+}
 
-    /// Answers with the state of a match after so many of its entries.
-    pub(crate) fn answer_earlier(
-        &mut self,
-        index: usize,
-        count: Number,
-        response: &mut Response,
-    ) -> Result<(), AllocError> {
-        let alloc = self.alloc;
-        let found = self.with_record(index, |record| earlier_state(alloc, record, count));
-        match found {
-            Some(Ok(Some(text))) => answer_text(response, JSON, text),
-            Some(Ok(None)) => missing(response),
-            Some(Err(error)) => Err(error),
-            None => unreadable(response),
-        }
-    }
-
-    /// Answers with a file of a match.
-    pub(crate) fn answer_file(
-        &mut self,
-        index: usize,
-        part: Part,
-        response: &mut Response,
-    ) -> Result<(), AllocError> {
-        let alloc = self.alloc;
-        let kind = if part == Part::Picture { SVG } else { TEXT };
-        let found = self.with_record(index, |record| match part {
-            Part::Mat => export_mat(alloc, record),
-            Part::Picture => picture_text(alloc, &record.standing(), Numbering::X),
-            _ => transcript_text(alloc, record),
-        });
-        match found {
-            Some(Ok(text)) => answer_text(response, kind, text),
-            Some(Err(error)) => Err(error),
-            None => unreadable(response),
-        }
-    }
-
-    /// Returns what is made of the record of a match; None where it can't be read.
-    fn with_record<T, F: FnOnce(&Record) -> T>(&mut self, index: usize, make: F) -> Option<T> {
-        let place = self.places.get(index)?;
-        if let Some(hosted) = &place.hosted {
-            return hosted.shown().map(make);
-        }
-        match self.store.load(place.name.as_str()) {
-            Some(record) => Some(make(&record)),
-            None => None,
+impl Asked {
+    /// Returns what kind of text it is.
+    fn kind(self) -> Kind {
+        match self {
+            Asked::State(_) | Asked::StateAfter(_) => Kind::Json,
+            Asked::Transcript | Asked::Mat => Kind::Plain,
+            Asked::Picture => Kind::Picture,
         }
     }
 }
 
-/// Returns the state of a match after so many of its entries; None where it has fewer.
-fn earlier_state(
-    alloc: Global,
-    record: &Record,
-    count: Number,
-) -> Result<Option<Vec<u8>>, AllocError> {
+/// What comes of asking for a text about a match.
+#[derive(Drop)]
+pub(crate) enum Given {
+    Text(Vec<u8>),
+    /// The match has no such text, as it has fewer entries.
+    Missing,
+    /// The match can't be read.
+    Unreadable,
+}
+
+impl<K: Keeper + Drop, S: Store<K> + Drop> Site<K, S> {
+    /// Answers with a text about a match.
+    pub(crate) fn answer_asked(
+        &self,
+        index: usize,
+        asked: Asked,
+        response: &mut Response,
+    ) -> Result<(), AllocError> {
+        match self.give(index, asked)? {
+            Given::Text(text) => answer_text(response, asked.kind(), text),
+            Given::Missing => missing(response),
+            Given::Unreadable => refuse(
+                response,
+                StatusCode::SERVICE_UNAVAILABLE,
+                "the match can't be read\n",
+            ),
+        }
+    }
+
+    /// Returns a text about a match.
+    pub(crate) fn give(&self, index: usize, asked: Asked) -> Result<Given, AllocError> {
+        let Some(place) = self.places.get(index) else {
+            return Ok(Given::Unreadable);
+        };
+        if place.is_live() {
+            return match place.held() {
+                Some(record) => text_of(self.alloc, record, asked),
+                None => Ok(Given::Unreadable),
+            };
+        }
+        match self.store.load(place.name.as_str()) {
+            Some(record) => text_of(self.alloc, &record, asked),
+            None => Ok(Given::Unreadable),
+        }
+    }
+}
+
+/// Returns a text about the match of a record.
+fn text_of(alloc: Global, record: &Record, asked: Asked) -> Result<Given, AllocError> {
+    let text = match asked {
+        Asked::State(seat) => state_text(alloc, record, seat)?,
+        Asked::StateAfter(count) => return state_after(alloc, record, count),
+        Asked::Transcript => transcript_text(alloc, record)?,
+        Asked::Mat => export_mat(alloc, record)?,
+        Asked::Picture => picture_text(alloc, &record.standing(), Numbering::X)?,
+    };
+    Ok(Given::Text(text))
+}
+
+/// Returns the state of a match after so many of its entries.
+fn state_after(alloc: Global, record: &Record, count: Number) -> Result<Given, AllocError> {
     if count > record.len() {
-        return Ok(None);
+        return Ok(Given::Missing);
     }
     let Ok(mut front) = Record::new(alloc, record.id(), record.length(), record.rules()) else {
-        return Ok(None);
+        return Ok(Given::Missing);
     };
     front.reserve(count)?;
     for before in 0..count {
@@ -97,14 +112,5 @@ fn earlier_state(
             let _ = front.push(entry.copy());
         }
     }
-    Ok(Some(state_text(alloc, &front, None)?))
-}
-
-/// Answers that a match can't be read.
-fn unreadable(response: &mut Response) -> Result<(), AllocError> {
-    refuse(
-        response,
-        StatusCode::SERVICE_UNAVAILABLE,
-        "the match can't be read\n",
-    )
+    Ok(Given::Text(state_text(alloc, &front, None)?))
 }

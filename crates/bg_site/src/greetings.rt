@@ -1,40 +1,35 @@
 //! What a peer is told beside the state: which match it is, and who is there.
 
-use crate::places::{Place, Presence};
+use crate::places::Presence;
 use bg_board::Player;
-use bg_states::put_quoted;
-use bg_system::Name;
-use bg_text::{letter, put_number, put_text};
+use bg_states::{letter_of, put_quoted, truth};
+use bg_system::{Name, Names};
+use bg_text::{put_number, put_text};
 use std::alloc::{AllocError, Global};
 
 /// Returns which match a peer looks at, how its players are called, and whose seat he has.
-pub(crate) fn greeting_text<K>(
+pub(crate) fn greeting_text(
     alloc: Global,
-    place: &Place<K>,
+    name: &str,
+    names: &Names,
     seat: Option<Player>,
 ) -> Result<Vec<u8>, AllocError> {
     let mut out = Vec::new(alloc);
     put_text(&mut out, "{\"match\":")?;
-    put_quoted(&mut out, place.name.as_str())?;
-    put_names(&mut out, &place.names.x, &place.names.o)?;
+    put_quoted(&mut out, name)?;
+    put_names(&mut out, names)?;
     put_text(&mut out, ",\"you\":\"")?;
-    if let Some(player) = seat {
-        put_text(&mut out, letter(player))?;
-    }
+    put_text(&mut out, letter_of(seat))?;
     put_text(&mut out, "\"}")?;
     Ok(out)
 }
 
 /// Adds how the players are called.
-pub(crate) fn put_names(
-    out: &mut Vec<u8>,
-    x: &Option<Name>,
-    o: &Option<Name>,
-) -> Result<(), AllocError> {
+pub(crate) fn put_names(out: &mut Vec<u8>, names: &Names) -> Result<(), AllocError> {
     put_text(out, ",\"names\":[")?;
-    put_name(out, x)?;
+    put_name(out, &names.x)?;
     put_text(out, ",")?;
-    put_name(out, o)?;
+    put_name(out, &names.o)?;
     put_text(out, "]")
 }
 
@@ -64,9 +59,4 @@ pub(crate) fn put_presence(out: &mut Vec<u8>, presence: Presence) -> Result<(), 
     put_text(out, ",")?;
     put_number(out, presence.watching.into())?;
     put_text(out, "]")
-}
-
-/// How JSON says that something holds, or not.
-fn truth(holds: bool) -> &'static str {
-    if holds { "true" } else { "false" }
 }

@@ -1,10 +1,11 @@
 //! Lists of matches.
 
 use crate::greetings::{put_names, put_presence};
-use crate::places::Place;
+use crate::places::{Place, Summary};
 use crate::requests::query_part;
-use bg_states::put_quoted;
-use bg_text::{letter, put_number, put_text};
+use bg_states::{letter_of, put_quoted};
+use bg_system::Name;
+use bg_text::{put_number, put_text};
 use std::alloc::{AllocError, Global};
 
 /// So many matches stand on a page.
@@ -12,109 +13,126 @@ const PAGE: usize = 50;
 
 /// Which matches are asked for.
 #[derive(Clone, Copy, Debug, PartialEq, Eq)]
-pub(crate) struct Asked<'a> {
+pub(crate) struct Wanted<'a> {
     /// Whether those that have ended.
-    pub(crate) finished: bool,
-    /// From 1.
-    pub(crate) page: usize,
+    is_finished: bool,
+    /// How many pages stand before the one that is wanted.
+    before: u32,
     /// What the name of a player, or of the match, is to have in it.
-    pub(crate) search: &'a str,
+    search: &'a str,
 }
 
-impl<'a> Asked<'a> {
+impl<'a> Wanted<'a> {
     /// Returns what a query asks for: `list=finished`, `page=N`, `search=TEXT`.
-    pub(crate) fn of(query: Option<&'a str>) -> Asked<'a> {
-        let page = match query_part(query, "page").unwrap_or("1").parse::<u32>() {
-            Ok(page) => page.max(1) as usize,
-            Err(_) => 1,
-        };
-        Asked {
-            finished: query_part(query, "list") == Some("finished"),
-            page,
+    pub(crate) fn of(query: Option<&'a str>) -> Wanted<'a> {
+        Wanted {
+            is_finished: query_part(query, "list") == Some("finished"),
+            before: pages_before(query_part(query, "page")),
             search: query_part(query, "search").unwrap_or(""),
         }
     }
 
     /// Whether a match is among those that are asked for.
     fn takes<K>(&self, place: &Place<K>) -> bool {
-        place.summary.winner.is_some() == self.finished
-            && (self.search.is_empty() || has_name(place, self.search))
+        place.summary.winner.is_some() == self.is_finished
+            && (has_text(&place.names.x, self.search)
+                || has_text(&place.names.o, self.search)
+                || place.name.as_str().contains(self.search))
     }
 }
 
-/// Whether a name of a match has a text in it.
-fn has_name<K>(place: &Place<K>, search: &str) -> bool {
-    if place.name.as_str().contains(search) {
-        return true;
+/// Returns how many pages stand before the one of this number, which is counted from 1.
+fn pages_before(digits: Option<&str>) -> u32 {
+    match digits.unwrap_or("1").parse::<u32>() {
+        Ok(page) => page.saturating_sub(1),
+        Err(_) => 0,
     }
-    for name in [&place.names.x, &place.names.o] {
-        if let Some(name) = name {
-            if name.as_str().contains(search) {
-                return true;
-            }
-        }
+}
+
+/// Whether there is a name, which has a text in it.
+fn has_text(name: &Option<Name>, search: &str) -> bool {
+    match name {
+        Some(name) => name.as_str().contains(search),
+        None => false,
     }
-    false
 }
 
 /// Returns a page of a list, those with the latest news first.
 pub(crate) fn list_text<K>(
     alloc: Global,
     places: &[Place<K>],
-    asked: Asked<'_>,
+    wanted: &Wanted<'_>,
 ) -> Result<Vec<u8>, AllocError> {
-    let mut found: Vec<(u64, usize)> = Vec::new(alloc);
-    for index in 0..places.len() {
-        if asked.takes(&places[index]) {
-            found.push((u64::MAX - places[index].news, index))?;
-        }
-    }
-    found.sort()?;
+    let found = found_by(alloc, places, wanted)?;
     let mut out = Vec::new(alloc);
     put_text(&mut out, "{\"count\":")?;
     put_number(&mut out, found.len() as u64)?;
     put_text(&mut out, ",\"page\":")?;
-    put_number(&mut out, asked.page as u64)?;
+    put_number(&mut out, u64::from(wanted.before) + 1)?;
     put_text(&mut out, ",\"pages\":")?;
     put_number(&mut out, found.len().div_ceil(PAGE).max(1) as u64)?;
     put_text(&mut out, ",\"matches\":[")?;
-    put_rows(
-        &mut out,
-        places,
-        &found,
-        (asked.page - 1).saturating_mul(PAGE),
-    )?;
+    let start = (wanted.before as usize).saturating_mul(PAGE);
+    put_rows(&mut out, places, rows_from(&found, start))?;
     put_text(&mut out, "]}")?;
     Ok(out)
 }
 
-/// Adds the matches of a page, which begins at this one.
+/// Returns the places of the matches that are asked for, those with the latest news first.
+fn found_by<K>(
+    alloc: Global,
+    places: &[Place<K>],
+    wanted: &Wanted<'_>,
+) -> Result<Vec<(u64, usize)>, AllocError> {
+    let mut found = Vec::new(alloc);
+    for (index, place) in places.iter().enumerate() {
+        if wanted.takes(place) {
+            found.push((u64::MAX - place.news, index))?;
+        }
+    }
+    found.sort()?;
+    Ok(found)
+}
+
+/// Returns the rows of a page that begins at this one.
+fn rows_from(found: &[(u64, usize)], start: usize) -> &[(u64, usize)] {
+    let start = start.min(found.len());
+    let end = start.saturating_add(PAGE).min(found.len());
+    &found[start..end]
+}
+
+/// Adds the matches of a page, with commas between them.
 fn put_rows<K>(
     out: &mut Vec<u8>,
     places: &[Place<K>],
-    found: &[(u64, usize)],
-    start: usize,
+    rows: &[(u64, usize)],
 ) -> Result<(), AllocError> {
-    let end = start.saturating_add(PAGE).min(found.len());
-    for at in start..end {
-        if at > start {
-            put_text(out, ",")?;
-        }
-        if let Some(place) = places.get(found[at].1) {
+    let mut comma = "";
+    for row in rows {
+        if let Some(place) = places.get(row.1) {
+            put_text(out, comma)?;
             put_row(out, place)?;
+            comma = ",";
         }
     }
     Ok(())
 }
 
 /// Adds a match.
-pub(crate) fn put_row<K>(out: &mut Vec<u8>, place: &Place<K>) -> Result<(), AllocError> {
-    let summary = place.summary;
+fn put_row<K>(out: &mut Vec<u8>, place: &Place<K>) -> Result<(), AllocError> {
     put_text(out, "{\"match\":")?;
     put_quoted(out, place.name.as_str())?;
-    put_names(out, &place.names.x, &place.names.o)?;
+    put_names(out, &place.names)?;
     put_text(out, ",\"length\":")?;
     put_number(out, place.terms.length.into())?;
+    put_summary(out, place.summary)?;
+    put_text(out, ",")?;
+    put_presence(out, place.presence)?;
+    put_text(out, "}")
+}
+
+/// Adds how a match stands.
+fn put_summary(out: &mut Vec<u8>, summary: Summary) -> Result<(), AllocError> {
     put_text(out, ",\"number\":")?;
     put_number(out, summary.entries.into())?;
     put_text(out, ",\"score\":[")?;
@@ -122,10 +140,8 @@ pub(crate) fn put_row<K>(out: &mut Vec<u8>, place: &Place<K>) -> Result<(), Allo
     put_text(out, ",")?;
     put_number(out, summary.score.1.into())?;
     put_text(out, "],\"turn\":\"")?;
-    put_text(out, summary.turn.map_or("", |player| letter(player)))?;
+    put_text(out, letter_of(summary.turn))?;
     put_text(out, "\",\"winner\":\"")?;
-    put_text(out, summary.winner.map_or("", |player| letter(player)))?;
-    put_text(out, "\",")?;
-    put_presence(out, place.presence)?;
-    put_text(out, "}")
+    put_text(out, letter_of(summary.winner))?;
+    put_text(out, "\"")
 }

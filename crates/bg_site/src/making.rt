@@ -1,11 +1,11 @@
-//! Requests that make a match, or act in one.
+//! Requests that list matches, make one, or act in one.
 
 use crate::answering::missing;
-use crate::headers::{JSON, answer_text, refuse};
-use crate::lists::{Asked, list_text};
+use crate::lists::{Wanted, list_text};
 use crate::places::{Made, Store};
-use crate::requests::{bearer_of, is_json, wanted_of};
+use crate::requests::{bearer_of, is_json, ordered_by};
 use crate::sites::{MOST_MATCHES, Site};
+use bg_pages::{Kind, answer_text, refuse};
 use bg_requests::parse_act;
 use bg_states::put_quoted;
 use bg_text::put_text;
@@ -18,13 +18,13 @@ use std::alloc::{AllocError, Global};
 impl<K: Keeper + Drop, S: Store<K> + Drop> Site<K, S> {
     /// Answers with a page of the list of matches.
     pub(crate) fn list(
-        &mut self,
+        &self,
         request: &Request<Bytes>,
         response: &mut Response,
     ) -> Result<(), AllocError> {
-        let asked = Asked::of(request.uri().query());
-        let text = list_text(self.alloc, &self.places, asked)?;
-        answer_text(response, JSON, text)
+        let wanted = Wanted::of(request.uri().query());
+        let text = list_text(self.alloc, &self.places, &wanted)?;
+        answer_text(response, Kind::Json, text)
     }
 
     /// Makes the match that a request asks for, and answers with the links of its seats: nobody else is told them.
@@ -40,7 +40,7 @@ impl<K: Keeper + Drop, S: Store<K> + Drop> Site<K, S> {
                 "this takes application/json\n",
             );
         }
-        let Some(wanted) = wanted_of(self.alloc, request.body().as_slice()) else {
+        let Some(ordered) = ordered_by(self.alloc, request.body().as_slice()) else {
             return refuse(
                 response,
                 StatusCode::BAD_REQUEST,
@@ -55,13 +55,9 @@ impl<K: Keeper + Drop, S: Store<K> + Drop> Site<K, S> {
             );
         }
         if self.places.len() >= MOST_MATCHES {
-            return refuse(
-                response,
-                StatusCode::SERVICE_UNAVAILABLE,
-                "there is no room for another match\n",
-            );
+            return refuse_full(response);
         }
-        match self.store.make(wanted.terms, wanted.names) {
+        match self.store.make(ordered.terms, ordered.names) {
             Some(made) => self.answer_made(made, response),
             None => refuse(
                 response,
@@ -75,16 +71,11 @@ impl<K: Keeper + Drop, S: Store<K> + Drop> Site<K, S> {
     fn answer_made(&mut self, made: Made<K>, response: &mut Response) -> Result<(), AllocError> {
         let Made { found, x, o } = made;
         let text = links_text(self.alloc, found.name.as_str(), x.as_str(), o.as_str())?;
-        if !self.open(found) {
-            return refuse(
-                response,
-                StatusCode::SERVICE_UNAVAILABLE,
-                "there is no room for another match\n",
-            );
+        if !self.open_made(found) {
+            return refuse_full(response);
         }
-        self.made = self.made.saturating_add(1);
         response.status = StatusCode::CREATED;
-        answer_text(response, JSON, text)
+        answer_text(response, Kind::Json, text)
     }
 
     /// Lets the player act whose secret a request has.
@@ -97,11 +88,11 @@ impl<K: Keeper + Drop, S: Store<K> + Drop> Site<K, S> {
         let Some(index) = self.by_name(name) else {
             return missing(response);
         };
-        let found = match bearer_of(request) {
+        let seat = match bearer_of(request) {
             Some(secret) => self.by_secret(secret),
             None => None,
         };
-        let Some((theirs, player)) = found else {
+        let Some((theirs, player)) = seat else {
             return refuse(
                 response,
                 StatusCode::UNAUTHORIZED,
@@ -119,7 +110,7 @@ impl<K: Keeper + Drop, S: Store<K> + Drop> Site<K, S> {
         match parse_act(text.trim_ascii_end()) {
             Some((number, words)) => {
                 let answer = self.answer_of(index, player, number, words)?;
-                answer_text(response, JSON, answer)
+                answer_text(response, Kind::Json, answer)
             }
             None => refuse(
                 response,
@@ -128,6 +119,15 @@ impl<K: Keeper + Drop, S: Store<K> + Drop> Site<K, S> {
             ),
         }
     }
+}
+
+/// Answers that there are as many matches as may be.
+fn refuse_full(response: &mut Response) -> Result<(), AllocError> {
+    refuse(
+        response,
+        StatusCode::SERVICE_UNAVAILABLE,
+        "there is no room for another match\n",
+    )
 }
 
 /// Returns the links of a match that was made.

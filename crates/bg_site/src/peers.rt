@@ -10,21 +10,13 @@ pub struct Peer {
     pub(crate) seat: Option<Player>,
     /// Whether he was told what match it is.
     pub(crate) is_greeted: bool,
-    /// The version of the state that he was handed last.
+    /// The version of the state that he was handed last; 0 before the first.
     pub(crate) version: u64,
     /// The same of who is there.
     pub(crate) comings: u64,
 }
 
 impl Peer {
-    /// One who watches a match.
-    pub(crate) fn watching(place: usize) -> Peer {
-        Peer {
-            place: Some(place),
-            ..Peer::unknown()
-        }
-    }
-
     /// One who is to say whose seat he has.
     pub(crate) fn unknown() -> Peer {
         Peer {
@@ -34,6 +26,20 @@ impl Peer {
             version: 0,
             comings: 0,
         }
+    }
+
+    /// One who watches a match.
+    pub(crate) fn watching(place: usize) -> Peer {
+        Peer {
+            place: Some(place),
+            ..Peer::unknown()
+        }
+    }
+
+    /// Gives him the seat of a player of a match.
+    pub(crate) fn sit(&mut self, place: usize, player: Player) {
+        self.place = Some(place);
+        self.seat = Some(player);
     }
 
     /// Whether he looks at a match.

@@ -7,16 +7,16 @@ use http::Request;
 use serde_json::Value;
 use std::alloc::Global;
 
-/// A match that is asked for.
+/// A match that a request orders.
 #[derive(Clone, Copy, Debug, PartialEq, Eq)]
-pub(crate) struct Wanted {
+pub(crate) struct Ordered {
     pub(crate) terms: Terms,
     pub(crate) names: Names,
 }
 
-/// Returns the match that a body asks for: `{"length":N,"rules":R,"x":NAME,"o":NAME}`, of which all but the length may
+/// Returns the match that a body orders: `{"length":N,"rules":R,"x":NAME,"o":NAME}`, of which all but the length may
 /// be left out.
-pub(crate) fn wanted_of(alloc: Global, body: &[u8]) -> Option<Wanted> {
+pub(crate) fn ordered_by(alloc: Global, body: &[u8]) -> Option<Ordered> {
     let Ok(text) = str::from_utf8(body) else {
         return None;
     };
@@ -33,7 +33,7 @@ pub(crate) fn wanted_of(alloc: Global, body: &[u8]) -> Option<Wanted> {
         return None;
     }
     let (x, o) = (name_in(&value, "x")?, name_in(&value, "o")?);
-    Some(Wanted {
+    Some(Ordered {
         terms: Terms {
             length: length as u8,
             rules,
@@ -99,11 +99,13 @@ pub(crate) fn bearer_of(request: &Request<Bytes>) -> Option<&str> {
     header_of(request, "authorization")?.strip_prefix("Bearer ")
 }
 
-/// Whether a request asks for a WebSocket of the version that is spoken.
+/// Whether a request asks for a WebSocket, and for the version that is spoken.
 pub(crate) fn asks_for_socket(request: &Request<Bytes>) -> bool {
     let upgrade = header_of(request, "upgrade").unwrap_or("");
     let version = header_of(request, "sec-websocket-version").unwrap_or("");
-    upgrade.eq_ignore_ascii_case("websocket") && version == "13"
+    request.method().as_str() == "GET"
+        && upgrade.eq_ignore_ascii_case("websocket")
+        && version == "13"
 }
 
 /// Returns the value of a part of a query.

@@ -1,7 +1,7 @@
 //! All matches of a server.
 
 use crate::peers::Peer;
-use crate::places::{Found, Place, Store};
+use crate::places::{Found, Place, Store, acted_before};
 use bg_board::Player;
 use bg_hosted::Acted;
 use bg_match::{Action, Number};
@@ -23,12 +23,11 @@ pub struct Site<K, S> {
     /// Whether the request at hand may make a match.
     pub(crate) may_make: bool,
     /// How much news there was.
-    pub(crate) news: u64,
+    news: u64,
     /// Of it, how much the host has asked for.
-    pub(crate) told: u64,
-    /// How many matches were made, and how many actions came.
-    pub(crate) made: u64,
-    pub(crate) acted: u64,
+    asked: u64,
+    /// How many matches were made by requests.
+    made: u64,
 }
 
 impl<K: Keeper + Drop, S: Store<K> + Drop> Site<K, S> {
@@ -41,9 +40,8 @@ impl<K: Keeper + Drop, S: Store<K> + Drop> Site<K, S> {
             upgraded: None,
             may_make: true,
             news: 1,
-            told: 1,
+            asked: 1,
             made: 0,
-            acted: 0,
         }
     }
 
@@ -52,11 +50,20 @@ impl<K: Keeper + Drop, S: Store<K> + Drop> Site<K, S> {
         if self.places.len() >= MOST_MATCHES {
             return false;
         }
-        self.news = self.news.saturating_add(1);
-        match Place::open(self.alloc, found, self.news) {
+        let news = self.note_news();
+        match Place::open(self.alloc, found, news) {
             Some(place) => self.places.push(place).is_ok(),
             None => false,
         }
+    }
+
+    /// Takes a match in that a request has made. Whether there was room and memory for it.
+    pub(crate) fn open_made(&mut self, found: Found<K>) -> bool {
+        let is_open = self.open(found);
+        if is_open {
+            self.made = self.made.saturating_add(1);
+        }
+        is_open
     }
 
     /// What keeps the matches.
@@ -84,50 +91,45 @@ impl<K: Keeper + Drop, S: Store<K> + Drop> Site<K, S> {
         self.made
     }
 
-    /// How many actions came.
-    pub fn acted(&self) -> u64 {
-        self.acted
-    }
-
     /// Whether there was news since this was asked last.
     pub fn has_news(&mut self) -> bool {
-        let has_news = self.news != self.told;
-        self.told = self.news;
+        let has_news = self.news != self.asked;
+        self.asked = self.news;
         has_news
     }
 
     /// Whether a match has something left to do by a tick.
     pub fn is_restless(&self) -> bool {
-        self.places.iter().any(is_restless)
+        for place in self.places.iter() {
+            if place.is_restless() {
+                return true;
+            }
+        }
+        false
     }
 
     /// Lets the matches tick that have something left to do.
     pub fn tick(&mut self) {
-        for index in 0..self.places.len() {
-            if let Some(hosted) = &mut self.places[index].hosted {
-                if hosted.is_restless() {
-                    hosted.tick();
-                }
+        let mut news = self.news;
+        for place in self.places.iter_mut() {
+            if place.tick() {
+                news = news.saturating_add(1);
+                place.news = news;
             }
-            self.refresh(index);
         }
+        self.news = news;
     }
 
-    /// Notes what became visible of a match.
-    pub(crate) fn refresh(&mut self, index: usize) {
-        let Some(place) = self.places.get_mut(index) else {
-            return;
-        };
-        if place.refresh() {
-            self.news = self.news.saturating_add(1);
-            place.news = self.news;
-        }
+    /// Counts news, and returns how much there was.
+    pub(crate) fn note_news(&mut self) -> u64 {
+        self.news = self.news.saturating_add(1);
+        self.news
     }
 
     /// The place of the match with this name.
     pub(crate) fn by_name(&self, name: &str) -> Option<usize> {
-        for index in 0..self.places.len() {
-            if self.places[index].name.as_str() == name {
+        for (index, place) in self.places.iter().enumerate() {
+            if place.name.as_str() == name {
                 return Some(index);
             }
         }
@@ -138,11 +140,9 @@ impl<K: Keeper + Drop, S: Store<K> + Drop> Site<K, S> {
     pub(crate) fn by_secret(&self, secret: &str) -> Option<(usize, Player)> {
         let digest = digest_of(secret);
         let mut found = None;
-        for index in 0..self.places.len() {
-            if let Some(seats) = &self.places[index].seats {
-                if let Some(player) = seats.player_of(&digest) {
-                    found = Some((index, player));
-                }
+        for (index, place) in self.places.iter().enumerate() {
+            if let Some(player) = place.player_of(&digest) {
+                found = Some((index, player));
             }
         }
         found
@@ -156,23 +156,21 @@ impl<K: Keeper + Drop, S: Store<K> + Drop> Site<K, S> {
         number: Number,
         action: Action,
     ) -> Acted {
+        let news = self.news.saturating_add(1);
         let Some(place) = self.places.get_mut(index) else {
             return Acted::Failed;
         };
-        let acted = match &mut place.hosted {
-            Some(hosted) => hosted.act(player, number, action),
-            None => Acted::OtherEntry,
-        };
-        self.acted = self.acted.saturating_add(1);
-        self.refresh(index);
+        if !place.is_live() {
+            return match self.store.load(place.name.as_str()) {
+                Some(record) => acted_before(&record, player, number, &action),
+                None => Acted::Failed,
+            };
+        }
+        let acted = place.act(player, number, action);
+        if place.refresh() {
+            place.news = news;
+            self.news = news;
+        }
         acted
-    }
-}
-
-/// Whether a match has something left to do by a tick.
-fn is_restless<K: Keeper + Drop>(place: &Place<K>) -> bool {
-    match &place.hosted {
-        Some(hosted) => hosted.is_restless(),
-        None => false,
     }
 }

@@ -42,7 +42,7 @@ pub(crate) fn put_game(out: &mut Vec<u8>, standing: &Standing) -> Result<(), All
 }
 
 /// How JSON says that something holds, or not.
-fn truth(holds: bool) -> &'static str
+pub fn truth(holds: bool) -> &'static str
     ensures { result.now ≡ flag holds }
 {
     if holds { "true" } else { "false" }
@@ -83,7 +83,7 @@ fn put_owner(out: &mut Vec<u8>, owner: Option<Player>) -> Result<(), AllocError>
 }
 
 /// The letter of a player; nothing where there is none.
-pub(crate) fn letter_of(player: Option<Player>) -> &'static str
+pub fn letter_of(player: Option<Player>) -> &'static str
     ensures { result.now ≡ owner_letter player }
 {
     match player {

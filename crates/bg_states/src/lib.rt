@@ -19,6 +19,7 @@ mod phases;
 mod quoting;
 mod states;
 
+pub use headings::{letter_of, truth};
 pub use laws::states_are_functions;
 pub use quoting::put_quoted;
 pub use states::state_text;

@@ -80,6 +80,10 @@ function hearState(state) {
     takeLines(state);
   }
   draw();
+  if (game.wanted >= 0) {
+    stepTo(game.wanted);
+    game.wanted = NaN;
+  }
 }
 
 // The lines of all entries: the last ones come with each state, and the others are asked for once.
@@ -106,12 +110,22 @@ function drawLinks() {
 
 function startMatch() {
   game.secret = location.hash.slice(1);
-  const wanted = isPlayer() ? NaN : Number(location.hash.slice(1) || NaN);
+  game.wanted = isPlayer() ? NaN : Number(location.hash.slice(1) || NaN);
   byId('back').addEventListener('click', () => stepTo(currentNumber() - 1));
   byId('forth').addEventListener('click', () => stepTo(currentNumber() + 1));
   byId('first').addEventListener('click', () => stepTo(0));
   byId('now').addEventListener('click', () => stepTo(Infinity));
+  if (isFramed()) openElsewhere();
   connect();
-  if (wanted >= 0) setTimeout(() => stepTo(wanted), 800);
+}
+
+// In a frame of another site links open pages of their own.
+const isFramed = () => /\/embed$/.test(location.pathname);
+
+function openElsewhere() {
+  const up = document.querySelector('.up');
+  up.textContent = 'Open';
+  up.href = location.pathname.replace(/\/embed$/, '');
+  document.head.append(element('base', { target: '_blank' }));
 }
 "#;

@@ -22,9 +22,9 @@ function moveButtons() {
   if (isForced) {
     const { steps } = game.ways[0];
     const words = steps.length ? 'Play ' + turnWords(steps) + ', the only move' : 'No move: pass the turn';
-    acts.push(button(words, () => act(moveWords(steps)), 'main'));
+    acts.push(button(words, () => actMove(steps), 'main'));
   } else if (isWhole()) {
-    acts.push(button('Play ' + turnWords(game.steps), () => act(moveWords(game.steps)), 'main'));
+    acts.push(button('Play ' + turnWords(game.steps), () => actMove(game.steps), 'main'));
   }
   if (game.steps.length) acts.push(button('Undo', undo));
   return acts;

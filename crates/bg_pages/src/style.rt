@@ -23,7 +23,7 @@ h1 { font-size: 1.05rem; margin: 0; flex: 1 1 12rem; }
 h2 { font-size: 1rem; margin: 1rem 0 .4rem; }
 a { color: var(--main); }
 p { margin: .4rem 0; }
-button, input, select { font: inherit; color: inherit; }
+button, input, select { font: inherit; color: var(--ink); }
 button { min-height: 2.75rem; padding: .3rem .9rem; border: 1px solid var(--line); border-radius: .6rem; background: var(--card); cursor: pointer; }
 button:hover:not(:disabled) { border-color: var(--main); }
 button:disabled { opacity: .45; cursor: default; }
@@ -31,7 +31,7 @@ button.main { background: var(--main); border-color: var(--main); color: var(--m
 button.quiet { background: none; color: var(--faint); }
 button.small { min-height: 0; padding: .1rem .5rem; font-size: .85rem; }
 :focus-visible { outline: 3px solid var(--goal); outline-offset: 2px; }
-input, select { padding: .4rem .5rem; border: 1px solid var(--line); border-radius: .5rem; background: var(--card); max-width: 100%; }
+input, select { min-height: 2.75rem; padding: .4rem .5rem; border: 1px solid var(--line); border-radius: .5rem; background: var(--card); max-width: 100%; }
 
 .home main { max-width: 60rem; margin: 0 auto; padding: 0 1rem 2rem; }
 .home h1 { font-size: 1.4rem; }
@@ -51,7 +51,8 @@ td.number { white-space: nowrap; }
 .none { color: var(--faint); }
 
 .match main { display: grid; grid-template-columns: minmax(0, 46rem) minmax(13rem, 1fr); gap: 1.25rem; padding: .75rem 1rem 1.5rem; max-width: 76rem; margin: 0 auto; }
-.player { display: flex; gap: .6rem; align-items: center; padding: .25rem .1rem; flex-wrap: wrap; }
+.player { display: flex; gap: .6rem; align-items: center; padding: .25rem .1rem; white-space: nowrap; }
+.player strong { overflow: hidden; text-overflow: ellipsis; }
 .player .score { margin-left: auto; font-weight: 600; }
 .dot { width: 1rem; height: 1rem; border-radius: 50%; border: 2px solid var(--x-edge); background: var(--x); flex: none; }
 .dot.O { background: var(--o); border-color: var(--o-edge); }
@@ -113,6 +114,8 @@ td.number { font-size: inherit; }
 @media (max-width: 52rem) {
   .match main { grid-template-columns: minmax(0, 1fr); padding: .4rem .5rem 1rem; gap: .5rem; }
   header { padding: .4rem .6rem; }
+  .match h1 { order: 1; flex-basis: 100%; font-size: .95rem; }
+  .match #net { margin-left: auto; }
   #moves { max-height: 10rem; }
   #new { display: grid; }
   th:last-child, td:last-child { display: none; }

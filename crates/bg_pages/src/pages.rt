@@ -1,7 +1,28 @@
 //! The pages: the same for all matches, as what differs comes by the socket.
 
+/// A page.
+#[derive(Clone, Copy, Debug, PartialEq, Eq)]
+pub enum Page {
+    /// That of all matches.
+    Home,
+    /// That of a match, for those who watch and for players.
+    Match,
+    /// The same, for a frame in a page of another site.
+    Embedded,
+}
+
+impl Page {
+    /// Returns its text.
+    pub(crate) fn text(self) -> &'static str {
+        match self {
+            Page::Home => HOME_PAGE,
+            Page::Match | Page::Embedded => MATCH_PAGE,
+        }
+    }
+}
+
 /// The page of all matches.
-pub(crate) const HOME_PAGE: &str = r#"<!DOCTYPE html>
+const HOME_PAGE: &str = r#"<!DOCTYPE html>
 <html lang="en">
 <head>
 <meta charset="utf-8">
@@ -41,7 +62,7 @@ pub(crate) const HOME_PAGE: &str = r#"<!DOCTYPE html>
 "#;
 
 /// The page of a match, for those who watch and for players.
-pub(crate) const MATCH_PAGE: &str = r#"<!DOCTYPE html>
+const MATCH_PAGE: &str = r#"<!DOCTYPE html>
 <html lang="en">
 <head>
 <meta charset="utf-8">

@@ -5,6 +5,7 @@ pub(crate) const TEXT: &str = r#"
 const game = {
   match: '', names: ['', ''], you: '', here: [false, false, 0],
   state: null, earlier: null, lines: [], steps: [], from: null, ways: [], open: null, secret: '', isMine: false,
+  wanted: NaN, asked: 0,
 };
 
 const shownState = () => game.earlier || game.state;
@@ -12,7 +13,8 @@ const countsOf = (state, player) => player === 'X' ? state.x : state.o;
 const nameOf = player => game.names[player === 'X' ? 0 : 1] || (player === 'X' ? 'Player X' : 'Player O');
 const sideOf = () => game.you || 'X';
 const isLive = () => game.earlier === null;
-const mayMove = () => isLive() && game.state && game.state.may && game.state.may.includes('move');
+const isMyMove = () => isLive() && game.state && game.state.may && game.state.may.includes('move');
+const mayMove = () => isMyMove() && !game.open;
 
 // The points that the last move has touched, in the numbers of the side from which one looks.
 function lastPoints(state) {
@@ -25,7 +27,7 @@ function lastPoints(state) {
 
 function viewOf(state) {
   const side = sideOf(), position = { mine: countsOf(state, side), theirs: countsOf(state, other(side)) };
-  const steps = mayMove() ? game.steps : [];
+  const steps = isMyMove() ? game.steps : [];
   const now = steps.reduce(afterStep, position);
   return {
     side, mine: now.mine, theirs: now.theirs, dice: state.dice, steps, cube: state.cube, from: game.from,
@@ -79,15 +81,16 @@ function undo() {
 function act(words) {
   if (!game.state) return;
   game.open = { number: game.state.number + 1, words };
-  game.steps = [];
   game.from = null;
   say('');
   sendOpen();
   draw();
 }
 
-function moveWords(turn) {
-  return ['move', ...turn.map(stepWords)].join(' ');
+// Plays a turn: its steps are shown until the server has answered.
+function actMove(steps) {
+  game.steps = steps;
+  act(['move', ...steps.map(stepWords)].join(' '));
 }
 
 function say(words) {
@@ -152,11 +155,6 @@ function dragging(picture) {
     touch(point);
     game.pressed = point;
   });
-  picture.addEventListener('pointerup', event => {
-    const now = byId('board').firstElementChild;
-    const point = now && pointAt(now, event);
-    if (point !== null && point !== game.pressed && game.from !== null) touch(point);
-  });
 }
 document.addEventListener('pointerup', event => {
   const picture = byId('board') && byId('board').firstElementChild;
@@ -185,11 +183,13 @@ async function stepTo(number) {
   if (!game.state) return;
   const wanted = Math.max(0, number);
   if (wanted >= game.state.number) {
+    game.asked++;
     game.earlier = null;
   } else {
-    const answer = await fetch(`/matches/${game.match}/states/${wanted}`);
-    if (!answer.ok) return;
-    game.earlier = await answer.json();
+    const asked = ++game.asked, answer = await fetch(`/matches/${game.match}/states/${wanted}`);
+    const earlier = answer.ok ? await answer.json() : null;
+    if (!earlier || asked !== game.asked) return;
+    game.earlier = earlier;
   }
   game.from = null;
   if (!game.you) history.replaceState(null, '', game.earlier ? '#' + wanted : location.pathname);
