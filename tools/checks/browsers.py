@@ -78,10 +78,11 @@ class Page:
     def call(self, method, **params):
         """Calls the browser, and returns what it answers."""
         self.number += 1
-        self.link.send(json.dumps({"id": self.number, "method": method, "params": params}))
+        number = self.number
+        self.link.send(json.dumps({"id": number, "method": method, "params": params}))
         while True:
             message = self.link.message()
-            if message.get("id") == self.number:
+            if message.get("id") == number:
                 if "error" in message:
                     raise Fault(f"{method}: {message['error']}")
                 return message["result"]

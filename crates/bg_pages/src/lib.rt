@@ -4,6 +4,7 @@
 //! ```
 //! let mut response = Response::new(alloc);
 //! answer_page(&mut response, Page::Home)?;
+//! assert!(rt; response.status.as_u16() == 200);
 //! ```
 #![tactic(auto)]
 

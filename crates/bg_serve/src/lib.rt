@@ -1,5 +1,13 @@
 //! A server of matches for browsers: one thread over sockets on the loopback address, and a folder for each match.
 //! What requests and messages mean is `bg_site`'s.
+//!
+//! ```
+//! let failures = Failures::new();
+//! let server = Server::begin(&rt, ".", 0, &failures)?;
+//! assert!(rt; server.matches() == 0 && server.left_out().is_empty());
+//! let address = server.address()?;
+//! assert!(rt; address.port() > 0);
+//! ```
 #![tactic(auto)]
 
 mod clients;

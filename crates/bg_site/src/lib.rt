@@ -1,5 +1,14 @@
 //! What requests and messages do to the matches of a server, and which bytes a peer gets. It opens no socket and no
 //! file: the host hands in bytes, and keeps the matches. For `bg_serve`, and hosts of another kind.
+//!
+//! ```
+//! let mut site = Site::new(alloc, store);
+//! let is_open = site.open(found);
+//! assert!(rt; is_open && site.len() == 1);
+//! // A connection of http_server calls the site for each request, and a Channel for each message of a socket.
+//! let mut connection = Connection::new(alloc, keys, Config::default());
+//! connection.advance(&mut site);
+//! ```
 #![tactic(auto)]
 
 mod answering;

@@ -16,13 +16,17 @@ const isLive = () => game.earlier === null;
 const isMyMove = () => isLive() && game.state && game.state.may && game.state.may.includes('move');
 const mayMove = () => isMyMove() && !game.open;
 
-// The points that the last move has touched, in the numbers of the side from which one looks.
+// The points where the checkers of the last move have come to stand, in the numbers of the side from which one looks.
 function lastPoints(state) {
   const line = state.last[state.last.length - 1] || '', moved = / move /.test(line) ? line : state.last[state.last.length - 2] || '';
   if (!/ move /.test(moved) || (line !== moved && !/ roll |pass/.test(line))) return [];
+  const ends = [];
+  for (const [, from, to] of moved.matchAll(/(\w+)-(\w+)/g)) {
+    if (ends.includes(from)) ends.splice(ends.indexOf(from), 1);
+    ends.push(to);
+  }
   const isMine = moved[0] === sideOf();
-  const points = (moved.match(/\d+/g) || []).map(Number);
-  return points.map(point => isMine ? point : 25 - point);
+  return ends.filter(end => end !== 'off').map(Number).map(point => isMine ? point : 25 - point);
 }
 
 function viewOf(state) {

@@ -1,4 +1,4 @@
-//! Tests of matches that one process hosts whole, by what is public of bg_hosted.
+//! Tests of a match server, by what is public of its crates.
 #![tactic(auto)]
 
 #[cfg(test)]
@@ -7,3 +7,5 @@ mod keepers;
 mod matches;
 #[cfg(test)]
 mod queues;
+#[cfg(test)]
+mod uses;
