@@ -1,9 +1,8 @@
 //! Which part of the server a path names.
-ghost use Rattle.std.specs.Prelude.{◌≡◌, ℕ, ◌^◌, ◌<◌, IfSome, IsSome, IsTrue};
+ghost use Rattle.std.specs.Prelude.{◌≡◌, IfSome};
 ghost use Rattle.std.specs.Fmt.{decimal};
 ghost use Rattle.std.specs.List.{list_all};
-ghost use Rattle.bg_requests.specs.Targets.{IsFound, IsNamedBehind, IsNamedBy, IsOfMatch, IsPlainWord, IsWord, IsWordOf};
-ghost use Rattle.bg_requests.specs.Targets.{NamesSome, NamesSomeBehind, may_be_in_name, may_name};
+ghost use Rattle.bg_requests.specs.Targets.{IsNamedBehind, IsNamedBy, IsOfMatch, IsWordOf, may_be_in_name, may_name};
 
 use itoa::Buffer;
 
@@ -48,8 +47,7 @@ pub enum Target<'a> {
 
 /// Returns what a path names (docs/SERVING.md, "Paths").
 pub fn target_of(path: &str) -> Target<'_>
-    ensures named { IsNamedBy path.now result }
-    ensures total { NamesSome path.now → IsFound result }
+    ensures { IsNamedBy path.now result }
 {
     match path {
         "/" => Target::Home,
@@ -68,8 +66,7 @@ pub fn target_of(path: &str) -> Target<'_>
 
 /// Returns what the name of a match, and what stands behind it, name.
 fn part_of(rest: &str) -> Target<'_>
-    ensures named { IsNamedBehind rest.now result }
-    ensures total { NamesSomeBehind rest.now → IsFound result }
+    ensures { IsNamedBehind rest.now result }
 {
     match rest.split_once('/') {
         None => of_match(rest, Some(Part::Page)),
@@ -79,8 +76,7 @@ fn part_of(rest: &str) -> Target<'_>
 
 /// Returns the part of a match; nothing where it has no such part, or no match may have the name.
 fn of_match(name: &str, part: Option<Part>) -> Target<'_>
-    ensures named { IsOfMatch name.entry part result }
-    ensures total { IsSome part → IsTrue (may_name name.now) → IsFound result }
+    ensures { IsOfMatch name.entry part result }
 {
     match part {
         Some(part) if is_name(name) => Target::Of(name, part),
@@ -90,8 +86,7 @@ fn of_match(name: &str, part: Option<Part>) -> Target<'_>
 
 /// Returns the part that a word names, but for the page, which has none.
 fn part_named(word: &str) -> Option<Part>
-    ensures named { IfSome result (IsWordOf word.now) }
-    ensures total { IsWord word.now → IsSome result }
+    ensures { IfSome result (IsWordOf word.now) }
 {
     match word.strip_prefix("states/") {
         Some(digits) => count_of(digits).map(Part::StateAfter),
@@ -101,8 +96,7 @@ fn part_named(word: &str) -> Option<Part>
 
 /// Returns the part that a word without a number names.
 fn plain_part(word: &str) -> Option<Part>
-    ensures named { IfSome result (IsWordOf word.now) }
-    ensures total { IsPlainWord word.now → IsSome result }
+    ensures { IfSome result (IsWordOf word.now) }
 {
     match word {
         "embed" => Some(Part::Embed),
@@ -118,8 +112,7 @@ fn plain_part(word: &str) -> Option<Part>
 
 /// Returns the number that digits say, as it is written: without a sign, and with no zero before other digits.
 fn count_of(digits: &str) -> Option<u32>
-    ensures said { IfSome result (λ count. digits.now ≡ decimal count) }
-    ensures total { (count : ℕ) → count < 2 ^ 32 → digits.now ≡ decimal count → IsSome result }
+    ensures { IfSome result (λ count. digits.now ≡ decimal count) }
 {
     let Ok(count) = digits.parse::<u32>() else {
         return None;

@@ -107,15 +107,20 @@ fn put_rows<K>(
     places: &[Place<K>],
     rows: &[(u64, usize)],
 ) -> Result<(), AllocError> {
-    let mut comma = "";
+    let mut is_first = true;
     for row in rows {
         if let Some(place) = places.get(row.1) {
-            put_text(out, comma)?;
+            put_comma(out, is_first)?;
             put_row(out, place)?;
-            comma = ",";
+            is_first = false;
         }
     }
     Ok(())
+}
+
+/// Adds what stands before a match: a comma, but before the first.
+fn put_comma(out: &mut Vec<u8>, is_first: bool) -> Result<(), AllocError> {
+    put_text(out, if is_first { "" } else { "," })
 }
 
 /// Adds a match.
