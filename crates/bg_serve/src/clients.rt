@@ -227,8 +227,7 @@ impl Client {
             }
         }
         !self.has_output()
-            || now.saturating_sub(self.sent) <= STALL_SECONDS
-                && self.send(site, now) != Step::Gone
+            || now.saturating_sub(self.sent) <= STALL_SECONDS && self.send(site, now) != Step::Gone
     }
 }
 

@@ -131,9 +131,7 @@ impl Channel {
         };
         let stays = match &step.message {
             Some(received) => match received.message(self.input.as_slice()) {
-                Message::Text(text) => {
-                    answer_text(site, &mut self.peer, text, &mut self.output)
-                }
+                Message::Text(text) => { answer_text(site, &mut self.peer, text, &mut self.output) }
                 _ => true,
             },
             None => true,
@@ -187,12 +185,7 @@ impl Channel {
 }
 
 /// Puts the answer to a text behind what waits. Whether the peer may stay.
-fn answer_text<K, S>(
-    site: &mut Site<K, S>,
-    peer: &mut Peer,
-    text: &str,
-    output: &mut Rope,
-) -> bool
+fn answer_text<K, S>(site: &mut Site<K, S>, peer: &mut Peer, text: &str, output: &mut Rope) -> bool
 where
     K: Keeper + Drop,
     S: Store<K> + Drop,

@@ -3,7 +3,7 @@
 use crate::answering::missing;
 use crate::lists::{Wanted, list_text};
 use crate::places::{Made, Store};
-use crate::requests::{bearer_of, is_json, ordered_by};
+use crate::requests::{bearer_of, is_json, ordered_by, query_part};
 use crate::sites::{MOST_MATCHES, Site};
 use bg_pages::{Kind, answer_text, refuse};
 use bg_requests::parse_act;
@@ -22,7 +22,10 @@ impl<K: Keeper + Drop, S: Store<K> + Drop> Site<K, S> {
         request: &Request<Bytes>,
         response: &mut Response,
     ) -> Result<(), AllocError> {
-        let wanted = Wanted::of(request.uri().query());
+        let query = request.uri().query();
+        let search = query_part(query, "search").unwrap_or("");
+        let search = form_urlencoded::decode(self.alloc, search.as_bytes())?;
+        let wanted = Wanted::of(query, search.as_str());
         let text = list_text(self.alloc, &self.places, &wanted)?;
         answer_text(response, Kind::Json, text)
     }

@@ -71,11 +71,7 @@ fn refuse_others(response: &mut Response) -> Result<(), AllocError> {
 }
 
 /// Answers that the connection is a WebSocket from now on.
-fn give_socket(
-    alloc: Global,
-    key: &[u8],
-    response: &mut Response,
-) -> Result<(), AllocError> {
+fn give_socket(alloc: Global, key: &[u8], response: &mut Response) -> Result<(), AllocError> {
     let Ok(value) = HeaderValue::from_bytes(alloc, key) else {
         return Err(AllocError);
     };

@@ -20,7 +20,10 @@ fn hosted_matches(rt: HostRuntime) -> Result<(), Fail> {
     let shelf = Shelf::new(alloc);
     let keepers = shelf.keepers();
     // bg_hosted
-    let terms = Terms { length: 1, rules: Rules::One };
+    let terms = Terms {
+        length: 1,
+        rules: Rules::One,
+    };
     let mut hosted = HostedMatch::begin(alloc, 7, terms, [3; 32], keepers)?;
     // The opening is there, saved and told, and one of the players is to move.
     assert!(rt; hosted.told() == 1);
@@ -86,7 +89,10 @@ fn sites(rt: HostRuntime) -> Result<(), Fail> {
         name: format!(in alloc; "table")?,
         names: Names::none(),
         id: 7,
-        terms: Terms { length: 1, rules: Rules::One },
+        terms: Terms {
+            length: 1,
+            rules: Rules::One,
+        },
         seats: None,
         key: [3; 32],
         keepers: shelf.keepers(),
