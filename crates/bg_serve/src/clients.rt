@@ -1,16 +1,16 @@
 //! A client: a connection that speaks HTTP first, and perhaps becomes a socket then.
 
+use crate::exchanges::{note_upgrade, read_http, write_http};
 use crate::limits::{
     HEAD_SECONDS, HELLO_SECONDS, MOST_BODY, MOST_HEAD, MOST_READS, MOST_WRITES, PING_SECONDS,
     SILENT_SECONDS, STALL_SECONDS,
 };
 use bg_site::{Channel, Peer, Site, Step, Store};
 use bg_world::Keeper;
-use http_server::{Config, Connection, State};
+use http_server::{Config, Connection};
 use mio::net::TcpStream;
 use std::alloc::Global;
 use std::hash::RandomState;
-use std::io;
 use std::io::ErrorKind;
 
 /// A client of the server.
@@ -228,45 +228,5 @@ impl Client {
         }
         !self.has_output()
             || now.saturating_sub(self.sent) <= STALL_SECONDS && self.send(site, now) != Step::Gone
-    }
-}
-
-/// Reads once, where more is wanted. Whether anything came; None where the client is gone.
-fn read_http(connection: &mut Connection, stream: &mut TcpStream) -> Option<bool> {
-    if !connection.wants_read() {
-        return Some(false);
-    }
-    moved(connection.read_from(stream))
-}
-
-/// Writes once, where something waits. Whether anything went; None where the client is gone.
-fn write_http(connection: &mut Connection, stream: &mut TcpStream) -> Option<bool> {
-    if !connection.wants_write() {
-        return Some(false);
-    }
-    match connection.write_to(stream) {
-        Ok(0) => None,
-        written => moved(written),
-    }
-}
-
-/// Whether a read or a write has done anything; None where the client is gone.
-fn moved(count: io::Result<usize>) -> Option<bool> {
-    match count {
-        Ok(_) => Some(true),
-        Err(error) if error.kind() == ErrorKind::WouldBlock => Some(false),
-        Err(error) if error.kind() == ErrorKind::Interrupted => Some(true),
-        Err(_) => None,
-    }
-}
-
-/// Notes who the connection is, right after the site has granted it a socket.
-fn note_upgrade<K: Keeper + Drop, S: Store<K> + Drop>(
-    connection: &Connection,
-    site: &mut Site<K, S>,
-    upgraded: &mut Option<Peer>,
-) {
-    if upgraded.is_none() && connection.state() == State::Upgraded {
-        *upgraded = site.take_upgraded();
     }
 }

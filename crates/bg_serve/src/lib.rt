@@ -12,6 +12,7 @@
 
 mod clients;
 mod crowds;
+mod exchanges;
 mod folders;
 mod limits;
 mod quotas;
