@@ -2,7 +2,10 @@
 //! servers that let people play who bring nothing but a connection.
 //!
 //! ```
-//! let terms = Terms { length: 1, rules: Rules::One };
+//! let terms = Terms {
+//!     length: 1,
+//!     rules: Rules::One,
+//! };
 //! let mut hosted = HostedMatch::begin(alloc, 7, terms, [3; 32], keepers)?;
 //! // The opening is there, saved and told, and one of the players is to move.
 //! assert!(rt; hosted.told() == 1);

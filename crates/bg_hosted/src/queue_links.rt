@@ -1,5 +1,5 @@
 //! A link in memory that keeps only what nobody has taken yet.
-ghost use Rattle.std.specs.Prelude.{◌≡◌, [], None, Ok, length};
+ghost use Rattle.std.specs.Prelude.{◌≡◌, None, length};
 ghost use Rattle.bg_world.specs.Devices.Handed.{noted_answer};
 
 use crate::waiting::Waiting;

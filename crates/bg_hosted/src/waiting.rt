@@ -1,5 +1,5 @@
 //! The datagrams of a queue that nobody has taken yet.
-ghost use Rattle.std.specs.Prelude.{◌≡◌, ◌≤◌, ◌<◌, ◌∷◌, ◌++◌, ◌↔◌, [], Contains, IfSome, IsSome, IsTrue, OnErr, OnOk};
+ghost use Rattle.std.specs.Prelude.{◌≡◌, ◌≤◌, ◌<◌, ◌∷◌, ◌++◌, [], Contains, IfSome, IsTrue, OnErr, OnOk};
 ghost use Rattle.std.specs.Prelude.{slice_index_or, vec_len};
 ghost use Rattle.bg_hosted.specs.Queues.{most_waiting, were_sent};
 ghost use Rattle.bg_wire.specs.declared.packets.Datagram.{Datagram as Sent};

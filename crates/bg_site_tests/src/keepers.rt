@@ -5,7 +5,7 @@ ghost use Rattle.bg_world.specs.Protocol.Slots.{empty_slots};
 use bg_streams::History;
 use bg_wire::Slot;
 use bg_world::{DeviceFault, Keeper, Keepers, count_failed};
-use std::alloc::{AllocError, Global};
+use std::alloc::Global;
 use std::cell::RefCell;
 
 /// The slots of three parties, and how many writes are to succeed before one fails.

@@ -1,5 +1,5 @@
 //! Lists of JSON.
-ghost use Rattle.std.specs.Prelude.{◌≡◌, ◌++◌, OnOk, true};
+ghost use Rattle.std.specs.Prelude.{◌≡◌, ◌++◌, OnOk};
 ghost use Rattle.bg_states.specs.Lists.{comma_text, numbers_text, some_text};
 
 use bg_text::{put_number, put_text};
