@@ -18,6 +18,7 @@ pub(crate) mod play_loop;
 pub(crate) mod recover;
 pub(crate) mod referee;
 pub(crate) mod script;
+pub(crate) mod serve;
 pub(crate) mod show;
 pub(crate) mod sim;
 pub(crate) mod watch;

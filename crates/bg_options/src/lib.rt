@@ -33,6 +33,7 @@ pub use commands::play_loop::LoopOptions;
 pub use commands::recover::RecoverOptions;
 pub use commands::referee::RefereeOptions;
 pub use commands::script::ScriptOptions;
+pub use commands::serve::ServeOptions;
 pub use commands::show::ShowOptions;
 pub use commands::sim::SimOptions;
 pub use commands::watch::WatchOptions;

@@ -14,6 +14,7 @@ use crate::commands::play_loop::LoopOptions;
 use crate::commands::recover::RecoverOptions;
 use crate::commands::referee::RefereeOptions;
 use crate::commands::script::ScriptOptions;
+use crate::commands::serve::ServeOptions;
 use crate::commands::show::ShowOptions;
 use crate::commands::sim::SimOptions;
 use crate::commands::watch::WatchOptions;
@@ -49,6 +50,7 @@ pub enum Request<'m, 'a> {
     Act(ActOptions<'m, 'a>),
     Auto(SeatOptions<'a>),
     Watch(WatchOptions<'a>),
+    Serve(ServeOptions<'a>),
 }
 
 /// The reason why options make no request.
@@ -148,5 +150,6 @@ fn of_task<'m, 'a>(task: Task, options: &'m ArgMatches<'a>) -> Option<Request<'m
         Task::Act => Request::Act(ActOptions::read(options)?),
         Task::Auto => Request::Auto(SeatOptions::read(options)?),
         Task::Watch => Request::Watch(WatchOptions::read(options)?),
+        Task::Serve => Request::Serve(ServeOptions::read(options)?),
     })
 }

@@ -2,7 +2,7 @@
 
 use crate::commands::{
     act, auto, board, check, export, id, import, judge, keys, list, new_match, page, picture, play,
-    play_loop, recover, referee, script, show, sim, watch,
+    play_loop, recover, referee, script, serve, show, sim, watch,
 };
 use clap::{Command, Error};
 use std::alloc::Global;
@@ -34,6 +34,7 @@ pub enum Task {
     Act,
     Auto,
     Watch,
+    Serve,
 }
 
 /// The commands by their names, in the order in which help lists them.
@@ -59,6 +60,7 @@ pub const TASKS: [(&str, Task); 21] = [
     ("act", Task::Act),
     ("auto", Task::Auto),
     ("watch", Task::Watch),
+    ("serve", Task::Serve),
 ];
 
 impl Task {
@@ -120,6 +122,7 @@ impl Task {
             Task::Act => act::command(alloc),
             Task::Auto => auto::command(alloc),
             Task::Watch => watch::command(alloc),
+            Task::Serve => serve::command(alloc),
         }
     }
 }

@@ -16,6 +16,7 @@ use bg_processes::PrintableLines;
 pub use bg_processes::{FileKeeper, UdpLink, run_loop};
 use bg_reports::Ending;
 use bg_seat_commands::{act, auto, play};
+use bg_serve::serve;
 use clap::ArgMatches;
 use clap::error::ErrorKind;
 use std::io;
@@ -84,6 +85,7 @@ fn obey(rt: &HostRuntime, request: Request<'_, '_>) -> Result<Ending, Ending> {
         Request::Act(options) => act::run(rt, options, is_watched),
         Request::Auto(options) => auto::run(rt, options, is_watched),
         Request::Watch(options) => watch::run(rt, options, output_terminal(rt), is_watched),
+        Request::Serve(options) => serve::run(rt, options.folder, options.port),
     }
 }
 

@@ -1,0 +1,4 @@
+pub mod Queued
+pub mod Going
+pub mod Whose
+pub mod Told

@@ -1,0 +1,6 @@
+pub mod Queues
+pub mod QueueLinks
+pub mod Going
+pub mod HostedMatches
+pub mod Acting
+pub mod Laws

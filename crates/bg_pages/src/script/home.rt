@@ -1,0 +1,79 @@
+//! The part of the script that shows all matches, and makes new ones.
+
+pub(crate) const TEXT: &str = r#"
+// ---- The page of all matches.
+const lists = { live: { page: 1, search: '' }, finished: { page: 1, search: '' } };
+
+async function makeMatch(event) {
+  event.preventDefault();
+  const value = id => byId(id).value;
+  const wanted = { length: Number(value('length')), rules: Number(value('rules')), x: value('x').trim(), o: value('o').trim() };
+  const answer = await fetch('/matches', {
+    method: 'POST', headers: { 'content-type': 'application/json' }, body: JSON.stringify(wanted),
+  });
+  if (!answer.ok) return fill(byId('made'), element('p', { role: 'alert' }, 'Refused: ' + await answer.text()));
+  const made = await answer.json();
+  const row = (words, path) => element('p', { class: 'link' }, element('span', {}, words),
+    element('a', { href: path }, location.origin + path), copying(location.origin + path));
+  fill(byId('made'), element('h2', {}, 'Your match is ready'),
+    element('p', {}, 'Whoever has the link of a seat plays it. Keep one, and send the other to your opponent.'),
+    row((wanted.x || 'X') + ' plays here', made.x), row((wanted.o || 'O') + ' plays here', made.o),
+    row('Others watch here', made.watch));
+  byId('made').querySelector('a').focus();
+  refresh();
+}
+
+function matchRow(found) {
+  const names = [found.names[0] || 'X', found.names[1] || 'O'], path = '/matches/' + found.match;
+  const stands = found.winner ? names[found.winner === 'X' ? 0 : 1] + ' won'
+    : found.turn ? names[found.turn === 'X' ? 0 : 1] + ' to play' : '';
+  return element('tr', {},
+    element('td', {}, element('a', { href: path }, names.join(' – '))),
+    element('td', { class: 'number' }, String(found.length)),
+    element('td', { class: 'number' }, found.score.join(' : ')),
+    element('td', {}, stands),
+    element('td', {}, found.winner
+      ? element('span', {}, element('a', { href: path + '/transcript', download: found.match + '.txt' }, 'transcript'), ' ',
+        element('a', { href: path + '/mat', download: found.match + '.mat' }, '.mat'))
+      : `${found.here[2]} watching`));
+}
+
+async function refreshList(kind) {
+  const list = lists[kind], query = new URLSearchParams({ list: kind, page: list.page, search: list.search });
+  const answer = await fetch('/matches?' + query);
+  if (!answer.ok) return;
+  const found = await answer.json();
+  const head = element('tr', {}, ...['Match', 'To', 'Score', 'Stands', ''].map(words => element('th', { scope: 'col' }, words)));
+  const pages = found.pages < 2 ? [] : [
+    button('◀', () => turnPage(kind, -1, found.pages)), ` page ${found.page} of ${found.pages} `,
+    button('▶', () => turnPage(kind, 1, found.pages)),
+  ];
+  const place = byId(kind);
+  if (!found.count) return fill(place, element('p', { class: 'none' }, list.search ? 'Nothing found.' : 'None yet.'));
+  fill(place, element('table', {}, element('thead', {}, head), element('tbody', {}, ...found.matches.map(matchRow))),
+    element('p', { class: 'pages' }, ...pages));
+}
+
+function turnPage(kind, by, pages) {
+  lists[kind].page = Math.min(Math.max(lists[kind].page + by, 1), pages);
+  refreshList(kind);
+}
+
+function refresh() {
+  refreshList('live');
+  refreshList('finished');
+}
+
+function startHome() {
+  byId('new').addEventListener('submit', makeMatch);
+  byId('search').addEventListener('input', () => {
+    lists.finished = { page: 1, search: byId('search').value.trim() };
+    refreshList('finished');
+  });
+  refresh();
+  setInterval(() => { if (!document.hidden) refreshList('live'); }, 5000);
+}
+
+if (byId('board')) startMatch();
+else startHome();
+"#;

@@ -1,0 +1,131 @@
+//! The part of the script that keeps a page in touch with the server.
+
+pub(crate) const TEXT: &str = r#"
+// ---- The socket: it comes back by itself. An action that was sent is sent again until it is answered; it has the
+// number of the entry that it is to become, so it acts once.
+let socket = null, pause = 500, beat = null;
+
+const isPlayer = () => location.pathname === '/play';
+
+function socketAddress() {
+  const base = (location.protocol === 'https:' ? 'wss://' : 'ws://') + location.host;
+  return isPlayer() ? base + '/play/live' : base + location.pathname.replace(/\/embed$/, '') + '/live';
+}
+
+function connect() {
+  socket = new WebSocket(socketAddress());
+  socket.onopen = () => {
+    pause = 500;
+    if (isPlayer()) socket.send('hello ' + game.secret);
+  };
+  socket.onmessage = event => hear(JSON.parse(event.data));
+  socket.onclose = () => {
+    netSays('away, trying again', 'gone');
+    clearTimeout(beat);
+    if (game.refused) return netSays('no such seat', 'gone');
+    beat = setTimeout(connect, pause);
+    pause = Math.min(pause * 2, 8000);
+  };
+}
+
+function netSays(words, kind) {
+  byId('net').textContent = words;
+  byId('net').className = kind;
+}
+
+function sendOpen() {
+  if (game.open && socket && socket.readyState === 1) socket.send(`act ${game.open.number} ${game.open.words}`);
+}
+
+function hear(message) {
+  if (message.match !== undefined) return hearGreeting(message);
+  if (message.number !== undefined) return hearState(message);
+  if (message.here) { game.here = message.here; return draw(); }
+  if (message.hello) return;
+  if (message.re !== undefined) return hearAnswer(message);
+  if (message.no && isPlayer() && !game.match) { game.refused = true; say('This link is no seat of a match here.'); }
+}
+
+function hearGreeting(message) {
+  game.match = message.match;
+  game.names = message.names;
+  game.you = message.you;
+  netSays('live', 'here');
+  drawLinks();
+  sendOpen();
+}
+
+function hearAnswer(message) {
+  if (!game.open || message.re !== game.open.number) return;
+  if (message.no) {
+    game.open = null;
+    say(message.no === 'another entry' ? 'That was answered already.' : 'The server says: ' + message.no + '.');
+    draw();
+  } else if (message.done) {
+    game.open = null;
+    draw();
+  }
+}
+
+function hearState(state) {
+  const before = game.state, isNew = !before || before.number !== state.number;
+  game.state = state;
+  if (game.open && state.number >= game.open.number) game.open = null;
+  if (isNew) {
+    game.steps = [];
+    game.from = null;
+    const side = sideOf();
+    const position = { mine: countsOf(state, side), theirs: countsOf(state, other(side)) };
+    game.ways = state.may && state.may.includes('move') ? waysOf(position, state.dice) : [];
+    takeLines(state);
+  }
+  draw();
+  if (game.wanted >= 0) {
+    stepTo(game.wanted);
+    game.wanted = NaN;
+  }
+}
+
+// The lines of all entries: the last ones come with each state, and the others are asked for once.
+async function takeLines(state) {
+  const first = state.number - state.last.length;
+  if (game.lines.length >= first) {
+    game.lines = game.lines.slice(0, first).concat(state.last);
+    return;
+  }
+  const answer = await fetch(`/matches/${game.match}/transcript`);
+  if (!answer.ok) return;
+  game.lines = (await answer.text()).split('\n').slice(1).filter(line => line);
+  drawMoves();
+}
+
+function drawLinks() {
+  const base = '/matches/' + game.match, watch = location.origin + base;
+  fill(byId('links'),
+    game.you ? element('span', {}, 'To watch: ', element('a', { href: base }, watch), ' ', copying(watch)) : null,
+    element('a', { href: base + '/transcript', download: game.match + '.txt' }, 'Transcript'), ' ',
+    element('a', { href: base + '/mat', download: game.match + '.mat' }, 'Match file'), ' ',
+    element('a', { href: base + '/picture' }, 'Picture'));
+}
+
+function startMatch() {
+  game.secret = location.hash.slice(1);
+  game.wanted = isPlayer() ? NaN : Number(location.hash.slice(1) || NaN);
+  byId('back').addEventListener('click', () => stepTo(currentNumber() - 1));
+  byId('forth').addEventListener('click', () => stepTo(currentNumber() + 1));
+  byId('first').addEventListener('click', () => stepTo(0));
+  byId('now').addEventListener('click', () => stepTo(Infinity));
+  if (isFramed()) openElsewhere();
+  connect();
+}
+
+// In a frame of another site links open pages of their own.
+const isFramed = () => /\/embed$/.test(location.pathname);
+
+function openElsewhere() {
+  const up = document.querySelector('.up');
+  up.textContent = 'Open';
+  up.href = location.pathname.replace(/\/embed$/, '');
+  document.head.append(element('base', { target: '_blank' }));
+}
+"#;

@@ -1,0 +1,149 @@
+//! Which part of the server a path names.
+ghost use Rattle.std.specs.Prelude.{◌≡◌, IfSome};
+ghost use Rattle.std.specs.Fmt.{decimal};
+ghost use Rattle.std.specs.List.{list_all};
+ghost use Rattle.bg_requests.specs.Targets.{IsNamedBehind, IsNamedBy, IsOfMatch, IsWordOf, may_be_in_name, may_name};
+
+use itoa::Buffer;
+
+/// What there is of a match.
+#[derive(Clone, Copy, Debug, PartialEq, Eq)]
+pub enum Part {
+    /// The page of those who watch.
+    Page,
+    /// The same page, for a frame in a page of another site.
+    Embed,
+    /// The state.
+    State,
+    /// The state after so many entries.
+    StateAfter(u32),
+    Transcript,
+    /// The match file of other programs.
+    Mat,
+    Picture,
+    /// Where players' programs send actions.
+    Actions,
+    /// The socket of those who watch.
+    Live,
+}
+
+/// What a path names.
+#[derive(Clone, Copy, Debug, PartialEq, Eq)]
+pub enum Target<'a> {
+    Home,
+    Script,
+    Style,
+    /// All matches: they are listed, and new ones are made.
+    Matches,
+    /// The page of players.
+    Play,
+    /// The socket of players.
+    PlayLive,
+    Health,
+    /// A part of the match of this name.
+    Of(&'a str, Part),
+    Nothing,
+}
+
+/// Returns what a path names (docs/SERVING.md, "Paths").
+pub fn target_of(path: &str) -> Target<'_>
+    ensures { IsNamedBy path.now result }
+{
+    match path {
+        "/" => Target::Home,
+        "/script.js" => Target::Script,
+        "/style.css" => Target::Style,
+        "/matches" => Target::Matches,
+        "/play" => Target::Play,
+        "/play/live" => Target::PlayLive,
+        "/health" => Target::Health,
+        _ => match path.strip_prefix("/matches/") {
+            Some(rest) => part_of(rest),
+            None => Target::Nothing,
+        },
+    }
+}
+
+/// Returns what the name of a match, and what stands behind it, name.
+fn part_of(rest: &str) -> Target<'_>
+    ensures { IsNamedBehind rest.now result }
+{
+    match rest.split_once('/') {
+        None => of_match(rest, Some(Part::Page)),
+        Some((name, word)) => of_match(name, part_named(word)),
+    }
+}
+
+/// Returns the part of a match; nothing where it has no such part, or no match may have the name.
+fn of_match(name: &str, part: Option<Part>) -> Target<'_>
+    ensures { IsOfMatch name.entry part result }
+{
+    match part {
+        Some(part) if is_name(name) => Target::Of(name, part),
+        _ => Target::Nothing,
+    }
+}
+
+/// Returns the part that a word names, but for the page, which has none.
+fn part_named(word: &str) -> Option<Part>
+    ensures { IfSome result (IsWordOf word.now) }
+{
+    match word.strip_prefix("states/") {
+        Some(digits) => count_of(digits).map(Part::StateAfter),
+        None => plain_part(word),
+    }
+}
+
+/// Returns the part that a word without a number names.
+fn plain_part(word: &str) -> Option<Part>
+    ensures { IfSome result (IsWordOf word.now) }
+{
+    match word {
+        "embed" => Some(Part::Embed),
+        "state" => Some(Part::State),
+        "transcript" => Some(Part::Transcript),
+        "mat" => Some(Part::Mat),
+        "picture" => Some(Part::Picture),
+        "actions" => Some(Part::Actions),
+        "live" => Some(Part::Live),
+        _ => None,
+    }
+}
+
+/// Returns the number that digits say, as it is written: without a sign, and with no zero before other digits.
+fn count_of(digits: &str) -> Option<u32>
+    ensures { IfSome result (λ count. digits.now ≡ decimal count) }
+{
+    let Ok(count) = digits.parse::<u32>() else {
+        return None;
+    };
+    if Buffer::new().format(count) != digits {
+        return None;
+    }
+    Some(count)
+}
+
+/// The most bytes of a match's name.
+const MOST_NAME: usize = 64;
+
+/// Whether a match may have a name, which has letters, digits, hyphens and underscores alone, 1 to 64.
+pub fn is_name(name: &str) -> bool
+    ensures { result ≡ may_name name.now }
+{
+    let bytes = name.as_bytes();
+    has_letters(bytes) && !bytes.is_empty() && bytes.len() <= MOST_NAME
+}
+
+/// Whether all bytes may be in a name.
+fn has_letters(bytes: &[u8]) -> bool
+    ensures { result ≡ list_all may_be_in_name bytes.now }
+{
+    bytes.iter().all(|byte| is_of_name(*byte))
+}
+
+/// Whether a byte may be in a name.
+fn is_of_name(byte: u8) -> bool
+    ensures { result ≡ may_be_in_name byte }
+{
+    matches!(byte, b'0'..=b'9' | b'A'..=b'Z' | b'a'..=b'z' | b'-' | b'_')
+}

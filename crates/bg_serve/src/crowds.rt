@@ -1,0 +1,149 @@
+//! The clients of a server: who comes, who steps, and who goes.
+
+use crate::clients::Client;
+use crate::limits::MOST_CLIENTS;
+use crate::servers::{LISTENER, Server};
+use bg_site::Step;
+use mio::net::TcpStream;
+use mio::{Interest, Token};
+use std::hash::RandomState;
+use std::io;
+
+/// So many connections are accepted in one turn at most.
+const MOST_ACCEPTED: u32 = 64;
+
+impl<'a> Server<'a> {
+    /// Accepts connections. One more than are allowed is closed at once.
+    pub(crate) fn accept(&mut self, now: u64) {
+        for event in &self.events {
+            if event.token() == LISTENER {
+                self.is_accepting = true;
+            }
+        }
+        for _ in 0..MOST_ACCEPTED {
+            if !self.is_accepting {
+                return;
+            }
+            match self.listener.accept() {
+                Ok((stream, _)) => {
+                    let _ = self.take_in(stream, now);
+                }
+                // Nobody waits; or there are too many open files, and it is tried again in the next second.
+                Err(_) => self.is_accepting = false,
+            }
+        }
+    }
+
+    /// Takes a client in, where there is room.
+    ///
+    /// # Errors
+    /// Why it could not be: then it is closed.
+    fn take_in(&mut self, mut stream: TcpStream, now: u64) -> io::Result<()> {
+        let free = self.free_index();
+        if free >= MOST_CLIENTS {
+            return Ok(());
+        }
+        let _ = stream.set_nodelay(true);
+        self.poll.registry().register(
+            &mut stream,
+            Token(free + 1),
+            Interest::READABLE | Interest::WRITABLE,
+        )?;
+        let keys = RandomState::new(self.rt)?;
+        let client = Some(Client::new(self.rt.alloc(), keys, stream, now));
+        match self.clients.get_mut(free) {
+            Some(slot) => *slot = client,
+            None => self.clients.push(client)?,
+        }
+        self.again.push(free)?;
+        Ok(())
+    }
+
+    /// The first index without a client.
+    fn free_index(&self) -> usize {
+        for (index, client) in self.clients.iter().enumerate() {
+            if client.is_none() {
+                return index;
+            }
+        }
+        self.clients.len()
+    }
+
+    /// Lets the clients step whose sockets are ready, and those that had more to do.
+    pub(crate) fn step_ready(&mut self, now: u64) -> io::Result<()> {
+        let mut ready = Vec::new(self.rt.alloc());
+        for index in self.again.iter() {
+            ready.push(*index)?;
+        }
+        self.again.clear();
+        for event in &self.events {
+            let Token(token) = event.token();
+            if token > 0 {
+                ready.push(token - 1)?;
+            }
+        }
+        for index in ready.iter() {
+            self.step(*index, now)?;
+        }
+        Ok(())
+    }
+
+    /// Lets a client step.
+    fn step(&mut self, index: usize, now: u64) -> io::Result<()> {
+        let step = match self.clients.get_mut(index) {
+            Some(Some(client)) => client.step(&mut self.site, now),
+            _ => Step::Waits,
+        };
+        self.note(index, step)
+    }
+
+    /// Notes what became of a client.
+    fn note(&mut self, index: usize, step: Step) -> io::Result<()> {
+        match step {
+            Step::Waits => {}
+            Step::More => self.again.push(index)?,
+            Step::Gone => self.close(index),
+        }
+        Ok(())
+    }
+
+    /// Lets go of a client.
+    fn close(&mut self, index: usize) {
+        if let Some(slot) = self.clients.get_mut(index) {
+            if let Some(mut client) = slot.take() {
+                client.leave(&mut self.site);
+                let _ = self.poll.registry().deregister(&mut client.stream);
+            }
+        }
+    }
+
+    /// Looks once a second whether each client may stay.
+    pub(crate) fn look(&mut self, now: u64) {
+        if now == self.looked {
+            return;
+        }
+        self.looked = now;
+        self.is_accepting = true;
+        for index in 0..self.clients.len() {
+            let stays = match self.clients.get_mut(index) {
+                Some(Some(client)) => client.may_stay(&mut self.site, now),
+                _ => true,
+            };
+            if !stays {
+                self.close(index);
+            }
+        }
+    }
+
+    /// Sends what each client lacks.
+    pub(crate) fn send_news(&mut self, now: u64) -> io::Result<()> {
+        for index in 0..self.clients.len() {
+            let step = match self.clients.get_mut(index) {
+                Some(Some(client)) if client.is_live() => client.send(&mut self.site, now),
+                _ => Step::Waits,
+            };
+            self.note(index, step)?;
+        }
+        Ok(())
+    }
+}

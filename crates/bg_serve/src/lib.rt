@@ -1,0 +1,28 @@
+//! A server of matches for browsers: one thread over sockets on the loopback address, and a folder for each match.
+//! What requests and messages mean is `bg_site`'s.
+//!
+//! ```
+//! let failures = Failures::new();
+//! let server = Server::begin(&rt, ".", 0, &failures)?;
+//! assert!(rt; server.matches() == 0 && server.left_out().is_empty());
+//! let address = server.address()?;
+//! assert!(rt; address.port() > 0);
+//! ```
+#![tactic(auto)]
+
+mod clients;
+mod crowds;
+mod exchanges;
+mod folders;
+mod limits;
+mod quotas;
+mod seat_files;
+pub mod serve;
+mod servers;
+
+pub use folders::FolderStore;
+pub use limits::{
+    HEAD_SECONDS, HELLO_SECONDS, MOST_BODY, MOST_CLIENTS, MOST_HEAD, MOST_MADE, PING_SECONDS,
+    SILENT_SECONDS, STALL_SECONDS,
+};
+pub use servers::Server;

@@ -1,0 +1,104 @@
+//! The file of a match that says who may play it: the SHA-256 of the secret of each seat.
+
+use bg_site::{Digest, Seats, digest_of};
+use std::fs::{File, OpenOptions};
+use std::io::{ErrorKind, Write};
+use std::os::unix::fs::OpenOptionsExt;
+use std::random::RandomSource;
+use std::rt::Files;
+use std::{fs, io};
+
+/// The name of the file.
+const NAME: &str = "seats";
+
+/// A file that only its owner reads and writes.
+const OWNER_ALONE: u32 = 0o600;
+
+/// Returns so many random bytes as hexadecimal digits.
+pub(crate) fn random_digits(
+    rt: &(impl RandomSource + AllocGlobal),
+    count: usize,
+) -> io::Result<String> {
+    let mut bytes = [0u8; 16];
+    rt.fill_bytes(&mut bytes)?;
+    let mut text = String::new(rt.alloc());
+    for byte in &bytes[..count.min(16)] {
+        write!(text, "{byte:02x}")?;
+    }
+    Ok(text)
+}
+
+/// Returns the seats of a match, if its folder says who may play it.
+///
+/// # Errors
+/// Why the file could not be read; `InvalidData` where it says something else.
+pub(crate) fn read_seats(
+    rt: &(impl Files<File = File> + AllocGlobal),
+    folder: &str,
+) -> io::Result<Option<Seats>> {
+    let path = format!(in rt.alloc(); "{folder}/{NAME}")?;
+    let text = match fs::read_to_string(rt, path.as_str()) {
+        Err(error) if error.kind() == ErrorKind::NotFound => return Ok(None),
+        read => read?,
+    };
+    match seats_in(text.as_str()) {
+        Some(seats) => Ok(Some(seats)),
+        None => Err(io::Error::from(ErrorKind::InvalidData)),
+    }
+}
+
+/// Returns the seats that a text says: two lines, `x DIGEST` and `o DIGEST`.
+fn seats_in(text: &str) -> Option<Seats> {
+    let (first, rest) = text.split_once('\n')?;
+    let second = rest.strip_suffix('\n')?;
+    Some(Seats {
+        x: digest_in(first.strip_prefix("x ")?)?,
+        o: digest_in(second.strip_prefix("o ")?)?,
+    })
+}
+
+/// Returns the digest that 64 hexadecimal digits say.
+fn digest_in(text: &str) -> Option<Digest> {
+    let mut digest = [0; 32];
+    match hex::decode_to_slice(text, &mut digest) {
+        Ok(()) => Some(digest),
+        Err(_) => None,
+    }
+}
+
+/// Writes who may play a match into its folder: those who know these secrets. The secrets themselves are not kept.
+///
+/// # Errors
+/// Why the file could not be written.
+pub(crate) fn write_seats(
+    rt: &(impl Files<File = File> + AllocGlobal),
+    folder: &str,
+    x: &str,
+    o: &str,
+) -> io::Result<Seats> {
+    let seats = Seats {
+        x: digest_of(x),
+        o: digest_of(o),
+    };
+    let mut text = String::new(rt.alloc());
+    put_line(&mut text, "x ", &seats.x)?;
+    put_line(&mut text, "o ", &seats.o)?;
+    let path = format!(in rt.alloc(); "{folder}/{NAME}")?;
+    let mut file = OpenOptions::new()
+        .write(true)
+        .create_new(true)
+        .mode(OWNER_ALONE)
+        .open(rt, path.as_str())?;
+    file.write_all(text.as_str().as_bytes())?;
+    file.sync_all()?;
+    Ok(seats)
+}
+
+fn put_line(text: &mut String, word: &str, digest: &Digest) -> io::Result<()> {
+    text.push_str(word)?;
+    for byte in digest {
+        write!(text, "{byte:02x}")?;
+    }
+    text.push('\n')?;
+    Ok(())
+}

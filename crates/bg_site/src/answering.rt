@@ -1,0 +1,123 @@
+//! What a request is answered.
+
+use crate::files::Asked;
+use crate::places::Store;
+use crate::requests::is_own_origin;
+use crate::sites::Site;
+use bg_pages::{Page, add_common, answer_line, answer_page, answer_script, answer_style, refuse};
+use bg_requests::{Part, Target, target_of};
+use bg_world::Keeper;
+use bytes::Bytes;
+use http::{Request, StatusCode};
+use http_server::{Response, Service};
+use std::alloc::AllocError;
+
+impl<K: Keeper + Drop, S: Store<K> + Drop> Service for Site<K, S> {
+    ghost answers = { λ _ _ _ _. Unit {0} };
+
+    fn call(
+        &mut self,
+        request: &Request<Bytes>,
+        response: &mut Response,
+    ) -> Result<(), AllocError> {
+        if self.answer(request, response).is_err() {
+            response.clear();
+            response.status = StatusCode::SERVICE_UNAVAILABLE;
+        }
+        Ok(())
+    }
+}
+
+impl<K: Keeper + Drop, S: Store<K> + Drop> Site<K, S> {
+    /// Answers a request.
+    fn answer(
+        &mut self,
+        request: &Request<Bytes>,
+        response: &mut Response,
+    ) -> Result<(), AllocError> {
+        add_common(response)?;
+        match request.method().as_str() {
+            "GET" | "HEAD" => self.get(request, response),
+            "POST" if is_own_origin(request) => self.post(request, response),
+            "POST" => refuse(
+                response,
+                StatusCode::FORBIDDEN,
+                "this comes from a page of another site\n",
+            ),
+            _ => refuse(
+                response,
+                StatusCode::METHOD_NOT_ALLOWED,
+                "GET, HEAD and POST alone are known\n",
+            ),
+        }
+    }
+
+    /// Answers a request that changes nothing.
+    fn get(&mut self, request: &Request<Bytes>, response: &mut Response) -> Result<(), AllocError> {
+        match target_of(request.uri().path()) {
+            Target::Home => answer_page(response, Page::Home),
+            Target::Play => answer_page(response, Page::Match),
+            Target::Script => answer_script(response),
+            Target::Style => answer_style(response),
+            Target::Health => answer_line(response, "ok\n"),
+            Target::Matches => self.list(request, response),
+            Target::PlayLive => self.upgrade(request, None, response),
+            Target::Of(name, part) => match self.by_name(name) {
+                Some(index) => self.get_part(request, index, part, response),
+                None => missing(response),
+            },
+            Target::Nothing => missing(response),
+        }
+    }
+
+    /// Answers with a part of a match.
+    fn get_part(
+        &mut self,
+        request: &Request<Bytes>,
+        index: usize,
+        part: Part,
+        response: &mut Response,
+    ) -> Result<(), AllocError> {
+        let asked = match part {
+            Part::Page => return answer_page(response, Page::Match),
+            Part::Embed => return answer_page(response, Page::Embedded),
+            Part::Live => return self.upgrade(request, Some(index), response),
+            Part::Actions => {
+                return refuse(
+                    response,
+                    StatusCode::METHOD_NOT_ALLOWED,
+                    "actions are posted\n",
+                );
+            }
+            Part::State => Asked::State(None),
+            Part::StateAfter(count) => Asked::StateAfter(count),
+            Part::Transcript => Asked::Transcript,
+            Part::Mat => Asked::Mat,
+            Part::Picture => Asked::Picture,
+        };
+        self.answer_asked(index, asked, response)
+    }
+
+    /// Answers a request that may change something.
+    fn post(
+        &mut self,
+        request: &Request<Bytes>,
+        response: &mut Response,
+    ) -> Result<(), AllocError> {
+        match target_of(request.uri().path()) {
+            Target::Matches => self.make(request, response),
+            Target::Of(name, Part::Actions) => self.act_by_request(request, name, response),
+            Target::Nothing => missing(response),
+            _ => refuse(
+                response,
+                StatusCode::METHOD_NOT_ALLOWED,
+                "this takes no POST\n",
+            ),
+        }
+    }
+}
+
+/// Answers that there is nothing of this name.
+pub(crate) fn missing(response: &mut Response) -> Result<(), AllocError> {
+    refuse(response, StatusCode::NOT_FOUND, "there is nothing here\n")
+}

@@ -1,0 +1,197 @@
+//! The socket of a peer, once it is one: bytes in, bytes out.
+ghost use Rattle.std.specs.Prelude.{◌↔◌, ◌≤◌, ◌<◌, IsTrue, length};
+
+use crate::peers::Peer;
+use crate::places::Store;
+use crate::sites::Site;
+use bg_requests::MOST_MESSAGE;
+use bg_world::Keeper;
+use bytes::{Buf, BytesMut};
+use http_server::Rope;
+use std::alloc::Global;
+use std::io;
+use std::io::{Read, Write};
+use websocket::protocol::{FrameStatus, Message, NoMask, Role, WebSocketConfig, WebSocketContext};
+
+/// The most bytes that wait for a peer before nothing more is read of him.
+pub const MOST_WAITING: usize = 65_536;
+
+/// So many messages of a peer are taken in one turn at most, so that others have theirs.
+const MOST_TAKEN: u32 = 64;
+
+/// So much room a read has at least.
+const ROOM: usize = 2048;
+
+/// What becomes of a peer after a step.
+#[derive(Clone, Copy, Debug, PartialEq, Eq)]
+pub enum Step {
+    /// There is nothing to do until his socket is ready again.
+    Waits,
+    /// There may be more to do.
+    More,
+    /// He is gone, or has to go.
+    Gone,
+}
+
+/// A WebSocket: what was read of it and not taken yet, and what waits to be sent.
+#[derive(Drop)]
+pub struct Channel {
+    alloc: Global,
+    context: WebSocketContext,
+    input: BytesMut,
+    output: Rope,
+    peer: Peer,
+}
+
+impl Channel {
+    /// The socket of a peer, of which this was read, and for which this waits.
+    pub fn new(alloc: Global, input: BytesMut, output: Rope, peer: Peer) -> Channel {
+        let config = WebSocketConfig::default()
+            .max_message_size(Some(MOST_MESSAGE))
+            .max_frame_size(Some(MOST_MESSAGE));
+        Channel {
+            alloc,
+            context: WebSocketContext::new(alloc, Role::Server, config),
+            input,
+            output,
+            peer,
+        }
+    }
+
+    /// Whose socket it is.
+    pub fn peer(&self) -> &Peer {
+        &self.peer
+    }
+
+    /// Whether anything waits to be sent.
+    pub fn has_output(&self) -> bool
+        ensures { IsTrue result ↔ (0 < length self.now.output.items) }
+    {
+        !self.output.is_empty()
+    }
+
+    /// Whether more is to be read of it: not while more than 65,536 bytes wait.
+    pub fn wants_read(&self) -> bool
+        ensures { IsTrue result ↔ (length self.now.output.items ≤ MOST_WAITING) }
+    {
+        self.output.len() <= MOST_WAITING
+    }
+
+    /// Reads once, and returns how many bytes came.
+    ///
+    /// # Errors
+    /// Why nothing could be read.
+    pub fn read_from<R: Read>(&mut self, reader: &mut R) -> io::Result<usize> {
+        self.input.reserve(ROOM)?;
+        self.input.read_from(reader)
+    }
+
+    /// Writes once, and returns how many bytes went.
+    ///
+    /// # Errors
+    /// Why nothing could be written.
+    pub fn write_to<W: Write>(&mut self, writer: &mut W) -> io::Result<usize> {
+        let count = writer.write(self.output.chunk())?;
+        self.output.advance(count);
+        Ok(count)
+    }
+
+    /// Takes the messages that are whole, and puts the answers to them behind what waits.
+    pub fn take_messages<K, S>(&mut self, site: &mut Site<K, S>) -> Step
+    where
+        K: Keeper + Drop,
+        S: Store<K> + Drop,
+    {
+        for _ in 0..MOST_TAKEN {
+            match self.take_frame(site) {
+                Step::More => {}
+                step => return step,
+            }
+        }
+        Step::More
+    }
+
+    /// Takes a frame, if there is a whole one.
+    fn take_frame<K, S>(&mut self, site: &mut Site<K, S>) -> Step
+    where
+        K: Keeper + Drop,
+        S: Store<K> + Drop,
+    {
+        if self.input.is_empty() {
+            return Step::Waits;
+        }
+        let mut replies = BytesMut::new(self.alloc);
+        let step = match self
+            .context
+            .read(self.input.as_mut_slice(), &mut replies, &mut NoMask)
+        {
+            Ok(FrameStatus::Partial(_)) => return Step::Waits,
+            Ok(FrameStatus::Complete(step)) => step,
+            Err(_) => return Step::Gone,
+        };
+        let stays = match &step.message {
+            Some(received) => match received.message(self.input.as_slice()) {
+                Message::Text(text) => { answer_text(site, &mut self.peer, text, &mut self.output) }
+                _ => true,
+            },
+            None => true,
+        };
+        self.input.advance(step.consumed);
+        if stays && self.put(replies) {
+            Step::More
+        } else {
+            Step::Gone
+        }
+    }
+
+    /// Puts bytes behind what waits. Whether there was memory for them.
+    fn put(&mut self, bytes: BytesMut) -> bool {
+        match bytes.freeze() {
+            Ok(bytes) => self.output.push(bytes).is_ok(),
+            Err(_) => false,
+        }
+    }
+
+    /// Puts the next frame that the peer lacks behind what waits; `Waits` where he lacks none.
+    pub fn pull<K, S>(&mut self, site: &mut Site<K, S>) -> Step
+    where
+        K: Keeper + Drop,
+        S: Store<K> + Drop,
+    {
+        if !self.context.can_write() {
+            return Step::Gone;
+        }
+        match site.next_frame(&mut self.peer) {
+            Ok(Some(frame)) => match self.output.push(frame) {
+                Ok(()) => Step::More,
+                Err(_) => Step::Gone,
+            },
+            Ok(None) => Step::Waits,
+            Err(_) => Step::Gone,
+        }
+    }
+
+    /// Asks whether the peer is there. Whether there was memory to do so.
+    pub fn ask(&mut self) -> bool {
+        let mut out = BytesMut::new(self.alloc);
+        match self
+            .context
+            .write(Message::Ping(b""), &mut out, &mut NoMask)
+        {
+            Ok(()) => self.put(out),
+            Err(_) => false,
+        }
+    }
+}
+
+/// Puts the answer to a text behind what waits. Whether the peer may stay.
+fn answer_text<K, S>(site: &mut Site<K, S>, peer: &mut Peer, text: &str, output: &mut Rope) -> bool
+where
+    K: Keeper + Drop,
+    S: Store<K> + Drop,
+{
+    match site.message(peer, text) {
+        Ok(reply) => output.push(reply.frame).is_ok() && reply.stays,
+        Err(_) => false,
+    }
+}

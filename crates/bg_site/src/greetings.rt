@@ -1,0 +1,62 @@
+//! What a peer is told beside the state: which match it is, and who is there.
+
+use crate::places::Presence;
+use bg_board::Player;
+use bg_states::{letter_of, put_quoted, truth};
+use bg_system::{Name, Names};
+use bg_text::{put_number, put_text};
+use std::alloc::{AllocError, Global};
+
+/// Returns which match a peer looks at, how its players are called, and whose seat he has.
+pub(crate) fn greeting_text(
+    alloc: Global,
+    name: &str,
+    names: &Names,
+    seat: Option<Player>,
+) -> Result<Vec<u8>, AllocError> {
+    let mut out = Vec::new(alloc);
+    put_text(&mut out, "{\"match\":")?;
+    put_quoted(&mut out, name)?;
+    put_names(&mut out, names)?;
+    put_text(&mut out, ",\"you\":\"")?;
+    put_text(&mut out, letter_of(seat))?;
+    put_text(&mut out, "\"}")?;
+    Ok(out)
+}
+
+/// Adds how the players are called.
+pub(crate) fn put_names(out: &mut Vec<u8>, names: &Names) -> Result<(), AllocError> {
+    put_text(out, ",\"names\":[")?;
+    put_name(out, &names.x)?;
+    put_text(out, ",")?;
+    put_name(out, &names.o)?;
+    put_text(out, "]")
+}
+
+/// Adds a name; an empty one where there is none.
+fn put_name(out: &mut Vec<u8>, name: &Option<Name>) -> Result<(), AllocError> {
+    match name {
+        None => put_quoted(out, ""),
+        Some(name) => put_quoted(out, name.as_str()),
+    }
+}
+
+/// Returns who is there.
+pub(crate) fn presence_text(alloc: Global, presence: Presence) -> Result<Vec<u8>, AllocError> {
+    let mut out = Vec::new(alloc);
+    put_text(&mut out, "{")?;
+    put_presence(&mut out, presence)?;
+    put_text(&mut out, "}")?;
+    Ok(out)
+}
+
+/// Adds who is there: whether X and O are, and how many watch.
+pub(crate) fn put_presence(out: &mut Vec<u8>, presence: Presence) -> Result<(), AllocError> {
+    put_text(out, "\"here\":[")?;
+    put_text(out, truth(presence.x > 0))?;
+    put_text(out, ",")?;
+    put_text(out, truth(presence.o > 0))?;
+    put_text(out, ",")?;
+    put_number(out, presence.watching.into())?;
+    put_text(out, "]")
+}

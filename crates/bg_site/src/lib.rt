@@ -1,0 +1,34 @@
+//! What requests and messages do to the matches of a server, and which bytes a peer gets. It opens no socket and no
+//! file: the host hands in bytes, and keeps the matches. For `bg_serve`, and hosts of another kind.
+//!
+//! ```
+//! let mut site = Site::new(alloc, store);
+//! let is_open = site.open(found);
+//! assert!(rt; is_open && site.len() == 1);
+//! // A connection of http_server calls the site for each request, and a Channel for each message of a socket.
+//! let mut connection = Connection::new(alloc, keys, Config::default());
+//! connection.advance(&mut site);
+//! ```
+#![tactic(auto)]
+
+mod answering;
+mod channels;
+mod files;
+mod frames;
+mod greetings;
+mod lists;
+mod making;
+mod messages;
+mod peers;
+mod places;
+mod requests;
+mod sending;
+mod sites;
+mod sockets;
+
+pub use bg_requests::{Digest, MOST_MESSAGE, Seats, digest_of};
+pub use channels::{Channel, MOST_WAITING, Step};
+pub use messages::Reply;
+pub use peers::Peer;
+pub use places::{Found, Made, MatchName, Store};
+pub use sites::{MOST_MATCHES, Site};

@@ -1,0 +1,152 @@
+//! Lists of matches.
+
+use crate::greetings::{put_names, put_presence};
+use crate::places::{Place, Summary};
+use crate::requests::query_part;
+use bg_states::{letter_of, put_quoted};
+use bg_system::Name;
+use bg_text::{put_number, put_text};
+use std::alloc::{AllocError, Global};
+
+/// So many matches stand on a page.
+const PAGE: usize = 50;
+
+/// Which matches are asked for.
+#[derive(Clone, Copy, Debug, PartialEq, Eq)]
+pub(crate) struct Wanted<'a> {
+    /// Whether those that have ended.
+    is_finished: bool,
+    /// How many pages stand before the one that is wanted.
+    before: u32,
+    /// What the name of a player, or of the match, is to have in it.
+    search: &'a str,
+}
+
+impl<'a> Wanted<'a> {
+    /// Returns what a query asks for, `list=finished`, `page=N`, with the text that it searches for.
+    pub(crate) fn of(query: Option<&str>, search: &'a str) -> Wanted<'a> {
+        Wanted {
+            is_finished: query_part(query, "list") == Some("finished"),
+            before: pages_before(query_part(query, "page")),
+            search,
+        }
+    }
+
+    /// Whether a match is among those that are asked for.
+    fn takes<K>(&self, place: &Place<K>) -> bool {
+        place.summary.winner.is_some() == self.is_finished
+            && (has_text(&place.names.x, self.search)
+                || has_text(&place.names.o, self.search)
+                || place.name.as_str().contains(self.search))
+    }
+}
+
+/// Returns how many pages stand before the one of this number, which is counted from 1.
+fn pages_before(digits: Option<&str>) -> u32 {
+    match digits.unwrap_or("1").parse::<u32>() {
+        Ok(page) => page.saturating_sub(1),
+        Err(_) => 0,
+    }
+}
+
+/// Whether there is a name, which has a text in it.
+fn has_text(name: &Option<Name>, search: &str) -> bool {
+    match name {
+        Some(name) => name.as_str().contains(search),
+        None => false,
+    }
+}
+
+/// Returns a page of a list, those with the latest news first.
+pub(crate) fn list_text<K>(
+    alloc: Global,
+    places: &[Place<K>],
+    wanted: &Wanted<'_>,
+) -> Result<Vec<u8>, AllocError> {
+    let found = found_by(alloc, places, wanted)?;
+    let mut out = Vec::new(alloc);
+    put_text(&mut out, "{\"count\":")?;
+    put_number(&mut out, found.len() as u64)?;
+    put_text(&mut out, ",\"page\":")?;
+    put_number(&mut out, u64::from(wanted.before) + 1)?;
+    put_text(&mut out, ",\"pages\":")?;
+    put_number(&mut out, found.len().div_ceil(PAGE).max(1) as u64)?;
+    put_text(&mut out, ",\"matches\":[")?;
+    let start = (wanted.before as usize).saturating_mul(PAGE);
+    put_rows(&mut out, places, rows_from(&found, start))?;
+    put_text(&mut out, "]}")?;
+    Ok(out)
+}
+
+/// Returns the places of the matches that are asked for, those with the latest news first.
+fn found_by<K>(
+    alloc: Global,
+    places: &[Place<K>],
+    wanted: &Wanted<'_>,
+) -> Result<Vec<(u64, usize)>, AllocError> {
+    let mut found = Vec::new(alloc);
+    for (index, place) in places.iter().enumerate() {
+        if wanted.takes(place) {
+            found.push((u64::MAX - place.news, index))?;
+        }
+    }
+    found.sort()?;
+    Ok(found)
+}
+
+/// Returns the rows of a page that begins at this one.
+fn rows_from(found: &[(u64, usize)], start: usize) -> &[(u64, usize)] {
+    let start = start.min(found.len());
+    let end = start.saturating_add(PAGE).min(found.len());
+    &found[start..end]
+}
+
+/// Adds the matches of a page, with commas between them.
+fn put_rows<K>(
+    out: &mut Vec<u8>,
+    places: &[Place<K>],
+    rows: &[(u64, usize)],
+) -> Result<(), AllocError> {
+    let mut is_first = true;
+    for row in rows {
+        if let Some(place) = places.get(row.1) {
+            put_comma(out, is_first)?;
+            put_row(out, place)?;
+            is_first = false;
+        }
+    }
+    Ok(())
+}
+
+/// Adds what stands before a match: a comma, but before the first.
+fn put_comma(out: &mut Vec<u8>, is_first: bool) -> Result<(), AllocError> {
+    put_text(out, if is_first { "" } else { "," })
+}
+
+/// Adds a match.
+fn put_row<K>(out: &mut Vec<u8>, place: &Place<K>) -> Result<(), AllocError> {
+    put_text(out, "{\"match\":")?;
+    put_quoted(out, place.name.as_str())?;
+    put_names(out, &place.names)?;
+    put_text(out, ",\"length\":")?;
+    put_number(out, place.terms.length.into())?;
+    put_summary(out, place.summary)?;
+    put_text(out, ",")?;
+    put_presence(out, place.presence)?;
+    put_text(out, "}")
+}
+
+/// Adds how a match stands.
+fn put_summary(out: &mut Vec<u8>, summary: Summary) -> Result<(), AllocError> {
+    put_text(out, ",\"number\":")?;
+    put_number(out, summary.entries.into())?;
+    put_text(out, ",\"score\":[")?;
+    put_number(out, summary.score.0.into())?;
+    put_text(out, ",")?;
+    put_number(out, summary.score.1.into())?;
+    put_text(out, "],\"turn\":\"")?;
+    put_text(out, letter_of(summary.turn))?;
+    put_text(out, "\",\"winner\":\"")?;
+    put_text(out, letter_of(summary.winner))?;
+    put_text(out, "\"")
+}

@@ -1,0 +1,149 @@
+//! Requests that list matches, make one, or act in one.
+
+use crate::answering::missing;
+use crate::lists::{Wanted, list_text};
+use crate::places::{Made, Store};
+use crate::requests::{bearer_of, is_json, ordered_by, query_part};
+use crate::sites::{MOST_MATCHES, Site};
+use bg_pages::{Kind, answer_text, refuse};
+use bg_requests::parse_act;
+use bg_states::put_quoted;
+use bg_text::put_text;
+use bg_world::Keeper;
+use bytes::Bytes;
+use http::{Request, StatusCode};
+use http_server::Response;
+use std::alloc::{AllocError, Global};
+
+impl<K: Keeper + Drop, S: Store<K> + Drop> Site<K, S> {
+    /// Answers with a page of the list of matches.
+    pub(crate) fn list(
+        &self,
+        request: &Request<Bytes>,
+        response: &mut Response,
+    ) -> Result<(), AllocError> {
+        let query = request.uri().query();
+        let search = query_part(query, "search").unwrap_or("");
+        let search = form_urlencoded::decode(self.alloc, search.as_bytes())?;
+        let wanted = Wanted::of(query, search.as_str());
+        let text = list_text(self.alloc, &self.places, &wanted)?;
+        answer_text(response, Kind::Json, text)
+    }
+
+    /// Makes the match that a request asks for, and answers with the links of its seats: nobody else is told them.
+    pub(crate) fn make(
+        &mut self,
+        request: &Request<Bytes>,
+        response: &mut Response,
+    ) -> Result<(), AllocError> {
+        if !is_json(request) {
+            return refuse(
+                response,
+                StatusCode::UNSUPPORTED_MEDIA_TYPE,
+                "this takes application/json\n",
+            );
+        }
+        let Some(ordered) = ordered_by(self.alloc, request.body().as_slice()) else {
+            return refuse(
+                response,
+                StatusCode::BAD_REQUEST,
+                "a match has a length from 1 to 99, rules 1 or 2, and names\n",
+            );
+        };
+        if !self.may_make {
+            return refuse(
+                response,
+                StatusCode::TOO_MANY_REQUESTS,
+                "too many matches in a short time\n",
+            );
+        }
+        if self.places.len() >= MOST_MATCHES {
+            return refuse_full(response);
+        }
+        match self.store.make(ordered.terms, ordered.names) {
+            Some(made) => self.answer_made(made, response),
+            None => refuse(
+                response,
+                StatusCode::INSUFFICIENT_STORAGE,
+                "the match could not be saved\n",
+            ),
+        }
+    }
+
+    /// Takes in a match that was made, and answers with its links.
+    fn answer_made(&mut self, made: Made<K>, response: &mut Response) -> Result<(), AllocError> {
+        let Made { found, x, o } = made;
+        let text = links_text(self.alloc, found.name.as_str(), x.as_str(), o.as_str())?;
+        if !self.open_made(found) {
+            return refuse_full(response);
+        }
+        response.status = StatusCode::CREATED;
+        answer_text(response, Kind::Json, text)
+    }
+
+    /// Lets the player act whose secret a request has.
+    pub(crate) fn act_by_request(
+        &mut self,
+        request: &Request<Bytes>,
+        name: &str,
+        response: &mut Response,
+    ) -> Result<(), AllocError> {
+        let Some(index) = self.by_name(name) else {
+            return missing(response);
+        };
+        let seat = match bearer_of(request) {
+            Some(secret) => self.by_secret(secret),
+            None => None,
+        };
+        let Some((theirs, player)) = seat else {
+            return refuse(
+                response,
+                StatusCode::UNAUTHORIZED,
+                "authorization: Bearer SECRET is missing, or no seat's\n",
+            );
+        };
+        if theirs != index {
+            return refuse(
+                response,
+                StatusCode::FORBIDDEN,
+                "this seat is that of another match\n",
+            );
+        }
+        let text = str::from_utf8(request.body().as_slice()).unwrap_or("");
+        match parse_act(text.trim_ascii_end()) {
+            Some((number, words)) => {
+                let answer = self.answer_of(index, player, number, words)?;
+                answer_text(response, Kind::Json, answer)
+            }
+            None => refuse(
+                response,
+                StatusCode::BAD_REQUEST,
+                "an action is NUMBER WORDS\n",
+            ),
+        }
+    }
+}
+
+/// Answers that there are as many matches as may be.
+fn refuse_full(response: &mut Response) -> Result<(), AllocError> {
+    refuse(
+        response,
+        StatusCode::SERVICE_UNAVAILABLE,
+        "there is no room for another match\n",
+    )
+}
+
+/// Returns the links of a match that was made.
+fn links_text(alloc: Global, name: &str, x: &str, o: &str) -> Result<Vec<u8>, AllocError> {
+    let mut out = Vec::new(alloc);
+    put_text(&mut out, "{\"match\":")?;
+    put_quoted(&mut out, name)?;
+    put_text(&mut out, ",\"watch\":\"/matches/")?;
+    put_text(&mut out, name)?;
+    put_text(&mut out, "\",\"x\":\"/play#")?;
+    put_text(&mut out, x)?;
+    put_text(&mut out, "\",\"o\":\"/play#")?;
+    put_text(&mut out, o)?;
+    put_text(&mut out, "\"}\n")?;
+    Ok(out)
+}

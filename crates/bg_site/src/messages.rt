@@ -1,0 +1,106 @@
+//! Messages of peers, and the answers to them.
+
+use crate::frames::frame_of;
+use crate::peers::Peer;
+use crate::places::Store;
+use crate::sites::Site;
+use bg_board::Player;
+use bg_hosted::Acted;
+use bg_party::ChooseFault;
+use bg_requests::{Message, parse_message};
+use bg_states::put_quoted;
+use bg_text::{parse_action, put_number, put_text};
+use bg_world::Keeper;
+use bytes::Bytes;
+use std::alloc::AllocError;
+
+/// The answer to a message, and whether the peer may stay.
+#[derive(Drop)]
+pub struct Reply {
+    pub frame: Bytes,
+    pub stays: bool,
+}
+
+impl<K: Keeper + Drop, S: Store<K> + Drop> Site<K, S> {
+    /// Takes a message of a peer, and returns the answer to it.
+    ///
+    /// # Errors
+    /// AllocError where there is no memory for it.
+    pub fn message(&mut self, peer: &mut Peer, text: &str) -> Result<Reply, AllocError> {
+        match parse_message(text) {
+            Message::Hello(secret) if !peer.is_known() => self.hello(peer, secret),
+            Message::Act(number, words) if peer.is_known() => {
+                self.act_by_message(peer, number, words)
+            }
+            _ => self.reply(b"{\"no\":\"this is no message\"}", peer.is_known()),
+        }
+    }
+
+    /// Gives a peer the seat of his secret.
+    fn hello(&mut self, peer: &mut Peer, secret: &str) -> Result<Reply, AllocError> {
+        let Some((index, player)) = self.by_secret(secret) else {
+            return self.reply(b"{\"no\":\"there is no such seat\"}", false);
+        };
+        peer.sit(index, player);
+        self.come(peer);
+        self.reply(b"{\"hello\":true}", true)
+    }
+
+    /// Lets the player act whose seat a peer has.
+    fn act_by_message(
+        &mut self,
+        peer: &Peer,
+        number: u32,
+        words: &str,
+    ) -> Result<Reply, AllocError> {
+        let (Some(index), Some(player)) = (peer.place, peer.seat) else {
+            return self.reply(b"{\"no\":\"you watch\"}", true);
+        };
+        let answer = self.answer_of(index, player, number, words)?;
+        self.reply(&answer, true)
+    }
+
+    fn reply(&self, text: &[u8], stays: bool) -> Result<Reply, AllocError> {
+        Ok(Reply {
+            frame: frame_of(self.alloc, text)?,
+            stays,
+        })
+    }
+
+    /// Lets a player act, and returns what came of it.
+    pub(crate) fn answer_of(
+        &mut self,
+        index: usize,
+        player: Player,
+        number: u32,
+        words: &str,
+    ) -> Result<Vec<u8>, AllocError> {
+        let mut out = Vec::new(self.alloc);
+        put_text(&mut out, "{\"re\":")?;
+        put_number(&mut out, number.into())?;
+        match parse_action(words.as_bytes()) {
+            Ok(action) => put_text(
+                &mut out,
+                acted_words(self.act(index, player, number, action)),
+            )?,
+            Err(fault) => {
+                put_text(&mut out, ",\"no\":")?;
+                put_quoted(&mut out, fault.reason())?;
+            }
+        }
+        put_text(&mut out, "}")?;
+        Ok(out)
+    }
+}
+
+/// What is said of what came of an action.
+fn acted_words(acted: Acted) -> &'static str {
+    match acted {
+        Acted::Done => ",\"done\":true",
+        Acted::Waits | Acted::Refused(ChooseFault::AlreadyClaimed) => ",\"waits\":true",
+        Acted::OtherEntry => ",\"no\":\"another entry\"",
+        Acted::Refused(ChooseFault::NotYourTurn) => ",\"no\":\"not your turn\"",
+        Acted::Refused(ChooseFault::Illegal(_)) => ",\"no\":\"not legal\"",
+        Acted::Failed => ",\"no\":\"not saved: try again\"",
+    }
+}

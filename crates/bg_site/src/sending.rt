@@ -1,0 +1,93 @@
+//! What a peer gets by his socket.
+
+use crate::files::{Asked, Given};
+use crate::frames::frame_of;
+use crate::greetings::{greeting_text, presence_text};
+use crate::peers::Peer;
+use crate::places::Store;
+use crate::sites::Site;
+use bg_board::Player;
+use bg_world::Keeper;
+use bytes::Bytes;
+use std::alloc::AllocError;
+
+impl<K: Keeper + Drop, S: Store<K> + Drop> Site<K, S> {
+    /// Returns who the connection is that the last request upgraded, if it did so. Ask this before another connection
+    /// goes on.
+    pub fn take_upgraded(&mut self) -> Option<Peer> {
+        self.upgraded.take()
+    }
+
+    /// Notes that a peer has come, as his socket begins.
+    pub fn come(&mut self, peer: &Peer) {
+        if let Some(index) = peer.place {
+            if let Some(place) = self.places.get_mut(index) {
+                place.presence = place.presence.come(peer.seat);
+                place.comings = place.comings.saturating_add(1);
+                let _ = self.note_news();
+            }
+        }
+    }
+
+    /// Notes that a peer has left, as his socket ends.
+    pub fn leave(&mut self, peer: &Peer) {
+        if let Some(index) = peer.place {
+            if let Some(place) = self.places.get_mut(index) {
+                place.presence = place.presence.leave(peer.seat);
+                place.comings = place.comings.saturating_add(1);
+                let _ = self.note_news();
+            }
+        }
+    }
+
+    /// Returns the next frame that a peer lacks, and notes that he has it; None where he lacks none.
+    ///
+    /// # Errors
+    /// AllocError where there is no memory for it.
+    pub fn next_frame(&mut self, peer: &mut Peer) -> Result<Option<Bytes>, AllocError> {
+        let Some(index) = peer.place else {
+            return Ok(None);
+        };
+        let Some(place) = self.places.get(index) else {
+            return Ok(None);
+        };
+        let (version, comings, presence) = (place.version, place.comings, place.presence);
+        if !peer.is_greeted {
+            peer.is_greeted = true;
+            let text = greeting_text(self.alloc, place.name.as_str(), &place.names, peer.seat)?;
+            return Ok(Some(frame_of(self.alloc, &text)?));
+        }
+        if peer.version != version {
+            peer.version = version;
+            return self.state_frame(index, peer.seat);
+        }
+        if peer.comings != comings {
+            peer.comings = comings;
+            let text = presence_text(self.alloc, presence)?;
+            return Ok(Some(frame_of(self.alloc, &text)?));
+        }
+        Ok(None)
+    }
+
+    /// Returns the frame of the state of a match, for those who watch or for a player; None where it can't be read. It
+    /// is made once for each version.
+    fn state_frame(
+        &mut self,
+        index: usize,
+        seat: Option<Player>,
+    ) -> Result<Option<Bytes>, AllocError> {
+        if let Some(place) = self.places.get(index) {
+            if let Some(frame) = place.frames.of(seat)? {
+                return Ok(Some(frame));
+            }
+        }
+        let Given::Text(text) = self.give(index, Asked::State(seat))? else {
+            return Ok(None);
+        };
+        let frame = frame_of(self.alloc, &text)?;
+        if let Some(place) = self.places.get_mut(index) {
+            place.frames.keep(seat, frame.clone()?);
+        }
+        Ok(Some(frame))
+    }
+}

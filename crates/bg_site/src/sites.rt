@@ -1,0 +1,176 @@
+//! All matches of a server.
+
+use crate::peers::Peer;
+use crate::places::{Found, Place, Store, acted_before};
+use bg_board::Player;
+use bg_hosted::Acted;
+use bg_match::{Action, Number};
+use bg_requests::digest_of;
+use bg_world::Keeper;
+use std::alloc::Global;
+
+/// The most matches that a server has, live and finished.
+pub const MOST_MATCHES: usize = 10_000;
+
+/// All matches, the store that keeps them, and what is known of the request at hand.
+#[derive(Drop)]
+pub struct Site<K, S> {
+    pub(crate) alloc: Global,
+    pub(crate) store: S,
+    pub(crate) places: Vec<Place<K>>,
+    /// Who the connection is that the last request upgraded.
+    pub(crate) upgraded: Option<Peer>,
+    /// Whether the request at hand may make a match.
+    pub(crate) may_make: bool,
+    /// How much news there was.
+    news: u64,
+    /// Of it, how much the host has asked for.
+    asked: u64,
+    /// How many matches were made by requests.
+    made: u64,
+}
+
+impl<K: Keeper + Drop, S: Store<K> + Drop> Site<K, S> {
+    /// A server without matches.
+    pub fn new(alloc: Global, store: S) -> Site<K, S> {
+        Site {
+            alloc,
+            store,
+            places: Vec::new(alloc),
+            upgraded: None,
+            may_make: true,
+            news: 1,
+            asked: 1,
+            made: 0,
+        }
+    }
+
+    /// Takes a match in. Whether there was room and memory for it.
+    pub fn open(&mut self, found: Found<K>) -> bool {
+        if self.places.len() >= MOST_MATCHES {
+            return false;
+        }
+        let news = self.note_news();
+        match Place::open(self.alloc, found, news) {
+            Some(place) => self.places.push(place).is_ok(),
+            None => false,
+        }
+    }
+
+    /// Takes a match in that a request has made. Whether there was room and memory for it.
+    pub(crate) fn open_made(&mut self, found: Found<K>) -> bool {
+        let is_open = self.open(found);
+        if is_open {
+            self.made = self.made.saturating_add(1);
+        }
+        is_open
+    }
+
+    /// What keeps the matches.
+    pub fn store(&self) -> &S {
+        &self.store
+    }
+
+    /// How many matches there are.
+    pub fn len(&self) -> usize {
+        self.places.len()
+    }
+
+    /// Whether there is none.
+    pub fn is_empty(&self) -> bool {
+        self.places.is_empty()
+    }
+
+    /// Says whether the requests that are handed in next may make matches.
+    pub fn allow_making(&mut self, may_make: bool) {
+        self.may_make = may_make;
+    }
+
+    /// How many matches were made by requests.
+    pub fn made(&self) -> u64 {
+        self.made
+    }
+
+    /// Whether there was news since this was asked last.
+    pub fn has_news(&mut self) -> bool {
+        let has_news = self.news != self.asked;
+        self.asked = self.news;
+        has_news
+    }
+
+    /// Whether a match has something left to do by a tick.
+    pub fn is_restless(&self) -> bool {
+        for place in self.places.iter() {
+            if place.is_restless() {
+                return true;
+            }
+        }
+        false
+    }
+
+    /// Lets the matches tick that have something left to do.
+    pub fn tick(&mut self) {
+        let mut news = self.news;
+        for place in self.places.iter_mut() {
+            if place.tick() {
+                news = news.saturating_add(1);
+                place.news = news;
+            }
+        }
+        self.news = news;
+    }
+
+    /// Counts news, and returns how much there was.
+    pub(crate) fn note_news(&mut self) -> u64 {
+        self.news = self.news.saturating_add(1);
+        self.news
+    }
+
+    /// The place of the match with this name.
+    pub(crate) fn by_name(&self, name: &str) -> Option<usize> {
+        for (index, place) in self.places.iter().enumerate() {
+            if place.name.as_str() == name {
+                return Some(index);
+            }
+        }
+        None
+    }
+
+    /// The match and the player whose seat has this secret. Each match is compared, so that the time tells nothing.
+    pub(crate) fn by_secret(&self, secret: &str) -> Option<(usize, Player)> {
+        let digest = digest_of(secret);
+        let mut found = None;
+        for (index, place) in self.places.iter().enumerate() {
+            if let Some(player) = place.player_of(&digest) {
+                found = Some((index, player));
+            }
+        }
+        found
+    }
+
+    /// Lets a player of a match act.
+    pub(crate) fn act(
+        &mut self,
+        index: usize,
+        player: Player,
+        number: Number,
+        action: Action,
+    ) -> Acted {
+        let news = self.news.saturating_add(1);
+        let Some(place) = self.places.get_mut(index) else {
+            return Acted::Failed;
+        };
+        if !place.is_live() {
+            return match self.store.load(place.name.as_str()) {
+                Some(record) => acted_before(&record, player, number, &action),
+                None => Acted::Failed,
+            };
+        }
+        let acted = place.act(player, number, action);
+        if place.refresh() {
+            place.news = news;
+            self.news = news;
+        }
+        acted
+    }
+}

@@ -1,0 +1,82 @@
+//! Requests for a socket.
+
+use crate::peers::Peer;
+use crate::places::Store;
+use crate::requests::{asks_for_socket, is_own_origin};
+use crate::sites::Site;
+use bg_pages::refuse;
+use bg_world::Keeper;
+use bytes::Bytes;
+use http::header::{
+    CONNECTION, HeaderValue, SEC_WEBSOCKET_ACCEPT, SEC_WEBSOCKET_KEY, SEC_WEBSOCKET_VERSION,
+    UPGRADE,
+};
+use http::{Request, StatusCode};
+use http_server::Response;
+use std::alloc::{AllocError, Global};
+use websocket::handshake::server::accept_key;
+
+impl<K: Keeper + Drop, S: Store<K> + Drop> Site<K, S> {
+    /// Gives a socket to one who watches a match, or to one who is to say whose seat he has.
+    pub(crate) fn upgrade(
+        &mut self,
+        request: &Request<Bytes>,
+        place: Option<usize>,
+        response: &mut Response,
+    ) -> Result<(), AllocError> {
+        if !is_own_origin(request) {
+            return refuse(
+                response,
+                StatusCode::FORBIDDEN,
+                "this comes from a page of another site\n",
+            );
+        }
+        if !asks_for_socket(request) {
+            return refuse_others(response);
+        }
+        let Some(key) = key_for(request) else {
+            return refuse(
+                response,
+                StatusCode::BAD_REQUEST,
+                "the key of the WebSocket is none\n",
+            );
+        };
+        give_socket(self.alloc, &key, response)?;
+        self.upgraded = Some(match place {
+            Some(index) => Peer::watching(index),
+            None => Peer::unknown(),
+        });
+        Ok(())
+    }
+}
+
+/// Returns the key that answers that of a request, if it has one.
+fn key_for(request: &Request<Bytes>) -> Option<[u8; 28]> {
+    let value = request.headers().get(SEC_WEBSOCKET_KEY)?;
+    match accept_key(value.as_bytes()) {
+        Ok(key) => Some(key),
+        Err(_) => None,
+    }
+}
+
+/// Answers that nothing but a WebSocket is given here.
+fn refuse_others(response: &mut Response) -> Result<(), AllocError> {
+    response.add_header(UPGRADE, HeaderValue::from_static("websocket"))?;
+    response.add_header(SEC_WEBSOCKET_VERSION, HeaderValue::from_static("13"))?;
+    refuse(
+        response,
+        StatusCode::UPGRADE_REQUIRED,
+        "this takes a WebSocket\n",
+    )
+}
+
+/// Answers that the connection is a WebSocket from now on.
+fn give_socket(alloc: Global, key: &[u8], response: &mut Response) -> Result<(), AllocError> {
+    let Ok(value) = HeaderValue::from_bytes(alloc, key) else {
+        return Err(AllocError);
+    };
+    response.status = StatusCode::SWITCHING_PROTOCOLS;
+    response.add_header(CONNECTION, HeaderValue::from_static("upgrade"))?;
+    response.add_header(UPGRADE, HeaderValue::from_static("websocket"))?;
+    response.add_header(SEC_WEBSOCKET_ACCEPT, value)
+}

@@ -1,0 +1,11 @@
+//! Tests of a match server, by what is public of its crates.
+#![tactic(auto)]
+
+#[cfg(test)]
+mod keepers;
+#[cfg(test)]
+mod matches;
+#[cfg(test)]
+mod queues;
+#[cfg(test)]
+mod uses;

@@ -1,0 +1,122 @@
+//! The lines of use that stand in the libraries' documentation, run (`tools/checks/check_uses` compares them).
+use crate::keepers::{Shelf, ShelfKeeper};
+use bg_board::{Die, Player};
+use bg_hosted::{Acted, HostedMatch};
+use bg_match::{Action, Entry, Record, Rules, Terms};
+use bg_pages::{Page, answer_page};
+use bg_processes::Failures;
+use bg_requests::{Message, Part, Target, parse_message, target_of};
+use bg_serve::Server;
+use bg_site::{Found, Made, Site, Store};
+use bg_states::state_text;
+use bg_system::Names;
+use http_server::{Config, Connection, Response};
+use std::hash::RandomState;
+use std::test::Fail;
+
+#[test]
+fn hosted_matches(rt: HostRuntime) -> Result<(), Fail> {
+    let alloc = rt.alloc();
+    let shelf = Shelf::new(alloc);
+    let keepers = shelf.keepers();
+    // bg_hosted
+    let terms = Terms {
+        length: 1,
+        rules: Rules::One,
+    };
+    let mut hosted = HostedMatch::begin(alloc, 7, terms, [3; 32], keepers)?;
+    // The opening is there, saved and told, and one of the players is to move.
+    assert!(rt; hosted.told() == 1);
+    // An action has the number of the entry that it is to become, so a repeat acts once.
+    let acted = hosted.act(Player::X, 1, Action::Roll);
+    assert!(rt; acted == Acted::OtherEntry);
+    // end
+    Ok(())
+}
+
+#[test]
+fn states(rt: HostRuntime) -> Result<(), Fail> {
+    let alloc = rt.alloc();
+    // bg_states
+    let mut log = Record::new(alloc, 7, 1, Rules::One)?;
+    log.push(Entry::Opening(Die::One, Die::Three))?;
+    let text = state_text(alloc, &log, Some(Player::O))?;
+    assert!(rt; text.starts_with(b"{\"number\":1,\"length\":1,\"rules\":1,\"game\":1,"));
+    // end
+    Ok(())
+}
+
+#[test]
+fn paths_and_messages(rt: HostRuntime) -> Result<(), Fail> {
+    // bg_requests
+    assert!(rt; target_of("/matches/7f3a/state") == Target::Of("7f3a", Part::State));
+    assert!(rt; parse_message("act 12 roll") == Message::Act(12, "roll"));
+    // end
+    Ok(())
+}
+
+#[test]
+fn pages(rt: HostRuntime) -> Result<(), Fail> {
+    let alloc = rt.alloc();
+    // bg_pages
+    let mut response = Response::new(alloc);
+    answer_page(&mut response, Page::Home)?;
+    assert!(rt; response.status.as_u16() == 200);
+    // end
+    Ok(())
+}
+
+/// A store that makes no match and has none.
+#[derive(Drop)]
+struct NoStore {}
+
+impl<'a> Store<ShelfKeeper<'a>> for NoStore {
+    fn make(&mut self, _terms: Terms, _names: Names) -> Option<Made<ShelfKeeper<'a>>> {
+        None
+    }
+
+    fn load(&self, _name: &str) -> Option<Record> {
+        None
+    }
+}
+
+#[test]
+fn sites(rt: HostRuntime) -> Result<(), Fail> {
+    let alloc = rt.alloc();
+    let shelf = Shelf::new(alloc);
+    let store = NoStore {};
+    let found = Found {
+        name: format!(in alloc; "table")?,
+        names: Names::none(),
+        id: 7,
+        terms: Terms {
+            length: 1,
+            rules: Rules::One,
+        },
+        seats: None,
+        key: [3; 32],
+        keepers: shelf.keepers(),
+    };
+    let keys = RandomState::new(&rt)?;
+    // bg_site
+    let mut site = Site::new(alloc, store);
+    let is_open = site.open(found);
+    assert!(rt; is_open && site.len() == 1);
+    // A connection of http_server calls the site for each request, and a Channel for each message of a socket.
+    let mut connection = Connection::new(alloc, keys, Config::default());
+    connection.advance(&mut site);
+    // end
+    Ok(())
+}
+
+#[test]
+fn servers(rt: HostRuntime) -> Result<(), Fail> {
+    // bg_serve
+    let failures = Failures::new();
+    let server = Server::begin(&rt, ".", 0, &failures)?;
+    assert!(rt; server.matches() == 0 && server.left_out().is_empty());
+    let address = server.address()?;
+    assert!(rt; address.port() > 0);
+    // end
+    Ok(())
+}

@@ -1,0 +1,9 @@
+pub mod Lists
+pub mod Quoting
+pub mod Headings
+pub mod Phases
+pub mod Boards
+pub mod LastLines
+pub mod May
+pub mod StateTexts
+pub mod Laws

@@ -1,0 +1,40 @@
+//! Texts as JSON has them.
+ghost use Rattle.std.specs.Prelude.{◌≡◌, ◌++◌, OnOk};
+ghost use Rattle.bg_states.specs.Quoting.{escaped, escaped_byte, quoted};
+
+use bg_text::put_text;
+use std::alloc::AllocError;
+
+/// Adds a text between quotes, as JSON has it: a quote and a backslash stand behind a backslash, and a blank stands for
+/// each control character.
+///
+/// # Errors
+/// AllocError where there is no memory; then some of it may be added.
+pub fn put_quoted(out: &mut Vec<u8>, text: &str) -> Result<(), AllocError>
+    ensures { OnOk result (out.new.items ≡ out.old.items ++ quoted text.now) }
+{
+    put_text(out, "\"")?;
+    put_escaped(out, text.as_bytes())?;
+    put_text(out, "\"")
+}
+
+/// Adds the bytes of a text, as they stand between quotes.
+fn put_escaped(out: &mut Vec<u8>, bytes: &[u8]) -> Result<(), AllocError>
+    ensures { OnOk result (out.new.items ≡ out.old.items ++ escaped bytes.now) }
+{
+    for byte in bytes {
+        put_byte(out, *byte)?;
+    }
+    Ok(())
+}
+
+/// Adds a byte of a text, as it stands between quotes.
+fn put_byte(out: &mut Vec<u8>, byte: u8) -> Result<(), AllocError>
+    ensures { OnOk result (out.new.items ≡ out.old.items ++ escaped_byte byte) }
+{
+    if byte == b'"' || byte == b'\\' {
+        put_text(out, "\\")?;
+    }
+    out.push(if byte < 32 { 32 } else { byte })?;
+    Ok(())
+}
