@@ -1,5 +1,5 @@
 -- What a path names.
-use Rattle.std.specs.Prelude.{◌≡◌, ℕ, ◌==◌, ◌&&◌, ◌||◌, nat_le, not, Bool, List, [], ◌++◌, codes, IsTrue, Option, Some, length}
+use Rattle.std.specs.Prelude.{◌≡◌, ℕ, ◌^◌, ◌<◌, ◌==◌, ◌&&◌, ◌||◌, nat_le, not, Bool, List, [], ◌++◌, codes, IsTrue, Option, Some, length}
 use Rattle.std.specs.Fmt.{decimal}
 use Rattle.std.specs.List.{list_all}
 use denote.Bor.{Bor}
@@ -27,12 +27,25 @@ abbrev pub IsWordOf : List ℕ → Part → Type 0
 IsWordOf word parts.Page = ⊥
 IsWordOf word parts.Embed = word ≡ codes "embed"
 IsWordOf word parts.State = word ≡ codes "state"
-IsWordOf word (parts.StateAfter count) = word ≡ codes "states/" ++ decimal count
+IsWordOf word (parts.StateAfter count) = (word ≡ codes "states/" ++ decimal count) × (count < 2 ^ 32)
 IsWordOf word parts.Transcript = word ≡ codes "transcript"
 IsWordOf word parts.Mat = word ≡ codes "mat"
 IsWordOf word parts.Picture = word ≡ codes "picture"
 IsWordOf word parts.Actions = word ≡ codes "actions"
 IsWordOf word parts.Live = word ≡ codes "live"
+
+-- the word is that of a part
+abbrev pub IsWord : List ℕ → Type 0
+IsWord word = (part : Part) × IsWordOf word part
+
+-- the part has no number
+abbrev pub IsPlain : Part → Type 0
+IsPlain (parts.StateAfter count) = ⊥
+IsPlain part = Unit {0}
+
+-- the word is that of a part that has no number
+abbrev pub IsPlainWord : List ℕ → Type 0
+IsPlainWord word = (part : Part) × IsPlain part × IsWordOf word part
 
 -- what stands behind the name of a match
 abbrev pub IsBehind : List ℕ → Part → Type 0
@@ -45,6 +58,15 @@ IsNamedBehind rest (targets.Of name part) =
     IsTrue (may_name name.now) × ((behind : List ℕ) × IsBehind behind part × (rest ≡ name.now ++ behind))
 IsNamedBehind rest targets.Nothing = Unit {0}
 IsNamedBehind rest _ = ⊥
+
+-- something is named
+abbrev pub IsFound : Target → Type 0
+IsFound targets.Nothing = ⊥
+IsFound target = Unit {0}
+
+-- a name and what stands behind it name something
+abbrev pub NamesSomeBehind : List ℕ → Type 0
+NamesSomeBehind rest = (target : Target) × IsFound target × IsNamedBehind rest target
 
 -- ---- paths
 
@@ -60,6 +82,10 @@ IsNamedBy path targets.Health = path ≡ codes "/health"
 IsNamedBy path (targets.Of name part) =
     (rest : List ℕ) × IsNamedBehind rest (targets.Of name part) × (path ≡ codes "/matches/" ++ rest)
 IsNamedBy path targets.Nothing = Unit {0}
+
+-- the path names something
+abbrev pub NamesSome : List ℕ → Type 0
+NamesSome path = (target : Target) × IsFound target × IsNamedBy path target
 
 -- a name with a part, if there is one, comes to this: nothing, where no match may have the name
 abbrev pub IsOfMatch : Bor (List ℕ) → Option Part → Target → Type 0

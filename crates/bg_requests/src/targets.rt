@@ -1,8 +1,9 @@
 //! Which part of the server a path names.
-ghost use Rattle.std.specs.Prelude.{◌≡◌, IfSome};
+ghost use Rattle.std.specs.Prelude.{◌≡◌, ℕ, ◌^◌, ◌<◌, IfSome, IsSome, IsTrue};
 ghost use Rattle.std.specs.Fmt.{decimal};
 ghost use Rattle.std.specs.List.{list_all};
-ghost use Rattle.bg_requests.specs.Targets.{IsNamedBehind, IsNamedBy, IsOfMatch, IsWordOf, may_be_in_name, may_name};
+ghost use Rattle.bg_requests.specs.Targets.{IsFound, IsNamedBehind, IsNamedBy, IsOfMatch, IsPlainWord, IsWord, IsWordOf};
+ghost use Rattle.bg_requests.specs.Targets.{NamesSome, NamesSomeBehind, may_be_in_name, may_name};
 
 use itoa::Buffer;
 
@@ -47,7 +48,8 @@ pub enum Target<'a> {
 
 /// Returns what a path names (docs/SERVING.md, "Paths").
 pub fn target_of(path: &str) -> Target<'_>
-    ensures { IsNamedBy path.now result }
+    ensures named { IsNamedBy path.now result }
+    ensures total { NamesSome path.now → IsFound result }
 {
     match path {
         "/" => Target::Home,
@@ -66,7 +68,8 @@ pub fn target_of(path: &str) -> Target<'_>
 
 /// Returns what the name of a match, and what stands behind it, name.
 fn part_of(rest: &str) -> Target<'_>
-    ensures { IsNamedBehind rest.now result }
+    ensures named { IsNamedBehind rest.now result }
+    ensures total { NamesSomeBehind rest.now → IsFound result }
 {
     match rest.split_once('/') {
         None => of_match(rest, Some(Part::Page)),
@@ -76,7 +79,8 @@ fn part_of(rest: &str) -> Target<'_>
 
 /// Returns the part of a match; nothing where it has no such part, or no match may have the name.
 fn of_match(name: &str, part: Option<Part>) -> Target<'_>
-    ensures { IsOfMatch name.entry part result }
+    ensures named { IsOfMatch name.entry part result }
+    ensures total { IsSome part → IsTrue (may_name name.now) → IsFound result }
 {
     match part {
         Some(part) if is_name(name) => Target::Of(name, part),
@@ -86,7 +90,8 @@ fn of_match(name: &str, part: Option<Part>) -> Target<'_>
 
 /// Returns the part that a word names, but for the page, which has none.
 fn part_named(word: &str) -> Option<Part>
-    ensures { IfSome result (IsWordOf word.now) }
+    ensures named { IfSome result (IsWordOf word.now) }
+    ensures total { IsWord word.now → IsSome result }
 {
     match word.strip_prefix("states/") {
         Some(digits) => count_of(digits).map(Part::StateAfter),
@@ -96,7 +101,8 @@ fn part_named(word: &str) -> Option<Part>
 
 /// Returns the part that a word without a number names.
 fn plain_part(word: &str) -> Option<Part>
-    ensures { IfSome result (IsWordOf word.now) }
+    ensures named { IfSome result (IsWordOf word.now) }
+    ensures total { IsPlainWord word.now → IsSome result }
 {
     match word {
         "embed" => Some(Part::Embed),
@@ -112,7 +118,8 @@ fn plain_part(word: &str) -> Option<Part>
 
 /// Returns the number that digits say, as it is written: without a sign, and with no zero before other digits.
 fn count_of(digits: &str) -> Option<u32>
-    ensures { IfSome result (λ count. digits.now ≡ decimal count) }
+    ensures said { IfSome result (λ count. digits.now ≡ decimal count) }
+    ensures total { (count : ℕ) → count < 2 ^ 32 → digits.now ≡ decimal count → IsSome result }
 {
     let Ok(count) = digits.parse::<u32>() else {
         return None;

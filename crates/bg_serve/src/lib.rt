@@ -24,4 +24,4 @@ pub use limits::{
     HEAD_SECONDS, HELLO_SECONDS, MOST_BODY, MOST_CLIENTS, MOST_HEAD, MOST_MADE, PING_SECONDS,
     SILENT_SECONDS, STALL_SECONDS,
 };
-pub use servers::{Server, Turn};
+pub use servers::Server;

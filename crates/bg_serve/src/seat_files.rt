@@ -22,10 +22,8 @@ pub(crate) fn random_digits(
     let mut bytes = [0u8; 16];
     rt.fill_bytes(&mut bytes)?;
     let mut text = String::new(rt.alloc());
-    for byte in bytes[..count.min(16)].iter() {
-        for digit in [*byte >> 4, *byte & 15] {
-            text.push(char::from(b"0123456789abcdef"[usize::from(digit & 15)]))?;
-        }
+    for byte in &bytes[..count.min(16)] {
+        write!(text, "{byte:02x}")?;
     }
     Ok(text)
 }
@@ -61,17 +59,11 @@ fn seats_in(text: &str) -> Option<Seats> {
 
 /// Returns the digest that 64 hexadecimal digits say.
 fn digest_in(text: &str) -> Option<Digest> {
-    let digits = text.as_bytes();
-    if digits.len() != 64 {
-        return None;
+    let mut digest = [0; 32];
+    match hex::decode_to_slice(text, &mut digest) {
+        Ok(()) => Some(digest),
+        Err(_) => None,
     }
-    let mut digest = [0u8; 32];
-    for index in 0..32usize {
-        let high = char::from(digits[2 * index]).to_digit(16)?;
-        let low = char::from(digits[2 * index + 1]).to_digit(16)?;
-        digest[index] = ((high << 4) | low) as u8;
-    }
-    Some(digest)
 }
 
 /// Writes who may play a match into its folder: those who know these secrets. The secrets themselves are not kept.

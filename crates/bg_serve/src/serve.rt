@@ -2,25 +2,24 @@
 
 use crate::servers::Server;
 use bg_console::{failed_for, own_folder, say, say_failures};
-use bg_options::ServeOptions;
 use bg_processes::Failures;
 use bg_reports::Ending;
 
-/// Serves the matches of a folder until the process is ended.
-pub fn run(rt: &HostRuntime, options: ServeOptions<'_>) -> Result<Ending, Ending> {
-    let _lock = own_folder(rt, options.folder)?;
+/// Serves the matches of a folder at a port of this machine until the process is ended.
+pub fn run(rt: &HostRuntime, folder: &str, port: u16) -> Result<Ending, Ending> {
+    let _lock = own_folder(rt, folder)?;
     let failures = Failures::new();
-    let mut server = match Server::begin(rt, options.folder, options.port, &failures) {
+    let mut server = match Server::begin(rt, folder, port, &failures) {
         Ok(server) => server,
         Err(error) => return Err(failed_for(rt, "the matches can't be served", &error)),
     };
     tell_begin(rt, &server);
     for _ in 0..u64::MAX {
         match server.turn() {
-            Ok(turn) => tell_made(rt, turn.made),
+            Ok(made) => tell_made(rt, made),
             Err(error) => return Err(failed_for(rt, "the sockets can't be waited for", &error)),
         }
-        say_failures(rt, &failures, options.folder);
+        say_failures(rt, &failures, folder);
     }
     Ok(Ending::Served)
 }

@@ -16,15 +16,6 @@ use std::time::{Duration, Instant};
 /// The token of the listener; that of a client is one more than its index.
 pub(crate) const LISTENER: Token = Token(0);
 
-/// What happened in a turn.
-#[derive(Clone, Copy, Debug, PartialEq, Eq)]
-pub struct Turn {
-    /// How many matches were made.
-    pub made: u64,
-    /// How many connections there are.
-    pub clients: usize,
-}
-
 /// The server of a folder.
 #[derive(Drop)]
 pub struct Server<'a> {
@@ -133,11 +124,11 @@ impl<'a> Server<'a> {
         &self.left_out
     }
 
-    /// Waits until something is to be done, and does it.
+    /// Waits until something is to be done, and does it. Returns how many matches were made.
     ///
     /// # Errors
     /// Why the sockets can't be waited for, or there is no memory.
-    pub fn turn(&mut self) -> io::Result<Turn> {
+    pub fn turn(&mut self) -> io::Result<u64> {
         let made = self.site.made();
         self.wait()?;
         let since = Instant::now(self.rt)?.duration_since(self.start);
@@ -152,10 +143,7 @@ impl<'a> Server<'a> {
         }
         let made = self.site.made().saturating_sub(made);
         self.quota.take(made);
-        Ok(Turn {
-            made,
-            clients: self.clients.iter().flatten().count(),
-        })
+        Ok(made)
     }
 
     /// Waits until a socket is ready, or time has come for something else.

@@ -23,12 +23,12 @@ pub(crate) struct Wanted<'a> {
 }
 
 impl<'a> Wanted<'a> {
-    /// Returns what a query asks for: `list=finished`, `page=N`, `search=TEXT`.
-    pub(crate) fn of(query: Option<&'a str>) -> Wanted<'a> {
+    /// Returns what a query asks for, `list=finished`, `page=N`, with the text that it searches for.
+    pub(crate) fn of(query: Option<&str>, search: &'a str) -> Wanted<'a> {
         Wanted {
             is_finished: query_part(query, "list") == Some("finished"),
             before: pages_before(query_part(query, "page")),
-            search: query_part(query, "search").unwrap_or(""),
+            search,
         }
     }
 
