@@ -1,4 +1,6 @@
 //! Requests for texts about a match.
+ghost use Rattle.std.specs.Prelude.{IfOk};
+ghost use Rattle.bg_site.specs.Given.{IsGivenOf};
 
 use crate::answering::missing;
 use crate::places::Store;
@@ -50,6 +52,8 @@ pub(crate) enum Given {
 }
 
 impl<K: Keeper + Drop, S: Store<K> + Drop> Site<K, S> {
+    ghost use Rattle.bg_site.specs.Places.{IsGivenAt};
+
     /// Answers with a text about a match.
     pub(crate) fn answer_asked(
         &self,
@@ -69,7 +73,9 @@ impl<K: Keeper + Drop, S: Store<K> + Drop> Site<K, S> {
     }
 
     /// Returns a text about a match.
-    pub(crate) fn give(&self, index: usize, asked: Asked) -> Result<Given, AllocError> {
+    pub(crate) fn give(&self, index: usize, asked: Asked) -> Result<Given, AllocError>
+        ensures { IfOk result (λ given. IsGivenAt K.Keeper self.now.places.items index asked given) }
+    {
         let Some(place) = self.places.get(index) else {
             return Ok(Given::Unreadable);
         };
@@ -87,7 +93,9 @@ impl<K: Keeper + Drop, S: Store<K> + Drop> Site<K, S> {
 }
 
 /// Returns a text about the match of a record.
-fn text_of(alloc: Global, record: &Record, asked: Asked) -> Result<Given, AllocError> {
+fn text_of(alloc: Global, record: &Record, asked: Asked) -> Result<Given, AllocError>
+    ensures { IfOk result (λ given. IsGivenOf record.now asked given) }
+{
     let text = match asked {
         Asked::State(seat) => state_text(alloc, record, seat)?,
         Asked::StateAfter(count) => return state_after(alloc, record, count),
@@ -99,12 +107,14 @@ fn text_of(alloc: Global, record: &Record, asked: Asked) -> Result<Given, AllocE
 }
 
 /// Returns the state of a match after so many of its entries.
-fn state_after(alloc: Global, record: &Record, count: Number) -> Result<Given, AllocError> {
+fn state_after(alloc: Global, record: &Record, count: Number) -> Result<Given, AllocError>
+    ensures { IfOk result (λ given. IsGivenOf record.now (Asked.StateAfter count) given) }
+{
     if count > record.len() {
         return Ok(Given::Missing);
     }
     let Ok(mut front) = Record::new(alloc, record.id(), record.length(), record.rules()) else {
-        return Ok(Given::Missing);
+        return Ok(Given::Unreadable);
     };
     front.reserve(count)?;
     for before in 0..count {

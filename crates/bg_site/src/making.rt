@@ -1,4 +1,6 @@
 //! Requests that list matches, make one, or act in one.
+ghost use Rattle.std.specs.Prelude.{◌≡◌, ◌++◌, IfOk, OnOk};
+ghost use Rattle.bg_site.specs.Links.{link_text, links_text as text_of_links};
 
 use crate::answering::missing;
 use crate::lists::{Wanted, list_text};
@@ -134,16 +136,26 @@ fn refuse_full(response: &mut Response) -> Result<(), AllocError> {
 }
 
 /// Returns the links of a match that was made.
-fn links_text(alloc: Global, name: &str, x: &str, o: &str) -> Result<Vec<u8>, AllocError> {
+#[tactic(auto, unfolding(crate::specs::Links::links_text))]
+fn links_text(alloc: Global, name: &str, x: &str, o: &str) -> Result<Vec<u8>, AllocError>
+    ensures { IfOk result (λ text. text.items ≡ text_of_links name.now x.now o.now) }
+{
     let mut out = Vec::new(alloc);
     put_text(&mut out, "{\"match\":")?;
     put_quoted(&mut out, name)?;
-    put_text(&mut out, ",\"watch\":\"/matches/")?;
-    put_text(&mut out, name)?;
-    put_text(&mut out, "\",\"x\":\"/play#")?;
-    put_text(&mut out, x)?;
-    put_text(&mut out, "\",\"o\":\"/play#")?;
-    put_text(&mut out, o)?;
-    put_text(&mut out, "\"}\n")?;
+    put_link(&mut out, ",\"watch\":\"/matches/", name)?;
+    put_link(&mut out, ",\"x\":\"/play#", x)?;
+    put_link(&mut out, ",\"o\":\"/play#", o)?;
+    put_text(&mut out, "}\n")?;
     Ok(out)
+}
+
+/// Adds a link: these words, and what it ends with.
+#[tactic(auto, unfolding(crate::specs::Links::link_text))]
+fn put_link(out: &mut Vec<u8>, words: &str, end: &str) -> Result<(), AllocError>
+    ensures { OnOk result (out.new.items ≡ out.old.items ++ link_text words.now end.now) }
+{
+    put_text(out, words)?;
+    put_text(out, end)?;
+    put_text(out, "\"")
 }

@@ -1,4 +1,5 @@
 //! Messages of peers, and the answers to them.
+ghost use Rattle.std.specs.Prelude.{◌≡◌, None};
 
 use crate::frames::frame_of;
 use crate::peers::Peer;
@@ -52,7 +53,9 @@ impl<K: Keeper + Drop, S: Store<K> + Drop> Site<K, S> {
         peer: &Peer,
         number: u32,
         words: &str,
-    ) -> Result<Reply, AllocError> {
+    ) -> Result<Reply, AllocError>
+        ensures watches { peer.now.seat ≡ None → self.new ≡ self.old }
+    {
         let (Some(index), Some(player)) = (peer.place, peer.seat) else {
             return self.reply(b"{\"no\":\"you watch\"}", true);
         };

@@ -1,4 +1,5 @@
 //! A match of the server, and what the host keeps of it.
+ghost use Rattle.std.specs.Prelude.{◌≡◌, ◌↔◌, IsSome, IsTrue, option_copied};
 
 use crate::frames::Frames;
 use bg_board::Player;
@@ -151,6 +152,8 @@ pub(crate) struct Place<K> {
 }
 
 impl<K: Keeper + Drop> Place<K> {
+    ghost use Rattle.bg_site.specs.Places.{player_in, told_in};
+
     /// The place of a match that goes on from what its keepers have. None where there is no memory for it.
     pub(crate) fn open(alloc: Global, found: Found<K>, news: u64) -> Option<Place<K>> {
         let Found {
@@ -183,7 +186,9 @@ impl<K: Keeper + Drop> Place<K> {
     }
 
     /// Returns the player whose seat has a secret of this digest.
-    pub(crate) fn player_of(&self, digest: &Digest) -> Option<Player> {
+    pub(crate) fn player_of(&self, digest: &Digest) -> Option<Player>
+        ensures { result ≡ player_in self.now.seats digest.now }
+    {
         match &self.seats {
             Some(seats) => seats.player_of(digest),
             None => None,
@@ -191,7 +196,9 @@ impl<K: Keeper + Drop> Place<K> {
     }
 
     /// The record that everybody may see, while the match goes on.
-    pub(crate) fn held(&self) -> Option<&Record> {
+    pub(crate) fn held(&self) -> Option<&Record>
+        ensures { option_copied result ≡ told_in K.Keeper self.now.hosted }
+    {
         match &self.hosted {
             Some(hosted) => hosted.shown(),
             None => None,
@@ -199,7 +206,9 @@ impl<K: Keeper + Drop> Place<K> {
     }
 
     /// Whether the match goes on.
-    pub(crate) fn is_live(&self) -> bool {
+    pub(crate) fn is_live(&self) -> bool
+        ensures { IsTrue result ↔ IsSome self.now.hosted }
+    {
         self.hosted.is_some()
     }
 

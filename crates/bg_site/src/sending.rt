@@ -1,4 +1,5 @@
 //! What a peer gets by his socket.
+ghost use Rattle.std.specs.Prelude.{◌≡◌, ℕ, Some};
 
 use crate::files::{Asked, Given};
 use crate::frames::frame_of;
@@ -12,6 +13,8 @@ use bytes::Bytes;
 use std::alloc::AllocError;
 
 impl<K: Keeper + Drop, S: Store<K> + Drop> Site<K, S> {
+    ghost use Rattle.bg_site.specs.Places.{ChangesOnly};
+
     /// Returns who the connection is that the last request upgraded, if it did so. Ask this before another connection
     /// goes on.
     pub fn take_upgraded(&mut self) -> Option<Peer> {
@@ -19,7 +22,10 @@ impl<K: Keeper + Drop, S: Store<K> + Drop> Site<K, S> {
     }
 
     /// Notes that a peer has come, as his socket begins.
-    pub fn come(&mut self, peer: &Peer) {
+    pub fn come(&mut self, peer: &Peer)
+        ensures { (place : ℕ) → peer.now.place ≡ Some place
+            → ChangesOnly self.old.places.items self.new.places.items place }
+    {
         if let Some(index) = peer.place {
             if let Some(place) = self.places.get_mut(index) {
                 place.presence = place.presence.come(peer.seat);

@@ -1,4 +1,6 @@
 //! All matches of a server.
+ghost use Rattle.std.specs.Prelude.{◌≡◌, ◌≢◌, IfSome};
+ghost use Rattle.sha2.specs.Sha256.{sha256};
 
 use crate::peers::Peer;
 use crate::places::{Found, Place, Store, acted_before};
@@ -31,6 +33,8 @@ pub struct Site<K, S> {
 }
 
 impl<K: Keeper + Drop, S: Store<K> + Drop> Site<K, S> {
+    ghost use Rattle.bg_site.specs.Places.{ChangesOnly, HasSeatAt};
+
     /// A server without matches.
     pub fn new(alloc: Global, store: S) -> Site<K, S> {
         Site {
@@ -137,7 +141,9 @@ impl<K: Keeper + Drop, S: Store<K> + Drop> Site<K, S> {
     }
 
     /// The match and the player whose seat has this secret. Each match is compared, so that the time tells nothing.
-    pub(crate) fn by_secret(&self, secret: &str) -> Option<(usize, Player)> {
+    pub(crate) fn by_secret(&self, secret: &str) -> Option<(usize, Player)>
+        ensures { IfSome result (λ seat. HasSeatAt self.now.places.items (sha256 secret.now) seat.0 seat.1) }
+    {
         let digest = digest_of(secret);
         let mut found = None;
         for (index, place) in self.places.iter().enumerate() {
@@ -155,7 +161,9 @@ impl<K: Keeper + Drop, S: Store<K> + Drop> Site<K, S> {
         player: Player,
         number: Number,
         action: Action,
-    ) -> Acted {
+    ) -> Acted
+        ensures { ChangesOnly self.old.places.items self.new.places.items index }
+    {
         let news = self.news.saturating_add(1);
         let Some(place) = self.places.get_mut(index) else {
             return Acted::Failed;

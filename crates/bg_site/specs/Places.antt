@@ -1,0 +1,38 @@
+-- What contracts see of the matches of a server.
+use Rattle.std.specs.Prelude.{◌≡◌, ◌≢◌, ℕ, List, Option, Some, None, slice_get}
+use Rattle.bg_board.specs.declared.players.Player.{Player}
+use Rattle.bg_hosted.specs.HostedMatches.{told_of, world_of}
+use Rattle.bg_match.specs.Match.{Log}
+use Rattle.bg_requests.specs.Seats.{player_with}
+use Rattle.bg_requests.specs.declared.seats.Seats.{Seats}
+use Rattle.bg_world.specs.declared.devices.Keeper as keeper
+use Rattle.bg_site.specs.Given.{IsGivenOf}
+use Rattle.bg_site.specs.declared.files.Asked.{Asked}
+use Rattle.bg_site.specs.declared.files.Given.{Given}
+use Rattle.bg_site.specs.declared.places.Place.{Place}
+use Rattle.bg_hosted.specs.declared.hosted_matches.HostedMatch.{HostedMatch}
+
+-- what everybody is told of a match that goes on
+abbrev pub told_in : {K : Type 0} → keeper.Ghosts K → Option (HostedMatch K) → Option Log
+told_in k None = None
+told_in k (Some hosted) = told_of (world_of k hosted)
+
+-- what is given of the match at a place, while it goes on, is made of what everybody is told
+abbrev pub IsGivenAt : {K : Type 0} → keeper.Ghosts K → List (Place K) → ℕ → Asked → Given → Type 0
+IsGivenAt k places index asked given =
+    (place : Place _) (log : Log) → slice_get places index ≡ Some place → told_in k place.hosted ≡ Some log
+    → IsGivenOf log asked given
+
+-- the player whose seat has a secret of this digest, if there is one
+abbrev pub player_in : Option Seats → List ℕ → Option Player
+player_in None digest = None
+player_in (Some seats) digest = player_with seats digest
+
+-- the seat of this player, at this place, has a secret of this digest
+abbrev pub HasSeatAt : {K : Type 0} → List (Place K) → List ℕ → ℕ → Player → Type 0
+HasSeatAt places digest index player =
+    (place : Place _) × (slice_get places index ≡ Some place) × (player_in place.seats digest ≡ Some player)
+
+-- all places but one are as they were
+abbrev pub ChangesOnly : {K : Type 0} → List (Place K) → List (Place K) → ℕ → Type 0
+ChangesOnly old new index = (other : ℕ) → other ≢ index → slice_get new other ≡ slice_get old other
