@@ -38,7 +38,7 @@ pub enum Task {
 }
 
 /// The commands by their names, in the order in which help lists them.
-pub const TASKS: [(&str, Task); 21] = [
+pub const TASKS: [(&str, Task); 22] = [
     ("judge", Task::Judge),
     ("check", Task::Check),
     ("import", Task::Import),

@@ -85,7 +85,9 @@ fn obey(rt: &HostRuntime, request: Request<'_, '_>) -> Result<Ending, Ending> {
         Request::Act(options) => act::run(rt, options, is_watched),
         Request::Auto(options) => auto::run(rt, options, is_watched),
         Request::Watch(options) => watch::run(rt, options, output_terminal(rt), is_watched),
-        Request::Serve(options) => serve::run(rt, options.folder, options.port),
+        Request::Serve(options) => {
+            serve::run(rt, options.folder, options.port, options.tells_requests)
+        }
     }
 }
 

@@ -38,3 +38,4 @@ named_behind rest name word part targets.Matches is word_is of = elim part as (�
 named_behind rest name word part targets.Play is word_is of = elim part as (λ (p : Option Part). IsOfMatch name p targets.Play → ⊥) [ None ↦ λ h. h | Some p ↦ λ h. h ] of
 named_behind rest name word part targets.PlayLive is word_is of = elim part as (λ (p : Option Part). IsOfMatch name p targets.PlayLive → ⊥) [ None ↦ λ h. h | Some p ↦ λ h. h ] of
 named_behind rest name word part targets.Health is word_is of = elim part as (λ (p : Option Part). IsOfMatch name p targets.Health → ⊥) [ None ↦ λ h. h | Some p ↦ λ h. h ] of
+named_behind rest name word part targets.Metrics is word_is of = elim part as (λ (p : Option Part). IsOfMatch name p targets.Metrics → ⊥) [ None ↦ λ h. h | Some p ↦ λ h. h ] of

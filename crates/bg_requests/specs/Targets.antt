@@ -79,6 +79,7 @@ IsNamedBy path targets.Matches = path ≡ codes "/matches"
 IsNamedBy path targets.Play = path ≡ codes "/play"
 IsNamedBy path targets.PlayLive = path ≡ codes "/play/live"
 IsNamedBy path targets.Health = path ≡ codes "/health"
+IsNamedBy path targets.Metrics = path ≡ codes "/metrics"
 IsNamedBy path (targets.Of name part) =
     (rest : List ℕ) × IsNamedBehind rest (targets.Of name part) × (path ≡ codes "/matches/" ++ rest)
 IsNamedBy path targets.Nothing = Unit {0}

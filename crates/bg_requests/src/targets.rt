@@ -41,6 +41,8 @@ pub enum Target<'a> {
     /// The socket of players.
     PlayLive,
     Health,
+    /// What is counted of the server.
+    Metrics,
     /// A part of the match of this name.
     Of(&'a str, Part),
     Nothing,
@@ -59,6 +61,7 @@ pub fn target_of(path: &str) -> Target<'_>
         "/play" => Target::Play,
         "/play/live" => Target::PlayLive,
         "/health" => Target::Health,
+        "/metrics" => Target::Metrics,
         _ => match path.strip_prefix("/matches/") {
             Some(rest) => part_of(rest),
             None => Target::Nothing,

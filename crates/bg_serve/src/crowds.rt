@@ -124,6 +124,8 @@ impl<'a> Server<'a> {
         }
         self.looked = now;
         self.is_accepting = true;
+        let connections = self.clients.iter().flatten().count();
+        self.site.note_connections(connections as u64);
         for index in 0..self.clients.len() {
             let stays = match self.clients.get_mut(index) {
                 Some(Some(client)) => client.may_stay(&mut self.site, now),

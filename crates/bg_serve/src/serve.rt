@@ -2,11 +2,17 @@
 
 use crate::servers::Server;
 use bg_console::{failed_for, own_folder, say, say_failures};
-use bg_processes::Failures;
+use bg_processes::{Failures, Printable};
 use bg_reports::Ending;
 
-/// Serves the matches of a folder at a port of this machine until the process is ended.
-pub fn run(rt: &HostRuntime, folder: &str, port: u16) -> Result<Ending, Ending> {
+/// Serves the matches of a folder at a port of this machine until the process is ended. Says each request, if that is
+/// wanted.
+pub fn run(
+    rt: &HostRuntime,
+    folder: &str,
+    port: u16,
+    tells_requests: bool,
+) -> Result<Ending, Ending> {
     let _lock = own_folder(rt, folder)?;
     let failures = Failures::new();
     let mut server = match Server::begin(rt, folder, port, &failures) {
@@ -14,11 +20,15 @@ pub fn run(rt: &HostRuntime, folder: &str, port: u16) -> Result<Ending, Ending> 
         Err(error) => return Err(failed_for(rt, "the matches can't be served", &error)),
     };
     tell_begin(rt, &server);
+    if tells_requests {
+        server.site.keep_log();
+    }
     for _ in 0..u64::MAX {
         match server.turn() {
             Ok(made) => tell_made(rt, made),
             Err(error) => return Err(failed_for(rt, "the sockets can't be waited for", &error)),
         }
+        tell_requests(rt, &mut server);
         say_failures(rt, &failures, folder);
     }
     Ok(Ending::Served)
@@ -48,5 +58,15 @@ fn tell_begin(rt: &HostRuntime, server: &Server<'_>) {
 fn tell_made(rt: &HostRuntime, made: u64) {
     if made > 0 {
         say(rt, format_args!("matches made: {made}"));
+    }
+}
+
+/// Says which requests were answered, if a log of them is kept.
+fn tell_requests(rt: &HostRuntime, server: &mut Server<'_>) {
+    if let Some(log) = server.site.take_log() {
+        for line in log.as_str().lines() {
+            let shown = Printable(line);
+            say(rt, format_args!("{shown}"));
+        }
     }
 }

@@ -1,5 +1,6 @@
 -- What contracts see of the matches of a server.
-use Rattle.std.specs.Prelude.{◌≡◌, ◌≢◌, ℕ, List, Option, Some, None, slice_get}
+use Rattle.std.specs.Prelude.{◌≡◌, ◌≢◌, ℕ, List, ◌++◌, codes, Option, Some, None, slice_get}
+use Rattle.sha2.specs.Sha256.{sha256}
 use Rattle.bg_board.specs.declared.players.Player.{Player}
 use Rattle.bg_hosted.specs.HostedMatches.{told_of, world_of}
 use Rattle.bg_match.specs.Match.{Log}
@@ -9,6 +10,7 @@ use Rattle.bg_world.specs.declared.devices.Keeper as keeper
 use Rattle.bg_site.specs.Given.{IsGivenOf}
 use Rattle.bg_site.specs.declared.files.Asked.{Asked}
 use Rattle.bg_site.specs.declared.files.Given.{Given}
+use Rattle.bg_site.specs.declared.peers.Peer.{Peer}
 use Rattle.bg_site.specs.declared.places.Place.{Place}
 use Rattle.bg_hosted.specs.declared.hosted_matches.HostedMatch.{HostedMatch}
 
@@ -36,3 +38,15 @@ HasSeatAt places digest index player =
 -- all places but one are as they were
 abbrev pub ChangesOnly : {K : Type 0} → List (Place K) → List (Place K) → ℕ → Type 0
 ChangesOnly old new index = (other : ℕ) → other ≢ index → slice_get new other ≡ slice_get old other
+
+-- the seat that a peer has now, if he has one, is that of this secret
+abbrev pub HasSeatBy : {K : Type 0} → List (Place K) → List ℕ → Peer → Type 0
+HasSeatBy places secret peer =
+    (index : ℕ) (player : Player) → peer.place ≡ Some index → peer.seat ≡ Some player
+    → HasSeatAt places (sha256 secret) index player
+
+-- the seat that a peer has now, if he has one, is that of the secret in his greeting
+abbrev pub HasSeatByGreeting : {K : Type 0} → List (Place K) → List ℕ → Peer → Type 0
+HasSeatByGreeting places text peer =
+    (index : ℕ) (player : Player) → peer.place ≡ Some index → peer.seat ≡ Some player
+    → (secret : List ℕ) × (text ≡ codes "hello " ++ secret) × HasSeatAt places (sha256 secret) index player

@@ -1,10 +1,14 @@
 //! What a request is answered.
 
+use crate::counts::metrics_text;
 use crate::files::Asked;
 use crate::places::Store;
 use crate::requests::is_own_origin;
 use crate::sites::Site;
-use bg_pages::{Page, add_common, answer_line, answer_page, answer_script, answer_style, refuse};
+use bg_pages::{
+    Kind, Page, add_common, answer_line, answer_page, answer_script, answer_style, answer_text,
+    refuse,
+};
 use bg_requests::{Part, Target, target_of};
 use bg_world::Keeper;
 use bytes::Bytes;
@@ -24,6 +28,7 @@ impl<K: Keeper + Drop, S: Store<K> + Drop> Service for Site<K, S> {
             response.clear();
             response.status = StatusCode::SERVICE_UNAVAILABLE;
         }
+        self.note_request(request, response);
         Ok(())
     }
 }
@@ -60,6 +65,7 @@ impl<K: Keeper + Drop, S: Store<K> + Drop> Site<K, S> {
             Target::Script => answer_script(response),
             Target::Style => answer_style(response),
             Target::Health => answer_line(response, "ok\n"),
+            Target::Metrics => self.answer_metrics(response),
             Target::Matches => self.list(request, response),
             Target::PlayLive => self.upgrade(request, None, response),
             Target::Of(name, part) => match self.by_name(name) {
@@ -68,6 +74,12 @@ impl<K: Keeper + Drop, S: Store<K> + Drop> Site<K, S> {
             },
             Target::Nothing => missing(response),
         }
+    }
+
+    /// Answers with what is counted.
+    fn answer_metrics(&self, response: &mut Response) -> Result<(), AllocError> {
+        let text = metrics_text(self.alloc, &self.places, self.counts)?;
+        answer_text(response, Kind::Plain, text)
     }
 
     /// Answers with a part of a match.

@@ -13,10 +13,12 @@
 
 mod answering;
 mod channels;
+mod counts;
 mod files;
 mod frames;
 mod greetings;
 mod lists;
+mod logs;
 mod making;
 mod messages;
 mod peers;

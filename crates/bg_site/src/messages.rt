@@ -1,5 +1,5 @@
 //! Messages of peers, and the answers to them.
-ghost use Rattle.std.specs.Prelude.{◌≡◌, None};
+ghost use Rattle.std.specs.Prelude.{◌≡◌, ℕ, None, Some};
 
 use crate::frames::frame_of;
 use crate::peers::Peer;
@@ -23,11 +23,21 @@ pub struct Reply {
 }
 
 impl<K: Keeper + Drop, S: Store<K> + Drop> Site<K, S> {
+    ghost use Rattle.bg_site.specs.Places.{ChangesOnly, HasSeatBy, HasSeatByGreeting};
+
     /// Takes a message of a peer, and returns the answer to it.
     ///
     /// # Errors
     /// AllocError where there is no memory for it.
-    pub fn message(&mut self, peer: &mut Peer, text: &str) -> Result<Reply, AllocError> {
+    pub fn message(&mut self, peer: &mut Peer, text: &str) -> Result<Reply, AllocError>
+        // Whoever is known stays who he is; who watches changes nothing, and a player his match alone.
+        ensures known { (place : ℕ) → peer.old.place ≡ Some place → peer.new ≡ peer.old }
+        ensures watches { (place : ℕ) → peer.old.place ≡ Some place → peer.old.seat ≡ None → self.new ≡ self.old }
+        ensures plays { (place : ℕ) → peer.old.place ≡ Some place
+            → ChangesOnly self.old.places.items self.new.places.items place }
+        // Whoever is not known gets the seat of the secret that he says, or none.
+        ensures seat { peer.old.place ≡ None → HasSeatByGreeting self.old.places.items text.now peer.new }
+    {
         match parse_message(text) {
             Message::Hello(secret) if !peer.is_known() => self.hello(peer, secret),
             Message::Act(number, words) if peer.is_known() => {
@@ -38,7 +48,9 @@ impl<K: Keeper + Drop, S: Store<K> + Drop> Site<K, S> {
     }
 
     /// Gives a peer the seat of his secret.
-    fn hello(&mut self, peer: &mut Peer, secret: &str) -> Result<Reply, AllocError> {
+    fn hello(&mut self, peer: &mut Peer, secret: &str) -> Result<Reply, AllocError>
+        ensures { peer.old.place ≡ None → HasSeatBy self.old.places.items secret.now peer.new }
+    {
         let Some((index, player)) = self.by_secret(secret) else {
             return self.reply(b"{\"no\":\"there is no such seat\"}", false);
         };
@@ -48,13 +60,10 @@ impl<K: Keeper + Drop, S: Store<K> + Drop> Site<K, S> {
     }
 
     /// Lets the player act whose seat a peer has.
-    fn act_by_message(
-        &mut self,
-        peer: &Peer,
-        number: u32,
-        words: &str,
-    ) -> Result<Reply, AllocError>
+    fn act_by_message(&mut self, peer: &Peer, number: u32, words: &str) -> Result<Reply, AllocError>
         ensures watches { peer.now.seat ≡ None → self.new ≡ self.old }
+        ensures plays { (place : ℕ) → peer.now.place ≡ Some place
+            → ChangesOnly self.old.places.items self.new.places.items place }
     {
         let (Some(index), Some(player)) = (peer.place, peer.seat) else {
             return self.reply(b"{\"no\":\"you watch\"}", true);
@@ -77,15 +86,18 @@ impl<K: Keeper + Drop, S: Store<K> + Drop> Site<K, S> {
         player: Player,
         number: u32,
         words: &str,
-    ) -> Result<Vec<u8>, AllocError> {
+    ) -> Result<Vec<u8>, AllocError>
+        ensures { ChangesOnly self.old.places.items self.new.places.items index }
+    {
         let mut out = Vec::new(self.alloc);
         put_text(&mut out, "{\"re\":")?;
         put_number(&mut out, number.into())?;
         match parse_action(words.as_bytes()) {
-            Ok(action) => put_text(
-                &mut out,
-                acted_words(self.act(index, player, number, action)),
-            )?,
+            Ok(action) => {
+                let acted = self.act(index, player, number, action);
+                self.counts.note(acted);
+                put_text(&mut out, acted_words(acted))?;
+            }
             Err(fault) => {
                 put_text(&mut out, ",\"no\":")?;
                 put_quoted(&mut out, fault.reason())?;

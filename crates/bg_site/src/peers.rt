@@ -1,4 +1,5 @@
 //! What is known of a peer that has a socket.
+ghost use Rattle.std.specs.Prelude.{◌≡◌, ◌↔◌, IsSome, IsTrue, None, Some};
 
 use bg_board::Player;
 
@@ -18,7 +19,10 @@ pub struct Peer {
 
 impl Peer {
     /// One who is to say whose seat he has.
-    pub(crate) fn unknown() -> Peer {
+    pub(crate) fn unknown() -> Peer
+        ensures place { result.place ≡ None }
+        ensures seat { result.seat ≡ None }
+    {
         Peer {
             place: None,
             seat: None,
@@ -29,7 +33,10 @@ impl Peer {
     }
 
     /// One who watches a match.
-    pub(crate) fn watching(place: usize) -> Peer {
+    pub(crate) fn watching(place: usize) -> Peer
+        ensures place { result.place ≡ Some place }
+        ensures seat { result.seat ≡ None }
+    {
         Peer {
             place: Some(place),
             ..Peer::unknown()
@@ -37,13 +44,18 @@ impl Peer {
     }
 
     /// Gives him the seat of a player of a match.
-    pub(crate) fn sit(&mut self, place: usize, player: Player) {
+    pub(crate) fn sit(&mut self, place: usize, player: Player)
+        ensures place { self.new.place ≡ Some place }
+        ensures seat { self.new.seat ≡ Some player }
+    {
         self.place = Some(place);
         self.seat = Some(player);
     }
 
     /// Whether he looks at a match.
-    pub fn is_known(&self) -> bool {
+    pub fn is_known(&self) -> bool
+        ensures { IsTrue result ↔ IsSome self.now.place }
+    {
         self.place.is_some()
     }
 }

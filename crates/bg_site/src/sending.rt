@@ -22,28 +22,35 @@ impl<K: Keeper + Drop, S: Store<K> + Drop> Site<K, S> {
     }
 
     /// Notes that a peer has come, as his socket begins.
+    #[tactic(auto, using(crate::proofs::Others::other_stays))]
     pub fn come(&mut self, peer: &Peer)
         ensures { (place : ℕ) → peer.now.place ≡ Some place
             → ChangesOnly self.old.places.items self.new.places.items place }
     {
         if let Some(index) = peer.place {
-            if let Some(place) = self.places.get_mut(index) {
-                place.presence = place.presence.come(peer.seat);
-                place.comings = place.comings.saturating_add(1);
+            if let Some(joined) = self.places.get_mut(index) {
+                joined.presence = joined.presence.come(peer.seat);
+                joined.comings = joined.comings.saturating_add(1);
                 let _ = self.note_news();
             }
         }
     }
 
     /// Notes that a peer has left, as his socket ends.
-    pub fn leave(&mut self, peer: &Peer) {
-        if let Some(index) = peer.place {
-            if let Some(place) = self.places.get_mut(index) {
-                place.presence = place.presence.leave(peer.seat);
-                place.comings = place.comings.saturating_add(1);
-                let _ = self.note_news();
-            }
-        }
+    #[tactic(auto, using(crate::proofs::Others::other_stays))]
+    pub fn leave(&mut self, peer: &Peer)
+        ensures { (place : ℕ) → peer.now.place ≡ Some place
+            → ChangesOnly self.old.places.items self.new.places.items place }
+    {
+        let Some(index) = peer.place else {
+            return;
+        };
+        let Some(left) = self.places.get_mut(index) else {
+            return;
+        };
+        left.presence = left.presence.leave(peer.seat);
+        left.comings = left.comings.saturating_add(1);
+        let _ = self.note_news();
     }
 
     /// Returns the next frame that a peer lacks, and notes that he has it; None where he lacks none.

@@ -1,7 +1,8 @@
 //! All matches of a server.
-ghost use Rattle.std.specs.Prelude.{◌≡◌, ◌≢◌, IfSome};
+ghost use Rattle.std.specs.Prelude.{◌≡◌, IfSome};
 ghost use Rattle.sha2.specs.Sha256.{sha256};
 
+use crate::counts::Counts;
 use crate::peers::Peer;
 use crate::places::{Found, Place, Store, acted_before};
 use bg_board::Player;
@@ -28,8 +29,10 @@ pub struct Site<K, S> {
     news: u64,
     /// Of it, how much the host has asked for.
     asked: u64,
-    /// How many matches were made by requests.
-    made: u64,
+    /// What was counted.
+    pub(crate) counts: Counts,
+    /// The lines of requests that the host has not taken yet, where a log is kept.
+    pub(crate) log: Option<String>,
 }
 
 impl<K: Keeper + Drop, S: Store<K> + Drop> Site<K, S> {
@@ -45,7 +48,8 @@ impl<K: Keeper + Drop, S: Store<K> + Drop> Site<K, S> {
             may_make: true,
             news: 1,
             asked: 1,
-            made: 0,
+            counts: Counts::NONE,
+            log: None,
         }
     }
 
@@ -65,7 +69,7 @@ impl<K: Keeper + Drop, S: Store<K> + Drop> Site<K, S> {
     pub(crate) fn open_made(&mut self, found: Found<K>) -> bool {
         let is_open = self.open(found);
         if is_open {
-            self.made = self.made.saturating_add(1);
+            self.counts.made = self.counts.made.saturating_add(1);
         }
         is_open
     }
@@ -92,7 +96,12 @@ impl<K: Keeper + Drop, S: Store<K> + Drop> Site<K, S> {
 
     /// How many matches were made by requests.
     pub fn made(&self) -> u64 {
-        self.made
+        self.counts.made
+    }
+
+    /// Notes how many connections there are.
+    pub fn note_connections(&mut self, count: u64) {
+        self.counts.connections = count;
     }
 
     /// Whether there was news since this was asked last.
@@ -125,7 +134,9 @@ impl<K: Keeper + Drop, S: Store<K> + Drop> Site<K, S> {
     }
 
     /// Counts news, and returns how much there was.
-    pub(crate) fn note_news(&mut self) -> u64 {
+    pub(crate) fn note_news(&mut self) -> u64
+        ensures { self.new.places ≡ self.old.places }
+    {
         self.news = self.news.saturating_add(1);
         self.news
     }
@@ -155,6 +166,7 @@ impl<K: Keeper + Drop, S: Store<K> + Drop> Site<K, S> {
     }
 
     /// Lets a player of a match act.
+    #[tactic(auto, using(crate::proofs::Others::other_stays))]
     pub(crate) fn act(
         &mut self,
         index: usize,

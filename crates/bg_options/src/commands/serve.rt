@@ -28,6 +28,8 @@ pub struct ServeOptions<'a> {
     /// The folder of the matches.
     pub folder: &'a str,
     pub port: u16,
+    /// Whether each request is said.
+    pub tells_requests: bool,
 }
 
 impl<'a> ServeOptions<'a> {
@@ -35,6 +37,7 @@ impl<'a> ServeOptions<'a> {
         Some(ServeOptions {
             folder: options.get_str(FOLDER.name)?,
             port: u16::try_from(number_in(options, PORT.name)?).ok()?,
+            tells_requests: options.get_flag(ACCESS_LOG.name),
         })
     }
 }
@@ -53,6 +56,13 @@ const PORT: Argument = Argument {
     about: "The port on 127.0.0.1 that browsers, or a proxy, connect to",
 };
 
+const ACCESS_LOG: Argument = Argument {
+    name: "access-log",
+    kind: Kind::Flag,
+    need: Need::Optional,
+    about: "Say each request too: its method, path and status",
+};
+
 /// Returns the command with its options and help.
 pub(crate) fn command<'a>(alloc: Global) -> Result<Command<'a>, Error> {
     let command = described(
@@ -61,5 +71,5 @@ pub(crate) fn command<'a>(alloc: Global) -> Result<Command<'a>, Error> {
         "Let people play and watch matches in a browser",
         ABOUT_SERVE,
     );
-    with_all(alloc, command, &[FOLDER, PORT])
+    with_all(alloc, command, &[FOLDER, PORT, ACCESS_LOG])
 }

@@ -1,0 +1,140 @@
+//! What is counted of a server, and told as Prometheus reads it.
+
+use crate::places::Place;
+use bg_hosted::Acted;
+use bg_text::{put_number, put_text};
+use std::alloc::{AllocError, Global};
+
+/// What was counted since the server began.
+#[derive(Clone, Copy, Debug, PartialEq, Eq)]
+pub(crate) struct Counts {
+    /// How many connections there are.
+    pub(crate) connections: u64,
+    /// How many matches were made by requests.
+    pub(crate) made: u64,
+    pub(crate) requests: u64,
+    done: u64,
+    waiting: u64,
+    refused: u64,
+    failed: u64,
+}
+
+impl Counts {
+    /// Nothing.
+    pub(crate) const NONE: Counts = Counts {
+        connections: 0,
+        made: 0,
+        requests: 0,
+        done: 0,
+        waiting: 0,
+        refused: 0,
+        failed: 0,
+    };
+
+    /// Counts what came of an action.
+    pub(crate) fn note(&mut self, acted: Acted) {
+        let counted = match acted {
+            Acted::Done => &mut self.done,
+            Acted::Waits => &mut self.waiting,
+            Acted::OtherEntry | Acted::Refused(_) => &mut self.refused,
+            Acted::Failed => &mut self.failed,
+        };
+        *counted = counted.saturating_add(1);
+    }
+}
+
+/// How many matches there are, and how many peers look at them.
+#[derive(Clone, Copy, Debug, PartialEq, Eq)]
+struct Crowd {
+    live: u64,
+    finished: u64,
+    players: u64,
+    watchers: u64,
+}
+
+impl Crowd {
+    /// Those of all matches.
+    fn of<K>(places: &[Place<K>]) -> Crowd {
+        let mut crowd = Crowd {
+            live: 0,
+            finished: 0,
+            players: 0,
+            watchers: 0,
+        };
+        for place in places.iter() {
+            crowd = crowd.with(place);
+        }
+        crowd
+    }
+
+    /// Those of a match more.
+    fn with<K>(self, place: &Place<K>) -> Crowd {
+        let is_finished = place.summary.winner.is_some();
+        let presence = place.presence;
+        let players = u64::from(presence.x).saturating_add(presence.o.into());
+        Crowd {
+            live: self.live.saturating_add(u64::from(!is_finished)),
+            finished: self.finished.saturating_add(u64::from(is_finished)),
+            players: self.players.saturating_add(players),
+            watchers: self.watchers.saturating_add(presence.watching.into()),
+        }
+    }
+}
+
+/// Returns what is counted (docs/SERVING.md, "Logs and metrics").
+pub(crate) fn metrics_text<K>(
+    alloc: Global,
+    places: &[Place<K>],
+    counts: Counts,
+) -> Result<Vec<u8>, AllocError> {
+    let crowd = Crowd::of(places);
+    let mut out = Vec::new(alloc);
+    put_gauges(&mut out, crowd, counts.connections)?;
+    put_counters(&mut out, counts)?;
+    Ok(out)
+}
+
+/// Adds what there is now.
+fn put_gauges(out: &mut Vec<u8>, crowd: Crowd, connections: u64) -> Result<(), AllocError> {
+    put_text(out, "# TYPE bg_relay_matches gauge\n")?;
+    put_count(out, "bg_relay_matches{state=\"live\"}", crowd.live)?;
+    put_count(out, "bg_relay_matches{state=\"finished\"}", crowd.finished)?;
+    put_text(out, "# TYPE bg_relay_peers gauge\n")?;
+    put_count(out, "bg_relay_peers{role=\"player\"}", crowd.players)?;
+    put_count(out, "bg_relay_peers{role=\"watcher\"}", crowd.watchers)?;
+    put_text(out, "# TYPE bg_relay_connections gauge\n")?;
+    put_count(out, "bg_relay_connections", connections)
+}
+
+/// Adds what has happened since the server began.
+fn put_counters(out: &mut Vec<u8>, counts: Counts) -> Result<(), AllocError> {
+    put_text(out, "# TYPE bg_relay_requests_total counter\n")?;
+    put_count(out, "bg_relay_requests_total", counts.requests)?;
+    put_text(out, "# TYPE bg_relay_matches_made_total counter\n")?;
+    put_count(out, "bg_relay_matches_made_total", counts.made)?;
+    put_text(out, "# TYPE bg_relay_actions_total counter\n")?;
+    put_count(out, "bg_relay_actions_total{result=\"done\"}", counts.done)?;
+    put_count(
+        out,
+        "bg_relay_actions_total{result=\"waits\"}",
+        counts.waiting,
+    )?;
+    put_count(
+        out,
+        "bg_relay_actions_total{result=\"refused\"}",
+        counts.refused,
+    )?;
+    put_count(
+        out,
+        "bg_relay_actions_total{result=\"failed\"}",
+        counts.failed,
+    )
+}
+
+/// Adds the number of a name.
+fn put_count(out: &mut Vec<u8>, name: &str, count: u64) -> Result<(), AllocError> {
+    put_text(out, name)?;
+    put_text(out, " ")?;
+    put_number(out, count)?;
+    put_text(out, "\n")
+}

@@ -1,0 +1,53 @@
+//! The log of requests.
+
+use crate::places::Store;
+use crate::sites::Site;
+use bg_world::Keeper;
+use bytes::Bytes;
+use http::Request;
+use http_server::Response;
+use std::alloc::AllocError;
+
+/// So many bytes of a log are kept at most until the host takes them.
+const MOST_LOG: usize = 65_536;
+
+impl<K: Keeper + Drop, S: Store<K> + Drop> Site<K, S> {
+    /// Keeps a line of each request from now on.
+    pub fn keep_log(&mut self) {
+        self.log = Some(String::new(self.alloc));
+    }
+
+    /// Returns the lines of the requests since it was asked last: method, path and status. No secret is in a path.
+    /// None where no log is kept.
+    pub fn take_log(&mut self) -> Option<String> {
+        let taken = self.log.take()?;
+        self.log = Some(String::new(self.alloc));
+        Some(taken)
+    }
+
+    /// Counts a request, and adds its line to the log, if one is kept and has room.
+    pub(crate) fn note_request(&mut self, request: &Request<Bytes>, response: &Response) {
+        self.counts.requests = self.counts.requests.saturating_add(1);
+        if let Some(log) = &mut self.log {
+            if log.len() < MOST_LOG {
+                let _ = put_line(log, request, response.status.as_u16());
+            }
+        }
+    }
+}
+
+/// Adds the line of a request.
+fn put_line(log: &mut String, request: &Request<Bytes>, status: u16) -> Result<(), AllocError> {
+    log.push_str(request.method().as_str())?;
+    log.push(' ')?;
+    log.push_str(request.uri().path())?;
+    write_status(log, status)
+}
+
+/// Adds a status, and the end of the line.
+fn write_status(log: &mut String, status: u16) -> Result<(), AllocError> {
+    match write!(log, " {status}\n") {
+        Ok(()) => Ok(()),
+        Err(_) => Err(AllocError),
+    }
+}
