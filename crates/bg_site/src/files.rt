@@ -1,6 +1,7 @@
 //! Requests for texts about a match.
 ghost use Rattle.std.specs.Prelude.{IfOk};
 ghost use Rattle.bg_site.specs.Given.{IsGivenOf};
+ghost use Rattle.bg_site.specs.declared.files.Asked.TheVariants as asked_of;
 
 use crate::answering::missing;
 use crate::places::Store;
@@ -108,7 +109,7 @@ fn text_of(alloc: Global, record: &Record, asked: Asked) -> Result<Given, AllocE
 
 /// Returns the state of a match after so many of its entries.
 fn state_after(alloc: Global, record: &Record, count: Number) -> Result<Given, AllocError>
-    ensures { IfOk result (λ given. IsGivenOf record.now (Asked.StateAfter count) given) }
+    ensures { IfOk result (λ given. IsGivenOf record.now (asked_of.StateAfter count) given) }
 {
     if count > record.len() {
         return Ok(Given::Missing);

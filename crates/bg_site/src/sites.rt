@@ -8,7 +8,7 @@ use crate::places::{Found, Place, Store, acted_before};
 use bg_board::Player;
 use bg_hosted::Acted;
 use bg_match::{Action, Number};
-use bg_requests::digest_of;
+use bg_requests::{Digest, digest_of};
 use bg_world::Keeper;
 use std::alloc::Global;
 
@@ -157,12 +157,22 @@ impl<K: Keeper + Drop, S: Store<K> + Drop> Site<K, S> {
     {
         let digest = digest_of(secret);
         let mut found = None;
-        for (index, place) in self.places.iter().enumerate() {
-            if let Some(player) = place.player_of(&digest) {
+        for index in 0..self.places.len() {
+            if let Some(player) = self.player_at(index, &digest) {
                 found = Some((index, player));
             }
         }
         found
+    }
+
+    /// The player whose seat, in the match at this place, has a secret of this digest.
+    fn player_at(&self, index: usize, digest: &Digest) -> Option<Player>
+        ensures { IfSome result (λ player. HasSeatAt self.now.places.items digest.now index player) }
+    {
+        match self.places.get(index) {
+            Some(place) => place.player_of(digest),
+            None => None,
+        }
     }
 
     /// Lets a player of a match act.
