@@ -30,24 +30,18 @@ impl<K: Keeper + Drop, S: Store<K> + Drop> Site<K, S> {
         self.counts.requests = self.counts.requests.saturating_add(1);
         if let Some(log) = &mut self.log {
             if log.len() < MOST_LOG {
-                let _ = put_line(log, request, response.status.as_u16());
+                let _ = put_line(log, request, response.status.as_str());
             }
         }
     }
 }
 
 /// Adds the line of a request.
-fn put_line(log: &mut String, request: &Request<Bytes>, status: u16) -> Result<(), AllocError> {
+fn put_line(log: &mut String, request: &Request<Bytes>, status: &str) -> Result<(), AllocError> {
     log.push_str(request.method().as_str())?;
     log.push(' ')?;
     log.push_str(request.uri().path())?;
-    write_status(log, status)
-}
-
-/// Adds a status, and the end of the line.
-fn write_status(log: &mut String, status: u16) -> Result<(), AllocError> {
-    match write!(log, " {status}\n") {
-        Ok(()) => Ok(()),
-        Err(_) => Err(AllocError),
-    }
+    log.push(' ')?;
+    log.push_str(status)?;
+    log.push('\n')
 }
