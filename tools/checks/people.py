@@ -1,5 +1,6 @@
 """People at pseudo terminals, for the check that plays matches: each types what a person would, as his screen asks."""
 import fcntl
+import itertools
 import os
 import pty
 import re
@@ -272,22 +273,24 @@ def merged(steps):
 
 def counted(steps):
     """One movement for steps that are the same."""
-    same = len(steps) > 1 and len(set(steps)) == 1
-    return [f"{slashed(steps)[0]}({len(steps)})"] if same else None
+    groups = [(step, len(list(same))) for step, same in itertools.groupby(slashed(steps))]
+    if len(groups) == len(steps):
+        return None
+    return [" ".join(f"{step}({count})" if count > 1 else step for step, count in groups)]
 
 
-# Ways to type a turn; nothing where one does not fit it.
+# Ways to type a turn, the rarest first; nothing where one does not fit it.
 STYLES = {
+    "counted": counted,
+    "merged": merged,
+    "path": path,
+    "marked hits": lambda steps: [" ".join(slashed(steps, "*"))] if "*" in "".join(steps) else None,
+    "b": lambda steps: [" ".join(slashed(steps)).replace("bar", "b")] if steps[0].startswith("bar") else None,
+    "o": lambda steps: [" ".join(slashed(steps)).replace("off", "o")] if steps[-1].endswith("off") else None,
+    "in parts": lambda steps: [slashed(steps)[0], " ".join(slashed(steps[1:]))] if len(steps) > 1 else None,
+    "commas": lambda steps: [", ".join(slashed(steps))] if len(steps) > 1 else None,
     "slashes": lambda steps: [" ".join(slashed(steps))],
     "as printed": lambda steps: ["move " + " ".join(steps).replace("*", "")],
     "capitals": lambda steps: ["M " + " ".join(slashed(steps)).upper()],
     "blanks": lambda steps: ["  m   " + "   ".join(slashed(steps))],
-    "commas": lambda steps: [", ".join(slashed(steps))] if len(steps) > 1 else None,
-    "marked hits": lambda steps: [" ".join(slashed(steps, "*"))] if "*" in "".join(steps) else None,
-    "path": path,
-    "merged": merged,
-    "counted": counted,
-    "b": lambda steps: [" ".join(slashed(steps)).replace("bar", "b")] if steps[0].startswith("bar") else None,
-    "o": lambda steps: [" ".join(slashed(steps)).replace("off", "o")] if steps[-1].endswith("off") else None,
-    "in parts": lambda steps: [slashed(steps)[0], " ".join(slashed(steps[1:]))] if len(steps) > 1 else None,
 }

@@ -202,5 +202,5 @@ def which_way(player, kind, screen):
     return None
 
 
-BY_BOARD = (held, bar_first, not_home, higher, wrong_hits, other_cube, no_die, no_bar, larger_die)
-BY_TURN = (both_dice, which_way)
+BY_BOARD = (held, bar_first, not_home, higher, wrong_hits, other_cube, no_die, no_bar, which_way)
+BY_TURN = (larger_die, both_dice)
