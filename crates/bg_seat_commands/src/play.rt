@@ -57,6 +57,7 @@ where
         plays_forced: options.plays_forced,
         joining: Joining::Waiting(0),
         caught_up: 0,
+        foreign: None,
         shown: 0,
         stood: None,
         typed: Vec::new(rt.alloc()),
@@ -81,6 +82,9 @@ struct Table<'a, R> {
     joining: Joining,
     /// Number of entries that the seat held at the last tick.
     caught_up: Number,
+    /// The first entry in the player's name that this seat never claimed, where it came before the
+    /// player had joined.
+    foreign: Option<Number>,
     /// Number of entries that were printed.
     shown: Number,
     /// The standing of the match when they were.

@@ -35,11 +35,8 @@ pub(super) fn begins_turn(
     part: &Turn,
 ) -> Result<bool, AllocError> {
     let turns = legal_turns(alloc, board, player, dice)?;
-    Ok(
-        turns
-            .iter()
-            .any(|turn| turn.steps().starts_with(part.steps())),
-    )
+    let begins = |turn: &Turn| turn.steps().starts_with(part.steps());
+    Ok(turns.iter().any(begins))
 }
 
 /// Returns the line that says which turn is played, as it is the only one.
