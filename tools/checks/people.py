@@ -10,7 +10,7 @@ import struct
 import termios
 import time
 
-from refused_lines import turns_to_list
+from refused_lines import Seen, turns_to_list
 
 # A person types when the screen has stood still for so long.
 STILL = 0.03
@@ -199,6 +199,9 @@ class Person:
             is_told = f"{len(wanted)} turns:" in new and turns == wanted[:len(turns)]
         if not is_told:
             self.wrong.append(f"{self.player} sees the turns {new!r}, and not {wanted}")
+        pips, told = Seen(self.player, self.screen).pips(), re.findall(r"^pips: .*$", self.screen, re.M)[-1]
+        if list(map(int, re.findall(r"\d+", told))) != pips:
+            self.wrong.append(f"{self.player} sees `{told}`, where by the board it is {pips}")
 
     def go_on(self):
         """Types the next line that he wants to try at this prompt, or what it asks for."""

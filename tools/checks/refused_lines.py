@@ -20,7 +20,7 @@ class Seen:
         self.own, self.other = player, "XO".replace(player, "")
         lines, bar = BOARD.findall(screen)[-1]
         self.points = board_in(lines.splitlines())
-        self.bar = int(re.search(rf"{player} (\d+)", bar)[1])
+        self.bar, self.other_bar = (int(re.search(rf"{name} (\d+)", bar)[1]) for name in (player, self.other))
         self.dice = [int(die) for die in re.findall(rf"^{player} to move (\d) (\d)$", screen, re.M)[-1]]
 
     def count(self, player, point):
@@ -39,6 +39,12 @@ class Seen:
         own[BAR] = self.bar
         own[OFF] = CHECKERS - sum(own)
         return own, other
+
+    def pips(self):
+        """The pip counts of both players, the own one first."""
+        own, other = self.sides()
+        return [sum(point * count for point, count in enumerate(own)),
+                sum((BAR - point) * count for point, count in enumerate(other)) + BAR * self.other_bar]
 
     def turns(self):
         """The legal turns, the greatest first."""
