@@ -1,5 +1,6 @@
-"""People at pseudo terminals, for the checks that play matches: each types what a person would, as his screen asks."""
+"""People at pseudo terminals, for the check that plays matches: each types what a person would, as his screen asks."""
 import fcntl
+import itertools
 import os
 import pty
 import re
@@ -8,6 +9,8 @@ import signal
 import struct
 import termios
 import time
+
+from refused_lines import Seen, turns_to_list
 
 # A person types when the screen has stood still for so long.
 STILL = 0.03
@@ -38,16 +41,21 @@ MORE = "`more` lists further turns"
 
 class Person:
     """One who plays at a terminal. `lines` says of a prompt which lines he tries first, each with what is to answer it,
-    and `tries` what he types once where the board lets it be refused. What came is kept in `raw`, and what he reads,
-    without colours, in `screen`; `lives` says where in it each call of the command begins, and with how many columns.
-    Where `exports` is not set, an option says how many there are, and no variable."""
+    `tries` what he types once where the board lets it be refused, and `parts` what he types once where a part of a turn
+    is typed, by the number of its dice. He plays one of the first turns that are listed, out of so many as `among` says.
+    What came is kept in `raw`, and what he reads, without colours, in `screen`; `lives` says where in it each call of the
+    command begins, and with how many columns. Where `exports` is not set, an option says how many there are, and no
+    variable."""
 
-    def __init__(self, command, player, columns, rows, lines, choices, has_colours=False, exports=True, tries=()):
+    def __init__(self, command, player, columns, rows, lines, choices, has_colours=False, exports=True, tries=(), parts=(),
+                 among=1):
         self.command, self.player, self.size, self.lines, self.choices = command, player, (columns, rows), lines, choices
         self.no_color, self.exports, self.tries = "" if has_colours else "1", exports, list(tries)
+        self.parts, self.among = {dice: list(lines) for dice, lines in dict(parts).items()}, among
         self.raw, self.screen, self.seen, self.changed, self.wrong = "", "", 0, time.time(), []
-        self.awaited, self.typed_turns, self.style, self.later, self.prompt = None, [], 0, {}, ""
+        self.awaited, self.typed_turns, self.later, self.prompt = None, [], {}, ""
         self.lives, self.has_undone, self.pages, self.listed, self.typed_at = [], False, 0, "", 0
+        self.behind, self.uses = None, dict.fromkeys(STYLES, 0)
         self.start()
 
     def start(self):
@@ -148,6 +156,8 @@ class Person:
             self.wrong.append(f"{self.player} typed {line!r} and saw {new!r}, and not {pattern!r}")
             if line == "l":
                 return self.type("l", LISTED)
+        if line in ("l", "legal") and re.search(LISTED, new):
+            self.check_listed(new)
         if line == "l" and MORE in " ".join(new.split()):
             self.listed = new
             self.type("more", r"\n \S+-\S+")
@@ -156,16 +166,42 @@ class Person:
         elif line == "more":
             self.pages += 1
             self.choose(self.listed)
-        elif line == "undo" and self.later:
-            first = next(iter(self.later))
-            self.type(first, rf"so\s+far {first.replace('/', '-')}")
-        elif line in self.later and not self.has_undone:
-            self.has_undone = True
-            self.type("undo", rf"taken\s+back{PROMPTED}")
-        elif line in self.later:
-            self.type(self.later.pop(line))
+        elif self.behind:
+            self.type(self.behind)
+            self.behind = None
+        elif self.later:
+            self.go_on_with_part(line)
         else:
             self.go_on()
+
+    def go_on_with_part(self, line):
+        """Takes the part of a turn that he typed back, once; types what is refused there, or the rest."""
+        first, rest = next(iter(self.later.items()))
+        tries = self.parts.get(len(self.typed_turns[-1].split()), [])
+        if line == "undo":
+            self.type(first, rf"so\s+far {first.replace('/', '-')}")
+        elif line == first and not self.has_undone:
+            self.has_undone = True
+            self.type("undo", rf"taken\s+back{PROMPTED}")
+        elif tries:
+            self.type(*tries.pop(0))
+        else:
+            self.later = {}
+            self.type(rest)
+
+    def check_listed(self, new):
+        """Compares the turns that he sees listed, or the first of them, with those that are legal by what he sees."""
+        wanted, turns = turns_to_list(self.player, self.screen), turns_in(new)
+        if len(wanted) == 1:
+            found = " ".join(new.split())
+            is_told = f"the only turn: {wanted[0]} (`m`" in found if wanted[0] else "can't move" in found
+        else:
+            is_told = f"{len(wanted)} turns:" in new and turns == wanted[:len(turns)]
+        if not is_told:
+            self.wrong.append(f"{self.player} sees the turns {new!r}, and not {wanted}")
+        pips, told = Seen(self.player, self.screen).pips(), re.findall(r"^pips: .*$", self.screen, re.M)[-1]
+        if list(map(int, re.findall(r"\d+", told))) != pips:
+            self.wrong.append(f"{self.player} sees `{told}`, where by the board it is {pips}")
 
     def go_on(self):
         """Types the next line that he wants to try at this prompt, or what it asks for."""
@@ -181,19 +217,27 @@ class Person:
             word, offered, line = choice
             if word == kind and offered in self.prompt:
                 self.choices.remove(choice)
+                if line == "resign":
+                    # Its level is asked for.
+                    self.behind = "Gammon"
+                    return self.type(line, r"at\s+which\s+level")
                 return self.type(line)
-        answers = {"roll": "r", "take": "take", "accept": "a"}
+        answers = {"roll": "r", "take": "t", "accept": "a"}
         return self.type(answers[kind]) if kind in answers else self.type("l", LISTED)
 
     def choose(self, listed):
-        """Types the first of the turns that are listed, in one of the ways in which turns are typed."""
+        """Types one of the first turns that are listed, in the way of those that fit it which he has used least."""
         if "can't move" in listed:
             return self.type("move")
         if "the only turn" in listed:
             return self.type("m")
-        steps = turns_in(listed)[0].split(" ")
-        self.style = (self.style + 1) % len(STYLES)
-        lines = STYLES[self.style](steps)
+        turns = turns_in(listed)[:self.among]
+        pips = int(re.findall(rf"^pips: {self.player} \(you\) (\d+)", self.screen, re.M)[-1])
+        steps = turns[pips % len(turns)].split(" ")
+        fitting = [style for style in STYLES if STYLES[style](steps)]
+        style = "in parts" if self.parts.get(len(steps)) else min(fitting, key=self.uses.get)
+        self.uses[style] += 1
+        lines = STYLES[style](steps)
         self.typed_turns.append(" ".join(steps).replace("*", ""))
         if len(lines) > 1:
             self.later[lines[0]] = lines[1]
@@ -206,28 +250,50 @@ def turns_in(listed):
     return TURN.findall(listed.split("turns:\n", 1)[-1].replace("\n", "  "))
 
 
-def slashed(steps):
-    return [step.replace("-", "/") for step in steps]
+def slashed(steps, marks=""):
+    """Steps as players write them, without the marks of hits, or with these."""
+    return [step.replace("-", "/").replace("*", marks) for step in steps]
+
+
+def is_chain(steps):
+    """Whether one checker plays all steps."""
+    return len(steps) > 1 and all(one.rstrip("*").split("-")[1] == other.split("-")[0] for one, other in zip(steps, steps[1:]))
+
+
+def path(steps):
+    """One movement with each point that the checker comes by."""
+    if is_chain(steps):
+        return ["/".join([steps[0].split("-")[0], *(step.split("-")[1] for step in steps)])]
+    return None
 
 
 def merged(steps):
     """One movement for two steps of one checker, where the first hits nothing."""
-    chain = len(steps) == 2 and steps[0].split("-")[1] == steps[1].split("-")[0]
-    return [f"{steps[0].split('-')[0]}/{steps[1].split('-')[1]}"] if chain else [", ".join(slashed(steps))]
+    if is_chain(steps) and len(steps) == 2 and "*" not in steps[0]:
+        return [f"{steps[0].split('-')[0]}/{steps[1].split('-')[1]}".replace("*", "")]
+    return None
 
 
 def counted(steps):
     """One movement for steps that are the same."""
-    same = len(steps) > 1 and len(set(steps)) == 1
-    return [f"{slashed(steps)[0]}({len(steps)})"] if same else ["m   " + "  ".join(slashed(steps))]
+    groups = [(step, len(list(same))) for step, same in itertools.groupby(slashed(steps))]
+    if len(groups) == len(steps):
+        return None
+    return [" ".join(f"{step}({count})" if count > 1 else step for step, count in groups)]
 
 
-STYLES = [
-    lambda steps: [" ".join(slashed(steps)).replace("*", "")],
-    lambda steps: ["move " + " ".join(steps).replace("*", "")],
-    lambda steps: ["M " + " ".join(slashed(steps)).upper()],
-    merged,
-    counted,
-    lambda steps: [" ".join(slashed(steps)).replace("bar", "b").replace("off", "o")],
-    lambda steps: [slashed(steps)[0].replace("*", ""), " ".join(slashed(steps[1:])).replace("*", "")] if len(steps) > 1 else slashed(steps),
-]
+# Ways to type a turn, the rarest first; nothing where one does not fit it.
+STYLES = {
+    "counted": counted,
+    "merged": merged,
+    "path": path,
+    "marked hits": lambda steps: [" ".join(slashed(steps, "*"))] if "*" in "".join(steps) else None,
+    "b": lambda steps: [" ".join(slashed(steps)).replace("bar", "b")] if steps[0].startswith("bar") else None,
+    "o": lambda steps: [" ".join(slashed(steps)).replace("off", "o")] if steps[-1].endswith("off") else None,
+    "in parts": lambda steps: [slashed(steps)[0], " ".join(slashed(steps[1:]))] if len(steps) > 1 else None,
+    "commas": lambda steps: [", ".join(slashed(steps))] if len(steps) > 1 else None,
+    "slashes": lambda steps: [" ".join(slashed(steps))],
+    "as printed": lambda steps: ["move " + " ".join(steps).replace("*", "")],
+    "capitals": lambda steps: ["M " + " ".join(slashed(steps)).upper()],
+    "blanks": lambda steps: ["  m   " + "   ".join(slashed(steps))],
+}

@@ -1,21 +1,26 @@
 """Lines that are refused by the board that a person sees, for the check that plays matches at terminals. Each function gives
 what the player may type at such a prompt, with what is to answer it; nothing where the board does not let it be refused.
+What may be played there is reckoned here, and not by the program.
 """
+import functools
 import re
 
-# The lines of the board that was drawn last, and the cell of a point that has checkers.
-BOARD = re.compile(r"^score: .*\n((?:.*\n){4,26}?)bar: (.*)$", re.M)
-CELL = re.compile(r"([XO])(\d+)")
+from boards import board_in
+from turns import BAR, OFF, can_step, is_by, legal
+
+# The lines of the board that was drawn last.
+BOARD = re.compile(r"^score: .*\n((?:.*\n){0,26}?)bar: (.*)$", re.M)
+CHECKERS = 15
 
 
 class Seen:
-    """The board that was drawn last, of rows or as a list of points, the bar, and the dice to be moved."""
+    """The board that was drawn last, the bar, and the dice to be moved, in the numbers of who sees it."""
 
     def __init__(self, player, screen):
         self.own, self.other = player, "XO".replace(player, "")
         lines, bar = BOARD.findall(screen)[-1]
-        self.points = points_of(lines.splitlines())
-        self.bar = int(re.search(rf"{player} (\d+)", bar)[1])
+        self.points = board_in(lines.splitlines())
+        self.bar, self.other_bar = (int(re.search(rf"{name} (\d+)", bar)[1]) for name in (player, self.other))
         self.dice = [int(die) for die in re.findall(rf"^{player} to move (\d) (\d)$", screen, re.M)[-1]]
 
     def count(self, player, point):
@@ -28,15 +33,46 @@ class Seen:
         """Each step of a checker on the board by a die, to a point."""
         return [(point, point - die) for point in self.own_points() for die in self.dice if point > die]
 
+    def sides(self):
+        """The checkers of both players, as the rules of `turns` have them."""
+        own, other = ([self.count(player, point) for point in range(25)] + [0] for player in (self.own, self.other))
+        own[BAR] = self.bar
+        own[OFF] = CHECKERS - sum(own)
+        return own, other
 
-def points_of(lines):
-    """The player and the number of the checkers on each point that has some."""
-    if len(lines) == 4 and lines[0].startswith("  13"):
-        cells = [*reversed(lines[1].replace("|", " ").split()), *lines[2].replace("|", " ").split()]
-        found = [(24 - at, cell) for at, cell in enumerate(cells) if cell != "."]
-    else:
-        found = [(int(line.split()[0]), line.split()[1]) for line in lines]
-    return {point: (CELL.match(cell)[1], int(CELL.match(cell)[2])) for point, cell in found}
+    def pips(self):
+        """The pip counts of both players, the own one first."""
+        own, other = self.sides()
+        return [sum(point * count for point, count in enumerate(own)),
+                sum((BAR - point) * count for point, count in enumerate(other)) + BAR * self.other_bar]
+
+    def turns(self):
+        """The legal turns, the greatest first."""
+        own, other = self.sides()
+        return reckoned(tuple(own), tuple(other), *self.dice)
+
+    def single_steps(self):
+        """Each step that can be played first, by one of the dice."""
+        own, other = self.sides()
+        return [(point, max(point - die, OFF)) for die in sorted(set(self.dice)) for point in range(BAR, 0, -1)
+                if can_step(own, other, point, die)]
+
+
+reckoned = functools.lru_cache(maxsize=64)(legal)
+
+
+def shown(steps, mark="-"):
+    """Steps as they are printed, or typed by another mark between two points."""
+    names = {BAR: "bar", OFF: "off"}
+    return " ".join(f"{names.get(point, point)}{mark}{names.get(to, to)}" for point, to in steps)
+
+
+def turns_to_list(player, screen):
+    """The legal turns as they are to be listed: each position once, by the greatest turn, with the marks of hits."""
+    first = {}
+    for steps, hits, end in Seen(player, screen).turns():
+        first.setdefault(end, (steps, hits))
+    return [" ".join(shown([step]) + "*" * hit for step, hit in zip(steps, hits)) for steps, hits in first.values()]
 
 
 def seen(player, kind, screen):
@@ -112,4 +148,65 @@ def offer_first(player, kind, screen):
     return ("Roll", r"answer the offer to resign first") if kind == "accept" else None
 
 
-BY_BOARD = (held, bar_first, not_home, higher, wrong_hits, other_cube)
+def no_die(player, kind, screen):
+    board = seen(player, kind, screen)
+    if not board or board.dice[0] == board.dice[1]:
+        return None
+    for step in board.single_steps():
+        if board.sides()[0][step[0]] > 1:
+            return f"{shown([step, step], '/')}", rf"{shown([step])} can't be played:\s+no\s+die\s+is\s+left\s+for\s+it"
+    return None
+
+
+def no_bar(player, kind, screen):
+    board = seen(player, kind, screen)
+    if board and not board.bar:
+        to = BAR - board.dice[0]
+        return f"b/{to}", rf"bar-{to} can't be played:\s+you\s+have\s+no\s+checker\s+on\s+the\s+bar"
+    return None
+
+
+def both_dice(player, kind, screen):
+    """A step behind which the other die can't be played, where both can be."""
+    board = seen(player, kind, screen)
+    if not board or board.dice[0] == board.dice[1] or len(board.turns()[0][0]) < 2:
+        return None
+    firsts = {steps[0] for steps, _, _ in board.turns()}
+    for step in board.single_steps():
+        if step not in firsts:
+            greatest = shown(board.turns()[0][0]).replace(" ", r"\s+")
+            return shown([step], "/"), rf"you\s+must\s+play\s+both\s+dice:\s+{greatest}\s+can\s+be\s+played"
+    return None
+
+
+def larger_die(player, kind, screen):
+    """A step by the smaller die, where one die can be played and the larger one is to be."""
+    board = seen(player, kind, screen)
+    if not board or board.dice[0] == board.dice[1] or len(board.turns()[0][0]) != 1:
+        return None
+    larger, turns = max(board.dice), [steps for steps, _, _ in board.turns()]
+    for step in board.single_steps():
+        if (step,) not in turns and not is_by(*board.sides(), step, larger):
+            greatest = shown(turns[0])
+            return shown([step], "/"), rf"must\s+play\s+the\s+larger\s+die,\s+{larger}:\s+{greatest}\s+can\s+be\s+played"
+    return None
+
+
+def which_way(player, kind, screen):
+    """A checker's way by both dice, which hits on other points by the one than by the other: both turns are named."""
+    board = seen(player, kind, screen)
+    ways = {}
+    for steps, hits, _ in board.turns() if board and board.dice[0] != board.dice[1] else ():
+        if len(steps) == 2 and steps[0][1] == steps[1][0]:
+            hit = [to for (_, to), is_hit in zip(steps, hits) if is_hit]
+            ways.setdefault((steps[0][0], steps[1][1]), []).append((steps, hit))
+    for way, found in ways.items():
+        if any(hit != found[0][1] for _, hit in found):
+            other = next(steps for steps, hit in found if hit != found[0][1])
+            one, other = (shown(steps).replace(" ", r"\s+") for steps in (found[0][0], other))
+            return shown([way], "/"), rf"which\s+way\?\s+Type\s+{one}\s+or\s+{other}$"
+    return None
+
+
+BY_BOARD = (held, bar_first, not_home, higher, wrong_hits, other_cube, no_die, no_bar, which_way)
+BY_TURN = (larger_die, both_dice)

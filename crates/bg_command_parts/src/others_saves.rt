@@ -1,7 +1,7 @@
 //! The messages on a folder that has saves of the other player.
 
 use bg_board::Player;
-use bg_console::wrong;
+use bg_console::{wrong, wrong_at};
 use bg_processes::{Printable, SlotName};
 use bg_reports::Ending;
 use bg_wire::{REFEREE, SEAT_OF_O, SEAT_OF_X, Slot, party_of};
@@ -9,6 +9,9 @@ use std::fmt::{Display, Formatter, Write};
 use std::fs::File;
 use std::rt::Files;
 use std::{fmt, fs};
+
+/// The message on the folder of a referee, which a seat can't have too.
+const OF_REFEREE: &str = " is the folder of the referee: give another --dir, one for each player";
 
 /// The owner of saves, as a message names it.
 #[derive(Clone, Copy)]
@@ -25,14 +28,20 @@ impl Display for Owner {
     }
 }
 
-/// Refuses a folder for this player's seat that has saves of the other player, and none of this
-/// one's.
+/// Refuses a folder for this player's seat that is the referee's, or has saves of the other player,
+/// and none of this one's.
 pub fn check_seat_folder<R>(rt: &R, folder: &str, player: Player) -> Result<(), Ending>
 where
     R: Files<File = File> + Eprint + AllocGlobal,
 {
     let (own, other) = (party_of(player), party_of(player.opponent()));
-    if !has_saves(rt, folder, other) || has_saves(rt, folder, own) {
+    if has_saves(rt, folder, own) {
+        return Ok(());
+    }
+    if has_match(rt, folder) {
+        return Err(wrong_at(rt, folder, OF_REFEREE));
+    }
+    if !has_saves(rt, folder, other) {
         return Ok(());
     }
     let (shown, own, other) = (Printable(folder), Owner(own), Owner(other));
@@ -42,6 +51,17 @@ where
             "{shown} has saves of {other}, and none of {own}: give another --dir, one for each player"
         ),
     ))
+}
+
+/// Returns whether a folder has a match file, as that of a referee has.
+fn has_match<R>(rt: &R, folder: &str) -> bool
+where
+    R: Files<File = File> + AllocGlobal,
+{
+    let Ok(path) = format!(in rt.alloc(); "{folder}/match") else {
+        return false;
+    };
+    fs::metadata(rt, path.as_str()).is_ok()
 }
 
 /// Returns whether one of the files of a party in a folder has a byte.

@@ -3,6 +3,7 @@
 use bg_console::failed;
 use bg_processes::{Failures, Keyring, PartySocket};
 use bg_reports::Ending;
+use bg_wire::{REFEREE, SEAT_OF_O, SEAT_OF_X};
 use std::io;
 use std::io::ErrorKind;
 use std::net::Net;
@@ -33,11 +34,22 @@ pub fn socket_of<'a, R: Net + Clock + Eprint>(
             Err(failed(
                 rt,
                 format_args!(
-                    "port {own} is taken: is party {party} {RUNNING_OR} {least} or above? {END_IT}"
+                    "port {own} is taken: is {} {RUNNING_OR} {least} or above? {END_IT}",
+                    holder_of(party)
                 ),
             ))
         }
         Err(error) => Err(no_socket(rt, party, &error)),
+    }
+}
+
+/// Returns the party that has a port, as a message names it.
+fn holder_of(party: u8) -> &'static str {
+    match party {
+        REFEREE => "the referee",
+        SEAT_OF_X => "the seat of X",
+        SEAT_OF_O => "the seat of O",
+        _ => "another watcher",
     }
 }
 

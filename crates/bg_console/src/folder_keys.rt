@@ -1,7 +1,7 @@
 //! The keys in a folder: a secret that they are derived from, or the key files of all parties.
 
+use crate::handed_files::key_file_of;
 use crate::messages::{no_memory, wrong};
-use crate::startup::key_file_of;
 use bg_reports::Ending;
 use bg_system::{KeyFile, KeyFiles, MatchFile, Printable, name_of_key_file};
 use bg_wire::{FIRST_WATCHER, SEAT_OF_O, SEAT_OF_X};

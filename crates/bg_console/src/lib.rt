@@ -23,6 +23,7 @@ mod beside;
 mod breaking;
 mod colours;
 mod folder_keys;
+mod handed_files;
 mod messages;
 mod pairings;
 mod published;
@@ -34,6 +35,7 @@ pub use beside::{MatchBeside, matches_beside};
 pub use breaking::broken;
 pub use colours::{with_bold_offers, with_coloured_checkers};
 pub use folder_keys::{has_key_secret, key_files_in, key_files_of};
+pub use handed_files::{key_file_of, match_of, seat_key_file_of, table_of};
 pub use messages::progress::Progress;
 pub use messages::says::{say, say_failures, say_number, say_of, say_why};
 pub use messages::{
@@ -44,7 +46,6 @@ pub use pairings::{Called, Pairing, page_words, title_of};
 pub use published::{Outputs, Published, is_one_file};
 pub use screens::{Terminal, columns, output_terminal};
 pub use startup::{
-    check_folder, check_writable, key_file_of, lock_of, match_of, own_folder, seat_key_file_of,
-    table_of, tell_if_open, waited, waiting_for,
+    check_folder, check_writable, lock_of, own_folder, tell_if_open, waited, waiting_for,
 };
 pub use tellings::{Telling, print_board, print_text, put_entries, write_out};

@@ -28,7 +28,7 @@ where
         rounds,
         folder,
     } = options;
-    check_folder(rt, folder, " is no folder")?;
+    check_folder(rt, folder, " is no folder: make it first")?;
     let _lock = lock_of(rt, folder)?;
     check_no_match(rt, folder)?;
     tell_if_open(rt, folder);

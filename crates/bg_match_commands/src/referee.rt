@@ -19,6 +19,9 @@ use std::net::Net;
 use std::rt::Files;
 use std::time::Clock;
 
+/// The message on what isn't a folder.
+const NO_FOLDER: &str = " is no folder: name the one that `bg_relay new` made";
+
 type Referee<'a, R> = RefereeProcess<PartySocket<'a, R>, FileKeeper<'a, R>>;
 
 /// Runs the referee of the match in this folder, until the match is over.
@@ -27,7 +30,7 @@ where
     R: Net + Files<File = File> + Clock + Print + Eprint + AllocGlobal,
 {
     let RefereeOptions { folder, is_quiet } = options;
-    check_folder(rt, folder, " is no folder")?;
+    check_folder(rt, folder, NO_FOLDER)?;
     let _lock = lock_of(rt, folder)?;
     tell_if_open(rt, folder);
     let failures = Failures::new();

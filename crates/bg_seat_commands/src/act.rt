@@ -8,8 +8,10 @@ use bg_console::{
 };
 use bg_match::{Action, Number, Record};
 use bg_options::ActOptions;
-use bg_processes::{Failures, Going};
+use bg_party::ChooseFault;
+use bg_processes::{Failures, Going, Printable};
 use bg_reports::{Ending, ending_of};
+use bg_table::refusal_text;
 use bg_text::parse_action;
 use bg_world::{Outcome, outcome_text};
 use std::fs::File;
@@ -24,6 +26,12 @@ const TICKS_TO_LISTEN: u32 = 2;
 
 /// Number of ticks in one second.
 const TICKS_A_SECOND: u32 = 10;
+
+/// The message behind words that are no action.
+const ACTIONS: &str = "`bg_relay act --help` lists the actions";
+
+/// The message where the files of the seat keep it from claiming. The reason stands behind it.
+const UNCLAIMED: &str = "nothing was claimed, as the message above says";
 
 /// The task of the call.
 #[derive(Drop)]
@@ -84,7 +92,14 @@ fn action_of<R: Eprint + AllocGlobal>(rt: &R, words: &[&str]) -> Result<Option<A
     match parse_action(&line) {
         Ok(action) => Ok(Some(action)),
         Err(_) if line.is_empty() => Ok(None),
-        Err(fault) => Err(wrong(rt, fault.reason())),
+        Err(fault) => {
+            let words = Printable(str::from_utf8(&line).unwrap_or_default());
+            let reason = fault.reason();
+            Err(wrong(
+                rt,
+                format_args!("`{words}` is no action: {reason}. {ACTIONS}"),
+            ))
+        }
     }
 }
 
@@ -150,12 +165,28 @@ where
     }
     match seat.choose(action.copy())? {
         Outcome::Chose(Ok(number)) => Ok(Some(number)),
-        outcome @ Outcome::Chose(_) => {
-            say(rt, outcome_text(&outcome).as_str());
-            Err(Ending::ActionRefused)
+        Outcome::Chose(Err(fault)) => Err(refused(rt, seat, action, fault)),
+        outcome => {
+            let why = outcome_text(&outcome);
+            Err(failed(rt, format_args!("{UNCLAIMED}: {}", why.as_str())))
         }
-        outcome => Err(failed(rt, outcome_text(&outcome).as_str())),
     }
+}
+
+/// Reports that an action is refused and, of an illegal one, why in the words of a player.
+fn refused<R>(rt: &R, seat: &Seat<'_, R>, action: &Action, fault: ChooseFault) -> Ending
+where
+    R: Net + Files<File = File> + Clock + Eprint + AllocGlobal,
+{
+    say(rt, outcome_text(&Outcome::Chose(Err(fault))).as_str());
+    if let (ChooseFault::Illegal(fault), Some(record)) = (fault, seat.process.held()) {
+        let standing = record.standing();
+        if let Ok(text) = refusal_text(rt.alloc(), &standing, seat.player, action, fault) {
+            let lines = str::from_utf8(&text).unwrap_or_default();
+            say(rt, lines.lines().next().unwrap_or_default());
+        }
+    }
+    Ending::ActionRefused
 }
 
 /// Reports that the time is over. A claim that was saved is sent by the next call.

@@ -36,8 +36,7 @@ const MOST_LINES: u32 = 64;
 const GOES_ON: &[u8] = b"you left the table: the match goes on by the same command";
 
 /// The question to a player who resigns.
-const WHICH_LEVEL: &[u8] =
-    b"at which level? Type `resign normal`, `resign gammon` or `resign backgammon`";
+const WHICH_LEVEL: &[u8] = b"at which level do you resign? Type `normal`, `gammon` or `backgammon`";
 
 /// Lets a person play for the player that the options name, at this terminal if there is one.
 pub fn run<R>(
@@ -58,10 +57,12 @@ where
         plays_forced: options.plays_forced,
         joining: Joining::Waiting(0),
         caught_up: 0,
+        foreign: None,
         shown: 0,
         stood: None,
         typed: Vec::new(rt.alloc()),
         listed: 0,
+        asks_level: false,
         is_silent: false,
         opponent: Opponent::new(),
     };
@@ -81,6 +82,9 @@ struct Table<'a, R> {
     joining: Joining,
     /// Number of entries that the seat held at the last tick.
     caught_up: Number,
+    /// The first entry in the player's name that this seat never claimed, where it came before the
+    /// player had joined.
+    foreign: Option<Number>,
     /// Number of entries that were printed.
     shown: Number,
     /// The standing of the match when they were.
@@ -89,6 +93,8 @@ struct Table<'a, R> {
     typed: Vec<u8>,
     /// Number of lines of the legal turns that were printed.
     listed: usize,
+    /// Whether the player was asked at which level they resign.
+    asks_level: bool,
     /// Whether nothing is heard of the referee.
     is_silent: bool,
     /// The reports on the other player's coming and going.
@@ -150,7 +156,9 @@ where
 
     /// Obeys a typed line. Returns whether it ends the game.
     fn obey(&mut self, line: &[u8]) -> Result<bool, Ending> {
-        match allocated(self.rt, wish_of(self.rt.alloc(), line))? {
+        let wish = allocated(self.rt, wish_of(self.rt.alloc(), line, self.asks_level))?;
+        self.asks_level = matches!(wish, Wish::Resign);
+        match wish {
             Wish::Quit => return Ok(true),
             Wish::Nothing | Wish::Board => self.look_at_table()?,
             Wish::Help => self.help()?,

@@ -40,6 +40,8 @@ pub(crate) struct Seat<'a, R> {
     silence: SilenceReporter<'a, R>,
     ticking: Ticking,
     liveness: Liveness,
+    /// Whether entries that others make for the player are reported by whoever runs the seat.
+    is_at_table: bool,
     pub(crate) player: Player,
     /// Number of entries that it has ever held.
     known: Number,
@@ -117,6 +119,7 @@ where
             silence: SilenceReporter::new(rt, table, audience),
             ticking,
             liveness: Liveness::new(),
+            is_at_table: with_input,
             _lock: lock,
         })
     }
@@ -151,13 +154,16 @@ where
         stopped(self.rt, saves, outcome)
     }
 
-    /// Looks through the entries that came. Returns and reports the first in the player's name that
-    /// doesn't answer this claim, if there is one.
+    /// Looks through the entries that came. Returns the first in the player's name that doesn't
+    /// answer this claim, if there is one, and reports it unless a person at a table is told.
     fn news_of_others(&mut self, claim: &Option<(Number, Action)>) -> Option<Number> {
         let foreign = first_foreign(self.process.held(), self.player, self.known, claim);
         self.known = self.known.max(self.held());
-        if let Some(number) = foreign {
-            say_number(self.rt, NOT_CHOSEN.0, number.into(), NOT_CHOSEN.1);
+        match foreign {
+            Some(number) if !self.is_at_table => {
+                say_number(self.rt, NOT_CHOSEN.0, number.into(), NOT_CHOSEN.1);
+            }
+            _ => {}
         }
         foreign
     }

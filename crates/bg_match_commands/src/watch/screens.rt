@@ -7,6 +7,7 @@ use bg_table::{Drawing, seat_view_text};
 use bg_text::put_text;
 use std::alloc::Global;
 use std::io;
+use std::str::Lines;
 
 /// The player whose side is seen, and whose numbering the points have.
 const SEEN_FROM: Player = Player::X;
@@ -21,6 +22,12 @@ const SPEAKS_TO_PLAYER: &str = " (you)";
 
 const LAST: &str = "last: ";
 
+/// The start of the line that is left out first on a terminal that has too few lines, and the starts
+/// of those that follow when the heading is left out too.
+const PIPS: &str = "pips: ";
+
+const LEFT_OUT: [&str; 3] = ["length ", "cube: ", "score: "];
+
 /// The terminal sequences that go to the upper left corner, clear the rest of the line, and clear
 /// the rest of the screen.
 const HOME: &[u8] = b"\x1b[H";
@@ -31,7 +38,8 @@ const CLEAR_BELOW: &[u8] = b"\x1b[J";
 
 /// Returns the lines of a screen, which leave one for the cursor: a heading, the view of the match,
 /// as many of the newest entries as fit, and a foot. The view has the match, the score, the board
-/// from X's side and whose turn it is.
+/// from X's side and whose turn it is. Where these don't fit, the pip counts are left out, then the
+/// heading, and then more of the view; the foot stays.
 ///
 /// # Errors
 /// An error where there is no memory for it.
@@ -42,15 +50,64 @@ pub(super) fn screen_text(
     foot: &[u8],
     terminal: Terminal,
 ) -> io::Result<Vec<u8>> {
+    let room = room_of(terminal).saturating_sub(lines_in(foot));
+    let mut table = table_text(alloc, record, terminal)?;
+    if lines_in(heading).saturating_add(lines_in(&table)) > room {
+        table = without(alloc, &table, PIPS)?;
+    }
     let mut text = Vec::new(alloc);
-    text.extend_from_slice(heading)?;
-    text.extend_from_slice(&table_text(alloc, record, terminal)?)?;
-    let taken = lines_in(&text).saturating_add(lines_in(foot));
-    let room = room_of(terminal).saturating_sub(taken);
+    if lines_in(heading).saturating_add(lines_in(&table)) <= room {
+        text.extend_from_slice(heading)?;
+    }
+    text.extend_from_slice(&fitting(alloc, table, room)?)?;
+    let room = room.saturating_sub(lines_in(&text));
     let room = Number::try_from(room).unwrap_or(Number::MAX);
     put_entries(&mut text, record, record.len().saturating_sub(room))?;
     text.extend_from_slice(foot)?;
     Ok(text)
+}
+
+/// Returns as many lines of a view as there is room for. First those that matter least are left
+/// out, and then the lowest, of which the last line tells the number.
+fn fitting(alloc: Global, table: Vec<u8>, room: usize) -> io::Result<Vec<u8>> {
+    let mut view = table;
+    for start in LEFT_OUT {
+        if lines_in(&view) > room {
+            view = without(alloc, &view, start)?;
+        }
+    }
+    let shown = room.saturating_sub(1);
+    let cut = lines_in(&view).saturating_sub(shown);
+    if cut <= 1 {
+        return Ok(view);
+    }
+    let mut text = Vec::new(alloc);
+    for line in lines_of(&view).take(shown) {
+        put_line(&mut text, line)?;
+    }
+    let told = format!(in alloc; "(and {cut} lines that don't fit here)")?;
+    put_line(&mut text, told.as_str())?;
+    Ok(text)
+}
+
+/// Returns a text without the lines that begin so.
+fn without(alloc: Global, text: &[u8], start: &str) -> io::Result<Vec<u8>> {
+    let mut rest = Vec::new(alloc);
+    for line in lines_of(text) {
+        if !line.starts_with(start) {
+            put_line(&mut rest, line)?;
+        }
+    }
+    Ok(rest)
+}
+
+fn put_line(text: &mut Vec<u8>, line: &str) -> io::Result<()> {
+    put_text(text, line)?;
+    Ok(text.push(b'\n')?)
+}
+
+fn lines_of(text: &[u8]) -> Lines<'_> {
+    str::from_utf8(text).unwrap_or_default().lines()
 }
 
 /// Returns the number of lines of a terminal that are drawn on.
@@ -66,7 +123,7 @@ fn lines_in(text: &[u8]) -> usize {
 fn table_text(alloc: Global, record: &Record, terminal: Terminal) -> io::Result<Vec<u8>> {
     let view = seat_view_text(alloc, record, SEEN_FROM, drawing_on(terminal))?;
     let mut text = Vec::new(alloc);
-    for line in str::from_utf8(&view).unwrap_or_default().lines() {
+    for line in lines_of(&view) {
         if !line.starts_with(LAST) {
             for part in line.split(SPEAKS_TO_PLAYER) {
                 put_text(&mut text, part)?;
@@ -97,8 +154,7 @@ pub(super) fn drawn_in_place(
 ) -> io::Result<Vec<u8>> {
     let mut out = Vec::new(alloc);
     out.extend_from_slice(HOME)?;
-    let lines = str::from_utf8(text).unwrap_or_default().lines();
-    for line in lines.take(room_of(terminal)) {
+    for line in lines_of(text).take(room_of(terminal)) {
         let line = line.get(..terminal.columns).unwrap_or(line).as_bytes();
         if terminal.has_colours {
             let coloured = with_coloured_checkers(alloc, line, SEEN_FROM)?;

@@ -31,10 +31,8 @@ where
 
     /// Claims an action, or prints why it can't be claimed.
     pub(super) fn choose(&mut self, action: Action) -> Result<(), Ending> {
-        self.typed.clear();
         match self.seat.choose(action.copy())? {
-            Outcome::Chose(Ok(_)) if self.is_silent => self.screen.say(KEPT),
-            Outcome::Chose(Ok(_)) => Ok(()),
+            Outcome::Chose(Ok(_)) => self.note_chosen(),
             Outcome::Chose(Err(fault)) => self.refuse(&action, fault),
             Outcome::SaveFault => self.screen.say(UNSAVED),
             Outcome::Down => self.screen.say(STANDS_STILL),
@@ -42,7 +40,19 @@ where
         }
     }
 
-    /// Prints why an action can't be claimed, and what the player may do instead.
+    /// Forgets what was typed of a turn, as a choice is made. Says so where the choice waits for the
+    /// referee.
+    fn note_chosen(&mut self) -> Result<(), Ending> {
+        self.typed.clear();
+        if self.is_silent {
+            self.screen.say(KEPT)
+        } else {
+            Ok(())
+        }
+    }
+
+    /// Prints why an action can't be claimed, what the player may do instead, and what was typed of
+    /// a turn.
     fn refuse(&self, action: &Action, fault: ChooseFault) -> Result<(), Ending> {
         let rt = self.rt;
         let (ChooseFault::Illegal(fault), Some(record)) = (fault, self.seat.process.held()) else {
@@ -50,6 +60,7 @@ where
         };
         let standing = record.standing();
         let text = refusal_text(rt.alloc(), &standing, self.player, action, fault);
-        self.screen.say_turn(&allocated(rt, text)?)
+        self.screen.say_turn(&allocated(rt, text)?)?;
+        self.tell_typed()
     }
 }

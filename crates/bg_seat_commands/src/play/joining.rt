@@ -39,6 +39,7 @@ where
         if self.joining == Joining::Joined {
             return Ok(());
         }
+        self.foreign = self.foreign.or(round.foreign);
         if self.has_caught_up(round) {
             let has_news = self.seat.held() > self.shown;
             let is_seated = self.is_seated();
@@ -70,7 +71,7 @@ where
     /// Returns whether the seat has what the referee has, as far as this round shows that: the
     /// referee is heard, and nothing came since the tick before.
     fn has_caught_up(&mut self, round: Round) -> bool {
-        if round.going == Going::Over || round.foreign.is_some() {
+        if round.going == Going::Over {
             return true;
         }
         if !round.tick {

@@ -1,7 +1,9 @@
 //! A turn as a person types it, whole or step by step, and the list of legal turns.
 
 use crate::play::Table;
-use crate::play::turn_words::{forced, lines_behind, only_way, so_far, together, which_of};
+use crate::play::turn_words::{
+    adds_nothing, begins_turn, forced, lines_behind, only_way, so_far, together, which_of,
+};
 use bg_board::Board;
 use bg_console::allocated;
 use bg_match::{Action, Phase};
@@ -63,6 +65,9 @@ where
         let Some((board, dice)) = self.to_move() else {
             return self.refuse_move(line);
         };
+        if !self.typed.is_empty() && adds_nothing(line) {
+            return self.refuse_part(&board, dice);
+        }
         let whole = allocated(rt, together(rt.alloc(), &self.typed, line))?;
         match read_turn(rt.alloc(), &whole, &board, self.player, dice) {
             Ok(turn) => self.choose(Action::Move(turn)),
@@ -115,8 +120,30 @@ where
         }
     }
 
-    /// Keeps what was typed of a turn, where its steps can be played and more must be. Otherwise
-    /// prints why they can't.
+    /// Prints what must be played besides the typed part of a turn.
+    fn refuse_part(&self, board: &Board, dice: Dice) -> Result<(), Ending> {
+        match typed_steps(self.rt.alloc(), &self.typed) {
+            Ok(turn) => self.refuse_turn(board, dice, &turn, TurnFault::MoreCanBePlayed),
+            Err(fault) => self.tell_fault(&fault),
+        }
+    }
+
+    /// Prints why a turn can't be played, and what was typed of it before.
+    fn refuse_turn(
+        &self,
+        board: &Board,
+        dice: Dice,
+        turn: &Turn,
+        fault: TurnFault,
+    ) -> Result<(), Ending> {
+        let rt = self.rt;
+        let text = turn_refusal_text(rt.alloc(), board, self.player, dice, turn, fault);
+        self.screen.say(&allocated(rt, text)?)?;
+        self.tell_typed()
+    }
+
+    /// Keeps what was typed of a turn, where a legal turn begins with its steps. Otherwise prints
+    /// why none does.
     fn go_on(&mut self, typed: Vec<u8>, board: &Board, dice: Dice) -> Result<(), Ending> {
         let rt = self.rt;
         let turn = match typed_steps(rt.alloc(), &typed) {
@@ -126,13 +153,12 @@ where
         let Err(fault) = judge_turn(board, self.player, dice, &turn) else {
             return Ok(());
         };
-        if fault == TurnFault::MoreCanBePlayed {
+        let begins = begins_turn(rt.alloc(), board, self.player, dice, &turn);
+        if fault == TurnFault::MoreCanBePlayed && allocated(rt, begins)? {
             self.typed = typed;
             return self.tell_typed();
         }
-        let text = turn_refusal_text(rt.alloc(), board, self.player, dice, &turn, fault);
-        self.screen.say(&allocated(rt, text)?)?;
-        self.tell_typed()
+        self.refuse_turn(board, dice, &turn, fault)
     }
 
     /// Prints why what was typed is not a turn.

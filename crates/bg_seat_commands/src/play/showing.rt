@@ -89,12 +89,14 @@ where
             self.say_liveness(word)?;
             wants_prompt = true;
         }
-        if let Some(number) = round.foreign {
-            self.screen.say_number(NOT_CHOSEN.0, number, NOT_CHOSEN.1)?;
-            wants_prompt = true;
-        }
-        if self.joining == Joining::Joined && self.seat.held() > self.shown {
-            wants_prompt = !self.show_news(round.going)?;
+        if self.joining == Joining::Joined {
+            if let Some(number) = self.foreign.take().or(round.foreign) {
+                self.screen.say_number(NOT_CHOSEN.0, number, NOT_CHOSEN.1)?;
+                wants_prompt = true;
+            }
+            if self.seat.held() > self.shown {
+                wants_prompt = !self.show_news(round.going)?;
+            }
         }
         if self.tell_of_opponent()? || wants_prompt {
             return self.prompt();

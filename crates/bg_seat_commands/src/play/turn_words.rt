@@ -26,6 +26,19 @@ pub(super) fn only_way(
     Ok(Some(greatest.copy()))
 }
 
+/// Returns whether a legal turn begins with the steps of this one.
+pub(super) fn begins_turn(
+    alloc: Global,
+    board: &Board,
+    player: Player,
+    dice: Dice,
+    part: &Turn,
+) -> Result<bool, AllocError> {
+    let turns = legal_turns(alloc, board, player, dice)?;
+    let begins = |turn: &Turn| turn.steps().starts_with(part.steps());
+    Ok(turns.iter().any(begins))
+}
+
 /// Returns the line that says which turn is played, as it is the only one.
 pub(super) fn forced(alloc: Global, player: Player, turn: &Turn) -> Result<Vec<u8>, AllocError> {
     let mut line = Vec::new(alloc);
@@ -48,6 +61,11 @@ pub(super) fn together(alloc: Global, typed: &[u8], line: &[u8]) -> Result<Vec<u
     whole.push(b' ')?;
     whole.extend_from_slice(without_move(line))?;
     Ok(whole)
+}
+
+/// Returns whether a line has no movement: it is `m` or `move` alone.
+pub(super) fn adds_nothing(line: &[u8]) -> bool {
+    without_move(line).trim_ascii().is_empty()
 }
 
 /// Returns a line without the word `m` or `move` at its beginning.

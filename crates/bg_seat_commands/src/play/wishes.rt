@@ -25,9 +25,13 @@ pub(crate) enum Wish {
 }
 
 /// Returns the request of a line: its words, in small or capital letters, with any blanks around
-/// them.
-pub(crate) fn wish_of(alloc: Global, line: &[u8]) -> Result<Wish, AllocError> {
+/// them. Where the player was asked for a level, its name alone resigns at that level; a letter
+/// doesn't, as `n` may be a no.
+pub(crate) fn wish_of(alloc: Global, line: &[u8], asks_level: bool) -> Result<Wish, AllocError> {
     let words = plain(alloc, line)?;
+    if let (true, Some(level)) = (asks_level && words.len() > 1, level_of(&words)) {
+        return Ok(Wish::Act(Action::Resign(level)));
+    }
     Ok(match words.as_slice() {
         b"" => Wish::Nothing,
         b"?" | b"h" | b"help" => Wish::Help,

@@ -1,0 +1,124 @@
+//! The match files and key files that commands are given, and the reasons why they are refused.
+
+use crate::messages::{failed_at, wrong, wrong_at};
+use bg_board::Player;
+use bg_reports::Ending;
+use bg_system::{KeyFile, MatchFile, NamedMatch, Printable, name_of_key_file};
+use bg_wire::{SEAT_OF_O, SEAT_OF_X, party_of};
+use std::fs::File;
+use std::rt::Files;
+use std::{fs, io};
+
+/// The message on a key file of those who watch, where a seat's is asked for.
+const OF_NO_SEAT: &str =
+    " is the key file of those who watch: for a player it is `match-x` or `match-o`";
+
+/// The messages on a file that is no match file, and on one that is no key file.
+const NO_MATCH_FILE: &str =
+    " is no match file: any key file of the match, without its last line, is one";
+
+const NO_KEY_FILE: &str =
+    " is no key file: name the one that `bg_relay new` made for this party, or a copy of it";
+
+/// The message on a folder where a key file is asked for.
+const A_FOLDER: &str =
+    " is a folder: name the key file in it, `match-x`, `match-o` or `match-watch`";
+
+/// Reads the match file at a path. Ends with `WrongArguments` where it isn't one, and with `Failed`
+/// where it can't be read.
+pub fn match_of(
+    rt: &(impl Files<File = File> + Eprint + AllocGlobal),
+    path: &str,
+) -> Result<NamedMatch, Ending> {
+    match NamedMatch::read(rt, path) {
+        Ok(Some(file)) => Ok(file),
+        Ok(None) => Err(wrong_at(rt, path, NO_MATCH_FILE)),
+        Err(error) => Err(failed_at(rt, path, " could not be read", &error)),
+    }
+}
+
+/// Reads the key file of a party at a path: 1, 2, or 3 for all watchers. Ends with `WrongArguments`
+/// where it is another party's or isn't one, and with `Failed` where it can't be read.
+pub fn key_file_of(
+    rt: &(impl Files<File = File> + Eprint + AllocGlobal),
+    path: &str,
+    party: u8,
+) -> Result<KeyFile, Ending> {
+    match KeyFile::read(rt, path) {
+        Ok(Some(file)) if file.party == party => Ok(file),
+        Ok(Some(file)) => {
+            let (shown, theirs, own) = (Printable(path), holder(file.party), holder(party));
+            let own_name = name_of_key_file(party);
+            Err(wrong(
+                rt,
+                format_args!("{shown} is the key file of {theirs}: for {own} it is `{own_name}`"),
+            ))
+        }
+        Ok(None) => Err(no_key_file(rt, path)),
+        Err(error) => Err(unread_key(rt, path, &error)),
+    }
+}
+
+/// Reads the key file of a seat at a path: that of this player, or that of any where it is `None`.
+/// Returns its player too. Ends with `WrongArguments` where it is another party's or isn't one, and
+/// with `Failed` where it can't be read.
+pub fn seat_key_file_of(
+    rt: &(impl Files<File = File> + Eprint + AllocGlobal),
+    path: &str,
+    player: Option<Player>,
+) -> Result<(Player, KeyFile), Ending> {
+    if let Some(player) = player {
+        return Ok((player, key_file_of(rt, path, party_of(player))?));
+    }
+    match KeyFile::read(rt, path) {
+        Ok(Some(file)) => match file.party {
+            SEAT_OF_X => Ok((Player::X, file)),
+            SEAT_OF_O => Ok((Player::O, file)),
+            _ => Err(wrong_at(rt, path, OF_NO_SEAT)),
+        },
+        Ok(None) => Err(no_key_file(rt, path)),
+        Err(error) => Err(unread_key(rt, path, &error)),
+    }
+}
+
+/// Reads the match, with its names, from any key file or match file at a path. Ends with
+/// `WrongArguments` where it is neither, and with `Failed` where it can't be read.
+pub fn table_of(
+    rt: &(impl Files<File = File> + Eprint + AllocGlobal),
+    path: &str,
+) -> Result<NamedMatch, Ending> {
+    match KeyFile::read(rt, path) {
+        Ok(Some(file)) => Ok(file.named_match()),
+        _ => match_of(rt, path),
+    }
+}
+
+/// Reports that a key file can't be read, and why; or that it is a folder.
+fn unread_key(rt: &(impl Files<File = File> + Eprint), path: &str, error: &io::Error) -> Ending {
+    match fs::metadata(rt, path) {
+        Ok(found) if found.is_dir() => wrong_at(rt, path, A_FOLDER),
+        _ => failed_at(rt, path, " could not be read", error),
+    }
+}
+
+/// Returns the holder of the key file with this number.
+fn holder(party: u8) -> &'static str {
+    match party {
+        SEAT_OF_X => "player X",
+        SEAT_OF_O => "player O",
+        _ => "those who watch",
+    }
+}
+
+/// Reports what is wrong with a file that is not a key file. For a match file without a key, such
+/// as older programs made and the referee has, it says so.
+fn no_key_file(rt: &(impl Files<File = File> + Eprint + AllocGlobal), path: &str) -> Ending {
+    if let Ok(Some(_)) = MatchFile::read(rt, path) {
+        return wrong_at(
+            rt,
+            path,
+            " has no key: hand out `match-x`, `match-o` and `match-watch`, which `bg_relay keys` makes where they are missing",
+        );
+    }
+    wrong_at(rt, path, NO_KEY_FILE)
+}
