@@ -1,5 +1,5 @@
-//! The calls that need no party, by the words of plays. Each stands in one short function with no contract, so that
-//! what the call ensures does not burden the proofs of the tests; and it sets places that had 99 before, or 7.
+//! The calls that need no party, by the words of plays. Each stands in a short function without a
+//! contract, which keeps what it ensures out of other proofs. It sets places that had 99 or 7.
 use crate::judge::{VerdictFields, bg_judge};
 use crate::packets::{PacketFields, bg_packet_read};
 use crate::slots::{SavedFields, bg_slots_read};
@@ -14,7 +14,7 @@ pub(crate) fn size(rt: &impl Abort, words: &str, place: usize) -> usize {
     word(rt, words, place).parse().expect(rt, "a size")
 }
 
-/// "packet WANT: OK 1 1 1 3 0 0": the status, the match, the rules, the kind, the sender, the number and the count.
+/// "packet WANT: OK 1 1 1 3 0 0": the status, the match, its rules, kind, sender, number and count.
 fn reads_packet(rt: &impl Abort, words: &str, wanted: &str) -> bool {
     let mut packet = PacketFields {
         id: 99,
@@ -37,8 +37,8 @@ fn reads_packet(rt: &impl Abort, words: &str, wanted: &str) -> bool {
     are_numbers(rt, &found, wanted)
 }
 
-/// "slots 0 1 1 1 SAVE_2 -: OK 1 2 2 0": the party, the match, its length, its rules and both slots; and the status,
-/// whether something is saved, the number of the save, its entries and its claim.
+/// "slots 0 1 1 1 SAVE_2 -: OK 1 2 2 0": the party, the match, its length, its rules, both slots;
+/// and the status, whether something is saved, the number of the save, its entries and its claim.
 fn reads_slots(rt: &impl Abort, alloc: Global, words: &str, wanted: &str) -> bool {
     let mut saved = SavedFields {
         found: 99,
@@ -75,7 +75,7 @@ fn says_status(rt: &impl Abort, words: &str, wanted: &str) -> bool {
     is_given(rt, &[status as usize, needed], room, needed, wanted)
 }
 
-/// "judge 512 MOVED: OK 0 2; HEAD .. FINE": the room and the transcript; and the status and the verdict.
+/// "judge 512 MOVED: OK 0 2; HEAD .. FINE": the room, the transcript; and the status, the verdict.
 fn judges(rt: &impl Abort, alloc: Global, words: &str, wanted: &str) -> bool {
     let mut verdict = VerdictFields {
         kind: 99,

@@ -1,5 +1,5 @@
-//! The calls of a party, by the words of plays. Each stands in one short function with no contract, so that what the
-//! call ensures does not burden the proofs of the tests; and it sets places that had 99 before, or 7.
+//! The calls of a party, by the words of plays. Each stands in a short function without a contract,
+//! which keeps what it ensures out of other proofs. It sets places that had 99 or 7 before.
 use crate::datagrams::Datagram;
 use crate::handle::Handle;
 use crate::outcomes::Outcome;
@@ -94,8 +94,8 @@ fn is_outcome(rt: &impl Abort, status: u32, outcome: &Outcome, numbers: &str) ->
     are_numbers(rt, &found, numbers)
 }
 
-/// "take WANT: OK 2 0 0; OPENING to 3": the packet; and the status, the outcome's kind, number and reason, and the
-/// answer.
+/// "take WANT: OK 2 0 0; OPENING to 3": the packet; and the status, the kind, number and reason of
+/// the outcome, and the answer.
 fn takes(rt: &impl Abort, alloc: Global, handle: &mut Handle, words: &str, wanted: &str) -> bool {
     let mut outcome = Outcome {
         kind: 99,
@@ -119,7 +119,7 @@ fn ticks(rt: &impl Abort, alloc: Global, handle: &mut Handle, wanted: &str) -> b
         && is_datagram(rt, &second, other)
 }
 
-/// "save 64: OK 1 1 27; any": the room; and the status, the slot, the save, and the text with its length.
+/// "save 64: OK 1 1 27; any": the room; and the status, slot, save, the length and the text.
 fn saves(rt: &impl Abort, alloc: Global, handle: &mut Handle, words: &str, wanted: &str) -> bool {
     let mut all = BLANK;
     let room = all.get_mut(..size(rt, words, 0)).expect(rt, "a room");
@@ -167,7 +167,7 @@ fn write(
     }
 }
 
-/// "board 512: OK; BOARD": the room; and the status, the text's length, which may be left out, and the text.
+/// "board 512: OK; BOARD": the room; and the status, the length, which may be left out, the text.
 pub(crate) fn writes(
     rt: &impl Abort,
     alloc: Global,

@@ -1,8 +1,8 @@
 //! The play of the referee and a seat.
 use crate::tests::plays::check_plays;
 
-/// In `a_referee_opens_one_game` the word 0 has the dice 1 1, and the word 12, here and in other plays, 3 1, which
-/// opens a game for X. In `a_seat_is_told_why_an_action_does_not_follow` X has rolled, so the phase is another one than
+/// The word 0 has the dice 1 1, and the word 12, here and in other plays, 3 1, which opens a game
+/// for X. In `a_seat_is_told_why_an_action_does_not_follow` X has rolled, so the phase is not that
 /// for a roll; and neither die shows 4.
 const PLAYS: &str = "\
 a_referee_opens_one_game

@@ -1,5 +1,5 @@
-//! Plays: lines of calls, and what each comes to. A play begins with its name, and with a handle that is not open; an
-//! empty line stands between each two. What a line says is told above the function of its call.
+//! Plays: lines of calls, and what each comes to. A play begins with its name, and a handle that
+//! isn't open; empty lines stand between plays. Above a call's function stands what its line says.
 use crate::handle::Handle;
 use crate::tests::calls::gave;
 use crate::tests::party_calls::{kept, played, read, writes};

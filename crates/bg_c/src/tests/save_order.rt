@@ -1,8 +1,8 @@
 //! The order of saves, with events between a text and its mark.
 use crate::tests::plays::check_plays;
 
-/// In `a_stale_save_is_not_marked` an entry is accepted while a save is written, which can't be marked then, as the
-/// entry is not in its text. Nothing is told before the next save is marked.
+/// In `a_stale_save_is_not_marked` an entry is accepted while a save is written. It can't be
+/// marked then, as the entry is not in its text. Nothing is told before the next save is marked.
 ///
 /// In `a_save_is_marked_once` a packet which brings nothing new leaves the save under way.
 const PLAYS: &str = "\

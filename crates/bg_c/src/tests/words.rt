@@ -1,5 +1,5 @@
-//! What the words of plays say: numbers, statuses, bytes by their names, and what a call puts into a room. A word that
-//! says nothing of the kind ends the test.
+//! What the words of plays say: numbers, statuses, bytes by their names, what a call puts into a
+//! room. A word that says nothing of the kind ends the test.
 use std::process::Abort;
 
 /// What stands before these words and behind them.
@@ -183,8 +183,8 @@ fn is_text(text: &[u8], words: &str) -> bool {
     }
 }
 
-/// Whether a room has this text at its front and is else as before. "kept" is said where all of it is as before, and
-/// "any" where it may have any text.
+/// Whether a room has this text at its front and is else as before. "kept" is said where all of
+/// it is as before, and "any" where it may have any text.
 pub(crate) fn is_room(room: &[u8], needed: usize, words: &str) -> bool {
     match words {
         "any" => true,
