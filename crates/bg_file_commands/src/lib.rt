@@ -19,6 +19,7 @@ pub mod check;
 mod check_rows;
 mod checkers;
 pub mod export;
+mod header_files;
 mod header_texts;
 mod headers;
 mod held_records;
