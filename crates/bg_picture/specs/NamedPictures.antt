@@ -1,9 +1,7 @@
 -- The picture of a standing with words below it: who plays, and on what occasion.
 use Rattle.std.specs.Prelude.{◌==◌, ℕ, List, [], ◌++◌, length, codes, if◌then◌else◌}
 use Rattle.bg_board.specs.declared.players.Player.{Player}
-use Rattle.bg_board.specs.declared.players.Player.TheVariants.{X, O}
 use Rattle.bg_match.specs.State.{State}
-use Rattle.bg_text.specs.Entries.EntryText.{letter}
 use Rattle.bg_picture.specs.Elements.{group_start, group_end, words_start, words_end}
 use Rattle.bg_picture.specs.Escapes.{escaped}
 use Rattle.bg_picture.specs.Pictures.{drawing, shapes_text, style_text, titles_text}
