@@ -6,7 +6,8 @@ mod targets;
 use crate::batches::beside::{bytes_beside, headers_beside, keep_headers};
 use crate::batches::targets::{NameEndings, check_targets, target_of};
 use crate::inputs::{match_file_text, read_input, transcript_as_match_file};
-use bg_console::{Progress, allocated, check_folder, failed_at, say, wrong, wrong_at};
+use crate::out_folders::check_out_folder;
+use bg_console::{Progress, allocated, failed_at, say, wrong, wrong_at};
 use bg_match::Rules;
 use bg_options::{BatchOptions, HeaderOptions};
 use bg_reports::{Ending, Tally};
@@ -75,7 +76,7 @@ where
     R: Files<File = File> + Clock + Eprint + AllocGlobal,
 {
     let mut progress = progress;
-    check_folder(rt, batch.folder, " is no folder")?;
+    check_out_folder(rt, batch.folder)?;
     check_targets(rt, &batch, conversion.endings())?;
     let mut tally = Tally::default();
     for name in batch.files {
