@@ -57,7 +57,8 @@ fn put_start(out: &mut Vec<u8>, standing: &Standing, reader: Player) -> Result<(
 {
     put_text(out, "<svg xmlns='http://www.w3.org/2000/svg'")?;
     put_frame(out)?;
-    put_titles(out, standing, reader)
+    put_titles(out, standing, reader)?;
+    Ok(())
 }
 
 /// Appends the edges of the picture, and the role that tells screen readers that it is one.
