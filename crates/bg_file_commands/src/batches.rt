@@ -1,10 +1,13 @@
 //! Files that are converted into a folder, one after the other.
 
+mod beside;
 mod targets;
 
+use crate::batches::beside::{bytes_beside, headers_beside, keep_headers};
 use crate::batches::targets::{NameEndings, check_targets, target_of};
 use crate::inputs::{match_file_text, read_input, transcript_as_match_file};
-use bg_console::{Progress, allocated, check_folder, failed_at, say, wrong, wrong_at};
+use crate::out_folders::check_out_folder;
+use bg_console::{Progress, allocated, failed_at, say, wrong, wrong_at};
 use bg_match::Rules;
 use bg_options::{BatchOptions, HeaderOptions};
 use bg_reports::{Ending, Tally};
@@ -32,16 +35,32 @@ impl<'a> Conversion<'a> {
         }
     }
 
-    /// Returns what is made of a file with this name and these bytes. Reports why where it is
-    /// refused.
-    fn text<R>(&self, rt: &R, name: &str, bytes: &[u8]) -> Result<Vec<u8>, Ending>
+    /// Returns what is made of a file with this name and these bytes, and of the headers beside it
+    /// if `has_headers` is set. Reports why where it is refused.
+    fn text<R>(
+        &self,
+        rt: &R,
+        name: &str,
+        bytes: &[u8],
+        has_headers: bool,
+    ) -> Result<Vec<u8>, Ending>
     where
-        R: Eprint + AllocGlobal,
+        R: Files<File = File> + Eprint + AllocGlobal,
     {
         match self {
             Conversion::Import(rules) => match_file_text(rt, name, *rules, bytes),
+            Conversion::Export(headers) if has_headers => {
+                let beside = bytes_beside(rt, name)?;
+                let headers = headers.or(headers_beside(rt, name, &beside)?);
+                transcript_as_match_file(rt, name, &headers, bytes)
+            }
             Conversion::Export(headers) => transcript_as_match_file(rt, name, headers, bytes),
         }
+    }
+
+    /// Returns whether match files are read.
+    fn is_import(&self) -> bool {
+        matches!(self, Conversion::Import(_))
     }
 }
 
@@ -57,7 +76,7 @@ where
     R: Files<File = File> + Clock + Eprint + AllocGlobal,
 {
     let mut progress = progress;
-    check_folder(rt, batch.folder, " is no folder")?;
+    check_out_folder(rt, batch.folder)?;
     check_targets(rt, &batch, conversion.endings())?;
     let mut tally = Tally::default();
     for name in batch.files {
@@ -89,10 +108,20 @@ fn convert<R>(
 where
     R: Files<File = File> + Eprint + AllocGlobal,
 {
+    let BatchOptions {
+        folder,
+        has_headers,
+        is_forced,
+        ..
+    } = *batch;
     let bytes = bytes_of(rt, name)?;
-    let text = conversion.text(rt, name, &bytes)?;
-    let target = target_of(rt.alloc(), batch.folder, name, conversion.endings());
-    put_file(rt, allocated(rt, target)?.as_str(), &text, batch.is_forced)
+    let text = conversion.text(rt, name, &bytes, has_headers)?;
+    let target = target_of(rt.alloc(), folder, name, conversion.endings());
+    put_file(rt, allocated(rt, target)?.as_str(), &text, is_forced)?;
+    if has_headers && conversion.is_import() {
+        keep_headers(rt, folder, name, &bytes, is_forced)?;
+    }
+    Ok(())
 }
 
 /// Returns the bytes of a file with this name. Reports why where it can't be read.

@@ -7,7 +7,8 @@ mod outputs;
 mod stamps;
 
 use crate::board::boards::Boards;
-use bg_console::{check_folder, wrong};
+use crate::out_folders::check_out_folder;
+use bg_console::wrong;
 use bg_options::BoardOptions;
 use bg_reports::Ending;
 use std::fs::File;
@@ -30,7 +31,7 @@ where
     if options.folders.contains(&"") || options.out.is_empty() {
         return Err(wrong(rt, "the name of a folder is empty"));
     }
-    check_folder(rt, options.out, " is no folder: make it first")?;
+    check_out_folder(rt, options.out)?;
     let mut boards = Boards::new(rt, options);
     for look in 0..u64::MAX {
         if look % LOOKS_OF_SEARCH == 0 {

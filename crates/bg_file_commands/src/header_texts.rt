@@ -3,7 +3,7 @@
 use crate::headers::Headers;
 use bg_options::HeaderOptions;
 use bg_text::put_text;
-use std::alloc::AllocError;
+use std::alloc::{AllocError, Global};
 
 /// The column at which what O has begins in a line of scores, from 0.
 const RIGHT_COLUMN: usize = 32;
@@ -84,4 +84,22 @@ fn put_score(out: &mut Vec<u8>, name: &str, score: &str) -> Result<(), AllocErro
     put_text(out, name)?;
     put_text(out, " : ")?;
     put_text(out, score)
+}
+
+/// Returns event, place and date, as far as they are there, with commas between them.
+pub(crate) fn occasion_of(
+    alloc: Global,
+    headers: &HeaderOptions<'_>,
+) -> Result<String, AllocError> {
+    let mut text = String::new(alloc);
+    for part in [headers.event, headers.place, headers.date] {
+        let Some(part) = part else {
+            continue;
+        };
+        if !text.is_empty() {
+            text.push_str(", ")?;
+        }
+        text.push_str(part)?;
+    }
+    Ok(text)
 }

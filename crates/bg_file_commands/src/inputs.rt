@@ -2,7 +2,7 @@
 
 use crate::header_texts::put_with_headers;
 use bg_console::{allocated, no_memory, say, unread};
-use bg_mat::{export_mat, import_mat};
+use bg_mat::{export_mat, import_mat, is_match_file};
 use bg_match::{Record, Rules};
 use bg_options::HeaderOptions;
 use bg_reports::{Ending, said_of_import_fault, said_of_transcript_fault};
@@ -53,7 +53,14 @@ where
         Ok(record) => Ok(record),
         Err(fault) => {
             let said = said_of_transcript_fault(rt.alloc(), name, bytes, fault, None);
-            Err(refused(rt, said))
+            let ending = refused(rt, said);
+            if is_match_file(bytes) {
+                say(
+                    rt,
+                    "it is a match file, of which `import` makes a transcript",
+                );
+            }
+            Err(ending)
         }
     }
 }

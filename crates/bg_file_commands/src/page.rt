@@ -1,11 +1,13 @@
 //! The command that makes a page of a transcript.
 
+use crate::header_texts::occasion_of;
 use crate::inputs::read_record;
 use bg_console::{allocated, page_words, print_text, table_of, title_of};
-use bg_options::PageOptions;
+use bg_options::{HeaderOptions, PageOptions};
 use bg_picture::page_text;
 use bg_reports::Ending;
 use bg_system::Names;
+use std::alloc::{AllocError, Global};
 use std::fs::File;
 use std::rt::Files;
 
@@ -31,6 +33,7 @@ where
         };
     }
     let title = title_of(rt, title, &names)?;
+    let title = allocated(rt, with_occasion(rt.alloc(), title, &options.headers))?;
     let record = read_record(rt)?;
     let text = allocated(
         rt,
@@ -44,4 +47,17 @@ where
     )?;
     print_text(rt, &text)?;
     Ok(Ending::Told)
+}
+
+/// Returns a title with the occasion behind it, if there is one.
+fn with_occasion(
+    alloc: Global,
+    title: String,
+    headers: &HeaderOptions<'_>,
+) -> Result<String, AllocError> {
+    let occasion = occasion_of(alloc, headers)?;
+    if occasion.is_empty() {
+        return Ok(title);
+    }
+    format!(in alloc; "{title}, {occasion}")
 }

@@ -23,7 +23,7 @@ pub(crate) fn is_folder(rt: &impl Files<File = File>, path: &str) -> bool {
 
 /// Returns the files in a folder and below it, sorted by their paths, and the folders that can't be
 /// read. Links to folders are not followed. Files and folders whose names begin with a dot are left
-/// out, and so are those whose names are not text.
+/// out, and so are those whose names are not text, and what is neither file nor folder, as a pipe.
 ///
 /// # Errors
 /// `OutOfMemory` alone.
@@ -79,11 +79,19 @@ where
         let path = String::from_str(rt.alloc(), path.as_str())?;
         if kind.is_dir() {
             folders.push(path)?;
-        } else if kind.is_file() || !is_folder(rt, path.as_str()) {
+        } else if kind.is_file() || kind.is_symlink() && leads_to_file(rt, path.as_str()) {
             files.push(Place { path, fault: None })?;
         }
     }
     Ok(())
+}
+
+/// Returns whether a link leads to a file, or nowhere.
+fn leads_to_file(rt: &impl Files<File = File>, path: &str) -> bool {
+    match fs::metadata(rt, path) {
+        Ok(found) => found.is_file(),
+        Err(_) => true,
+    }
 }
 
 /// Returns whether the last part of a path begins with a dot.

@@ -1,6 +1,7 @@
 //! The options of commands that convert many files into a folder.
 
 use crate::arguments::{Argument, Kind, Need};
+use crate::headers::WITH_HEADERS;
 use clap::{Arg, ArgMatches};
 use std::alloc::Global;
 
@@ -9,6 +10,8 @@ use std::alloc::Global;
 pub struct BatchOptions<'m, 'a> {
     pub files: &'m [&'a str],
     pub folder: &'a str,
+    /// Whether what stands above a match is kept in a file beside it.
+    pub has_headers: bool,
     /// Whether files that exist may be overwritten.
     pub is_forced: bool,
 }
@@ -19,6 +22,7 @@ impl<'m, 'a> BatchOptions<'m, 'a> {
         Some(BatchOptions {
             folder: options.get_str(OUT.name)?,
             files: options.get_strs(FILES).unwrap_or_default(),
+            has_headers: options.get_flag(WITH_HEADERS.name),
             is_forced: options.get_flag(FORCE.name),
         })
     }

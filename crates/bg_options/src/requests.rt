@@ -9,6 +9,7 @@ use crate::commands::import::{HEADERS, ImportOptions};
 use crate::commands::list::ListOptions;
 use crate::commands::new_match::NewOptions;
 use crate::commands::page::PageOptions;
+use crate::commands::picture::PictureOptions;
 use crate::commands::play::{PlayOptions, SeatOptions};
 use crate::commands::play_loop::LoopOptions;
 use crate::commands::recover::RecoverOptions;
@@ -18,9 +19,8 @@ use crate::commands::serve::ServeOptions;
 use crate::commands::show::ShowOptions;
 use crate::commands::sim::SimOptions;
 use crate::commands::watch::WatchOptions;
-use crate::shared::{check_names, has_misplaced_file, numbering_in};
+use crate::shared::{check_names, has_misplaced_file};
 use crate::tasks::Task;
-use bg_picture::Numbering;
 use bg_system::NameFault;
 use clap::ArgMatches;
 use std::fmt;
@@ -37,7 +37,7 @@ pub enum Request<'m, 'a> {
     List(ListOptions<'m, 'a>),
     Board(BoardOptions<'m, 'a>),
     Page(PageOptions<'a>),
-    Picture { numbering: Numbering },
+    Picture(PictureOptions<'a>),
     Id,
     Script(ScriptOptions),
     Sim(SimOptions),
@@ -80,7 +80,7 @@ impl Display for RequestFault {
                 "--out needs the files to convert: --out DIR FILE..",
             ),
             RequestFault::HeadersOfMany => {
-                f.write_str("--headers is for one match file: leave it out with --out")
+                f.write_str("--headers is for one match file: with --out give --with-headers")
             }
             RequestFault::Name(option, why) => write!(f, "--{option} is refused: {why}"),
             RequestFault::Missing => f.write_str("an option is missing"),
@@ -133,9 +133,7 @@ fn of_task<'m, 'a>(task: Task, options: &'m ArgMatches<'a>) -> Option<Request<'m
         Task::List => Request::List(ListOptions::read(options)),
         Task::Board => Request::Board(BoardOptions::read(options)?),
         Task::Page => Request::Page(PageOptions::read(options)),
-        Task::Picture => Request::Picture {
-            numbering: numbering_in(options),
-        },
+        Task::Picture => Request::Picture(PictureOptions::read(options)),
         Task::Id => Request::Id,
         Task::Script => Request::Script(ScriptOptions::read(options)?),
         Task::Sim => Request::Sim(SimOptions::read(options)?),

@@ -78,7 +78,8 @@ impl Task {
     /// match and is as clean as a name.
     pub(crate) fn names(self) -> &'static [&'static str] {
         match self {
-            Task::New | Task::Page => &["name-x", "name-o"],
+            Task::New => &["name-x", "name-o"],
+            Task::Page | Task::Picture => &["name-x", "name-o", "date", "event", "place"],
             Task::Export => &["x", "o", "date", "event", "place"],
             _ => &[],
         }

@@ -9,8 +9,10 @@ pub mod Stacks
 pub mod Tables
 pub mod Pictures
 pub mod Escapes
+pub mod NamedPictures
 pub mod ItemData
 pub mod Items
+pub mod PageIds
 pub mod PageParts
 pub mod Pages
 pub mod IndexParts

@@ -10,6 +10,7 @@ use Rattle.bg_match.specs.declared.entries.Entry.{Entry}
 use Rattle.bg_picture.specs.Descriptions.{phase_words, terms_words}
 use Rattle.bg_picture.specs.Escapes.{escaped}
 use Rattle.bg_picture.specs.Items.{AreItemsOf, game_start}
+use Rattle.bg_picture.specs.PageIds.{id_script}
 use Rattle.bg_picture.specs.PageParts.{head_start, live_script, page_style, script, view}
 use Rattle.bg_picture.specs.Shapes.{style, shapes}
 use Rattle.bg_text.specs.Entries.EntryText.{letter}
@@ -95,9 +96,13 @@ end_text numbering s =
     codes "</ol>\n</div>\n</main>\n<div id='end'>\n" ++ inner_picture s (reader_of numbering s.phase)
     ++ summary_text s ++ codes "</div>\n"
 
+-- what a page does where scripts run
+unfoldable pub scripts : List ℕ
+scripts = id_script ++ script ++ live_script
+
 unfoldable pub page_end : Numbering → State → List ℕ
 page_end numbering s =
-    end_text numbering s ++ codes "<script>\n" ++ script ++ live_script ++ codes "</script>\n</body>\n</html>\n"
+    end_text numbering s ++ codes "<script>\n" ++ scripts ++ codes "</script>\n</body>\n</html>\n"
 
 -- new is old with the items of all entries of a match
 abbrev pub PutsEntries : Log → List ℕ → List ℕ → Type 0

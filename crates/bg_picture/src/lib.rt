@@ -25,8 +25,10 @@ mod indexes;
 mod item_data;
 mod items;
 mod laws;
+mod named_pictures;
 mod numberings;
 mod page_heads;
+mod page_ids;
 mod page_parts;
 mod pages;
 mod pictures;
@@ -40,6 +42,7 @@ pub use indexes::{IndexMatch, begin_index, begin_section, end_index, end_section
 pub use laws::{
     drawings_tell_positions, escaped_texts_are_plain, item_names_differ, items_tell_positions,
 };
+pub use named_pictures::{PictureLabels, labelled_picture_text};
 pub use numberings::Numbering;
 pub use page_heads::PageWords;
 pub use pages::page_text;

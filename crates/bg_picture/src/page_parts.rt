@@ -24,11 +24,12 @@ svg{display:block;width:100%;max-width:40rem}a{color:inherit}
 .shapes{position:absolute;width:0;height:0}#view{display:none}.name{display:inline;margin-right:1rem}
 .js body{display:flex;flex-direction:column;height:100vh;min-height:38rem}.js #end{display:none}
 .js main{flex:1;min-height:0;display:grid;grid-template:auto minmax(0,1fr)/minmax(0,1fr)}
-.js #view{display:block}.js #view svg{max-width:none;max-height:calc(max(100vh,38rem) - 17rem)}
+.js #view{display:block}.js #view svg{max-width:none;max-height:calc(max(100vh,38rem) - 19rem)}
+.js #view:has([open]) svg{max-height:calc(max(100vh,38rem) - 27rem)}
 .js #list{overflow:auto}.js [aria-current]{background:var(--board)}.ahead span{display:none}
 .moved circle{fill:none;stroke:var(--moved);stroke-width:4}.moved .gone{stroke-dasharray:6 6}
 :root{--moved:#c2410c}@media(prefers-color-scheme:dark){:root{--moved:#fb923c}}
-.late #age{font-weight:bold;color:var(--moved)}
+.late #age{font-weight:bold;color:var(--moved)}code{overflow-wrap:anywhere;user-select:all}
 li[id^=start],li[id^=result]{list-style:none}li[id^=result] a{font-weight:bold}
 @media(min-width:48rem){.js main{grid-template:minmax(0,1fr)/minmax(0,1fr) 20rem;gap:1rem}}
 ";
@@ -43,6 +44,7 @@ const VIEW: &str = "\
 <p><button value='Home'>first</button> <button value='ArrowLeft'>back</button>
 <button value='ArrowRight'>next</button> <button value='End'>last</button>
 <select id='games' aria-label='game'></select></p>
+<details><summary>IDs of the position</summary><div id='ids'></div></details>
 <p id='age'></p>
 </div>
 <div id='list'>
@@ -142,6 +144,7 @@ function show(wanted) {
   item.setAttribute('aria-current', 'true');
   named('label').textContent = entry ? entry[1] + '. ' + words : words;
   named('pips').textContent = `pips: X ${pips(it.X)}, O ${pips(it.O)}`;
+  named('ids').replaceChildren(...identified(it).map(copied));
   named('games').selectedIndex = starts.filter(place => place <= at).length - 1;
   document.title = `${it.x}-${it.o}, ${it.next}: ${title}`;
   item.scrollIntoView({ block: 'nearest' });

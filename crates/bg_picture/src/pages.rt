@@ -2,12 +2,13 @@
 ghost use Rattle.std.specs.Prelude.{◌≡◌, ◌++◌, OnOk, IfOk};
 ghost use Rattle.bg_match.specs.State.{start_of as start_of_terms};
 ghost use Rattle.bg_picture.specs.Pages.{IsPage, PutsEntries, end_text, inner_picture, page_end, page_start};
-ghost use Rattle.bg_picture.specs.Pages.{summary_text};
+ghost use Rattle.bg_picture.specs.Pages.{scripts, summary_text};
 
 use crate::Numbering;
 use crate::descriptions::{put_phase_words, put_standing};
 use crate::items::{put_entry, put_game_start};
 use crate::page_heads::{PageWords, put_body, put_head, put_headings, put_shared_shapes};
+use crate::page_ids::put_id_script;
 use crate::page_parts::{put_live_script, put_script, put_view};
 use crate::pictures::{put_drawing, put_frame, put_titles};
 use bg_board::Player;
@@ -125,8 +126,17 @@ fn put_end(out: &mut Vec<u8>, numbering: Numbering, standing: &Standing) -> Resu
 {
     put_last_standing(out, numbering, standing)?;
     put_text(out, "<script>\n")?;
-    put_script(out)?;
-    put_live_script(out)?;
+    put_scripts(out)?;
     put_text(out, "</script>\n</body>\n</html>\n")?;
     Ok(())
+}
+
+/// Appends what the page does where scripts run.
+#[tactic(auto, unfolding(crate::specs::Pages::scripts))]
+fn put_scripts(out: &mut Vec<u8>) -> Result<(), AllocError>
+    ensures { OnOk result (out.new.items ≡ out.old.items ++ scripts) }
+{
+    put_id_script(out)?;
+    put_script(out)?;
+    put_live_script(out)
 }

@@ -76,7 +76,7 @@ pub(crate) fn put_frame(out: &mut Vec<u8>) -> Result<(), AllocError>
 
 /// Appends the style of a picture.
 #[tactic(auto, unfolding(crate::specs::Pictures::style_text))]
-fn put_style_element(out: &mut Vec<u8>) -> Result<(), AllocError>
+pub(crate) fn put_style_element(out: &mut Vec<u8>) -> Result<(), AllocError>
     ensures { OnOk result (out.new.items ≡ out.old.items ++ style_text) }
 {
     put_text(out, "<style>\n")?;
@@ -86,7 +86,7 @@ fn put_style_element(out: &mut Vec<u8>) -> Result<(), AllocError>
 
 /// Appends the shapes of a picture.
 #[tactic(auto, unfolding(crate::specs::Pictures::shapes_text))]
-fn put_definitions(out: &mut Vec<u8>, reader: Player) -> Result<(), AllocError>
+pub(crate) fn put_definitions(out: &mut Vec<u8>, reader: Player) -> Result<(), AllocError>
     ensures { OnOk result (out.new.items ≡ out.old.items ++ shapes_text reader) }
 {
     put_text(out, "<defs>\n")?;

@@ -72,7 +72,7 @@ fn obey(rt: &HostRuntime, request: Request<'_, '_>) -> Result<Ending, Ending> {
         Request::List(options) => list::run(rt, options),
         Request::Board(options) => board::run(rt, options),
         Request::Page(options) => page::run(rt, options),
-        Request::Picture { numbering } => picture::run(rt, numbering),
+        Request::Picture(options) => picture::run(rt, options),
         Request::Id => id::run(rt),
         Request::Script(options) => script::run(rt, options),
         Request::Sim(options) => sim::run(rt, options, progress),

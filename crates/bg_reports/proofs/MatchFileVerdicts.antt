@@ -10,7 +10,7 @@ use Rattle.bg_mat.specs.Files.{lines_in}
 use Rattle.bg_mat.specs.Refusals.{IsRefusal}
 use Rattle.bg_mat.specs.declared.faults.ImportFault.{ImportFault}
 use Rattle.bg_mat.specs.declared.faults.ImportFault.TheVariants as import_fault
-use Rattle.bg_reports.specs.Check.{IsMatchFileVerdict, import_verdict}
+use Rattle.bg_reports.specs.Check.{ImportFaultsAreSaid, IsMatchFileVerdict, import_verdict}
 
 -- the verdict is that of the fault
 pub refused_verdict : (bytes words : List ℕ) (fault : ImportFault) (verdict : Verdict)
@@ -21,3 +21,7 @@ refused_verdict bytes words (import_fault.Refused n why) verdict refused long sa
 refused_verdict bytes words import_fault.TooLong verdict refused long said is =
     let same : TooLong ≡ verdict = cc in subst (λ (v : Verdict). IsMatchFileVerdict bytes words v) same (long refl, said)
 refused_verdict bytes words import_fault.Memory verdict refused long said is = absurd cc
+
+pub import_said : ImportFaultsAreSaid
+import_said name bytes fault columns text verdict refused long said =
+    (import_fault_words fault, refused_verdict bytes (import_fault_words fault) fault verdict refused long refl said.0, said.1)

@@ -96,6 +96,13 @@ IsTranscriptFaultText name bytes fault columns text verdict =
     (transcript_verdict fault ≡ Some verdict)
     × (text ≡ printed_line name (transcript_fault_words fault) verdict bytes columns)
 
+-- the report by the fault is one on the transcript
+abbrev pub TranscriptFaultsAreSaid : Type 0
+TranscriptFaultsAreSaid =
+    (name bytes : List ℕ) (fault : TranscriptFault) (columns : Option ℕ) (text : List ℕ) (verdict : Verdict)
+    → RefusesTranscript fault bytes → IsTranscriptFaultText name bytes fault columns text verdict
+    → IsTranscriptText name bytes columns text verdict
+
 -- what is printed of a match file
 abbrev pub IsMatchFileText : List ℕ → List ℕ → Option ℕ → List ℕ → Verdict → Type 0
 IsMatchFileText name bytes columns text verdict =
@@ -107,6 +114,13 @@ abbrev pub IsImportFaultText : List ℕ → List ℕ → ImportFault → Option 
 IsImportFaultText name bytes fault columns text verdict =
     (import_verdict fault ≡ Some verdict)
     × (text ≡ printed_line name (import_fault_words fault) verdict bytes columns)
+
+-- the report by the fault is one on the match file
+abbrev pub ImportFaultsAreSaid : Type 0
+ImportFaultsAreSaid =
+    (name bytes : List ℕ) (fault : ImportFault) (columns : Option ℕ) (text : List ℕ) (verdict : Verdict)
+    → IsRefusal 0 rules.One (lines_in bytes) fault → (fault ≡ import_fault.TooLong → most_bytes < length bytes)
+    → IsImportFaultText name bytes fault columns text verdict → IsMatchFileText name bytes columns text verdict
 
 -- what is printed of a file: it is a match file where its first line that tells something is the length of a match
 abbrev pub IsCheckText : List ℕ → List ℕ → Option ℕ → List ℕ → Verdict → Type 0

@@ -4,6 +4,7 @@ ghost use Rattle.bg_text.specs.Judge.Judging.{lines_of};
 ghost use Rattle.bg_text.specs.Judge.Transcripts.{transcript_fault_words};
 ghost use Rattle.bg_mat.specs.FaultWords.{import_fault_words};
 ghost use Rattle.bg_reports.specs.Check.{IsCheckText, IsImportFaultText, IsMatchFileText, IsMatchFileVerdict};
+ghost use Rattle.bg_reports.specs.Check.{ImportFaultsAreSaid, TranscriptFaultsAreSaid};
 ghost use Rattle.bg_reports.specs.Check.{IsTranscriptFaultText, IsTranscriptText, IsTranscriptVerdict};
 ghost use Rattle.bg_reports.specs.Check.{import_verdict, transcript_verdict};
 ghost use Rattle.bg_reports.specs.Check.{printed_line, refused_in, refused_part, room_in};
@@ -139,6 +140,16 @@ pub fn said_of_transcript_fault(
     let text = said(alloc, name, &words, bytes, verdict, columns)?;
     Ok((text, verdict))
 }
+
+/// States that the report by the fault for which a transcript is refused is one on the transcript.
+pub fn transcript_faults_are_said()
+    ensures { TranscriptFaultsAreSaid }
+{}
+
+/// States that the report by the fault for which a match file is refused is one on the match file.
+pub fn import_faults_are_said()
+    ensures { ImportFaultsAreSaid }
+{}
 
 /// Returns the verdict on a transcript that gives no record because of this fault, in words and as a
 /// value.

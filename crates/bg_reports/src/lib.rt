@@ -20,7 +20,10 @@ mod showing;
 
 pub use answers::ending_of;
 pub use checking::tallies::Tally;
-pub use checking::{MOST_SHOWN, check_text, said_of_import_fault, said_of_transcript_fault};
+pub use checking::{
+    MOST_SHOWN, check_text, import_faults_are_said, said_of_import_fault, said_of_transcript_fault,
+    transcript_faults_are_said,
+};
 pub use endings::{DONE, Ending, FAILED, Found, REFUSED};
 pub use escapes::harmless;
 pub use folders::comparing::{Compared, compare};

@@ -144,7 +144,7 @@ pub(crate) fn is_shown(row: usize, request: &Request<'_, '_>) -> bool {
                 && (board.out, board.title) == ("p", "Backgammon matches")
                 && (board.numbering, board.is_once) == (Numbering::Mover, true)
         }
-        (10, Request::Picture { numbering }) => *numbering == Numbering::X,
+        (10, Request::Picture(picture)) => picture.numbering == Numbering::X,
         (22, Request::List(ListOptions { folders, format })) => {
             *folders == ["a", "b"].as_slice() && *format == ListFormat::Text
         }

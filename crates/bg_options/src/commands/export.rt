@@ -2,6 +2,7 @@
 
 use crate::arguments::{Argument, Kind, Need, described, with, with_all};
 use crate::batches::{BatchOptions, FORCE, OUT, files_of_batch};
+use crate::headers::{DATE, EVENT, HeaderOptions, PLACE, WITH_HEADERS};
 use clap::{ArgMatches, Command, Error};
 use std::alloc::Global;
 
@@ -30,20 +31,11 @@ X and O, and --date, --event and --place what else stands above a match. Each ha
 A transcript that is refused is named on the standard error as `check` names it, and nothing is
 printed. With --out each FILE is written into a folder: `export --out DIR a.txt b.txt` writes DIR/a.mat
 and DIR/b.mat. Nothing is overwritten without --force. A file that is refused is named, and the others
-are written all the same.
+are written all the same. With --with-headers what stands above a match is read from the file a.headers
+beside a.txt, if there is one, as `import` writes it; --x, --date and the others go before it.
 
 Ends with status 0; with 2 where a transcript is refused, and 1 where reading, writing or memory
 failed.";
-
-/// What stands above a match, for people. Each text is a valid name.
-#[derive(Clone, Copy)]
-pub struct HeaderOptions<'a> {
-    pub x: Option<&'a str>,
-    pub o: Option<&'a str>,
-    pub date: Option<&'a str>,
-    pub event: Option<&'a str>,
-    pub place: Option<&'a str>,
-}
 
 /// The options of `export`.
 #[derive(Clone, Copy)]
@@ -56,27 +48,25 @@ pub struct ExportOptions<'m, 'a> {
 impl<'m, 'a> ExportOptions<'m, 'a> {
     pub(crate) fn read(options: &'m ArgMatches<'a>) -> ExportOptions<'m, 'a> {
         ExportOptions {
-            headers: HeaderOptions {
-                x: options.get_str("x"),
-                o: options.get_str("o"),
-                date: options.get_str("date"),
-                event: options.get_str("event"),
-                place: options.get_str("place"),
-            },
+            headers: HeaderOptions::read(options, X.name, O.name),
             batch: BatchOptions::read(options),
         }
     }
 }
 
-/// Returns an option for a text that stands above a match.
-fn header(name: &'static str, value: &'static str, about: &'static str) -> Argument {
-    Argument {
-        name,
-        kind: Kind::Text(value),
-        need: Need::Optional,
-        about,
-    }
-}
+const X: Argument = Argument {
+    name: "x",
+    kind: Kind::Text("NAME"),
+    need: Need::Optional,
+    about: "The name of player X, 1 to 64 bytes",
+};
+
+const O: Argument = Argument {
+    name: "o",
+    kind: Kind::Text("NAME"),
+    need: Need::Optional,
+    about: "The name of player O, 1 to 64 bytes",
+};
 
 /// Returns the command with its options and help.
 pub(crate) fn command<'a>(alloc: Global) -> Result<Command<'a>, Error> {
@@ -86,14 +76,6 @@ pub(crate) fn command<'a>(alloc: Global) -> Result<Command<'a>, Error> {
         "Write a transcript as a match file for other programs",
         ABOUT_EXPORT,
     );
-    let arguments = [
-        header("x", "NAME", "The name of player X"),
-        header("o", "NAME", "The name of player O"),
-        header("date", "DATE", "The date of the match"),
-        header("event", "EVENT", "The event that the match belongs to"),
-        header("place", "PLACE", "Where the match was played"),
-        OUT,
-        FORCE,
-    ];
+    let arguments = [X, O, DATE, EVENT, PLACE, OUT, WITH_HEADERS, FORCE];
     with(with_all(alloc, command, &arguments)?, files_of_batch(alloc))
 }

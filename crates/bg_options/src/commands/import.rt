@@ -2,6 +2,7 @@
 
 use crate::arguments::{Argument, Kind, Need, described, with, with_all};
 use crate::batches::{BatchOptions, FORCE, OUT, files_of_batch};
+use crate::headers::WITH_HEADERS;
 use crate::shared::{RULES, rules_in};
 use bg_match::Rules;
 use clap::{ArgMatches, Command, Error};
@@ -31,8 +32,9 @@ players, the date, the event and the place of the match are written into a file,
 file says them.
 
 With --out each FILE is taken over into a folder: `import --out DIR a.mat b.mat` writes DIR/a.txt and
-DIR/b.txt. Nothing is overwritten without --force. A file that is refused is named on the standard
-error, as `check` names it, and the others are written all the same.
+DIR/b.txt. With --with-headers it also writes DIR/a.headers, if a.mat says anything of that kind.
+Nothing is overwritten without --force. A file that is refused is named on the standard error, as
+`check` names it, and the others are written all the same.
 
 Ends with status 0; with 2 where a file is refused, and 1 where reading, writing or memory failed.";
 
@@ -75,6 +77,6 @@ pub(crate) fn command<'a>(alloc: Global) -> Result<Command<'a>, Error> {
         "Take over a match file of another program",
         ABOUT_IMPORT,
     );
-    let arguments = [RULES, HEADERS, OUT, FORCE];
+    let arguments = [RULES, HEADERS, OUT, WITH_HEADERS, FORCE];
     with(with_all(alloc, command, &arguments)?, files_of_batch(alloc))
 }

@@ -1,6 +1,7 @@
 //! The options and help of the command that makes a page of a transcript.
 
 use crate::arguments::{Argument, Kind, Need, described, with, with_all};
+use crate::headers::{DATE, EVENT, HeaderOptions, PLACE};
 use crate::shared::{
     NAME_O, NAME_X, NUMBERING, TITLE, misplaced_file, names_of, numbering_in, title_in,
 };
@@ -18,7 +19,8 @@ The page is one file that needs nothing from elsewhere. It shows each position w
 counts and the last move, and the entries by game. Keys, buttons, links and the list of games go
 through it, and no result is shown before the reader is there. Without scripts it is a plain list with
 the last position behind it. The players' names are those of --name-x and --name-o, or else of the file
-of --match; both names are the title where none is given. A transcript that is refused is named on the
+of --match; both names are the title where none is given. Behind the title stand event, place and date,
+as far as they are given. A transcript that is refused is named on the
 standard error as `check` names it, and nothing is printed. Ends with status 0; with 2 where the
 transcript or a name is refused or FILE is no such file, and 1 where reading, writing or memory failed.";
 
@@ -29,9 +31,8 @@ pub struct PageOptions<'a> {
     pub title: Option<&'a str>,
     /// The path of the match file or key file that has the names of the players.
     pub match_path: Option<&'a str>,
-    /// The names of X and of O, as far as they are given.
-    pub name_x: Option<&'a str>,
-    pub name_o: Option<&'a str>,
+    /// Who plays, when, where, and at what event, as far as it is given.
+    pub headers: HeaderOptions<'a>,
     /// The numbering of the points.
     pub numbering: Numbering,
 }
@@ -41,15 +42,14 @@ impl<'a> PageOptions<'a> {
         PageOptions {
             title: title_in(options),
             match_path: options.get_str("match"),
-            name_x: options.get_str(NAME_X.name),
-            name_o: options.get_str(NAME_O.name),
+            headers: HeaderOptions::read(options, NAME_X.name, NAME_O.name),
             numbering: numbering_in(options),
         }
     }
 
     /// Returns the names of the players that the options give.
     pub fn names(&self) -> Names {
-        names_of(self.name_x, self.name_o)
+        names_of(self.headers.x, self.headers.o)
     }
 }
 
@@ -68,8 +68,6 @@ pub(crate) fn command<'a>(alloc: Global) -> Result<Command<'a>, Error> {
         "Make a page for browsers of a transcript",
         ABOUT_PAGE,
     );
-    with(
-        with_all(alloc, command, &[TITLE, MATCH, NAME_X, NAME_O, NUMBERING])?,
-        misplaced_file(alloc),
-    )
+    let arguments = [TITLE, MATCH, NAME_X, NAME_O, DATE, EVENT, PLACE, NUMBERING];
+    with(with_all(alloc, command, &arguments)?, misplaced_file(alloc))
 }

@@ -1,8 +1,10 @@
 //! The options and help of the command that draws the standing of a match.
 
 use crate::arguments::{described, with, with_all};
-use crate::shared::{NUMBERING, misplaced_file};
-use clap::{Command, Error};
+use crate::headers::{DATE, EVENT, HeaderOptions, PLACE};
+use crate::shared::{NAME_O, NAME_X, NUMBERING, misplaced_file, numbering_in};
+use bg_picture::Numbering;
+use clap::{ArgMatches, Command, Error};
 use std::alloc::Global;
 
 /// The help on `picture`, with an example.
@@ -13,15 +15,38 @@ const ABOUT_PICTURE: &str =
     $ head -n 10 transcript.txt | bg_relay picture > after-9-entries.svg
 
 The picture shows the points and their numbers, the checkers, the cube, the dice of the turn, the
-score, and what is to happen next. A transcript that is refused is named on the standard error as
+score, and what is to happen next. Below stand the names of the players, and event, place and date, as
+far as --name-x, --name-o, --event, --place and --date give them. A transcript that is refused is named on the standard error as
 `check` names it, and nothing is printed. Ends with status 0; with 2 where the transcript is refused,
 and 1 where reading, writing or memory failed.";
+
+/// The options of `picture`.
+#[derive(Clone, Copy)]
+pub struct PictureOptions<'a> {
+    /// What stands below the picture.
+    pub headers: HeaderOptions<'a>,
+    /// The numbering of the points.
+    pub numbering: Numbering,
+}
+
+impl<'a> PictureOptions<'a> {
+    pub(crate) fn read(options: &ArgMatches<'a>) -> PictureOptions<'a> {
+        PictureOptions {
+            headers: HeaderOptions::read(options, NAME_X.name, NAME_O.name),
+            numbering: numbering_in(options),
+        }
+    }
+}
 
 /// Returns the command with its options and help.
 pub(crate) fn command<'a>(alloc: Global) -> Result<Command<'a>, Error> {
     let command = described(alloc, "picture", "Draw where a match stands", ABOUT_PICTURE);
     with(
-        with_all(alloc, command, &[NUMBERING])?,
+        with_all(
+            alloc,
+            command,
+            &[NAME_X, NAME_O, DATE, EVENT, PLACE, NUMBERING],
+        )?,
         misplaced_file(alloc),
     )
 }

@@ -2,7 +2,9 @@
 use crate::checks::{check_no_growth_is_left, check_row};
 use crate::records::record_of;
 use bg_match::{Record, Standing};
-use bg_picture::{Numbering, PageWords, page_text, picture_text};
+use bg_picture::{
+    Numbering, PageWords, PictureLabels, labelled_picture_text, page_text, picture_text,
+};
 use std::alloc::Global;
 use std::process::Abort;
 
@@ -21,6 +23,30 @@ fn refused_growths_of_pictures(rt: HostRuntime) {
     let standing = record_of(&rt, rt.alloc(), "length 3\nopen 3 1\n").standing();
     let picture = picture(&rt, rt.alloc(), &standing);
     check_row(&rt, "end", picture.ends_with(b"X 0</text></g></svg>\n"));
+    check_no_growth_is_left(&rt, rt.alloc());
+}
+
+/// The picture of a standing with words below it, also where memory is refused once.
+fn labelled(rt: &impl Abort, alloc: Global, standing: &Standing) -> Vec<u8> {
+    let labels = PictureLabels {
+        x: "Anna",
+        o: "<O>",
+        occasion: "",
+    };
+    match labelled_picture_text(alloc, standing, Numbering::X, labels) {
+        Ok(picture) => picture,
+        Err(_) => labelled_picture_text(alloc, standing, Numbering::X, labels).expect(rt, "memory"),
+    }
+}
+
+/// The same, of a picture with words below it.
+#[test]
+fn refused_growths_of_labelled_pictures(rt: HostRuntime) {
+    let standing = record_of(&rt, rt.alloc(), "length 3\nopen 3 1\n").standing();
+    let picture = labelled(&rt, rt.alloc(), &standing);
+    let end =
+        b"X 0</text></g><g class='left'><text x='0' y='580'>X: Anna</text><text x='0' y='606'>O: &lt;O&gt;</text></g></svg>\n";
+    check_row(&rt, "end", picture.ends_with(end));
     check_no_growth_is_left(&rt, rt.alloc());
 }
 

@@ -1,0 +1,23 @@
+//! The folders that files are written into.
+
+use bg_console::{wrong_at, wrong_for};
+use bg_reports::Ending;
+use std::fs;
+use std::fs::File;
+use std::io::ErrorKind;
+use std::rt::Files;
+
+/// Refuses what isn't a folder, and says what to do if it is missing.
+pub(crate) fn check_out_folder(
+    rt: &(impl Files<File = File> + Eprint),
+    folder: &str,
+) -> Result<(), Ending> {
+    match fs::metadata(rt, folder) {
+        Ok(found) if found.is_dir() => Ok(()),
+        Ok(_) => Err(wrong_at(rt, folder, " is no folder")),
+        Err(error) if error.kind() == ErrorKind::NotFound => {
+            Err(wrong_at(rt, folder, " is missing: make it first"))
+        }
+        Err(error) => Err(wrong_for(rt, folder, " can't be used", &error)),
+    }
+}
