@@ -1,8 +1,7 @@
 //! The options of commands that convert many files into a folder.
 
 use crate::arguments::{Argument, Kind, Need};
-use clap::{Arg, ArgMatches};
-use std::alloc::Global;
+use clap::ArgMatches;
 
 /// The files that are converted, and the folder that they are written into.
 #[derive(Clone, Copy)]
@@ -18,14 +17,19 @@ impl<'m, 'a> BatchOptions<'m, 'a> {
     pub(crate) fn read(options: &'m ArgMatches<'a>) -> Option<BatchOptions<'m, 'a>> {
         Some(BatchOptions {
             folder: options.get_str(OUT.name)?,
-            files: options.get_strs(FILES).unwrap_or_default(),
+            files: options.get_strs(FILES.name).unwrap_or_default(),
             is_forced: options.get_flag(FORCE.name),
         })
     }
 }
 
-/// The name of the argument for the files.
-pub(crate) const FILES: &str = "FILE";
+/// The files to convert.
+pub(crate) const FILES: Argument = Argument {
+    name: "FILE",
+    kind: Kind::Words,
+    need: Need::Optional,
+    about: "The files to convert, with --out; without it the standard input is read",
+};
 
 pub(crate) const OUT: Argument = Argument {
     name: "out",
@@ -40,10 +44,3 @@ pub(crate) const FORCE: Argument = Argument {
     need: Need::Optional,
     about: "Overwrite files that exist",
 };
-
-/// Returns the argument for the files.
-pub(crate) fn files_of_batch<'a>(alloc: Global) -> Arg<'a> {
-    Arg::new(alloc, FILES).num_args(0..).help(
-        "The files to convert, with --out; without it the standard input is read",
-    )
-}

@@ -1,9 +1,8 @@
 //! The options and help of the command that writes a match for other programs.
 
-use crate::arguments::{Argument, Kind, Need, described, with, with_all};
-use crate::batches::{BatchOptions, FORCE, OUT, files_of_batch};
-use clap::{ArgMatches, Command, Error};
-use std::alloc::Global;
+use crate::arguments::{Argument, Description, Kind, Need};
+use crate::batches::{BatchOptions, FILES, FORCE, OUT};
+use clap::ArgMatches;
 
 /// The help on `export`, with an example.
 const ABOUT_EXPORT: &str =
@@ -68,32 +67,46 @@ impl<'m, 'a> ExportOptions<'m, 'a> {
     }
 }
 
-/// Returns an option for a text that stands above a match.
-fn header(name: &'static str, value: &'static str, about: &'static str) -> Argument {
-    Argument {
-        name,
-        kind: Kind::Text(value),
-        need: Need::Optional,
-        about,
-    }
-}
+const X: Argument = Argument {
+    name: "x",
+    kind: Kind::Text("NAME"),
+    need: Need::Optional,
+    about: "The name of player X",
+};
 
-/// Returns the command with its options and help.
-pub(crate) fn command<'a>(alloc: Global) -> Result<Command<'a>, Error> {
-    let command = described(
-        alloc,
-        "export",
-        "Write a transcript as a match file for other programs",
-        ABOUT_EXPORT,
-    );
-    let arguments = [
-        header("x", "NAME", "The name of player X"),
-        header("o", "NAME", "The name of player O"),
-        header("date", "DATE", "The date of the match"),
-        header("event", "EVENT", "The event that the match belongs to"),
-        header("place", "PLACE", "Where the match was played"),
-        OUT,
-        FORCE,
-    ];
-    with(with_all(alloc, command, &arguments)?, files_of_batch(alloc))
-}
+const O: Argument = Argument {
+    name: "o",
+    kind: Kind::Text("NAME"),
+    need: Need::Optional,
+    about: "The name of player O",
+};
+
+const DATE: Argument = Argument {
+    name: "date",
+    kind: Kind::Text("DATE"),
+    need: Need::Optional,
+    about: "The date of the match",
+};
+
+const EVENT: Argument = Argument {
+    name: "event",
+    kind: Kind::Text("EVENT"),
+    need: Need::Optional,
+    about: "The event that the match belongs to",
+};
+
+const PLACE: Argument = Argument {
+    name: "place",
+    kind: Kind::Text("PLACE"),
+    need: Need::Optional,
+    about: "Where the match was played",
+};
+
+/// The command with its options and help.
+pub(crate) const COMMAND: Description = Description {
+    name: "export",
+    about: "Write a transcript as a match file for other programs",
+    long_about: ABOUT_EXPORT,
+    after_help: None,
+    arguments: &[X, O, DATE, EVENT, PLACE, OUT, FORCE, FILES],
+};

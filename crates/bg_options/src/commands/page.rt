@@ -1,13 +1,12 @@
 //! The options and help of the command that makes a page of a transcript.
 
-use crate::arguments::{Argument, Kind, Need, described, with, with_all};
+use crate::arguments::{Argument, Description, Kind, Need};
 use crate::shared::{
-    NAME_O, NAME_X, NUMBERING, TITLE, misplaced_file, names_of, numbering_in, title_in,
+    MISPLACED_FILE, NAME_O, NAME_X, NUMBERING, TITLE, names_of, numbering_in, title_in,
 };
 use bg_picture::Numbering;
 use bg_system::Names;
-use clap::{ArgMatches, Command, Error};
-use std::alloc::Global;
+use clap::ArgMatches;
 
 /// The help on `page`, with an example.
 const ABOUT_PAGE: &str = "Make a page for browsers of the transcript on the standard input.
@@ -60,16 +59,11 @@ const MATCH: Argument = Argument {
     about: "A match file or a key file that has the names of the players",
 };
 
-/// Returns the command with its options and help.
-pub(crate) fn command<'a>(alloc: Global) -> Result<Command<'a>, Error> {
-    let command = described(
-        alloc,
-        "page",
-        "Make a page for browsers of a transcript",
-        ABOUT_PAGE,
-    );
-    with(
-        with_all(alloc, command, &[TITLE, MATCH, NAME_X, NAME_O, NUMBERING])?,
-        misplaced_file(alloc),
-    )
-}
+/// The command with its options and help.
+pub(crate) const COMMAND: Description = Description {
+    name: "page",
+    about: "Make a page for browsers of a transcript",
+    long_about: ABOUT_PAGE,
+    after_help: None,
+    arguments: &[TITLE, MATCH, NAME_X, NAME_O, NUMBERING, MISPLACED_FILE],
+};

@@ -1,9 +1,7 @@
 //! The options and help of the command that draws the standing of a match.
 
-use crate::arguments::{described, with, with_all};
-use crate::shared::{NUMBERING, misplaced_file};
-use clap::{Command, Error};
-use std::alloc::Global;
+use crate::arguments::Description;
+use crate::shared::{MISPLACED_FILE, NUMBERING};
 
 /// The help on `picture`, with an example.
 const ABOUT_PICTURE: &str =
@@ -17,11 +15,11 @@ score, and what is to happen next. A transcript that is refused is named on the 
 `check` names it, and nothing is printed. Ends with status 0; with 2 where the transcript is refused,
 and 1 where reading, writing or memory failed.";
 
-/// Returns the command with its options and help.
-pub(crate) fn command<'a>(alloc: Global) -> Result<Command<'a>, Error> {
-    let command = described(alloc, "picture", "Draw where a match stands", ABOUT_PICTURE);
-    with(
-        with_all(alloc, command, &[NUMBERING])?,
-        misplaced_file(alloc),
-    )
-}
+/// The command with its options and help.
+pub(crate) const COMMAND: Description = Description {
+    name: "picture",
+    about: "Draw where a match stands",
+    long_about: ABOUT_PICTURE,
+    after_help: None,
+    arguments: &[NUMBERING, MISPLACED_FILE],
+};
