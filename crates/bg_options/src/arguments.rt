@@ -19,8 +19,12 @@ pub(crate) enum Kind {
     OneOf(&'static str, &'static [&'static str]),
     /// A file that is named without an option.
     File,
+    /// The same, which help leaves out.
+    HiddenFile,
     /// All remaining words, which may be none.
     Words,
+    /// All remaining words, one or more where there are any.
+    SomeWords,
 }
 
 /// Whether an argument may be left out.
@@ -30,6 +34,10 @@ pub(crate) enum Need {
     Optional,
     /// It may, and then counts as this text.
     Usually(&'static str),
+    /// It may where the argument with this name is there.
+    Unless(&'static str),
+    /// It may. Where it is there, the argument with this name is too.
+    With(&'static str),
 }
 
 /// An argument of a command.
@@ -68,47 +76,61 @@ impl Argument {
             }
             Kind::OneOf(value, texts) => text_option(alloc, self.name, value).value_parser(texts),
             Kind::File => Arg::new(alloc, self.name),
+            Kind::HiddenFile => Arg::new(alloc, self.name).hide(true),
             Kind::Words => Arg::new(alloc, self.name).num_args(0..),
+            Kind::SomeWords => Arg::new(alloc, self.name).num_args(1..),
         }
     }
 
     /// Returns the argument as the parser of the command line takes it.
-    pub(crate) fn described<'a>(self, alloc: Global) -> Arg<'a> {
+    fn described<'a>(self, alloc: Global) -> Result<Arg<'a>, Error> {
         let argument = self.unsaid(alloc).help(self.about);
-        match self.need {
+        Ok(match self.need {
             Need::Required => argument.required(true),
             Need::Optional => argument,
             Need::Usually(text) => argument.default_value(text),
+            Need::Unless(other) => argument.required_unless_present(other)?,
+            Need::With(other) => argument.requires_arg(other)?,
+        })
+    }
+}
+
+/// A command.
+#[derive(Clone, Copy)]
+pub(crate) struct Description {
+    pub(crate) name: &'static str,
+    /// The line on the command in the list of all.
+    pub(crate) about: &'static str,
+    pub(crate) long_about: &'static str,
+    /// What its help ends with, if anything.
+    pub(crate) after_help: Option<&'static str>,
+    pub(crate) arguments: &'static [Argument],
+}
+
+impl Description {
+    /// Returns the command as the parser of the command line takes it.
+    pub(crate) fn command<'a>(self, alloc: Global) -> Result<Command<'a>, Error> {
+        let mut command = self.without_arguments(alloc);
+        for argument in self.arguments {
+            command = with(command, argument.described(alloc)?)?;
+        }
+        Ok(command)
+    }
+
+    /// Returns the command with its help, and no arguments yet.
+    fn without_arguments<'a>(self, alloc: Global) -> Command<'a> {
+        let command = Command::new(alloc, self.name)
+            .about(self.about)
+            .long_about(self.long_about);
+        match self.after_help {
+            Some(text) => command.after_help(text),
+            None => command,
         }
     }
 }
 
-/// Returns a command with its help, and no arguments yet.
-pub(crate) fn described<'a>(
-    alloc: Global,
-    name: &'a str,
-    about: &'a str,
-    long_about: &'a str,
-) -> Command<'a> {
-    Command::new(alloc, name)
-        .about(about)
-        .long_about(long_about)
-}
-
-/// Returns the command with one more argument.
-pub(crate) fn with<'a>(command: Command<'a>, argument: Arg<'a>) -> Result<Command<'a>, Error> {
+/// Returns the command with one more argument. The promises of the library's calls grow with each
+/// call in one function, and so does the time of the check.
+fn with<'a>(command: Command<'a>, argument: Arg<'a>) -> Result<Command<'a>, Error> {
     Ok(command.arg(argument)?)
-}
-
-/// Returns the command with these further arguments, which a loop adds. The promises of the
-/// library's calls grow with each call in one function, and so does the time of the check.
-pub(crate) fn with_all<'a>(
-    alloc: Global,
-    mut command: Command<'a>,
-    arguments: &[Argument],
-) -> Result<Command<'a>, Error> {
-    for argument in arguments {
-        command = with(command, argument.described(alloc))?;
-    }
-    Ok(command)
 }

@@ -2,8 +2,7 @@
 
 use crate::arguments::{Argument, Kind, Need};
 use crate::headers::WITH_HEADERS;
-use clap::{Arg, ArgMatches};
-use std::alloc::Global;
+use clap::ArgMatches;
 
 /// The files that are converted, and the folder that they are written into.
 #[derive(Clone, Copy)]
@@ -21,15 +20,20 @@ impl<'m, 'a> BatchOptions<'m, 'a> {
     pub(crate) fn read(options: &'m ArgMatches<'a>) -> Option<BatchOptions<'m, 'a>> {
         Some(BatchOptions {
             folder: options.get_str(OUT.name)?,
-            files: options.get_strs(FILES).unwrap_or_default(),
+            files: options.get_strs(FILES.name).unwrap_or_default(),
             has_headers: options.get_flag(WITH_HEADERS.name),
             is_forced: options.get_flag(FORCE.name),
         })
     }
 }
 
-/// The name of the argument for the files.
-pub(crate) const FILES: &str = "FILE";
+/// The files to convert.
+pub(crate) const FILES: Argument = Argument {
+    name: "FILE",
+    kind: Kind::Words,
+    need: Need::Optional,
+    about: "The files to convert, with --out; without it the standard input is read",
+};
 
 pub(crate) const OUT: Argument = Argument {
     name: "out",
@@ -44,10 +48,3 @@ pub(crate) const FORCE: Argument = Argument {
     need: Need::Optional,
     about: "Overwrite files that exist",
 };
-
-/// Returns the argument for the files.
-pub(crate) fn files_of_batch<'a>(alloc: Global) -> Arg<'a> {
-    Arg::new(alloc, FILES).num_args(0..).help(
-        "The files to convert, with --out; without it the standard input is read",
-    )
-}

@@ -113,7 +113,7 @@ impl<'m, 'a> Request<'m, 'a> {
 
 /// Refuses a folder for files where none is named, and headers of many files.
 fn check_batch(options: &ArgMatches<'_>) -> Result<(), RequestFault> {
-    if !options.contains_id(FILES) {
+    if !options.contains_id(FILES.name) {
         return Err(RequestFault::NoFiles);
     }
     if options.contains_id(HEADERS.name) {

@@ -7,15 +7,19 @@ use bg_match::{LONGEST_MATCH, Rules, SHORTEST_MATCH};
 use bg_picture::Numbering;
 use bg_system::{Name, Names};
 use bg_wire::{FIRST_WATCHER, LAST_WATCHER};
-use clap::{Arg, ArgMatches};
-use std::alloc::Global;
+use clap::ArgMatches;
 
 /// Number of watchers of a match, at most.
 const MOST_WATCHERS: u8 = LAST_WATCHER - FIRST_WATCHER + 1;
 
 /// The argument for a file that is named to a command that reads the standard input. Help leaves it
 /// out; it is there so that the message can say how to pass the file.
-const MISPLACED_FILE: &str = "FILE";
+pub(crate) const MISPLACED_FILE: Argument = Argument {
+    name: "FILE",
+    kind: Kind::HiddenFile,
+    need: Need::Optional,
+    about: "",
+};
 
 /// The start of a match between processes, for the help on each of its commands.
 pub(crate) const THREE_TERMINALS: &str =
@@ -39,13 +43,9 @@ pub(crate) fn byte_in(options: &ArgMatches<'_>, name: &str) -> Option<u8> {
     u8::try_from(number_in(options, name)?).ok()
 }
 
-pub(crate) fn misplaced_file<'a>(alloc: Global) -> Arg<'a> {
-    Arg::new(alloc, MISPLACED_FILE).hide(true)
-}
-
 /// Returns whether a file is named to a command that reads the standard input.
 pub(crate) fn has_misplaced_file(options: &ArgMatches<'_>) -> bool {
-    options.contains_id(MISPLACED_FILE)
+    options.contains_id(MISPLACED_FILE.name)
 }
 
 pub(crate) const SEED: Argument = Argument {

@@ -1,5 +1,6 @@
 //! The tasks of the program.
 
+use crate::arguments::Description;
 use crate::commands::{
     act, auto, board, check, export, id, import, judge, keys, list, new_match, page, picture, play,
     play_loop, recover, referee, script, serve, show, sim, watch,
@@ -66,9 +67,9 @@ pub const TASKS: [(&str, Task); 22] = [
 impl Task {
     /// Returns the task of the command with this name, if there is one.
     pub fn named(name: &str) -> Option<Task> {
-        for (other, task) in TASKS {
-            if other == name {
-                return Some(task);
+        for (other, task) in &TASKS {
+            if *other == name {
+                return Some(*task);
             }
         }
         None
@@ -100,30 +101,30 @@ impl Task {
     }
 
     /// Returns the command with its options and help.
-    fn command<'a>(self, alloc: Global) -> Result<Command<'a>, Error> {
+    fn description(self) -> Description {
         match self {
-            Task::Judge => judge::command(alloc),
-            Task::Check => check::command(alloc),
-            Task::Import => import::command(alloc),
-            Task::Export => export::command(alloc),
-            Task::Show => show::command(alloc),
-            Task::List => list::command(alloc),
-            Task::Board => board::command(alloc),
-            Task::Page => page::command(alloc),
-            Task::Picture => picture::command(alloc),
-            Task::Id => id::command(alloc),
-            Task::Script => script::command(alloc),
-            Task::Sim => sim::command(alloc),
-            Task::Loop => play_loop::command(alloc),
-            Task::New => new_match::command(alloc),
-            Task::Keys => keys::command(alloc),
-            Task::Recover => recover::command(alloc),
-            Task::Referee => referee::command(alloc),
-            Task::Play => play::command(alloc),
-            Task::Act => act::command(alloc),
-            Task::Auto => auto::command(alloc),
-            Task::Watch => watch::command(alloc),
-            Task::Serve => serve::command(alloc),
+            Task::Judge => judge::COMMAND,
+            Task::Check => check::COMMAND,
+            Task::Import => import::COMMAND,
+            Task::Export => export::COMMAND,
+            Task::Show => show::COMMAND,
+            Task::List => list::COMMAND,
+            Task::Board => board::COMMAND,
+            Task::Page => page::COMMAND,
+            Task::Picture => picture::COMMAND,
+            Task::Id => id::COMMAND,
+            Task::Script => script::COMMAND,
+            Task::Sim => sim::COMMAND,
+            Task::Loop => play_loop::COMMAND,
+            Task::New => new_match::COMMAND,
+            Task::Keys => keys::COMMAND,
+            Task::Recover => recover::COMMAND,
+            Task::Referee => referee::COMMAND,
+            Task::Play => play::COMMAND,
+            Task::Act => act::COMMAND,
+            Task::Auto => auto::COMMAND,
+            Task::Watch => watch::COMMAND,
+            Task::Serve => serve::COMMAND,
         }
     }
 }
@@ -135,16 +136,27 @@ impl Task {
 /// # Errors
 /// An error where there is no memory.
 pub fn command_line<'a>(alloc: Global, first: Option<&str>) -> Result<Command<'a>, Error> {
-    let mut program = Command::new(alloc, "bg_relay")
+    let mut program = without_commands(alloc);
+    if let Some(task) = first.and_then(Task::named) {
+        return with_task(alloc, program, task);
+    }
+    for (_, task) in &TASKS {
+        program = with_task(alloc, program, *task)?;
+    }
+    Ok(program)
+}
+
+/// Returns the command line with its help, and no commands yet.
+fn without_commands<'a>(alloc: Global) -> Command<'a> {
+    Command::new(alloc, "bg_relay")
         .about("A backgammon match relay, proved")
         .version(VERSION)
         .subcommand_required(true)
-        .arg_required_else_help(true);
-    if let Some(task) = first.and_then(Task::named) {
-        return Ok(program.subcommand(task.command(alloc)?)?);
-    }
-    for (_, task) in TASKS {
-        program = program.subcommand(task.command(alloc)?)?;
-    }
-    Ok(program)
+        .arg_required_else_help(true)
+}
+
+/// Returns the command line with one more command.
+fn with_task<'a>(alloc: Global, program: Command<'a>, task: Task) -> Result<Command<'a>, Error> {
+    let command = task.description().command(alloc)?;
+    Ok(program.subcommand(command)?)
 }

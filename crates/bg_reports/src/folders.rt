@@ -55,10 +55,33 @@ pub fn folder_text(
     let held0 = hold_slots(alloc, referee)?;
     let held1 = hold_slots(alloc, x)?;
     let held2 = hold_slots(alloc, o)?;
+    told_folder(alloc, referee, x, o, &held0, &held1, &held2)
+}
+
+/// Returns the report on the six saved files of a folder, with these contents, and whether one
+/// loads.
+fn told_folder(
+    alloc: Global,
+    referee: &SlotBytes,
+    x: &SlotBytes,
+    o: &SlotBytes,
+    held0: &HeldSlots,
+    held1: &HeldSlots,
+    held2: &HeldSlots,
+) -> Result<(Vec<u8>, bool), AllocError>
+    requires of_referee { AreHeldIn referee.now.zero.items referee.now.one.items (held_of held0.now.zero)
+        (held_of held0.now.one) (loaded_of held0.now.zero) (loaded_of held0.now.one) }
+    requires of_x { AreHeldIn x.now.zero.items x.now.one.items (held_of held1.now.zero) (held_of held1.now.one)
+        (loaded_of held1.now.zero) (loaded_of held1.now.one) }
+    requires of_o { AreHeldIn o.now.zero.items o.now.one.items (held_of held2.now.zero) (held_of held2.now.one)
+        (loaded_of held2.now.zero) (loaded_of held2.now.one) }
+    ensures { IfOk result (λ shown. IsFolderText referee.now.zero.items referee.now.one.items x.now.zero.items
+        x.now.one.items o.now.zero.items o.now.one.items shown.0.items shown.1) }
+{
     let mut text = Vec::new(alloc);
-    put_slots(&mut text, REFEREE, referee, &held0)?;
-    put_slots(&mut text, SEAT_OF_X, x, &held1)?;
-    put_slots(&mut text, SEAT_OF_O, o, &held2)?;
+    put_slots(&mut text, REFEREE, referee, held0)?;
+    put_slots(&mut text, SEAT_OF_X, x, held1)?;
+    put_slots(&mut text, SEAT_OF_O, o, held2)?;
     let saved0 = held0.own_save(REFEREE);
     let saved1 = held1.own_save(SEAT_OF_X);
     let saved2 = held2.own_save(SEAT_OF_O);
@@ -67,7 +90,7 @@ pub fn folder_text(
     put_party(&mut text, SEAT_OF_X, saved1, leader)?;
     put_party(&mut text, SEAT_OF_O, saved2, leader)?;
     put_leader(alloc, &mut text, leader)?;
-    Ok((text, one_loads(&held0, &held1, &held2)))
+    Ok((text, one_loads(held0, held1, held2)))
 }
 
 /// Returns the report on the two files of a party alone, and whether one loads (docs/FORMATS.md,

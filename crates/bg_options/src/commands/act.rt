@@ -1,11 +1,10 @@
 //! The options and help of the command of one action, for scripts.
 
-use crate::arguments::{Argument, Kind, Need, described, with_all};
+use crate::arguments::{Argument, Description, Kind, Need};
 use crate::commands::play::SeatOptions;
 use crate::shared::{FOLDER, MATCH, PLAYER, THREE_TERMINALS, number_in};
 use bg_match::{MOST_ENTRIES, Number};
-use clap::{ArgMatches, Command, Error};
-use std::alloc::Global;
+use clap::ArgMatches;
 
 /// The help on `act`.
 const ABOUT_ACT: &str =
@@ -63,9 +62,11 @@ const ACTION: Argument = Argument {
     about: "The action, as in transcripts: roll, double, take, drop, move 8-5 6-5, resign normal, ..",
 };
 
-/// Returns the command with its options and help.
-pub(crate) fn command<'a>(alloc: Global) -> Result<Command<'a>, Error> {
-    let command = described(alloc, "act", "Make one action, for scripts", ABOUT_ACT);
-    let arguments = [PLAYER, MATCH, FOLDER, SECONDS, ENTRY, ACTION];
-    with_all(alloc, command.after_help(THREE_TERMINALS), &arguments)
-}
+/// The command with its options and help.
+pub(crate) const COMMAND: Description = Description {
+    name: "act",
+    about: "Make one action, for scripts",
+    long_about: ABOUT_ACT,
+    after_help: Some(THREE_TERMINALS),
+    arguments: &[PLAYER, MATCH, FOLDER, SECONDS, ENTRY, ACTION],
+};

@@ -1,9 +1,7 @@
 //! The options and help of the command that plays for a player until the match is over.
 
-use crate::arguments::{described, with_all};
+use crate::arguments::Description;
 use crate::shared::{FOLDER, MATCH, PLAYER, THREE_TERMINALS};
-use clap::{Command, Error};
-use std::alloc::Global;
 
 /// The help on `auto`.
 const ABOUT_AUTO: &str =
@@ -12,17 +10,11 @@ const ABOUT_AUTO: &str =
              Keeps what it claims in DIR, a folder of this player alone, which is made where it is missing.\n\
              Ends with the statuses of `play`.";
 
-/// Returns the command with its options and help.
-pub(crate) fn command<'a>(alloc: Global) -> Result<Command<'a>, Error> {
-    let command = described(
-        alloc,
-        "auto",
-        "Let an automatic player play a match",
-        ABOUT_AUTO,
-    );
-    with_all(
-        alloc,
-        command.after_help(THREE_TERMINALS),
-        &[PLAYER, MATCH, FOLDER],
-    )
-}
+/// The command with its options and help.
+pub(crate) const COMMAND: Description = Description {
+    name: "auto",
+    about: "Let an automatic player play a match",
+    long_about: ABOUT_AUTO,
+    after_help: Some(THREE_TERMINALS),
+    arguments: &[PLAYER, MATCH, FOLDER],
+};

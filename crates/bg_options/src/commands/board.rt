@@ -1,10 +1,9 @@
 //! The options and help of the command that keeps pages of many matches.
 
-use crate::arguments::{Argument, Kind, Need, described, with, with_all};
+use crate::arguments::{Argument, Description, Kind, Need};
 use crate::shared::{NUMBERING, numbering_in};
 use bg_picture::Numbering;
-use clap::{Arg, ArgMatches, Command, Error};
-use std::alloc::Global;
+use clap::ArgMatches;
 
 /// The help on `board`, with an example.
 const ABOUT_BOARD: &str =
@@ -75,20 +74,19 @@ const ONCE: Argument = Argument {
     about: "Write each file once, and end",
 };
 
-/// Returns the command with its options and help.
-pub(crate) fn command<'a>(alloc: Global) -> Result<Command<'a>, Error> {
-    let folders = Arg::new(alloc, "DIR")
-        .num_args(1..)
-        .required(true)
-        .help("Folders of referees, or folders that have them");
-    let command = described(
-        alloc,
-        "board",
-        "Keep pages of many matches for a web server",
-        ABOUT_BOARD,
-    );
-    with(
-        with_all(alloc, command, &[OUT, TITLE, NUMBERING, ONCE])?,
-        folders,
-    )
-}
+/// The folders of the matches.
+const FOLDERS: Argument = Argument {
+    name: "DIR",
+    kind: Kind::SomeWords,
+    need: Need::Required,
+    about: "Folders of referees, or folders that have them",
+};
+
+/// The command with its options and help.
+pub(crate) const COMMAND: Description = Description {
+    name: "board",
+    about: "Keep pages of many matches for a web server",
+    long_about: ABOUT_BOARD,
+    after_help: None,
+    arguments: &[OUT, TITLE, NUMBERING, ONCE, FOLDERS],
+};

@@ -1,8 +1,7 @@
 //! The options and help of the command that judges many files.
 
-use crate::arguments::{Argument, Kind, Need, described, with, with_all};
-use clap::{Arg, ArgMatches, Command, Error};
-use std::alloc::Global;
+use crate::arguments::{Argument, Description, Kind, Need};
+use clap::ArgMatches;
 
 /// The help on `check`, with an example.
 const ABOUT_CHECK: &str =
@@ -104,15 +103,18 @@ const LIST: Argument = Argument {
     about: "A file with the names of further files, one in each line; - is the standard input",
 };
 
-/// Returns the command with its options and help.
-pub(crate) fn command<'a>(alloc: Global) -> Result<Command<'a>, Error> {
-    let files = Arg::new(alloc, "FILE")
-        .num_args(1..)
-        .required_unless_present(LIST.name)?
-        .help("The files, and folders with --recursive; - is the standard input");
-    let command = described(alloc, "check", "Judge many files", ABOUT_CHECK);
-    with(
-        with_all(alloc, command, &[QUIET, LIST, FORMAT, RECURSIVE])?,
-        files,
-    )
-}
+const FILES: Argument = Argument {
+    name: "FILE",
+    kind: Kind::SomeWords,
+    need: Need::Unless("files-from"),
+    about: "The files, and folders with --recursive; - is the standard input",
+};
+
+/// The command with its options and help.
+pub(crate) const COMMAND: Description = Description {
+    name: "check",
+    about: "Judge many files",
+    long_about: ABOUT_CHECK,
+    after_help: None,
+    arguments: &[QUIET, LIST, FORMAT, RECURSIVE, FILES],
+};

@@ -1,10 +1,9 @@
 //! The options and help of the command that writes a match for other programs.
 
-use crate::arguments::{Argument, Kind, Need, described, with, with_all};
-use crate::batches::{BatchOptions, FORCE, OUT, files_of_batch};
+use crate::arguments::{Argument, Description, Kind, Need};
+use crate::batches::{BatchOptions, FILES, FORCE, OUT};
 use crate::headers::{DATE, EVENT, HeaderOptions, PLACE, WITH_HEADERS};
-use clap::{ArgMatches, Command, Error};
-use std::alloc::Global;
+use clap::ArgMatches;
 
 /// The help on `export`, with an example.
 const ABOUT_EXPORT: &str =
@@ -68,14 +67,11 @@ const O: Argument = Argument {
     about: "The name of player O, 1 to 64 bytes",
 };
 
-/// Returns the command with its options and help.
-pub(crate) fn command<'a>(alloc: Global) -> Result<Command<'a>, Error> {
-    let command = described(
-        alloc,
-        "export",
-        "Write a transcript as a match file for other programs",
-        ABOUT_EXPORT,
-    );
-    let arguments = [X, O, DATE, EVENT, PLACE, OUT, WITH_HEADERS, FORCE];
-    with(with_all(alloc, command, &arguments)?, files_of_batch(alloc))
-}
+/// The command with its options and help.
+pub(crate) const COMMAND: Description = Description {
+    name: "export",
+    about: "Write a transcript as a match file for other programs",
+    long_about: ABOUT_EXPORT,
+    after_help: None,
+    arguments: &[X, O, DATE, EVENT, PLACE, OUT, WITH_HEADERS, FORCE, FILES],
+};

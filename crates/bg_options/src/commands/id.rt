@@ -1,9 +1,7 @@
 //! The options and help of the command that names the standing of a match for other programs.
 
-use crate::arguments::{described, with};
-use crate::shared::misplaced_file;
-use clap::{Command, Error};
-use std::alloc::Global;
+use crate::arguments::Description;
+use crate::shared::MISPLACED_FILE;
 
 /// The help on `id`, with an example.
 const ABOUT_ID: &str =
@@ -19,11 +17,11 @@ an offer to resign have no XGID: then the last line says why. A transcript that 
 the standard error as `check` names it, and nothing is printed. Ends with status 0; with 2 where the
 transcript is refused, and 1 where reading, writing or memory failed.";
 
-/// Returns the command with its options and help.
-pub(crate) fn command<'a>(alloc: Global) -> Result<Command<'a>, Error> {
-    let about = "Name where a match stands for other programs";
-    with(
-        described(alloc, "id", about, ABOUT_ID),
-        misplaced_file(alloc),
-    )
-}
+/// The command with its options and help.
+pub(crate) const COMMAND: Description = Description {
+    name: "id",
+    about: "Name where a match stands for other programs",
+    long_about: ABOUT_ID,
+    after_help: None,
+    arguments: &[MISPLACED_FILE],
+};

@@ -1,12 +1,11 @@
 //! The options and help of the command that imports a match file of another program.
 
-use crate::arguments::{Argument, Kind, Need, described, with, with_all};
-use crate::batches::{BatchOptions, FORCE, OUT, files_of_batch};
+use crate::arguments::{Argument, Description, Kind, Need};
+use crate::batches::{BatchOptions, FILES, FORCE, OUT};
 use crate::headers::WITH_HEADERS;
 use crate::shared::{RULES, rules_in};
 use bg_match::Rules;
-use clap::{ArgMatches, Command, Error};
-use std::alloc::Global;
+use clap::ArgMatches;
 
 /// The help on `import`, with an example.
 const ABOUT_IMPORT: &str = "Take over a match file of another program: bg_relay import < FILE.mat
@@ -69,14 +68,11 @@ pub(crate) const HEADERS: Argument = Argument {
     about: "Write names, date, event and place of the match into this file",
 };
 
-/// Returns the command with its options and help.
-pub(crate) fn command<'a>(alloc: Global) -> Result<Command<'a>, Error> {
-    let command = described(
-        alloc,
-        "import",
-        "Take over a match file of another program",
-        ABOUT_IMPORT,
-    );
-    let arguments = [RULES, HEADERS, OUT, WITH_HEADERS, FORCE];
-    with(with_all(alloc, command, &arguments)?, files_of_batch(alloc))
-}
+/// The command with its options and help.
+pub(crate) const COMMAND: Description = Description {
+    name: "import",
+    about: "Take over a match file of another program",
+    long_about: ABOUT_IMPORT,
+    after_help: None,
+    arguments: &[RULES, HEADERS, OUT, WITH_HEADERS, FORCE, FILES],
+};

@@ -1,9 +1,7 @@
 //! The options and help of the command that judges a transcript.
 
-use crate::arguments::{described, with};
-use crate::shared::misplaced_file;
-use clap::{Command, Error};
-use std::alloc::Global;
+use crate::arguments::Description;
+use crate::shared::MISPLACED_FILE;
 
 /// The help on `judge`, with a transcript and what it prints for it.
 const ABOUT_JUDGE: &str = "Judge the transcript of a match on standard input: bg_relay judge < FILE
@@ -30,13 +28,11 @@ Where line 1 is refused it prints that line alone, and for an input of more than
 `refused: input too long`. Ends with status 0 where the transcript is good, 2 where it is refused,
 and 1 where reading, writing or memory failed.";
 
-/// Returns the command with its options and help.
-pub(crate) fn command<'a>(alloc: Global) -> Result<Command<'a>, Error> {
-    let command = described(
-        alloc,
-        "judge",
-        "Judge the transcript of a match on standard input",
-        ABOUT_JUDGE,
-    );
-    with(command, misplaced_file(alloc))
-}
+/// The command with its options and help.
+pub(crate) const COMMAND: Description = Description {
+    name: "judge",
+    about: "Judge the transcript of a match on standard input",
+    long_about: ABOUT_JUDGE,
+    after_help: None,
+    arguments: &[MISPLACED_FILE],
+};

@@ -1,9 +1,7 @@
 //! The options and help of the command that makes the key files of a match.
 
-use crate::arguments::{described, with_all};
+use crate::arguments::Description;
 use crate::shared::{FOLDER, THREE_TERMINALS};
-use clap::{Command, Error};
-use std::alloc::Global;
 
 /// The help on `keys`.
 const ABOUT_KEYS: &str = "Make the key files of a match.\n\
@@ -16,8 +14,11 @@ const ABOUT_KEYS: &str = "Make the key files of a match.\n\
              match, or some key files and no `key-secret`; with 1 where another process plays over DIR, or\n\
              reading, writing or memory failed.";
 
-/// Returns the command with its options and help.
-pub(crate) fn command<'a>(alloc: Global) -> Result<Command<'a>, Error> {
-    let command = described(alloc, "keys", "Make the key files of a match", ABOUT_KEYS);
-    with_all(alloc, command.after_help(THREE_TERMINALS), &[FOLDER])
-}
+/// The command with its options and help.
+pub(crate) const COMMAND: Description = Description {
+    name: "keys",
+    about: "Make the key files of a match",
+    long_about: ABOUT_KEYS,
+    after_help: Some(THREE_TERMINALS),
+    arguments: &[FOLDER],
+};

@@ -1,8 +1,7 @@
 //! The options and help of the command that lists matches.
 
-use crate::arguments::{Argument, Kind, Need, described, with, with_all};
-use clap::{Arg, ArgMatches, Command, Error};
-use std::alloc::Global;
+use crate::arguments::{Argument, Description, Kind, Need};
+use clap::ArgMatches;
 
 /// The help on `list`, with an example.
 const ABOUT_LIST: &str =
@@ -58,17 +57,19 @@ const FORMAT: Argument = Argument {
     about: "How: text for people, or an object of JSON in each line for programs",
 };
 
-/// Returns the command with its options and help.
-pub(crate) fn command<'a>(alloc: Global) -> Result<Command<'a>, Error> {
-    let folders = Arg::new(alloc, "DIR")
-        .num_args(1..)
-        .required(true)
-        .help("Folders of referees, or folders that have them");
-    let command = described(
-        alloc,
-        "list",
-        "List matches and where they stand",
-        ABOUT_LIST,
-    );
-    with(with_all(alloc, command, &[FORMAT])?, folders)
-}
+/// The folders of the matches.
+const FOLDERS: Argument = Argument {
+    name: "DIR",
+    kind: Kind::SomeWords,
+    need: Need::Required,
+    about: "Folders of referees, or folders that have them",
+};
+
+/// The command with its options and help.
+pub(crate) const COMMAND: Description = Description {
+    name: "list",
+    about: "List matches and where they stand",
+    long_about: ABOUT_LIST,
+    after_help: None,
+    arguments: &[FORMAT, FOLDERS],
+};

@@ -1,13 +1,12 @@
 //! The options and help of the command that makes a match between processes.
 
-use crate::arguments::{Argument, Kind, Need, described, with_all};
+use crate::arguments::{Argument, Description, Kind, Need};
 use crate::shared::{
     FOLDER, LENGTH, NAME_O, NAME_X, RULES, THREE_TERMINALS, byte_in, names_of, number_in, rules_in,
 };
 use bg_match::Terms;
 use bg_system::{HIGHEST_PORT, LOWEST_PORT, Names};
-use clap::{ArgMatches, Command, Error};
-use std::alloc::Global;
+use clap::ArgMatches;
 
 /// The help on `new`.
 const ABOUT_NEW: &str = "Make a match between processes.\n\
@@ -64,9 +63,11 @@ const PORT: Argument = Argument {
     about: "The port of the referee on 127.0.0.1, below those of all others: 1024 to 65280",
 };
 
-/// Returns the command with its options and help.
-pub(crate) fn command<'a>(alloc: Global) -> Result<Command<'a>, Error> {
-    let command = described(alloc, "new", "Make a match between processes", ABOUT_NEW);
-    let arguments = [LENGTH, RULES, PORT, FOLDER, NAME_X, NAME_O];
-    with_all(alloc, command.after_help(THREE_TERMINALS), &arguments)
-}
+/// The command with its options and help.
+pub(crate) const COMMAND: Description = Description {
+    name: "new",
+    about: "Make a match between processes",
+    long_about: ABOUT_NEW,
+    after_help: Some(THREE_TERMINALS),
+    arguments: &[LENGTH, RULES, PORT, FOLDER, NAME_X, NAME_O],
+};

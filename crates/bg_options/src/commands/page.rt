@@ -1,14 +1,13 @@
 //! The options and help of the command that makes a page of a transcript.
 
-use crate::arguments::{Argument, Kind, Need, described, with, with_all};
+use crate::arguments::{Argument, Description, Kind, Need};
 use crate::headers::{DATE, EVENT, HeaderOptions, PLACE};
 use crate::shared::{
-    NAME_O, NAME_X, NUMBERING, TITLE, misplaced_file, names_of, numbering_in, title_in,
+    MISPLACED_FILE, NAME_O, NAME_X, NUMBERING, TITLE, names_of, numbering_in, title_in,
 };
 use bg_picture::Numbering;
 use bg_system::Names;
-use clap::{ArgMatches, Command, Error};
-use std::alloc::Global;
+use clap::ArgMatches;
 
 /// The help on `page`, with an example.
 const ABOUT_PAGE: &str = "Make a page for browsers of the transcript on the standard input.
@@ -60,14 +59,21 @@ const MATCH: Argument = Argument {
     about: "A match file or a key file that has the names of the players",
 };
 
-/// Returns the command with its options and help.
-pub(crate) fn command<'a>(alloc: Global) -> Result<Command<'a>, Error> {
-    let command = described(
-        alloc,
-        "page",
-        "Make a page for browsers of a transcript",
-        ABOUT_PAGE,
-    );
-    let arguments = [TITLE, MATCH, NAME_X, NAME_O, DATE, EVENT, PLACE, NUMBERING];
-    with(with_all(alloc, command, &arguments)?, misplaced_file(alloc))
-}
+/// The command with its options and help.
+pub(crate) const COMMAND: Description = Description {
+    name: "page",
+    about: "Make a page for browsers of a transcript",
+    long_about: ABOUT_PAGE,
+    after_help: None,
+    arguments: &[
+        TITLE,
+        MATCH,
+        NAME_X,
+        NAME_O,
+        DATE,
+        EVENT,
+        PLACE,
+        NUMBERING,
+        MISPLACED_FILE,
+    ],
+};

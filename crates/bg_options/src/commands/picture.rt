@@ -1,11 +1,10 @@
 //! The options and help of the command that draws the standing of a match.
 
-use crate::arguments::{described, with, with_all};
+use crate::arguments::Description;
 use crate::headers::{DATE, EVENT, HeaderOptions, PLACE};
-use crate::shared::{NAME_O, NAME_X, NUMBERING, misplaced_file, numbering_in};
+use crate::shared::{MISPLACED_FILE, NAME_O, NAME_X, NUMBERING, numbering_in};
 use bg_picture::Numbering;
-use clap::{ArgMatches, Command, Error};
-use std::alloc::Global;
+use clap::ArgMatches;
 
 /// The help on `picture`, with an example.
 const ABOUT_PICTURE: &str =
@@ -16,9 +15,9 @@ const ABOUT_PICTURE: &str =
 
 The picture shows the points and their numbers, the checkers, the cube, the dice of the turn, the
 score, and what is to happen next. Below stand the names of the players, and event, place and date, as
-far as --name-x, --name-o, --event, --place and --date give them. A transcript that is refused is named on the standard error as
-`check` names it, and nothing is printed. Ends with status 0; with 2 where the transcript is refused,
-and 1 where reading, writing or memory failed.";
+far as --name-x, --name-o, --event, --place and --date give them. A transcript that is refused is
+named on the standard error as `check` names it, and nothing is printed. Ends with status 0; with 2
+where the transcript is refused, and 1 where reading, writing or memory failed.";
 
 /// The options of `picture`.
 #[derive(Clone, Copy)]
@@ -38,15 +37,19 @@ impl<'a> PictureOptions<'a> {
     }
 }
 
-/// Returns the command with its options and help.
-pub(crate) fn command<'a>(alloc: Global) -> Result<Command<'a>, Error> {
-    let command = described(alloc, "picture", "Draw where a match stands", ABOUT_PICTURE);
-    with(
-        with_all(
-            alloc,
-            command,
-            &[NAME_X, NAME_O, DATE, EVENT, PLACE, NUMBERING],
-        )?,
-        misplaced_file(alloc),
-    )
-}
+/// The command with its options and help.
+pub(crate) const COMMAND: Description = Description {
+    name: "picture",
+    about: "Draw where a match stands",
+    long_about: ABOUT_PICTURE,
+    after_help: None,
+    arguments: &[
+        NAME_X,
+        NAME_O,
+        DATE,
+        EVENT,
+        PLACE,
+        NUMBERING,
+        MISPLACED_FILE,
+    ],
+};

@@ -1,10 +1,9 @@
 //! The options and help of the command of a person who plays at a terminal.
 
-use crate::arguments::{Argument, Kind, Need, described, with_all};
+use crate::arguments::{Argument, Description, Kind, Need};
 use crate::shared::{FOLDER, MATCH, PLAYER, THREE_TERMINALS, number_in, player_in};
 use bg_board::Player;
-use clap::{ArgMatches, Command, Error};
-use std::alloc::Global;
+use clap::ArgMatches;
 
 /// The help on `play`.
 const ABOUT_PLAY: &str = "Play a match at this terminal, until it is over or you quit.\n\
@@ -75,12 +74,11 @@ const FORCED: Argument = Argument {
     about: "Play a turn at once where it is the only legal one",
 };
 
-/// Returns the command with its options and help.
-pub(crate) fn command<'a>(alloc: Global) -> Result<Command<'a>, Error> {
-    let command = described(alloc, "play", "Play a match at this terminal", ABOUT_PLAY);
-    with_all(
-        alloc,
-        command.after_help(THREE_TERMINALS),
-        &[PLAYER, MATCH, FOLDER, COLUMNS, FORCED],
-    )
-}
+/// The command with its options and help.
+pub(crate) const COMMAND: Description = Description {
+    name: "play",
+    about: "Play a match at this terminal",
+    long_about: ABOUT_PLAY,
+    after_help: Some(THREE_TERMINALS),
+    arguments: &[PLAYER, MATCH, FOLDER, COLUMNS, FORCED],
+};

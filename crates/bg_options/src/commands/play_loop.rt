@@ -1,10 +1,9 @@
 //! The options and help of the command that plays a match over sockets and files.
 
-use crate::arguments::{Argument, Kind, Need, described, with_all};
+use crate::arguments::{Argument, Description, Kind, Need};
 use crate::shared::{LENGTH, RULES, SEED, byte_in, number_in, rules_in, seed_in};
 use bg_match::Rules;
-use clap::{ArgMatches, Command, Error};
-use std::alloc::Global;
+use clap::ArgMatches;
 
 /// The help on `loop`.
 const ABOUT_LOOP: &str = "Play an automatic match over UDP sockets and files.\n\
@@ -59,13 +58,11 @@ const FOLDER: Argument = Argument {
     about: "The folder of the saved files, which must exist",
 };
 
-/// Returns the command with its options and help.
-pub(crate) fn command<'a>(alloc: Global) -> Result<Command<'a>, Error> {
-    let command = described(
-        alloc,
-        "loop",
-        "Play an automatic match over UDP sockets and files",
-        ABOUT_LOOP,
-    );
-    with_all(alloc, command, &[SEED, LENGTH, RULES, ROUNDS, FOLDER])
-}
+/// The command with its options and help.
+pub(crate) const COMMAND: Description = Description {
+    name: "loop",
+    about: "Play an automatic match over UDP sockets and files",
+    long_about: ABOUT_LOOP,
+    after_help: None,
+    arguments: &[SEED, LENGTH, RULES, ROUNDS, FOLDER],
+};

@@ -1,9 +1,8 @@
 //! The options and help of the command that rebuilds a referee's folder from what others hold.
 
-use crate::arguments::{Argument, Kind, Need, described, with, with_all};
+use crate::arguments::{Argument, Description, Kind, Need};
 use crate::shared::FOLDER;
-use clap::{Arg, ArgMatches, Command, Error};
-use std::alloc::Global;
+use clap::ArgMatches;
 
 /// The help on `recover`, with an example.
 const ABOUT_RECOVER: &str =
@@ -85,15 +84,18 @@ const O: Argument = Argument {
     about: "The folder of the seat of O",
 };
 
-/// Returns the command with its options and help.
-pub(crate) fn command<'a>(alloc: Global) -> Result<Command<'a>, Error> {
-    let transcripts = Arg::new(alloc, "TRANSCRIPT")
-        .num_args(0..)
-        .help("Transcripts of the match; - is the standard input");
-    let about = "Make a referee's folder from what others hold";
-    let command = described(alloc, "recover", about, ABOUT_RECOVER);
-    with(
-        with_all(alloc, command, &[MATCH, KEYS, X, O, FOLDER])?,
-        transcripts,
-    )
-}
+const TRANSCRIPTS: Argument = Argument {
+    name: "TRANSCRIPT",
+    kind: Kind::Words,
+    need: Need::Optional,
+    about: "Transcripts of the match; - is the standard input",
+};
+
+/// The command with its options and help.
+pub(crate) const COMMAND: Description = Description {
+    name: "recover",
+    about: "Make a referee's folder from what others hold",
+    long_about: ABOUT_RECOVER,
+    after_help: None,
+    arguments: &[MATCH, KEYS, X, O, FOLDER, TRANSCRIPTS],
+};

@@ -1,9 +1,8 @@
 //! The options and help of the command that runs the referee of a match.
 
-use crate::arguments::{described, with_all};
+use crate::arguments::Description;
 use crate::shared::{FOLDER, QUIET_LOG, THREE_TERMINALS};
-use clap::{ArgMatches, Command, Error};
-use std::alloc::Global;
+use clap::ArgMatches;
 
 /// The help on `referee`.
 const ABOUT_REFEREE: &str = "Run the referee of the match in DIR until it is over.\n\
@@ -31,17 +30,11 @@ impl<'a> RefereeOptions<'a> {
     }
 }
 
-/// Returns the command with its options and help.
-pub(crate) fn command<'a>(alloc: Global) -> Result<Command<'a>, Error> {
-    let command = described(
-        alloc,
-        "referee",
-        "Run the referee of a match until it is over",
-        ABOUT_REFEREE,
-    );
-    with_all(
-        alloc,
-        command.after_help(THREE_TERMINALS),
-        &[FOLDER, QUIET_LOG],
-    )
-}
+/// The command with its options and help.
+pub(crate) const COMMAND: Description = Description {
+    name: "referee",
+    about: "Run the referee of a match until it is over",
+    long_about: ABOUT_REFEREE,
+    after_help: Some(THREE_TERMINALS),
+    arguments: &[FOLDER, QUIET_LOG],
+};

@@ -1,10 +1,9 @@
 //! The options and help of the command that plays a script.
 
-use crate::arguments::{described, with, with_all};
-use crate::shared::{LENGTH, RULES, WATCHERS, byte_in, misplaced_file, rules_in};
+use crate::arguments::Description;
+use crate::shared::{LENGTH, MISPLACED_FILE, RULES, WATCHERS, byte_in, rules_in};
 use bg_match::Terms;
-use clap::{ArgMatches, Command, Error};
-use std::alloc::Global;
+use clap::ArgMatches;
 
 /// The help on `script`.
 const ABOUT_SCRIPT: &str = "Let the events on standard input happen to a match in memory.\n\
@@ -37,16 +36,11 @@ impl ScriptOptions {
     }
 }
 
-/// Returns the command with its options and help.
-pub(crate) fn command<'a>(alloc: Global) -> Result<Command<'a>, Error> {
-    let command = described(
-        alloc,
-        "script",
-        "Let the events on standard input happen to a match in memory",
-        ABOUT_SCRIPT,
-    );
-    with(
-        with_all(alloc, command, &[LENGTH, RULES, WATCHERS])?,
-        misplaced_file(alloc),
-    )
-}
+/// The command with its options and help.
+pub(crate) const COMMAND: Description = Description {
+    name: "script",
+    about: "Let the events on standard input happen to a match in memory",
+    long_about: ABOUT_SCRIPT,
+    after_help: None,
+    arguments: &[LENGTH, RULES, WATCHERS, MISPLACED_FILE],
+};

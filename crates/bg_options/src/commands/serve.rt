@@ -1,9 +1,8 @@
 //! The options and help of the command that serves matches to browsers.
 
-use crate::arguments::{Argument, Kind, Need, described, with_all};
+use crate::arguments::{Argument, Description, Kind, Need};
 use crate::shared::number_in;
-use clap::{ArgMatches, Command, Error};
-use std::alloc::Global;
+use clap::ArgMatches;
 
 /// The help on `serve`.
 const ABOUT_SERVE: &str = "Let people make matches, play and watch in a browser.\n\
@@ -63,13 +62,11 @@ const ACCESS_LOG: Argument = Argument {
     about: "Say each request too: its method, path and status",
 };
 
-/// Returns the command with its options and help.
-pub(crate) fn command<'a>(alloc: Global) -> Result<Command<'a>, Error> {
-    let command = described(
-        alloc,
-        "serve",
-        "Let people play and watch matches in a browser",
-        ABOUT_SERVE,
-    );
-    with_all(alloc, command, &[FOLDER, PORT, ACCESS_LOG])
-}
+/// The command with its options and help.
+pub(crate) const COMMAND: Description = Description {
+    name: "serve",
+    about: "Let people play and watch matches in a browser",
+    long_about: ABOUT_SERVE,
+    after_help: None,
+    arguments: &[FOLDER, PORT, ACCESS_LOG],
+};

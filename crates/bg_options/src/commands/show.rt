@@ -1,8 +1,7 @@
 //! The options and help of the command that shows saved files.
 
-use crate::arguments::{Argument, Kind, Need, described, with, with_all};
-use clap::{ArgMatches, Command, Error};
-use std::alloc::Global;
+use crate::arguments::{Argument, Description, Kind, Need};
+use clap::ArgMatches;
 
 /// The help on `show`.
 const ABOUT_SHOW: &str = "Show what saved files hold: the two of a party, or the six of a folder.
@@ -46,7 +45,7 @@ impl<'a> ShowOptions<'a> {
 const TRANSCRIPT: Argument = Argument {
     name: "transcript",
     kind: Kind::Flag,
-    need: Need::Optional,
+    need: Need::With("FILE1"),
     about: "Print the transcript of what the two files restore",
 };
 
@@ -64,9 +63,11 @@ const FILE1: Argument = Argument {
     about: "The file of the odd saves",
 };
 
-/// Returns the command with its options and help.
-pub(crate) fn command<'a>(alloc: Global) -> Result<Command<'a>, Error> {
-    let transcript = TRANSCRIPT.described(alloc).requires_arg(FILE1.name)?;
-    let command = described(alloc, "show", "Show what saved files hold", ABOUT_SHOW);
-    with_all(alloc, with(command, transcript)?, &[FILE0, FILE1])
-}
+/// The command with its options and help.
+pub(crate) const COMMAND: Description = Description {
+    name: "show",
+    about: "Show what saved files hold",
+    long_about: ABOUT_SHOW,
+    after_help: None,
+    arguments: &[TRANSCRIPT, FILE0, FILE1],
+};

@@ -1,10 +1,9 @@
 //! The options and help of the command that plays an automatic match in memory.
 
-use crate::arguments::{Argument, Kind, Need, described, with_all};
+use crate::arguments::{Argument, Description, Kind, Need};
 use crate::shared::{LENGTH, RULES, SEED, WATCHERS, byte_in, number_in, rules_in, seed_in};
 use bg_match::Rules;
-use clap::{ArgMatches, Command, Error};
-use std::alloc::Global;
+use clap::ArgMatches;
 
 /// The help on `sim`.
 const ABOUT_SIM: &str = "Play an automatic match in memory.\n\
@@ -52,8 +51,11 @@ const STEPS: Argument = Argument {
     about: "How many events happen: 0 to 1000000",
 };
 
-/// Returns the command with its options and help.
-pub(crate) fn command<'a>(alloc: Global) -> Result<Command<'a>, Error> {
-    let command = described(alloc, "sim", "Play an automatic match in memory", ABOUT_SIM);
-    with_all(alloc, command, &[SEED, LENGTH, RULES, WATCHERS, STEPS])
-}
+/// The command with its options and help.
+pub(crate) const COMMAND: Description = Description {
+    name: "sim",
+    about: "Play an automatic match in memory",
+    long_about: ABOUT_SIM,
+    after_help: None,
+    arguments: &[SEED, LENGTH, RULES, WATCHERS, STEPS],
+};

@@ -1,10 +1,9 @@
 //! The options and help of the command that watches a match.
 
-use crate::arguments::{Argument, Kind, Need, described, with_all};
+use crate::arguments::{Argument, Description, Kind, Need};
 use crate::shared::{MATCH, NUMBERING, QUIET_LOG, THREE_TERMINALS, TITLE, numbering_in, title_in};
 use bg_picture::Numbering;
-use clap::{ArgMatches, Command, Error};
-use std::alloc::Global;
+use clap::ArgMatches;
 
 /// The help on `watch`.
 const ABOUT_WATCH: &str =
@@ -56,15 +55,26 @@ impl<'a> WatchOptions<'a> {
     }
 }
 
-/// Returns an option for the path of a file that is kept of the match.
-const fn kept(name: &'static str, about: &'static str) -> Argument {
-    Argument {
-        name,
-        kind: Kind::Text("FILE"),
-        need: Need::Optional,
-        about,
-    }
-}
+const BOARD: Argument = Argument {
+    name: "board",
+    kind: Kind::Text("FILE"),
+    need: Need::Optional,
+    about: "A file that has the board, always whole",
+};
+
+const TRANSCRIPT: Argument = Argument {
+    name: "transcript",
+    kind: Kind::Text("FILE"),
+    need: Need::Optional,
+    about: "A file that has the transcript, always whole",
+};
+
+const PAGE: Argument = Argument {
+    name: "page",
+    kind: Kind::Text("FILE"),
+    need: Need::Optional,
+    about: "A file that has a page for browsers, always whole; they show it anew by themselves",
+};
 
 /// The option to continue where a file can't be written.
 const GO_ON: Argument = Argument {
@@ -82,17 +92,13 @@ const PLAIN: Argument = Argument {
     about: "Print the transcript at a terminal too, in place of the board",
 };
 
-/// Returns the command with its options and help.
-pub(crate) fn command<'a>(alloc: Global) -> Result<Command<'a>, Error> {
-    let board = kept("board", "A file that has the board, always whole");
-    let transcript = kept("transcript", "A file that has the transcript, always whole");
-    let page = kept(
-        "page",
-        "A file that has a page for browsers, always whole; they show it anew by themselves",
-    );
-    let command = described(alloc, "watch", "Watch a match", ABOUT_WATCH);
-    let arguments = [
-        MATCH, board, transcript, page, TITLE, NUMBERING, GO_ON, PLAIN, QUIET_LOG,
-    ];
-    with_all(alloc, command.after_help(THREE_TERMINALS), &arguments)
-}
+/// The command with its options and help.
+pub(crate) const COMMAND: Description = Description {
+    name: "watch",
+    about: "Watch a match",
+    long_about: ABOUT_WATCH,
+    after_help: Some(THREE_TERMINALS),
+    arguments: &[
+        MATCH, BOARD, TRANSCRIPT, PAGE, TITLE, NUMBERING, GO_ON, PLAIN, QUIET_LOG,
+    ],
+};

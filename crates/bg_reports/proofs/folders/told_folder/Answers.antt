@@ -4,7 +4,7 @@ use Rattle.bg_wire.specs.Saved.Restoring.{newer, parts_in}
 use Rattle.bg_text.specs.Boards.BoardText.{line_text}
 use Rattle.bg_reports.specs.Folder.{own, slot_lines, further as further_of}
 use Rattle.bg_reports.specs.Show.{held_of, loaded_of}
-use Rattle.bg_reports.proofs.folders.folder_text.Goals as goal
+use Rattle.bg_reports.proofs.folders.told_folder.Goals as goal
 
 seven : (s0 s1 s2 p0 p1 p2 b : List ℕ)
     → ((((((([] ++ s0) ++ s1) ++ s2) ++ p0) ++ p1) ++ p2) ++ b) ≡ s0 ++ s1 ++ s2 ++ p0 ++ p1 ++ p2 ++ b
@@ -12,9 +12,9 @@ seven s0 s1 s2 p0 p1 p2 b = search rules
 
 pub returns : goal.returns
 returns c =
-    let restored0 = newer (loaded_of c.in_ok-held0.held0.zero) (loaded_of c.in_ok-held0.held0.one) in
-    let restored1 = newer (loaded_of c.in_ok-held1.held1.zero) (loaded_of c.in_ok-held1.held1.one) in
-    let restored2 = newer (loaded_of c.in_ok-held2.held2.zero) (loaded_of c.in_ok-held2.held2.one) in
+    let restored0 = newer (loaded_of c.args.held0.now.zero) (loaded_of c.args.held0.now.one) in
+    let restored1 = newer (loaded_of c.args.held1.now.zero) (loaded_of c.args.held1.now.one) in
+    let restored2 = newer (loaded_of c.args.held2.now.zero) (loaded_of c.args.held2.now.one) in
     let leads : parts_in (option_copied c.further-leader.result)
     ≡ further_of (further_of (own 0 restored0) (own 1 restored1)) (own 2 restored2) =
     rw (c.further-leader.ensures, c.further.ensures, c.own_save-saved0.ensures, c.own_save-saved1.ensures, c.own_save-saved2.ensures) refl in
@@ -23,59 +23,59 @@ returns c =
     let party2 = c.in_ok-put_party-3.ensures in
     let board = c.in_ok-put_leader.ensures in
     let slots0 =
-    slot_lines 0 c.args.referee.now.zero.items c.args.referee.now.one.items (held_of c.in_ok-held0.held0.zero)
-    (held_of c.in_ok-held0.held0.one) in
+    slot_lines 0 c.args.referee.now.zero.items c.args.referee.now.one.items (held_of c.args.held0.now.zero)
+    (held_of c.args.held0.now.one) in
     let slots1 =
-    slot_lines 1 c.args.x.now.zero.items c.args.x.now.one.items (held_of c.in_ok-held1.held1.zero)
-    (held_of c.in_ok-held1.held1.one) in
+    slot_lines 1 c.args.x.now.zero.items c.args.x.now.one.items (held_of c.args.held1.now.zero)
+    (held_of c.args.held1.now.one) in
     let slots2 =
-    slot_lines 2 c.args.o.now.zero.items c.args.o.now.one.items (held_of c.in_ok-held2.held2.zero)
-    (held_of c.in_ok-held2.held2.one) in
+    slot_lines 2 c.args.o.now.zero.items c.args.o.now.one.items (held_of c.args.held2.now.zero)
+    (held_of c.args.held2.now.one) in
     record {
-      zero0 = held_of c.in_ok-held0.held0.zero;
-      zero1 = held_of c.in_ok-held0.held0.one;
-      one0 = held_of c.in_ok-held1.held1.zero;
-      one1 = held_of c.in_ok-held1.held1.one;
-      two0 = held_of c.in_ok-held2.held2.zero;
-      two1 = held_of c.in_ok-held2.held2.one;
+      zero0 = held_of c.args.held0.now.zero;
+      zero1 = held_of c.args.held0.now.one;
+      one0 = held_of c.args.held1.now.zero;
+      one1 = held_of c.args.held1.now.one;
+      two0 = held_of c.args.held2.now.zero;
+      two1 = held_of c.args.held2.now.one;
       referee = own 0 restored0;
       x = own 1 restored1;
       o = own 2 restored2;
       held_by_referee = record {
-        first = c.in_ok-held0.ensures.first;
-        second = c.in_ok-held0.ensures.second;
+        first = c.requires.of_referee.first;
+        second = c.requires.of_referee.second;
         restored = restored0;
         restores = record {
-          first = loaded_of c.in_ok-held0.held0.zero;
-          second = loaded_of c.in_ok-held0.held0.one;
-          first_loads = c.in_ok-held0.ensures.first_loads;
-          second_loads = c.in_ok-held0.ensures.second_loads;
+          first = loaded_of c.args.held0.now.zero;
+          second = loaded_of c.args.held0.now.one;
+          first_loads = c.requires.of_referee.first_loads;
+          second_loads = c.requires.of_referee.second_loads;
           is_newer = refl;
         };
         is_own = refl;
       };
       held_by_x = record {
-        first = c.in_ok-held1.ensures.first;
-        second = c.in_ok-held1.ensures.second;
+        first = c.requires.of_x.first;
+        second = c.requires.of_x.second;
         restored = restored1;
         restores = record {
-          first = loaded_of c.in_ok-held1.held1.zero;
-          second = loaded_of c.in_ok-held1.held1.one;
-          first_loads = c.in_ok-held1.ensures.first_loads;
-          second_loads = c.in_ok-held1.ensures.second_loads;
+          first = loaded_of c.args.held1.now.zero;
+          second = loaded_of c.args.held1.now.one;
+          first_loads = c.requires.of_x.first_loads;
+          second_loads = c.requires.of_x.second_loads;
           is_newer = refl;
         };
         is_own = refl;
       };
       held_by_o = record {
-        first = c.in_ok-held2.ensures.first;
-        second = c.in_ok-held2.ensures.second;
+        first = c.requires.of_o.first;
+        second = c.requires.of_o.second;
         restored = restored2;
         restores = record {
-          first = loaded_of c.in_ok-held2.held2.zero;
-          second = loaded_of c.in_ok-held2.held2.one;
-          first_loads = c.in_ok-held2.ensures.first_loads;
-          second_loads = c.in_ok-held2.ensures.second_loads;
+          first = loaded_of c.args.held2.now.zero;
+          second = loaded_of c.args.held2.now.one;
+          first_loads = c.requires.of_o.first_loads;
+          second_loads = c.requires.of_o.second_loads;
           is_newer = refl;
         };
         is_own = refl;
