@@ -17,6 +17,8 @@ STILL = 0.03
 # A person waits so long for what is to come, and so long for the answer to what he types.
 MOST_SECONDS = 40
 PATIENCE = 60
+# So many faults of what he sees are told, at most.
+MOST_TOLD = 12
 PROMPT = re.compile(r"^your turn, [XO]: ((?:.|\n)*)", re.M)
 # What the legal turns are answered with, and one of them there.
 LISTED = r"turns:|the only turn|can't move"
@@ -197,10 +199,10 @@ class Person:
             is_told = f"the only turn: {wanted[0]} (`m`" in found if wanted[0] else "can't move" in found
         else:
             is_told = f"{len(wanted)} turns:" in new and turns == wanted[:len(turns)]
-        if not is_told:
+        if not is_told and len(self.wrong) < MOST_TOLD:
             self.wrong.append(f"{self.player} sees the turns {new!r}, and not {wanted}")
         pips, told = Seen(self.player, self.screen).pips(), re.findall(r"^pips: .*$", self.screen, re.M)[-1]
-        if list(map(int, re.findall(r"\d+", told))) != pips:
+        if list(map(int, re.findall(r"\d+", told))) != pips and len(self.wrong) < MOST_TOLD:
             self.wrong.append(f"{self.player} sees `{told}`, where by the board it is {pips}")
 
     def go_on(self):
