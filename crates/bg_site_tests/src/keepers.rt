@@ -8,23 +8,64 @@ use bg_world::{DeviceFault, Keeper, Keepers, count_failed};
 use std::alloc::Global;
 use std::cell::RefCell;
 
+/// The slots of a party.
+#[derive(Drop)]
+pub(crate) struct Slots {
+    alloc: Global,
+    zero: RefCell<Vec<u8>>,
+    one: RefCell<Vec<u8>>,
+}
+
+impl Slots {
+    fn new(alloc: Global) -> Slots {
+        Slots {
+            alloc,
+            zero: RefCell::new(Vec::new(alloc)),
+            one: RefCell::new(Vec::new(alloc)),
+        }
+    }
+
+    fn text(&self, slot: Slot) -> &RefCell<Vec<u8>> {
+        match slot {
+            Slot::Zero => &self.zero,
+            Slot::One => &self.one,
+        }
+    }
+
+    fn put(&self, slot: Slot, bytes: &[u8]) -> Result<(), DeviceFault> {
+        let bytes = bytes.to_vec(self.alloc)?;
+        match self.text(slot).try_borrow_mut() {
+            Ok(mut text) => {
+                *text = bytes;
+                Ok(())
+            }
+            Err(_) => Err(DeviceFault::Failed),
+        }
+    }
+
+    fn get(&self, slot: Slot) -> Result<Vec<u8>, DeviceFault> {
+        match self.text(slot).try_borrow() {
+            Ok(text) => Ok(text.as_slice().to_vec(self.alloc)?),
+            Err(_) => Err(DeviceFault::Failed),
+        }
+    }
+}
+
 /// The slots of three parties, and how many writes are to succeed before one fails.
 #[derive(Drop)]
 pub(crate) struct Shelf {
-    alloc: Global,
-    texts: RefCell<[[Vec<u8>; 2]; 3]>,
+    referee: Slots,
+    x: Slots,
+    o: Slots,
     good: RefCell<u32>,
 }
 
 impl Shelf {
     pub(crate) fn new(alloc: Global) -> Shelf {
         Shelf {
-            alloc,
-            texts: RefCell::new([
-                [Vec::new(alloc), Vec::new(alloc)],
-                [Vec::new(alloc), Vec::new(alloc)],
-                [Vec::new(alloc), Vec::new(alloc)],
-            ]),
+            referee: Slots::new(alloc),
+            x: Slots::new(alloc),
+            o: Slots::new(alloc),
             good: RefCell::new(u32::MAX),
         }
     }
@@ -38,9 +79,9 @@ impl Shelf {
 
     pub(crate) fn keepers(&self) -> Keepers<ShelfKeeper<'_>> {
         Keepers {
-            referee: ShelfKeeper::new(self, 0),
-            x: ShelfKeeper::new(self, 1),
-            o: ShelfKeeper::new(self, 2),
+            referee: ShelfKeeper::new(self, &self.referee),
+            x: ShelfKeeper::new(self, &self.x),
+            o: ShelfKeeper::new(self, &self.o),
         }
     }
 
@@ -56,29 +97,11 @@ impl Shelf {
         true
     }
 
-    fn put(&self, party: usize, slot: Slot, bytes: &[u8]) -> Result<(), DeviceFault> {
+    fn put(&self, slots: &Slots, slot: Slot, bytes: &[u8]) -> Result<(), DeviceFault> {
         if !self.may_write() {
             return Err(DeviceFault::Failed);
         }
-        let Ok(mut texts) = self.texts.try_borrow_mut() else {
-            return Err(DeviceFault::Failed);
-        };
-        texts[party % 3][index_of(slot)] = bytes.to_vec(self.alloc)?;
-        Ok(())
-    }
-
-    fn get(&self, party: usize, slot: Slot) -> Result<Vec<u8>, DeviceFault> {
-        let Ok(texts) = self.texts.try_borrow() else {
-            return Err(DeviceFault::Failed);
-        };
-        Ok(texts[party % 3][index_of(slot)].clone()?)
-    }
-}
-
-fn index_of(slot: Slot) -> usize {
-    match slot {
-        Slot::Zero => 0,
-        Slot::One => 1,
+        slots.put(slot, bytes)
     }
 }
 
@@ -86,7 +109,7 @@ fn index_of(slot: Slot) -> usize {
 #[derive(Drop)]
 pub(crate) struct ShelfKeeper<'a> {
     shelf: &'a Shelf,
-    party: usize,
+    slots: &'a Slots,
     writes: History,
     reads: History,
     faults: History,
@@ -94,10 +117,10 @@ pub(crate) struct ShelfKeeper<'a> {
 }
 
 impl<'a> ShelfKeeper<'a> {
-    fn new(shelf: &'a Shelf, party: usize) -> ShelfKeeper<'a> {
+    fn new(shelf: &'a Shelf, slots: &'a Slots) -> ShelfKeeper<'a> {
         ShelfKeeper {
             shelf,
-            party,
+            slots,
             writes: History::new(),
             reads: History::new(),
             faults: History::new(),
@@ -123,14 +146,14 @@ impl<'a> Keeper for ShelfKeeper<'a> {
 
     fn write(&mut self, slot: Slot, bytes: &[u8]) -> Result<(), DeviceFault> {
         self.writes = self.writes.marked();
-        self.written = self.shelf.put(self.party, slot, bytes);
+        self.written = self.shelf.put(self.slots, slot, bytes);
         self.faults = count_failed(&self.faults, &self.written);
         self.written
     }
 
     fn read(&mut self, slot: Slot) -> Result<Vec<u8>, DeviceFault> {
         self.reads = self.reads.marked();
-        let result = self.shelf.get(self.party, slot);
+        let result = self.slots.get(slot);
         self.faults = count_failed(&self.faults, &result);
         result
     }

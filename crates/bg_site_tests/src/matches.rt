@@ -108,7 +108,7 @@ fn numbers_and_actions_that_do_not_follow(rt: HostRuntime) -> Result<(), Fail> {
         assert!(rt; hosted.act(Player::X, number, Action::Roll) == Acted::OtherEntry);
     }
     for player in [Player::X, Player::O] {
-        let acted = hosted.act(player, told + 1, Action::Take);
+        let acted = hosted.act(player, told.saturating_add(1), Action::Take);
         assert!(rt; matches!(acted, Acted::Refused(_)));
     }
     assert!(rt; hosted.told() == told);
