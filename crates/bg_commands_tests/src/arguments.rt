@@ -192,9 +192,14 @@ fn batches_that_are_refused(rt: HostRuntime) -> Result<(), Fail> {
 /// A text above a match is as clean as a name.
 #[test]
 fn headers_that_are_refused(rt: HostRuntime) -> Result<(), Fail> {
-    for option in ["x", "o", "date", "event", "place"] {
-        let flag = format!(in rt.alloc(); "--{option}=")?;
-        let words = ["bg_relay", "export", flag.as_str()];
+    for (option, flag) in [
+        ("x", "--x="),
+        ("o", "--o="),
+        ("date", "--date="),
+        ("event", "--event="),
+        ("place", "--place="),
+    ] {
+        let words = ["bg_relay", "export", flag];
         let line = command_line(rt.alloc(), Some("export"))?;
         let matches = line.try_get_matches_from(words.as_slice())?;
         let fault = Request::read(&matches).err();
