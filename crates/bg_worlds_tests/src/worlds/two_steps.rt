@@ -178,7 +178,7 @@ fn saves_of_another_number(rt: HostRuntime) {
     let mut world = world_after(&rt, "an_opening");
     assert!(rt; end(&mut world, 0, 1, Ok(())).is_none(), "none was begun");
     let save = begin(&mut world, 0).expect(&rt, "a save");
-    assert!(rt; save.number == 1 && save.text.len() == 33);
+    assert!(rt; save.number == 1 && save.text.len() == 27);
     assert!(rt; end(&mut world, 0, 2, Ok(())).is_none(), "another number");
     assert!(rt; end(&mut world, 1, 1, Ok(())).is_none(), "another party");
     assert!(rt; end(&mut world, 3, 1, Ok(())).is_none(), "no party");
