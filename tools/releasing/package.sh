@@ -59,11 +59,11 @@ Depends: $(depends "$1")
 Section: net
 Priority: optional
 Description: $about
- Two players at their terminals, a referee, and up to 253 who watch, follow
- one match of backgammon over datagrams that may be lost, repeated and
- reordered. Any of them may be killed at any moment, and goes on from its
- files. The program also judges transcripts, draws boards, and makes pages of
- matches.
+ Two players, a referee, and up to 253 watchers follow one match of
+ backgammon over datagrams that may be lost, repeated and reordered. Any of
+ them may be killed at any moment, and continues from its files. People play
+ at terminals, or in browsers on a match server. The program also judges
+ transcripts, draws boards, and makes pages of matches.
  .
  $proof
  It needs a processor of x86-64-v2.
