@@ -36,12 +36,12 @@ where
     let failures = Failures::new();
     let file = match_in(rt, folder)?;
     check_writable(rt, folder)?;
-    let (process, waiting, ticking) = begin(rt, folder, &file.table, &failures)?;
+    let (mut process, mut waiting, mut ticking) = begin(rt, folder, &file.table, &failures)?;
     let Some(record) = process.held() else {
         return Err(Ending::Failed);
     };
     let mut logbook = Logbook::begin(rt, is_quiet, REFEREE, &file, record);
-    let reporter = FailureReporter::new(rt, &failures, folder);
+    let mut reporter = FailureReporter::new(rt, &failures, folder);
     let progress = if is_quiet {
         Progress::start(rt, false)
     } else {
@@ -50,10 +50,10 @@ where
     let ended = serve(
         rt,
         saves_of(folder, &file.table),
-        process,
-        waiting,
-        ticking,
-        reporter,
+        &mut process,
+        &mut waiting,
+        &mut ticking,
+        &mut reporter,
         &mut logbook,
         progress,
     );
@@ -139,22 +139,21 @@ where
 fn serve<R>(
     rt: &R,
     saves: OwnSaves<'_>,
-    process: Referee<'_, R>,
-    waiting: Waiting,
-    ticking: Ticking,
-    reporter: FailureReporter<'_, R>,
+    process: &mut Referee<'_, R>,
+    waiting: &mut Waiting,
+    ticking: &mut Ticking,
+    reporter: &mut FailureReporter<'_, R>,
     logbook: &mut Logbook<'_, R>,
     progress: Progress,
 ) -> Result<Ending, Ending>
 where
     R: Net + Files<File = File> + Clock + Eprint + AllocGlobal,
 {
-    let (mut process, mut waiting, mut ticking) = (process, waiting, ticking);
-    let (mut reporter, mut progress) = (reporter, progress);
+    let mut progress = progress;
     let mut told: Number = 0;
     for _ in 0..u64::MAX {
-        let (_, tick) = waited(rt, ticking.next_round(rt, &mut waiting))?;
-        match process.round(tick, &mut reporter) {
+        let (_, tick) = waited(rt, ticking.next_round(rt, waiting))?;
+        match process.round(tick, reporter) {
             Ok(Going::On) => {}
             Ok(Going::Over) => return Ok(Ending::Served),
             Err(outcome) => return Err(stopped(rt, saves, &outcome)),
