@@ -38,6 +38,8 @@ CTRL_D = b"\x04"
 # What is said where a turn is played at once, to who leaves, and below the first lines of the legal turns.
 PLAYED = "the only turn is played: "
 LEFT = "you left the table: the match goes on by the same command"
+# What each line that acts is answered with: the entry that it made.
+MADE = {"r": "roll", "d": "double", "double": "double", "t": "take", "p": "drop", "a": "accept", "n": "reject"}
 MORE = "`more` lists further turns"
 
 
@@ -57,7 +59,8 @@ class Person:
         self.raw, self.screen, self.seen, self.changed, self.wrong = "", "", 0, time.time(), []
         self.awaited, self.typed_turns, self.later, self.prompt = None, [], {}, ""
         self.lives, self.has_undone, self.pages, self.listed, self.typed_at = [], False, 0, "", 0
-        self.behind, self.uses = None, dict.fromkeys(STYLES, 0)
+        self.behind, self.uses, self.acts = None, dict.fromkeys(STYLES, 0), False
+        self.variables = {}
         self.start()
 
     def start(self):
@@ -68,10 +71,10 @@ class Person:
             os.environ.pop("COLUMNS", None)
             if self.exports:
                 os.environ["COLUMNS"] = columns
-            os.environ.update(TERM="xterm", NO_COLOR=self.no_color)
+            os.environ.update(TERM="xterm", NO_COLOR=self.no_color, **self.variables)
             os.execv(command[0], command)
         self.pid, self.status = pid, None
-        self.seen, self.awaited, self.later = len(self.screen), None, {}
+        self.seen, self.awaited, self.later, self.acts = len(self.screen), None, {}, False
         self.lives.append((self.seen, self.size[0]))
         fcntl.ioctl(self.terminal, termios.TIOCSWINSZ, struct.pack("HHHH", self.size[1], self.size[0], 0, 0))
 
@@ -84,28 +87,48 @@ class Person:
     def leave(self, typed):
         """He leaves by what he types, and begins the same command again."""
         self.type(typed)
+        self.end(f"by {typed!r}", 0, LEFT)
+        self.start()
+
+    def be_refused(self, variables):
+        """He leaves, and begins the same command with variables by which it gets no memory: it says so, and ends. He begins it
+        once more without."""
+        self.variables = variables
+        self.leave("quit")
+        self.variables = {}
+        self.end("without memory", 1, "bg_relay: out of memory")
+        self.start()
+
+    def end(self, how, status, wanted):
+        """Waits until his process has ended: with this status, and these words as the last on his screen."""
         until = time.time() + MOST_SECONDS
         while self.status is None and time.time() < until:
             if select.select([self.terminal], [], [], 0.1)[0]:
                 self.read()
         if self.status is None:
-            self.wrong.append(f"{self.player} did not leave by {typed!r}: {self.screen[-300:]!r}")
+            self.wrong.append(f"{self.player} did not leave {how}: {self.screen[-300:]!r}")
             return self.kill()
         os.close(self.terminal)
-        left = self.screen[self.seen:].split()[-len(LEFT.split()):]
-        if self.status != 0 or " ".join(left) != LEFT:
-            self.wrong.append(f"{self.player} left by {typed!r} with status {self.status}, and saw {left}")
-        self.start()
+        left = " ".join(self.screen[self.seen:].split()[-len(wanted.split()):])
+        if self.status != status or left != wanted:
+            self.wrong.append(f"{self.player} left {how} with status {self.status}, and saw {left}")
 
     def is_asked(self):
         """Whether the last thing on his screen is a prompt that he has not answered."""
         return self.awaited is None and self.screen.endswith("\n") and bool(PROMPT.search(self.new()))
+
+    def may_roll(self):
+        """Whether a roll is the first thing that his last prompt offers."""
+        return PROMPT.findall(self.new())[-1].startswith("roll")
 
     def new(self):
         """What came since he typed last, or behind a turn that was played for him."""
         return self.screen[self.seen:].split(PLAYED)[-1]
 
     def read(self):
+        """Reads what has come; what was announced may have been read already."""
+        if not select.select([self.terminal], [], [], 0)[0]:
+            return
         self.changed = time.time()
         try:
             self.raw += os.read(self.terminal, 65536).decode().replace("\r\n", "\n")
@@ -119,6 +142,11 @@ class Person:
         self.seen, self.awaited = len(self.screen), (line, awaited) if awaited else None
         self.typed_at = time.time()
         os.write(self.terminal, CTRL_D if line == "ctrl-D" else f"{line}\n".encode())
+
+    def do(self, line, entry):
+        """Types a line that acts; the screen is to show the entry that it makes."""
+        self.acts = True
+        self.type(line, rf"^{self.player} {entry}\b")
 
     def act(self):
         """Types what the screen asks for behind what was typed last, where it stands still."""
@@ -158,6 +186,10 @@ class Person:
             self.wrong.append(f"{self.player} typed {line!r} and saw {new!r}, and not {pattern!r}")
             if line == "l":
                 return self.type("l", LISTED)
+        if self.acts:
+            # What is to be done next stands below the entry, or comes later.
+            self.acts = False
+            return
         if line in ("l", "legal") and re.search(LISTED, new):
             self.check_listed(new)
         if line == "l" and MORE in " ".join(new.split()):
@@ -169,7 +201,7 @@ class Person:
             self.pages += 1
             self.choose(self.listed)
         elif self.behind:
-            self.type(self.behind)
+            self.do(self.behind, f"resign {self.behind.lower()}")
             self.behind = None
         elif self.later:
             self.go_on_with_part(line)
@@ -186,10 +218,11 @@ class Person:
             self.has_undone = True
             self.type("undo", rf"taken\s+back{PROMPTED}")
         elif tries:
-            self.type(*tries.pop(0))
+            typed, pattern = tries.pop(0)
+            self.type(typed, pattern.replace("PART", first.replace("/", "-")))
         else:
             self.later = {}
-            self.type(rest)
+            self.do(rest, f"move {self.typed_turns[-1]}$")
 
     def check_listed(self, new):
         """Compares the turns that he sees listed, or the first of them, with those that are legal by what he sees."""
@@ -223,16 +256,16 @@ class Person:
                     # Its level is asked for.
                     self.behind = "Gammon"
                     return self.type(line, r"at\s+which\s+level")
-                return self.type(line)
+                return self.do(line, MADE[line])
         answers = {"roll": "r", "take": "t", "accept": "a"}
-        return self.type(answers[kind]) if kind in answers else self.type("l", LISTED)
+        return self.do(answers[kind], MADE[answers[kind]]) if kind in answers else self.type("l", LISTED)
 
     def choose(self, listed):
         """Types one of the first turns that are listed, in the way of those that fit it which he has used least."""
         if "can't move" in listed:
-            return self.type("move")
+            return self.do("move", "move")
         if "the only turn" in listed:
-            return self.type("m")
+            return self.do("m", "move")
         turns = turns_in(listed)[:self.among]
         pips = int(re.findall(rf"^pips: {self.player} \(you\) (\d+)", self.screen, re.M)[-1])
         steps = turns[pips % len(turns)].split(" ")
@@ -244,7 +277,7 @@ class Person:
         if len(lines) > 1:
             self.later[lines[0]] = lines[1]
             return self.type(lines[0], r"so\s+far " + steps[0].replace("*", ""))
-        return self.type(lines[0])
+        return self.do(lines[0], f"move {self.typed_turns[-1]}$")
 
 
 def turns_in(listed):
@@ -270,8 +303,9 @@ def path(steps):
 
 
 def merged(steps):
-    """One movement for two steps of one checker, where the first hits nothing."""
-    if is_chain(steps) and len(steps) == 2 and "*" not in steps[0]:
+    """One movement for two steps of one checker, where the first hits nothing and the second does not bear off: one die
+    might do that alone."""
+    if is_chain(steps) and len(steps) == 2 and "*" not in steps[0] and "off" not in steps[1]:
         return [f"{steps[0].split('-')[0]}/{steps[1].split('-')[1]}".replace("*", "")]
     return None
 

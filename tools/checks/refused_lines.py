@@ -208,5 +208,26 @@ def which_way(player, kind, screen):
     return None
 
 
+def one_die_or_both(player, kind, screen):
+    """A checker that is borne off by the larger die, or by both dice: a turn of each kind is named."""
+    board = seen(player, kind, screen)
+    turns = [steps for steps, _, _ in board.turns()] if board and board.dice[0] != board.dice[1] else []
+    for steps in turns:
+        if len(steps) == 2 and steps[0][1] == steps[1][0] and steps[1][1] == OFF:
+            step = (steps[0][0], OFF)
+            begun = [turn for turn in turns if len(turn) == 2 and turn[0] == step]
+            if begun:
+                one, other = (shown(turn).replace(" ", r"\s+") for turn in (steps, begun[0]))
+                return shown([step], "/"), rf"which\s+way\?\s+Type\s+{one}\s+or\s+{other}$"
+    return None
+
+
+def at_cap(player, kind, screen):
+    cubes = re.findall(r"^cube: (\d+) (.*)$", screen, re.M)
+    if kind == "roll" and cubes and cubes[-1] == ("128", f"of {player} (you)"):
+        return "double", r"the cube shows 128, so nobody can double"
+    return None
+
+
 BY_BOARD = (held, bar_first, not_home, higher, wrong_hits, other_cube, no_die, no_bar, which_way)
 BY_TURN = (larger_die, both_dice)

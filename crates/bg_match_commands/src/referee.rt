@@ -3,7 +3,7 @@
 use bg_command_parts::{Asked, FailureReporter, Logbook, OwnSaves, socket_of, stopped};
 use bg_console::{
     Progress, check_folder, check_writable, failed_at, has_key_secret, key_files_of, lock_of,
-    match_of, no_memory, say_failures, tell_if_open, waited, waiting_for, wrong,
+    match_of, no_memory, say, say_failures, tell_if_open, waited, waiting_for, wrong,
 };
 use bg_match::Number;
 use bg_options::RefereeOptions;
@@ -15,12 +15,27 @@ use bg_reports::Ending;
 use bg_wire::REFEREE;
 use bg_world::Outcome;
 use std::fs::File;
+use std::io;
 use std::net::Net;
 use std::rt::Files;
 use std::time::Clock;
 
 /// The message on what isn't a folder.
 const NO_FOLDER: &str = " is no folder: name the one that `bg_relay new` made";
+
+/// The messages on files of the folder that can't be read, and what to do about each.
+const MATCH_REMEDY: &str =
+    "name the folder that `bg_relay new` made; if its file `match` is lost, any key file of the match, without its last line, is one";
+
+const NO_SECRET: &str = "/secret could not be read";
+
+const SECRET_REMEDY: &str =
+    "put that file back: the dice go by it; if it is lost, `bg_relay recover` makes another folder";
+
+const NO_KEY_SECRET: &str = "/key-secret could not be read";
+
+const KEY_SECRET_REMEDY: &str =
+    "let this user read it, or put it back; if it is lost, remove it: the key files in the folder do as well";
 
 type Referee<'a, R> = RefereeProcess<PartySocket<'a, R>, FileKeeper<'a, R>>;
 
@@ -36,12 +51,12 @@ where
     let failures = Failures::new();
     let file = match_in(rt, folder)?;
     check_writable(rt, folder)?;
-    let (process, waiting, ticking) = begin(rt, folder, &file.table, &failures)?;
+    let (mut process, mut waiting, mut ticking) = begin(rt, folder, &file.table, &failures)?;
     let Some(record) = process.held() else {
         return Err(Ending::Failed);
     };
     let mut logbook = Logbook::begin(rt, is_quiet, REFEREE, &file, record);
-    let reporter = FailureReporter::new(rt, &failures, folder);
+    let mut reporter = FailureReporter::new(rt, &failures, folder);
     let progress = if is_quiet {
         Progress::start(rt, false)
     } else {
@@ -50,10 +65,10 @@ where
     let ended = serve(
         rt,
         saves_of(folder, &file.table),
-        process,
-        waiting,
-        ticking,
-        reporter,
+        &mut process,
+        &mut waiting,
+        &mut ticking,
+        &mut reporter,
         &mut logbook,
         progress,
     );
@@ -61,15 +76,26 @@ where
     ended
 }
 
-/// Reads the match file of a folder.
+/// Reads the match file of a folder. Reports what to do if it can't be read.
 fn match_in<R>(rt: &R, folder: &str) -> Result<NamedMatch, Ending>
 where
     R: Files<File = File> + Eprint + AllocGlobal,
 {
-    match format!(in rt.alloc(); "{folder}/match") {
-        Ok(path) => match_of(rt, path.as_str()),
-        Err(_) => Err(no_memory(rt)),
+    let Ok(path) = format!(in rt.alloc(); "{folder}/match") else {
+        return Err(no_memory(rt));
+    };
+    let found = match_of(rt, path.as_str());
+    if matches!(found, Err(Ending::Failed)) {
+        say(rt, MATCH_REMEDY);
     }
+    found
+}
+
+/// Reports that a file of a folder can't be read, and why, and then what to do.
+fn unread<R: Eprint>(rt: &R, folder: &str, words: &str, error: &io::Error, remedy: &str) -> Ending {
+    let ending = failed_at(rt, folder, words, error);
+    say(rt, remedy);
+    ending
 }
 
 /// Begins the referee of the match in a folder, with this match file, and returns its ways to wait
@@ -85,7 +111,7 @@ where
 {
     let key = match read_secret(rt, folder) {
         Ok(key) => key,
-        Err(error) => return Err(failed_at(rt, folder, "/secret could not be read", &error)),
+        Err(error) => return Err(unread(rt, folder, NO_SECRET, &error, SECRET_REMEDY)),
     };
     let keys = keys_of(rt, folder, table)?;
     let link = socket_of(rt, table.port, REFEREE, keys, failures)?;
@@ -131,7 +157,7 @@ where
     }
     match read_key_secret(rt, folder) {
         Ok(secret) => Ok(Keyring::of_referee(&secret, file.id)),
-        Err(error) => Err(failed_at(rt, folder, "/key-secret could not be read", &error)),
+        Err(error) => Err(unread(rt, folder, NO_KEY_SECRET, &error, KEY_SECRET_REMEDY)),
     }
 }
 
@@ -139,22 +165,21 @@ where
 fn serve<R>(
     rt: &R,
     saves: OwnSaves<'_>,
-    process: Referee<'_, R>,
-    waiting: Waiting,
-    ticking: Ticking,
-    reporter: FailureReporter<'_, R>,
+    process: &mut Referee<'_, R>,
+    waiting: &mut Waiting,
+    ticking: &mut Ticking,
+    reporter: &mut FailureReporter<'_, R>,
     logbook: &mut Logbook<'_, R>,
     progress: Progress,
 ) -> Result<Ending, Ending>
 where
     R: Net + Files<File = File> + Clock + Eprint + AllocGlobal,
 {
-    let (mut process, mut waiting, mut ticking) = (process, waiting, ticking);
-    let (mut reporter, mut progress) = (reporter, progress);
+    let mut progress = progress;
     let mut told: Number = 0;
     for _ in 0..u64::MAX {
-        let (_, tick) = waited(rt, ticking.next_round(rt, &mut waiting))?;
-        match process.round(tick, &mut reporter) {
+        let (_, tick) = waited(rt, ticking.next_round(rt, waiting))?;
+        match process.round(tick, reporter) {
             Ok(Going::On) => {}
             Ok(Going::Over) => return Ok(Ending::Served),
             Err(outcome) => return Err(stopped(rt, saves, &outcome)),

@@ -54,7 +54,7 @@ where
     let file = handed.named_match();
     let title = title_of(rt, title, &file.names)?;
     let names = file.names;
-    let published = Published::new(Outputs {
+    let mut published = Published::new(Outputs {
         board,
         transcript,
         page,
@@ -64,13 +64,15 @@ where
     });
     let failures = Failures::new();
     let (table, key) = (&file.table, &handed.key);
-    let (party, process, waiting, ticking) = begin(rt, match_path, table, key, &failures)?;
+    let (party, mut process, mut waiting, mut ticking) = begin(
+        rt, match_path, table, key, &failures,
+    )?;
     let drawn_on = terminal.filter(|terminal| terminal.is_drawn_on && !is_plain);
     // Log lines would tear the board, where both are at one terminal.
     let is_quiet = is_quiet || (is_watched && drawn_on.is_some());
     let mut logbook = Logbook::begin(rt, is_quiet, party, &file, process.held());
     let audience = audience_of(is_quiet, is_watched, drawn_on.is_some());
-    let silence = SilenceReporter::new(rt, file.table, audience);
+    let mut silence = SilenceReporter::new(rt, file.table, audience);
     let says_too = !is_watched;
     let mut showing = match drawn_on {
         Some(terminal) => {
@@ -86,13 +88,13 @@ where
     };
     let ended = watch(
         rt,
-        process,
-        waiting,
-        ticking,
+        &mut process,
+        &mut waiting,
+        &mut ticking,
         &mut showing,
         &mut logbook,
-        silence,
-        published,
+        &mut silence,
+        &mut published,
         is_watched,
     );
     logbook.end(ended.is_ok());
@@ -196,25 +198,24 @@ where
     }
 }
 
+/// Runs rounds until the match is over.
 fn watch<R>(
     rt: &R,
-    process: Watcher<'_, R>,
-    waiting: Waiting,
-    ticking: Ticking,
+    process: &mut Watcher<'_, R>,
+    waiting: &mut Waiting,
+    ticking: &mut Ticking,
     showing: &mut Showing<'_, R>,
     logbook: &mut Logbook<'_, R>,
-    silence: SilenceReporter<'_, R>,
-    published: Published<'_>,
+    silence: &mut SilenceReporter<'_, R>,
+    published: &mut Published<'_>,
     is_watched: bool,
 ) -> Result<(), Ending>
 where
     R: Net + Files<File = File> + Clock + Print + Eprint + AllocGlobal,
 {
-    let (mut process, mut waiting, mut ticking) = (process, waiting, ticking);
-    let (mut published, mut silence) = (published, silence);
     let mut liveness = Liveness::new();
     for _ in 0..u64::MAX {
-        let (_, tick) = waited(rt, ticking.next_round(rt, &mut waiting))?;
+        let (_, tick) = waited(rt, ticking.next_round(rt, waiting))?;
         let going = process.round(tick, showing);
         let word = liveness.after_round(process.link(), tick);
         let is_heard = process.link().heard() > 0;

@@ -82,8 +82,8 @@ where
     } else {
         Audience::Nobody
     };
-    let seat = Seat::open(rt, &failures, options.seat, false, audience)?;
-    act(rt, seat, &wanted)
+    let mut seat = Seat::open(rt, &failures, options.seat, false, audience)?;
+    act(rt, &mut seat, &wanted)
 }
 
 /// Returns the action that some words spell; `None` where there are no words.
@@ -103,11 +103,11 @@ fn action_of<R: Eprint + AllocGlobal>(rt: &R, words: &[&str]) -> Result<Option<A
     }
 }
 
-fn act<R>(rt: &R, seat: Seat<'_, R>, wanted: &Wanted) -> Result<Ending, Ending>
+/// Makes the action, or waits for the player's turn.
+fn act<R>(rt: &R, seat: &mut Seat<'_, R>, wanted: &Wanted) -> Result<Ending, Ending>
 where
     R: Net + Files<File = File> + Clock + Print + Eprint + AllocGlobal,
 {
-    let mut seat = seat;
     let from = seat.held();
     let mut stage = Stage::Listening;
     if let Some((number, _)) = seat.process.open_claim() {
@@ -126,21 +126,21 @@ where
         let over = round.going == Going::Over;
         match stage {
             Stage::Claimed(number) if seat.held() >= number => {
-                return finish(rt, &seat, wanted, from, Some(number));
+                return finish(rt, seat, wanted, from, Some(number));
             }
             Stage::Listening
                 if over
                     || (ticks >= TICKS_TO_LISTEN
                         && (wanted.is_there(seat.held()) || seat.process.acts())) => {
-                match claim(rt, &mut seat, wanted)? {
+                match claim(rt, seat, wanted)? {
                     Some(number) => stage = Stage::Claimed(number),
-                    None => return finish(rt, &seat, wanted, from, wanted.entry),
+                    None => return finish(rt, seat, wanted, from, wanted.entry),
                 }
             }
             _ => {}
         }
         if ticks >= wanted.ticks {
-            return Err(out_of_time(rt, &seat));
+            return Err(out_of_time(rt, seat));
         }
     }
     Ok(Ending::Failed)

@@ -24,15 +24,15 @@ where
     } else {
         Audience::Log
     };
-    let seat = Seat::open(rt, &failures, options, false, audience)?;
-    play(rt, seat)
+    let mut seat = Seat::open(rt, &failures, options, false, audience)?;
+    play(rt, &mut seat)
 }
 
-fn play<R>(rt: &R, seat: Seat<'_, R>) -> Result<Ending, Ending>
+/// Plays until the match is over.
+fn play<R>(rt: &R, seat: &mut Seat<'_, R>) -> Result<Ending, Ending>
 where
     R: Net + Files<File = File> + Clock + Print + Eprint + AllocGlobal,
 {
-    let mut seat = seat;
     let mut telling = Telling::new();
     for _ in 0..u64::MAX {
         let round = seat.next_round()?;

@@ -8,6 +8,7 @@ mod opponents;
 mod players;
 mod screens;
 mod showing;
+mod turn_lists;
 mod turn_words;
 mod wishes;
 

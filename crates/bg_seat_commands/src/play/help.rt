@@ -32,9 +32,9 @@ const ALWAYS: [(&str, &str); 4] = [
     ("board", "the board, from your side; so does an empty line"),
     (
         "legal",
-        "the turns that are legal now, and more what did not fit",
+        "the legal turns; more lists those that did not fit",
     ),
-    ("help", "this, and so does ?"),
+    ("help", "this list; so does ?"),
     ("quit", "ends; the same command goes on later"),
 ];
 

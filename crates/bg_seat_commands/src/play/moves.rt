@@ -1,29 +1,20 @@
-//! A turn as a person types it, whole or step by step, and the list of legal turns.
+//! A turn as a person types it, whole or step by step.
 
 use crate::play::Table;
 use crate::play::turn_words::{
-    adds_nothing, begins_turn, forced, lines_behind, only_way, so_far, together, which_of,
+    adds_nothing, forced, must_play_more, only_way, so_far, together, turn_beyond, which_of,
 };
 use bg_board::Board;
 use bg_console::allocated;
 use bg_match::{Action, Phase};
 use bg_reports::Ending;
-use bg_table::{legal_turns_text, turn_refusal_text};
+use bg_table::turn_refusal_text;
 use bg_turns::{Dice, Turn, TurnFault, judge_turn};
 use bg_typed::{TypedFault, read_turn, typed_steps};
 use std::fs::File;
 use std::net::Net;
 use std::rt::Files;
 use std::time::Clock;
-
-/// Number of lines of legal turns that are printed at once.
-const LINES_AT_ONCE: usize = 16;
-
-/// The columns of a screen that is wider than any.
-const MOST_COLUMNS: u16 = 400;
-
-/// The message where there is nothing to move.
-const NO_DICE: &[u8] = b"you have no dice to move now";
 
 /// The message on a line that is none of those that may be typed.
 const NOT_UNDERSTOOD: &str = "that is not understood: `help` lists what may be typed";
@@ -43,15 +34,12 @@ const TAKEN_BACK: &[u8] = b"what you typed of this turn is taken back";
 const NOTHING_TYPED: &[u8] =
     b"nothing of a turn is typed: a turn that was sent can't be taken back";
 
-/// The message where not all legal turns were printed.
-const THERE_IS_MORE: &[u8] = b"`more` lists further turns";
-
 impl<'a, R> Table<'a, R>
 where
     R: Input + Net + Files<File = File> + Clock + Print + Eprint + AllocGlobal,
 {
     /// Returns the board and the dice that the player is to move, if there are any.
-    fn to_move(&self) -> Option<(Board, Dice)> {
+    pub(super) fn to_move(&self) -> Option<(Board, Dice)> {
         let standing = self.seat.process.held()?.standing();
         match standing.phase() {
             Phase::ToMove(mover, dice) if mover == self.player => Some((standing.board(), dice)),
@@ -70,7 +58,7 @@ where
         }
         let whole = allocated(rt, together(rt.alloc(), &self.typed, line))?;
         match read_turn(rt.alloc(), &whole, &board, self.player, dice) {
-            Ok(turn) => self.choose(Action::Move(turn)),
+            Ok(turn) => self.play_read(&whole, &board, dice, turn),
             Err(TypedFault::NoSuchTurn) => self.go_on(whole, &board, dice),
             Err(TypedFault::SeveralTurns) => match self.only_way()? {
                 Some(turn) => self.choose(Action::Move(turn)),
@@ -81,7 +69,7 @@ where
     }
 
     /// Returns the greatest legal turn, where all legal turns lead to one position.
-    fn only_way(&self) -> Result<Option<Turn>, Ending> {
+    pub(super) fn only_way(&self) -> Result<Option<Turn>, Ending> {
         match self.to_move() {
             Some((board, dice)) => {
                 let only = only_way(self.rt.alloc(), &board, self.player, dice);
@@ -120,12 +108,17 @@ where
         }
     }
 
-    /// Prints what must be played besides the typed part of a turn.
+    /// Prints that more must be played than the typed part of a turn, with a turn that begins so.
     fn refuse_part(&self, board: &Board, dice: Dice) -> Result<(), Ending> {
-        match typed_steps(self.rt.alloc(), &self.typed) {
-            Ok(turn) => self.refuse_turn(board, dice, &turn, TurnFault::MoreCanBePlayed),
-            Err(fault) => self.tell_fault(&fault),
+        let part = match typed_steps(self.rt.alloc(), &self.typed) {
+            Ok(part) => part,
+            Err(fault) => return self.tell_fault(&fault),
+        };
+        if let Some(turn) = self.beyond(board, dice, &part)? {
+            let line = must_play_more(self.rt.alloc(), self.player, &turn);
+            self.screen.say(&allocated(self.rt, line)?)?;
         }
+        self.tell_typed()
     }
 
     /// Prints why a turn can't be played, and what was typed of it before.
@@ -153,12 +146,55 @@ where
         let Err(fault) = judge_turn(board, self.player, dice, &turn) else {
             return Ok(());
         };
-        let begins = begins_turn(rt.alloc(), board, self.player, dice, &turn);
-        if fault == TurnFault::MoreCanBePlayed && allocated(rt, begins)? {
+        if fault == TurnFault::MoreCanBePlayed && self.beyond(board, dice, &turn)?.is_some() {
             self.typed = typed;
             return self.tell_typed();
         }
         self.refuse_turn(board, dice, &turn, fault)
+    }
+
+    /// Plays the turn that was read. But asks which one is meant where what was typed is also a
+    /// step that another turn begins with: `3/off` may take both dice, or the larger one alone.
+    fn play_read(
+        &mut self,
+        typed: &[u8],
+        board: &Board,
+        dice: Dice,
+        turn: Turn,
+    ) -> Result<(), Ending> {
+        match self.turn_begun(typed, board, dice, &turn)? {
+            Some(other) => self.ask_which(&turn, &other),
+            None => self.choose(Action::Move(turn)),
+        }
+    }
+
+    /// Returns the greatest legal turn that begins with the steps as they were typed and has more,
+    /// where these are not the turn that was read.
+    fn turn_begun(
+        &self,
+        typed: &[u8],
+        board: &Board,
+        dice: Dice,
+        turn: &Turn,
+    ) -> Result<Option<Turn>, Ending> {
+        match typed_steps(self.rt.alloc(), typed) {
+            Ok(part) if !part.steps().is_empty() && part.steps() != turn.steps() => {
+                self.beyond(board, dice, &part)
+            }
+            _ => Ok(None),
+        }
+    }
+
+    /// Returns the greatest legal turn that begins with the steps of this one and has more.
+    fn beyond(&self, board: &Board, dice: Dice, part: &Turn) -> Result<Option<Turn>, Ending> {
+        let rt = self.rt;
+        allocated(rt, turn_beyond(rt.alloc(), board, self.player, dice, part))
+    }
+
+    /// Asks which of two turns is meant.
+    fn ask_which(&self, one: &Turn, other: &Turn) -> Result<(), Ending> {
+        let line = which_of(self.rt.alloc(), self.player, one, other);
+        self.screen.say(&allocated(self.rt, line)?)
     }
 
     /// Prints why what was typed is not a turn.
@@ -168,10 +204,7 @@ where
             TypedFault::TooManySteps => TOO_MANY_STEPS,
             TypedFault::WrongHits => WRONG_HITS,
             TypedFault::SeveralTurns => return self.screen.say(SEVERAL_TURNS),
-            TypedFault::Ambiguous(one, other) => {
-                let line = which_of(self.rt.alloc(), self.player, one, other);
-                return self.screen.say(&allocated(self.rt, line)?);
-            }
+            TypedFault::Ambiguous(one, other) => return self.ask_which(one, other),
             TypedFault::NoSuchTurn =>
                 "no legal turn has this movement: `legal` lists those that are",
             TypedFault::Memory => "out of memory",
@@ -200,29 +233,5 @@ where
         self.typed.clear();
         self.screen.say(TAKEN_BACK)?;
         self.prompt()
-    }
-
-    /// Prints the lines of the legal turns behind the first `behind`.
-    pub(super) fn list_turns(&mut self, behind: usize) -> Result<(), Ending> {
-        let rt = self.rt;
-        let Some((board, dice)) = self.to_move() else {
-            self.screen.say(NO_DICE)?;
-            return self.prompt();
-        };
-        let columns = u16::try_from(self.screen.columns).unwrap_or(MOST_COLUMNS);
-        let text = legal_turns_text(rt.alloc(), &board, self.player, dice, columns);
-        let text = allocated(rt, text)?;
-        let (shown, is_last) = lines_behind(&text, behind, LINES_AT_ONCE);
-        self.screen.say(shown)?;
-        self.listed = if is_last {
-            0
-        } else {
-            behind.saturating_add(LINES_AT_ONCE)
-        };
-        if is_last {
-            Ok(())
-        } else {
-            self.screen.say(THERE_IS_MORE)
-        }
     }
 }

@@ -49,7 +49,8 @@ where
         }
     }
 
-    /// Shows the board, and what the player may do or that their choice waits.
+    /// Shows the board, the only legal turn if there is one, and what the player may do or that
+    /// their choice waits.
     pub(super) fn show_table(&self) -> Result<(), Ending> {
         let rt = self.rt;
         let Some(record) = self.seat.process.held() else {
@@ -58,6 +59,7 @@ where
         let drawing = Drawing::fitting(self.screen.columns);
         let view = seat_view_text(rt.alloc(), record, self.player, drawing);
         self.screen.show_board(&allocated(rt, view)?, self.player)?;
+        self.show_forced()?;
         self.prompt()
     }
 

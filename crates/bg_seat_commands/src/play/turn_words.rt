@@ -26,17 +26,23 @@ pub(super) fn only_way(
     Ok(Some(greatest.copy()))
 }
 
-/// Returns whether a legal turn begins with the steps of this one.
-pub(super) fn begins_turn(
+/// Returns the greatest legal turn that begins with the steps of this one and has more, if there is
+/// one.
+pub(super) fn turn_beyond(
     alloc: Global,
     board: &Board,
     player: Player,
     dice: Dice,
     part: &Turn,
-) -> Result<bool, AllocError> {
+) -> Result<Option<Turn>, AllocError> {
+    let steps = part.steps();
     let turns = legal_turns(alloc, board, player, dice)?;
-    let begins = |turn: &Turn| turn.steps().starts_with(part.steps());
-    Ok(turns.iter().any(begins))
+    for turn in &turns {
+        if turn.steps().len() > steps.len() && turn.steps().starts_with(steps) {
+            return Ok(Some(turn.copy()));
+        }
+    }
+    Ok(None)
 }
 
 /// Returns the line that says which turn is played, as it is the only one.
@@ -87,6 +93,19 @@ pub(super) fn so_far(alloc: Global, player: Player, turn: &Turn) -> Result<Vec<u
     line.extend_from_slice(b"so far")?;
     put_steps(&mut line, player, turn)?;
     line.extend_from_slice(b": type the next step, or `undo`")?;
+    Ok(line)
+}
+
+/// Returns the line that says that a part of this turn is not enough.
+pub(super) fn must_play_more(
+    alloc: Global,
+    player: Player,
+    turn: &Turn,
+) -> Result<Vec<u8>, AllocError> {
+    let mut line = Vec::new(alloc);
+    line.extend_from_slice(b"you must play more:")?;
+    put_steps(&mut line, player, turn)?;
+    line.extend_from_slice(b" can be played")?;
     Ok(line)
 }
 

@@ -24,50 +24,123 @@ pub(crate) enum Wish {
     Move,
 }
 
+/// A request that is a word of its own.
+#[derive(Clone, Copy)]
+enum Word {
+    Nothing,
+    Help,
+    Board,
+    Legal,
+    More,
+    Undo,
+    Quit,
+    Resign,
+    Roll,
+    Double,
+    Take,
+    Drop,
+    Accept,
+    Reject,
+}
+
+/// The words that may be typed, each with its request.
+const WORDS: [(&[u8], Word); 27] = [
+    (b"", Word::Nothing),
+    (b"?", Word::Help),
+    (b"h", Word::Help),
+    (b"help", Word::Help),
+    (b"board", Word::Board),
+    (b"l", Word::Legal),
+    (b"legal", Word::Legal),
+    (b"more", Word::More),
+    (b"u", Word::Undo),
+    (b"undo", Word::Undo),
+    (b"q", Word::Quit),
+    (b"quit", Word::Quit),
+    (b"exit", Word::Quit),
+    (b"resign", Word::Resign),
+    (b"r", Word::Roll),
+    (b"roll", Word::Roll),
+    (b"d", Word::Double),
+    (b"double", Word::Double),
+    (b"t", Word::Take),
+    (b"take", Word::Take),
+    (b"p", Word::Drop),
+    (b"pass", Word::Drop),
+    (b"drop", Word::Drop),
+    (b"a", Word::Accept),
+    (b"accept", Word::Accept),
+    (b"n", Word::Reject),
+    (b"reject", Word::Reject),
+];
+
+/// The names of the levels at which a player may resign.
+const LEVELS: [(&[u8], Level); 10] = [
+    (b"n", Level::Normal),
+    (b"normal", Level::Normal),
+    (b"single", Level::Normal),
+    (b"1", Level::Normal),
+    (b"g", Level::Gammon),
+    (b"gammon", Level::Gammon),
+    (b"2", Level::Gammon),
+    (b"b", Level::Backgammon),
+    (b"backgammon", Level::Backgammon),
+    (b"3", Level::Backgammon),
+];
+
 /// Returns the request of a line: its words, in small or capital letters, with any blanks around
 /// them. Where the player was asked for a level, its name alone resigns at that level; a letter
 /// doesn't, as `n` may be a no.
 pub(crate) fn wish_of(alloc: Global, line: &[u8], asks_level: bool) -> Result<Wish, AllocError> {
     let words = plain(alloc, line)?;
-    if let (true, Some(level)) = (asks_level && words.len() > 1, level_of(&words)) {
+    if let Some(level) = level_in(&words, asks_level) {
         return Ok(Wish::Act(Action::Resign(level)));
     }
-    Ok(match words.as_slice() {
-        b"" => Wish::Nothing,
-        b"?" | b"h" | b"help" => Wish::Help,
-        b"board" => Wish::Board,
-        b"l" | b"legal" => Wish::Legal,
-        b"more" => Wish::More,
-        b"u" | b"undo" => Wish::Undo,
-        b"q" | b"quit" | b"exit" => Wish::Quit,
-        b"resign" => Wish::Resign,
-        other => match action_of(other) {
-            Some(action) => Wish::Act(action),
-            None => Wish::Move,
-        },
+    Ok(match meaning_of(&WORDS, &words) {
+        Some(word) => word.wish(),
+        None => Wish::Move,
     })
 }
 
-/// Returns the action that some words ask for, unless it is a move.
-fn action_of(words: &[u8]) -> Option<Action> {
-    match words {
-        b"r" | b"roll" => Some(Action::Roll),
-        b"d" | b"double" => Some(Action::Double),
-        b"t" | b"take" => Some(Action::Take),
-        b"p" | b"pass" | b"drop" => Some(Action::Drop),
-        b"a" | b"accept" => Some(Action::Accept),
-        b"n" | b"reject" => Some(Action::Reject),
-        other => Some(Action::Resign(level_of(other.strip_prefix(b"resign ")?)?)),
+/// Returns the level at which some words resign. Where the player was asked for it, its name alone
+/// is enough.
+fn level_in(words: &[u8], asks_level: bool) -> Option<Level> {
+    match words.strip_prefix(b"resign ") {
+        Some(name) => meaning_of(&LEVELS, name),
+        None if asks_level && words.len() > 1 => meaning_of(&LEVELS, words),
+        None => None,
     }
 }
 
-/// Returns the level that a word names.
-fn level_of(word: &[u8]) -> Option<Level> {
-    match word {
-        b"n" | b"normal" | b"single" | b"1" => Some(Level::Normal),
-        b"g" | b"gammon" | b"2" => Some(Level::Gammon),
-        b"b" | b"backgammon" | b"3" => Some(Level::Backgammon),
-        _ => None,
+/// Returns the meaning of a word in a table, if it is there.
+fn meaning_of<T: Copy>(table: &[(&[u8], T)], word: &[u8]) -> Option<T> {
+    for (name, meaning) in table {
+        if *name == word {
+            return Some(*meaning);
+        }
+    }
+    None
+}
+
+impl Word {
+    /// Returns the request that the word makes.
+    fn wish(self) -> Wish {
+        match self {
+            Word::Nothing => Wish::Nothing,
+            Word::Help => Wish::Help,
+            Word::Board => Wish::Board,
+            Word::Legal => Wish::Legal,
+            Word::More => Wish::More,
+            Word::Undo => Wish::Undo,
+            Word::Quit => Wish::Quit,
+            Word::Resign => Wish::Resign,
+            Word::Roll => Wish::Act(Action::Roll),
+            Word::Double => Wish::Act(Action::Double),
+            Word::Take => Wish::Act(Action::Take),
+            Word::Drop => Wish::Act(Action::Drop),
+            Word::Accept => Wish::Act(Action::Accept),
+            Word::Reject => Wish::Act(Action::Reject),
+        }
     }
 }
 

@@ -1,0 +1,71 @@
+//! The list of legal turns.
+
+use crate::play::Table;
+use crate::play::turn_words::lines_behind;
+use bg_board::Board;
+use bg_console::allocated;
+use bg_reports::Ending;
+use bg_table::legal_turns_text;
+use bg_turns::Dice;
+use std::fs::File;
+use std::net::Net;
+use std::rt::Files;
+use std::time::Clock;
+
+/// Number of lines of legal turns that are printed at once.
+const LINES_AT_ONCE: usize = 16;
+
+/// The columns of a screen that is wider than any.
+const MOST_COLUMNS: u16 = 400;
+
+/// The message where there is nothing to move.
+const NO_DICE: &[u8] = b"you have no dice to move now";
+
+/// The message where not all legal turns were printed.
+const THERE_IS_MORE: &[u8] = b"`more` lists further turns";
+
+impl<'a, R> Table<'a, R>
+where
+    R: Input + Net + Files<File = File> + Clock + Print + Eprint + AllocGlobal,
+{
+    /// Prints the only legal turn if there is one, and how to play it, unless such a turn is played
+    /// at once.
+    pub(super) fn show_forced(&self) -> Result<(), Ending> {
+        if self.plays_forced || !self.claims_nothing() || self.only_way()?.is_none() {
+            return Ok(());
+        }
+        match self.to_move() {
+            Some((board, dice)) => self.screen.say(&self.list_of(&board, dice)?),
+            None => Ok(()),
+        }
+    }
+
+    /// Returns the lines of the legal turns.
+    fn list_of(&self, board: &Board, dice: Dice) -> Result<Vec<u8>, Ending> {
+        let rt = self.rt;
+        let columns = u16::try_from(self.screen.columns).unwrap_or(MOST_COLUMNS);
+        let text = legal_turns_text(rt.alloc(), board, self.player, dice, columns);
+        allocated(rt, text)
+    }
+
+    /// Prints the lines of the legal turns behind the first `behind`.
+    pub(super) fn list_turns(&mut self, behind: usize) -> Result<(), Ending> {
+        let Some((board, dice)) = self.to_move() else {
+            self.screen.say(NO_DICE)?;
+            return self.prompt();
+        };
+        let text = self.list_of(&board, dice)?;
+        let (shown, is_last) = lines_behind(&text, behind, LINES_AT_ONCE);
+        self.screen.say(shown)?;
+        self.listed = if is_last {
+            0
+        } else {
+            behind.saturating_add(LINES_AT_ONCE)
+        };
+        if is_last {
+            Ok(())
+        } else {
+            self.screen.say(THERE_IS_MORE)
+        }
+    }
+}
