@@ -1,5 +1,5 @@
 //! Worked positions.
-use crate::checks::check_printed;
+use crate::checks::{check_printed, check_row};
 use crate::words::{board, counts, named, parted, player, points, small_number, step};
 use bg_board::{Board, BoardFault, Die, Player, Step, StepFault};
 use std::process::Abort;
@@ -11,17 +11,22 @@ fn pips_of(number: u8) -> Option<u8> {
 
 #[test]
 fn dice_of_numbers(rt: HostRuntime) {
-    assert!(rt; pips_of(0).is_none());
-    assert!(rt; pips_of(1) == Some(1));
-    assert!(rt; pips_of(6) == Some(6));
-    assert!(rt; pips_of(7).is_none());
+    check_row(&rt, "0", pips_of(0).is_none());
+    check_row(&rt, "1", pips_of(1) == Some(1));
+    check_row(&rt, "6", pips_of(6) == Some(6));
+    check_row(&rt, "7", pips_of(7).is_none());
 }
 
-/// Each of the pairs of points, as "8-5", is a step, or none is.
+/// Whether a pair of points, as "8-5", is a step.
+fn is_step(rt: &impl Abort, word: &str) -> bool {
+    let (from, to) = points(rt, word);
+    Step::new(from, to).is_some()
+}
+
+/// Each of the pairs of points is a step, or none is.
 fn check_steps(rt: &impl Abort, words: &str, are_steps: bool) {
     for word in words.split(' ') {
-        let (from, to) = points(rt, word);
-        assert!(rt; Step::new(from, to).is_some() == are_steps, "{word}");
+        check_row(rt, word, is_step(rt, word) == are_steps);
     }
 }
 
@@ -62,14 +67,14 @@ fn has_counts(rt: &impl Abort, row: &str) -> bool {
 #[test]
 fn counts_at_the_start(rt: HostRuntime) {
     for row in COUNTS.lines() {
-        assert!(rt; has_counts(&rt, row), "{row}");
+        check_row(&rt, row, has_counts(&rt, row));
     }
 }
 
 #[test]
 fn players_printed(rt: HostRuntime) {
-    check_printed(&rt, Player::X, "X");
-    check_printed(&rt, Player::O, "O");
+    check_printed(&rt, &Player::X, "X");
+    check_printed(&rt, &Player::O, "O");
 }
 
 /// The faults of steps, each behind what it prints.
@@ -91,7 +96,7 @@ const STEP_FAULTS: [(&str, StepFault); 6] = [
 #[test]
 fn faults_of_steps_printed(rt: HostRuntime) {
     for (words, fault) in &STEP_FAULTS {
-        check_printed(&rt, *fault, *words);
+        check_printed(&rt, fault, words);
     }
 }
 
@@ -101,8 +106,8 @@ const SHARED_POINT: &str = "both players have checkers on one point";
 
 #[test]
 fn faults_of_counts_printed(rt: HostRuntime) {
-    check_printed(&rt, BoardFault::NotFifteen, NOT_FIFTEEN);
-    check_printed(&rt, BoardFault::SharedPoint, SHARED_POINT);
+    check_printed(&rt, &BoardFault::NotFifteen, NOT_FIFTEEN);
+    check_printed(&rt, &BoardFault::SharedPoint, SHARED_POINT);
 }
 
 /// What a board of these counts is refused for.
@@ -113,10 +118,8 @@ fn fault_of_counts(x: [u8; 26], o: [u8; 26]) -> Option<BoardFault> {
 /// The board of these words is refused for this, if for anything.
 fn check_counts(rt: &impl Abort, words: &str, fault: Option<BoardFault>) {
     let (x, o) = parted(rt, words, " / ");
-    assert!(rt;
-        fault_of_counts(counts(rt, x), counts(rt, o)) == fault,
-        "{words}"
-    );
+    let found = fault_of_counts(counts(rt, x), counts(rt, o));
+    check_row(rt, words, found == fault);
 }
 
 #[test]
@@ -159,7 +162,7 @@ fn is_found(rt: &impl Abort, row: &str) -> bool {
 /// The rows hold.
 fn check_step_rows(rt: &impl Abort, rows: &str) {
     for row in rows.lines() {
-        assert!(rt; is_found(rt, row), "{row}");
+        check_row(rt, row, is_found(rt, row));
     }
 }
 
@@ -196,10 +199,8 @@ fn has_all_off(board: &Board, player: Player) -> bool {
 
 /// Whether this player has no checker left on the board.
 fn check_all_off(rt: &impl Abort, words: &str, name: &str, expected: bool) {
-    assert!(rt;
-        has_all_off(&board(rt, words), player(rt, name)) == expected,
-        "{name}"
-    );
+    let found = has_all_off(&board(rt, words), player(rt, name));
+    check_row(rt, words, found == expected);
 }
 
 #[test]
@@ -218,5 +219,5 @@ fn leads_to(rt: &impl Abort, before: &Board, after: Board) -> bool {
 fn hit(rt: HostRuntime) {
     let before = board(&rt, "8:2 0:13 / 20:1 6:14");
     let after = board(&rt, "8:1 5:1 0:13 / 25:1 6:14");
-    assert!(rt; leads_to(&rt, &before, after));
+    check_row(&rt, "8-5", leads_to(&rt, &before, after));
 }

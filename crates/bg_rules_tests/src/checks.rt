@@ -1,33 +1,38 @@
 //! Checks that the tests of several crates share. Each fails with a message that names what was wrong.
-use std::alloc::{AllocError, Global};
+use std::alloc::Global;
 use std::fmt::Display;
 use std::process::Abort;
-use std::test::Fail;
 
-/// Fails with the name of the first fact that does not hold.
-pub(crate) fn check_facts(facts: &[(&str, bool)]) -> Result<(), Fail> {
-    for &(fact, holds) in facts {
-        if !holds {
-            return Err(Fail::new(fact));
-        }
+/// It holds of this row.
+pub(crate) fn check_row(rt: &impl Abort, row: &str, holds: bool) {
+    assert!(rt; holds, "{row}");
+}
+
+/// It holds of this line of a section.
+pub(crate) fn check_line(rt: &impl Abort, section: &str, line: &str, holds: bool) {
+    assert!(rt; holds, "{section}: {line}");
+}
+
+/// It holds of this number.
+pub(crate) fn check_number(rt: &impl Abort, what: &str, number: usize, holds: bool) {
+    assert!(rt; holds, "{what} {number}");
+}
+
+fn is_printed<T: Display>(alloc: Global, value: &T, text: &str) -> bool {
+    match format!(in alloc; "{value}") {
+        Ok(printed) => printed.as_str() == text,
+        Err(_) => false,
     }
-    Ok(())
 }
 
 /// A value is printed so.
-pub(crate) fn check_printed<T: Display + Drop>(
-    rt: &(impl AllocGlobal + Abort),
-    value: T,
-    text: &str,
-) {
-    let printed = format!(in rt.alloc(); "{value}").expect(rt, "memory");
-    assert!(rt; printed.as_str() == text, "\"{printed}\" for \"{text}\"");
+pub(crate) fn check_printed<T: Display>(rt: &(impl AllocGlobal + Abort), value: &T, text: &str) {
+    check_row(rt, text, is_printed(rt.alloc(), value, text));
 }
 
-/// Fails where the growth that comes next is refused: so `tools/checks/refuse_growths` learns how many came before.
-pub(crate) fn check_no_growth_is_left(alloc: Global) -> Result<(), Fail> {
-    match Vec::<u8>::with_capacity(alloc, 1) {
-        Ok(_) => Ok(()),
-        Err(AllocError) => Err(Fail::from("no growth is left")),
-    }
+/// Ends the test where the growth that comes next is refused: so `tools/checks/refuse_growths` learns how many came
+/// before.
+pub(crate) fn check_no_growth_is_left(rt: &(impl AllocGlobal + Abort)) {
+    let growth = Vec::<u8>::with_capacity(rt.alloc(), 1);
+    check_row(rt, "no growth is left", growth.is_ok());
 }

@@ -7,6 +7,7 @@ mod lines;
 mod passes;
 mod plays;
 mod records;
+mod sections;
 mod standings;
 mod texts;
 mod wins;

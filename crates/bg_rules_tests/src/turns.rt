@@ -1,7 +1,7 @@
 //! Worked positions.
 mod listings;
 
-use crate::checks::check_printed;
+use crate::checks::{check_number, check_printed, check_row};
 use crate::words::{board, dice, parted, small_number, turn};
 use bg_board::{Board, Player};
 use bg_turns::{Dice, Turn, TurnFault, dice_of, judge_turn, most};
@@ -25,18 +25,26 @@ fn is_copied(turn: &Turn) -> bool {
     turn.copy() == *turn
 }
 
-/// Whether a row holds of a turn of X: its steps, and what is said of it: "legal", "more", "larger", or how many
-/// steps at its front can be played.
-fn is_judged(rt: &impl Abort, board: &Board, dice: Dice, row: &str) -> bool {
-    let (steps, said) = parted(rt, row, ": ");
-    let turn = turn(rt, steps);
-    let expected = match said {
+/// What is said of a turn: "legal", "more", "larger", or how many steps at its front can be played.
+fn fault(rt: &impl Abort, said: &str) -> Option<TurnFault> {
+    match said {
         "legal" => None,
         "more" => Some(TurnFault::MoreCanBePlayed),
         "larger" => Some(TurnFault::LargerMustBePlayed),
         _ => Some(TurnFault::StepIllegal(small_number(rt, said))),
-    };
-    fault_of_turn(board, dice, &turn) == expected && is_copied(&turn)
+    }
+}
+
+/// Whether a turn of X is refused for this, if for anything, and is copied.
+fn is_told(board: &Board, dice: Dice, turn: &Turn, fault: Option<TurnFault>) -> bool {
+    fault_of_turn(board, dice, turn) == fault && is_copied(turn)
+}
+
+/// Whether a row holds of a turn of X: its steps, and what is said of it.
+fn is_judged(rt: &impl Abort, board: &Board, dice: Dice, row: &str) -> bool {
+    let (steps, said) = parted(rt, row, ": ");
+    let fault = fault(rt, said);
+    is_told(board, dice, &turn(rt, steps), fault)
 }
 
 /// The rows hold of turns of X with these dice.
@@ -44,7 +52,7 @@ fn check_turns(rt: &impl Abort, points: &str, throw: &str, rows: &str) {
     let board = board(rt, points);
     let dice = dice(rt, throw);
     for row in rows.lines() {
-        assert!(rt; is_judged(rt, &board, dice, row), "{row}");
+        check_row(rt, row, is_judged(rt, &board, dice, row));
     }
 }
 
@@ -84,7 +92,7 @@ fn most_of_x(board: &Board, dice: Dice) -> u8 {
 /// X can play so many dice at most.
 fn check_most(rt: &impl Abort, points: &str, throw: &str, number: u8) {
     let found = most_of_x(&board(rt, points), dice(rt, throw));
-    assert!(rt; found == number, "{found} of {points}");
+    check_row(rt, points, found == number);
 }
 
 #[test]
@@ -97,10 +105,15 @@ fn greatest_numbers(rt: HostRuntime) {
     check_most(&rt, SHUT_OUT, "6 6", 0);
 }
 
+fn board_after(board: &Board, player: Player, dice: Dice, turn: &Turn) -> Option<Board> {
+    judge_turn(board, player, dice, turn).ok()
+}
+
 /// The board after a turn of this player.
 fn after(rt: &impl Abort, board: &Board, player: Player, throw: &str, steps: &str) -> Board {
-    let turn = turn(rt, steps);
-    judge_turn(board, player, dice(rt, throw), &turn).expect(rt, "a turn")
+    let dice = dice(rt, throw);
+    let found = board_after(board, player, dice, &turn(rt, steps));
+    found.expect(rt, "a turn")
 }
 
 const AFTER_BOTH: &str = "24:2 13:5 8:2 6:4 5:2 / 18:2 13:3 8:3 7:2 6:5";
@@ -110,7 +123,7 @@ fn board_after_a_turn(rt: HostRuntime) {
     let after_x = after(&rt, &Board::start(), Player::X, "3 1", "8-5 6-5");
     let steps = "24-18 24-18 13-7 13-7";
     let after_o = after(&rt, &after_x, Player::O, "6 6", steps);
-    assert!(rt; after_o == board(&rt, AFTER_BOTH));
+    check_row(&rt, AFTER_BOTH, after_o == board(&rt, AFTER_BOTH));
 }
 
 /// Whether a word has these dice.
@@ -143,15 +156,15 @@ fn tells_dice(rt: &impl Abort, row: &str) -> bool {
 }
 
 /// The rows that end so hold, and there are so many.
-fn check_words(rt: &impl Abort, are_dice: bool, count: u32) {
-    let mut found = 0u32;
+fn check_words(rt: &impl Abort, are_dice: bool, count: usize) {
+    let mut found = 0usize;
     for row in WORDS.lines() {
         if row.ends_with("none") != are_dice {
-            assert!(rt; tells_dice(rt, row), "{row}");
+            check_row(rt, row, tells_dice(rt, row));
             found = found.saturating_add(1);
         }
     }
-    assert!(rt; found == count);
+    check_number(rt, "rows:", count, found == count);
 }
 
 #[test]
@@ -167,8 +180,8 @@ fn words_without_dice(rt: HostRuntime) {
 #[test]
 fn faults_of_turns_printed(rt: HostRuntime) {
     let illegal = TurnFault::StepIllegal(2);
-    check_printed(&rt, illegal, "only the first 2 steps can be played");
-    check_printed(&rt, TurnFault::MoreCanBePlayed, "more dice can be played");
+    check_printed(&rt, &illegal, "only the first 2 steps can be played");
+    check_printed(&rt, &TurnFault::MoreCanBePlayed, "more dice can be played");
     let larger = TurnFault::LargerMustBePlayed;
-    check_printed(&rt, larger, "the larger die must be played");
+    check_printed(&rt, &larger, "the larger die must be played");
 }

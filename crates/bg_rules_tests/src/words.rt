@@ -1,6 +1,7 @@
 //! What the words of the tests say: numbers, dice, turns, boards. A word that says nothing of the kind ends the
 //! test.
 use bg_board::{Board, Die, Player, Step};
+use bg_match::Rules;
 use bg_turns::{Dice, Turn};
 use std::process::Abort;
 
@@ -29,6 +30,11 @@ pub(crate) fn player(rt: &impl Abort, word: &str) -> Player {
     named(rt, &[("X", Player::X), ("O", Player::O)], word)
 }
 
+/// Rules, as "2".
+pub(crate) fn rules(rt: &impl Abort, word: &str) -> Rules {
+    named(rt, &[("1", Rules::One), ("2", Rules::Two)], word)
+}
+
 fn die(rt: &impl Abort, word: &str) -> Die {
     Die::new(small_number(rt, word)).expect(rt, "a die")
 }
@@ -53,16 +59,20 @@ pub(crate) fn step(rt: &impl Abort, word: &str) -> Step {
     Step::new(from, to).expect(rt, "a step")
 }
 
-/// The turn of some steps, as "8-5 6-5", or of none, as "".
-pub(crate) fn turn(rt: &impl Abort, words: &str) -> Turn {
-    let mut turn = Turn::new();
-    if words.is_empty() {
-        return turn;
-    }
+/// Adds the steps of some words to a turn.
+fn push_steps(rt: &impl Abort, turn: &mut Turn, words: &str) {
     for word in words.split(' ') {
         let step = step(rt, word);
         assert!(rt; turn.steps().len() < 4);
         turn.push(step);
+    }
+}
+
+/// The turn of some steps, as "8-5 6-5", or of none, as "".
+pub(crate) fn turn(rt: &impl Abort, words: &str) -> Turn {
+    let mut turn = Turn::new();
+    if !words.is_empty() {
+        push_steps(rt, &mut turn, words);
     }
     turn
 }

@@ -1,5 +1,6 @@
 //! Checks that the tests of several crates share. Each ends the test with a message that names what was wrong.
-use std::alloc::Global;
+use std::alloc::{AllocError, Global};
+use std::fmt::Display;
 use std::process::Abort;
 
 /// It holds of this row.
@@ -7,17 +8,41 @@ pub(crate) fn check_row(rt: &impl Abort, row: &str, holds: bool) {
     assert!(rt; holds, "{row}");
 }
 
+/// It holds of this number.
+pub(crate) fn check_number(rt: &impl Abort, what: &str, number: usize, holds: bool) {
+    assert!(rt; holds, "{what} {number}");
+}
+
 /// What is told of this row is what was expected.
 pub(crate) fn check_told(rt: &impl Abort, row: &str, told: &str, wanted: &str) {
     assert!(rt; told == wanted, "\"{told}\" for \"{row}\"");
 }
 
-/// A text has these lines.
-pub(crate) fn check_lines(rt: &impl Abort, told: &str, wanted: &str) {
-    for (line, row) in told.lines().zip(wanted.lines()) {
-        check_told(rt, row, line, row);
-    }
-    check_told(rt, wanted, told, wanted);
+/// What was made, for which there is memory, is this text.
+pub(crate) fn check_text(
+    rt: &impl Abort,
+    row: &str,
+    made: Result<Vec<u8>, AllocError>,
+    wanted: &str,
+) {
+    let made = made.expect(rt, "memory");
+    check_told(rt, row, text_of(&made), wanted);
+}
+
+/// What was put into words, for which there is memory, is this.
+pub(crate) fn check_words(
+    rt: &impl Abort,
+    row: &str,
+    words: Result<String, AllocError>,
+    wanted: &str,
+) {
+    let words = words.expect(rt, "memory");
+    check_told(rt, row, words.as_str(), wanted);
+}
+
+/// A value is printed so.
+pub(crate) fn check_printed<T: Display>(rt: &impl Abort, alloc: Global, value: &T, words: &str) {
+    check_words(rt, words, format!(in alloc; "{value}"), words);
 }
 
 /// Returns what stands before an arrow and behind it.
@@ -34,5 +59,5 @@ pub(crate) fn text_of(bytes: &[u8]) -> &str {
 /// before.
 pub(crate) fn check_no_growth_is_left(rt: &impl Abort, alloc: Global) {
     let growth = Vec::<u8>::with_capacity(alloc, 1);
-    assert!(rt; growth.is_ok(), "no growth is left");
+    check_row(rt, "no growth is left", growth.is_ok());
 }

@@ -1,4 +1,5 @@
 //! Records of matches, and their transcripts.
+use crate::checks::check_row;
 use bg_match::{Entry, Record};
 use bg_text::{TranscriptFault, parse_entry, read_transcript, transcript_text};
 use std::alloc::Global;
@@ -18,18 +19,23 @@ pub(crate) fn record_of(rt: &impl Abort, alloc: Global, transcript: &str) -> Rec
     read(rt, alloc, 1, transcript.as_bytes())
 }
 
-/// Appends an entry, also where memory for it is refused once.
-pub(crate) fn push(rt: &impl Abort, record: &mut Record, entry: Entry) {
-    if record.push(entry.copy()).is_err() {
-        record.push(entry).expect(rt, "an entry that follows");
+/// Whether an entry is appended, also where memory for it is refused once.
+pub(crate) fn is_pushed(record: &mut Record, entry: &Entry) -> bool {
+    record.push(entry.copy()).is_ok() || record.push(entry.copy()).is_ok()
+}
+
+/// Whether a line is that of an entry, which is appended.
+fn is_line_pushed(record: &mut Record, line: &str) -> bool {
+    match parse_entry(line.as_bytes()) {
+        Ok((_, entry)) => is_pushed(record, &entry),
+        Err(_) => false,
     }
 }
 
 /// Appends the entries of some lines.
 pub(crate) fn push_lines(rt: &impl Abort, record: &mut Record, lines: &str) {
     for line in lines.lines() {
-        let (_, entry) = parse_entry(line.as_bytes()).expect(rt, "the line of an entry");
-        push(rt, record, entry);
+        check_row(rt, line, is_line_pushed(record, line));
     }
 }
 

@@ -12,11 +12,10 @@ mod uses;
 use crate::checks::text_of;
 use bg_text::Verdict;
 use std::alloc::{AllocError, Global};
-use std::process::Abort;
 
 /// What was said of a file, and the verdict behind it.
-fn told(rt: &impl Abort, alloc: Global, said: Result<(Vec<u8>, Verdict), AllocError>) -> String {
-    let (text, verdict) = said.expect(rt, "memory");
+fn told(alloc: Global, said: Result<(Vec<u8>, Verdict), AllocError>) -> Result<String, AllocError> {
+    let (text, verdict) = said?;
     let text = text_of(&text);
-    format!(in alloc; "{text}{verdict:?}").expect(rt, "memory")
+    format!(in alloc; "{text}{verdict:?}")
 }

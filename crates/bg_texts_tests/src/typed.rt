@@ -5,13 +5,13 @@ mod turns;
 mod uses;
 
 use crate::boards::board;
-use crate::checks::check_told;
+use crate::checks::check_words;
 use bg_board::{Board, Die, Player};
 use bg_match::Entry;
 use bg_text::entry_text;
 use bg_turns::{Dice, Turn};
 use bg_typed::{TypedFault, read_turn};
-use std::alloc::Global;
+use std::alloc::{AllocError, Global};
 use std::process::Abort;
 
 /// Where a turn is typed.
@@ -40,33 +40,34 @@ fn start(player: Player, first: Die, second: Die) -> Place {
     }
 }
 
-/// How a turn is printed, behind a player's letter.
-fn printed(rt: &impl Abort, alloc: Global, turn: &Turn) -> String {
+/// How a turn is printed.
+fn printed(alloc: Global, turn: &Turn) -> Result<String, AllocError> {
     let text = entry_text(Some(Player::X), &Entry::Moved(turn.copy()));
-    let words = text.as_str().strip_prefix("X ").expect(rt, "a letter");
-    String::from_str(alloc, words).expect(rt, "memory")
+    String::from_str(
+        alloc,
+        text.as_str().strip_prefix("X ").unwrap_or("no letter"),
+    )
 }
 
 /// Both turns of which either is meant.
-fn both(rt: &impl Abort, alloc: Global, one: &Turn, other: &Turn) -> String {
-    let (one, other) = (printed(rt, alloc, one), printed(rt, alloc, other));
-    format!(in alloc; "{one} or {other}").expect(rt, "memory")
+fn both(alloc: Global, one: &Turn, other: &Turn) -> Result<String, AllocError> {
+    let (one, other) = (printed(alloc, one)?, printed(alloc, other)?);
+    format!(in alloc; "{one} or {other}")
 }
 
 /// The turn that is read, or why it is refused; both turns where these hit otherwise.
-fn told(rt: &impl Abort, alloc: Global, at: &Place, typed: &str) -> String {
+fn told(alloc: Global, at: &Place, typed: &str) -> Result<String, AllocError> {
     let read = read_turn(alloc, typed.as_bytes(), &at.board, at.player, at.dice);
     match &read {
-        Ok(turn) => printed(rt, alloc, turn),
-        Err(TypedFault::Ambiguous(one, other)) => both(rt, alloc, one, other),
-        Err(fault) => format!(in alloc; "{fault}").expect(rt, "memory"),
+        Ok(turn) => printed(alloc, turn),
+        Err(TypedFault::Ambiguous(one, other)) => both(alloc, one, other),
+        Err(fault) => format!(in alloc; "{fault}"),
     }
 }
 
 /// Each text is told so.
 fn check_typed(rt: &impl Abort, alloc: Global, at: &Place, rows: &[(&str, &str)]) {
-    for &(typed, wanted) in rows {
-        let told = told(rt, alloc, at, typed);
-        check_told(rt, typed, told.as_str(), wanted);
+    for (typed, wanted) in rows {
+        check_words(rt, typed, told(alloc, at, typed), wanted);
     }
 }

@@ -1,36 +1,48 @@
 //! Long records, and refused growths.
 use super::lines::entry;
-use super::plays::{begun, has_len, played};
+use super::plays::{begun, has_len};
 use super::{is_copied, is_refused};
-use bg_board::Player;
-use bg_match::{Entry, EntryFault, ExtendFault, MOST_ENTRIES, Number, Record, Rules, Standing};
+use crate::checks::{check_line, check_row};
+use bg_board::{Die, Player};
+use bg_match::{
+    Entry, EntryFault, ExtendFault, Level, MOST_ENTRIES, Number, Record, Rules, Standing,
+};
 use std::process::Abort;
 
 fn push(record: &mut Record, entry: &Entry) -> bool {
     record.push(entry.copy()).is_ok()
 }
 
-/// After the opening X offers to resign again and again, until there is no room for more.
-fn full_record(rt: &(impl AllocGlobal + Abort)) -> Record {
-    let (offer, answer) = (entry(rt, "resign normal"), entry(rt, "reject"));
-    let mut record = played(rt, 1, "open 3 1");
+/// Whether an entry and its answer are appended again and again, until there is room for one more, and then that too.
+fn push_all(record: &mut Record, offer: &Entry, answer: &Entry) -> bool {
     for _ in 0..499_999 {
-        assert!(rt; push(&mut record, &offer) && push(&mut record, &answer));
+        if !push(record, offer) || !push(record, answer) {
+            return false;
+        }
     }
-    assert!(rt; push(&mut record, &offer));
-    record
+    push(record, offer)
+}
+
+/// Whether a record is filled: after the opening X offers to resign again and again, until there is no room for more.
+fn is_filled(record: &mut Record) -> bool {
+    push(record, &Entry::Opening(Die::Three, Die::One))
+        && push_all(record, &Entry::Resigned(Level::Normal), &Entry::Rejected)
 }
 
 /// Whether a copy has all entries and the standing of a full record.
 fn is_full_copy(record: &Record, copy: &Record) -> bool {
+    for number in 1..=MOST_ENTRIES {
+        if !is_copied(record, copy, number) {
+            return false;
+        }
+    }
     has_len(copy, MOST_ENTRIES) && copy.standing() == record.standing()
 }
 
-fn check_full_copy(rt: &impl Abort, record: &Record) {
-    let copy = record.copy().expect(rt, "a copy");
-    assert!(rt; is_full_copy(record, &copy));
-    for number in 1..=MOST_ENTRIES {
-        assert!(rt; is_copied(record, &copy, number), "entry {number}");
+fn is_copied_whole(record: &Record) -> bool {
+    match record.copy() {
+        Ok(copy) => is_full_copy(record, &copy),
+        Err(_) => false,
     }
 }
 
@@ -41,12 +53,16 @@ fn takes_no_more(record: &mut Record) -> bool {
         && record.extend(&[]) == Ok(())
 }
 
+fn check_full(rt: &impl Abort, record: &mut Record) {
+    check_row(rt, "filled", is_filled(record));
+    check_row(rt, "full", has_len(record, MOST_ENTRIES));
+    check_row(rt, "takes no more", takes_no_more(record));
+    check_row(rt, "copied", is_copied_whole(record));
+}
+
 #[test]
 fn longest_record(rt: HostRuntime) {
-    let mut record = full_record(&rt);
-    assert!(rt; has_len(&record, MOST_ENTRIES));
-    assert!(rt; takes_no_more(&mut record));
-    check_full_copy(&rt, &record);
+    check_full(&rt, &mut begun(&rt, 1, Rules::One));
 }
 
 /// Where a record stands, and who made the entry of this number.
@@ -59,50 +75,62 @@ fn is_kept(record: &Record, len: Number, before: &(Standing, Option<Player>)) ->
     has_len(record, len) && state_at(record, len) == *before
 }
 
-/// Appends an entry to a record of so many, again where memory is refused: then nothing has changed.
-fn push_again(rt: &impl Abort, record: &mut Record, entry: &Entry, pushed: Number) {
+/// Whether an entry is appended to a record of so many, again where memory is refused: then nothing has changed.
+fn is_pushed(record: &mut Record, entry: &Entry, pushed: Number) -> bool {
     let before = state_at(record, pushed);
-    if push(record, entry) {
-        return;
-    }
-    assert!(rt; is_kept(record, pushed, &before));
-    assert!(rt; push(record, entry));
+    push(record, entry) || is_kept(record, pushed, &before) && push(record, entry)
 }
 
-/// A record of twenty entries.
-fn grown(rt: &(impl AllocGlobal + Abort)) -> Record {
-    let (offer, answer) = (entry(rt, "resign normal"), entry(rt, "reject"));
-    let mut record = begun(rt, 1, Rules::One);
-    push_again(rt, &mut record, &entry(rt, "open 3 1"), 0);
+/// Appends the entry of a line to a record of so many.
+fn push_line(rt: &impl Abort, record: &mut Record, line: &str, pushed: Number) {
+    let is_pushed = is_pushed(record, &entry(rt, line), pushed);
+    check_line(rt, "pushed", line, is_pushed);
+    check_line(
+        rt,
+        "counted",
+        line,
+        has_len(record, pushed.saturating_add(1)),
+    );
+}
+
+/// Appends twenty entries.
+fn grow(rt: &impl Abort, record: &mut Record) {
+    push_line(rt, record, "open 3 1", 0);
     for pushed in 1..20 {
-        let next = if pushed % 2 == 1 { &offer } else { &answer };
-        push_again(rt, &mut record, next, pushed);
-        assert!(rt; has_len(&record, pushed + 1), "after {pushed}");
+        let line = if pushed % 2 == 1 {
+            "resign normal"
+        } else {
+            "reject"
+        };
+        push_line(rt, record, line, pushed);
     }
-    record
 }
 
-/// Makes room in a record of twenty entries, again where memory is refused: then nothing has changed.
-fn reserve_again(rt: &impl Abort, record: &mut Record) {
+fn is_offer(record: &Record, number: Number) -> bool {
+    record.entry(number) == Some(&Entry::Resigned(Level::Normal))
+}
+
+/// Whether room is made in a record of twenty entries, again where memory is refused: then nothing has changed.
+fn is_reserved(record: &mut Record) -> bool {
     let before = state_at(record, 20);
     if record.reserve(100).is_ok() {
-        return;
+        return true;
     }
-    assert!(rt; is_kept(record, 20, &before));
-    assert!(rt; record.entry(20) == Some(&entry(rt, "resign normal")));
-    assert!(rt; record.reserve(100).is_ok());
+    is_kept(record, 20, &before) && is_offer(record, 20) && record.reserve(100).is_ok()
 }
 
-/// Appends a list to a record of twenty entries, again where memory is refused: then nothing has changed.
-fn extend_again(rt: &impl Abort, record: &mut Record) {
+/// Whether a list is appended to a record of twenty entries, again where memory is refused: then nothing has changed.
+fn is_extended(record: &mut Record, list: &[Entry]) -> bool {
     let before = state_at(record, 20);
-    let list = [entry(rt, "reject"), entry(rt, "resign gammon")];
-    if let Err(why) = record.extend(&list) {
-        assert!(rt; why == ExtendFault::Memory);
-        assert!(rt; is_kept(record, 20, &before));
-        assert!(rt; record.extend(&list).is_ok());
-    }
-    assert!(rt; has_len(record, 22));
+    let is_extended = match record.extend(list) {
+        Ok(()) => true,
+        Err(why) => {
+            why == ExtendFault::Memory
+                && is_kept(record, 20, &before)
+                && record.extend(list).is_ok()
+        }
+    };
+    is_extended && has_len(record, 22)
 }
 
 /// A copy of a record, made again where memory is refused.
@@ -113,13 +141,25 @@ fn copied(rt: &impl Abort, record: &Record) -> Record {
     }
 }
 
+/// Whether a copy of a record of twenty entries is as it is, and is extended.
+fn is_good_copy(record: &Record, copy: &mut Record) -> bool {
+    let list = [Entry::Rejected, Entry::Resigned(Level::Gammon)];
+    is_kept(copy, 20, &state_at(record, 20)) && is_extended(copy, &list)
+}
+
+fn has_good_copy(rt: &impl Abort, record: &Record) -> bool {
+    is_good_copy(record, &mut copied(rt, record))
+}
+
+fn check_growths(rt: &impl Abort, record: &mut Record) {
+    grow(rt, record);
+    check_row(rt, "reserved", is_reserved(record));
+    check_row(rt, "copied", has_good_copy(rt, record));
+}
+
 /// Where memory is refused nothing has changed, and the same call then succeeds. No run of the tests refuses any, but
 /// `tools/checks/refuse_growths` refuses each growth in turn.
 #[test]
 fn refused_growths(rt: HostRuntime) {
-    let mut record = grown(&rt);
-    reserve_again(&rt, &mut record);
-    let mut copy = copied(&rt, &record);
-    assert!(rt; is_kept(&copy, 20, &state_at(&record, 20)));
-    extend_again(&rt, &mut copy);
+    check_growths(&rt, &mut begun(&rt, 1, Rules::One));
 }

@@ -1,18 +1,23 @@
-//! Plays: lines that are done to a record or a standing, or tell what it then has.
+//! Plays: lines that are done to a record, or tell what it then has. At the head of each stand the names of what it
+//! tries, the length of the match and its rules, as "crawford_game: 3 by rules 1".
 //!
 //! - "double" appends an entry, and "double -> wrong phase" is refused so;
 //! - "may: roll 6 6" says that an entry follows, and leaves it at that;
-//! - "stands: 7, start, X acts, 2 O, 3-2, plain, 4" tells the standing, by the first rules;
+//! - "copy" goes on with a copy, which is compared;
+//! - "stands: 7, start, X acts, 2 O, 3-2, plain, 4" tells the standing;
 //! - "by 2: X", "entry 2: double" and "entries: 2" tell the entries, where "nobody" and "none" stand for what is not
 //!   there;
 //! - "actor: referee", "id: 7" and the like tell a part.
 //!
 //! Each call of the library stands in one short function with no contract, so that what the call ensures does not
 //! burden the proofs of the tests.
+use super::applied::check_applied;
 use super::is_refused;
 use super::lines::{self, crawford, cube, entry, fault, phase, score};
-use crate::words::{board, parted, player, small_number};
-use bg_match::{Actor, Entry, EntryFault, Number, Record, Rules, Standing};
+use super::records::copies;
+use crate::checks::{check_line, check_row};
+use crate::words::{board, parted, player, rules, small_number};
+use bg_match::{Actor, Entry, Number, Record, Rules, Standing};
 use std::process::Abort;
 
 /// The number of an entry.
@@ -32,7 +37,7 @@ fn actor(rt: &impl Abort, word: &str) -> Actor {
 /// A record of this length that has no entries.
 pub(super) fn begun(rt: &(impl AllocGlobal + Abort), length: u8, rules: Rules) -> Record {
     let record = Record::new(rt.alloc(), 7, length, rules).expect(rt, "a record");
-    assert!(rt; is_by_rules(&record, rules));
+    check_row(rt, "the rules", is_by_rules(&record, rules));
     record
 }
 
@@ -42,25 +47,32 @@ fn is_by_rules(record: &Record, rules: Rules) -> bool {
 }
 
 /// Whether an entry is appended, as it is checked and as it is pushed, and the rules stay the same.
-pub(super) fn is_pushed(record: &mut Record, entry: Entry) -> bool {
+pub(super) fn is_pushed(record: &mut Record, entry: &Entry) -> bool {
     let rules = record.rules();
-    record.check(&entry) == Ok(()) && record.push(entry) == Ok(()) && is_by_rules(record, rules)
+    record.check(entry) == Ok(())
+        && record.push(entry.copy()) == Ok(())
+        && is_by_rules(record, rules)
 }
 
-/// Whether the entry of this number is this one, or none is there.
+/// Whether the entry of this number is this one.
+fn is_entry(record: &Record, number: Number, entry: &Entry) -> bool {
+    record.entry(number) == Some(entry)
+}
+
+/// Whether the entry of this number is that of a line, or none is there.
 fn has_entry(rt: &impl Abort, record: &Record, number: Number, line: &str) -> bool {
-    if line == "none" {
-        return record.entry(number).is_none();
+    match line {
+        "none" => record.entry(number).is_none(),
+        _ => is_entry(record, number, &entry(rt, line)),
     }
-    record.entry(number) == Some(&entry(rt, line))
 }
 
 /// Whether the entry of this number was made by this seat, or by none.
 fn has_maker(rt: &impl Abort, record: &Record, number: Number, word: &str) -> bool {
-    if word == "nobody" {
-        return record.by(number).is_none();
+    match word {
+        "nobody" => record.by(number).is_none(),
+        _ => record.by(number) == Some(player(rt, word)),
     }
-    record.by(number) == Some(player(rt, word))
 }
 
 fn may_follow(record: &Record, entry: &Entry) -> bool {
@@ -82,7 +94,7 @@ pub(super) fn has_len(record: &Record, len: Number) -> bool {
 }
 
 /// Whether a part of a standing is this.
-fn is_part(rt: &impl Abort, standing: &Standing, part: &str, words: &str) -> bool {
+pub(super) fn is_part(rt: &impl Abort, standing: &Standing, part: &str, words: &str) -> bool {
     match part {
         "board" => standing.board() == board(rt, words),
         "phase" => standing.phase() == phase(rt, words),
@@ -117,9 +129,9 @@ fn is_told(rt: &impl Abort, record: &Record, what: &str, words: &str) -> bool {
 fn holds(rt: &impl Abort, record: &Record, what: &str, words: &str) -> bool {
     match what {
         "may" => may_follow(record, &entry(rt, words)),
-        "stands" => stands_at(record, lines::standing(rt, Rules::One, words)),
+        "stands" => stands_at(record, lines::standing(rt, record.rules(), words)),
         "actor" => has_actor(record, actor(rt, words)),
-        "phase" | "game" => is_part(rt, &record.standing(), what, words),
+        "board" | "phase" | "game" => is_part(rt, &record.standing(), what, words),
         _ => has_number(rt, record, what, words),
     }
 }
@@ -134,75 +146,45 @@ fn has_number(rt: &impl Abort, record: &Record, what: &str, words: &str) -> bool
     }
 }
 
+/// Whether what a line does to a record is done.
+fn is_done(rt: &impl Abort, record: &mut Record, line: &str) -> bool {
+    match line {
+        "copy" => copies(record),
+        _ => is_pushed(record, &entry(rt, line)),
+    }
+}
+
 /// Whether a line of a play holds.
 fn is_played(rt: &impl Abort, record: &mut Record, line: &str) -> bool {
     if let Some((line, why)) = line.split_once(" -> ") {
-        return is_refused(record, &entry(rt, line), fault(rt, why));
+        let why = fault(rt, why);
+        return is_refused(record, &entry(rt, line), why);
     }
     match line.split_once(": ") {
         Some((what, words)) => holds(rt, record, what, words),
-        None => is_pushed(record, entry(rt, line)),
+        None => is_done(rt, record, line),
     }
 }
 
-/// The lines of a play hold, one after the other.
-pub(super) fn play(rt: &impl Abort, record: &mut Record, lines: &str) {
+/// The lines of a play hold, one after the other, and its entries are applied likewise.
+fn check_lines(rt: &impl Abort, record: &mut Record, names: &str, lines: &str) {
     for line in lines.lines() {
-        assert!(rt; is_played(rt, record, line), "{line}");
+        check_line(rt, names, line, is_played(rt, record, line));
     }
+    check_applied(rt, names, record);
 }
 
-/// The record of this length by the first rules after a play.
-pub(super) fn played(rt: &(impl AllocGlobal + Abort), length: u8, lines: &str) -> Record {
-    let mut record = begun(rt, length, Rules::One);
-    play(rt, &mut record, lines);
-    record
+fn check_play(rt: &(impl AllocGlobal + Abort), play: &str) {
+    let (head, lines) = parted(rt, play, "\n");
+    let (names, terms) = parted(rt, head, ": ");
+    let (length, word) = parted(rt, terms, " by rules ");
+    let (length, rules) = (small_number(rt, length), rules(rt, word));
+    check_lines(rt, &mut begun(rt, length, rules), names, lines);
 }
 
-/// Whether an entry leads from a standing to this one.
-fn leads_to(before: &Standing, entry: &Entry, after: Option<Standing>) -> bool {
-    after.is_some() && before.next(entry).ok() == after
-}
-
-fn fails(standing: &Standing, entry: &Entry, why: EntryFault) -> bool {
-    standing.next(entry) == Err(why)
-}
-
-/// Whether a line holds of a standing: "double -> wrong phase" refuses an entry, "after double: STANDING" tells where
-/// it leads, and "actor: X" a part.
-fn is_so(rt: &impl Abort, standing: &Standing, line: &str) -> bool {
-    let rules = standing.rules();
-    if let Some((line, why)) = line.split_once(" -> ") {
-        return fails(standing, &entry(rt, line), fault(rt, why));
-    }
-    let (what, words) = parted(rt, line, ": ");
-    match what.strip_prefix("after ") {
-        Some(line) => leads_to(
-            standing,
-            &entry(rt, line),
-            lines::standing(rt, rules, words),
-        ),
-        None => is_part(rt, standing, what, words),
-    }
-}
-
-/// The lines hold of a standing.
-pub(super) fn check_standing(rt: &impl Abort, standing: &Standing, lines: &str) {
-    for line in lines.lines() {
-        assert!(rt; is_so(rt, standing, line), "{line}");
-    }
-}
-
-/// Whether a row holds: a standing by the first rules, and a line of it.
-fn holds_row(rt: &impl Abort, row: &str) -> bool {
-    let (before, line) = parted(rt, row, "; ");
-    let standing = lines::standing(rt, Rules::One, before).expect(rt, "a standing");
-    is_so(rt, &standing, line)
-}
-
-/// The rows hold.
-pub(super) fn check_standings(rt: &impl Abort, rows: &str) {
-    for row in rows.lines() {
-        assert!(rt; holds_row(rt, row), "{row}");
+/// The lines of all plays hold.
+pub(super) fn check_plays(rt: &(impl AllocGlobal + Abort), plays: &str) {
+    for play in plays.split("\n\n") {
+        check_play(rt, play);
     }
 }

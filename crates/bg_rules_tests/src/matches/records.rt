@@ -1,81 +1,94 @@
 //! Records, entry by entry.
 use super::is_copied;
 use super::lines::{entry, level};
-use super::plays::{begun, play, played};
-use crate::words::{dice, parted, small_number, turn};
+use super::plays::check_plays;
+use crate::checks::check_row;
+use crate::words::{parted, small_number, turn};
+use bg_board::Die;
 use bg_match::{Action, Actor, Entry, LengthFault, Record, Rules, entry_of};
 use bg_turns::Dice;
 use std::alloc::Global;
 use std::process::Abort;
 
-/// A match of one point in which X opened with 8-5 6-5.
-fn short_record(rt: &(impl AllocGlobal + Abort)) -> Record {
-    played(rt, 1, "open 3 1\nmove 8-5 6-5")
-}
-
-const ENTRIES: &str = "\
+/// A match of one point in which X opened with 8-5 6-5, and one that opens after other entries were refused.
+const PLAYS: &str = "\
+entries_of_a_short_record: 1 by rules 1
+open 3 1
+move 8-5 6-5
 entry 0: none
 entry 1: open 3 1
 entry 2: move 8-5 6-5
 entry 3: none
-actor: O";
+actor: O
 
-#[test]
-fn entries_of_a_short_record(rt: HostRuntime) {
-    play(&rt, &mut short_record(&rt), ENTRIES);
-}
-
-/// What is told of the match.
-const SIZE: &str = "\
+size_of_a_short_record: 1 by rules 1
+open 3 1
+move 8-5 6-5
 id: 7
 length: 1
-entries: 2";
+entries: 2
 
-#[test]
-fn size_of_a_short_record(rt: HostRuntime) {
-    play(&rt, &mut short_record(&rt), SIZE);
-}
-
-const SEATS: &str = "\
+seats_of_a_short_record: 1 by rules 1
+open 3 1
+move 8-5 6-5
 by 0: nobody
 by 1: nobody
 by 2: X
-by 3: nobody";
+by 3: nobody
 
-#[test]
-fn seats_of_a_short_record(rt: HostRuntime) {
-    play(&rt, &mut short_record(&rt), SEATS);
-}
-
-const FOLLOWING: &str = "\
+what_follows_a_short_record: 1 by rules 1
+open 3 1
+move 8-5 6-5
 may: roll 6 6
 take -> wrong phase
 double -> no double: crawford
-entries: 2";
+entries: 2
+
+copy_of_a_short_record: 1 by rules 1
+open 3 1
+move 8-5 6-5
+copy
+id: 7
+length: 1
+entries: 2
+by 2: X
+
+refused_openings_and_turns: 1 by rules 1
+open 3 3 -> equal opening
+take -> wrong phase
+open 3 1
+move 8-5 -> more dice can be played
+open 3 3 -> wrong phase
+entries: 1";
 
 #[test]
-fn what_follows_a_short_record(rt: HostRuntime) {
-    play(&rt, &mut short_record(&rt), FOLLOWING);
+fn short_records(rt: HostRuntime) {
+    check_plays(&rt, PLAYS);
 }
 
-/// A copy of a record that has been given room.
-fn copied(rt: &impl Abort, record: &mut Record) -> Record {
-    assert!(rt; record.reserve(40).is_ok());
-    record.copy().expect(rt, "a copy")
+/// Whether a copy has the entries and the standing of a record.
+fn is_copy(record: &Record, copy: &Record) -> bool {
+    for number in 1..=record.len() {
+        if !is_copied(record, copy, number) {
+            return false;
+        }
+    }
+    copy.len() == record.len() && copy.standing() == record.standing()
 }
 
-/// Whether a copy has both entries and the standing of a short record.
-fn is_short_copy(record: &Record, copy: &Record) -> bool {
-    is_copied(record, copy, 1) && is_copied(record, copy, 2) && copy.standing() == record.standing()
-}
-
-#[test]
-fn copy_of_a_short_record(rt: HostRuntime) {
-    let mut record = short_record(&rt);
-    let mut copy = copied(&rt, &mut record);
-    play(&rt, &mut copy, SIZE);
-    play(&rt, &mut copy, "by 2: X");
-    assert!(rt; is_short_copy(&record, &copy));
+/// Whether a record is given room, and its copy is as it is. The copy takes its place.
+pub(super) fn copies(record: &mut Record) -> bool {
+    if record.reserve(40).is_err() {
+        return false;
+    }
+    match record.copy() {
+        Ok(copy) => {
+            let is_copy = is_copy(record, &copy);
+            *record = copy;
+            is_copy
+        }
+        Err(_) => false,
+    }
 }
 
 /// Whether a new record of this length is empty, and the referee begins it.
@@ -88,7 +101,7 @@ fn is_begun(alloc: Global, length: u8) -> Result<bool, LengthFault> {
 fn check_lengths(rt: &(impl AllocGlobal + Abort), lengths: &str, made: Result<bool, LengthFault>) {
     for word in lengths.split(' ') {
         let length = small_number(rt, word);
-        assert!(rt; is_begun(rt.alloc(), length) == made, "{word}");
+        check_row(rt, word, is_begun(rt.alloc(), length) == made);
     }
 }
 
@@ -96,20 +109,6 @@ fn check_lengths(rt: &(impl AllocGlobal + Abort), lengths: &str, made: Result<bo
 fn lengths(rt: HostRuntime) {
     check_lengths(&rt, "1 99", Ok(true));
     check_lengths(&rt, "0 100", Err(LengthFault::LengthOutOfRange));
-}
-
-/// A match of one point that opens with 3-1, after other entries were refused.
-const REFUSED: &str = "\
-open 3 3 -> equal opening
-take -> wrong phase
-open 3 1
-move 8-5 -> more dice can be played
-open 3 3 -> wrong phase
-entries: 1";
-
-#[test]
-fn refused_openings_and_turns(rt: HostRuntime) {
-    play(&rt, &mut begun(&rt, 1, Rules::One), REFUSED);
 }
 
 /// An action, which is written as its entry is, but for "roll".
@@ -134,11 +133,16 @@ fn long_action(rt: &impl Abort, line: &str) -> Action {
     }
 }
 
-/// Whether an action makes this entry with these dice, and without dice one too unless it rolls.
-fn makes(action: &Action, throw: Dice, entry: &Entry) -> bool {
+const THROW: Dice = Dice {
+    first: Die::Six,
+    second: Die::Five,
+};
+
+/// Whether an action makes this entry with 6 5, and without dice one too unless it rolls.
+fn makes(action: &Action, entry: &Entry) -> bool {
     let rolls = *action == Action::Roll;
     entry_of(action.copy(), None).is_none() == rolls
-        && entry_of(action.copy(), Some(throw)).as_ref() == Some(entry)
+        && entry_of(action.copy(), Some(THROW)).as_ref() == Some(entry)
 }
 
 /// Each action, and the entry that it makes with 6 5.
@@ -152,15 +156,19 @@ resign gammon -> resign gammon
 accept -> accept
 reject -> reject";
 
-/// Whether the action of a row makes its entry with 6 5.
+fn makes_entry_of(rt: &impl Abort, action: &Action, line: &str) -> bool {
+    makes(action, &entry(rt, line))
+}
+
+/// Whether the action of a row makes its entry.
 fn is_made(rt: &impl Abort, row: &str) -> bool {
     let (chosen, made) = parted(rt, row, " -> ");
-    makes(&action(rt, chosen), dice(rt, "6 5"), &entry(rt, made))
+    makes_entry_of(rt, &action(rt, chosen), made)
 }
 
 #[test]
 fn entries_of_actions(rt: HostRuntime) {
     for row in ACTIONS.lines() {
-        assert!(rt; is_made(&rt, row), "{row}");
+        check_row(&rt, row, is_made(&rt, row));
     }
 }

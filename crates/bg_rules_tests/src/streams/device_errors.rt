@@ -1,4 +1,5 @@
 //! The last error of a reader or a writer is kept.
+use crate::checks::check_row;
 use bg_streams::{Reading, Sink, Source, StreamFault, Writing};
 use std::io::{self, ErrorKind, Read, Write};
 
@@ -40,23 +41,36 @@ fn is_read_error(input: &mut Reading<Broken>, kind: ErrorKind) -> bool {
     input.read(&mut [0]) == Err(StreamFault) && kind_of(input.error()) == Some(kind)
 }
 
-/// Whether a call of a sink failed, and this is the reason that is kept.
-fn is_error(output: &Writing<Broken>, ended: Result<(), StreamFault>, kind: ErrorKind) -> bool {
-    ended == Err(StreamFault) && kind_of(output.error()) == Some(kind)
+/// Whether a write fails, and this is the reason that is kept.
+fn is_write_error(output: &mut Writing<Broken>, kind: ErrorKind) -> bool {
+    output.write_all(b"a") == Err(StreamFault) && kind_of(output.error()) == Some(kind)
+}
+
+/// Whether a flush fails, and this is the reason that is kept.
+fn is_flush_error(output: &mut Writing<Broken>, kind: ErrorKind) -> bool {
+    output.flush() == Err(StreamFault) && kind_of(output.error()) == Some(kind)
+}
+
+const KINDS: [ErrorKind; 2] = [ErrorKind::TimedOut, ErrorKind::BrokenPipe];
+
+/// Whether a reader has no error at first, and then that of its last read.
+fn keeps_read_errors() -> bool {
+    let mut input = Reading::new(Broken { kinds: KINDS });
+    kind_of(input.error()).is_none()
+        && is_read_error(&mut input, ErrorKind::TimedOut)
+        && is_read_error(&mut input, ErrorKind::BrokenPipe)
+}
+
+/// Whether a writer has no error at first, and then that of its last call.
+fn keeps_write_errors() -> bool {
+    let mut output = Writing::new(Broken { kinds: KINDS });
+    kind_of(output.error()).is_none()
+        && is_write_error(&mut output, ErrorKind::TimedOut)
+        && is_flush_error(&mut output, ErrorKind::BrokenPipe)
 }
 
 #[test]
 fn last_error_is_kept(rt: HostRuntime) {
-    let kinds = [ErrorKind::TimedOut, ErrorKind::BrokenPipe];
-    let mut input = Reading::new(Broken { kinds });
-    assert!(rt; kind_of(input.error()).is_none());
-    for kind in kinds {
-        assert!(rt; is_read_error(&mut input, kind), "{kind:?}");
-    }
-    let mut output = Writing::new(Broken { kinds });
-    assert!(rt; kind_of(output.error()).is_none());
-    let written = output.write_all(b"a");
-    assert!(rt; is_error(&output, written, ErrorKind::TimedOut));
-    let flushed = output.flush();
-    assert!(rt; is_error(&output, flushed, ErrorKind::BrokenPipe));
+    check_row(&rt, "of a reader", keeps_read_errors());
+    check_row(&rt, "of a writer", keeps_write_errors());
 }

@@ -81,3 +81,8 @@ impl Write for Slow {
         Ok(())
     }
 }
+
+/// Whether bytes are so many, and each of them an "a".
+pub(crate) fn is_filled(bytes: &[u8], count: usize) -> bool {
+    bytes.len() == count && bytes.iter().all(|byte| *byte == b'a')
+}

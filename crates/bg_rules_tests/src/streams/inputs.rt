@@ -1,59 +1,80 @@
 //! Inputs that are read whole, and of which no more is read than one byte over the limit.
-use super::helpers::Fed;
+use super::helpers::{Fed, is_filled};
+use crate::checks::check_number;
 use bg_streams::{EngineFault, Reading, read_input};
 use std::alloc::Global;
-use std::test::Fail;
+use std::process::Abort;
 
 const INPUT: &[u8] = b"length 1\nopen 3 1\n";
 
-/// Fails where not this much of an input is read, in so many reads.
-fn check_read(
-    alloc: Global,
-    reader: &mut Fed<'_>,
-    most: usize,
-    read: &[u8],
-    reads: u32,
-) -> Result<(), Fail> {
-    let input = read_input(alloc, &mut Reading::new(&mut *reader), most)?;
-    if input.as_slice() == read && reader.reads == reads {
-        return Ok(());
+/// Whether this much of an input is read, in so many reads.
+fn is_read(alloc: Global, reader: &mut Fed<'_>, most: usize, read: &[u8], reads: u32) -> bool {
+    match read_input(alloc, &mut Reading::new(&mut *reader), most) {
+        Ok(input) => input.as_slice() == read && reader.reads == reads,
+        Err(_) => false,
     }
-    Err(Fail::new(format_args!(
-        "{} bytes in {} reads of {}, of at most {most}",
-        input.len(),
-        reader.reads,
-        reader.step
-    )))
+}
+
+/// Whether this much of an input that comes in such parts is read, in so many reads.
+fn gives(alloc: Global, step: usize, most: usize, read: &[u8], reads: u32) -> bool {
+    is_read(alloc, &mut Fed::new(INPUT, step), most, read, reads)
+}
+
+fn gives_nothing(alloc: Global) -> bool {
+    is_read(alloc, &mut Fed::new(b"", 1), 0, b"", 1)
+}
+
+/// An input that comes in such parts is read whole in so many reads, whatever is the limit.
+fn check_whole(rt: &impl Abort, alloc: Global, step: usize, reads: u32) {
+    for &most in &[18, 19, 1000, usize::MAX] {
+        check_number(rt, "at most", most, gives(alloc, step, most, INPUT, reads));
+    }
 }
 
 #[test]
-fn read_to_the_end(rt: HostRuntime) -> Result<(), Fail> {
-    for (step, reads) in [(1, 19), (7, 4), (18, 2), (1000, 2)] {
-        for most in [18, 19, 1000, usize::MAX] {
-            check_read(rt.alloc(), &mut Fed::new(INPUT, step), most, INPUT, reads)?;
-        }
+fn read_to_the_end(rt: HostRuntime) {
+    for &(step, reads) in &[(1, 19), (7, 4), (18, 2), (1000, 2)] {
+        check_whole(&rt, rt.alloc(), step, reads);
     }
-    check_read(rt.alloc(), &mut Fed::new(b"", 1), 0, b"", 1)
+    check_number(
+        &rt,
+        "bytes of an empty input:",
+        0,
+        gives_nothing(rt.alloc()),
+    );
+}
+
+/// Whether an input that comes at once is read up to one byte over the limit.
+fn is_cut(alloc: Global, most: usize) -> bool {
+    match INPUT.get(..most.saturating_add(1)) {
+        Some(read) => gives(alloc, 1000, most, read, 1),
+        None => false,
+    }
 }
 
 #[test]
-fn read_to_one_byte_over_the_limit(rt: HostRuntime) -> Result<(), Fail> {
+fn read_to_one_byte_over_the_limit(rt: HostRuntime) {
     for most in 0..INPUT.len() {
-        let read = &INPUT[..most + 1];
-        check_read(rt.alloc(), &mut Fed::new(INPUT, 1000), most, read, 1)?;
+        check_number(&rt, "at most", most, is_cut(rt.alloc(), most));
     }
-    check_read(rt.alloc(), &mut Fed::new(INPUT, 1), 8, b"length 1\n", 9)
+    let holds = gives(rt.alloc(), 1, 8, b"length 1\n", 9);
+    check_number(&rt, "one by one, at most", 8, holds);
 }
 
-#[test]
-fn read_in_chunks(rt: HostRuntime) -> Result<(), Fail> {
+/// Whether an input without end is read up to one byte over the limit, in so many reads.
+fn is_cut_off(alloc: Global, most: usize, reads: u32) -> bool {
     let mut endless = Fed::new(&[b'a'; 5000], 5000);
     endless.endless = true;
-    let mut longest = Vec::from_slice(rt.alloc(), &[b'a'; 8192])?;
-    check_read(rt.alloc(), &mut endless, 8191, &longest, 2)?;
-    longest.push(b'a')?;
-    endless.reads = 0;
-    check_read(rt.alloc(), &mut endless, 8192, &longest, 3)
+    match read_input(alloc, &mut Reading::new(&mut endless), most) {
+        Ok(input) => is_filled(&input, most.saturating_add(1)) && endless.reads == reads,
+        Err(_) => false,
+    }
+}
+
+#[test]
+fn read_in_chunks(rt: HostRuntime) {
+    check_number(&rt, "at most", 8191, is_cut_off(rt.alloc(), 8191, 2));
+    check_number(&rt, "at most", 8192, is_cut_off(rt.alloc(), 8192, 3));
 }
 
 /// Whether an input is read up to the read that fails.
@@ -66,7 +87,8 @@ fn is_read_until(alloc: Global, fails_at: u32) -> bool {
 
 #[test]
 fn readers_that_fail(rt: HostRuntime) {
-    for fails_at in [1, 2, 18, 19] {
-        assert!(rt; is_read_until(rt.alloc(), fails_at), "at read {fails_at}");
+    for &fails_at in &[1, 2, 18, 19] {
+        let holds = is_read_until(rt.alloc(), fails_at);
+        check_number(&rt, "at read", fails_at as usize, holds);
     }
 }

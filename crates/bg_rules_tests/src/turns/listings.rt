@@ -1,30 +1,41 @@
 //! Lists of all legal turns.
 use super::{EITHER_DIE, SHUT_OUT, THREE_FOURS};
-use crate::checks::check_no_growth_is_left;
+use crate::checks::{check_no_growth_is_left, check_row};
 use crate::words::{board, dice, turn};
 use bg_board::{Board, Die, Player};
 use bg_turns::{Dice, Turn, legal_turns};
 use std::alloc::{AllocError, Global};
 use std::process::Abort;
-use std::test::Fail;
 
 /// The legal turns of X.
 fn turns_of(rt: &(impl AllocGlobal + Abort), board: &Board, dice: Dice) -> Vec<Turn> {
     legal_turns(rt.alloc(), board, Player::X, dice).expect(rt, "memory")
 }
 
-/// The turn has these steps.
-fn check_turn(rt: &impl Abort, listed: &Turn, steps: &str) {
-    assert!(rt; *listed == turn(rt, steps), "{listed:?}");
+/// Whether a turn is listed, and is this one.
+fn is_listed(listed: Option<&Turn>, turn: &Turn) -> bool {
+    listed == Some(turn)
 }
 
-/// The legal turns of X are those of the lines, in this order.
-fn check_turns(rt: &(impl AllocGlobal + Abort), points: &str, throw: &str, lines: &str) {
-    let turns = turns_of(rt, &board(rt, points), dice(rt, throw));
-    assert!(rt; turns.len() == lines.split('\n').count());
-    for (listed, steps) in turns.iter().zip(lines.split('\n')) {
-        check_turn(rt, listed, steps);
+/// Whether turns are those of the lines, in this order.
+fn are_turns(rt: &impl Abort, turns: &[Turn], lines: &str) -> bool {
+    let mut listed = turns.iter();
+    for steps in lines.split('\n') {
+        if !is_listed(listed.next(), &turn(rt, steps)) {
+            return false;
+        }
     }
+    listed.next().is_none()
+}
+
+/// Whether the legal turns of X are those of the lines, in this order.
+fn are_legal(rt: &(impl AllocGlobal + Abort), points: &str, throw: &str, lines: &str) -> bool {
+    let (board, dice) = (board(rt, points), dice(rt, throw));
+    are_turns(rt, &turns_of(rt, &board, dice), lines)
+}
+
+fn check_turns(rt: &(impl AllocGlobal + Abort), points: &str, throw: &str, lines: &str) {
+    check_row(rt, lines, are_legal(rt, points, throw, lines));
 }
 
 /// X's last two checkers, which a 2 1 bears off in three ways. The order of the steps counts.
@@ -69,13 +80,23 @@ fn turns_of_ones(alloc: Global) -> Result<Vec<Turn>, AllocError> {
     }
 }
 
+/// Whether there are so many turns, and the first and the last of them have these steps.
+fn have_ends(rt: &impl Abort, turns: &[Turn], count: usize, first: &str, last: &str) -> bool {
+    turns.len() == count
+        && is_listed(turns.first(), &turn(rt, first))
+        && is_listed(turns.last(), &turn(rt, last))
+}
+
+fn are_of_ones(rt: &(impl AllocGlobal + Abort)) -> bool {
+    let turns = turns_of_ones(rt.alloc()).expect(rt, "memory");
+    let (first, last) = ("24-23 24-23 23-22 23-22", "6-5 5-4 4-3 3-2");
+    have_ends(rt, &turns, 245, first, last)
+}
+
 /// Where memory is refused the same call then succeeds. No run of the tests refuses any, but
 /// `tools/checks/refuse_growths` refuses each growth in turn.
 #[test]
-fn refused_growths(rt: HostRuntime) -> Result<(), Fail> {
-    let turns = turns_of_ones(rt.alloc()).expect(&rt, "memory");
-    assert!(rt; turns.len() == 245, "{} turns", turns.len());
-    check_turn(&rt, &turns[0], "24-23 24-23 23-22 23-22");
-    check_turn(&rt, &turns[244], "6-5 5-4 4-3 3-2");
-    check_no_growth_is_left(rt.alloc())
+fn refused_growths(rt: HostRuntime) {
+    check_row(&rt, "245 turns", are_of_ones(&rt));
+    check_no_growth_is_left(&rt);
 }

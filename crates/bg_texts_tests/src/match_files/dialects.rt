@@ -1,9 +1,10 @@
 //! Spellings of other programs: each is read as its plain form is, or refused with a reason.
-use super::records::THREE_POINTS;
+use super::records::{THREE_POINTS, is_same};
+use crate::checks::check_row;
 use bg_mat::{ImportFault, Imported, import_mat};
 use bg_match::{Record, Rules};
 use std::alloc::{AllocError, Global};
-use std::test::Fail;
+use std::process::Abort;
 
 /// A spelling, and behind a bar its plain form or its refusal. A tilde stands for a line feed. Rows of a first game stand
 /// behind the lines before it; what begins with an at sign is a whole file.
@@ -54,8 +55,8 @@ const SPELLINGS: &str = "\
 # x | refused at line 5: not a line of a match file
 ";
 
-/// What is read of a text, in which a tilde stands for a line feed.
-fn read_text(alloc: Global, text: &str) -> Result<Result<Imported, ImportFault>, AllocError> {
+/// The bytes of a text, in which a tilde stands for a line feed.
+fn bytes_of(alloc: Global, text: &str) -> Result<Vec<u8>, AllocError> {
     let mut bytes = Vec::new(alloc);
     if !text.starts_with('@') {
         bytes.extend_from_slice(THREE_POINTS.as_bytes())?;
@@ -67,81 +68,89 @@ fn read_text(alloc: Global, text: &str) -> Result<Result<Imported, ImportFault>,
             other => bytes.push(other)?,
         }
     }
-    Ok(import_mat(alloc, 7, Rules::One, bytes.as_slice()))
+    Ok(bytes)
+}
+
+/// What is read of a text, in which a tilde stands for a line feed.
+fn read_text(alloc: Global, text: &str) -> Result<Imported, ImportFault> {
+    match bytes_of(alloc, text) {
+        Ok(bytes) => import_mat(alloc, 7, Rules::One, &bytes),
+        Err(AllocError) => Err(ImportFault::Memory),
+    }
 }
 
 /// Whether a fault has these words.
-fn has_words(alloc: Global, fault: ImportFault, words: &str) -> Result<bool, AllocError> {
-    let said = format!(in alloc; "{fault}")?;
-    Ok(said.as_str() == words)
+fn has_words(alloc: Global, fault: ImportFault, words: &str) -> bool {
+    match format!(in alloc; "{fault}") {
+        Ok(said) => said.as_str() == words,
+        Err(_) => false,
+    }
 }
 
-/// Whether two records have the same entries.
-fn are_same(read: &Record, expected: &Record) -> bool {
-    for written in 0..expected.len() {
-        if read.entry(written + 1) != expected.entry(written + 1) {
-            return false;
-        }
+/// Whether a text is read as a record with the same entries.
+fn has_entries(alloc: Global, plain: &str, read: &Record) -> bool {
+    match read_text(alloc, plain) {
+        Ok(expected) => is_same(read, &expected.record),
+        Err(_) => false,
     }
-    read.len() == expected.len()
 }
 
 /// Whether a spelling is read as its plain form, or refused so.
-fn is_read_as(alloc: Global, spelling: &str, plain: &str) -> Result<bool, AllocError> {
-    match read_text(alloc, spelling)? {
-        Ok(imported) => match read_text(alloc, plain)? {
-            Ok(expected) => Ok(are_same(&imported.record, &expected.record)),
-            Err(_) => Ok(false),
-        },
+fn is_read_as(alloc: Global, spelling: &str, plain: &str) -> bool {
+    match read_text(alloc, spelling) {
+        Ok(imported) => has_entries(alloc, plain, &imported.record),
         Err(fault) => has_words(alloc, fault, plain),
     }
 }
 
 /// Whether a row holds.
-fn holds(alloc: Global, row: &str) -> Result<bool, AllocError> {
+fn holds(alloc: Global, row: &str) -> bool {
     match row.split_once(" | ") {
         Some((spelling, plain)) => is_read_as(alloc, spelling, plain),
-        None => Ok(false),
+        None => false,
+    }
+}
+
+#[test]
+fn spellings_of_other_programs(rt: HostRuntime) {
+    for row in SPELLINGS.lines() {
+        check_row(&rt, row, holds(rt.alloc(), row));
     }
 }
 
 /// Returns whether the file of a text ends within a game; nothing where it is refused.
-fn ends_within(alloc: Global, text: &str) -> Result<Option<bool>, AllocError> {
-    match read_text(alloc, text)? {
-        Ok(imported) => Ok(Some(imported.within_game)),
-        Err(_) => Ok(None),
+fn ends_within(alloc: Global, text: &str) -> Option<bool> {
+    match read_text(alloc, text) {
+        Ok(imported) => Some(imported.within_game),
+        Err(_) => None,
+    }
+}
+
+const WHOLE: [&str; 3] = [
+    "@ 3 point match",
+    "31: 8/5 6/5~Wins 1 point",
+    "31: 8/5 6/5~Wins 3 points~~",
+];
+
+const CUT: [&str; 7] = [
+    "@ 3 point match~Game 1",
+    "",
+    "31: 8/5 6/5",
+    "31: 8/5 6/5 42:",
+    "31: 8/5 6/5 Doubles",
+    "31: 8/5 6/5 Doubles~Drops",
+    "31: 8/5 6/5~Wins 1 point~Game 2",
+];
+
+/// The files of texts end within a game, or none does.
+fn check_ends(rt: &impl Abort, alloc: Global, texts: &[&str], within: bool) {
+    for text in texts {
+        check_row(rt, text, ends_within(alloc, text) == Some(within));
     }
 }
 
 #[test]
-fn files_that_end_within_a_game(rt: HostRuntime) -> Result<(), Fail> {
-    let whole = [
-        "@ 3 point match",
-        "31: 8/5 6/5~Wins 1 point",
-        "31: 8/5 6/5~Wins 3 points~~",
-    ];
-    for text in whole {
-        assert!(rt; ends_within(rt.alloc(), text)? == Some(false), "{text}");
-    }
-    let cut = [
-        "@ 3 point match~Game 1",
-        "",
-        "31: 8/5 6/5",
-        "31: 8/5 6/5 42:",
-        "31: 8/5 6/5 Doubles",
-        "31: 8/5 6/5 Doubles~Drops",
-        "31: 8/5 6/5~Wins 1 point~Game 2",
-    ];
-    for text in cut {
-        assert!(rt; ends_within(rt.alloc(), text)? == Some(true), "{text}");
-    }
-    Ok(())
-}
-
-#[test]
-fn spellings_of_other_programs(rt: HostRuntime) -> Result<(), Fail> {
-    for row in SPELLINGS.lines() {
-        assert!(rt; holds(rt.alloc(), row)?, "{row}");
-    }
-    Ok(())
+fn files_that_end_within_a_game(rt: HostRuntime) {
+    check_ends(&rt, rt.alloc(), &WHOLE, false);
+    check_ends(&rt, rt.alloc(), &CUT, true);
 }

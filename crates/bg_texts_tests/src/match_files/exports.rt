@@ -1,7 +1,8 @@
 //! What records are written as.
 use super::records::{THREE_POINTS, check_same, check_transcript, export, read, read_rows};
-use crate::checks::{check_row, check_told, text_of};
+use crate::checks::{check_row, check_text, text_of};
 use crate::records::push_lines;
+use bg_mat::{Imported, export_mat};
 use bg_match::{Record, Rules};
 use std::alloc::Global;
 use std::process::Abort;
@@ -36,27 +37,26 @@ const DROP_OF_X: &str = " 3 point match
   1) 61: 13/7 8/7                 Doubles => 2
   2)  Takes                      \n";
 
-/// What is written of the record of a text is that text; returns how many entries it has.
-fn written_again(rt: &impl Abort, alloc: Global, text: &str) -> u32 {
+/// What is written of the record of a text is that text, and it has so many entries, where that is told.
+fn check_written(rt: &impl Abort, alloc: Global, text: &str, len: Option<u32>) {
     let imported = read(rt, alloc, text);
-    let written = export(rt, alloc, &imported.record);
-    check_told(rt, text, text_of(&written), text);
-    imported.record.len()
+    check_export(rt, alloc, &imported.record, text);
+    check_row(
+        rt,
+        text,
+        len.is_none() || len == Some(imported.record.len()),
+    );
+}
+
+fn check_export(rt: &impl Abort, alloc: Global, record: &Record, text: &str) {
+    check_text(rt, text, export_mat(alloc, record), text);
 }
 
 /// What is written of a record is what was read of such a text.
 #[test]
 fn games_as_they_are_written(rt: HostRuntime) {
-    check_row(
-        &rt,
-        TWO_GAMES,
-        written_again(&rt, rt.alloc(), TWO_GAMES) == 15,
-    );
-    check_row(
-        &rt,
-        DROP_OF_X,
-        written_again(&rt, rt.alloc(), DROP_OF_X) == 8,
-    );
+    check_written(&rt, rt.alloc(), TWO_GAMES, Some(15));
+    check_written(&rt, rt.alloc(), DROP_OF_X, Some(8));
 }
 
 /// The first lines of the two games, so many.
@@ -71,16 +71,22 @@ fn first_lines(rt: &impl Abort, count: usize) -> &'static str {
 /// A file that breaks off within a game, behind a win, or with dice that are not moved comes back as it was.
 #[test]
 fn files_that_break_off(rt: HostRuntime) {
-    for count in [1, 5, 6, 8, 12, 13] {
-        written_again(&rt, rt.alloc(), first_lines(&rt, count));
+    for &count in &[1, 5, 6, 8, 12, 13] {
+        check_written(&rt, rt.alloc(), first_lines(&rt, count), None);
     }
 }
 
 /// What is written of the record of some rows ends so.
 fn check_end(rt: &impl Abort, alloc: Global, rows: &str, end: &str) {
     let imported = read_rows(rt, alloc, THREE_POINTS, rows);
-    let written = export(rt, alloc, &imported.record);
-    check_row(rt, end, text_of(&written).ends_with(end));
+    check_row(rt, end, ends_so(alloc, &imported.record, end));
+}
+
+fn ends_so(alloc: Global, record: &Record, end: &str) -> bool {
+    match export_mat(alloc, record) {
+        Ok(written) => written.ends_with(end.as_bytes()),
+        Err(_) => false,
+    }
 }
 
 /// Of two checkers that come to a hit the first has the mark; the bar is 25, and off is 0.
@@ -110,14 +116,23 @@ X roll 2 4
 X move 8-4 6-4
 ";
 
+/// What is written of a record is read back.
+fn read_back(rt: &impl Abort, alloc: Global, record: &Record) -> Imported {
+    let written = export(rt, alloc, record);
+    read(rt, alloc, text_of(&written))
+}
+
+fn check_offers(rt: &impl Abort, alloc: Global, record: &mut Record) {
+    push_lines(rt, record, OFFERS);
+    let imported = read_back(rt, alloc, record);
+    check_transcript(rt, alloc, &imported.record, NO_OFFERS);
+}
+
 /// An offer to resign that is not accepted is left out, and the order of the dice of a throw is kept.
 #[test]
 fn offers_that_are_not_accepted(rt: HostRuntime) {
     let mut record = Record::new(rt.alloc(), 1, 3, Rules::Two).expect(&rt, "a record");
-    push_lines(&rt, &mut record, OFFERS);
-    let written = export(&rt, rt.alloc(), &record);
-    let imported = read(&rt, rt.alloc(), text_of(&written));
-    check_transcript(&rt, rt.alloc(), &imported.record, NO_OFFERS);
+    check_offers(&rt, rt.alloc(), &mut record);
 }
 
 /// A record without entries is a length, and records are read back as they were.
@@ -130,12 +145,15 @@ const ROWS: [&str; 6] = [
     "31: 8/5 6/5   66: 24/18(2) 13/7(2)\n                    Wins 2 points\n",
 ];
 
+fn check_read_back(rt: &impl Abort, alloc: Global, row: &str, record: &Record) {
+    let again = read_back(rt, alloc, record);
+    check_same(rt, row, &again.record, record);
+}
+
 #[test]
 fn records_read_back(rt: HostRuntime) {
     for row in &ROWS {
         let imported = read_rows(&rt, rt.alloc(), THREE_POINTS, row);
-        let written = export(&rt, rt.alloc(), &imported.record);
-        let again = read(&rt, rt.alloc(), text_of(&written));
-        check_same(&rt, row, &again.record, &imported.record);
+        check_read_back(&rt, rt.alloc(), row, &imported.record);
     }
 }

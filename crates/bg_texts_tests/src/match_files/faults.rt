@@ -1,36 +1,40 @@
 //! Match files that are refused.
 use super::records::{ONE_POINT, THREE_POINTS, behind};
-use crate::checks::check_told;
+use crate::checks::{check_printed, check_row, check_words};
 use bg_mat::{ImportFault, MatFault, import_mat};
 use bg_match::{EntryFault, Rules};
 use bg_text::MAX_INPUT;
-use std::alloc::Global;
+use std::alloc::{AllocError, Global};
 use std::process::Abort;
 
-/// The line at which a text is refused, and why, or why else.
-fn told_of(rt: &impl Abort, alloc: Global, fault: ImportFault) -> String {
-    match fault {
-        ImportFault::Refused { line, why } => format!(in alloc; "{line} {why:?}"),
-        other => format!(in alloc; "{other:?}"),
+/// The line at which a text is refused, and why, or why else; "good" where it is not refused.
+fn told_of(alloc: Global, text: &[u8]) -> Result<String, AllocError> {
+    match import_mat(alloc, 1, Rules::One, text) {
+        Ok(_) => format!(in alloc; "good"),
+        Err(ImportFault::Refused { line, why }) => format!(in alloc; "{line} {why:?}"),
+        Err(other) => format!(in alloc; "{other:?}"),
     }
-    .expect(rt, "memory")
 }
 
 /// A text is refused so.
 fn check_fault(rt: &impl Abort, alloc: Global, row: &str, text: &[u8], wanted: &str) {
-    let fault = import_mat(alloc, 1, Rules::One, text).err().expect(rt, row);
-    check_told(rt, row, told_of(rt, alloc, fault).as_str(), wanted);
+    check_words(rt, row, told_of(alloc, text), wanted);
+}
+
+/// A row behind these lines is refused so.
+fn check_behind(rt: &impl Abort, alloc: Global, head: &str, row: &str, wanted: &str) {
+    let text = behind(rt, alloc, head, row);
+    check_fault(rt, alloc, row, text.as_bytes(), wanted);
 }
 
 /// Rows behind these lines are refused at a line, for a reason.
 fn check_rows(rt: &impl Abort, alloc: Global, head: &str, rows: &[(&str, &str)]) {
-    for &(row, wanted) in rows {
-        let text = behind(rt, alloc, head, row);
-        check_fault(rt, alloc, row, text.as_bytes(), wanted);
+    for (row, wanted) in rows {
+        check_behind(rt, alloc, head, row, wanted);
     }
 }
 
-const HEADINGS: [(&str, &str); 12] = [
+const FAULTS_OF_HEADINGS: [(&str, &str); 12] = [
     ("", "1 NoLength"),
     ("; a comment\n\n", "3 NoLength"),
     (" Game 1\n", "1 NoLength"),
@@ -48,12 +52,7 @@ const HEADINGS: [(&str, &str); 12] = [
     ),
 ];
 
-#[test]
-fn faults_of_headings(rt: HostRuntime) {
-    check_rows(&rt, rt.alloc(), "", &HEADINGS);
-}
-
-const CELLS: [(&str, &str); 16] = [
+const FAULTS_OF_CELLS: [(&str, &str); 16] = [
     ("  1) hello\n", "5 NotALine"),
     ("  1) 71: 8/5 6/5\n", "5 NotALine"),
     ("  1) 31: 8/5 6/5 5/8\n", "5 NotALine"),
@@ -75,12 +74,7 @@ const CELLS: [(&str, &str); 16] = [
     ),
 ];
 
-#[test]
-fn faults_of_cells(rt: HostRuntime) {
-    check_rows(&rt, rt.alloc(), ONE_POINT, &CELLS);
-}
-
-const GAMES: [(&str, &str); 9] = [
+const FAULTS_OF_GAMES: [(&str, &str); 9] = [
     ("31: 8/5 6/5  Doubles => 4\n", "5 WrongCube"),
     ("31: 8/5 6/5\n Game 2\n", "6 GameGoesOn"),
     (
@@ -110,14 +104,9 @@ const GAMES: [(&str, &str); 9] = [
     ),
 ];
 
-#[test]
-fn faults_of_games(rt: HostRuntime) {
-    check_rows(&rt, rt.alloc(), THREE_POINTS, &GAMES);
-}
-
 /// Of several faults the first one is named: of a line its shape comes first, from left to right, and then what it
 /// tells.
-const SEVERAL: [(&str, &str); 16] = [
+const FIRST_OF_SEVERAL_FAULTS: [(&str, &str); 16] = [
     ("31: 8/5 6/5\n Game 5\n", "6 WrongGame"),
     ("31: 8/5 6/5\n Game 1\n", "6 WrongGame"),
     ("\n Game 2\n", "6 GameGoesOn"),
@@ -151,13 +140,8 @@ const SEVERAL: [(&str, &str); 16] = [
     ),
 ];
 
-#[test]
-fn first_of_several_faults(rt: HostRuntime) {
-    check_rows(&rt, rt.alloc(), THREE_POINTS, &SEVERAL);
-}
-
 /// Dice alone are refused at once where the player may not bring them; that a step can be played shows behind them.
-const DICE_ALONE: [(&str, &str); 6] = [
+const FAULTS_OF_DICE_ALONE: [(&str, &str); 6] = [
     ("33:\nhello\n", "5 Entry(EqualOpening)"),
     ("31: 8/5 6/5\n42:\nhello\n", "6 OutOfTurn"),
     ("31: 8/5 6/5  42:\nhello\n", "6 NotALine"),
@@ -170,24 +154,25 @@ const DICE_ALONE: [(&str, &str); 6] = [
 ];
 
 #[test]
-fn faults_of_dice_alone(rt: HostRuntime) {
-    check_rows(&rt, rt.alloc(), THREE_POINTS, &DICE_ALONE);
+fn faults_of_lines(rt: HostRuntime) {
+    check_rows(&rt, rt.alloc(), "", &FAULTS_OF_HEADINGS);
+    check_rows(&rt, rt.alloc(), ONE_POINT, &FAULTS_OF_CELLS);
+    check_rows(&rt, rt.alloc(), THREE_POINTS, &FAULTS_OF_GAMES);
+    check_rows(&rt, rt.alloc(), THREE_POINTS, &FIRST_OF_SEVERAL_FAULTS);
+    check_rows(&rt, rt.alloc(), THREE_POINTS, &FAULTS_OF_DICE_ALONE);
+}
+
+fn check_longest(rt: &impl Abort, alloc: Global, text: &mut Vec<u8>) {
+    check_fault(rt, alloc, "longest", text.as_slice(), "2 NoLength");
+    check_row(rt, "memory", text.push(b';').is_ok());
+    check_fault(rt, alloc, "too long", text.as_slice(), "TooLong");
 }
 
 /// The longest input is read, and one byte more is refused.
 #[test]
 fn longest_input(rt: HostRuntime) {
     let mut text = vec![in rt.alloc(); b';'; MAX_INPUT].expect(&rt, "memory");
-    let wanted = "2 NoLength";
-    check_fault(&rt, rt.alloc(), "longest", &text, wanted);
-    text.push(b';').expect(&rt, "memory");
-    check_fault(&rt, rt.alloc(), "too long", &text, "TooLong");
-}
-
-/// A fault has these words.
-fn check_words(rt: &impl Abort, alloc: Global, fault: ImportFault, words: &str) {
-    let printed = format!(in alloc; "{fault}").expect(rt, "memory");
-    check_told(rt, words, printed.as_str(), words);
+    check_longest(&rt, rt.alloc(), &mut text);
 }
 
 const WORDS: [(MatFault, &str); 3] = [
@@ -205,13 +190,9 @@ const WORDS: [(MatFault, &str); 3] = [
 #[test]
 fn words_of_faults(rt: HostRuntime) {
     for &(why, words) in &WORDS {
-        check_words(
-            &rt,
-            rt.alloc(),
-            ImportFault::Refused { line: 3, why },
-            words,
-        );
+        let fault = ImportFault::Refused { line: 3, why };
+        check_printed(&rt, rt.alloc(), &fault, words);
     }
     let words = "refused: input too long";
-    check_words(&rt, rt.alloc(), ImportFault::TooLong, words);
+    check_printed(&rt, rt.alloc(), &ImportFault::TooLong, words);
 }

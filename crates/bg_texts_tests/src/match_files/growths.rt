@@ -17,13 +17,16 @@ fn read(rt: &impl Abort, alloc: Global, text: &[u8]) -> Imported {
     .expect(rt, "a good match file")
 }
 
+fn check_read(rt: &impl Abort, imported: &Imported) {
+    check_len(rt, &imported.record, 4);
+    check_lines(rt, imported, &[4, 4, 5, 5]);
+}
+
 /// Where memory is refused the same call then succeeds. No run of the tests refuses any, but
 /// `tools/checks/refuse_growths` refuses each growth in turn.
 #[test]
 fn refused_growths_of_imports(rt: HostRuntime) {
-    let imported = read(&rt, rt.alloc(), MATCH);
-    check_len(&rt, &imported.record, 4);
-    check_lines(&rt, &imported, &[4, 4, 5, 5]);
+    check_read(&rt, &read(&rt, rt.alloc(), MATCH));
     check_no_growth_is_left(&rt, rt.alloc());
 }
 
@@ -35,12 +38,16 @@ fn export(rt: &impl Abort, alloc: Global, record: &Record) -> Vec<u8> {
     }
 }
 
+/// What is written of a record is read back.
+fn check_read_back(rt: &impl Abort, alloc: Global, record: &Record) {
+    let again = read(rt, alloc, &export(rt, alloc, record));
+    check_same(rt, "read back", &again.record, record);
+}
+
 /// The same, of exports.
 #[test]
 fn refused_growths_of_exports(rt: HostRuntime) {
     let imported = read(&rt, rt.alloc(), MATCH);
-    let written = export(&rt, rt.alloc(), &imported.record);
-    let again = read(&rt, rt.alloc(), &written);
-    check_same(&rt, "read back", &again.record, &imported.record);
+    check_read_back(&rt, rt.alloc(), &imported.record);
     check_no_growth_is_left(&rt, rt.alloc());
 }

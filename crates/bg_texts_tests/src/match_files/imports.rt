@@ -1,7 +1,5 @@
 //! What match files tell.
-use super::records::{
-    ONE_POINT, THREE_POINTS, check_len, check_lines, check_transcript, read, read_rows,
-};
+use super::records::{ONE_POINT, THREE_POINTS, check_lines, check_transcript, read, read_rows};
 use crate::checks::check_row;
 use bg_board::Player;
 use bg_mat::Imported;
@@ -21,6 +19,12 @@ fn check_read(
     check_lines(rt, imported, lines);
 }
 
+/// What is read of rows of a match to three points.
+fn check_rows(rt: &impl Abort, alloc: Global, rows: &str, transcript: &str, lines: &[u32]) {
+    let imported = read_rows(rt, alloc, THREE_POINTS, rows);
+    check_read(rt, alloc, &imported, transcript, lines);
+}
+
 const TWO_CELLS: &str = "  1) 31: 8/5 6/5        24: 8/4 6/4
   2) 65: 24/18 18/13
 ";
@@ -34,17 +38,15 @@ X roll 6 5
 X move 24-18 18-13
 ";
 
+fn check_two_cells(rt: &impl Abort, alloc: Global, imported: &Imported) {
+    check_read(rt, alloc, imported, OF_TWO_CELLS, &[5, 5, 5, 5, 6, 6]);
+    check_row(rt, "number of the match", imported.record.id() == 7);
+}
+
 #[test]
 fn rows_of_two_cells(rt: HostRuntime) {
     let imported = read_rows(&rt, rt.alloc(), ONE_POINT, TWO_CELLS);
-    check_read(
-        &rt,
-        rt.alloc(),
-        &imported,
-        OF_TWO_CELLS,
-        &[5, 5, 5, 5, 6, 6],
-    );
-    check_row(&rt, "number of the match", imported.record.id() == 7);
+    check_two_cells(&rt, rt.alloc(), &imported);
 }
 
 const COMMENTS: &str =
@@ -99,23 +101,27 @@ X double
 O drop
 ";
 
+fn check_doubles(rt: &impl Abort, alloc: Global, imported: &Imported) {
+    let lines = [5, 5, 5, 6, 6, 6, 7, 7];
+    check_read(rt, alloc, imported, OF_DOUBLES, &lines);
+    let score = imported.record.standing().score();
+    check_row(rt, "score", score == (2, 0));
+}
+
 #[test]
 fn doubles_and_answers(rt: HostRuntime) {
     let imported = read_rows(&rt, rt.alloc(), THREE_POINTS, DOUBLES);
-    check_read(
-        &rt,
-        rt.alloc(),
-        &imported,
-        OF_DOUBLES,
-        &[5, 5, 5, 6, 6, 6, 7, 7],
-    );
-    let score = imported.record.standing().score();
-    check_row(&rt, "score", score == (2, 0));
+    check_doubles(&rt, rt.alloc(), &imported);
 }
 
 /// In which phase what is read ends.
 fn phase_of(imported: &Imported) -> Phase {
     imported.record.standing().phase()
+}
+
+/// Whether what is read has so many entries, and ends in this phase.
+fn ends_with(imported: &Imported, len: u32, phase: Phase) -> bool {
+    imported.record.len() == len && phase_of(imported) == phase
 }
 
 /// A game that is dropped needs no row of a win.
@@ -124,8 +130,7 @@ fn win_that_no_row_tells(rt: HostRuntime) {
     let rows =
         "31: 8/5 6/5   Doubles => 2\nDrops\nGame 2\nA : 0 B : 1\n                21: 13/11 6/5\n";
     let imported = read_rows(&rt, rt.alloc(), THREE_POINTS, rows);
-    check_len(&rt, &imported.record, 6);
-    check_row(&rt, rows, phase_of(&imported) == Phase::ToAct(Player::X));
+    check_row(&rt, rows, ends_with(&imported, 6, Phase::ToAct(Player::X)));
 }
 
 /// The points of a win that nothing else tells say at which level the other player resigned.
@@ -146,9 +151,8 @@ const WINS: [(&str, &str); 3] = [
 
 #[test]
 fn resignations_by_points(rt: HostRuntime) {
-    for &(rows, transcript) in &WINS {
-        let imported = read_rows(&rt, rt.alloc(), THREE_POINTS, rows);
-        check_read(&rt, rt.alloc(), &imported, transcript, &[5, 5, 6, 6]);
+    for (rows, transcript) in &WINS {
+        check_rows(&rt, rt.alloc(), rows, transcript, &[5, 5, 6, 6]);
     }
 }
 
@@ -156,9 +160,13 @@ fn resignations_by_points(rt: HostRuntime) {
 #[test]
 fn resignation_with_dice_to_move(rt: HostRuntime) {
     let rows = "  1) 31: 8/5 6/5             42:\n      Wins 2 points\n";
-    let imported = read_rows(&rt, rt.alloc(), THREE_POINTS, rows);
     let transcript = "length 3\nopen 3 1\nX move 8-5 6-5\nO roll 4 2\nO resign gammon\nX accept\n";
-    check_read(&rt, rt.alloc(), &imported, transcript, &[5, 5, 5, 6, 6]);
+    check_rows(&rt, rt.alloc(), rows, transcript, &[5, 5, 5, 6, 6]);
+}
+
+/// Whether what is read has three entries, and O is to move dice.
+fn has_dice_left(imported: &Imported) -> bool {
+    imported.record.len() == 3 && matches!(phase_of(imported), Phase::ToMove(Player::O, _))
 }
 
 /// The last dice are still to be moved where a step can be played.
@@ -166,9 +174,7 @@ fn resignation_with_dice_to_move(rt: HostRuntime) {
 fn dice_at_the_end(rt: HostRuntime) {
     let rows = "  1) 31: 8/5 6/5             42:\n";
     let imported = read_rows(&rt, rt.alloc(), ONE_POINT, rows);
-    check_len(&rt, &imported.record, 3);
-    let phase = phase_of(&imported);
-    check_row(&rt, rows, matches!(phase, Phase::ToMove(Player::O, _)));
+    check_row(&rt, rows, has_dice_left(&imported));
 }
 
 /// Sixteen blanks stand for an empty left column, and fifteen do not.

@@ -2,7 +2,10 @@
 use super::records::{check_len, check_lines, check_same, export, read};
 use crate::checks::{check_row, text_of};
 use bg_board::Player;
+use bg_mat::Imported;
 use bg_match::Phase;
+use std::alloc::Global;
+use std::process::Abort;
 
 /// X resigns at the end, which only the points of the last line tell.
 const MATCH: &str = " 1 point match
@@ -33,17 +36,25 @@ const MATCH: &str = " 1 point match
 
 ";
 
+/// What is written of what was read is read back the same.
+fn check_again(rt: &impl Abort, alloc: Global, imported: &Imported) {
+    let again = read(rt, alloc, text_of(&export(rt, alloc, &imported.record)));
+    check_same(rt, MATCH, &again.record, &imported.record);
+    check_lines(rt, &again, imported.lines.as_slice());
+}
+
+fn check_whole(rt: &impl Abort, imported: &Imported) {
+    check_len(rt, &imported.record, 82);
+    let lines = imported.lines.as_slice();
+    check_row(rt, "first line", lines.first() == Some(&5));
+    check_row(rt, "last line", lines.last() == Some(&25));
+    let phase = imported.record.standing().phase();
+    check_row(rt, "phase", phase == Phase::Over(Player::O));
+}
+
 #[test]
 fn match_of_another_program(rt: HostRuntime) {
     let imported = read(&rt, rt.alloc(), MATCH);
-    check_len(&rt, &imported.record, 82);
-    let written = export(&rt, rt.alloc(), &imported.record);
-    let again = read(&rt, rt.alloc(), text_of(&written));
-    check_same(&rt, MATCH, &again.record, &imported.record);
-    let lines = imported.lines.as_slice();
-    check_lines(&rt, &again, lines);
-    check_row(&rt, "first line", lines.first() == Some(&5));
-    check_row(&rt, "last line", lines.last() == Some(&25));
-    let phase = imported.record.standing().phase();
-    check_row(&rt, "phase", phase == Phase::Over(Player::O));
+    check_whole(&rt, &imported);
+    check_again(&rt, rt.alloc(), &imported);
 }

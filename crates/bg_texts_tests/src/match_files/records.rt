@@ -34,7 +34,8 @@ pub(crate) fn export(rt: &impl Abort, alloc: Global, record: &Record) -> Vec<u8>
 
 /// A record has this transcript.
 pub(crate) fn check_transcript(rt: &impl Abort, alloc: Global, record: &Record, wanted: &str) {
-    check_told(rt, wanted, text_of(&written(rt, alloc, record)), wanted);
+    let written = written(rt, alloc, record);
+    check_told(rt, wanted, text_of(&written), wanted);
 }
 
 /// A record has so many entries.
@@ -50,7 +51,7 @@ pub(crate) fn check_lines(rt: &impl Abort, imported: &Imported, wanted: &[u32]) 
 }
 
 /// Whether two records have the same entries.
-fn is_same(read: &Record, wanted: &Record) -> bool {
+pub(crate) fn is_same(read: &Record, wanted: &Record) -> bool {
     for number in 1..=wanted.len() {
         if read.entry(number) != wanted.entry(number) {
             return false;

@@ -20,10 +20,8 @@ pub(super) fn page_of(
 
 /// What stands behind a part of a text.
 pub(super) fn behind<'a>(rt: &impl Abort, text: &'a str, part: &str) -> &'a str {
-    match text.split_once(part) {
-        Some((_, rest)) => rest,
-        None => panic!(rt; "no {part}"),
-    }
+    let (_, rest) = text.split_once(part).expect(rt, part);
+    rest
 }
 
 /// A page has each of these parts, one behind the other; what stands behind the last.

@@ -20,6 +20,12 @@ fn page(rt: &impl Abort, alloc: Global, transcript: &str) -> Vec<u8> {
     page_of(rt, alloc, transcript, titled(""), Numbering::Mover, 0)
 }
 
+/// What stands behind both parts of an item.
+fn behind_parts<'a>(rt: &impl Abort, page: &'a str, item: &str) -> &'a str {
+    let (start, end) = item.split_once(" .. ").expect(rt, "two parts");
+    behind(rt, behind(rt, page, start), end)
+}
+
 /// What stands behind the start and the result of a game, where that is this.
 fn behind_game<'a>(
     rt: &impl Abort,
@@ -28,21 +34,25 @@ fn behind_game<'a>(
     game: usize,
     told: &str,
 ) -> &'a str {
-    let parts = format!(in alloc;
+    let item = format!(in alloc;
         "<li id='start{game}' .. <a href='#result{game}'>result<span>: {told}</span></a>"
     ).expect(rt, "memory");
-    let (start, item) = parts.split_once(" .. ").expect(rt, "two parts");
-    behind(rt, behind(rt, page, start), item)
+    behind_parts(rt, page, item.as_str())
 }
 
-/// The page of a transcript has these results, those of the games from the first on.
-fn check_results(rt: &impl Abort, alloc: Global, transcript: &str, results: &[&str]) {
-    let page = page(rt, alloc, transcript);
-    let mut rest = text_of(&page);
+/// A page has these results, those of the games from the first on.
+fn check_page(rt: &impl Abort, alloc: Global, page: &str, results: &[&str]) {
+    let mut rest = page;
     for (index, result) in results.iter().enumerate() {
         rest = behind_game(rt, alloc, rest, index + 1, result);
     }
     check_row(rt, "one result more", !rest.contains("<li id='result"));
+}
+
+/// The page of a transcript has these results.
+fn check_results(rt: &impl Abort, alloc: Global, transcript: &str, results: &[&str]) {
+    let page = page(rt, alloc, transcript);
+    check_page(rt, alloc, text_of(&page), results);
 }
 
 /// The match of some games, behind its first line.
@@ -62,14 +72,25 @@ const OF_A_BACKGAMMON: [&str; 2] = [
     "X wins a gammon, 2 points; X 5, O 0; X wins the match",
 ];
 
+/// The match of some games has these results.
+fn check_games(
+    rt: &impl Abort,
+    alloc: Global,
+    (first, games, last): (&str, &str, &str),
+    results: &[&str],
+) {
+    let transcript = match_of(rt, alloc, first, games, last);
+    check_results(rt, alloc, transcript.as_str(), results);
+}
+
 #[test]
 fn results_by_bearing_off(rt: HostRuntime) {
-    let single = match_of(&rt, rt.alloc(), "length 2", SINGLE_GAME, "");
-    check_results(&rt, rt.alloc(), single.as_str(), &OF_A_SINGLE_GAME);
-    let gammon = match_of(&rt, rt.alloc(), "length 3", GAMMON, SINGLE_GAME);
-    check_results(&rt, rt.alloc(), gammon.as_str(), &OF_A_GAMMON);
-    let backgammon = match_of(&rt, rt.alloc(), "length 5 rules 2", BACKGAMMON, GAMMON);
-    check_results(&rt, rt.alloc(), backgammon.as_str(), &OF_A_BACKGAMMON);
+    let single = ("length 2", SINGLE_GAME, "");
+    check_games(&rt, rt.alloc(), single, &OF_A_SINGLE_GAME);
+    let gammon = ("length 3", GAMMON, SINGLE_GAME);
+    check_games(&rt, rt.alloc(), gammon, &OF_A_GAMMON);
+    let backgammon = ("length 5 rules 2", BACKGAMMON, GAMMON);
+    check_games(&rt, rt.alloc(), backgammon, &OF_A_BACKGAMMON);
 }
 
 const OF_A_DROP: [&str; 1] = ["X wins by a drop of the double, 2 points; X 2, O 0"];
@@ -117,11 +138,21 @@ const AFTER_A_GAMMON: [&str; 10] = [
     "</script>\n</body>\n</html>\n",
 ];
 
+/// The page of a match of one game.
+fn page_of_game(rt: &impl Abort, alloc: Global, first: &str, game: &str) -> Vec<u8> {
+    let transcript = match_of(rt, alloc, first, game, "");
+    page(rt, alloc, transcript.as_str())
+}
+
+/// It has each of these parts, and no more behind the last.
+fn check_game(rt: &impl Abort, alloc: Global, first: &str, game: &str, parts: &[&str]) {
+    let page = page_of_game(rt, alloc, first, game);
+    check_parts(rt, &page, parts);
+}
+
 #[test]
 fn end_of_a_game(rt: HostRuntime) {
-    let transcript = match_of(&rt, rt.alloc(), "length 5", GAMMON, "");
-    let page = page(&rt, rt.alloc(), transcript.as_str());
-    check_parts(&rt, &page, &AFTER_A_GAMMON);
+    check_game(&rt, rt.alloc(), "length 5", GAMMON, &AFTER_A_GAMMON);
 }
 
 const AFTER_THE_MATCH: [&str; 6] = [
@@ -138,7 +169,5 @@ const AFTER_THE_MATCH: [&str; 6] = [
 
 #[test]
 fn end_of_a_match(rt: HostRuntime) {
-    let transcript = match_of(&rt, rt.alloc(), "length 1", SINGLE_GAME, "");
-    let page = page(&rt, rt.alloc(), transcript.as_str());
-    check_parts(&rt, &page, &AFTER_THE_MATCH);
+    check_game(&rt, rt.alloc(), "length 1", SINGLE_GAME, &AFTER_THE_MATCH);
 }

@@ -1,6 +1,6 @@
 //! What is shown of the saved files of a folder.
 use super::saved_files::{
-    AFTER_THE_MOVE, AFTER_THE_OPENING, OPENING, REFEREE, SEAT, check_shown, with_bytes,
+    AFTER_THE_MOVE, AFTER_THE_OPENING, OPENING, REFEREE, SEAT, changed, check_shown,
 };
 use bg_reports::{SlotBytes, folder_text, party_text};
 use std::alloc::{AllocError, Global};
@@ -30,23 +30,28 @@ const OF_X: File = (&REFEREE, &[(4, 1)]);
 
 const OF_O: File = (&REFEREE, &[(4, 2)]);
 
-fn files_of(rt: &impl Abort, alloc: Global, zero: File, one: File) -> SlotBytes {
-    SlotBytes {
-        zero: with_bytes(rt, alloc, zero.0, zero.1),
-        one: with_bytes(rt, alloc, one.0, one.1),
-    }
+fn files_of(alloc: Global, zero: File, one: File) -> Result<SlotBytes, AllocError> {
+    Ok(SlotBytes {
+        zero: changed(alloc, zero.0, zero.1)?,
+        one: changed(alloc, one.0, one.1)?,
+    })
 }
 
 /// Files of the referee, of X and of O, two of each, the lines that are shown of them, and the board. Where there is no
 /// board none of them loads.
 type Row = ([File; 6], &'static str, &'static str);
 
+/// What is shown of the files of a row.
+fn shown_of(alloc: Global, files: &[File; 6]) -> Result<(Vec<u8>, bool), AllocError> {
+    let referee = files_of(alloc, files[0], files[1])?;
+    let x = files_of(alloc, files[2], files[3])?;
+    let o = files_of(alloc, files[4], files[5])?;
+    folder_text(alloc, &referee, &x, &o)
+}
+
 fn check_folder(rt: &impl Abort, alloc: Global, row: &Row) {
-    let (files, lines, board) = *row;
-    let referee = files_of(rt, alloc, files[0], files[1]);
-    let x = files_of(rt, alloc, files[2], files[3]);
-    let o = files_of(rt, alloc, files[4], files[5]);
-    let shown = folder_text(alloc, &referee, &x, &o);
+    let (files, lines, board) = row;
+    let shown = shown_of(alloc, files);
     check_shown(rt, alloc, shown, lines, board, !board.is_empty());
 }
 
@@ -129,10 +134,19 @@ fn parties_behind_others(rt: HostRuntime) {
 /// them loads.
 type OneRow = (u8, [File; 2], &'static str, &'static str, bool);
 
+/// What is shown of the two files of a party.
+fn shown_of_party(
+    alloc: Global,
+    party: u8,
+    files: &[File; 2],
+) -> Result<(Vec<u8>, bool), AllocError> {
+    party_text(alloc, party, &files_of(alloc, files[0], files[1])?)
+}
+
 fn check_party(rt: &impl Abort, alloc: Global, row: &OneRow) {
-    let (party, [zero, one], lines, board, loads) = *row;
-    let shown = party_text(alloc, party, &files_of(rt, alloc, zero, one));
-    check_shown(rt, alloc, shown, lines, board, loads);
+    let (party, files, lines, board, loads) = row;
+    let shown = shown_of_party(alloc, *party, files);
+    check_shown(rt, alloc, shown, lines, board, *loads);
 }
 
 const ALONE: [OneRow; 4] = [

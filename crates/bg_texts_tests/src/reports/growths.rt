@@ -14,25 +14,30 @@ use std::alloc::{AllocError, Global};
 use std::process::Abort;
 
 /// What is shown of two files, also where memory is refused once.
-fn shown(rt: &impl Abort, alloc: Global) -> (Vec<u8>, bool) {
+fn shown(alloc: Global) -> Result<(Vec<u8>, bool), AllocError> {
     match show_text(alloc, &SEAT, &REFEREE) {
-        Ok(shown) => shown,
-        Err(AllocError) => show_text(alloc, &SEAT, &REFEREE).expect(rt, "memory"),
+        Ok(shown) => Ok(shown),
+        Err(AllocError) => show_text(alloc, &SEAT, &REFEREE),
+    }
+}
+
+const LINES: &str = "file 0: party 1 match 1 length 1 save 1 entries 1 claim 2
+file 1: party 0 match 1 length 1 save 2 entries 2
+";
+
+fn are_shown(alloc: Global) -> bool {
+    match shown(alloc) {
+        Ok((text, loads)) => {
+            loads && text.starts_with(LINES.as_bytes()) && text.ends_with(AFTER_THE_MOVE.as_bytes())
+        }
+        Err(AllocError) => false,
     }
 }
 
 #[test]
 fn refused_growths_of_shown_files(rt: HostRuntime) {
-    for _ in 0..2 {
-        let (text, loads) = shown(&rt, rt.alloc());
-        check_row(&rt, "a file loads", loads);
-        let lines = "file 0: party 1 match 1 length 1 save 1 entries 1 claim 2
-file 1: party 0 match 1 length 1 save 2 entries 2
-";
-        check_row(&rt, lines, text.starts_with(lines.as_bytes()));
-        let board = AFTER_THE_MOVE.as_bytes();
-        check_row(&rt, "board", text.ends_with(board));
-    }
+    check_row(&rt, LINES, are_shown(rt.alloc()));
+    check_row(&rt, "again", are_shown(rt.alloc()));
     check_no_growth_is_left(&rt, rt.alloc());
 }
 
@@ -41,22 +46,29 @@ const MORE_CAN_BE_PLAYED: &[u8] = b"length 1\nopen 3 1\nX move 8-5\n";
 const SAID_OF_IT: &[u8] = b"a: refused at line 3: more can be played: X move 8-5\n";
 
 /// What is said of a file that is checked, also where memory is refused once.
-fn checked(rt: &impl Abort, alloc: Global) -> (Vec<u8>, Verdict) {
+fn checked(alloc: Global) -> Result<(Vec<u8>, Verdict), AllocError> {
     match check_text(alloc, "a", MORE_CAN_BE_PLAYED, Some(80)) {
-        Ok(checked) => checked,
-        Err(AllocError) => {
-            check_text(alloc, "a", MORE_CAN_BE_PLAYED, Some(80)).expect(rt, "memory")
-        }
+        Ok(checked) => Ok(checked),
+        Err(AllocError) => check_text(alloc, "a", MORE_CAN_BE_PLAYED, Some(80)),
     }
+}
+
+/// Whether there is memory for what is said, which is this.
+fn is_said(said: &Result<(Vec<u8>, Verdict), AllocError>, wanted: &[u8], verdict: Verdict) -> bool {
+    match said {
+        Ok(said) => said.0.as_slice() == wanted && said.1 == verdict,
+        Err(AllocError) => false,
+    }
+}
+
+fn is_checked(alloc: Global) -> bool {
+    is_said(&checked(alloc), SAID_OF_IT, Verdict::Refused(3))
 }
 
 #[test]
 fn refused_growths_of_checks(rt: HostRuntime) {
-    for _ in 0..2 {
-        let (text, verdict) = checked(&rt, rt.alloc());
-        check_row(&rt, "verdict", verdict == Verdict::Refused(3));
-        check_row(&rt, "text", text.as_slice() == SAID_OF_IT);
-    }
+    check_row(&rt, "said", is_checked(rt.alloc()));
+    check_row(&rt, "again", is_checked(rt.alloc()));
     check_no_growth_is_left(&rt, rt.alloc());
 }
 
@@ -71,24 +83,26 @@ fn import_fault(alloc: Global) -> Option<ImportFault> {
 }
 
 /// What is said of that, also where memory is refused once.
-fn said_of_import(rt: &impl Abort, alloc: Global, fault: ImportFault) -> (Vec<u8>, Verdict) {
+fn said_of_import(alloc: Global, fault: ImportFault) -> Result<(Vec<u8>, Verdict), AllocError> {
     match said_of_import_fault(alloc, "a", GAME_2, fault, Some(80)) {
-        Ok(said) => said,
-        Err(AllocError) => {
-            said_of_import_fault(alloc, "a", GAME_2, fault, Some(80)).expect(rt, "memory")
-        }
+        Ok(said) => Ok(said),
+        Err(AllocError) => said_of_import_fault(alloc, "a", GAME_2, fault, Some(80)),
+    }
+}
+
+/// Whether a match file whose first game is game 2 is refused so.
+fn is_import_refused(alloc: Global) -> bool {
+    let said = b"a: refused at line 2: not the next game:  Game 2\n";
+    match import_fault(alloc) {
+        Some(fault) => is_said(&said_of_import(alloc, fault), said, Verdict::Refused(2)),
+        None => false,
     }
 }
 
 #[test]
 fn refused_growths_of_refusals(rt: HostRuntime) {
-    for _ in 0..2 {
-        let fault = import_fault(rt.alloc()).expect(&rt, "game 1 comes first");
-        let (text, verdict) = said_of_import(&rt, rt.alloc(), fault);
-        check_row(&rt, "verdict", verdict == Verdict::Refused(2));
-        let said = b"a: refused at line 2: not the next game:  Game 2\n";
-        check_row(&rt, "text", text.as_slice() == said.as_slice());
-    }
+    check_row(&rt, "said", is_import_refused(rt.alloc()));
+    check_row(&rt, "again", is_import_refused(rt.alloc()));
     check_no_growth_is_left(&rt, rt.alloc());
 }
 
@@ -102,28 +116,31 @@ fn transcript_fault(alloc: Global) -> Option<TranscriptFault> {
 
 /// What is said of that, also where memory is refused once.
 fn said_of_transcript(
-    rt: &impl Abort,
     alloc: Global,
     fault: TranscriptFault,
-) -> (Vec<u8>, Verdict) {
+) -> Result<(Vec<u8>, Verdict), AllocError> {
     match said_of_transcript_fault(alloc, "a", MORE_CAN_BE_PLAYED, fault, Some(80)) {
-        Ok(said) => said,
+        Ok(said) => Ok(said),
         Err(AllocError) => {
-            said_of_transcript_fault(alloc, "a", MORE_CAN_BE_PLAYED, fault, Some(80)).expect(
-                rt, "memory",
-            )
+            said_of_transcript_fault(alloc, "a", MORE_CAN_BE_PLAYED, fault, Some(80))
         }
+    }
+}
+
+fn is_transcript_refused(alloc: Global) -> bool {
+    match transcript_fault(alloc) {
+        Some(fault) => {
+            let said = said_of_transcript(alloc, fault);
+            is_said(&said, SAID_OF_IT, Verdict::Refused(3))
+        }
+        None => false,
     }
 }
 
 #[test]
 fn refused_growths_of_refused_transcripts(rt: HostRuntime) {
-    for _ in 0..2 {
-        let fault = transcript_fault(rt.alloc()).expect(&rt, "more can be played");
-        let (text, verdict) = said_of_transcript(&rt, rt.alloc(), fault);
-        check_row(&rt, "verdict", verdict == Verdict::Refused(3));
-        check_row(&rt, "text", text.as_slice() == SAID_OF_IT);
-    }
+    check_row(&rt, "said", is_transcript_refused(rt.alloc()));
+    check_row(&rt, "again", is_transcript_refused(rt.alloc()));
     check_no_growth_is_left(&rt, rt.alloc());
 }
 
@@ -137,66 +154,81 @@ fn slots_at_last(rt: &impl Abort, alloc: Global, zero: &[u8], one: &[u8]) -> Slo
 
 /// What is shown of a folder, also where memory is refused once.
 fn folder(
-    rt: &impl Abort,
     alloc: Global,
     referee: &SlotBytes,
     x: &SlotBytes,
     o: &SlotBytes,
-) -> (Vec<u8>, bool) {
+) -> Result<(Vec<u8>, bool), AllocError> {
     match folder_text(alloc, referee, x, o) {
-        Ok(shown) => shown,
-        Err(AllocError) => folder_text(alloc, referee, x, o).expect(rt, "memory"),
+        Ok(shown) => Ok(shown),
+        Err(AllocError) => folder_text(alloc, referee, x, o),
     }
+}
+
+/// Whether a file loads, and the board after the opening is shown last.
+fn is_opened(shown: &Result<(Vec<u8>, bool), AllocError>) -> bool {
+    match shown {
+        Ok(shown) => shown.1 && shown.0.ends_with(AFTER_THE_OPENING.as_bytes()),
+        Err(AllocError) => false,
+    }
+}
+
+fn is_folder_shown(alloc: Global, referee: &SlotBytes, x: &SlotBytes, o: &SlotBytes) -> bool {
+    is_opened(&folder(alloc, referee, x, o)) && is_opened(&folder(alloc, referee, x, o))
+}
+
+fn are_folders_shown(rt: &impl Abort, alloc: Global, referee: &SlotBytes) -> bool {
+    let x = slots_at_last(rt, alloc, b"", &SEAT);
+    let o = slots_at_last(rt, alloc, b"", b"");
+    is_folder_shown(alloc, referee, &x, &o)
 }
 
 #[test]
 fn refused_growths_of_folders(rt: HostRuntime) {
     let referee = slots_at_last(&rt, rt.alloc(), &REFEREE, &OPENING);
-    let x = slots_at_last(&rt, rt.alloc(), b"", &SEAT);
-    let o = slots_at_last(&rt, rt.alloc(), b"", b"");
-    for _ in 0..2 {
-        let (text, loads) = folder(&rt, rt.alloc(), &referee, &x, &o);
-        check_row(&rt, "a file loads", loads);
-        let board = AFTER_THE_OPENING.as_bytes();
-        check_row(&rt, "board", text.ends_with(board));
-    }
+    let are_shown = are_folders_shown(&rt, rt.alloc(), &referee);
+    check_row(&rt, "shown, and again", are_shown);
     check_no_growth_is_left(&rt, rt.alloc());
 }
 
 /// What is shown of the referee's files, also where memory is refused once.
-fn party(rt: &impl Abort, alloc: Global, referee: &SlotBytes) -> (Vec<u8>, bool) {
+fn party(alloc: Global, referee: &SlotBytes) -> Result<(Vec<u8>, bool), AllocError> {
     match party_text(alloc, 0, referee) {
-        Ok(shown) => shown,
-        Err(AllocError) => party_text(alloc, 0, referee).expect(rt, "memory"),
+        Ok(shown) => Ok(shown),
+        Err(AllocError) => party_text(alloc, 0, referee),
     }
+}
+
+fn is_party_shown(alloc: Global, referee: &SlotBytes) -> bool {
+    is_opened(&party(alloc, referee)) && is_opened(&party(alloc, referee))
 }
 
 #[test]
 fn refused_growths_of_a_party(rt: HostRuntime) {
     let referee = slots_at_last(&rt, rt.alloc(), &REFEREE, &OPENING);
-    for _ in 0..2 {
-        let (text, loads) = party(&rt, rt.alloc(), &referee);
-        check_row(&rt, "a file loads", loads);
-        let board = AFTER_THE_OPENING.as_bytes();
-        check_row(&rt, "board", text.ends_with(board));
-    }
+    let is_shown = is_party_shown(rt.alloc(), &referee);
+    check_row(&rt, "shown, and again", is_shown);
     check_no_growth_is_left(&rt, rt.alloc());
 }
 
 /// What two files restore, also where memory is refused once.
-fn restored(rt: &impl Abort, alloc: Global) -> Option<Vec<u8>> {
+fn restored(alloc: Global) -> Result<Option<Vec<u8>>, AllocError> {
     match restored_transcript(alloc, &REFEREE, &OPENING) {
-        Ok(transcript) => transcript,
-        Err(AllocError) => restored_transcript(alloc, &REFEREE, &OPENING).expect(rt, "memory"),
+        Ok(transcript) => Ok(transcript),
+        Err(AllocError) => restored_transcript(alloc, &REFEREE, &OPENING),
+    }
+}
+
+fn is_restored(alloc: Global) -> bool {
+    match restored(alloc) {
+        Ok(Some(transcript)) => transcript.as_slice() == b"length 1\nopen 3 1\n".as_slice(),
+        _ => false,
     }
 }
 
 #[test]
 fn refused_growths_of_restored_transcripts(rt: HostRuntime) {
-    for _ in 0..2 {
-        let transcript = restored(&rt, rt.alloc());
-        let wanted = Some(b"length 1\nopen 3 1\n".as_slice());
-        check_row(&rt, "transcript", transcript.as_deref() == wanted);
-    }
+    check_row(&rt, "restored", is_restored(rt.alloc()));
+    check_row(&rt, "again", is_restored(rt.alloc()));
     check_no_growth_is_left(&rt, rt.alloc());
 }

@@ -1,6 +1,6 @@
 //! What is said of match files that give no record, by the fault that was met.
 use super::told;
-use crate::checks::{check_row, check_told};
+use crate::checks::{check_row, check_words};
 use bg_mat::{ImportFault, MatFault, import_mat};
 use bg_match::{EntryFault, Rules};
 use bg_reports::said_of_import_fault;
@@ -26,7 +26,7 @@ fn fault_of(alloc: Global, rules: Rules, text: &str) -> Option<ImportFault> {
 /// This is said of a fault of a file, and the verdict stands behind it.
 fn check_said(rt: &impl Abort, alloc: Global, text: &str, fault: ImportFault, wanted: &str) {
     let said = said_of_import_fault(alloc, "the file", text.as_bytes(), fault, None);
-    check_told(rt, wanted, told(rt, alloc, said).as_str(), wanted);
+    check_words(rt, wanted, told(alloc, said), wanted);
 }
 
 /// A text that is imported by these rules is refused, and this is said.
@@ -69,15 +69,18 @@ fn match_files_that_are_refused(rt: HostRuntime) {
     }
 }
 
+fn has_no_verdict(alloc: Global, fault: ImportFault) -> bool {
+    said_of_import_fault(alloc, "a", b"line\n", fault, None).is_err()
+}
+
 /// What is too long has a verdict and no line; want of memory has none.
 #[test]
 fn faults_of_no_line(rt: HostRuntime) {
     let (long, memory) = (ImportFault::TooLong, ImportFault::Memory);
     let wanted = "a: refused: input too long\nTooLong";
     let said = said_of_import_fault(rt.alloc(), "a", b"line\n", long, Some(80));
-    check_told(&rt, wanted, told(&rt, rt.alloc(), said).as_str(), wanted);
-    let said = said_of_import_fault(rt.alloc(), "a", b"line\n", memory, None);
-    check_row(&rt, "want of memory", said.is_err());
+    check_words(&rt, wanted, told(rt.alloc(), said), wanted);
+    check_row(&rt, "want of memory", has_no_verdict(rt.alloc(), memory));
 }
 
 /// The reason is the fault's, and is not looked for in the bytes.

@@ -1,25 +1,17 @@
 //! The transcripts of what two saved files restore.
 use super::saved_files::{OPENING, REFEREE, REFEREE_OF_OLD, with_bytes};
-use crate::checks::{check_told, text_of};
+use crate::checks::{check_row, text_of};
 use bg_reports::restored_transcript;
 use std::alloc::Global;
 use std::process::Abort;
 
-/// Two files restore this transcript, or none.
-fn check_restored(
-    rt: &impl Abort,
-    alloc: Global,
-    row: &str,
-    zero: &[u8],
-    one: &[u8],
-    wanted: &str,
-) {
-    let restored = restored_transcript(alloc, zero, one).expect(rt, "memory");
-    let told = match &restored {
-        Some(transcript) => text_of(transcript),
-        None => "none",
-    };
-    check_told(rt, row, told, wanted);
+/// Whether two files restore this transcript, or none.
+fn restore(alloc: Global, zero: &[u8], one: &[u8], wanted: Option<&str>) -> bool {
+    match restored_transcript(alloc, zero, one) {
+        Ok(Some(transcript)) => wanted == Some(text_of(&transcript)),
+        Ok(None) => wanted.is_none(),
+        Err(_) => false,
+    }
 }
 
 const AFTER_ONE: &str = "length 1\nopen 3 1\n";
@@ -28,58 +20,49 @@ const AFTER_TWO: &str = "length 1\nopen 3 1\nX move 8-5 6-5\n";
 
 const BY_OTHER_RULES: &str = "length 1 rules 2\nopen 3 1\nX move 8-5 6-5\n";
 
-/// Files that restore what none of the others has.
-fn check_lone(rt: &impl Abort, alloc: Global) {
-    check_restored(rt, alloc, "file 0 alone", &REFEREE, b"", AFTER_TWO);
-    check_restored(
-        rt,
-        alloc,
+/// A saved file of other rules restores a match of these.
+fn check_other_rules(rt: &impl Abort, alloc: Global) {
+    let other = with_bytes(rt, alloc, &REFEREE, &[(14, 2)]);
+    let holds = restore(alloc, &other, b"", Some(BY_OTHER_RULES));
+    check_row(rt, "other rules", holds);
+}
+
+/// Of two saves of one number that of file 0 counts.
+fn check_one_number(rt: &impl Abort, alloc: Global, later: &[u8]) {
+    let holds = restore(alloc, &REFEREE, later, Some(AFTER_TWO));
+    check_row(rt, "one number, file 0 has two", holds);
+    let holds = restore(alloc, later, &REFEREE, Some(AFTER_ONE));
+    check_row(rt, "one number, file 0 has one", holds);
+}
+
+/// Two files, what they are, and the transcript that they restore, if any.
+type Row = (
+    &'static str,
+    &'static [u8],
+    &'static [u8],
+    Option<&'static str>,
+);
+
+const RESTORED: [Row; 6] = [
+    ("file 0 alone", &REFEREE, b"", Some(AFTER_TWO)),
+    (
         "file 1 alone, of old",
         b"BGS0",
         &REFEREE_OF_OLD,
-        AFTER_TWO,
-    );
-    let other = with_bytes(rt, alloc, &REFEREE, &[(14, 2)]);
-    check_restored(rt, alloc, "other rules", &other, b"", BY_OTHER_RULES);
-    check_restored(rt, alloc, "no file", b"", b"", "none");
-    check_restored(rt, alloc, "no saved files", b"BGS2", b"rubbish", "none");
-}
+        Some(AFTER_TWO),
+    ),
+    ("no file", b"", b"", None),
+    ("no saved files", b"BGS2", b"rubbish", None),
+    ("file 1 is newer", &REFEREE, &OPENING, Some(AFTER_ONE)),
+    ("file 0 is newer", &OPENING, &REFEREE, Some(AFTER_ONE)),
+];
 
 #[test]
 fn transcripts_of_saved_files(rt: HostRuntime) {
-    check_lone(&rt, rt.alloc());
-    check_restored(
-        &rt,
-        rt.alloc(),
-        "file 1 is newer",
-        &REFEREE,
-        &OPENING,
-        AFTER_ONE,
-    );
-    check_restored(
-        &rt,
-        rt.alloc(),
-        "file 0 is newer",
-        &OPENING,
-        &REFEREE,
-        AFTER_ONE,
-    );
-    // Of two saves of one number that of file 0 counts.
+    for (row, zero, one, wanted) in &RESTORED {
+        check_row(&rt, row, restore(rt.alloc(), zero, one, *wanted));
+    }
+    check_other_rules(&rt, rt.alloc());
     let later = with_bytes(&rt, rt.alloc(), &OPENING, &[(18, 2)]);
-    check_restored(
-        &rt,
-        rt.alloc(),
-        "one number, file 0 has two",
-        &REFEREE,
-        &later,
-        AFTER_TWO,
-    );
-    check_restored(
-        &rt,
-        rt.alloc(),
-        "one number, file 0 has one",
-        &later,
-        &REFEREE,
-        AFTER_ONE,
-    );
+    check_one_number(&rt, rt.alloc(), &later);
 }

@@ -1,5 +1,5 @@
 //! Saved files of a match of length 1, the boards of what they restore, and the comparison of what is shown of them.
-use crate::checks::{check_row, check_told, text_of};
+use crate::checks::{check_words, text_of};
 use std::alloc::{AllocError, Global};
 use std::process::Abort;
 
@@ -45,18 +45,48 @@ bar X 0 O 0 off X 0 O 0
 X to move 3 1
 ";
 
-/// A saved file with other bytes at some offsets.
+/// Whether bytes are changed at some offsets, which they have.
+fn are_changed(bytes: &mut [u8], others: &[(usize, u8)]) -> bool {
+    for &(offset, byte) in others {
+        match bytes.get_mut(offset) {
+            Some(place) => *place = byte,
+            None => return false,
+        }
+    }
+    true
+}
+
+/// A saved file with other bytes at some offsets. It is empty where it has no such offset.
+pub(super) fn changed(
+    alloc: Global,
+    bytes: &[u8],
+    others: &[(usize, u8)],
+) -> Result<Vec<u8>, AllocError> {
+    let mut bytes = Vec::from_slice(alloc, bytes)?;
+    if !are_changed(&mut bytes, others) {
+        bytes.clear();
+    }
+    Ok(bytes)
+}
+
+/// The same.
 pub(super) fn with_bytes(
     rt: &impl Abort,
     alloc: Global,
     bytes: &[u8],
     others: &[(usize, u8)],
 ) -> Vec<u8> {
-    let mut bytes = Vec::from_slice(alloc, bytes).expect(rt, "memory");
-    for &(offset, byte) in others {
-        *bytes.get_mut(offset).expect(rt, "an offset in the file") = byte;
-    }
-    bytes
+    changed(alloc, bytes, others).expect(rt, "memory")
+}
+
+/// What is shown, and whether a file loads, in words.
+fn words_of(
+    alloc: Global,
+    shown: Result<(Vec<u8>, bool), AllocError>,
+) -> Result<String, AllocError> {
+    let (text, loads) = shown?;
+    let text = text_of(&text);
+    format!(in alloc; "{text}{loads}")
 }
 
 /// What is shown has these lines and the board, and a file loads or none.
@@ -68,8 +98,6 @@ pub(super) fn check_shown(
     board: &str,
     loads: bool,
 ) {
-    let (text, found) = shown.expect(rt, "memory");
-    let wanted = format!(in alloc; "{lines}{board}").expect(rt, "memory");
-    check_told(rt, lines, text_of(&text), wanted.as_str());
-    check_row(rt, lines, found == loads);
+    let wanted = format!(in alloc; "{lines}{board}{loads}").expect(rt, "memory");
+    check_words(rt, lines, words_of(alloc, shown), wanted.as_str());
 }

@@ -1,48 +1,56 @@
 //! What is said of transcripts that give no record, by the fault that was met: the same as of files that are checked.
 use super::told;
-use crate::checks::{check_row, check_told};
+use crate::checks::{check_row, check_words};
 use bg_match::EntryFault;
 use bg_reports::{check_text, said_of_transcript_fault};
 use bg_text::{LineFault, MAX_INPUT, TranscriptFault, read_transcript};
-use std::alloc::Global;
+use std::alloc::{AllocError, Global};
 use std::process::Abort;
 
 /// What is said of a fault on a screen of so many columns, if there is one, and the verdict.
 fn said(
-    rt: &impl Abort,
     alloc: Global,
     bytes: &[u8],
     fault: TranscriptFault,
     columns: Option<usize>,
-) -> String {
+) -> Result<String, AllocError> {
     let said = said_of_transcript_fault(alloc, "a", bytes, fault, columns);
-    told(rt, alloc, said)
+    told(alloc, said)
 }
 
-/// The same is said of the fault as of the transcript where that is checked, with the same verdict.
-fn check_same(
-    rt: &impl Abort,
+/// What is said of a file that is checked, and the verdict.
+fn checked(alloc: Global, bytes: &[u8], columns: Option<usize>) -> Result<String, AllocError> {
+    told(alloc, check_text(alloc, "a", bytes, columns))
+}
+
+/// Whether the same is said of the fault as of the transcript where that is checked, with this verdict.
+fn is_same(
     alloc: Global,
     bytes: &[u8],
     fault: TranscriptFault,
     columns: Option<usize>,
     verdict: &str,
-) {
-    let said = said(rt, alloc, bytes, fault, columns);
-    let checked = told(rt, alloc, check_text(alloc, "a", bytes, columns));
-    check_told(rt, verdict, said.as_str(), checked.as_str());
-    check_row(rt, verdict, said.ends_with(verdict));
+) -> bool {
+    match (
+        said(alloc, bytes, fault, columns),
+        checked(alloc, bytes, columns),
+    ) {
+        (Ok(said), Ok(checked)) => said.as_str() == checked.as_str() && said.ends_with(verdict),
+        _ => false,
+    }
 }
 
-/// A transcript gives no record, and this is said of its fault, with the verdict behind it. It is checked likewise, on
-/// screens of some widths and without one.
+/// Screens of some widths, and none.
+const COLUMNS: [Option<usize>; 5] = [None, Some(0), Some(30), Some(45), Some(200)];
+
+/// A transcript gives no record, and this is said of its fault, with the verdict behind it. It is checked likewise.
 fn check_as_checked(rt: &impl Abort, alloc: Global, bytes: &[u8], wanted: &str) {
     let fault = read_transcript(alloc, 1, bytes).err().expect(rt, wanted);
-    let said = said(rt, alloc, bytes, fault, None);
-    check_told(rt, wanted, said.as_str(), wanted);
+    check_words(rt, wanted, said(alloc, bytes, fault, None), wanted);
     let (_, verdict) = wanted.rsplit_once('\n').expect(rt, wanted);
-    for columns in [None, Some(0), Some(30), Some(45), Some(200)] {
-        check_same(rt, alloc, bytes, fault, columns, verdict);
+    for columns in &COLUMNS {
+        let is_same = is_same(alloc, bytes, fault, *columns, verdict);
+        check_row(rt, wanted, is_same);
     }
 }
 
@@ -126,12 +134,14 @@ fn transcripts_that_are_too_long(rt: HostRuntime) {
     check_as_checked(&rt, rt.alloc(), &bytes, wanted);
 }
 
+fn has_no_verdict(alloc: Global) -> bool {
+    said(alloc, b"length 1\n", TranscriptFault::Memory, None).is_err()
+}
+
 /// Want of memory has no verdict.
 #[test]
 fn want_of_memory_for_a_transcript(rt: HostRuntime) {
-    let bytes = b"length 1\n";
-    let said = said_of_transcript_fault(rt.alloc(), "a", bytes, TranscriptFault::Memory, None);
-    check_row(&rt, "no verdict", said.is_err());
+    check_row(&rt, "no verdict", has_no_verdict(rt.alloc()));
 }
 
 /// The line and the reason are the fault's, and are not looked for in the bytes.
@@ -140,6 +150,6 @@ fn the_fault_says_the_line_and_the_reason(rt: HostRuntime) {
     let why = LineFault::Entry(EntryFault::MatchOver);
     let fault = TranscriptFault::Refused { line: 2, why };
     let wanted = "a: refused at line 2: match over: open 3 1\nRefused(2)";
-    let said = said(&rt, rt.alloc(), b"length 1\nopen 3 1\n", fault, None);
-    check_told(&rt, wanted, said.as_str(), wanted);
+    let said = said(rt.alloc(), b"length 1\nopen 3 1\n", fault, None);
+    check_words(&rt, wanted, said, wanted);
 }

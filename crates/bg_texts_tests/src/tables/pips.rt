@@ -1,5 +1,6 @@
 //! Pip counts.
 use crate::boards::board;
+use crate::checks::check_row;
 use bg_board::Player;
 use bg_table::pip_count;
 use std::process::Abort;
@@ -8,10 +9,7 @@ use std::process::Abort;
 fn check_pips(rt: &impl Abort, x: &str, o: &str, of_x: u16, of_o: u16) {
     let board = board(rt, x, o);
     let (found_x, found_o) = (pip_count(&board, Player::X), pip_count(&board, Player::O));
-    assert!(rt;
-        found_x == of_x && found_o == of_o,
-        "{x} / {o}: {found_x}, {found_o}"
-    );
+    check_row(rt, x, found_x == of_x && found_o == of_o);
 }
 
 #[test]

@@ -1,6 +1,6 @@
 //! What may be done now.
 use crate::boards::board;
-use crate::checks::{check_told, text_of};
+use crate::checks::check_text;
 use crate::records::record_of;
 use bg_board::{Board, Die, Player};
 use bg_match::{Cube, Phase, Rules, Standing};
@@ -18,8 +18,7 @@ fn check_prompt(
     player: Player,
     wanted: &str,
 ) {
-    let prompt = prompt_text(alloc, standing, player).expect(rt, "memory");
-    check_told(rt, row, text_of(&prompt), wanted);
+    check_text(rt, row, prompt_text(alloc, standing, player), wanted);
 }
 
 /// X and O are told this at the end of a transcript.

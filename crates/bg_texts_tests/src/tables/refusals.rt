@@ -1,12 +1,12 @@
 //! Why an action is refused. The turns are worked out by hand.
 use crate::boards::board;
-use crate::checks::{check_told, text_of};
+use crate::checks::{check_text, check_told, text_of};
 use crate::records::record_of;
 use bg_board::{Board, Die, Player};
-use bg_match::{Action, EntryFault, Standing, entry_of};
+use bg_match::{Action, Entry, EntryFault, Standing, entry_of};
 use bg_table::{refusal_text, turn_refusal_text, waiting_text};
 use bg_text::parse_action;
-use bg_turns::{Dice, Turn, judge_turn};
+use bg_turns::{Dice, Turn, TurnFault, judge_turn};
 use std::alloc::Global;
 use std::process::Abort;
 
@@ -21,20 +21,29 @@ fn action(rt: &impl Abort, line: &str) -> Action {
     parse_action(line.as_bytes()).expect(rt, "the line of an action")
 }
 
-/// Why an action is refused.
-fn fault_of(rt: &impl Abort, standing: &Standing, action: &Action) -> EntryFault {
-    let entry = entry_of(action.copy(), Some(THROW)).expect(rt, "an entry");
-    standing.next(&entry).err().expect(rt, "a refusal")
+/// Why an entry is refused, if it is.
+fn fault_of_entry(standing: &Standing, entry: &Entry) -> Option<EntryFault> {
+    standing.next(entry).err()
+}
+
+/// Why an action is refused, if it is.
+fn fault_of(standing: &Standing, action: &Action) -> Option<EntryFault> {
+    let entry = entry_of(action.copy(), Some(THROW))?;
+    fault_of_entry(standing, &entry)
+}
+
+/// What the player who acts is told of an action that is refused.
+fn said_of(rt: &impl Abort, alloc: Global, standing: &Standing, action: &Action) -> Vec<u8> {
+    let player = standing.actor().seat().expect(rt, "a seat that acts");
+    let fault = fault_of(standing, action).expect(rt, "a refusal");
+    refusal_text(alloc, standing, player, action, fault).expect(rt, "memory")
 }
 
 /// A transcript, what the player who acts then chooses, why he can't, and what he may do.
 fn check_refusal(rt: &impl Abort, alloc: Global, row: &[&str; 3]) {
     let [transcript, line, wanted] = *row;
     let standing = record_of(rt, alloc, transcript).standing();
-    let player = standing.actor().seat().expect(rt, "a seat that acts");
-    let action = action(rt, line);
-    let fault = fault_of(rt, &standing, &action);
-    let text = refusal_text(alloc, &standing, player, &action, fault).expect(rt, "memory");
+    let text = said_of(rt, alloc, &standing, &action(rt, line));
     check_told(rt, line, text_of(&text), wanted);
 }
 
@@ -106,37 +115,40 @@ fn refusals_of_actions(rt: HostRuntime) {
     for row in &REFUSALS {
         check_refusal(&rt, rt.alloc(), row);
     }
-    let waiting = waiting_text(rt.alloc(), 12).expect(&rt, "memory");
     let wanted = "your choice for entry 12 is kept, and waits for the referee\n";
-    check_told(&rt, wanted, text_of(&waiting), wanted);
+    check_text(&rt, wanted, waiting_text(rt.alloc(), 12), wanted);
 }
 
 /// The turn of a line.
-fn turn(rt: &impl Abort, line: &str) -> Turn {
-    match action(rt, line) {
-        Action::Move(turn) => turn,
-        _ => panic!(rt; "no turn: {line}"),
+fn turn(line: &str) -> Option<Turn> {
+    match parse_action(line.as_bytes()) {
+        Ok(Action::Move(turn)) => Some(turn),
+        _ => None,
     }
+}
+
+/// Why a turn of X is refused, if it is.
+fn fault_of_turn(board: &Board, dice: Dice, turn: &Turn) -> Option<TurnFault> {
+    judge_turn(board, Player::X, dice, turn).err()
 }
 
 /// What is said of a turn of X that is refused.
 fn said_of_turn(rt: &impl Abort, alloc: Global, board: &Board, dice: Dice, turn: &Turn) -> Vec<u8> {
-    let fault = judge_turn(board, Player::X, dice, turn)
-        .err()
-        .expect(rt, "a refusal");
+    let fault = fault_of_turn(board, dice, turn).expect(rt, "a refusal");
     turn_refusal_text(alloc, board, Player::X, dice, turn, fault).expect(rt, "memory")
+}
+
+/// What is said of the turn of a line.
+fn said_of_line(rt: &impl Abort, alloc: Global, board: &Board, dice: Dice, line: &str) -> Vec<u8> {
+    let turn = turn(line).expect(rt, "a turn");
+    said_of_turn(rt, alloc, board, dice, &turn)
 }
 
 /// The checkers of X and of O, the turn that X tries with these dice, and why it is refused.
 fn check_turn(rt: &impl Abort, alloc: Global, first: Die, second: Die, row: &[&str; 4]) {
     let [x, o, line, wanted] = *row;
-    let text = said_of_turn(
-        rt,
-        alloc,
-        &board(rt, x, o),
-        Dice { first, second },
-        &turn(rt, line),
-    );
+    let board = board(rt, x, o);
+    let text = said_of_line(rt, alloc, &board, Dice { first, second }, line);
     check_told(rt, line, text_of(&text), wanted);
 }
 

@@ -1,5 +1,5 @@
 //! What a game came to.
-use crate::checks::{check_told, text_of};
+use crate::checks::check_text;
 use crate::records::record_of;
 use bg_board::Player;
 use bg_match::Standing;
@@ -15,8 +15,8 @@ fn check_result(
     player: Player,
     wanted: &str,
 ) {
-    let text = result_text(alloc, &standings.0, &standings.1, player).expect(rt, "memory");
-    check_told(rt, wanted, text_of(&text), wanted);
+    let text = result_text(alloc, &standings.0, &standings.1, player);
+    check_text(rt, wanted, text, wanted);
 }
 
 /// A transcript, the same with its next line, and what X and O are told of that.

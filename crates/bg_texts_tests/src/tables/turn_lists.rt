@@ -1,6 +1,6 @@
 //! Lists of turns. The turns are worked out by hand.
 use crate::boards::board;
-use crate::checks::{check_told, text_of};
+use crate::checks::check_text;
 use bg_board::{Die, Player};
 use bg_table::legal_turns_text;
 use bg_turns::Dice;
@@ -22,8 +22,8 @@ const SIX_FIVE: Dice = Dice {
 fn check_list(rt: &impl Abort, alloc: Global, row: &[&str; 3], dice: Dice, columns: u16) {
     let [x, o, wanted] = *row;
     let board = board(rt, x, o);
-    let text = legal_turns_text(alloc, &board, Player::X, dice, columns).expect(rt, "memory");
-    check_told(rt, wanted, text_of(&text), wanted);
+    let text = legal_turns_text(alloc, &board, Player::X, dice, columns);
+    check_text(rt, wanted, text, wanted);
 }
 
 /// The turns with 2 and 1, by how many letters a line has.

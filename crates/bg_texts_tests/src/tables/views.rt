@@ -1,5 +1,5 @@
 //! What a player sees.
-use crate::checks::{check_told, text_of};
+use crate::checks::check_text;
 use crate::records::record_of;
 use bg_board::Player;
 use bg_table::{Drawing, seat_view_text};
@@ -174,8 +174,8 @@ pub(crate) fn check_view(
     wanted: &str,
 ) {
     let record = record_of(rt, alloc, transcript);
-    let view = seat_view_text(alloc, &record, player, drawing).expect(rt, "memory");
-    check_told(rt, wanted, text_of(&view), wanted);
+    let view = seat_view_text(alloc, &record, player, drawing);
+    check_text(rt, wanted, view, wanted);
 }
 
 /// A transcript, a player, and all that he sees at its end.

@@ -1,18 +1,28 @@
 //! Lines of each kind of action, and lines of none.
-use crate::checks::{check_told, parted};
+use crate::checks::{check_words, parted};
 use bg_text::parse_action;
-use std::alloc::Global;
+use std::alloc::{AllocError, Global};
 use std::process::Abort;
+
+/// What a line is read as, or is refused for.
+fn told_of(alloc: Global, line: &str) -> Result<String, AllocError> {
+    let read = parse_action(line.as_bytes());
+    format!(in alloc; "{read:?}")
+}
 
 /// A row's line is read as the action, or refused for the fault, that stand behind the arrow.
 fn check_action(rt: &impl Abort, alloc: Global, row: &str) {
     let (line, wanted) = parted(rt, row);
-    let read = parse_action(line.as_bytes());
-    let told = format!(in alloc; "{read:?}").expect(rt, "memory");
-    check_told(rt, row, told.as_str(), wanted);
+    check_words(rt, row, told_of(alloc, line), wanted);
 }
 
-const ACTIONS: &str = "\
+fn check_actions(rt: &impl Abort, alloc: Global, rows: &str) {
+    for row in rows.lines() {
+        check_action(rt, alloc, row);
+    }
+}
+
+const LINES_OF_ACTIONS: &str = "\
 roll -> Ok(Roll)
 double -> Ok(Double)
 take -> Ok(Take)
@@ -26,14 +36,7 @@ accept -> Ok(Accept)
 reject -> Ok(Reject)
 ";
 
-#[test]
-fn lines_of_actions(rt: HostRuntime) {
-    for row in ACTIONS.lines() {
-        check_action(&rt, rt.alloc(), row);
-    }
-}
-
-const NO_ACTIONS: &str = "\
+const LINES_OF_NO_ACTION: &str = "\
 open 3 1 -> Err(NotALine)
 pass -> Err(NotALine)
 roll 3 1 -> Err(NotALine)
@@ -43,8 +46,7 @@ move 6-5 6-5 6-5 6-5 6-5 -> Err(TooManySteps)
 ";
 
 #[test]
-fn lines_of_no_action(rt: HostRuntime) {
-    for row in NO_ACTIONS.lines() {
-        check_action(&rt, rt.alloc(), row);
-    }
+fn lines_read_as_actions(rt: HostRuntime) {
+    check_actions(&rt, rt.alloc(), LINES_OF_ACTIONS);
+    check_actions(&rt, rt.alloc(), LINES_OF_NO_ACTION);
 }

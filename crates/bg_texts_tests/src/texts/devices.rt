@@ -2,7 +2,7 @@
 use super::helpers::{Fed, Slow};
 use super::inputs::followed_by;
 use super::records::{MATCH, TEXT_OF_MATCH};
-use crate::checks::{check_row, check_told, text_of};
+use crate::checks::{check_number, check_row};
 use bg_streams::{EngineFault, Reading, Writing};
 use bg_text::{Judgement, MAX_INPUT, Verdict, judge, judge_text};
 use std::alloc::Global;
@@ -31,33 +31,27 @@ fn is_judged(
     found == verdict && writer.taken.as_slice() == text && writer.flushed == text.len()
 }
 
-/// It holds where a reader gives at most so many bytes in a read, and a writer takes at most so many in a write.
-fn check_parts(rt: &impl Abort, row: &str, read: usize, written: usize, holds: bool) {
-    assert!(rt; holds, "{row}: reads of {read}, writes of {written}");
-}
-
-/// An input, of which a reader gives at most so many bytes in a read, is read whole and judged so.
-fn check_whole(
-    rt: &impl Abort,
+/// Whether an input, of which a reader gives at most so many bytes in a read, is read whole and judged so.
+fn is_whole(
     alloc: Global,
     input: &[u8],
     (read, written): (usize, usize),
     verdict: Verdict,
     text: &[u8],
-) {
+) -> bool {
     let mut reader = Fed::new(input, read);
-    let judged = is_judged(alloc, &mut reader, written, Ok(verdict), text);
-    check_parts(rt, "judgement", read, written, judged);
-    let whole = reader.given == input.len() && reader.reads <= 41_943_041;
-    check_parts(rt, "number of bytes", read, written, whole);
+    is_judged(alloc, &mut reader, written, Ok(verdict), text)
+        && reader.given == input.len()
+        && reader.reads <= 41_943_041
 }
 
 #[test]
 fn read_and_written_in_parts(rt: HostRuntime) {
     let text = TEXT_OF_MATCH.as_bytes();
-    for parts in [(1, 1), (1, 1000), (7, 3), (1000, 1000)] {
-        let input = MATCH.as_bytes();
-        check_whole(&rt, rt.alloc(), input, parts, Verdict::Fine(2), text);
+    let input = MATCH.as_bytes();
+    for &parts in &[(1, 1), (1, 1000), (7, 3), (1000, 1000)] {
+        let holds = is_whole(rt.alloc(), input, parts, Verdict::Fine(2), text);
+        check_number(&rt, "reads of", parts.0, holds);
     }
 }
 
@@ -75,7 +69,8 @@ const INPUTS: [&str; 7] = [
 fn check_each_size(rt: &impl Abort, alloc: Global, input: &str, whole: &Judgement) {
     for step in 1..=input.len() {
         let (bytes, parts) = (input.as_bytes(), (step, 1000));
-        check_whole(rt, alloc, bytes, parts, whole.verdict, &whole.text);
+        let holds = is_whole(alloc, bytes, parts, whole.verdict, &whole.text);
+        check_number(rt, input, step, holds);
     }
 }
 
@@ -88,12 +83,16 @@ fn read_in_parts_of_each_size(rt: HostRuntime) {
     }
 }
 
+/// Whether a text is judged between slices.
+fn is_judged_by_slices(alloc: Global) -> bool {
+    let (mut reader, mut written) = (MATCH.as_bytes(), Vec::new(alloc));
+    let verdict = verdict_on(alloc, &mut reader, &mut written);
+    verdict == Ok(Verdict::Fine(2)) && written.as_slice() == TEXT_OF_MATCH.as_bytes()
+}
+
 #[test]
 fn read_and_written_by_slices(rt: HostRuntime) {
-    let (mut reader, mut written) = (MATCH.as_bytes(), Vec::new(rt.alloc()));
-    let verdict = verdict_on(rt.alloc(), &mut reader, &mut written);
-    check_row(&rt, "verdict", verdict == Ok(Verdict::Fine(2)));
-    check_told(&rt, MATCH, text_of(&written), TEXT_OF_MATCH);
+    check_row(&rt, MATCH, is_judged_by_slices(rt.alloc()));
 }
 
 /// Whether an input is read up to the read that fails.
@@ -106,8 +105,9 @@ fn is_read_up_to(alloc: Global, fails_at: u32) -> bool {
 
 #[test]
 fn readers_that_fail(rt: HostRuntime) {
-    for fails_at in [1, 2, 20, 33, 34] {
-        assert!(rt; is_read_up_to(rt.alloc(), fails_at), "{fails_at}");
+    for &fails_at in &[1, 2, 20, 33, 34] {
+        let holds = is_read_up_to(rt.alloc(), fails_at);
+        check_number(&rt, "fails at", fails_at as usize, holds);
     }
 }
 
@@ -128,24 +128,40 @@ fn is_read_beyond(alloc: Global, step: usize) -> bool {
 
 #[test]
 fn readers_that_never_end(rt: HostRuntime) {
-    for step in [64, 1000, 100_000_000] {
-        assert!(rt; is_read_beyond(rt.alloc(), step), "{step}");
+    for &step in &[64, 1000, 100_000_000] {
+        check_number(&rt, "reads of", step, is_read_beyond(rt.alloc(), step));
     }
+}
+
+/// An input, of which a reader gives at most one or another number of bytes in a read, is read whole and judged so.
+fn check_steps(
+    rt: &impl Abort,
+    alloc: Global,
+    input: &[u8],
+    steps: &[usize; 2],
+    verdict: Verdict,
+    text: &[u8],
+) {
+    for &step in steps {
+        let holds = is_whole(alloc, input, (step, 1000), verdict, text);
+        check_number(rt, "reads of", step, holds);
+    }
+}
+
+fn check_longest(rt: &impl Abort, alloc: Global) {
+    let longest = followed_by(rt, alloc, "", b'X', MAX_INPUT);
+    let text = b"refused at line 1: not a length line\n";
+    let refused = Verdict::Refused(1);
+    check_steps(rt, alloc, &longest, &[64, 4096], refused, text);
 }
 
 #[test]
 fn longest_input_is_read(rt: HostRuntime) {
-    let longest = followed_by(&rt, rt.alloc(), "", b'X', MAX_INPUT);
-    let (refused, text) = (
-        Verdict::Refused(1),
-        b"refused at line 1: not a length line\n",
-    );
-    check_whole(&rt, rt.alloc(), &longest, (64, 1000), refused, text);
-    check_whole(&rt, rt.alloc(), &longest, (4096, 1000), refused, text);
+    check_longest(&rt, rt.alloc());
     let longer = followed_by(&rt, rt.alloc(), "", b'X', MAX_INPUT + 1);
-    let (long, text) = (Verdict::TooLong, b"refused: input too long\n");
-    check_whole(&rt, rt.alloc(), &longer, (1000, 1000), long, text);
-    check_whole(&rt, rt.alloc(), &longer, (4096, 1000), long, text);
+    let text = b"refused: input too long\n";
+    let long = Verdict::TooLong;
+    check_steps(&rt, rt.alloc(), &longer, &[1000, 4096], long, text);
 }
 
 /// Whether a writer with this room, which is less than the text, or which fails as it is flushed, has taken what it has
@@ -162,7 +178,7 @@ fn is_filled(alloc: Global, text: &[u8], room: usize) -> bool {
 #[test]
 fn writers_that_fail(rt: HostRuntime) {
     let text = TEXT_OF_MATCH.as_bytes();
-    for room in [0, 1, 100, text.len().saturating_sub(1), text.len()] {
-        assert!(rt; is_filled(rt.alloc(), text, room), "{room}");
+    for &room in &[0, 1, 100, text.len().saturating_sub(1), text.len()] {
+        check_number(&rt, "room for", room, is_filled(rt.alloc(), text, room));
     }
 }

@@ -3,17 +3,25 @@ use super::devices::verdict_on;
 use super::records::{MATCH, TEXT_OF_MATCH, check_is_match, record};
 use crate::checks::{check_no_growth_is_left, check_row};
 use crate::records::{read, written};
-use bg_match::Standing;
+use bg_match::{Record, Standing};
 use bg_streams::EngineFault;
 use bg_text::{Judgement, Verdict, board_text, judge_text, put_phase};
-use std::alloc::Global;
+use std::alloc::{AllocError, Global};
 use std::process::Abort;
 
 /// The board of a standing, also where memory is refused once.
-fn board_of(rt: &impl Abort, alloc: Global, standing: &Standing) -> Vec<u8> {
+fn board_of(alloc: Global, standing: &Standing) -> Result<Vec<u8>, AllocError> {
     match board_text(alloc, standing) {
-        Ok(board) => board,
-        Err(_) => board_text(alloc, standing).expect(rt, "memory"),
+        Ok(board) => Ok(board),
+        Err(_) => board_text(alloc, standing),
+    }
+}
+
+fn is_drawn(alloc: Global, standing: &Standing) -> bool {
+    let expected = TEXT_OF_MATCH.as_bytes().strip_suffix(b"ok 2\n");
+    match board_of(alloc, standing) {
+        Ok(board) => Some(board.as_slice()) == expected,
+        Err(_) => false,
     }
 }
 
@@ -22,30 +30,39 @@ fn board_of(rt: &impl Abort, alloc: Global, standing: &Standing) -> Vec<u8> {
 #[test]
 fn refused_growths_of_boards(rt: HostRuntime) {
     let standing = record(&rt, rt.alloc()).standing();
-    let board = board_of(&rt, rt.alloc(), &standing);
-    let expected = TEXT_OF_MATCH.as_bytes().strip_suffix(b"ok 2\n");
-    check_row(&rt, "board", Some(board.as_slice()) == expected);
+    check_row(&rt, "board", is_drawn(rt.alloc(), &standing));
     check_no_growth_is_left(&rt, rt.alloc());
+}
+
+/// Whether the words for what is next are put, also where memory is refused once.
+fn is_told(text: &mut Vec<u8>, standing: &Standing) -> bool {
+    if put_phase(text, standing).is_err() {
+        text.clear();
+        if put_phase(text, standing).is_err() {
+            return false;
+        }
+    }
+    text.as_slice() == b"O to roll".as_slice()
 }
 
 /// The same, of the words for what is next.
 #[test]
 fn refused_growths_of_phases(rt: HostRuntime) {
     let standing = record(&rt, rt.alloc()).standing();
-    let mut text = Vec::new(rt.alloc());
-    if put_phase(&mut text, &standing).is_err() {
-        text.clear();
-        put_phase(&mut text, &standing).expect(&rt, "memory");
-    }
-    check_row(&rt, "phase", text.as_slice() == b"O to roll".as_slice());
+    let is_told = is_told(&mut Vec::new(rt.alloc()), &standing);
+    check_row(&rt, "phase", is_told);
     check_no_growth_is_left(&rt, rt.alloc());
+}
+
+fn is_written(rt: &impl Abort, alloc: Global, record: &Record) -> bool {
+    written(rt, alloc, record).as_slice() == MATCH.as_bytes()
 }
 
 /// The same, of a transcript.
 #[test]
 fn refused_growths_of_transcripts(rt: HostRuntime) {
-    let transcript = written(&rt, rt.alloc(), &record(&rt, rt.alloc()));
-    check_row(&rt, "transcript", transcript.as_slice() == MATCH.as_bytes());
+    let record = record(&rt, rt.alloc());
+    check_row(&rt, "transcript", is_written(&rt, rt.alloc(), &record));
     check_no_growth_is_left(&rt, rt.alloc());
 }
 
@@ -58,20 +75,26 @@ fn refused_growths_of_records_that_are_read(rt: HostRuntime) {
 }
 
 /// The judgement of MATCH, also where memory is refused once.
-fn judged(rt: &impl Abort, alloc: Global) -> Judgement {
+fn judged(alloc: Global) -> Result<Judgement, AllocError> {
     match judge_text(alloc, MATCH.as_bytes()) {
-        Ok(judged) => judged,
-        Err(_) => judge_text(alloc, MATCH.as_bytes()).expect(rt, "memory"),
+        Ok(judged) => Ok(judged),
+        Err(_) => judge_text(alloc, MATCH.as_bytes()),
+    }
+}
+
+fn is_judged(alloc: Global) -> bool {
+    match judged(alloc) {
+        Ok(judged) => {
+            judged.verdict == Verdict::Fine(2) && judged.text.as_slice() == TEXT_OF_MATCH.as_bytes()
+        }
+        Err(_) => false,
     }
 }
 
 /// The same, of a judgement.
 #[test]
 fn refused_growths_of_judgements(rt: HostRuntime) {
-    let judged = judged(&rt, rt.alloc());
-    check_row(&rt, "verdict", judged.verdict == Verdict::Fine(2));
-    let text = TEXT_OF_MATCH.as_bytes();
-    check_row(&rt, "judgement", judged.text.as_slice() == text);
+    check_row(&rt, "judgement", is_judged(rt.alloc()));
     check_no_growth_is_left(&rt, rt.alloc());
 }
 
@@ -83,17 +106,26 @@ fn room(rt: &impl Abort, alloc: Global) -> Vec<u8> {
     }
 }
 
+/// The verdict on MATCH, also where memory is refused once: then nothing is written.
+fn verdict_again(alloc: Global, written: &mut Vec<u8>) -> Result<Verdict, EngineFault> {
+    match verdict_on(alloc, &mut MATCH.as_bytes(), written) {
+        Err(EngineFault::Memory) if written.is_empty() => {
+            verdict_on(alloc, &mut MATCH.as_bytes(), written)
+        }
+        verdict => verdict,
+    }
+}
+
+fn is_judged_between_devices(alloc: Global, written: &mut Vec<u8>) -> bool {
+    verdict_again(alloc, written) == Ok(Verdict::Fine(2))
+        && written.as_slice() == TEXT_OF_MATCH.as_bytes()
+}
+
 /// The same, of the judge between devices, who then has written nothing.
 #[test]
 fn refused_growths_between_devices(rt: HostRuntime) {
     let mut written = room(&rt, rt.alloc());
-    let mut verdict = verdict_on(rt.alloc(), &mut MATCH.as_bytes(), &mut written);
-    if verdict == Err(EngineFault::Memory) {
-        check_row(&rt, "nothing is written", written.is_empty());
-        verdict = verdict_on(rt.alloc(), &mut MATCH.as_bytes(), &mut written);
-    }
-    check_row(&rt, "verdict", verdict == Ok(Verdict::Fine(2)));
-    let text = TEXT_OF_MATCH.as_bytes();
-    check_row(&rt, "judgement", written.as_slice() == text);
+    let is_judged = is_judged_between_devices(rt.alloc(), &mut written);
+    check_row(&rt, "judgement", is_judged);
     check_no_growth_is_left(&rt, rt.alloc());
 }

@@ -64,7 +64,7 @@ fn no_length_lines_refused(rt: HostRuntime) {
     check_followed(&rt, rt.alloc(), "", b'X', MAX_INPUT, NO_LENGTH);
 }
 
-const OTHER_LENGTHS: [&str; 5] = [
+const OTHER_LENGTHS_REFUSED: [&str; 5] = [
     "length 0\n",
     "length 000\n",
     "length 01\nopen 3 1\n",
@@ -72,12 +72,7 @@ const OTHER_LENGTHS: [&str; 5] = [
     "length 999\n",
 ];
 
-#[test]
-fn other_lengths_refused(rt: HostRuntime) {
-    check_each(&rt, rt.alloc(), &OTHER_LENGTHS, LENGTH_OUT_OF_RANGE);
-}
-
-const LONE_LENGTHS: [[&str; 5]; 3] = [
+const LONE_LENGTH_LINES: [[&str; 5]; 3] = [
     ["length 1", HEADER, START, "opening", "ok 0\nFine(0)"],
     ["length 1\n", HEADER, START, "opening", "ok 0\nFine(0)"],
     [
@@ -90,8 +85,9 @@ const LONE_LENGTHS: [[&str; 5]; 3] = [
 ];
 
 #[test]
-fn lone_length_lines(rt: HostRuntime) {
-    check_drawings(&rt, rt.alloc(), &LONE_LENGTHS);
+fn lengths_of_first_lines(rt: HostRuntime) {
+    check_each(&rt, rt.alloc(), &OTHER_LENGTHS_REFUSED, LENGTH_OUT_OF_RANGE);
+    check_drawings(&rt, rt.alloc(), &LONE_LENGTH_LINES);
 }
 
 /// The first line alone of an input is good, and the second is no line.

@@ -32,7 +32,7 @@ fn boards_of_good_openings(rt: HostRuntime) {
     check_drawings(&rt, rt.alloc(), &GOOD_OPENINGS);
 }
 
-const REFUSED_OPENINGS: [[&str; 5]; 3] = [
+const BOARDS_OF_REFUSED_OPENINGS: [[&str; 5]; 3] = [
     [
         "length 1\nopen 3 1\nX move 8-5",
         HEADER,
@@ -56,12 +56,7 @@ const REFUSED_OPENINGS: [[&str; 5]; 3] = [
     ],
 ];
 
-#[test]
-fn boards_of_refused_openings(rt: HostRuntime) {
-    check_drawings(&rt, rt.alloc(), &REFUSED_OPENINGS);
-}
-
-const CRAWFORD_GAME: [[&str; 5]; 2] = [
+const BOARDS_OF_THE_CRAWFORD_GAME: [[&str; 5]; 2] = [
     [
         "length 3\nopen 1 3\nO resign gammon\nX accept\nopen 3 1\nX move 8-5 6-5\nO double\n",
         "length 3 game 2 score 2-0 cube 1 middle crawford",
@@ -79,11 +74,6 @@ const CRAWFORD_GAME: [[&str; 5]; 2] = [
     ],
 ];
 
-#[test]
-fn boards_of_the_crawford_game(rt: HostRuntime) {
-    check_drawings(&rt, rt.alloc(), &CRAWFORD_GAME);
-}
-
 /// Both players have moved 8-5 6-5.
 const BOTH_OPENED: &str = "  13  14  15  16  17  18  19  20  21  22  23  24
   X5   .   .   .  O2   .  O4  O2   .   .   .  X2
@@ -92,7 +82,7 @@ const BOTH_OPENED: &str = "  13  14  15  16  17  18  19  20  21  22  23  24
 bar X 0 O 0 off X 0 O 0
 ";
 
-const DOUBLES: [[&str; 5]; 2] = [
+const BOARDS_AFTER_DOUBLES: [[&str; 5]; 2] = [
     [
         "length 5\nopen 3 1\nX move 8-5 6-5\nO double\nX take\nO roll 3 1\nO move 8-5 6-5\nX double\nO drop\n",
         "length 5 game 2 score 2-0 cube 1 middle",
@@ -109,12 +99,7 @@ const DOUBLES: [[&str; 5]; 2] = [
     ],
 ];
 
-#[test]
-fn boards_after_doubles(rt: HostRuntime) {
-    check_drawings(&rt, rt.alloc(), &DOUBLES);
-}
-
-const RESIGNATIONS: [[&str; 5]; 2] = [
+const BOARDS_AFTER_RESIGNATIONS: [[&str; 5]; 2] = [
     [
         "length 3\nopen 1 3\nO resign gammon\nO accept\n",
         "length 3 game 1 score 0-0 cube 1 middle",
@@ -132,6 +117,9 @@ const RESIGNATIONS: [[&str; 5]; 2] = [
 ];
 
 #[test]
-fn boards_after_resignations(rt: HostRuntime) {
-    check_drawings(&rt, rt.alloc(), &RESIGNATIONS);
+fn boards_of_refusals_and_doubles(rt: HostRuntime) {
+    check_drawings(&rt, rt.alloc(), &BOARDS_OF_REFUSED_OPENINGS);
+    check_drawings(&rt, rt.alloc(), &BOARDS_OF_THE_CRAWFORD_GAME);
+    check_drawings(&rt, rt.alloc(), &BOARDS_AFTER_DOUBLES);
+    check_drawings(&rt, rt.alloc(), &BOARDS_AFTER_RESIGNATIONS);
 }

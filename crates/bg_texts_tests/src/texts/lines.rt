@@ -1,13 +1,13 @@
 //! Lines of each kind of entry, and lines of each fault.
-use crate::checks::{check_row, check_told, parted};
+use crate::checks::{check_row, check_words, parted};
 use bg_text::{entry_text, parse_entry};
-use std::alloc::Global;
+use std::alloc::{AllocError, Global};
 use std::process::Abort;
 
 /// What a line is read as, or is refused for.
-fn told_of(rt: &impl Abort, alloc: Global, line: &[u8]) -> String {
+fn told_of(alloc: Global, line: &[u8]) -> Result<String, AllocError> {
     let read = parse_entry(line);
-    format!(in alloc; "{read:?}").expect(rt, "memory")
+    format!(in alloc; "{read:?}")
 }
 
 /// Whether what a line is read as is written as that line, where it is the line of an entry.
@@ -21,8 +21,7 @@ fn is_written(line: &str) -> bool {
 /// A row's line is read as the seat and the entry, or refused for the fault, that stand behind the arrow.
 fn check_line(rt: &impl Abort, alloc: Global, row: &str) {
     let (line, wanted) = parted(rt, row);
-    let told = told_of(rt, alloc, line.as_bytes());
-    check_told(rt, row, told.as_str(), wanted);
+    check_words(rt, row, told_of(alloc, line.as_bytes()), wanted);
     check_row(rt, row, is_written(line));
 }
 
@@ -32,7 +31,7 @@ fn check_lines(rt: &impl Abort, alloc: Global, rows: &str) {
     }
 }
 
-const DICE_AND_DOUBLES: &str = "\
+const LINES_OF_DICE_AND_DOUBLES: &str = "\
 open 3 1 -> Ok((None, Opening(Three, One)))
 open 4 4 -> Ok((None, Opening(Four, Four)))
 O roll 6 2 -> Ok((Some(O), Rolled(Dice { first: Six, second: Two })))
@@ -41,12 +40,7 @@ O take -> Ok((Some(O), Taken))
 X drop -> Ok((Some(X), Dropped))
 ";
 
-#[test]
-fn lines_of_dice_and_doubles(rt: HostRuntime) {
-    check_lines(&rt, rt.alloc(), DICE_AND_DOUBLES);
-}
-
-const TURNS: &str = "\
+const LINES_OF_TURNS: &str = "\
 X move -> Ok((Some(X), Moved([])))
 X move 8-5 6-5 -> Ok((Some(X), Moved([Step { from: 8, to: 5 }, Step { from: 6, to: 5 }])))
 O move bar-off 1-off -> Ok((Some(O), Moved([Step { from: 25, to: 0 }, Step { from: 1, to: 0 }])))
@@ -54,12 +48,7 @@ X move bar-24 bar-24 bar-24 bar-24 -> Ok((Some(X), Moved([\
 Step { from: 25, to: 24 }, Step { from: 25, to: 24 }, Step { from: 25, to: 24 }, Step { from: 25, to: 24 }])))
 ";
 
-#[test]
-fn lines_of_turns(rt: HostRuntime) {
-    check_lines(&rt, rt.alloc(), TURNS);
-}
-
-const RESIGNATIONS: &str = "\
+const LINES_OF_RESIGNATIONS: &str = "\
 X resign normal -> Ok((Some(X), Resigned(Normal)))
 O resign gammon -> Ok((Some(O), Resigned(Gammon)))
 X resign backgammon -> Ok((Some(X), Resigned(Backgammon)))
@@ -69,8 +58,10 @@ pass -> Ok((None, Passed))
 ";
 
 #[test]
-fn lines_of_resignations(rt: HostRuntime) {
-    check_lines(&rt, rt.alloc(), RESIGNATIONS);
+fn lines_of_entries(rt: HostRuntime) {
+    check_lines(&rt, rt.alloc(), LINES_OF_DICE_AND_DOUBLES);
+    check_lines(&rt, rt.alloc(), LINES_OF_TURNS);
+    check_lines(&rt, rt.alloc(), LINES_OF_RESIGNATIONS);
 }
 
 /// Lines that are no entry, and why. A blank behind a line's words is one that the line has.
@@ -123,8 +114,7 @@ pass\0 -> Err(NotALine)
 
 /// A line that is no text, or a long one, has none of the shapes of a line.
 fn check_refused(rt: &impl Abort, alloc: Global, name: &str, line: &[u8]) {
-    let told = told_of(rt, alloc, line);
-    check_told(rt, name, told.as_str(), "Err(NotALine)");
+    check_words(rt, name, told_of(alloc, line), "Err(NotALine)");
 }
 
 #[test]

@@ -1,12 +1,12 @@
 //! The judge where a turn is to be passed, and where none is. The expected texts are those of the rules and formats,
 //! worked out by hand.
 use super::pictures::{HEADER, START, check_drawings, check_drawn, judged};
-use super::records::full_record;
 use super::rules::SECOND_HEADER;
+use super::transcripts::{full_text, is_judged};
 use crate::checks::{check_row, check_told, text_of};
 use crate::records::{push_lines, written};
 use bg_match::{Entry, MOST_ENTRIES, Record, Rules};
-use bg_text::{Verdict, judge_text};
+use bg_text::Verdict;
 use std::alloc::Global;
 use std::process::Abort;
 
@@ -37,20 +37,15 @@ fn check_second(rt: &impl Abort, alloc: Global, rows: &[[&str; 3]]) {
     }
 }
 
-const PASS: [[&str; 3]; 2] = [
+const PASS_OF_A_TURN: [[&str; 3]; 2] = [
     ["pass", "O to roll", "ok 6\nFine(6)"],
     ["", DUE, "ok 5\nFine(5)"],
 ];
 
-#[test]
-fn pass_of_a_turn(rt: HostRuntime) {
-    check_second(&rt, rt.alloc(), &PASS);
-}
-
 const WRONG_PHASE: &str = "refused at line 7: wrong phase\nRefused(7)";
 
 /// Lines of either player, and an opening, which follow no turn that is to be passed.
-const NO_PASSES: [[&str; 3]; 14] = [
+const OTHER_ENTRIES_WHERE_A_PASS_IS_DUE: [[&str; 3]; 14] = [
     ["X move", DUE, WRONG_PHASE],
     ["X move 24-18", DUE, WRONG_PHASE],
     ["X move bar-24 24-23 23-22 22-21", DUE, WRONG_PHASE],
@@ -67,18 +62,13 @@ const NO_PASSES: [[&str; 3]; 14] = [
     ["open 3 3", DUE, WRONG_PHASE],
 ];
 
-#[test]
-fn other_entries_where_a_pass_is_due(rt: HostRuntime) {
-    check_second(&rt, rt.alloc(), &NO_PASSES);
-}
-
 const NOT_A_LINE: &str = "refused at line 7: not a line\nRefused(7)";
 
 const BAD_NUMBER: &str = "refused at line 7: bad number\nRefused(7)";
 
 const TOO_MANY_STEPS: &str = "refused at line 7: too many steps\nRefused(7)";
 
-const FAULTS_OF_LINES: [[&str; 3]; 8] = [
+const FAULTS_OF_LINES_WHERE_A_PASS_IS_DUE: [[&str; 3]; 8] = [
     ["X pass\n", DUE, NOT_A_LINE],
     ["O pass\n", DUE, NOT_A_LINE],
     ["pass 1\n", DUE, NOT_A_LINE],
@@ -90,8 +80,10 @@ const FAULTS_OF_LINES: [[&str; 3]; 8] = [
 ];
 
 #[test]
-fn faults_of_lines_where_a_pass_is_due(rt: HostRuntime) {
-    check_second(&rt, rt.alloc(), &FAULTS_OF_LINES);
+fn entries_where_a_pass_is_due(rt: HostRuntime) {
+    check_second(&rt, rt.alloc(), &PASS_OF_A_TURN);
+    check_second(&rt, rt.alloc(), &OTHER_ENTRIES_WHERE_A_PASS_IS_DUE);
+    check_second(&rt, rt.alloc(), &FAULTS_OF_LINES_WHERE_A_PASS_IS_DUE);
 }
 
 const WRONG_PLAYER: &str = "refused at line 7: wrong player\nRefused(7)";
@@ -111,7 +103,7 @@ fn first_rules_where_no_step_is_left(rt: HostRuntime) {
     }
 }
 
-const NOT_DUE: [[&str; 5]; 4] = [
+const PASSES_THAT_ARE_NOT_DUE: [[&str; 5]; 4] = [
     [
         "length 1 rules 2\npass",
         SECOND_HEADER,
@@ -142,12 +134,7 @@ const NOT_DUE: [[&str; 5]; 4] = [
     ],
 ];
 
-#[test]
-fn passes_that_are_not_due(rt: HostRuntime) {
-    check_drawings(&rt, rt.alloc(), &NOT_DUE);
-}
-
-const AFTER_THE_MATCH: [[&str; 5]; 2] = [
+const PASSES_AFTER_THE_MATCH: [[&str; 5]; 2] = [
     [
         "length 1 rules 2\nopen 3 1\nX resign normal\nO accept\npass",
         "length 1 rules 2 game 1 score 0-1 cube 1 middle crawford",
@@ -165,22 +152,30 @@ const AFTER_THE_MATCH: [[&str; 5]; 2] = [
 ];
 
 #[test]
-fn passes_after_the_match(rt: HostRuntime) {
-    check_drawings(&rt, rt.alloc(), &AFTER_THE_MATCH);
+fn entries_where_none_is_due(rt: HostRuntime) {
+    check_drawings(&rt, rt.alloc(), &PASSES_THAT_ARE_NOT_DUE);
+    check_drawings(&rt, rt.alloc(), &PASSES_AFTER_THE_MATCH);
+}
+
+/// Whether a pass behind the text of a full record is refused.
+fn is_refused_behind(alloc: Global, text: &mut Vec<u8>) -> bool {
+    let last = b"\nrefused at line 1000002: record full\n";
+    let bytes = 18 + 9 + 499_999 * (20 + 9) + 20;
+    text.len() == bytes
+        && text.extend_from_slice(b"pass").is_ok()
+        && is_judged(
+            alloc,
+            text.as_slice(),
+            Verdict::Refused(MOST_ENTRIES + 2),
+            last,
+        )
 }
 
 #[test]
 fn passes_in_a_full_record(rt: HostRuntime) {
-    let record = full_record(&rt, rt.alloc(), Rules::Two);
-    let mut text = written(&rt, rt.alloc(), &record);
-    let bytes = 18 + 9 + 499_999 * (20 + 9) + 20;
-    check_row(&rt, "number of bytes", text.len() == bytes);
-    text.extend_from_slice(b"pass").expect(&rt, "memory");
-    let judged = judge_text(rt.alloc(), &text).expect(&rt, "memory");
-    let refused = Verdict::Refused(MOST_ENTRIES + 2);
-    check_row(&rt, "verdict", judged.verdict == refused);
-    let last = b"\nrefused at line 1000002: record full\n";
-    check_row(&rt, "last line", judged.text.ends_with(last));
+    let mut text = full_text(&rt, rt.alloc(), Rules::Two);
+    let is_refused = is_refused_behind(rt.alloc(), &mut text);
+    check_row(&rt, "a pass more", is_refused);
 }
 
 const PASSED: &str = "length 1 rules 2
@@ -192,15 +187,31 @@ X roll 6 6
 pass
 ";
 
-/// The transcript of a match in which X, who was shut out, is passed.
+fn is_passed(record: &mut Record) -> bool {
+    record.push(Entry::Passed).is_ok() && record.by(6).is_none()
+}
+
+fn push_pass(rt: &impl Abort, record: &mut Record) {
+    push_lines(rt, record, SHUT_OUT);
+    check_row(rt, "no seat passes", is_passed(record));
+}
+
+/// A match in which X, who was shut out, is passed.
+fn passed(rt: &impl Abort, alloc: Global) -> Record {
+    let mut record = Record::new(alloc, 1, 1, Rules::Two).expect(rt, "a record");
+    push_pass(rt, &mut record);
+    record
+}
+
+/// Its transcript.
 #[test]
 fn transcript_of_a_pass(rt: HostRuntime) {
-    let mut record = Record::new(rt.alloc(), 1, 1, Rules::Two).expect(&rt, "a record");
-    push_lines(&rt, &mut record, SHUT_OUT);
-    record.push(Entry::Passed).expect(&rt, "a pass");
-    check_row(&rt, "no seat passes", record.by(6).is_none());
-    let transcript = written(&rt, rt.alloc(), &record);
-    check_told(&rt, "transcript", text_of(&transcript), PASSED);
-    let told = judged(&rt, rt.alloc(), &transcript);
-    check_row(&rt, "verdict", told.ends_with("\nok 6\nFine(6)"));
+    let transcript = written(&rt, rt.alloc(), &passed(&rt, rt.alloc()));
+    check_passed(&rt, rt.alloc(), &transcript);
+}
+
+fn check_passed(rt: &impl Abort, alloc: Global, transcript: &[u8]) {
+    check_told(rt, "transcript", text_of(transcript), PASSED);
+    let told = judged(rt, alloc, transcript);
+    check_row(rt, "verdict", told.ends_with("\nok 6\nFine(6)"));
 }

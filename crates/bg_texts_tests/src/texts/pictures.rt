@@ -1,8 +1,8 @@
 //! The boards that are expected, and the comparison of what is drawn and judged with them.
-use crate::checks::{check_told, text_of};
+use crate::checks::{check_text, check_words, text_of};
 use bg_match::Standing;
 use bg_text::{board_text, judge_text};
-use std::alloc::Global;
+use std::alloc::{AllocError, Global};
 use std::process::Abort;
 
 pub(crate) const HEADER: &str = "length 1 game 1 score 0-0 cube 1 middle crawford";
@@ -23,17 +23,21 @@ bar X 0 O 0 off X 0 O 0
 ";
 
 /// What the judge says of an input, and the verdict behind it.
-pub(crate) fn judged(rt: &impl Abort, alloc: Global, input: &[u8]) -> String {
-    let judged = judge_text(alloc, input).expect(rt, "memory");
+fn told_of(alloc: Global, input: &[u8]) -> Result<String, AllocError> {
+    let judged = judge_text(alloc, input)?;
     let text = text_of(&judged.text);
     let verdict = judged.verdict;
-    format!(in alloc; "{text}{verdict:?}").expect(rt, "memory")
+    format!(in alloc; "{text}{verdict:?}")
+}
+
+/// The same.
+pub(crate) fn judged(rt: &impl Abort, alloc: Global, input: &[u8]) -> String {
+    told_of(alloc, input).expect(rt, "memory")
 }
 
 /// The judge says this of an input, and comes to the verdict behind it.
 pub(crate) fn check_judged(rt: &impl Abort, alloc: Global, row: &str, input: &[u8], wanted: &str) {
-    let told = judged(rt, alloc, input);
-    check_told(rt, row, told.as_str(), wanted);
+    check_words(rt, row, told_of(alloc, input), wanted);
 }
 
 /// The same, of several inputs.
@@ -60,6 +64,5 @@ pub(crate) fn check_drawings(rt: &impl Abort, alloc: Global, rows: &[[&str; 5]])
 
 /// The board of a standing is drawn so.
 pub(crate) fn check_board(rt: &impl Abort, alloc: Global, standing: &Standing, wanted: &str) {
-    let board = board_text(alloc, standing).expect(rt, "memory");
-    check_told(rt, wanted, text_of(&board), wanted);
+    check_text(rt, wanted, board_text(alloc, standing), wanted);
 }

@@ -1,5 +1,5 @@
 //! The words of refusals and of faults.
-use crate::checks::{check_lines, check_row, check_told};
+use crate::checks::{check_printed, check_row, check_told};
 use bg_match::{EntryFault, NoDouble};
 use bg_streams::{EngineFault, StreamFault};
 use bg_text::{LineFault, TextFault, TranscriptFault, reason_text};
@@ -8,49 +8,50 @@ use std::alloc::Global;
 use std::process::Abort;
 
 /// A refusal has these words.
-fn check_words(rt: &impl Abort, fault: EntryFault, words: &str) {
-    check_told(rt, words, reason_text(&fault).as_str(), words);
+fn check_reason(rt: &impl Abort, fault: &EntryFault, words: &str) {
+    check_told(rt, words, reason_text(fault).as_str(), words);
 }
 
-const OF_ENTRIES: [(EntryFault, &str); 5] = [
+const REFUSALS: [(EntryFault, &str); 12] = [
+    // refusals_of_entries_in_words
     (EntryFault::RecordFull, "record full"),
     (EntryFault::MatchOver, "match over"),
     (EntryFault::WrongPhase, "wrong phase"),
     (EntryFault::EqualOpening, "equal opening"),
     (EntryFault::Memory, "out of memory"),
+    // refusals_of_turns_in_words
+    (
+        EntryFault::Turn(TurnFault::StepIllegal(0)),
+        "step 1 illegal",
+    ),
+    (
+        EntryFault::Turn(TurnFault::StepIllegal(3)),
+        "step 4 illegal",
+    ),
+    (
+        EntryFault::Turn(TurnFault::MoreCanBePlayed),
+        "more can be played",
+    ),
+    (
+        EntryFault::Turn(TurnFault::LargerMustBePlayed),
+        "larger die must be played",
+    ),
+    // refusals_of_doubles_in_words
+    (
+        EntryFault::NoDouble(NoDouble::Crawford),
+        "no double: crawford",
+    ),
+    (
+        EntryFault::NoDouble(NoDouble::NotOwner),
+        "no double: not owner",
+    ),
+    (EntryFault::NoDouble(NoDouble::AtCap), "no double: at cap"),
 ];
 
 #[test]
-fn refusals_of_entries_in_words(rt: HostRuntime) {
-    for &(fault, words) in &OF_ENTRIES {
-        check_words(&rt, fault, words);
-    }
-}
-
-const OF_TURNS: [(TurnFault, &str); 4] = [
-    (TurnFault::StepIllegal(0), "step 1 illegal"),
-    (TurnFault::StepIllegal(3), "step 4 illegal"),
-    (TurnFault::MoreCanBePlayed, "more can be played"),
-    (TurnFault::LargerMustBePlayed, "larger die must be played"),
-];
-
-#[test]
-fn refusals_of_turns_in_words(rt: HostRuntime) {
-    for &(fault, words) in &OF_TURNS {
-        check_words(&rt, EntryFault::Turn(fault), words);
-    }
-}
-
-const OF_DOUBLES: [(NoDouble, &str); 3] = [
-    (NoDouble::Crawford, "no double: crawford"),
-    (NoDouble::NotOwner, "no double: not owner"),
-    (NoDouble::AtCap, "no double: at cap"),
-];
-
-#[test]
-fn refusals_of_doubles_in_words(rt: HostRuntime) {
-    for &(fault, words) in &OF_DOUBLES {
-        check_words(&rt, EntryFault::NoDouble(fault), words);
+fn refusals_in_words(rt: HostRuntime) {
+    for (fault, words) in &REFUSALS {
+        check_reason(&rt, fault, words);
     }
 }
 
@@ -67,32 +68,18 @@ fn refusals_of_lines_in_words(rt: HostRuntime) {
     }
 }
 
-/// The faults of devices and of lines, each in a line.
-fn printed_faults(rt: &impl Abort, alloc: Global) -> String {
-    let read = EngineFault::Read;
-    let write = EngineFault::Write;
-    let memory = EngineFault::Memory;
-    let shape = TextFault::NotALine;
-    let number = TextFault::BadNumber;
-    let steps = TextFault::TooManySteps;
-    format!(in alloc;
-        "{StreamFault}\n{read}\n{write}\n{memory}\n{shape}\n{number}\n{steps}\n"
-    ).expect(rt, "memory")
-}
-
-const FAULTS: &str = "\
-the device failed
-the input could not be read
-the output could not be written
-out of memory
-not a line
-bad number
-too many steps
-";
-
 #[test]
 fn faults_are_printed(rt: HostRuntime) {
-    check_lines(&rt, printed_faults(&rt, rt.alloc()).as_str(), FAULTS);
+    let alloc = rt.alloc();
+    check_printed(&rt, alloc, &StreamFault, "the device failed");
+    let read = "the input could not be read";
+    check_printed(&rt, alloc, &EngineFault::Read, read);
+    let write = "the output could not be written";
+    check_printed(&rt, alloc, &EngineFault::Write, write);
+    check_printed(&rt, alloc, &EngineFault::Memory, "out of memory");
+    check_printed(&rt, alloc, &TextFault::NotALine, "not a line");
+    check_printed(&rt, alloc, &TextFault::BadNumber, "bad number");
+    check_printed(&rt, alloc, &TextFault::TooManySteps, "too many steps");
 }
 
 const OF_TRANSCRIPTS: [(LineFault, &str); 6] = [
@@ -120,11 +107,8 @@ fn faults_of_transcripts_are_printed(rt: HostRuntime) {
     for &(why, words) in &OF_TRANSCRIPTS {
         check_line_fault(&rt, rt.alloc(), why, words);
     }
-    let (long, memory) = (TranscriptFault::TooLong, TranscriptFault::Memory);
-    let printed = format!(in rt.alloc(); "{long}\n{memory}\n").expect(&rt, "memory");
-    check_lines(
-        &rt,
-        printed.as_str(),
-        "refused: input too long\nout of memory\n",
-    );
+    let long = "refused: input too long";
+    check_printed(&rt, rt.alloc(), &TranscriptFault::TooLong, long);
+    let memory = "out of memory";
+    check_printed(&rt, rt.alloc(), &TranscriptFault::Memory, memory);
 }

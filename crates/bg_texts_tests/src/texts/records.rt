@@ -1,8 +1,8 @@
 //! The match of these tests, as a text and as a record, its picture, and a record that is full.
 use crate::checks::check_row;
-use crate::records::{push, push_lines, written};
+use crate::records::{is_pushed, push_lines, written};
 use bg_board::Die;
-use bg_match::{Entry, Level, Record, Rules};
+use bg_match::{Entry, Level, MOST_ENTRIES, Record, Rules};
 use std::alloc::Global;
 use std::process::Abort;
 
@@ -32,22 +32,31 @@ pub(crate) fn check_is_match(rt: &impl Abort, alloc: Global, read: &Record) {
     let numbers = (read.id(), read.len(), read.length()) == (7, 2, 1);
     check_row(rt, "match 7 of length 1 with 2 entries", numbers);
     check_row(rt, "the first rules", read.rules() == Rules::One);
-    let text = written(rt, alloc, read);
-    check_row(rt, "transcript", text.as_slice() == MATCH.as_bytes());
+    let is_written = written(rt, alloc, read).as_slice() == MATCH.as_bytes();
+    check_row(rt, "transcript", is_written);
 }
 
-fn push_offers(rt: &impl Abort, record: &mut Record) {
+/// Whether an entry and its answer are appended again and again, and then that entry.
+fn are_pushed(record: &mut Record, offer: &Entry, answer: &Entry) -> bool {
     for _ in 0..499_999 {
-        push(rt, record, Entry::Resigned(Level::Backgammon));
-        push(rt, record, Entry::Rejected);
+        if !is_pushed(record, offer) || !is_pushed(record, answer) {
+            return false;
+        }
     }
+    is_pushed(record, offer)
 }
 
-/// A record that is full: an opening, offers and their replies, and an offer.
+/// Whether a record is filled: with an opening, offers and their replies, and an offer.
+fn is_filled(record: &mut Record) -> bool {
+    let offer = Entry::Resigned(Level::Backgammon);
+    is_pushed(record, &Entry::Opening(Die::Three, Die::One))
+        && are_pushed(record, &offer, &Entry::Rejected)
+        && record.len() == MOST_ENTRIES
+}
+
+/// A record that is full.
 pub(crate) fn full_record(rt: &impl Abort, alloc: Global, rules: Rules) -> Record {
     let mut record = Record::new(alloc, 1, 99, rules).expect(rt, "a record");
-    push(rt, &mut record, Entry::Opening(Die::Three, Die::One));
-    push_offers(rt, &mut record);
-    push(rt, &mut record, Entry::Resigned(Level::Backgammon));
+    check_row(rt, "a full record", is_filled(&mut record));
     record
 }

@@ -2,18 +2,18 @@
 //! formats, worked out by hand.
 use super::inputs::{LENGTH_OUT_OF_RANGE, NO_LENGTH};
 use super::pictures::{START, check_board, check_drawings, check_each};
-use crate::checks::{check_told, text_of};
+use crate::checks::check_text;
 use bg_board::{Board, Die, Player};
 use bg_match::{Cube, Phase, Rules, Standing};
 use bg_text::put_terms;
 use bg_turns::Dice;
-use std::alloc::Global;
+use std::alloc::{AllocError, Global};
 use std::process::Abort;
 
 pub(crate) const SECOND_HEADER: &str = "length 1 rules 2 game 1 score 0-0 cube 1 middle crawford";
 
 /// Lines of another shape than that of a length line.
-const NO_LENGTH_LINES: [&str; 20] = [
+const LINES_THAT_NAME_NO_RULES: [&str; 20] = [
     "length 1 rules 1\n",
     "length 1 rules 02\n",
     "length 1 rules 2 \n",
@@ -36,12 +36,7 @@ const NO_LENGTH_LINES: [&str; 20] = [
     "rules 2\n",
 ];
 
-#[test]
-fn lines_that_name_no_rules(rt: HostRuntime) {
-    check_each(&rt, rt.alloc(), &NO_LENGTH_LINES, NO_LENGTH);
-}
-
-const OTHER_LENGTHS: [&str; 5] = [
+const LENGTHS_OUT_OF_RANGE: [&str; 5] = [
     "length 0 rules 2\n",
     "length 000 rules 2\n",
     "length 01 rules 2\nopen 3 1\n",
@@ -49,12 +44,7 @@ const OTHER_LENGTHS: [&str; 5] = [
     "length 999 rules 2\n",
 ];
 
-#[test]
-fn lengths_out_of_range(rt: HostRuntime) {
-    check_each(&rt, rt.alloc(), &OTHER_LENGTHS, LENGTH_OUT_OF_RANGE);
-}
-
-const LONE_LINES: [[&str; 5]; 3] = [
+const LONE_LINES_OF_THE_SECOND_RULES: [[&str; 5]; 3] = [
     [
         "length 1 rules 2",
         SECOND_HEADER,
@@ -79,8 +69,10 @@ const LONE_LINES: [[&str; 5]; 3] = [
 ];
 
 #[test]
-fn lone_lines_of_the_second_rules(rt: HostRuntime) {
-    check_drawings(&rt, rt.alloc(), &LONE_LINES);
+fn first_lines(rt: HostRuntime) {
+    check_each(&rt, rt.alloc(), &LINES_THAT_NAME_NO_RULES, NO_LENGTH);
+    check_each(&rt, rt.alloc(), &LENGTHS_OUT_OF_RANGE, LENGTH_OUT_OF_RANGE);
+    check_drawings(&rt, rt.alloc(), &LONE_LINES_OF_THE_SECOND_RULES);
 }
 
 /// Where the checkers of X stand, and of those of O the one that is not off.
@@ -165,11 +157,16 @@ fn boards_of_both_rules(rt: HostRuntime) {
     }
 }
 
+/// A length and rules behind other words.
+fn terms_text(alloc: Global, rules: Rules) -> Result<Vec<u8>, AllocError> {
+    let mut text = Vec::from_slice(alloc, b"a ")?;
+    put_terms(&mut text, 25, rules)?;
+    Ok(text)
+}
+
 /// A length and rules are put so behind other words.
 fn check_terms(rt: &impl Abort, alloc: Global, rules: Rules, words: &str) {
-    let mut text = Vec::from_slice(alloc, b"a ").expect(rt, "memory");
-    put_terms(&mut text, 25, rules).expect(rt, "memory");
-    check_told(rt, words, text_of(&text), words);
+    check_text(rt, words, terms_text(alloc, rules), words);
 }
 
 #[test]
