@@ -6,6 +6,8 @@ mod bytes;
 #[cfg(test)]
 mod followers;
 #[cfg(test)]
+mod lasting;
+#[cfg(test)]
 mod parties;
 #[cfg(test)]
 mod referees;

@@ -12,11 +12,11 @@ mod roles;
 mod rows;
 mod save_order;
 
+use crate::lasting::lasting;
 use bg_match::{Action, Level, Rules, Terms};
 use bg_parties::Party;
 use bg_wire::{Packet, REFEREE};
-use std::alloc::Global;
-use std::test::Fail;
+use std::process::Abort;
 
 /// A match of one point.
 const TERMS: Terms = Terms {
@@ -24,9 +24,12 @@ const TERMS: Terms = Terms {
     rules: Rules::One,
 };
 
-/// A party of the match 1 that has saved nothing.
-fn fresh(alloc: Global, number: u8) -> Result<Party, Fail> {
-    Ok(Party::open(alloc, number, 1, TERMS, b"", b"")?)
+/// A party of the match 1 that has saved nothing. It lasts.
+fn fresh(rt: &(impl AllocGlobal + Abort), number: u8) -> &'static mut Party {
+    lasting(
+        rt,
+        Party::open(rt.alloc(), number, 1, TERMS, b"", b"").expect(rt, "a party"),
+    )
 }
 
 /// What a party wants that holds nothing of the match with this id.

@@ -72,10 +72,18 @@ fn check_words_of_files(rt: &(impl AllocGlobal + Abort)) {
 
 /// The next failure is that of a send to this party.
 fn check_next(rt: &impl Abort, drained: &mut DrainedFailures<'_>, to: u8) {
-    let failure = drained.next().expect(rt, "a failure");
-    let holds = failure.call == FailedCall::Send { to }
-        && failure.error.kind() == ErrorKind::StorageFull;
-    assert!(rt; holds, "to {to}");
+    assert!(rt; is_send(drained, to), "to {to}");
+}
+
+/// Whether there is a failure next, and it is that of a send to this party.
+fn is_send(drained: &mut DrainedFailures<'_>, to: u8) -> bool {
+    match drained.next() {
+        Some(failure) => {
+            failure.call == FailedCall::Send { to }
+                && failure.error.kind() == ErrorKind::StorageFull
+        }
+        None => false,
+    }
 }
 
 #[test]
@@ -92,12 +100,20 @@ fn check_oldest(rt: &impl Abort) {
     // What is not asked for stays.
     check_next(rt, &mut failures.drain(), 1);
     note_send(&failures, 4);
-    let mut drained = failures.drain();
+    check_rest(rt, &mut failures.drain());
+    assert!(rt; is_empty(&mut failures.drain()));
+}
+
+/// Those to the parties from 2 to 4 come, and no other.
+fn check_rest(rt: &impl Abort, drained: &mut DrainedFailures<'_>) {
     for to in 2..5 {
-        check_next(rt, &mut drained, to);
+        check_next(rt, drained, to);
     }
-    assert!(rt; drained.next().is_none());
-    assert!(rt; failures.drain().next().is_none());
+    assert!(rt; is_empty(drained));
+}
+
+fn is_empty(drained: &mut DrainedFailures<'_>) -> bool {
+    drained.next().is_none()
 }
 
 #[test]
@@ -136,8 +152,12 @@ fn check_first(rt: &impl Abort) {
     check_after(rt, &mut writes, Err(ErrorKind::StorageFull));
     check_after(rt, &mut writes, Ok(7));
     check_after(rt, &mut writes, Err(ErrorKind::NotFound));
-    let mut drained = failures.drain();
-    assert!(rt; next_kind(&mut drained) == Some(ErrorKind::OutOfMemory));
-    assert!(rt; next_kind(&mut drained) == Some(ErrorKind::NotFound));
-    assert!(rt; next_kind(&mut drained).is_none());
+    assert!(rt; are_two(&mut failures.drain()));
+}
+
+/// Whether there are the two that are noted, and no other.
+fn are_two(drained: &mut DrainedFailures<'_>) -> bool {
+    next_kind(drained) == Some(ErrorKind::OutOfMemory)
+        && next_kind(drained) == Some(ErrorKind::NotFound)
+        && next_kind(drained).is_none()
 }

@@ -1,7 +1,6 @@
 //! The lock of a folder.
-use crate::helpers::{Host, new_folder, path_in, remove_folder};
+use crate::helpers::{Host, make_folder, new_folder, path_in, remove_empty, remove_folder};
 use bg_system::FolderLock;
-use std::fs;
 use std::fs::TryLockError;
 use std::io::ErrorKind;
 use std::os::unix::fs::symlink;
@@ -33,7 +32,7 @@ fn check_lock(rt: &impl Host, folder: &str, alias: &str, other: &str) {
 
 /// A folder in another one, and a link to it.
 fn make_folders(rt: &impl Host, inside: &str, alias: &str) {
-    fs::create_dir(rt, inside).expect(rt, "a folder");
+    make_folder(rt, inside);
     symlink(rt, inside, alias).expect(rt, "a link");
 }
 
@@ -45,13 +44,13 @@ fn one_lock_at_a_time(rt: HostRuntime) {
 /// A folder is locked, and free again when its lock is dropped.
 fn check_locks(rt: &impl Host) {
     let folder = new_folder(rt, "lock");
-    let inside = path_in(rt, folder.as_str(), "inside");
-    let alias = path_in(rt, folder.as_str(), "alias");
-    make_folders(rt, inside.as_str(), alias.as_str());
-    check_lock(rt, inside.as_str(), alias.as_str(), folder.as_str());
-    assert!(rt; is_free(rt, alias.as_str()), "it was locked for a while");
+    let inside = path_in(rt, folder, "inside");
+    let alias = path_in(rt, folder, "alias");
+    make_folders(rt, inside, alias);
+    check_lock(rt, inside, alias, folder);
+    assert!(rt; is_free(rt, alias), "it was locked for a while");
     // Nothing is left in it.
-    fs::remove_dir(rt, inside.as_str()).expect(rt, "an empty folder");
-    assert!(rt; is_missing(rt, inside.as_str()), "it is gone");
-    remove_folder(rt, folder.as_str());
+    remove_empty(rt, inside);
+    assert!(rt; is_missing(rt, inside), "it is gone");
+    remove_folder(rt, folder);
 }

@@ -9,7 +9,7 @@ use std::os::unix::fs::PermissionsExt;
 use std::process::Abort;
 use std::random::RandomSource;
 use std::rt::Files;
-use std::{fs, io};
+use std::{fs, str};
 
 /// A system that knows the number of its process.
 pub(crate) trait Numbered {
@@ -36,22 +36,38 @@ where
     R: Numbered + Net + Files<File = File> + Env + RandomSource + AllocGlobal + Abort,
 {}
 
-fn try_folder(rt: &impl Host, name: &str) -> io::Result<String> {
-    let process = rt.number();
-    let temp = std::env::temp_dir(rt)?;
-    let folder = format!(in rt.alloc(); "{}/bg_system-{process}-{name}", temp.as_str())?;
-    fs::create_dir(rt, folder.as_str())?;
-    Ok(folder)
+/// A text that lasts as long as its process. What has nothing to drop is cheap to prove.
+pub(crate) fn lasting(rt: &impl Abort, text: String) -> &'static str {
+    str::from_utf8(text.into_bytes().leak()).expect(rt, "a text")
+}
+
+/// The path of a folder of this name, among those of a process.
+fn own_path(rt: &impl Host, process: u32, name: &str) -> &'static str {
+    let temp = std::env::temp_dir(rt).expect(rt, "a folder for what does not last");
+    let path = format!(in rt.alloc(); "{}/bg_system-{process}-{name}", temp.as_str());
+    lasting(rt, path.expect(rt, "memory for a path"))
 }
 
 /// A new folder of this name, among those of this process.
-pub(crate) fn new_folder(rt: &impl Host, name: &str) -> String {
-    try_folder(rt, name).expect(rt, "a new folder")
+pub(crate) fn new_folder(rt: &impl Host, name: &str) -> &'static str {
+    let folder = own_path(rt, rt.number(), name);
+    make_folder(rt, folder);
+    folder
+}
+
+/// Makes a folder.
+pub(crate) fn make_folder(rt: &impl Host, folder: &str) {
+    fs::create_dir(rt, folder).expect(rt, "a new folder");
 }
 
 /// Removes a folder with all that it has.
 pub(crate) fn remove_folder(rt: &impl Host, folder: &str) {
     fs::remove_dir_all(rt, folder).expect(rt, "the folder is removed");
+}
+
+/// Removes a folder that has nothing.
+pub(crate) fn remove_empty(rt: &impl Host, folder: &str) {
+    fs::remove_dir(rt, folder).expect(rt, "an empty folder");
 }
 
 /// Removes a file.
@@ -60,8 +76,9 @@ pub(crate) fn remove_file(rt: &impl Host, path: &str) {
 }
 
 /// The path of a file in a folder.
-pub(crate) fn path_in(rt: &impl Host, folder: &str, name: &str) -> String {
-    format!(in rt.alloc(); "{folder}/{name}").expect(rt, "memory for a path")
+pub(crate) fn path_in(rt: &(impl AllocGlobal + Abort), folder: &str, name: &str) -> &'static str {
+    let path = format!(in rt.alloc(); "{folder}/{name}");
+    lasting(rt, path.expect(rt, "memory for a path"))
 }
 
 /// Another folder has this name from now on, or the folder has it again.

@@ -121,8 +121,7 @@ fn check_unread(rt: &impl Host, path: &str, bytes: &[u8]) {
 
 /// The file with the key of a party is written and read, by this name.
 fn check_file(rt: &impl Host, folder: &str, party: u8, name: &str) {
-    let made = path_in(rt, folder, name);
-    let path = made.as_str();
+    let path = path_in(rt, folder, name);
     let is_first = name_of_key_file(party) == name && is_missing(rt, path);
     assert!(rt; is_first, "{name} before");
     write_key(rt, folder, party);
@@ -142,10 +141,10 @@ fn key_files_are_written_and_read(rt: HostRuntime) {
 /// Each party has a file of its own.
 fn check_files(rt: &impl Host) {
     let folder = new_folder(rt, "key-files");
-    check_file(rt, folder.as_str(), 1, "match-x");
-    check_file(rt, folder.as_str(), 2, "match-o");
-    check_file(rt, folder.as_str(), 3, "match-watch");
-    remove_folder(rt, folder.as_str());
+    check_file(rt, folder, 1, "match-x");
+    check_file(rt, folder, 2, "match-o");
+    check_file(rt, folder, 3, "match-watch");
+    remove_folder(rt, folder);
 }
 
 /// What a party seals for a referee, by the key of this secret, and whether that referee opens it.
@@ -176,10 +175,16 @@ fn a_referee_with_key_files(rt: HostRuntime) {
     }
 }
 
-/// Makes a secret of keys in a folder; the bytes of its file.
-fn made_secret(rt: &impl Host, folder: &str, path: &str) -> Vec<u8> {
+fn make_secret(rt: &impl Host, folder: &str) {
     make_key_secret(rt, folder).expect(rt, "a secret is made");
-    fs::read(rt, path).expect(rt, "a file is read")
+}
+
+/// Makes two secrets of keys in a folder, of which the second is another one.
+fn make_two(rt: &impl Host, folder: &str, path: &str) {
+    make_secret(rt, folder);
+    let first = fs::read(rt, path).expect(rt, "a file is read");
+    make_secret(rt, folder);
+    assert!(rt; !has_bytes(rt, path, &first), "another secret");
 }
 
 /// Whether the secret in a folder has this key of a party of match 1.
@@ -203,15 +208,12 @@ fn secrets_of_keys(rt: HostRuntime) {
 
 /// Each secret is another one, and keys are derived from what its file has.
 fn check_secrets(rt: &impl Host) {
-    let made = new_folder(rt, "key-secret");
-    let folder = made.as_str();
+    let folder = new_folder(rt, "key-secret");
     let path = path_in(rt, folder, "key-secret");
-    let first = made_secret(rt, folder, path.as_str());
-    made_secret(rt, folder, path.as_str());
-    assert!(rt; !has_bytes(rt, path.as_str(), &first), "another secret");
-    write_file(rt, path.as_str(), &SECRET);
+    make_two(rt, folder, path);
+    write_file(rt, path, &SECRET);
     assert!(rt; has_key(rt, folder, 3), "a known secret");
-    write_file(rt, path.as_str(), &[1; 31]);
+    write_file(rt, path, &[1; 31]);
     assert!(rt;
         why_unread(rt, folder) == Some(ErrorKind::InvalidData),
         "31 bytes"

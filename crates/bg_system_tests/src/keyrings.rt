@@ -96,7 +96,7 @@ fn is_heard(rt: &(impl AllocGlobal + Abort), row: &str) -> bool {
     let to = small_number(rt, word(rt, row, 2));
     let packet = bytes_of(rt, word(rt, row, 3));
     let opening = keys_of(rt, word(rt, row, 4));
-    is_heard_as(&sealing, from, to, &packet, &opening)
+    is_heard_as(&sealing, from, to, packet, &opening)
 }
 
 /// By whose keys a packet is sealed to go from one party to another, its bytes, and by whose keys it

@@ -112,6 +112,11 @@ fn read(rt: &impl Host, path: &str) -> Result<Option<MatchFile>, ErrorKind> {
     }
 }
 
+/// The file is written into a folder.
+fn write(rt: &impl Host, folder: &str) {
+    FILE.write(rt, folder).expect(rt, "a file is written");
+}
+
 /// A match file with these bytes says nothing.
 fn check_unread(rt: &impl Host, path: &str, bytes: &[u8]) {
     write_file(rt, path, bytes);
@@ -126,17 +131,15 @@ fn match_files_are_written_and_read(rt: HostRuntime) {
 /// A match file is written and read, and what is none is not read.
 fn check_written(rt: &impl Host) {
     let folder = new_folder(rt, "match-file");
-    let made = path_in(rt, folder.as_str(), "match");
-    let path = made.as_str();
+    let path = path_in(rt, folder, "match");
     assert!(rt; read(rt, path) == Err(ErrorKind::NotFound));
-    FILE.write(rt, folder.as_str())
-        .expect(rt, "a file is written");
+    write(rt, folder);
     assert!(rt; has_bytes(rt, path, TEXT.as_bytes()) && mode_of(rt, path) == 0o600);
     assert!(rt; read(rt, path) == Ok(Some(FILE)));
     check_unread(rt, path, b"match 1");
     check_unread(rt, path, TEXT.trim_end().as_bytes());
     check_unread(rt, path, &[0xff, 0xfe]);
-    remove_folder(rt, folder.as_str());
+    remove_folder(rt, folder);
 }
 
 /// Makes a secret in a folder, and reads it.
@@ -163,15 +166,14 @@ fn secrets(rt: HostRuntime) {
 
 /// Each secret is another one, for its owner alone, and what is none is not read.
 fn check_secrets(rt: &impl Host) {
-    let made = new_folder(rt, "secret");
-    let folder = made.as_str();
+    let folder = new_folder(rt, "secret");
     let path = path_in(rt, folder, "secret");
     let first = made_secret(rt, folder);
-    assert!(rt; mode_of(rt, path.as_str()) == 0o600);
+    assert!(rt; mode_of(rt, path) == 0o600);
     assert!(rt; made_secret(rt, folder) != first);
-    check_no_secret(rt, folder, path.as_str(), &[1; 33]);
-    check_no_secret(rt, folder, path.as_str(), &[1; 31]);
-    check_no_secret(rt, folder, path.as_str(), &[]);
+    check_no_secret(rt, folder, path, &[1; 33]);
+    check_no_secret(rt, folder, path, &[1; 31]);
+    check_no_secret(rt, folder, path, &[]);
     remove_folder(rt, folder);
 }
 
@@ -189,9 +191,9 @@ fn published_files(rt: HostRuntime) {
 /// Each text stands in the place of the one before.
 fn check_publishing(rt: &impl Host) {
     let folder = new_folder(rt, "published");
-    let path = path_in(rt, folder.as_str(), "board");
-    check_published(rt, path.as_str(), b"first");
-    check_published(rt, path.as_str(), b"the second");
-    check_published(rt, path.as_str(), b"");
-    remove_folder(rt, folder.as_str());
+    let path = path_in(rt, folder, "board");
+    check_published(rt, path, b"first");
+    check_published(rt, path, b"the second");
+    check_published(rt, path, b"");
+    remove_folder(rt, folder);
 }

@@ -1,5 +1,5 @@
 //! Match files and key files with the names of players, and their texts.
-use crate::helpers::path_in;
+use crate::helpers::{Host, lasting, path_in};
 use crate::seals::keys::secret;
 use bg_match::{Rules, Terms};
 use bg_system::{KeyFile, KeyFiles, MatchFile, Name, NamedMatch, Names};
@@ -16,7 +16,6 @@ pub(crate) const TABLE: MatchFile = MatchFile {
     port: 4000,
 };
 
-use crate::helpers::Host;
 use std::process::Abort;
 
 /// The name that a text is.
@@ -74,8 +73,9 @@ fn parted<'a>(rt: &impl Abort, section: &'a str) -> (Names, &'a str) {
 }
 
 /// The line of a match, and lines behind it.
-pub(crate) fn text_of(rt: &(impl AllocGlobal + Abort), lines: &str, end: &str) -> String {
-    format!(in rt.alloc(); "{LINE}{lines}{end}").expect(rt, "memory for a text")
+pub(crate) fn text_of(rt: &(impl AllocGlobal + Abort), lines: &str, end: &str) -> &'static str {
+    let text = format!(in rt.alloc(); "{LINE}{lines}{end}");
+    lasting(rt, text.expect(rt, "memory for a text"))
 }
 
 /// Whether a text is that of a match file.
@@ -96,7 +96,7 @@ pub(crate) fn check_match_file(rt: &(impl AllocGlobal + Abort), section: &str) {
         table: TABLE,
         names,
     };
-    let holds = is_text_of(rt, text.as_str(), &file) && is_of_the_match(text.as_str());
+    let holds = is_text_of(rt, text, &file) && is_of_the_match(text);
     assert!(rt; holds, "{section}");
 }
 
@@ -148,22 +148,22 @@ pub(crate) fn is_named(file: &KeyFile, names: &Names, party: u8) -> bool {
 pub(crate) fn check_key_file(rt: &(impl AllocGlobal + Abort), section: &str) {
     let (names, lines) = parted(rt, section);
     let text = text_of(rt, lines, KEY);
-    let file = KeyFile::parse(text.as_str()).expect(rt, section);
-    assert!(rt; is_named_in(rt, text.as_str(), &file, &names), "{section}");
+    let file = KeyFile::parse(text).expect(rt, section);
+    assert!(rt; is_named_in(rt, text, &file, &names), "{section}");
 }
 
 pub(crate) fn check_no_key_file(rt: &(impl AllocGlobal + Abort), lines: &str, end: &str) {
     let text = text_of(rt, lines, end);
-    assert!(rt; KeyFile::parse(text.as_str()).is_none(), "{lines}");
+    assert!(rt; KeyFile::parse(text).is_none(), "{lines}");
 }
 
 /// A file is written into a folder, and read as it was.
 pub(crate) fn check_written(rt: &impl Host, folder: &str, file: &NamedMatch) {
     file.write(rt, folder).expect(rt, "a file is written");
     let path = path_in(rt, folder, "match");
-    let read = NamedMatch::read(rt, path.as_str()).expect(rt, "a file is read");
+    let read = NamedMatch::read(rt, path).expect(rt, "a file is read");
     assert!(rt; read == Some(*file), "the match with its names");
-    let read = MatchFile::read(rt, path.as_str()).expect(rt, "a file is read");
+    let read = MatchFile::read(rt, path).expect(rt, "a file is read");
     assert!(rt; read == Some(file.table), "the match");
 }
 
@@ -178,7 +178,7 @@ pub(crate) fn named_keys(rt: &impl Abort, table: MatchFile, names: &Names) -> Ke
 pub(crate) fn check_written_key(rt: &impl Host, folder: &str, file: &KeyFile) {
     file.write(rt, folder).expect(rt, "a file is written");
     let path = path_in(rt, folder, "match-watch");
-    let read = KeyFile::read(rt, path.as_str()).expect(rt, "a file is read");
+    let read = KeyFile::read(rt, path).expect(rt, "a file is read");
     let read = read.expect(rt, "a key file");
     let holds = read.table == file.table && is_named(&read, &file.names, 3);
     assert!(rt; holds, "the key");

@@ -109,7 +109,7 @@ fn match_files_with_names(rt: HostRuntime) {
 #[test]
 fn texts_of_no_match_file_with_names(rt: HostRuntime) {
     for lines in NOT_NAMED.split('|') {
-        check_no_match_file(&rt, text_of(&rt, lines, "").as_str());
+        check_no_match_file(&rt, text_of(&rt, lines, ""));
     }
     check_no_match_file(&rt, "");
     check_no_match_file(&rt, "name-x Anna\n");
@@ -154,10 +154,10 @@ fn check_long_names(rt: &impl Host) {
         table: LONG_TABLE,
         names,
     };
-    check_written(rt, folder.as_str(), &file);
+    check_written(rt, folder, &file);
     let keys = named_keys(rt, LONG_TABLE, &names);
-    check_written_key(rt, folder.as_str(), &keys.watchers);
-    remove_folder(rt, folder.as_str());
+    check_written_key(rt, folder, &keys.watchers);
+    remove_folder(rt, folder);
 }
 
 /// Each of the three files has the names.

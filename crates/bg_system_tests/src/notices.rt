@@ -66,7 +66,7 @@ fn what_is_no_notice(rt: HostRuntime) {
 fn check_strays(rt: &(impl AllocGlobal + Abort)) {
     let (keys, here) = (referee(), address(PORT));
     for word in "- 00 0003 0101 000100 01".split(' ') {
-        let found = told_by(&keys, 1, &bytes_of(rt, word), 1, here);
+        let found = told_by(&keys, 1, bytes_of(rt, word), 1, here);
         assert!(rt; found.is_none(), "{word}");
     }
     assert!(rt; told_by(&keys, 1, SIGN_OF_LIFE, 1, here).is_none());

@@ -10,13 +10,16 @@ fn opened(rt: &impl Host) -> OwnSocket {
 
 /// What the socket has next is this, and nothing where this is none.
 fn check_next(rt: &impl Abort, own: &OwnSocket, expected: Option<&[u8]>) {
-    let received = own.receive().expect(rt, "a socket is read");
-    let is_next = match (received, expected) {
-        (Some(bytes), Some(wanted)) => bytes.as_slice() == wanted,
-        (None, None) => true,
+    assert!(rt; is_next(own, expected), "{expected:?}");
+}
+
+/// Whether a socket is read, and has this.
+fn is_next(own: &OwnSocket, expected: Option<&[u8]>) -> bool {
+    match (own.receive(), expected) {
+        (Ok(Some(bytes)), Some(wanted)) => bytes.as_slice() == wanted,
+        (Ok(None), None) => true,
         _ => false,
-    };
-    assert!(rt; is_next, "{expected:?}");
+    }
 }
 
 /// The socket has this datagram, and then no other.
@@ -36,14 +39,17 @@ fn own_datagrams_come_in_order(rt: HostRuntime) {
 
 /// What was sent comes in its order, and no more than 256 bytes of each.
 fn check_order(rt: &impl Host) {
-    let own = opened(rt);
-    check_next(rt, &own, None);
-    send(rt, &own, b"first");
-    send(rt, &own, b"");
-    send(rt, &own, &[3; 300]);
-    check_next(rt, &own, Some(b"first"));
-    check_next(rt, &own, Some(b""));
-    check_only(rt, &own, &[3; 256]);
+    check_order_of(rt, &opened(rt));
+}
+
+fn check_order_of(rt: &impl Abort, own: &OwnSocket) {
+    check_next(rt, own, None);
+    send(rt, own, b"first");
+    send(rt, own, b"");
+    send(rt, own, &[3; 300]);
+    check_next(rt, own, Some(b"first"));
+    check_next(rt, own, Some(b""));
+    check_only(rt, own, &[3; 256]);
 }
 
 fn stranger(rt: &impl Host) -> UdpSocket {
@@ -60,12 +66,16 @@ fn stray(stranger: &UdpSocket, bytes: &[u8], times: u32, to: SocketAddr) {
 /// A socket that hears itself alone from now on, to which a stranger sent before.
 fn opened_late(rt: &impl Host, stranger: &UdpSocket) -> OwnSocket {
     let own = OwnSocket::bind(rt).expect(rt, "a socket");
+    hear_late(rt, &own, stranger);
+    own
+}
+
+fn hear_late(rt: &impl Abort, own: &OwnSocket, stranger: &UdpSocket) {
     for _ in 0..20 {
         let sent = stranger.send_to(b"early", own.address);
         sent.expect(rt, "a datagram is sent");
     }
     own.hear_only(own.address).expect(rt, "an address to hear");
-    own
 }
 
 #[test]
@@ -76,17 +86,25 @@ fn datagrams_of_others_are_passed_over(rt: HostRuntime) {
 /// A socket has what it sent itself, whatever others send.
 fn check_passed_over(rt: &impl Host) {
     let stranger = stranger(rt);
-    // What came before the socket was connected waits, and is passed over.
     let own = opened_late(rt, &stranger);
-    send(rt, &own, b"own");
-    check_only(rt, &own, b"own");
+    check_own(rt, &own, &stranger);
+    check_other(rt, &own, &opened(rt));
+}
+
+/// The socket has its own datagrams alone, whatever a stranger sends.
+fn check_own(rt: &impl Abort, own: &OwnSocket, stranger: &UdpSocket) {
+    // What came before the socket was connected waits, and is passed over.
+    send(rt, own, b"own");
+    check_only(rt, own, b"own");
     // What comes later takes no room: more than the socket has room for leaves room for its own.
-    stray(&stranger, &[0x42; 128], 5000, own.address);
-    send(rt, &own, b"own again");
-    check_only(rt, &own, b"own again");
-    // Another socket of this kind is a stranger too.
-    let other = opened(rt);
-    send(rt, &other, b"other");
-    check_next(rt, &own, None);
-    check_only(rt, &other, b"other");
+    stray(stranger, &[0x42; 128], 5000, own.address);
+    send(rt, own, b"own again");
+    check_only(rt, own, b"own again");
+}
+
+/// Another socket of this kind is a stranger too.
+fn check_other(rt: &impl Abort, own: &OwnSocket, other: &OwnSocket) {
+    send(rt, other, b"other");
+    check_next(rt, own, None);
+    check_only(rt, other, b"other");
 }

@@ -1,43 +1,47 @@
 //! The files of a party: what is away is not empty, and what was not there before is.
+//!
+//! The files and what they note of failures are dropped at each way out of a function, so the functions that have them
+//! do little else, and hand them on.
 use crate::helpers::{
-    Host, check_told, mode_of, new_folder, path_in, remove_file, remove_folder, rename, told,
-    write_file,
+    Host, check_told, lasting, make_folder, mode_of, new_folder, path_in, remove_empty,
+    remove_file, remove_folder, rename, told, write_file,
 };
 use crate::slots::{Files, check_away, check_fails, check_have, check_writes, files_of, has};
 use bg_system::{Failures, PartyFiles};
 use bg_wire::Slot;
 use std::io::ErrorKind;
 use std::process::Abort;
-use std::{fs, io};
 
-fn try_written(rt: &HostRuntime, folder: &str) -> io::Result<()> {
+fn write_slots(rt: &impl Abort, files: &mut Files<'_>) {
+    check_writes(rt, files, Slot::Zero, b"zero");
+    check_writes(rt, files, Slot::One, b"one");
+}
+
+/// Party 1 writes to both slots of its folder.
+fn write_both(rt: &impl Abort, host: &HostRuntime, folder: &str) {
     let failures = Failures::new();
-    let mut files = PartyFiles::new(rt, folder, 1, &failures)?;
-    files.write(Slot::Zero, b"zero")?;
-    files.write(Slot::One, b"one")
+    write_slots(rt, &mut files_of(rt, host, folder, 1, &failures));
 }
 
 /// A new folder of this name for a party that has written to both slots.
-fn written_folder(rt: &impl Host, host: &HostRuntime, name: &str) -> String {
+fn written_folder(rt: &impl Host, host: &HostRuntime, name: &str) -> &'static str {
     let folder = new_folder(rt, name);
-    assert!(rt;
-        try_written(host, folder.as_str()).is_ok(),
-        "{folder} is written"
-    );
+    write_both(rt, host, folder);
     folder
 }
 
 /// A place for the folder to be moved to.
-fn elsewhere(rt: &(impl AllocGlobal + Abort), folder: &str) -> String {
-    format!(in rt.alloc(); "{folder}-elsewhere").expect(rt, "memory for a path")
+fn elsewhere(rt: &(impl AllocGlobal + Abort), folder: &str) -> &'static str {
+    let path = format!(in rt.alloc(); "{folder}-elsewhere");
+    lasting(rt, path.expect(rt, "memory for a path"))
 }
 
 /// Another folder stands at the place of one, and is not written to.
 fn check_another(rt: &impl Host, files: &mut Files<'_>, folder: &str) {
-    fs::create_dir(rt, folder).expect(rt, "another folder");
+    make_folder(rt, folder);
     check_away(rt, files, "another folder");
     // It is empty: else it is not removed so.
-    fs::remove_dir(rt, folder).expect(rt, "an empty folder");
+    remove_empty(rt, folder);
 }
 
 /// Neither a folder that was moved away nor one that stands in its place has slots, until the first is back.
@@ -47,21 +51,25 @@ fn a_folder_that_is_away_for_a_while(rt: HostRuntime) {
 }
 
 fn check_away_for_a_while(rt: &impl Host, host: &HostRuntime) {
-    let made = written_folder(rt, host, "away");
-    let folder = made.as_str();
-    let elsewhere = elsewhere(rt, folder);
+    let folder = written_folder(rt, host, "away");
     let failures = Failures::new();
     let mut files = files_of(rt, host, folder, 1, &failures);
-    check_have(rt, &mut files, b"zero", b"one", "before");
-    rename(rt, folder, elsewhere.as_str());
-    check_away(rt, &mut files, "moved away");
-    check_another(rt, &mut files, folder);
-    rename(rt, elsewhere.as_str(), folder);
-    check_have(rt, &mut files, b"zero", b"one", "back again");
-    check_writes(rt, &mut files, Slot::Zero, b"next");
-    check_have(rt, &mut files, b"next", b"one", "it goes on");
+    move_for_a_while(rt, &mut files, &failures, folder);
+}
+
+/// The folder is moved away and back, and goes on.
+fn move_for_a_while(rt: &impl Host, files: &mut Files<'_>, failures: &Failures, folder: &str) {
+    let elsewhere = elsewhere(rt, folder);
+    check_have(rt, files, b"zero", b"one", "before");
+    rename(rt, folder, elsewhere);
+    check_away(rt, files, "moved away");
+    check_another(rt, files, folder);
+    rename(rt, elsewhere, folder);
+    check_have(rt, files, b"zero", b"one", "back again");
+    check_writes(rt, files, Slot::Zero, b"next");
+    check_have(rt, files, b"next", b"one", "it goes on");
     let lines = "DIR can't be found: it was there before, and is missing now\n";
-    check_told(rt, &failures, lines);
+    check_told(rt, failures, lines);
     remove_folder(rt, folder);
 }
 
@@ -79,16 +87,26 @@ fn a_folder_that_is_away_at_first(rt: HostRuntime) {
 }
 
 fn check_away_at_first(rt: &impl Host, host: &HostRuntime) {
-    let made = written_folder(rt, host, "away-at-first");
-    let folder = made.as_str();
+    let folder = written_folder(rt, host, "away-at-first");
     let elsewhere = elsewhere(rt, folder);
-    rename(rt, folder, elsewhere.as_str());
+    rename(rt, folder, elsewhere);
     let failures = Failures::new();
     let mut files = files_of(rt, host, folder, 1, &failures);
-    check_away(rt, &mut files, "before it was there");
-    rename(rt, elsewhere.as_str(), folder);
-    check_have(rt, &mut files, b"zero", b"one", "there");
-    check_begins(rt, &failures, "DIR can't be found: ");
+    move_back(rt, &mut files, &failures, elsewhere, folder);
+}
+
+/// The folder comes to its place.
+fn move_back(
+    rt: &impl Host,
+    files: &mut Files<'_>,
+    failures: &Failures,
+    elsewhere: &str,
+    folder: &str,
+) {
+    check_away(rt, files, "before it was there");
+    rename(rt, elsewhere, folder);
+    check_have(rt, files, b"zero", b"one", "there");
+    check_begins(rt, failures, "DIR can't be found: ");
     remove_folder(rt, folder);
 }
 
@@ -99,20 +117,29 @@ fn another_folder_is_said(rt: HostRuntime) {
 }
 
 fn check_replaced(rt: &impl Host, host: &HostRuntime) {
-    let made = written_folder(rt, host, "replaced");
-    let folder = made.as_str();
-    let elsewhere = elsewhere(rt, folder);
+    let folder = written_folder(rt, host, "replaced");
     let failures = Failures::new();
     let mut files = files_of(rt, host, folder, 1, &failures);
-    check_have(rt, &mut files, b"zero", b"one", "before");
-    // A copy of the folder is another one too.
-    rename(rt, folder, elsewhere.as_str());
+    replace(rt, host, &mut files, &failures, folder);
+}
+
+/// A copy of the folder, which is another one too, comes to its place.
+fn replace(
+    rt: &impl Host,
+    host: &HostRuntime,
+    files: &mut Files<'_>,
+    failures: &Failures,
+    folder: &str,
+) {
+    let elsewhere = elsewhere(rt, folder);
+    check_have(rt, files, b"zero", b"one", "before");
+    rename(rt, folder, elsewhere);
     written_folder(rt, host, "replaced");
-    check_away(rt, &mut files, "a copy in its place");
+    check_away(rt, files, "a copy in its place");
     let lines = "DIR can't be found: another folder stands there than at the start\n";
-    check_told(rt, &failures, lines);
+    check_told(rt, failures, lines);
     remove_folder(rt, folder);
-    remove_folder(rt, elsewhere.as_str());
+    remove_folder(rt, elsewhere);
 }
 
 /// A file that was there is missing, and so often the slot is neither empty nor written anew.
@@ -133,19 +160,29 @@ fn a_file_that_is_missing(rt: HostRuntime) {
 }
 
 fn check_missing_file(rt: &impl Host, host: &HostRuntime) {
-    let made = new_folder(rt, "missing");
-    let folder = made.as_str();
-    let path = path_in(rt, folder, "party-2.1");
+    let folder = new_folder(rt, "missing");
     let failures = Failures::new();
     let mut files = files_of(rt, host, folder, 2, &failures);
-    check_have(rt, &mut files, b"", b"", "no file yet");
-    check_writes(rt, &mut files, Slot::One, b"one");
-    check_have(rt, &mut files, b"", b"one", "one file");
-    check_missing(rt, &mut files, &failures, path.as_str());
-    check_writes(rt, &mut files, Slot::Zero, b"zero");
-    write_file(rt, path.as_str(), b"put back");
-    check_have(rt, &mut files, b"zero", b"put back", "put back");
-    remove_file(rt, path.as_str());
+    miss_file(rt, host, &mut files, &failures, folder);
+}
+
+/// The file of a slot is taken away, put back, and taken away.
+fn miss_file(
+    rt: &impl Host,
+    host: &HostRuntime,
+    files: &mut Files<'_>,
+    failures: &Failures,
+    folder: &str,
+) {
+    let path = path_in(rt, folder, "party-2.1");
+    check_have(rt, files, b"", b"", "no file yet");
+    check_writes(rt, files, Slot::One, b"one");
+    check_have(rt, files, b"", b"one", "one file");
+    check_missing(rt, files, failures, path);
+    check_writes(rt, files, Slot::Zero, b"zero");
+    write_file(rt, path, b"put back");
+    check_have(rt, files, b"zero", b"put back", "put back");
+    remove_file(rt, path);
     assert!(rt;
         next_process_has(host, folder, b"zero", b""),
         "the next process"
@@ -169,23 +206,21 @@ fn no_plain_file(rt: HostRuntime) {
 }
 
 fn check_no_plain_file(rt: &impl Host, host: &HostRuntime) {
-    let made = new_folder(rt, "no-plain-file");
-    let folder = made.as_str();
-    let path = path_in(rt, folder, "party-1.0");
-    fs::create_dir(rt, path.as_str()).expect(rt, "a folder");
+    let folder = new_folder(rt, "no-plain-file");
+    make_folder(rt, path_in(rt, folder, "party-1.0"));
     let failures = Failures::new();
     let mut files = files_of(rt, host, folder, 1, &failures);
-    check_fails(
-        rt,
-        &mut files,
-        Slot::Zero,
-        ErrorKind::InvalidInput,
-        "no plain file",
-    );
+    check_no_file(rt, &mut files, &failures);
+    remove_folder(rt, folder);
+}
+
+/// Slot 0 has no plain file.
+fn check_no_file(rt: &(impl AllocGlobal + Abort), files: &mut Files<'_>, failures: &Failures) {
+    let kind = ErrorKind::InvalidInput;
+    check_fails(rt, files, Slot::Zero, kind, "no plain file");
     let lines = "DIR/party-1.0 could not be read: it is no plain file\n\
                  DIR/party-1.0 could not be written: it is no plain file\n";
-    check_told(rt, &failures, lines);
-    remove_folder(rt, folder);
+    check_told(rt, failures, lines);
 }
 
 /// Only its owner reads a saved file.
@@ -197,8 +232,8 @@ fn modes_of_slot_files(rt: HostRuntime) {
 fn check_modes(rt: &impl Host, host: &HostRuntime) {
     let folder = written_folder(rt, host, "modes");
     for name in ["party-1.0", "party-1.1"] {
-        let mode = mode_of(rt, path_in(rt, folder.as_str(), name).as_str());
+        let mode = mode_of(rt, path_in(rt, folder, name));
         assert!(rt; mode == 0o600, "{name}: {mode:o}");
     }
-    remove_folder(rt, folder.as_str());
+    remove_folder(rt, folder);
 }

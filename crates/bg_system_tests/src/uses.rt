@@ -7,8 +7,7 @@ use std::test::Fail;
 #[test]
 fn the_system(rt: HostRuntime) -> Result<(), Fail> {
     let alloc = rt.alloc();
-    let made = new_folder(&rt, "system-uses");
-    let folder = made.as_str();
+    let folder = new_folder(&rt, "system-uses");
     // bg_system
     // A socket that hears itself alone, as a party's in a match of one process.
     let socket = OwnSocket::open(&rt)?;

@@ -39,7 +39,7 @@ fn push_digits(rt: &impl Abort, bytes: &mut Vec<u8>, digits: &str) {
 }
 
 /// Adds the bytes of a word: "0b" is one, "0b*20" is it twenty times, and "-" is none.
-pub(crate) fn push_word(rt: &impl Abort, bytes: &mut Vec<u8>, word: &str) {
+fn push_word(rt: &impl Abort, bytes: &mut Vec<u8>, word: &str) {
     let (digits, times) = match word.split_once('*') {
         Some((digits, times)) => (digits, small_number(rt, times)),
         None => (word, u8::from(word != "-")),
@@ -49,9 +49,19 @@ pub(crate) fn push_word(rt: &impl Abort, bytes: &mut Vec<u8>, word: &str) {
     }
 }
 
-/// The bytes of a word.
-pub(crate) fn bytes_of(rt: &(impl AllocGlobal + Abort), word: &str) -> Vec<u8> {
+/// The bytes of a word, which last as long as the process: what has nothing to drop is cheap to prove.
+pub(crate) fn bytes_of(rt: &(impl AllocGlobal + Abort), word: &str) -> &'static [u8] {
+    bytes_of_both(rt, word, "-")
+}
+
+/// The bytes of a word, and behind them those of another.
+pub(crate) fn bytes_of_both(
+    rt: &(impl AllocGlobal + Abort),
+    word: &str,
+    other: &str,
+) -> &'static [u8] {
     let mut bytes = Vec::new(rt.alloc());
     push_word(rt, &mut bytes, word);
-    bytes
+    push_word(rt, &mut bytes, other);
+    bytes.leak()
 }

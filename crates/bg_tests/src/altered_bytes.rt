@@ -118,9 +118,17 @@ fn check_slots(rt: &impl Abort, alloc: Global, slot0: &[u8], slot1: &[u8], party
 /// The text of old was loaded as the same as what was written of it.
 fn check_same(rt: &impl Abort, alloc: Global, saved: &Saved, text: &[u8]) {
     let again = load(alloc, text).expect(rt, "a written text loads");
-    assert!(rt; again.party == saved.party && again.save == saved.save);
-    assert!(rt; again.claim == saved.claim && is_front(&again.log, &saved.log));
-    assert!(rt; again.log.len() == saved.log.len());
+    assert!(rt; has_parts(&again, saved) && has_log(&again, saved));
+}
+
+/// Whether party, save and claim are the same.
+fn has_parts(again: &Saved, saved: &Saved) -> bool {
+    again.party == saved.party && again.save == saved.save && again.claim == saved.claim
+}
+
+/// Whether the entries are the same.
+fn has_log(again: &Saved, saved: &Saved) -> bool {
+    again.log.len() == saved.log.len() && is_front(&again.log, &saved.log)
 }
 
 /// What was loaded is written as it stood, or, where it stood in the layout of old, as a text that loads as the same.

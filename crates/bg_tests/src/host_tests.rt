@@ -111,24 +111,47 @@ fn is_wrong_match(refusal: Option<HostFault>) -> bool {
     )
 }
 
+/// Whether a host was refused since another one has the files.
+fn is_in_use(refusal: Option<HostFault>) -> bool {
+    matches!(refusal, Some(HostFault::System(_)))
+}
+
 /// A watcher that asked is told the opening once it is saved, in the file of slot 1, and a later host over the same
 /// folder tells it again. None begins while another one has the files, or for a match of another length or by other
 /// rules.
 #[test]
 fn hosts_answer(rt: HostRuntime) {
-    let made = new_folder(&rt, "hosts-answer");
-    let folder = made.as_str();
-    let mut host = open(&rt, folder, 5);
-    let first = told(&rt, &mut host);
-    assert!(rt; is_first(&first));
-    assert!(rt; has_file(&rt, folder, 1) && !has_file(&rt, folder, 0));
-    let second = refusal(&rt, folder, 5, Rules::One);
-    assert!(rt; matches!(second, Some(HostFault::System(_))));
-    host.serve(1).expect(&rt, "a turn");
-    assert!(rt; is_wrong_match(refusal(&rt, folder, 3, Rules::One)));
-    assert!(rt; is_wrong_match(refusal(&rt, folder, 5, Rules::Two)));
-    assert!(rt; told(&rt, &mut open(&rt, folder, 5)) == first);
+    let folder = new_folder(&rt, "hosts-answer");
+    check_answers(&rt, folder);
     remove_folder(&rt, folder);
+}
+
+fn check_answers<R: Host>(rt: &R, folder: &str) {
+    let first = first_answer(rt, folder);
+    assert!(rt; is_first(&first));
+    assert!(rt; later_answer(rt, folder) == first);
+}
+
+/// What a first host tells, which then has served.
+fn first_answer<R: Host>(rt: &R, folder: &str) -> Packet {
+    let mut host = open(rt, folder, 5);
+    let first = told(rt, &mut host);
+    check_in_use(rt, folder);
+    host.serve(1).expect(rt, "a turn");
+    first
+}
+
+/// The opening is saved, and no other host begins.
+fn check_in_use(rt: &impl Host, folder: &str) {
+    assert!(rt; has_file(rt, folder, 1) && !has_file(rt, folder, 0));
+    assert!(rt; is_in_use(refusal(rt, folder, 5, Rules::One)));
+}
+
+/// What a later host of this match tells. None of another match begins.
+fn later_answer<R: Host>(rt: &R, folder: &str) -> Packet {
+    assert!(rt; is_wrong_match(refusal(rt, folder, 3, Rules::One)));
+    assert!(rt; is_wrong_match(refusal(rt, folder, 5, Rules::Two)));
+    told(rt, &mut open(rt, folder, 5))
 }
 
 /// Whether the seat may claim this action now, and then does.
@@ -180,18 +203,36 @@ fn holds_three(seat: &Seat) -> bool {
 #[test]
 fn hosts_referee(rt: HostRuntime) {
     let folder = new_folder(&rt, "hosts-referee");
-    let mut host = open(&rt, folder.as_str(), 1);
-    let (x_socket, o_socket) = (client(&rt), client(&rt));
-    let (mut x, mut o) = (fresh(&rt, Player::X), fresh(&rt, Player::O));
+    check_refereed(&rt, folder);
+    remove_folder(&rt, folder);
+}
+
+fn check_refereed<R: Host>(rt: &R, folder: &str) {
+    let mut host = open(rt, folder, 1);
+    let (mut x, mut o) = (fresh(rt, Player::X), fresh(rt, Player::O));
+    play_match(rt, &mut host, &mut x, &mut o);
+}
+
+fn play_match<R: Host>(rt: &R, host: &mut RefereeHost<'_, R>, x: &mut Seat, o: &mut Seat) {
+    let (x_socket, o_socket) = (client(rt), client(rt));
+    play_rounds(rt, host, (&x_socket, x), (&o_socket, o));
+}
+
+/// Rounds of both seats, until both hold the end of the match.
+fn play_rounds<R: Host>(
+    rt: &R,
+    host: &mut RefereeHost<'_, R>,
+    (x_socket, x): (&UdpSocket, &mut Seat),
+    (o_socket, o): (&UdpSocket, &mut Seat),
+) {
     for _ in 0..MOST_TURNS {
-        play(&rt, &x_socket, &mut x, &mut host);
-        play(&rt, &o_socket, &mut o, &mut host);
+        play(rt, x_socket, x, host);
+        play(rt, o_socket, o, host);
         if x.held().actor() == Actor::Nobody && o.held().actor() == Actor::Nobody {
             break;
         }
     }
-    assert!(rt; holds_three(&x) && holds_three(&o));
-    remove_folder(&rt, folder.as_str());
+    assert!(rt; holds_three(x) && holds_three(o));
 }
 
 const SETUP: Setup = Setup {
@@ -253,15 +294,14 @@ fn no_world(rt: &impl Host, folder: &str, setup: Setup) -> Option<BeginFault> {
 /// A world over devices of one's own, and a later one over the same files.
 #[test]
 fn worlds_go_on(rt: HostRuntime) {
-    let made = new_folder(&rt, "worlds-go-on");
-    let folder = made.as_str();
-    let mut world = world_over(&rt, folder, SETUP).expect(&rt, "a world");
-    check_begun(&rt, &mut world);
-    drop(world);
-    let mut later = world_over(&rt, folder, SETUP).expect(&rt, "a world");
-    check_later(&rt, &mut later);
-    drop(later);
-    let refused = no_world(&rt, folder, Setup { id: 2, ..SETUP });
-    assert!(rt; matches!(refused, Some(BeginFault::Restart(0, _))));
+    let folder = new_folder(&rt, "worlds-go-on");
+    check_worlds(&rt, folder);
     remove_folder(&rt, folder);
+}
+
+fn check_worlds(rt: &impl Host, folder: &str) {
+    check_begun(rt, &mut world_over(rt, folder, SETUP).expect(rt, "a world"));
+    check_later(rt, &mut world_over(rt, folder, SETUP).expect(rt, "a world"));
+    let refused = no_world(rt, folder, Setup { id: 2, ..SETUP });
+    assert!(rt; matches!(refused, Some(BeginFault::Restart(0, _))));
 }

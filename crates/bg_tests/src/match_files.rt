@@ -138,11 +138,24 @@ fn check_match(rt: &impl Abort, alloc: Global, seed: u8, rules: Rules) {
     let record = played(rt, alloc, seed, rules);
     let wanted = kept(rt, alloc, &record);
     let file = exported(rt, alloc, &record);
-    let imported = import_mat(alloc, 1, rules, &file);
-    let imported = imported.expect(rt, "a match file");
-    assert!(rt; imported.record.len() == wanted.len() && is_front(&imported.record, &wanted));
-    assert!(rt; imported.lines.len() == wanted.len() as usize);
-    assert!(rt; exported(rt, alloc, &imported.record) == file);
+    check_imported(rt, alloc, &wanted, &file);
+}
+
+/// The file is that of these entries, and is written again of what was read.
+fn check_imported(rt: &impl Abort, alloc: Global, wanted: &Record, file: &[u8]) {
+    let imported = import_mat(alloc, 1, wanted.rules(), file).expect(rt, "a match file");
+    assert!(rt; are_all(&imported.record, wanted) && has_lines(&imported.lines, wanted));
+    assert!(rt; exported(rt, alloc, &imported.record).as_slice() == file);
+}
+
+/// Whether a record has these entries, and no other.
+fn are_all(record: &Record, wanted: &Record) -> bool {
+    record.len() == wanted.len() && is_front(record, wanted)
+}
+
+/// Whether there is a line for each entry.
+fn has_lines(lines: &[u32], wanted: &Record) -> bool {
+    lines.len() == wanted.len() as usize
 }
 
 #[test]

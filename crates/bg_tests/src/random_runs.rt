@@ -208,18 +208,43 @@ fn happen(
 /// that it claimed, and the entries follow each other.
 fn check_run(rt: &impl Abort, alloc: Global, seed: u8, rules: Rules) {
     let mut words = ChaCha20Rng::from_seed([seed; 32]);
-    let plan = plan_of(rt, alloc, &mut words);
-    let mut world = world(rt, alloc, rules, &plan);
+    let mut world = planned(rt, alloc, &mut words, rules);
+    check_events(rt, alloc, &mut world, &mut words);
+}
+
+/// A world in which each device fails a few dozen times.
+fn planned(rt: &impl Abort, alloc: Global, words: &mut ChaCha20Rng, rules: Rules) -> MemoryWorld {
+    let plan = plan_of(rt, alloc, words);
+    world(rt, alloc, rules, &plan)
+}
+
+fn check_events(rt: &impl Abort, alloc: Global, world: &mut MemoryWorld, words: &mut ChaCha20Rng) {
     let mut claims = Vec::new(alloc);
+    let counts = counts_of_events(rt, world, &mut claims, words);
+    check_counts(rt, counts);
+    check_end(rt, alloc, world, &claims);
+}
+
+/// How often each outcome came, where all events happen. After each of them the records are fronts of the referee's.
+fn counts_of_events(
+    rt: &impl Abort,
+    world: &mut MemoryWorld,
+    claims: &mut Vec<Claim>,
+    words: &mut ChaCha20Rng,
+) -> Counts {
     let mut counts = Counts::default();
     for _ in 0..EVENTS {
         let (a, b) = (words.next_word(), words.next_word());
-        happen(rt, &mut world, &mut claims, &mut counts, a, b);
-        check_fronts(rt, &world, LAST_PARTY);
+        happen(rt, world, claims, &mut counts, a, b);
+        check_fronts(rt, world, LAST_PARTY);
     }
-    check_counts(rt, counts);
+    counts
+}
+
+/// The referee's record, where it is up, has claimed entries alone, and is legal.
+fn check_end(rt: &impl Abort, alloc: Global, world: &MemoryWorld, claims: &[Claim]) {
     if let Some(record) = world.held(0) {
-        check_claimed(rt, record, &claims);
+        check_claimed(rt, record, claims);
         check_legal(rt, alloc, record);
     }
 }

@@ -1,8 +1,17 @@
-//! What tests say of a row that does not hold, and how those of refused growths end.
+//! What tests say of a row that does not hold, how those of refused growths end, and values that
+//! last.
+//!
+//! What is dropped is dropped at each call that may end the test, which is dear to prove. So tests
+//! keep most of what they make as long as their process lasts.
 use bg_world::Outcome;
 use std::alloc::{AllocError, Global};
 use std::process::Abort;
 use std::test::Fail;
+
+/// The value, which lasts as long as its process.
+pub(crate) fn lasting<'a, T: Drop + 'a>(alloc: Global, value: T) -> Result<&'a mut T, AllocError> {
+    Ok(Box::leak(Box::new(alloc, value)?))
+}
 
 /// The row holds.
 pub(crate) fn check_row(rt: &impl Abort, row: usize, holds: bool) {

@@ -4,11 +4,13 @@
 pub(crate) mod keepers;
 pub(crate) mod links;
 
+use crate::checks::lasting;
 use bg_text::{put_number, put_text};
 use bg_wire::{Packet, decode};
 use bg_world::{DeviceFault, FailRead, FailSend, Tear};
 use std::alloc::{AllocError, Global};
 use std::cell::RefCell;
+use std::process::Abort;
 
 /// Which calls of the devices fail: at most one of each kind.
 #[derive(Clone, Copy)]
@@ -78,6 +80,18 @@ impl Recorder {
             alloc,
             calls: RefCell::new(Vec::new(alloc)),
             failing,
+        }
+    }
+
+    /// A recorder that lasts as long as its process. The first try may lack memory.
+    pub(crate) fn that_lasts(
+        rt: &impl Abort,
+        alloc: Global,
+        failing: Failing,
+    ) -> &'static Recorder {
+        match lasting(alloc, Recorder::new(alloc, failing)) {
+            Ok(recorder) => recorder,
+            Err(AllocError) => lasting(alloc, Recorder::new(alloc, failing)).expect(rt, "memory"),
         }
     }
 

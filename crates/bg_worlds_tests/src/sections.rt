@@ -29,26 +29,42 @@ pub(crate) fn lines_of(
     shared: &'static str,
     name: &str,
 ) -> Lines<'static> {
-    let mut lines = Lines::new();
-    for line in section(text, name).expect(rt, "a section").lines() {
+    let lines = section(text, name).expect(rt, "a section");
+    let mut found = Lines::new();
+    add_section(rt, &mut found, shared, lines);
+    found
+}
+
+/// Adds the lines of a section.
+fn add_section(
+    rt: &impl Abort,
+    found: &mut Lines<'static>,
+    shared: &'static str,
+    lines: &'static str,
+) {
+    for line in lines.lines() {
         match line.strip_prefix("as ") {
-            None => add(rt, &mut lines, line),
-            Some(name) => {
-                let others = section(shared, name).expect(rt, "a shared section");
-                add(rt, &mut lines, others);
-            }
+            None => add(rt, found, line),
+            Some(name) => add(
+                rt,
+                found,
+                section(shared, name).expect(rt, "a shared section"),
+            ),
         }
     }
-    lines
 }
 
 /// The names of the sections.
 pub(crate) fn names_of(rt: &impl Abort, text: &'static str) -> Lines<'static> {
     let mut names = Lines::new();
+    add_names(rt, &mut names, text);
+    names
+}
+
+fn add_names(rt: &impl Abort, names: &mut Lines<'static>, text: &'static str) {
     for section in text.split("\n\n") {
         if let Some((name, _)) = section.split_once('\n') {
-            add(rt, &mut names, name);
+            add(rt, names, name);
         }
     }
-    names
 }

@@ -1,4 +1,5 @@
 //! The texts of faults.
+use crate::lasting::lasting_text;
 use bg_wire::{LoadFault, RestoreRefusal, SaveRefusal, WireFault};
 use std::alloc::{AllocError, Global};
 use std::process::Abort;
@@ -14,64 +15,73 @@ fn worded(
     }
 }
 
+/// The text is this one.
+fn check_text(rt: &impl Abort, found: &str, text: &str) {
+    assert!(rt; found == text, "{found}");
+}
+
+/// The words of a fault are this text.
+fn check_words(rt: &(impl AllocGlobal + Abort), words: (&'static str, Option<u64>), text: &str) {
+    check_text(rt, lasting_text(rt, worded(rt.alloc(), words)), text);
+}
+
 /// A fault of packets is printed so, and its words are the same.
-fn check_wire(
-    rt: &(impl AllocGlobal + Abort),
-    fault: WireFault,
-    text: &str,
-) -> Result<(), AllocError> {
-    let printed = format!(in rt.alloc(); "{fault}")?;
-    assert!(rt; printed.as_str() == text, "{printed}");
-    let words = worded(rt.alloc(), fault.words())?;
-    assert!(rt; words.as_str() == text, "{words}");
-    Ok(())
+fn check_wire(rt: &(impl AllocGlobal + Abort), fault: WireFault, text: &str) {
+    let printed = lasting_text(rt, format!(in rt.alloc(); "{fault}"));
+    check_text(rt, printed, text);
+    check_words(rt, fault.words(), text);
 }
 
 /// A fault of saved texts is printed so, and its words are the same.
-fn check_load(
-    rt: &(impl AllocGlobal + Abort),
-    fault: LoadFault,
-    text: &str,
-) -> Result<(), AllocError> {
-    let printed = format!(in rt.alloc(); "{fault}")?;
-    assert!(rt; printed.as_str() == text, "{printed}");
-    let words = worded(rt.alloc(), fault.words())?;
-    assert!(rt; words.as_str() == text, "{words}");
-    Ok(())
+fn check_load(rt: &(impl AllocGlobal + Abort), fault: LoadFault, text: &str) {
+    let printed = lasting_text(rt, format!(in rt.alloc(); "{fault}"));
+    check_text(rt, printed, text);
+    check_words(rt, fault.words(), text);
 }
 
 #[test]
-fn wire_faults(rt: HostRuntime) -> Result<(), AllocError> {
-    check_wire(&rt, WireFault::Short, "short")?;
-    check_wire(&rt, WireFault::Magic, "bad magic")?;
-    check_wire(&rt, WireFault::Version, "bad version")?;
-    check_wire(&rt, WireFault::Kind, "bad kind")?;
-    check_wire(&rt, WireFault::Field(97), "bad field at 97")?;
-    check_wire(&rt, WireFault::Extra, "extra bytes")
+fn wire_faults(rt: HostRuntime) {
+    check_wire(&rt, WireFault::Short, "short");
+    check_wire(&rt, WireFault::Magic, "bad magic");
+    check_wire(&rt, WireFault::Version, "bad version");
+    check_wire(&rt, WireFault::Kind, "bad kind");
+    check_wire(&rt, WireFault::Field(97), "bad field at 97");
+    check_wire(&rt, WireFault::Extra, "extra bytes");
 }
 
 #[test]
-fn load_faults(rt: HostRuntime) -> Result<(), AllocError> {
-    check_load(&rt, LoadFault::Short, "short")?;
-    check_load(&rt, LoadFault::Magic, "bad magic")?;
-    check_load(&rt, LoadFault::Field(10000037), "bad field at 10000037")?;
-    check_load(&rt, LoadFault::Extra, "extra bytes")?;
-    check_load(&rt, LoadFault::Illegal(1000000), "illegal entry 1000000")?;
-    check_load(&rt, LoadFault::Memory, "out of memory")
+fn load_faults(rt: HostRuntime) {
+    check_load(&rt, LoadFault::Short, "short");
+    check_load(&rt, LoadFault::Magic, "bad magic");
+    check_load(&rt, LoadFault::Field(10000037), "bad field at 10000037");
+    check_load(&rt, LoadFault::Extra, "extra bytes");
+    check_load(&rt, LoadFault::Illegal(1000000), "illegal entry 1000000");
+    check_load(&rt, LoadFault::Memory, "out of memory");
 }
 
-#[test]
-fn refusals(rt: HostRuntime) -> Result<(), AllocError> {
-    let (spent, memory) = (SaveRefusal::SavesSpent, SaveRefusal::Memory);
-    let saves = format!(in rt.alloc(); "{spent}, {memory}")?;
-    assert!(rt; saves.as_str() == "saves spent, out of memory", "{saves}");
-    let damaged = RestoreRefusal::Damaged;
-    let wrong = RestoreRefusal::WrongMatch;
-    let memory = RestoreRefusal::Memory;
-    let restores = format!(in rt.alloc(); "{damaged}, {wrong}, {memory}")?;
-    assert!(rt;
-        restores.as_str() == "damaged, wrong match, out of memory",
-        "{restores}"
+/// The refusal of a save is printed so.
+fn check_save_refusal(rt: &(impl AllocGlobal + Abort), refusal: SaveRefusal, text: &str) {
+    check_text(
+        rt,
+        lasting_text(rt, format!(in rt.alloc(); "{refusal}")),
+        text,
     );
-    Ok(())
+}
+
+/// The refusal of a restore is printed so.
+fn check_restore_refusal(rt: &(impl AllocGlobal + Abort), refusal: RestoreRefusal, text: &str) {
+    check_text(
+        rt,
+        lasting_text(rt, format!(in rt.alloc(); "{refusal}")),
+        text,
+    );
+}
+
+#[test]
+fn refusals(rt: HostRuntime) {
+    check_save_refusal(&rt, SaveRefusal::SavesSpent, "saves spent");
+    check_save_refusal(&rt, SaveRefusal::Memory, "out of memory");
+    check_restore_refusal(&rt, RestoreRefusal::Damaged, "damaged");
+    check_restore_refusal(&rt, RestoreRefusal::WrongMatch, "wrong match");
+    check_restore_refusal(&rt, RestoreRefusal::Memory, "out of memory");
 }

@@ -116,8 +116,6 @@ fn default_packet(rt: HostRuntime) {
 
 /// The text of an action, in the claim of it by party 2 as entry 1000000.
 fn check_action(rt: &impl Abort, text: &[u8], action: Action) {
-    let mut bytes = packet_bytes(rt, 0x02, &[0x02, 0, 0x0f, 0x42, 0x40]);
-    extend(rt, &mut bytes, text);
     let claim = Packet::Claim {
         id: 1,
         rules: Rules::One,
@@ -125,26 +123,34 @@ fn check_action(rt: &impl Abort, text: &[u8], action: Action) {
         number: 1000000,
         action,
     };
-    check_packet(rt, bytes.as_slice(), &claim);
+    let front = [0x02, 0, 0x0f, 0x42, 0x40];
+    check_packet(rt, bytes_of(rt, 0x02, &front, text).as_slice(), &claim);
+}
+
+/// The text of a packet of match 1, by the first rules: the kind, and what follows the rules, in
+/// two parts.
+fn bytes_of(rt: &impl Abort, kind: u8, first: &[u8], second: &[u8]) -> Bytes {
+    let mut bytes = packet_bytes(rt, kind, first);
+    extend(rt, &mut bytes, second);
+    bytes
 }
 
 /// The text of an entry, told as entry 1000000, by either rules.
 fn check_entry(rt: &impl Abort, text: &[u8], entry: Entry) {
-    let mut bytes = packet_bytes(rt, 0x03, &[0, 0x0f, 0x42, 0x40, 1]);
-    extend(rt, &mut bytes, text);
-    for (byte, rules) in [(1, Rules::One), (2, Rules::Two)] {
-        let told = Packet::Entries {
-            id: 1,
-            rules,
-            start: 1000000,
-            list: list(rt, &[entry.copy()]),
-        };
-        check_packet(
-            rt,
-            with_byte(rt, bytes.as_slice(), 12, byte).as_slice(),
-            &told,
-        );
-    }
+    let bytes = bytes_of(rt, 0x03, &[0, 0x0f, 0x42, 0x40, 1], text);
+    check_told(rt, bytes.as_slice(), 1, Rules::One, &entry);
+    check_told(rt, bytes.as_slice(), 2, Rules::Two, &entry);
+}
+
+/// The text with this number of the rules tells an entry.
+fn check_told(rt: &impl Abort, bytes: &[u8], number: u8, rules: Rules, entry: &Entry) {
+    let told = Packet::Entries {
+        id: 1,
+        rules,
+        start: 1000000,
+        list: list(rt, &[entry.copy()]),
+    };
+    check_packet(rt, with_byte(rt, bytes, 12, number).as_slice(), &told);
 }
 
 /// A turn of four steps, and its text.
@@ -201,13 +207,17 @@ fn is_by_second_rules(bytes: &[u8]) -> bool {
     }
 }
 
+/// The bytes are a packet by the second rules.
+fn check_second_rules(rt: &impl Abort, bytes: &[u8]) {
+    assert!(rt; is_by_second_rules(bytes), "{bytes:?}");
+    check_spelling(rt, bytes);
+}
+
 /// Each kind of packet by the second rules.
 #[test]
 fn packets_by_second_rules(rt: HostRuntime) {
     for bytes in [WANT.as_slice(), &CLAIM, &ENTRIES] {
-        let changed = with_byte(&rt, bytes, 12, 2);
-        assert!(rt; is_by_second_rules(changed.as_slice()), "{bytes:?}");
-        check_spelling(&rt, changed.as_slice());
+        check_second_rules(&rt, with_byte(&rt, bytes, 12, 2).as_slice());
     }
     let want = Packet::Want {
         id: 1,
@@ -220,11 +230,13 @@ fn packets_by_second_rules(rt: HostRuntime) {
 
 #[test]
 fn longest_packet(rt: HostRuntime) {
-    let mut bytes = packet_bytes(&rt, 0x03, &[0, 0x0f, 0x42, 0x39, 8]);
-    for _ in 0..8 {
-        extend(&rt, &mut bytes, &[0x06, 4, 25, 0, 25, 24, 2, 1, 1, 0]);
-    }
+    let entries = [[0x06, 4, 25, 0, 25, 24, 2, 1, 1, 0]; 8];
+    let bytes = bytes_of(&rt, 0x03, &[0, 0x0f, 0x42, 0x39, 8], entries.as_flattened());
+    check_longest(&rt, bytes.as_slice());
+}
+
+fn check_longest(rt: &impl Abort, bytes: &[u8]) {
     assert!(rt; bytes.len() == 98 && LONGEST_PACKET == 98);
-    assert!(rt; decode(bytes.as_slice()).is_ok());
-    check_spelling(&rt, bytes.as_slice());
+    assert!(rt; decode(bytes).is_ok());
+    check_spelling(rt, bytes);
 }

@@ -16,6 +16,11 @@ fn check_refused(rt: &impl Abort, bytes: &[u8], fault: WireFault) {
     assert!(rt; is_refused(bytes, fault), "{bytes:?}");
 }
 
+/// The bytes are refused with others from an offset on.
+fn check_with(rt: &impl Abort, bytes: &[u8], offset: usize, new: &[u8], fault: WireFault) {
+    check_refused(rt, with_bytes(rt, bytes, offset, new).as_slice(), fault);
+}
+
 /// The byte at an offset is another, and so the bytes are refused for this.
 type Change = (usize, u8, WireFault);
 
@@ -51,18 +56,20 @@ const OF_WANT: [Change; 11] = [
 fn refused_wants(rt: HostRuntime) {
     check_changes(&rt, &WANT, &OF_WANT);
     check_refused(&rt, &WANT[..17], WireFault::Short);
-    let many = with_bytes(&rt, &WANT, 14, &TOO_GREAT);
-    check_refused(&rt, many.as_slice(), WireFault::Field(14));
+    check_with(&rt, &WANT, 14, &TOO_GREAT, WireFault::Field(14));
 }
 
 /// The rules are tested behind the match id, and before the fields of the kind.
 #[test]
 fn rules_before_other_fields(rt: HostRuntime) {
-    let want = with_bytes(&rt, &WANT, 12, &[3, 0]);
-    check_refused(&rt, want.as_slice(), WireFault::Field(12));
-    let kind = with_byte(&rt, want.as_slice(), 3, 4);
-    check_refused(&rt, kind.as_slice(), WireFault::Kind);
+    check_with(&rt, &WANT, 12, &[3, 0], WireFault::Field(12));
+    check_kind(&rt, with_bytes(&rt, &WANT, 12, &[3, 0]).as_slice());
     check_refused(&rt, &WANT[..12], WireFault::Short);
+}
+
+/// Of another kind the bytes are refused for that.
+fn check_kind(rt: &impl Abort, bytes: &[u8]) {
+    check_with(rt, bytes, 3, &[4], WireFault::Kind);
 }
 
 /// A Want as version 1 had it.
@@ -91,8 +98,7 @@ const OF_CLAIM: [Change; 11] = [
 #[test]
 fn refused_claims(rt: HostRuntime) {
     check_changes(&rt, &CLAIM, &OF_CLAIM);
-    let late = with_bytes(&rt, &CLAIM, 14, &TOO_GREAT);
-    check_refused(&rt, late.as_slice(), WireFault::Field(14));
+    check_with(&rt, &CLAIM, 14, &TOO_GREAT, WireFault::Field(14));
 }
 
 const OF_ENTRIES: [Change; 10] = [
@@ -111,8 +117,7 @@ const OF_ENTRIES: [Change; 10] = [
 #[test]
 fn refused_entries(rt: HostRuntime) {
     check_changes(&rt, &ENTRIES, &OF_ENTRIES);
-    let late = with_bytes(&rt, &ENTRIES, 13, &TOO_GREAT);
-    check_refused(&rt, late.as_slice(), WireFault::Field(13));
+    check_with(&rt, &ENTRIES, 13, &TOO_GREAT, WireFault::Field(13));
     // Two entries from 1000000 on.
     let last_two = packet_bytes(&rt, 0x03, &[0, 0x0f, 0x42, 0x40, 2, 0x03, 0x03]);
     check_refused(&rt, last_two.as_slice(), WireFault::Field(17));

@@ -4,9 +4,10 @@ ghost use Rattle.bg_wire.specs.Saved.SavedText.{IsSavable, parts_of};
 
 use crate::bytes::bytes::{joined, with_byte, with_bytes};
 use crate::bytes::saves::{
-    OLD_REFEREE_SAVE, OLD_SEAT_SAVE, REFEREE_SAVE, SEAT_SAVE, check_entries, check_text, loaded,
+    OLD_REFEREE_SAVE, OLD_SEAT_SAVE, REFEREE_SAVE, SEAT_SAVE, check_entries, check_saved,
+    check_text, kept, loaded, text_of,
 };
-use bg_wire::{LoadFault, Saved, load, save_text};
+use bg_wire::{LoadFault, Saved, load};
 use std::alloc::Global;
 use std::process::Abort;
 use std::test::Fail;
@@ -92,44 +93,60 @@ fn changed_old_saves_refused(rt: HostRuntime) {
     check_changes(&rt, &OLD_SEAT_SAVE, &OF_THE_OLD_SEAT);
 }
 
+/// The bytes are refused with others from an offset on.
+fn check_with(
+    rt: &(impl AllocGlobal + Abort),
+    bytes: &[u8],
+    offset: usize,
+    new: &[u8],
+    fault: LoadFault,
+) {
+    check_load_fault(rt, with_bytes(rt, bytes, offset, new).as_slice(), fault);
+}
+
 /// A number above 1000000 is out of its range in the second layout: of a claim, and of entries with and without one.
 #[test]
 fn great_numbers_refused(rt: HostRuntime) {
-    let claim = with_bytes(&rt, &SEAT_SAVE, 20, &TOO_GREAT);
-    check_load_fault(&rt, claim.as_slice(), LoadFault::Field(20));
-    let count = with_bytes(&rt, &SEAT_SAVE, 30, &TOO_GREAT);
-    check_load_fault(&rt, count.as_slice(), LoadFault::Field(30));
-    let count = with_bytes(&rt, &REFEREE_SAVE, 20, &TOO_GREAT);
-    check_load_fault(&rt, count.as_slice(), LoadFault::Field(20));
+    check_with(&rt, &SEAT_SAVE, 20, &TOO_GREAT, LoadFault::Field(20));
+    check_with(&rt, &SEAT_SAVE, 30, &TOO_GREAT, LoadFault::Field(30));
+    check_with(&rt, &REFEREE_SAVE, 20, &TOO_GREAT, LoadFault::Field(20));
+}
+
+/// The bytes are refused with more behind them.
+fn check_joined(rt: &(impl AllocGlobal + Abort), bytes: &[u8], more: &[u8], fault: LoadFault) {
+    check_load_fault(rt, joined(rt, bytes, more).as_slice(), fault);
 }
 
 /// So many entries are told, and none is there.
 #[test]
 fn missing_entries(rt: HostRuntime) {
-    let told = joined(&rt, &REFEREE_SAVE[..20], &[0, 0x0f, 0x42, 0x40]);
-    check_load_fault(&rt, told.as_slice(), LoadFault::Short);
-    let told = joined(&rt, &OLD_REFEREE_SAVE[..19], &[0xff, 0xff]);
-    check_load_fault(&rt, told.as_slice(), LoadFault::Short);
+    check_joined(
+        &rt,
+        &REFEREE_SAVE[..20],
+        &[0, 0x0f, 0x42, 0x40],
+        LoadFault::Short,
+    );
+    check_joined(
+        &rt,
+        &OLD_REFEREE_SAVE[..19],
+        &[0xff, 0xff],
+        LoadFault::Short,
+    );
+}
+
+/// With an illegal entry at an offset, and a byte too many, it is the byte that is told.
+fn check_extra(rt: &(impl AllocGlobal + Abort), bytes: &[u8], offset: usize) {
+    let illegal = with_byte(rt, bytes, offset, 3);
+    check_joined(rt, illegal.as_slice(), &[0], LoadFault::Extra);
 }
 
 /// The entries are tried once the whole layout holds.
 #[test]
 fn entries_are_tried_last(rt: HostRuntime) {
-    let illegal = with_byte(&rt, &SEAT_SAVE, 36, 3);
-    check_load_fault(
-        &rt,
-        joined(&rt, illegal.as_slice(), &[0]).as_slice(),
-        LoadFault::Extra,
-    );
-    let illegal = with_byte(&rt, &OLD_SEAT_SAVE, 31, 3);
-    check_load_fault(
-        &rt,
-        joined(&rt, illegal.as_slice(), &[0]).as_slice(),
-        LoadFault::Extra,
-    );
+    check_extra(&rt, &SEAT_SAVE, 36);
+    check_extra(&rt, &OLD_SEAT_SAVE, 31);
     // The second entry is the first that does not follow.
-    let changed = with_byte(&rt, &REFEREE_SAVE, 32, 4);
-    check_load_fault(&rt, changed.as_slice(), LoadFault::Illegal(2));
+    check_with(&rt, &REFEREE_SAVE, 32, &[4], LoadFault::Illegal(2));
 }
 
 /// Whether two saves are of one party, number, claim and match.
@@ -141,31 +158,44 @@ fn have_the_same_front(saved: &Saved, other: &Saved) -> bool {
 }
 
 /// What is saved is loaded again, as it was.
-fn check_again(rt: &(impl AllocGlobal + Abort), saved: &Saved) -> Result<(), Fail>
+fn check_again(rt: &(impl AllocGlobal + Abort), saved: &Saved)
     requires { IsSavable (parts_of saved.now) }
 {
-    let text = save_text(rt.alloc(), saved)?;
-    let again = loaded(rt.alloc(), &text)?;
-    assert!(rt; have_the_same_front(&again, saved), "{text:?}");
+    let text = text_of(rt, saved);
+    let again = kept(rt, text);
+    assert!(rt; have_the_same_front(again, saved), "{text:?}");
     check_entries(rt, &again.log, &saved.log);
-    Ok(())
 }
 
-/// What is loaded of bytes is spelled as they are in the second layout; in the first it is loaded again of its text.
-fn check_changed(rt: &(impl AllocGlobal + Abort), bytes: &[u8]) -> Result<(), Fail> {
-    let Ok(saved) = loaded(rt.alloc(), bytes) else {
-        return Ok(());
-    };
+/// What was loaded of bytes is spelled as they are in the second layout; in the first it is loaded
+/// again of its text.
+fn check_spelled(rt: &(impl AllocGlobal + Abort), saved: &Saved, bytes: &[u8])
+    requires { IsSavable (parts_of saved.now) }
+{
     if bytes.get(3) == Some(&0x32) {
-        check_text(rt, &saved, bytes)?;
-        return Ok(());
+        check_saved(rt, saved, bytes);
+    } else {
+        check_again(rt, saved);
     }
-    check_again(rt, &saved)
+}
+
+/// The same, where the bytes are loaded.
+fn check_changed(rt: &(impl AllocGlobal + Abort), bytes: &[u8]) {
+    if let Ok(saved) = loaded(rt.alloc(), bytes) {
+        check_spelled(rt, &saved, bytes);
+    }
+}
+
+/// The same, whatever byte is at an offset.
+fn check_bytes_at(rt: &(impl AllocGlobal + Abort), bytes: &[u8], offset: usize) {
+    for byte in 0..=255 {
+        check_changed(rt, with_byte(rt, bytes, offset, byte).as_slice());
+    }
 }
 
 /// A part of a saved text is short.
 #[test]
-fn cut_and_changed_saves(rt: HostRuntime) -> Result<(), Fail> {
+fn cut_and_changed_saves(rt: HostRuntime) {
     for bytes in [
         REFEREE_SAVE.as_slice(),
         &SEAT_SAVE,
@@ -174,13 +204,9 @@ fn cut_and_changed_saves(rt: HostRuntime) -> Result<(), Fail> {
     ] {
         for offset in 0..bytes.len() {
             check_load_fault(&rt, &bytes[..offset], LoadFault::Short);
-            for byte in 0..=255 {
-                let changed = with_byte(&rt, bytes, offset, byte);
-                check_changed(&rt, changed.as_slice())?;
-            }
+            check_bytes_at(&rt, bytes, offset);
         }
     }
-    Ok(())
 }
 
 /// Loads once more where memory is refused.

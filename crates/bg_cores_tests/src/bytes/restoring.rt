@@ -91,22 +91,34 @@ fn old_texts(rt: HostRuntime) {
     check_restored(&rt, &OLD_SECOND, &[], Ok(Some((2, 2))));
     check_restored(&rt, &OLD_SECOND, &THIRD, Ok(Some((3, 1))));
     check_restored(&rt, &THIRD, &OLD_SECOND, Ok(Some((3, 1))));
-    let old_fifth = with_byte(&rt, &OLD_SECOND, 17, 5);
-    check_restored(&rt, old_fifth.as_slice(), &THIRD, Ok(Some((5, 2))));
-    check_restored(&rt, &THIRD, old_fifth.as_slice(), Ok(Some((5, 2))));
+    check_old(&rt, 5, (5, 2), (5, 2));
     // Of equal numbers the one in slot 0 counts, in whichever layout.
-    let old_third = with_byte(&rt, &OLD_SECOND, 17, 3);
-    check_restored(&rt, old_third.as_slice(), &THIRD, Ok(Some((3, 2))));
-    check_restored(&rt, &THIRD, old_third.as_slice(), Ok(Some((3, 1))));
+    check_old(&rt, 3, (3, 2), (3, 1));
+}
+
+/// What is restored where a text of the first layout with this number of its save stands in slot 0
+/// beside save 3, and where it stands in slot 1.
+fn check_old(
+    rt: &(impl AllocGlobal + Abort),
+    save: u8,
+    first: (u32, Number),
+    second: (u32, Number),
+) {
+    let old = with_byte(rt, &OLD_SECOND, 17, save);
+    check_restored(rt, old.as_slice(), &THIRD, Ok(Some(first)));
+    check_restored(rt, &THIRD, old.as_slice(), Ok(Some(second)));
 }
 
 /// Every cut of a text of the first layout leaves the other one.
 #[test]
 fn cut_old_texts(rt: HostRuntime) {
-    let old_fifth = with_byte(&rt, &OLD_SECOND, 17, 5);
+    check_cuts(&rt, with_byte(&rt, &OLD_SECOND, 17, 5).as_slice());
+}
+
+fn check_cuts(rt: &(impl AllocGlobal + Abort), old_fifth: &[u8]) {
     for cut in 0..OLD_SECOND.len() {
-        let torn = old_fifth.as_slice().get(..cut).expect(&rt, "a front");
-        check_restored(&rt, torn, &THIRD, Ok(Some((3, 1))));
+        let torn = old_fifth.get(..cut).expect(rt, "a front");
+        check_restored(rt, torn, &THIRD, Ok(Some((3, 1))));
     }
 }
 

@@ -2,12 +2,11 @@
 
 use crate::bytes::bytes::{joined, turn, with_byte, with_bytes};
 use crate::bytes::refused_saves::check_load_fault;
-use crate::bytes::saves::{OLD_REFEREE_SAVE, REFEREE_SAVE, check_text, loaded};
+use crate::bytes::saves::{OLD_REFEREE_SAVE, REFEREE_SAVE, check_saved, kept};
 use bg_match::{Entry, Rules};
 use bg_wire::{LoadFault, RestoreRefusal, Saved, restore};
 use std::alloc::Global;
 use std::process::Abort;
-use std::test::Fail;
 
 /// The referee's save 2 of match 1, of length 1, by the second rules: the opening 2 1, 13-11 6-5, O's 4 3, 24-20 13-10,
 /// X's 6 6, with which he cannot leave the bar, and the pass.
@@ -31,28 +30,36 @@ fn rules_of(saved: &Saved) -> Rules {
 
 /// A text is of the rules that it tells, and of no others.
 #[test]
-fn rules_are_saved(rt: HostRuntime) -> Result<(), Fail> {
-    let second = with_byte(&rt, &REFEREE_SAVE, 14, 2);
-    let bytes = second.as_slice();
-    let saved = loaded(rt.alloc(), bytes)?;
-    assert!(rt; rules_of(&saved) == Rules::Two);
-    check_text(&rt, &saved, bytes)?;
+fn rules_are_saved(rt: HostRuntime) {
     let third = with_byte(&rt, &REFEREE_SAVE, 14, 3);
     check_load_fault(&rt, third.as_slice(), LoadFault::Field(14));
+    check_rules(
+        &rt,
+        with_byte(&rt, &REFEREE_SAVE, 14, 2).as_slice(),
+        Rules::Two,
+        Rules::One,
+    );
     // A text of the first layout is of the first rules.
-    for (text, own, other) in [
-        (bytes, Rules::Two, Rules::One),
-        (&REFEREE_SAVE, Rules::One, Rules::Two),
-        (&OLD_REFEREE_SAVE, Rules::One, Rules::Two),
-    ] {
-        let wrong = Err(RestoreRefusal::WrongMatch);
-        assert!(rt;
-            restored(rt.alloc(), text, own) == Ok(Some(own)),
-            "{text:?}"
-        );
-        assert!(rt; restored(rt.alloc(), text, other) == wrong, "{text:?}");
-    }
-    Ok(())
+    check_restored(&rt, &OLD_REFEREE_SAVE, Rules::One, Rules::Two);
+    check_rules(&rt, &REFEREE_SAVE, Rules::One, Rules::Two);
+}
+
+/// A text of the second layout is of its own rules, and of no others.
+fn check_rules(rt: &(impl AllocGlobal + Abort), bytes: &[u8], own: Rules, other: Rules) {
+    let saved = kept(rt, bytes);
+    assert!(rt; rules_of(saved) == own, "{bytes:?}");
+    check_saved(rt, saved, bytes);
+    check_restored(rt, bytes, own, other);
+}
+
+/// A text is restored by its own rules, and by no others.
+fn check_restored(rt: &(impl AllocGlobal + Abort), text: &[u8], own: Rules, other: Rules) {
+    let wrong = Err(RestoreRefusal::WrongMatch);
+    assert!(rt;
+        restored(rt.alloc(), text, own) == Ok(Some(own)),
+        "{text:?}"
+    );
+    assert!(rt; restored(rt.alloc(), text, other) == wrong, "{text:?}");
 }
 
 /// Whether this is the save with the pass.
@@ -64,33 +71,38 @@ fn is_passed_save(rt: &impl Abort, saved: &Saved) -> bool {
 }
 
 #[test]
-fn worked_pass(rt: HostRuntime) -> Result<(), Fail> {
-    let saved = loaded(rt.alloc(), &PASSED_SAVE)?;
-    check_text(&rt, &saved, &PASSED_SAVE)?;
-    assert!(rt; is_passed_save(&rt, &saved));
+fn worked_pass(rt: HostRuntime) {
+    let saved = kept(&rt, &PASSED_SAVE);
+    check_saved(&rt, saved, &PASSED_SAVE);
+    assert!(rt; is_passed_save(&rt, saved));
     for cut in 0..PASSED_SAVE.len() {
         check_load_fault(&rt, &PASSED_SAVE[..cut], LoadFault::Short);
     }
-    Ok(())
 }
 
 /// By the first rules the same pass does not follow, and by the second the empty move does not.
 #[test]
-fn passes_of_other_rules(rt: HostRuntime) -> Result<(), Fail> {
+fn passes_of_other_rules(rt: HostRuntime) {
     let first = with_byte(&rt, &PASSED_SAVE, 14, 1);
     check_load_fault(&rt, first.as_slice(), LoadFault::Illegal(6));
-    let empty_move = joined(&rt, &PASSED_SAVE[..45], &[0x06, 0]);
-    check_load_fault(&rt, empty_move.as_slice(), LoadFault::Illegal(6));
-    let moved = with_byte(&rt, empty_move.as_slice(), 14, 1);
-    let saved = loaded(rt.alloc(), moved.as_slice())?;
-    check_text(&rt, &saved, moved.as_slice())?;
-    // A pass where a step can be played, and one before the roll.
-    let two_entries = with_byte(&rt, &PASSED_SAVE[..27], 23, 2);
-    let early = joined(&rt, two_entries.as_slice(), &[0x0a]);
-    check_load_fault(&rt, early.as_slice(), LoadFault::Illegal(2));
-    let before = with_bytes(&rt, &PASSED_SAVE, 42, &[0x0a, 0x02, 0x06, 0x06]);
-    check_load_fault(&rt, before.as_slice(), LoadFault::Illegal(5));
-    Ok(())
+    check_empty_move(&rt, joined(&rt, &PASSED_SAVE[..45], &[0x06, 0]).as_slice());
+    check_early_passes(&rt);
+}
+
+/// The empty move does not follow by the second rules, and does by the first.
+fn check_empty_move(rt: &(impl AllocGlobal + Abort), empty_move: &[u8]) {
+    check_load_fault(rt, empty_move, LoadFault::Illegal(6));
+    let moved = with_byte(rt, empty_move, 14, 1);
+    check_saved(rt, kept(rt, moved.as_slice()), moved.as_slice());
+}
+
+/// A pass where a step can be played, and one before the roll.
+fn check_early_passes(rt: &(impl AllocGlobal + Abort)) {
+    let two_entries = with_byte(rt, &PASSED_SAVE[..27], 23, 2);
+    let early = joined(rt, two_entries.as_slice(), &[0x0a]);
+    check_load_fault(rt, early.as_slice(), LoadFault::Illegal(2));
+    let before = with_bytes(rt, &PASSED_SAVE, 42, &[0x0a, 0x02, 0x06, 0x06]);
+    check_load_fault(rt, before.as_slice(), LoadFault::Illegal(5));
 }
 
 /// The first layout has no code for a pass.

@@ -3,6 +3,7 @@ ghost use Rattle.std.specs.Prelude.{IfOk};
 ghost use Rattle.bg_wire.specs.Saved.SavedText.{IsSavable, parts_of};
 
 use crate::bytes::bytes::{turn, with_bytes};
+use crate::lasting::lasting;
 use bg_board::Die;
 use bg_match::{Action, Entry, Level, MOST_ENTRIES, Number, Record, Rules};
 use bg_wire::{
@@ -44,6 +45,21 @@ pub(crate) fn loaded(alloc: Global, bytes: &[u8]) -> Result<Saved, LoadFault>
     load(alloc, bytes)
 }
 
+/// What is loaded of a saved text. It lasts.
+pub(crate) fn kept(rt: &(impl AllocGlobal + Abort), bytes: &[u8]) -> &'static Saved
+    ensures { IsSavable (parts_of result.now) }
+{
+    let saved = loaded(rt.alloc(), bytes).expect(rt, "a saved text");
+    lasting(rt, saved)
+}
+
+/// What is saved has this text.
+pub(crate) fn check_saved(rt: &(impl AllocGlobal + Abort), saved: &Saved, bytes: &[u8])
+    requires { IsSavable (parts_of saved.now) }
+{
+    assert!(rt; check_text(rt, saved, bytes).is_ok(), "out of memory");
+}
+
 /// The text of what is saved is this one.
 pub(crate) fn check_text(
     rt: &(impl AllocGlobal + Abort),
@@ -53,8 +69,13 @@ pub(crate) fn check_text(
     requires { IsSavable (parts_of saved.now) }
 {
     let text = save_text(rt.alloc(), saved)?;
-    assert!(rt; text.as_slice() == bytes, "{text:?}");
+    check_bytes(rt, &text, bytes);
     Ok(())
+}
+
+/// The bytes of a text are these.
+fn check_bytes(rt: &impl Abort, text: &[u8], bytes: &[u8]) {
+    assert!(rt; text == bytes, "{text:?}");
 }
 
 /// Whether it is a record of match 1, of length 1, by the first rules, with so many entries. The first is the opening
@@ -76,13 +97,12 @@ fn is_save_of_the_referee(rt: &impl Abort, saved: &Saved) -> bool {
 
 /// A text of either layout is loaded, and what was loaded is saved in the second one.
 #[test]
-fn worked_save_of_the_referee(rt: HostRuntime) -> Result<(), Fail> {
+fn worked_save_of_the_referee(rt: HostRuntime) {
     for bytes in [REFEREE_SAVE.as_slice(), &OLD_REFEREE_SAVE] {
-        let saved = loaded(rt.alloc(), bytes)?;
-        check_text(&rt, &saved, &REFEREE_SAVE)?;
-        assert!(rt; is_save_of_the_referee(&rt, &saved), "{bytes:?}");
+        let saved = kept(&rt, bytes);
+        check_saved(&rt, saved, &REFEREE_SAVE);
+        assert!(rt; is_save_of_the_referee(&rt, saved), "{bytes:?}");
     }
-    Ok(())
 }
 
 /// Whether this is what the seat of X saved.
@@ -92,13 +112,12 @@ fn is_save_of_the_seat(rt: &impl Abort, saved: &Saved) -> bool {
 }
 
 #[test]
-fn worked_save_of_a_seat(rt: HostRuntime) -> Result<(), Fail> {
+fn worked_save_of_a_seat(rt: HostRuntime) {
     for bytes in [SEAT_SAVE.as_slice(), &OLD_SEAT_SAVE] {
-        let saved = loaded(rt.alloc(), bytes)?;
-        check_text(&rt, &saved, &SEAT_SAVE)?;
-        assert!(rt; is_save_of_the_seat(&rt, &saved), "{bytes:?}");
+        let saved = kept(&rt, bytes);
+        check_saved(&rt, saved, &SEAT_SAVE);
+        assert!(rt; is_save_of_the_seat(&rt, saved), "{bytes:?}");
     }
-    Ok(())
 }
 
 /// The number of the claim in a saved text.
@@ -147,34 +166,47 @@ fn old_text(alloc: Global, text: &[u8]) -> Result<Vec<u8>, Fail> {
 /// A text of the first layout tells up to 65535 entries.
 #[test]
 fn longest_old_record(rt: HostRuntime) -> Result<(), Fail> {
-    let saved = Saved {
-        party: 0,
-        save: 2,
-        claim: None,
-        log: long_record(rt.alloc(), 32767)?,
-    };
-    assert!(rt; saved.log.len() == 65535);
-    let text = save_text(rt.alloc(), &saved)?;
-    let old = old_text(rt.alloc(), &text)?;
-    check_entries(&rt, &loaded(rt.alloc(), &old)?.log, &saved.log);
+    let saved = save_of(&rt, 0, 2, long_record(rt.alloc(), 32767)?);
+    let old = old_text(rt.alloc(), text_of(&rt, saved))?;
+    check_long(&rt, kept(&rt, &old), saved, 65535);
     Ok(())
+}
+
+/// What is loaded again of a long record has as many entries, and the same.
+fn check_long(rt: &impl Abort, again: &Saved, saved: &Saved, count: Number) {
+    assert!(rt; saved.log.len() == count);
+    check_entries(rt, &again.log, &saved.log);
+}
+
+/// What a party saves that claims nothing. It lasts.
+fn save_of(rt: &(impl AllocGlobal + Abort), party: u8, save: u32, log: Record) -> &'static Saved
+    ensures { IsSavable (parts_of result.now) }
+{
+    let saved = Saved {
+        party,
+        save,
+        claim: None,
+        log,
+    };
+    lasting(rt, saved)
+}
+
+/// The text of what is saved. It lasts.
+pub(crate) fn text_of(rt: &(impl AllocGlobal + Abort), saved: &Saved) -> &'static [u8]
+    requires { IsSavable (parts_of saved.now) }
+{
+    save_text(rt.alloc(), saved).expect(rt, "memory").leak()
 }
 
 /// A text of the second layout tells more.
 #[test]
 fn longer_record(rt: HostRuntime) -> Result<(), Fail> {
-    let saved = Saved {
-        party: 2,
-        save: 4294967295,
-        claim: None,
-        log: long_record(rt.alloc(), 32768)?,
-    };
-    assert!(rt; saved.log.len() == 65537);
-    let text = save_text(rt.alloc(), &saved)?;
+    let saved = save_of(&rt, 2, 4294967295, long_record(rt.alloc(), 32768)?);
+    let text = text_of(&rt, saved);
     assert!(rt; text.len() == 24 + 3 + 32768 * 3);
-    let again = loaded(rt.alloc(), &text)?;
+    let again = kept(&rt, text);
     assert!(rt; (again.party, again.save) == (2, 4294967295));
-    check_entries(&rt, &again.log, &saved.log);
+    check_long(&rt, again, saved, 65537);
     Ok(())
 }
 

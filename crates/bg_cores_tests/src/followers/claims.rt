@@ -1,13 +1,12 @@
 //! What a seat claims and sends.
 use super::saves::FIRST_SAVE;
-use super::seats::{Row, after_the_opening, check_rows};
+use super::seats::{Row, after_the_opening, check_rows, fresh};
 use super::{MOVED, NONE};
 use bg_board::Player;
 use bg_match::{EntryFault, Rules};
-use bg_party::{ChooseFault, Learned, Seat};
+use bg_party::{ChooseFault, Learned};
 use bg_turns::TurnFault;
 use bg_wire::Slot;
-use std::test::Fail;
 
 const OF_X: [Row; 8] = [
     Row::Roll(Err(ChooseFault::Illegal(EntryFault::WrongPhase))),
@@ -21,16 +20,14 @@ const OF_X: [Row; 8] = [
 ];
 
 #[test]
-fn what_a_seat_claims(rt: HostRuntime) -> Result<(), Fail> {
-    check_rows(&rt, &mut after_the_opening(rt.alloc(), Player::X)?, &OF_X);
-    Ok(())
+fn what_a_seat_claims(rt: HostRuntime) {
+    check_rows(&rt, after_the_opening(&rt, Player::X), &OF_X);
 }
 
 #[test]
-fn nobody_claims_before_the_opening(rt: HostRuntime) -> Result<(), Fail> {
-    let mut fresh = Seat::fresh(rt.alloc(), Player::X, 1, 1, Rules::One)?;
-    check_rows(&rt, &mut fresh, &[Row::Roll(Err(ChooseFault::NotYourTurn))]);
-    Ok(())
+fn nobody_claims_before_the_opening(rt: HostRuntime) {
+    let seat = fresh(&rt, Player::X, Rules::One);
+    check_rows(&rt, seat, &[Row::Roll(Err(ChooseFault::NotYourTurn))]);
 }
 
 const OF_O: [Row; 4] = [
@@ -41,9 +38,8 @@ const OF_O: [Row; 4] = [
 ];
 
 #[test]
-fn whose_turn_it_is(rt: HostRuntime) -> Result<(), Fail> {
-    check_rows(&rt, &mut after_the_opening(rt.alloc(), Player::O)?, &OF_O);
-    Ok(())
+fn whose_turn_it_is(rt: HostRuntime) {
+    check_rows(&rt, after_the_opening(&rt, Player::O), &OF_O);
 }
 
 const SENT_ONCE_SAVED: [Row; 18] = [
@@ -71,11 +67,6 @@ const SENT_ONCE_SAVED: [Row; 18] = [
 ];
 
 #[test]
-fn claims_are_sent_once_they_are_saved(rt: HostRuntime) -> Result<(), Fail> {
-    check_rows(
-        &rt,
-        &mut after_the_opening(rt.alloc(), Player::X)?,
-        &SENT_ONCE_SAVED,
-    );
-    Ok(())
+fn claims_are_sent_once_they_are_saved(rt: HostRuntime) {
+    check_rows(&rt, after_the_opening(&rt, Player::X), &SENT_ONCE_SAVED);
 }

@@ -1,6 +1,6 @@
 //! What followers learn, and refused growths.
-use super::seats::{Row, after_the_opening, check_rows, told};
-use super::watchers::{Row as WatcherRow, check_rows as check_watcher};
+use super::seats::{Row, after_the_opening, check_rows, learns_the_opening, told};
+use super::watchers::{Row as WatcherRow, check_rows as check_watcher, fresh_by};
 use super::{
     DOUBLED, HALF_A_MOVE, MOVED, NONE, OFFERED, OFFERED_A_GAMMON, OPENING, OTHER_OPENING, REJECTED,
 };
@@ -9,6 +9,7 @@ use bg_match::{LengthFault, Number, Rules};
 use bg_party::{Learned, Seat, Watcher};
 use bg_wire::{FIRST_WATCHER, Slot};
 use std::alloc::Global;
+use std::process::Abort;
 use std::test::Fail;
 
 const NO_NEW_ENTRIES: [Row; 8] = [
@@ -23,13 +24,8 @@ const NO_NEW_ENTRIES: [Row; 8] = [
 ];
 
 #[test]
-fn entries_that_change_no_record(rt: HostRuntime) -> Result<(), Fail> {
-    check_rows(
-        &rt,
-        &mut after_the_opening(rt.alloc(), Player::X)?,
-        &NO_NEW_ENTRIES,
-    );
-    Ok(())
+fn entries_that_change_no_record(rt: HostRuntime) {
+    check_rows(&rt, after_the_opening(&rt, Player::X), &NO_NEW_ENTRIES);
 }
 
 const NO_ENTRIES: [Row; 5] = [
@@ -41,13 +37,8 @@ const NO_ENTRIES: [Row; 5] = [
 ];
 
 #[test]
-fn packets_that_change_no_record(rt: HostRuntime) -> Result<(), Fail> {
-    check_rows(
-        &rt,
-        &mut after_the_opening(rt.alloc(), Player::X)?,
-        &NO_ENTRIES,
-    );
-    Ok(())
+fn packets_that_change_no_record(rt: HostRuntime) {
+    check_rows(&rt, after_the_opening(&rt, Player::X), &NO_ENTRIES);
 }
 
 const OVERLAPS: [WatcherRow; 6] = [
@@ -65,11 +56,10 @@ fn by(watcher: &Watcher, number: Number) -> Option<Player> {
 }
 
 #[test]
-fn packets_that_overlap(rt: HostRuntime) -> Result<(), Fail> {
-    let mut watcher = Watcher::fresh(rt.alloc(), 255, 1, 1, Rules::One)?;
-    check_watcher(&rt, &mut watcher, &OVERLAPS);
-    assert!(rt; by(&watcher, 3) == Some(Player::O));
-    Ok(())
+fn packets_that_overlap(rt: HostRuntime) {
+    let watcher = fresh_by(&rt, 255, Rules::One);
+    check_watcher(&rt, watcher, &OVERLAPS);
+    assert!(rt; by(watcher, 3) == Some(Player::O));
 }
 
 /// Why there is no watcher of a match of this length.
@@ -87,7 +77,7 @@ fn id_of_a_seat(alloc: Global, length: u8) -> Result<u64, LengthFault> {
 }
 
 #[test]
-fn lengths(rt: HostRuntime) -> Result<(), Fail> {
+fn lengths(rt: HostRuntime) {
     let refused = LengthFault::LengthOutOfRange;
     for length in [0, 100] {
         assert!(rt;
@@ -100,7 +90,6 @@ fn lengths(rt: HostRuntime) -> Result<(), Fail> {
         );
     }
     assert!(rt; id_of_a_seat(rt.alloc(), 99) == Ok(7));
-    Ok(())
 }
 
 /// Whether a seat learns an offer to resign under this number, and its rejection, which may have come before it.
@@ -144,8 +133,13 @@ const AFTER_ELEVEN_OFFERS: [Row; 3] = [
 /// `tools/checks/refuse_growths` refuses each growth in turn.
 #[test]
 fn refused_growths(rt: HostRuntime) -> Result<(), Fail> {
-    let mut seat = after_the_opening(rt.alloc(), Player::X)?;
-    assert!(rt; learns_eleven_offers(&mut seat));
-    check_rows(&rt, &mut seat, &AFTER_ELEVEN_OFFERS);
+    let mut seat = Seat::fresh(rt.alloc(), Player::X, 1, 1, Rules::One)?;
+    check_growths(&rt, &mut seat);
     Ok(())
+}
+
+fn check_growths(rt: &impl Abort, seat: &mut Seat) {
+    assert!(rt; learns_the_opening(seat));
+    assert!(rt; learns_eleven_offers(seat));
+    check_rows(rt, seat, &AFTER_ELEVEN_OFFERS);
 }

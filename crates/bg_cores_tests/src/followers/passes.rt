@@ -3,7 +3,9 @@
 ghost use Rattle.std.specs.Prelude.{IfSome};
 ghost use Rattle.bg_wire.specs.Packets.PacketText.{IsPacket};
 
+use super::seats::{chooses, fresh};
 use super::want;
+use super::watchers::fresh_by;
 use arrayvec::ArrayVec;
 use bg_board::Player;
 use bg_match::{Action, Actor, Entry, Level, Number, Rules};
@@ -11,7 +13,6 @@ use bg_party::{ChooseFault, Learned, Seat, Watcher};
 use bg_turns::Turn;
 use bg_wire::{FIRST_WATCHER, Packet, decode};
 use std::process::Abort;
-use std::test::Fail;
 
 /// Five entries of match 1: the opening 2 1, X's 13-11 6-5, O's roll 4 3 and 24-20 13-10, and X's roll 6 6.
 const FIVE: [u8; 21] = [
@@ -68,23 +69,37 @@ fn passed(seat: &mut Seat, rules: u8) -> Option<Learned> {
 }
 
 /// Whether the call gives what the row says.
-fn gives(seat: &mut Seat, row: Row) -> bool {
+fn gives(seat: &mut Seat, row: &Row) -> bool {
     match row {
-        Row::TheFive(rules, learned) => taught(seat, rules) == Some(learned),
-        Row::ThePass(rules, learned) => passed(seat, rules) == Some(learned),
-        Row::NoStep(expected) => seat.choose(Action::Move(Turn::new())) == expected,
-        Row::Resign(expected) => seat.choose(Action::Resign(Level::Normal)) == expected,
-        Row::Roll(expected) => seat.choose(Action::Roll) == expected,
-        Row::Held(count, actor) => seat.held().len() == count && seat.held().actor() == actor,
-        Row::Passed => seat.held().entry(6) == Some(&Entry::Passed),
-        Row::Asks => seat.tick() == Some(want(2, 0)),
+        Row::TheFive(rules, learned) => taught(seat, *rules) == Some(*learned),
+        Row::ThePass(rules, learned) => passed(seat, *rules) == Some(*learned),
+        Row::NoStep(expected) => chooses(seat, Action::Move(Turn::new()), *expected),
+        Row::Resign(expected) => chooses(seat, Action::Resign(Level::Normal), *expected),
+        Row::Roll(expected) => chooses(seat, Action::Roll, *expected),
+        Row::Held(count, actor) => has(seat, *count, *actor),
+        Row::Passed => holds_the_pass(seat),
+        Row::Asks => asks(seat),
     }
+}
+
+/// Whether a seat holds so many entries, and this one acts.
+fn has(seat: &Seat, count: Number, actor: Actor) -> bool {
+    seat.held().len() == count && seat.held().actor() == actor
+}
+
+fn holds_the_pass(seat: &Seat) -> bool {
+    seat.held().entry(6) == Some(&Entry::Passed)
+}
+
+/// Whether a seat sends what party 2 wants that holds nothing.
+fn asks(seat: &mut Seat) -> bool {
+    seat.tick() == Some(want(2, 0))
 }
 
 /// Every call gives what its row says.
 fn check_rows(rt: &impl Abort, seat: &mut Seat, rows: &[Row]) {
     for (i, row) in rows.iter().enumerate() {
-        assert!(rt; gives(seat, *row), "row {i}");
+        assert!(rt; gives(seat, row), "row {i}");
     }
 }
 
@@ -98,16 +113,15 @@ const TO_THE_PASS: [Row; 6] = [
 ];
 
 #[test]
-fn nobody_claims_where_a_turn_is_to_be_passed(rt: HostRuntime) -> Result<(), Fail> {
+fn nobody_claims_where_a_turn_is_to_be_passed(rt: HostRuntime) {
     for (player, roll) in [
         (Player::X, Err(ChooseFault::NotYourTurn)),
         (Player::O, Ok(7)),
     ] {
-        let mut seat = Seat::fresh(rt.alloc(), player, 1, 1, Rules::Two)?;
-        check_rows(&rt, &mut seat, &TO_THE_PASS);
-        check_rows(&rt, &mut seat, &[Row::Roll(roll)]);
+        let seat = fresh(&rt, player, Rules::Two);
+        check_rows(&rt, seat, &TO_THE_PASS);
+        check_rows(&rt, seat, &[Row::Roll(roll)]);
     }
-    Ok(())
 }
 
 const NO_PASS: [Row; 4] = [
@@ -118,10 +132,8 @@ const NO_PASS: [Row; 4] = [
 ];
 
 #[test]
-fn first_rules_have_no_pass(rt: HostRuntime) -> Result<(), Fail> {
-    let mut seat = Seat::fresh(rt.alloc(), Player::X, 1, 1, Rules::One)?;
-    check_rows(&rt, &mut seat, &NO_PASS);
-    Ok(())
+fn first_rules_have_no_pass(rt: HostRuntime) {
+    check_rows(&rt, fresh(&rt, Player::X, Rules::One), &NO_PASS);
 }
 
 /// What a watcher learns of the five entries, in a match by these rules, and how many entries it then holds.
@@ -134,15 +146,13 @@ fn shown(watcher: &mut Watcher, rules: u8) -> Option<(Learned, Number)> {
 const OTHER_RULES: [Row; 2] = [Row::TheFive(2, Learned::OtherMatch), Row::Asks];
 
 #[test]
-fn other_rules_are_another_match(rt: HostRuntime) -> Result<(), Fail> {
-    let mut watcher = Watcher::fresh(rt.alloc(), FIRST_WATCHER, 1, 1, Rules::Two)?;
+fn other_rules_are_another_match(rt: HostRuntime) {
+    let watcher = fresh_by(&rt, FIRST_WATCHER, Rules::Two);
     for (rules, learned, count) in [(1, Learned::OtherMatch, 0), (2, Learned::Grew(5), 5)] {
         assert!(rt;
-            shown(&mut watcher, rules) == Some((learned, count)),
+            shown(watcher, rules) == Some((learned, count)),
             "rules {rules}"
         );
     }
-    let mut seat = Seat::fresh(rt.alloc(), Player::O, 1, 1, Rules::One)?;
-    check_rows(&rt, &mut seat, &OTHER_RULES);
-    Ok(())
+    check_rows(&rt, fresh(&rt, Player::O, Rules::One), &OTHER_RULES);
 }

@@ -1,13 +1,12 @@
 //! Rows of calls of a seat with what each gives: the words of the tests of seats.
 use super::saves::is_save;
 use super::{MOVED, NONE, OPENING, entries, half_a_move, opening_move, packet, want};
+use crate::lasting::lasting;
 use bg_board::{Die, Player};
 use bg_match::{Action, Entry, Number, Rules};
 use bg_party::{ChooseFault, Learned, Seat};
 use bg_wire::{SaveRefusal, Slot};
-use std::alloc::Global;
 use std::process::Abort;
-use std::test::Fail;
 
 /// A call of a seat and what it gives, or what the seat then has.
 #[derive(Clone, Copy)]
@@ -48,10 +47,34 @@ pub(crate) fn told(seat: &mut Seat, number: u8, first: &[u8], second: &[u8]) -> 
     Some(seat.take(&packet))
 }
 
+/// Whether a seat learns this from these entries.
+fn learns(seat: &mut Seat, number: u8, first: &[u8], second: &[u8], learned: Learned) -> bool {
+    told(seat, number, first, second) == Some(learned)
+}
+
 /// What a seat learns from the packet of this kind in match `id`, with these bytes.
 fn taken(seat: &mut Seat, kind: u8, id: u8, head: &[u8], tail: &[u8]) -> Option<Learned> {
     let packet = packet(kind, id, head, tail, &NONE)?;
     Some(seat.take(&packet))
+}
+
+/// Whether a seat learns this from that packet.
+fn takes(seat: &mut Seat, kind: u8, id: u8, head: &[u8], tail: &[u8], learned: Learned) -> bool {
+    taken(seat, kind, id, head, tail) == Some(learned)
+}
+
+/// Whether the claim of an action comes to this.
+pub(crate) fn chooses(
+    seat: &mut Seat,
+    action: Action,
+    expected: Result<Number, ChooseFault>,
+) -> bool {
+    seat.choose(action) == expected
+}
+
+/// Whether the seat of X sends what it wants, who holds so many entries.
+fn asks(seat: &mut Seat, held: Number) -> bool {
+    seat.tick() == Some(want(1, held))
 }
 
 /// Whether the last claim is the opening move as entry 2.
@@ -89,38 +112,49 @@ fn save(seat: &mut Seat) -> Result<(Slot, u32), SaveRefusal> {
 }
 
 /// Whether the call gives what the row says.
-fn gives(seat: &mut Seat, row: Row) -> bool {
+fn gives(seat: &mut Seat, row: &Row) -> bool {
     match row {
-        Row::Told(number, first, second, learned) => {
-            told(seat, number, first, second) == Some(learned)
-        }
-        Row::Takes(kind, id, head, tail, learned) => {
-            taken(seat, kind, id, head, tail) == Some(learned)
-        }
-        Row::Roll(expected) => seat.choose(Action::Roll) == expected,
-        Row::Move(expected) => seat.choose(Action::Move(opening_move())) == expected,
-        Row::HalfAMove(expected) => seat.choose(Action::Move(half_a_move())) == expected,
+        Row::Told(number, first, second, learned) => learns(seat, *number, first, second, *learned),
+        Row::Takes(kind, id, head, tail, learned) => takes(seat, *kind, *id, head, tail, *learned),
+        Row::Roll(expected) => chooses(seat, Action::Roll, *expected),
+        Row::Move(expected) => chooses(seat, Action::Move(opening_move()), *expected),
+        Row::HalfAMove(expected) => chooses(seat, Action::Move(half_a_move()), *expected),
+        Row::Save(slot, number) => save(seat) == Ok((*slot, *number)),
+        _ => sends(seat, row),
+    }
+}
+
+/// Whether the tick sends what the row says, if it is about that.
+fn sends(seat: &mut Seat, row: &Row) -> bool {
+    match row {
+        Row::Asks(held) => asks(seat, *held),
+        Row::Claims => sends_the_claim(seat),
+        Row::Silence => seat.tick().is_none(),
+        _ => has(seat, row),
+    }
+}
+
+/// Whether the seat has what the row says, if it is about that.
+fn has(seat: &Seat, row: &Row) -> bool {
+    match row {
         Row::NoClaim => seat.claim().is_none(),
         Row::TheClaim => has_the_claim(seat),
         Row::TheOpening => holds_the_opening(seat),
-        Row::Asks(held) => seat.tick() == Some(want(1, held)),
-        Row::Claims => sends_the_claim(seat),
-        Row::Silence => seat.tick().is_none(),
-        Row::NextSave(slot, number, text) => is_save(seat, slot, number, text) == Ok(true),
-        Row::SizeOfSave(expected) => size_of_save(seat) == expected,
-        Row::Save(slot, number) => save(seat) == Ok((slot, number)),
+        Row::NextSave(slot, number, text) => is_save(seat, *slot, *number, text) == Ok(true),
+        Row::SizeOfSave(expected) => size_of_save(seat) == *expected,
+        _ => false,
     }
 }
 
 /// Every call gives what its row says.
 pub(crate) fn check_rows(rt: &impl Abort, seat: &mut Seat, rows: &[Row]) {
     for (i, row) in rows.iter().enumerate() {
-        assert!(rt; gives(seat, *row), "row {i}");
+        assert!(rt; gives(seat, row), "row {i}");
     }
 }
 
 /// Whether a fresh seat learns the opening 3 1, told again where the memory for it is refused.
-fn learns_the_opening(seat: &mut Seat) -> bool {
+pub(crate) fn learns_the_opening(seat: &mut Seat) -> bool {
     let grew = Some(Learned::Grew(1));
     let learned = told(seat, 1, &OPENING, &NONE);
     if learned == Some(Learned::Memory) {
@@ -129,11 +163,22 @@ fn learns_the_opening(seat: &mut Seat) -> bool {
     learned == grew
 }
 
-/// A seat that holds the opening 3 1.
-pub(crate) fn after_the_opening(alloc: Global, player: Player) -> Result<Seat, Fail> {
-    let mut seat = Seat::fresh(alloc, player, 1, 1, Rules::One)?;
-    if !learns_the_opening(&mut seat) {
-        return Err(Fail::from("no opening"));
-    }
-    Ok(seat)
+/// A seat by these rules that holds nothing. It lasts.
+pub(crate) fn fresh(
+    rt: &(impl AllocGlobal + Abort),
+    player: Player,
+    rules: Rules,
+) -> &'static mut Seat {
+    let seat = Seat::fresh(rt.alloc(), player, 1, 1, rules).expect(rt, "a length from 1 to 99");
+    lasting(rt, seat)
+}
+
+/// A seat that holds the opening 3 1. It lasts.
+pub(crate) fn after_the_opening(
+    rt: &(impl AllocGlobal + Abort),
+    player: Player,
+) -> &'static mut Seat {
+    let seat = fresh(rt, player, Rules::One);
+    assert!(rt; learns_the_opening(seat));
+    seat
 }

@@ -1,8 +1,6 @@
 //! When followers send.
-use bg_match::Rules;
+use super::watchers::fresh;
 use bg_party::Watcher;
-use bg_wire::FIRST_WATCHER;
-use std::test::Fail;
 
 /// Whether a watcher sends on the ticks 1, 2, 4, 8, 16, 32, 64, 96 and 128, and on no other up to 128.
 fn keeps_the_gaps(watcher: &mut Watcher) -> bool {
@@ -16,8 +14,6 @@ fn keeps_the_gaps(watcher: &mut Watcher) -> bool {
 }
 
 #[test]
-fn gaps_between_ticks(rt: HostRuntime) -> Result<(), Fail> {
-    let mut watcher = Watcher::fresh(rt.alloc(), FIRST_WATCHER, 1, 1, Rules::One)?;
-    assert!(rt; keeps_the_gaps(&mut watcher));
-    Ok(())
+fn gaps_between_ticks(rt: HostRuntime) {
+    assert!(rt; keeps_the_gaps(fresh(&rt)));
 }

@@ -1,9 +1,9 @@
 //! Rows of calls of a watcher with what each gives: the words of the tests of watchers.
 use super::{entries, opening_move, want};
-use bg_match::{Entry, LengthFault, Number, Rules};
+use crate::lasting::lasting;
+use bg_match::{Entry, Number, Rules};
 use bg_party::{Learned, Watcher};
 use bg_wire::FIRST_WATCHER;
-use std::alloc::Global;
 use std::process::Abort;
 
 /// A call of a watcher and what it gives, or what the watcher then has.
@@ -19,9 +19,24 @@ pub(crate) enum Row {
     TheMove,
 }
 
-/// The first watcher of match 1, of length 1, who holds nothing.
-pub(crate) fn fresh(alloc: Global) -> Result<Watcher, LengthFault> {
-    Watcher::fresh(alloc, FIRST_WATCHER, 1, 1, Rules::One)
+/// The watcher of match 1, of length 1, of this number, by these rules, who holds nothing. It
+/// lasts.
+pub(crate) fn fresh_by(
+    rt: &(impl AllocGlobal + Abort),
+    party: u8,
+    rules: Rules,
+) -> &'static mut Watcher {
+    assert!(rt; party >= FIRST_WATCHER);
+    let watcher = Watcher::fresh(rt.alloc(), party, 1, 1, rules).expect(
+        rt,
+        "a length from 1 to 99",
+    );
+    lasting(rt, watcher)
+}
+
+/// The first watcher of that match by the first rules.
+pub(crate) fn fresh(rt: &(impl AllocGlobal + Abort)) -> &'static mut Watcher {
+    fresh_by(rt, FIRST_WATCHER, Rules::One)
 }
 
 /// Whether a watcher learns this from these entries.
@@ -44,20 +59,25 @@ fn holds_the_move(watcher: &Watcher) -> bool {
 }
 
 /// Whether the call gives what the row says.
-fn gives(watcher: &mut Watcher, row: Row) -> bool {
+fn gives(watcher: &mut Watcher, row: &Row) -> bool {
     match row {
         Row::Told(number, first, second, learned) => {
-            learns(watcher, number, first, second, learned)
+            learns(watcher, *number, first, second, *learned)
         }
-        Row::Asks(held) => watcher.tick() == Some(want(3, held)),
-        Row::Held(count) => watcher.held().len() == count,
+        Row::Asks(held) => asks(watcher, *held),
+        Row::Held(count) => watcher.held().len() == *count,
         Row::TheMove => holds_the_move(watcher),
     }
+}
+
+/// Whether watcher 3 sends what it wants, who holds so many entries.
+fn asks(watcher: &mut Watcher, held: Number) -> bool {
+    watcher.tick() == Some(want(3, held))
 }
 
 /// Every call gives what its row says.
 pub(crate) fn check_rows(rt: &impl Abort, watcher: &mut Watcher, rows: &[Row]) {
     for (i, row) in rows.iter().enumerate() {
-        assert!(rt; gives(watcher, *row), "row {i}");
+        assert!(rt; gives(watcher, row), "row {i}");
     }
 }

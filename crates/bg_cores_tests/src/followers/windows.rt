@@ -2,7 +2,6 @@
 use super::watchers::{Row, check_rows, fresh, learns};
 use super::{MOVED, MOVED_OTHERWISE, NONE, OFFERED, OPENING, REJECTED};
 use bg_party::{Learned, Watcher};
-use std::test::Fail;
 
 const AFTER_A_GAP: [Row; 8] = [
     Row::Asks(0),
@@ -16,9 +15,8 @@ const AFTER_A_GAP: [Row; 8] = [
 ];
 
 #[test]
-fn entries_after_a_gap(rt: HostRuntime) -> Result<(), Fail> {
-    check_rows(&rt, &mut fresh(rt.alloc())?, &AFTER_A_GAP);
-    Ok(())
+fn entries_after_a_gap(rt: HostRuntime) {
+    check_rows(&rt, fresh(&rt), &AFTER_A_GAP);
 }
 
 const EARLY_ENTRIES: [Row; 6] = [
@@ -32,9 +30,8 @@ const EARLY_ENTRIES: [Row; 6] = [
 ];
 
 #[test]
-fn an_early_entry_that_does_not_follow(rt: HostRuntime) -> Result<(), Fail> {
-    check_rows(&rt, &mut fresh(rt.alloc())?, &EARLY_ENTRIES);
-    Ok(())
+fn an_early_entry_that_does_not_follow(rt: HostRuntime) {
+    check_rows(&rt, fresh(&rt), &EARLY_ENTRIES);
 }
 
 /// An early entry that does not follow the opening, 8-5 6-4 after 3 1, is not appended with it, nor kept: the entry
@@ -50,9 +47,8 @@ const ONE_EARLY_ENTRY: [Row; 7] = [
 ];
 
 #[test]
-fn one_early_entry_that_does_not_follow(rt: HostRuntime) -> Result<(), Fail> {
-    check_rows(&rt, &mut fresh(rt.alloc())?, &ONE_EARLY_ENTRY);
-    Ok(())
+fn one_early_entry_that_does_not_follow(rt: HostRuntime) {
+    check_rows(&rt, fresh(&rt), &ONE_EARLY_ENTRY);
 }
 
 const EARLY_ENTRIES_TWICE: [Row; 6] = [
@@ -66,9 +62,8 @@ const EARLY_ENTRIES_TWICE: [Row; 6] = [
 ];
 
 #[test]
-fn early_entries_that_come_twice(rt: HostRuntime) -> Result<(), Fail> {
-    check_rows(&rt, &mut fresh(rt.alloc())?, &EARLY_ENTRIES_TWICE);
-    Ok(())
+fn early_entries_that_come_twice(rt: HostRuntime) {
+    check_rows(&rt, fresh(&rt), &EARLY_ENTRIES_TWICE);
 }
 
 /// Whether a watcher learns the entries of this number, even and above 1, and of the next: an offer and its rejection.
@@ -101,12 +96,11 @@ const THE_REST: [Row; 2] = [
 ];
 
 #[test]
-fn how_far_the_window_goes(rt: HostRuntime) -> Result<(), Fail> {
-    let mut watcher = fresh(rt.alloc())?;
-    check_rows(&rt, &mut watcher, &BEYOND_THE_WINDOW);
-    assert!(rt; learns_up_to_29(&mut watcher));
-    check_rows(&rt, &mut watcher, &THE_REST);
-    Ok(())
+fn how_far_the_window_goes(rt: HostRuntime) {
+    let watcher = fresh(&rt);
+    check_rows(&rt, watcher, &BEYOND_THE_WINDOW);
+    assert!(rt; learns_up_to_29(watcher));
+    check_rows(&rt, watcher, &THE_REST);
 }
 
 /// Whether a watcher keeps the entries from 2 to 33, all of them early.
@@ -125,9 +119,8 @@ const A_FULL_WINDOW: [Row; 2] = [
 ];
 
 #[test]
-fn a_full_window(rt: HostRuntime) -> Result<(), Fail> {
-    let mut watcher = fresh(rt.alloc())?;
-    assert!(rt; keeps_up_to_33(&mut watcher));
-    check_rows(&rt, &mut watcher, &A_FULL_WINDOW);
-    Ok(())
+fn a_full_window(rt: HostRuntime) {
+    let watcher = fresh(&rt);
+    assert!(rt; keeps_up_to_33(watcher));
+    check_rows(&rt, watcher, &A_FULL_WINDOW);
 }

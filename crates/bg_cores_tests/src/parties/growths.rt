@@ -1,9 +1,10 @@
 //! Refused growths.
-use crate::parties::{TERMS, fresh, resigns};
+use crate::parties::{TERMS, resigns};
 use bg_parties::{OpenFault, Party, RoleFault, Taken};
 use bg_referee::{DueFault, TakeOutcome};
 use bg_wire::{RestoreRefusal, SaveRefusal};
 use std::alloc::{AllocError, Global};
+use std::process::Abort;
 use std::test::Fail;
 
 /// Whether the opening 3 1 is entry 1, also where the memory for it is refused once.
@@ -28,11 +29,13 @@ fn gives_up(referee: &mut Party) -> bool {
 }
 
 /// The text of the next save, which is then marked, also where the memory for it is refused once.
-fn saved(referee: &mut Party) -> Result<Vec<u8>, Fail> {
+/// It lasts.
+fn saved(referee: &mut Party) -> Result<&'static [u8], Fail> {
     let (_, save, text) = match referee.to_save() {
         Err(RoleFault::Core(SaveRefusal::Memory)) => referee.to_save()?,
         first => first?,
     };
+    let text = text.leak();
     referee.mark_saved(save)?;
     Ok(text)
 }
@@ -55,19 +58,35 @@ fn check_no_growth_is_left(alloc: Global) -> Result<(), Fail> {
     }
 }
 
+/// What a referee saves who has opened the game.
+fn first_text(rt: &(impl AllocGlobal + Abort)) -> Result<&'static [u8], Fail> {
+    let mut referee = Party::open(rt.alloc(), 0, 1, TERMS, b"", b"")?;
+    assert!(rt; opens(&mut referee));
+    let text = saved(&mut referee)?;
+    assert!(rt; referee.saved() == Some(1));
+    Ok(text)
+}
+
+/// What the referee of this text saves once X has given the match up.
+fn second_text(rt: &(impl AllocGlobal + Abort), first: &[u8]) -> Result<&'static [u8], Fail> {
+    let mut referee = resumed(rt.alloc(), first)?;
+    assert!(rt; gives_up(&mut referee));
+    saved(&mut referee)
+}
+
+/// The referee of this text holds both entries.
+fn check_second(rt: &(impl AllocGlobal + Abort), second: &[u8]) -> Result<(), Fail> {
+    let referee = resumed(rt.alloc(), second)?;
+    assert!(rt; referee.held().len() == 2);
+    Ok(())
+}
+
 /// Where memory is refused nothing has changed, and the same call then succeeds. No run of the tests refuses any, but
 /// `tools/checks/refuse_growths` refuses each growth in turn.
 #[test]
 fn refused_growths(rt: HostRuntime) -> Result<(), Fail> {
-    let alloc = rt.alloc();
-    let mut referee = fresh(alloc, 0)?;
-    assert!(rt; opens(&mut referee));
-    let text = saved(&mut referee)?;
-    assert!(rt; referee.saved() == Some(1));
-    let mut referee = resumed(alloc, &text)?;
-    assert!(rt; gives_up(&mut referee));
-    let text = saved(&mut referee)?;
-    let referee = resumed(alloc, &text)?;
-    assert!(rt; referee.held().len() == 2);
-    check_no_growth_is_left(alloc)
+    let first = first_text(&rt)?;
+    let second = second_text(&rt, first)?;
+    check_second(&rt, second)?;
+    check_no_growth_is_left(rt.alloc())
 }

@@ -4,7 +4,6 @@ use crate::parties::rows::{Gives, Row, check_rows};
 use bg_parties::{NotUnderWay, RoleFault};
 use bg_party::ChooseFault;
 use bg_referee::DueFault;
-use std::test::Fail;
 
 const OF_THE_REFEREE: [Row; 5] = [
     Row::Roll(Err(RoleFault::OtherRole)),
@@ -15,13 +14,12 @@ const OF_THE_REFEREE: [Row; 5] = [
 ];
 
 #[test]
-fn referee_claims_nothing(rt: HostRuntime) -> Result<(), Fail> {
-    check_rows(&rt, &mut fresh(rt.alloc(), 0)?, &OF_THE_REFEREE);
-    Ok(())
+fn referee_claims_nothing(rt: HostRuntime) {
+    check_rows(&rt, fresh(&rt, 0), &OF_THE_REFEREE);
 }
 
 #[test]
-fn followers_open_nothing(rt: HostRuntime) -> Result<(), Fail> {
+fn followers_open_nothing(rt: HostRuntime) {
     for number in [1, 2, 3, 255] {
         let rows = [
             Row::Due(Err(RoleFault::OtherRole)),
@@ -29,9 +27,8 @@ fn followers_open_nothing(rt: HostRuntime) -> Result<(), Fail> {
             Row::Asks(number),
             Row::Want(2, Gives::OtherMatch),
         ];
-        check_rows(&rt, &mut fresh(rt.alloc(), number)?, &rows);
+        check_rows(&rt, fresh(&rt, number), &rows);
     }
-    Ok(())
 }
 
 const OF_A_WATCHER: [Row; 3] = [
@@ -41,9 +38,8 @@ const OF_A_WATCHER: [Row; 3] = [
 ];
 
 #[test]
-fn watchers_neither_claim_nor_save(rt: HostRuntime) -> Result<(), Fail> {
-    check_rows(&rt, &mut fresh(rt.alloc(), 3)?, &OF_A_WATCHER);
-    Ok(())
+fn watchers_neither_claim_nor_save(rt: HostRuntime) {
+    check_rows(&rt, fresh(&rt, 3), &OF_A_WATCHER);
 }
 
 const OF_A_SEAT: [Row; 2] = [
@@ -52,7 +48,6 @@ const OF_A_SEAT: [Row; 2] = [
 ];
 
 #[test]
-fn seat_waits_for_its_turn(rt: HostRuntime) -> Result<(), Fail> {
-    check_rows(&rt, &mut fresh(rt.alloc(), 2)?, &OF_A_SEAT);
-    Ok(())
+fn seat_waits_for_its_turn(rt: HostRuntime) {
+    check_rows(&rt, fresh(&rt, 2), &OF_A_SEAT);
 }

@@ -8,7 +8,7 @@ use bg_wire::Slot;
 use std::process::Abort;
 
 /// What a party makes of a packet, in a form that constants have.
-#[derive(Clone, Copy)]
+#[derive(Clone, Copy, PartialEq, Eq)]
 pub(crate) enum Gives {
     /// Nothing comes of it, and the record has not grown.
     Nothing,
@@ -58,21 +58,14 @@ pub(crate) enum Row {
 
 /// Whether this is made of a packet.
 fn is_given(taken: &Taken, gives: Gives) -> bool {
-    match gives {
-        Gives::Nothing => *taken == Taken::Referee(TakeOutcome::Nothing),
-        Gives::NotYourTurn => *taken == Taken::Referee(TakeOutcome::NotYourTurn),
-        Gives::Answer(to) => is_answer(taken, to),
-        Gives::Accepted(number) => {
-            *taken == Taken::Referee(TakeOutcome::Accepted(number)) && taken.grows()
-        }
-        Gives::OtherMatch => *taken == Taken::Follower(Learned::OtherMatch),
-    }
-}
-
-/// Whether this party is answered.
-fn is_answer(taken: &Taken, party: u8) -> bool {
     match taken {
-        Taken::Referee(TakeOutcome::Answer(to, _)) => *to == party,
+        Taken::Referee(TakeOutcome::Answer(to, _)) => gives == Gives::Answer(*to),
+        Taken::Referee(TakeOutcome::Accepted(number)) => {
+            gives == Gives::Accepted(*number) && taken.grows()
+        }
+        Taken::Referee(TakeOutcome::Nothing) => gives == Gives::Nothing,
+        Taken::Referee(TakeOutcome::NotYourTurn) => gives == Gives::NotYourTurn,
+        Taken::Follower(Learned::OtherMatch) => gives == Gives::OtherMatch,
         _ => false,
     }
 }
@@ -96,33 +89,68 @@ fn begins(party: &mut Party, slot: Slot, save: u32) -> bool {
     }
 }
 
+fn chooses(
+    party: &mut Party,
+    action: Action,
+    expected: Result<Number, RoleFault<ChooseFault>>,
+) -> bool {
+    party.choose(action) == expected
+}
+
+fn begins_none(party: &mut Party) -> bool {
+    party.to_save().is_err()
+}
+
+fn asks(party: &mut Party, sender: u8) -> bool {
+    sender > 0 && sends(party, &want(1, sender))
+}
+
+fn claims(party: &mut Party, sender: u8) -> bool {
+    (sender == 1 || sender == 2) && sends(party, &resigns(sender))
+}
+
 /// Whether the call comes to what the row says.
-fn comes_to(party: &mut Party, row: Row) -> bool {
+fn comes_to(party: &mut Party, row: &Row) -> bool {
     match row {
-        Row::Due(expected) => party.due(12) == expected,
-        Row::Roll(expected) => party.choose(Action::Roll) == expected,
-        Row::Resign(expected) => party.choose(Action::Resign(Level::Normal)) == expected,
-        Row::Want(id, gives) => takes_a_want(party, id, gives),
-        Row::Claim(sender, gives) => takes_a_claim(party, sender, gives),
-        Row::Save(slot, save) => begins(party, slot, save),
-        Row::NoSave => party.to_save().is_err(),
-        Row::Mark(save, expected) => party.mark_saved(save) == expected,
+        Row::Due(expected) => party.due(12) == *expected,
+        Row::Roll(expected) => chooses(party, Action::Roll, *expected),
+        Row::Resign(expected) => chooses(party, Action::Resign(Level::Normal), *expected),
+        Row::Want(id, gives) => takes_a_want(party, *id, *gives),
+        Row::Claim(sender, gives) => takes_a_claim(party, *sender, *gives),
+        Row::Silence => party.tick().is_empty(),
+        Row::Asks(sender) => asks(party, *sender),
+        Row::Claims(sender) => claims(party, *sender),
+        _ => saves(party, row),
+    }
+}
+
+/// Whether the call of a save comes to what the row says, if it is about that.
+fn saves(party: &mut Party, row: &Row) -> bool {
+    match row {
+        Row::Save(slot, save) => begins(party, *slot, *save),
+        Row::NoSave => begins_none(party),
+        Row::Mark(save, expected) => party.mark_saved(*save) == *expected,
         Row::Abandon => {
             party.abandon_save();
             true
         }
-        Row::Silence => party.tick().is_empty(),
-        Row::Asks(sender) => sender > 0 && sends(party, &want(1, sender)),
-        Row::Claims(sender) => (sender == 1 || sender == 2) && sends(party, &resigns(sender)),
-        Row::Saved(expected) => party.saved() == expected,
-        Row::Held(count) => party.held().len() == count,
+        _ => has(party, row),
+    }
+}
+
+/// Whether the party has what the row says, if it is about that.
+fn has(party: &Party, row: &Row) -> bool {
+    match row {
+        Row::Saved(expected) => party.saved() == *expected,
+        Row::Held(count) => party.held().len() == *count,
         Row::NoClaim => party.claim().is_none(),
+        _ => false,
     }
 }
 
 /// Every call comes to what its row says.
 pub(crate) fn check_rows(rt: &impl Abort, party: &mut Party, rows: &[Row]) {
     for (i, row) in rows.iter().enumerate() {
-        assert!(rt; comes_to(party, *row), "row {i}");
+        assert!(rt; comes_to(party, row), "row {i}");
     }
 }

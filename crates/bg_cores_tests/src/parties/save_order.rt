@@ -4,14 +4,13 @@ use crate::parties::{fresh, want};
 use bg_parties::{NotUnderWay, Party, RoleFault, Taken};
 use bg_referee::{DueFault, TakeOutcome};
 use bg_wire::Slot;
-use std::alloc::Global;
-use std::test::Fail;
+use std::process::Abort;
 
 /// A referee who has opened the match with 3 1, for X.
-fn opened(alloc: Global) -> Result<Party, Fail> {
-    let mut referee = fresh(alloc, 0)?;
-    referee.due(12)?;
-    Ok(referee)
+fn opened(rt: &(impl AllocGlobal + Abort)) -> &'static mut Party {
+    let referee = fresh(rt, 0);
+    assert!(rt; referee.due(12) == Ok(1));
+    referee
 }
 
 /// What does not change the record leaves the save under way.
@@ -27,9 +26,8 @@ const MARKED: [Row; 8] = [
 ];
 
 #[test]
-fn marked_save_is_told(rt: HostRuntime) -> Result<(), Fail> {
-    check_rows(&rt, &mut opened(rt.alloc())?, &MARKED);
-    Ok(())
+fn marked_save_is_told(rt: HostRuntime) {
+    check_rows(&rt, opened(&rt), &MARKED);
 }
 
 const MARKED_ONCE: [Row; 6] = [
@@ -42,9 +40,8 @@ const MARKED_ONCE: [Row; 6] = [
 ];
 
 #[test]
-fn save_is_marked_once(rt: HostRuntime) -> Result<(), Fail> {
-    check_rows(&rt, &mut opened(rt.alloc())?, &MARKED_ONCE);
-    Ok(())
+fn save_is_marked_once(rt: HostRuntime) {
+    check_rows(&rt, opened(&rt), &MARKED_ONCE);
 }
 
 /// An entry that comes while a save is written is not in its text, and is not told.
@@ -59,9 +56,8 @@ const ENDED_BY_A_CLAIM: [Row; 7] = [
 ];
 
 #[test]
-fn accepted_claim_ends_the_save(rt: HostRuntime) -> Result<(), Fail> {
-    check_rows(&rt, &mut opened(rt.alloc())?, &ENDED_BY_A_CLAIM);
-    Ok(())
+fn accepted_claim_ends_the_save(rt: HostRuntime) {
+    check_rows(&rt, opened(&rt), &ENDED_BY_A_CLAIM);
 }
 
 const LEFT_BY_A_REFUSAL: [Row; 4] = [
@@ -72,9 +68,8 @@ const LEFT_BY_A_REFUSAL: [Row; 4] = [
 ];
 
 #[test]
-fn refused_claim_leaves_the_save(rt: HostRuntime) -> Result<(), Fail> {
-    check_rows(&rt, &mut opened(rt.alloc())?, &LEFT_BY_A_REFUSAL);
-    Ok(())
+fn refused_claim_leaves_the_save(rt: HostRuntime) {
+    check_rows(&rt, opened(&rt), &LEFT_BY_A_REFUSAL);
 }
 
 const ABANDONED: [Row; 5] = [
@@ -86,9 +81,8 @@ const ABANDONED: [Row; 5] = [
 ];
 
 #[test]
-fn abandoned_save_is_not_marked(rt: HostRuntime) -> Result<(), Fail> {
-    check_rows(&rt, &mut opened(rt.alloc())?, &ABANDONED);
-    Ok(())
+fn abandoned_save_is_not_marked(rt: HostRuntime) {
+    check_rows(&rt, opened(&rt), &ABANDONED);
 }
 
 const ENDED_BY_THE_OPENING: [Row; 3] = [
@@ -98,9 +92,8 @@ const ENDED_BY_THE_OPENING: [Row; 3] = [
 ];
 
 #[test]
-fn opening_ends_the_save(rt: HostRuntime) -> Result<(), Fail> {
-    check_rows(&rt, &mut fresh(rt.alloc(), 0)?, &ENDED_BY_THE_OPENING);
-    Ok(())
+fn opening_ends_the_save(rt: HostRuntime) {
+    check_rows(&rt, fresh(&rt, 0), &ENDED_BY_THE_OPENING);
 }
 
 const THE_OPENING_SAVED: [Row; 2] = [Row::Save(Slot::One, 1), Row::Mark(1, Ok(()))];
@@ -125,12 +118,11 @@ fn grows_by_what_is_told(seat: &mut Party, referee: &mut Party) -> bool {
 }
 
 #[test]
-fn claim_ends_the_save_of_a_seat(rt: HostRuntime) -> Result<(), Fail> {
-    let mut referee = opened(rt.alloc())?;
-    check_rows(&rt, &mut referee, &THE_OPENING_SAVED);
-    let mut seat = fresh(rt.alloc(), 1)?;
-    check_rows(&rt, &mut seat, &[Row::Save(Slot::One, 1)]);
-    assert!(rt; grows_by_what_is_told(&mut seat, &mut referee));
-    check_rows(&rt, &mut seat, &OF_A_SEAT);
-    Ok(())
+fn claim_ends_the_save_of_a_seat(rt: HostRuntime) {
+    let referee = opened(&rt);
+    check_rows(&rt, referee, &THE_OPENING_SAVED);
+    let seat = fresh(&rt, 1);
+    check_rows(&rt, seat, &[Row::Save(Slot::One, 1)]);
+    assert!(rt; grows_by_what_is_told(seat, referee));
+    check_rows(&rt, seat, &OF_A_SEAT);
 }

@@ -3,7 +3,6 @@ use super::packets::{O, ROLL, WATCHER, X};
 use super::referees::{after_the_opening, with_the_opening};
 use super::rows::{Gives, Row, Told, check_rows};
 use bg_wire::Slot;
-use std::test::Fail;
 
 const UNSAVED: [Row; 11] = [
     Row::Want(WATCHER, 0, Gives::Nothing),
@@ -21,9 +20,8 @@ const UNSAVED: [Row; 11] = [
 ];
 
 #[test]
-fn nothing_unsaved_is_told(rt: HostRuntime) -> Result<(), Fail> {
-    check_rows(&rt, &mut with_the_opening(rt.alloc())?, &UNSAVED);
-    Ok(())
+fn nothing_unsaved_is_told(rt: HostRuntime) {
+    check_rows(&rt, with_the_opening(&rt), &UNSAVED);
 }
 
 const TWELVE_ENTRIES: [Row; 7] = [
@@ -37,7 +35,6 @@ const TWELVE_ENTRIES: [Row; 7] = [
 ];
 
 #[test]
-fn eight_entries_at_once(rt: HostRuntime) -> Result<(), Fail> {
-    check_rows(&rt, &mut after_the_opening(rt.alloc())?, &TWELVE_ENTRIES);
-    Ok(())
+fn eight_entries_at_once(rt: HostRuntime) {
+    check_rows(&rt, after_the_opening(&rt), &TWELVE_ENTRIES);
 }

@@ -5,7 +5,6 @@ use super::rows::{Gives, Row, check_rows};
 use bg_match::EntryFault;
 use bg_turns::TurnFault;
 use bg_wire::Slot;
-use std::test::Fail;
 
 const MORE: Gives = Gives::Illegal(EntryFault::Turn(TurnFault::MoreCanBePlayed));
 
@@ -24,9 +23,8 @@ const REFUSED: [Row; 8] = [
 ];
 
 #[test]
-fn refused_claims(rt: HostRuntime) -> Result<(), Fail> {
-    check_rows(&rt, &mut after_the_opening(rt.alloc())?, &REFUSED);
-    Ok(())
+fn refused_claims(rt: HostRuntime) {
+    check_rows(&rt, after_the_opening(&rt), &REFUSED);
 }
 
 const BEFORE_THE_OPENING: [Row; 3] = [
@@ -36,9 +34,8 @@ const BEFORE_THE_OPENING: [Row; 3] = [
 ];
 
 #[test]
-fn no_seat_acts_before_the_opening(rt: HostRuntime) -> Result<(), Fail> {
-    check_rows(&rt, &mut fresh(rt.alloc())?, &BEFORE_THE_OPENING);
-    Ok(())
+fn no_seat_acts_before_the_opening(rt: HostRuntime) {
+    check_rows(&rt, fresh(&rt), &BEFORE_THE_OPENING);
 }
 
 const OF_MATCH_2: [Row; 4] = [
@@ -73,9 +70,8 @@ const OF_MATCH_2: [Row; 4] = [
 ];
 
 #[test]
-fn other_matches(rt: HostRuntime) -> Result<(), Fail> {
-    check_rows(&rt, &mut after_the_opening(rt.alloc())?, &OF_MATCH_2);
-    Ok(())
+fn other_matches(rt: HostRuntime) {
+    check_rows(&rt, after_the_opening(&rt), &OF_MATCH_2);
 }
 
 const REPEATED: [Row; 6] = [
@@ -89,7 +85,6 @@ const REPEATED: [Row; 6] = [
 ];
 
 #[test]
-fn repeated_claims_count_once(rt: HostRuntime) -> Result<(), Fail> {
-    check_rows(&rt, &mut after_the_move(rt.alloc())?, &REPEATED);
-    Ok(())
+fn repeated_claims_count_once(rt: HostRuntime) {
+    check_rows(&rt, after_the_move(&rt), &REPEATED);
 }

@@ -1,9 +1,11 @@
 //! Refused growths.
 use super::packets::{OFFER_A_GAMMON, THREE_ONE, X, claim_gives};
-use super::referees::{fresh, offers, opened};
+use super::referees::{offers, opened};
 use super::saves::size_of_save;
+use bg_match::Rules;
 use bg_referee::{DueFault, Referee, TakeOutcome};
 use bg_wire::Slot;
+use std::process::Abort;
 use std::test::Fail;
 
 /// Whether the opening 3 1 is entry 1, also where the memory for it is refused once.
@@ -18,12 +20,16 @@ fn opens(referee: &mut Referee) -> bool {
 /// `tools/checks/refuse_growths` refuses each growth in turn.
 #[test]
 fn refused_growths(rt: HostRuntime) -> Result<(), Fail> {
-    let mut referee = fresh(rt.alloc())?;
-    assert!(rt; opens(&mut referee));
-    assert!(rt; offers(&mut referee, 20));
-    // What stands before the entries has 24 bytes, the opening three, each of ten offers two, each rejection one.
-    assert!(rt; size_of_save(&referee) == Ok((Slot::One, 1, 56)));
-    assert!(rt; referee.saved() == 0);
-    assert!(rt; claim_gives(&mut referee, X, 22, &OFFER_A_GAMMON, 0, TakeOutcome::Ahead));
+    let mut referee = Referee::fresh(rt.alloc(), 1, 1, Rules::One)?;
+    check_growths(&rt, &mut referee);
     Ok(())
+}
+
+fn check_growths(rt: &impl Abort, referee: &mut Referee) {
+    assert!(rt; opens(referee));
+    assert!(rt; offers(referee, 20));
+    // What stands before the entries has 24 bytes, the opening three, each of ten offers two, each rejection one.
+    assert!(rt; size_of_save(referee) == Ok((Slot::One, 1, 56)));
+    assert!(rt; referee.saved() == 0);
+    assert!(rt; claim_gives(referee, X, 22, &OFFER_A_GAMMON, 0, TakeOutcome::Ahead));
 }

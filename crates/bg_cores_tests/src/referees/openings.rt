@@ -5,7 +5,6 @@ use super::rows::{Row, Told, check_rows};
 use bg_match::{LengthFault, Rules};
 use bg_referee::{DueFault, Referee};
 use std::alloc::Global;
-use std::test::Fail;
 
 const OPENINGS: [Row; 11] = [
     Row::Due(0, Err(DueFault::EqualOpening)),
@@ -22,9 +21,8 @@ const OPENINGS: [Row; 11] = [
 ];
 
 #[test]
-fn openings(rt: HostRuntime) -> Result<(), Fail> {
-    check_rows(&rt, &mut fresh(rt.alloc())?, &OPENINGS);
-    Ok(())
+fn openings(rt: HostRuntime) {
+    check_rows(&rt, fresh(&rt), &OPENINGS);
 }
 
 /// The length of a match of this length.
@@ -37,7 +35,7 @@ fn length_of(alloc: Global, length: u8) -> Result<u8, LengthFault> {
 }
 
 #[test]
-fn lengths(rt: HostRuntime) -> Result<(), Fail> {
+fn lengths(rt: HostRuntime) {
     let refused = Err(LengthFault::LengthOutOfRange);
     for (length, expected) in [(0, refused), (100, refused), (99, Ok(99))] {
         assert!(rt;
@@ -45,5 +43,4 @@ fn lengths(rt: HostRuntime) -> Result<(), Fail> {
             "length {length}"
         );
     }
-    Ok(())
 }

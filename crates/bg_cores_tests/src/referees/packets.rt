@@ -89,69 +89,71 @@ pub(crate) fn claim_gives(
     claimed(referee, party, number, action, word) == Some(outcome)
 }
 
+/// The entries of match 1 that a packet tells from this number on; `None` where it does not tell
+/// that.
+pub(crate) fn entries_of(packet: &Packet, number: Number) -> Option<&[Entry]> {
+    match packet {
+        Packet::Entries {
+            id: 1,
+            rules: Rules::One,
+            start,
+            list,
+        } if *start == number => Some(list.entries.as_slice()),
+        _ => None,
+    }
+}
+
+/// The entries of match 1 that a party is told from this number on; `None` where it is not told
+/// that.
+fn told_to(answer: &TakeOutcome, party: u8, number: Number) -> Option<&[Entry]> {
+    match answer {
+        TakeOutcome::Answer(to, packet) if *to == party => entries_of(packet, number),
+        _ => None,
+    }
+}
+
 /// Whether a party is told these entries of match 1, from a number on.
-fn tells(answer: Option<TakeOutcome>, party: u8, start: Number, entries: &[Entry]) -> bool {
-    let Some(
-        TakeOutcome::Answer(
-            to,
-            Packet::Entries {
-                id: 1,
-                rules: Rules::One,
-                start: first,
-                list,
-            },
-        ),
-    ) = answer
-    else {
-        return false;
-    };
-    to == party && first == start && list.entries.as_slice() == entries
+fn tells(answer: &TakeOutcome, party: u8, start: Number, entries: &[Entry]) -> bool {
+    match told_to(answer, party, start) {
+        Some(told) => told == entries,
+        None => false,
+    }
 }
 
 /// Whether a party is told the opening, and no more.
-pub(crate) fn tells_the_opening(answer: Option<TakeOutcome>, party: u8) -> bool {
+pub(crate) fn tells_the_opening(answer: &TakeOutcome, party: u8) -> bool {
     tells(answer, party, 1, &[opening()])
 }
 
 /// Whether a party is told the roll, and no more.
-pub(crate) fn tells_the_roll(answer: Option<TakeOutcome>, party: u8) -> bool {
+pub(crate) fn tells_the_roll(answer: &TakeOutcome, party: u8) -> bool {
     tells(answer, party, 3, &[rolled()])
 }
 
 /// Whether a party is told the move and the roll.
-pub(crate) fn tells_the_move_and_the_roll(answer: Option<TakeOutcome>, party: u8) -> bool {
+pub(crate) fn tells_the_move_and_the_roll(answer: &TakeOutcome, party: u8) -> bool {
     tells(answer, party, 2, &[moved(), rolled()])
 }
 
-/// Whether party 255 is told this many entries that the referee holds, behind the first so many.
-pub(crate) fn tells_next(
-    referee: &Referee,
-    answer: Option<TakeOutcome>,
-    held: u8,
-    count: usize,
-) -> bool {
-    let Some(
-        TakeOutcome::Answer(
-            255,
-            Packet::Entries {
-                id: 1,
-                rules: Rules::One,
-                start,
-                list,
-            },
-        ),
-    ) = answer
-    else {
-        return false;
-    };
+/// Whether the referee holds these entries, from a number on.
+fn holds(referee: &Referee, start: Number, entries: &[Entry]) -> bool {
     let mut number = start;
-    for entry in list.entries.as_slice() {
+    for entry in entries {
         if referee.held().entry(number) != Some(entry) {
             return false;
         }
         number = number.wrapping_add(1);
     }
-    start == Number::from(held) + 1 && list.entries.len() == count
+    true
+}
+
+/// Whether party 255 is told this many entries that the referee holds, behind the first so many.
+pub(crate) fn tells_next(referee: &Referee, answer: &TakeOutcome, held: u8, count: usize) -> bool {
+    let start = Number::from(held) + 1;
+    match told_to(answer, 255, start) {
+        Some(told) => told.len() == count && holds(referee, start, told),
+        None => false,
+    }
 }
 
 pub(crate) fn opening() -> Entry {

@@ -1,12 +1,11 @@
 //! A referee of match 1, of length 1, by the second rules: X is hit, and rolls double sixes with which he can't enter.
 use super::packets::{O, OFFER, ROLL, X};
+use super::referees::fresh_by;
 use super::rows::{Gives, Row, Told, check_rows};
 use bg_match::{EntryFault, Rules};
 use bg_referee::{DueFault, Referee};
 use bg_turns::TurnFault;
-use std::alloc::Global;
 use std::process::Abort;
-use std::test::Fail;
 
 /// Words with the dice 2 1, 4 3 and 6 6.
 const TWO_ONE: u32 = 6;
@@ -32,10 +31,10 @@ const TO_THE_SIXES: [Row; 6] = [
 ];
 
 /// A referee of these rules, when X has rolled the sixes.
-fn before_the_pass(rt: &impl Abort, alloc: Global, rules: Rules) -> Result<Referee, Fail> {
-    let mut referee = Referee::fresh(alloc, 1, 1, rules)?;
-    check_rows(rt, &mut referee, &TO_THE_SIXES);
-    Ok(referee)
+fn before_the_pass(rt: &(impl AllocGlobal + Abort), rules: Rules) -> &'static mut Referee {
+    let referee = fresh_by(rt, rules);
+    check_rows(rt, referee, &TO_THE_SIXES);
+    referee
 }
 
 /// No seat may claim entry 6, whatever it claims.
@@ -59,13 +58,11 @@ const PASSED: [Row; 5] = [
 ];
 
 #[test]
-fn turn_is_passed(rt: HostRuntime) -> Result<(), Fail> {
-    let mut referee = before_the_pass(&rt, rt.alloc(), Rules::Two)?;
-    check_rows(&rt, &mut referee, &OF_NO_SEAT);
-    check_rows(&rt, &mut referee, &PASSED);
-    let mut other = before_the_pass(&rt, rt.alloc(), Rules::Two)?;
-    check_rows(&rt, &mut other, &[Row::Due(0, Ok(6))]);
-    Ok(())
+fn turn_is_passed(rt: HostRuntime) {
+    let referee = before_the_pass(&rt, Rules::Two);
+    check_rows(&rt, referee, &OF_NO_SEAT);
+    check_rows(&rt, referee, &PASSED);
+    check_rows(&rt, before_the_pass(&rt, Rules::Two), &[Row::Due(0, Ok(6))]);
 }
 
 const NOT_PASSED: [Row; 2] = [
@@ -74,10 +71,8 @@ const NOT_PASSED: [Row; 2] = [
 ];
 
 #[test]
-fn first_rules_pass_nothing(rt: HostRuntime) -> Result<(), Fail> {
-    let mut referee = before_the_pass(&rt, rt.alloc(), Rules::One)?;
-    check_rows(&rt, &mut referee, &NOT_PASSED);
-    Ok(())
+fn first_rules_pass_nothing(rt: HostRuntime) {
+    check_rows(&rt, before_the_pass(&rt, Rules::One), &NOT_PASSED);
 }
 
 const A_TURN_WITH_A_STEP: [Row; 4] = [
@@ -94,10 +89,8 @@ const A_TURN_WITH_A_STEP: [Row; 4] = [
 ];
 
 #[test]
-fn turn_with_a_step_is_not_passed(rt: HostRuntime) -> Result<(), Fail> {
-    let mut referee = Referee::fresh(rt.alloc(), 1, 1, Rules::Two)?;
-    check_rows(&rt, &mut referee, &A_TURN_WITH_A_STEP);
-    Ok(())
+fn turn_with_a_step_is_not_passed(rt: HostRuntime) {
+    check_rows(&rt, fresh_by(&rt, Rules::Two), &A_TURN_WITH_A_STEP);
 }
 
 /// Packets by the first rules.
@@ -115,10 +108,7 @@ const BY_THE_SECOND: [Row; 2] = [
 ];
 
 #[test]
-fn other_rules_are_another_match(rt: HostRuntime) -> Result<(), Fail> {
-    let mut by_second = before_the_pass(&rt, rt.alloc(), Rules::Two)?;
-    check_rows(&rt, &mut by_second, &BY_THE_FIRST);
-    let mut by_first = before_the_pass(&rt, rt.alloc(), Rules::One)?;
-    check_rows(&rt, &mut by_first, &BY_THE_SECOND);
-    Ok(())
+fn other_rules_are_another_match(rt: HostRuntime) {
+    check_rows(&rt, before_the_pass(&rt, Rules::Two), &BY_THE_FIRST);
+    check_rows(&rt, before_the_pass(&rt, Rules::One), &BY_THE_SECOND);
 }

@@ -1,36 +1,31 @@
 //! What the referee sends unasked, and to whom.
-use super::packets::{MOVE, NO_DICE, O, ROLL, THREE_ONE, WATCHER, X};
+use super::packets::{MOVE, NO_DICE, O, ROLL, THREE_ONE, WATCHER, X, entries_of};
 use super::referees::after_the_opening;
-use super::rows::{Gives, Row, Told, check_rows};
-use bg_match::{Entry, Number, Rules};
+use super::rows::{Gives, Row, Told, check_rows, entry_of};
+use bg_match::{Entry, Number};
 use bg_referee::Referee;
 use bg_wire::{Packet, Slot};
-use std::test::Fail;
 
 /// Whether the party of this push is told this entry under this number, and no more.
 fn is_push(push: Option<&(u8, Packet)>, party: u8, number: Number, entry: &Entry) -> bool {
-    let Some(
-        (
-            to,
-            Packet::Entries {
-                id: 1,
-                rules: Rules::One,
-                start,
-                list,
-            },
-        ),
-    ) = push
-    else {
-        return false;
-    };
-    let one = list.entries.as_slice();
-    *to == party && *start == number && one.len() == 1 && one.first() == Some(entry)
+    match push {
+        Some((to, packet)) => *to == party && tells_one(packet, number, entry),
+        None => false,
+    }
+}
+
+/// Whether a packet tells this entry under this number, and no more.
+fn tells_one(packet: &Packet, number: Number, entry: &Entry) -> bool {
+    match entries_of(packet, number) {
+        Some([one]) => one == entry,
+        _ => false,
+    }
 }
 
 /// Whether the next tick sends this entry to this party, and nothing else.
-pub(crate) fn pushes_to(referee: &mut Referee, party: u8, number: Number, entry: &Entry) -> bool {
+pub(crate) fn pushes_to(referee: &mut Referee, party: u8, number: Number, told: Told) -> bool {
     let pushes = referee.tick();
-    pushes.len() == 1 && is_push(pushes.as_slice().first(), party, number, entry)
+    pushes.len() == 1 && is_push(pushes.as_slice().first(), party, number, &entry_of(told))
 }
 
 /// Whether the next tick sends this entry to this party, then to that one, and nothing else.
@@ -39,13 +34,23 @@ pub(crate) fn pushes_to_both(
     party: u8,
     other: u8,
     number: Number,
-    entry: &Entry,
+    told: Told,
 ) -> bool {
     let pushes = referee.tick();
-    let both = pushes.as_slice();
-    both.len() == 2
-        && is_push(both.first(), party, number, entry)
-        && is_push(both.get(1), other, number, entry)
+    are_pushes(pushes.as_slice(), party, other, number, &entry_of(told))
+}
+
+/// Whether these are pushes of this entry to this party, then to that one, and nothing else.
+fn are_pushes(
+    pushes: &[(u8, Packet)],
+    party: u8,
+    other: u8,
+    number: Number,
+    entry: &Entry,
+) -> bool {
+    pushes.len() == 2
+        && is_push(pushes.first(), party, number, entry)
+        && is_push(pushes.get(1), other, number, entry)
 }
 
 /// Whether the next tick sends its first packet to this party.
@@ -73,9 +78,8 @@ const UNASKED: [Row; 10] = [
 ];
 
 #[test]
-fn what_is_sent_unasked(rt: HostRuntime) -> Result<(), Fail> {
-    check_rows(&rt, &mut after_the_opening(rt.alloc())?, &UNASKED);
-    Ok(())
+fn what_is_sent_unasked(rt: HostRuntime) {
+    check_rows(&rt, after_the_opening(&rt), &UNASKED);
 }
 
 const ONCE_ROUND: [Row; 11] = [
@@ -94,7 +98,6 @@ const ONCE_ROUND: [Row; 11] = [
 ];
 
 #[test]
-fn once_round_the_parties(rt: HostRuntime) -> Result<(), Fail> {
-    check_rows(&rt, &mut after_the_opening(rt.alloc())?, &ONCE_ROUND);
-    Ok(())
+fn once_round_the_parties(rt: HostRuntime) {
+    check_rows(&rt, after_the_opening(&rt), &ONCE_ROUND);
 }

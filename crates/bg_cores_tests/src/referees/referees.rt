@@ -1,10 +1,10 @@
 //! Referees after the first entries, saved or not, and what brings them there.
 use super::packets::{MOVE, NO_DICE, O, OFFER, REJECT, THREE_ONE, X, claim_gives, claimed};
-use bg_match::{LengthFault, Number, Rules};
+use crate::lasting::lasting;
+use bg_match::{Number, Rules};
 use bg_referee::{DueFault, Referee, TakeOutcome};
 use bg_wire::{SaveRefusal, Slot};
-use std::alloc::Global;
-use std::test::Fail;
+use std::process::Abort;
 
 pub(crate) fn opened(referee: &mut Referee, word: u32) -> Result<Number, DueFault> {
     referee.due(word)
@@ -16,31 +16,35 @@ pub(crate) fn save(referee: &mut Referee) -> Result<(Slot, u32), SaveRefusal> {
     Ok((slot, save))
 }
 
-pub(crate) fn fresh(alloc: Global) -> Result<Referee, LengthFault> {
-    Referee::fresh(alloc, 1, 1, Rules::One)
+/// A referee by these rules who holds nothing. It lasts, as those below do.
+pub(crate) fn fresh_by(rt: &(impl AllocGlobal + Abort), rules: Rules) -> &'static mut Referee {
+    let referee = Referee::fresh(rt.alloc(), 1, 1, rules).expect(rt, "a length from 1 to 99");
+    lasting(rt, referee)
+}
+
+pub(crate) fn fresh(rt: &(impl AllocGlobal + Abort)) -> &'static mut Referee {
+    fresh_by(rt, Rules::One)
 }
 
 /// A referee who has opened the game with 3 1, and saved nothing.
-pub(crate) fn with_the_opening(alloc: Global) -> Result<Referee, Fail> {
-    let mut referee = fresh(alloc)?;
-    opened(&mut referee, THREE_ONE)?;
-    Ok(referee)
+pub(crate) fn with_the_opening(rt: &(impl AllocGlobal + Abort)) -> &'static mut Referee {
+    let referee = fresh(rt);
+    assert!(rt; opened(referee, THREE_ONE) == Ok(1));
+    referee
 }
 
 /// A referee who has opened the game with 3 1, and saved that.
-pub(crate) fn after_the_opening(alloc: Global) -> Result<Referee, Fail> {
-    let mut referee = with_the_opening(alloc)?;
-    save(&mut referee)?;
-    Ok(referee)
+pub(crate) fn after_the_opening(rt: &(impl AllocGlobal + Abort)) -> &'static mut Referee {
+    let referee = with_the_opening(rt);
+    assert!(rt; save(referee) == Ok((Slot::One, 1)));
+    referee
 }
 
 /// A referee who holds the opening 3 1 and 8-5 6-5, and has saved the first.
-pub(crate) fn after_the_move(alloc: Global) -> Result<Referee, Fail> {
-    let mut referee = after_the_opening(alloc)?;
-    if !claim_gives(&mut referee, X, 2, &MOVE, NO_DICE, TakeOutcome::Accepted(2)) {
-        return Err(Fail::from("not accepted"));
-    }
-    Ok(referee)
+pub(crate) fn after_the_move(rt: &(impl AllocGlobal + Abort)) -> &'static mut Referee {
+    let referee = after_the_opening(rt);
+    assert!(rt; claim_gives(referee, X, 2, &MOVE, NO_DICE, TakeOutcome::Accepted(2)));
+    referee
 }
 
 /// Appends the entry of this number: an offer to resign by X, or its rejection by O. A claim that lacks memory is

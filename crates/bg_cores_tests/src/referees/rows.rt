@@ -91,20 +91,31 @@ pub(crate) fn entry_of(told: Told) -> Entry {
 }
 
 /// Whether the referee makes this of a packet.
-fn is_given(referee: &Referee, taken: Option<TakeOutcome>, gives: Gives) -> bool {
+fn is_given(referee: &Referee, taken: &TakeOutcome, gives: Gives) -> bool {
     match gives {
-        Gives::OtherMatch => taken == Some(TakeOutcome::OtherMatch),
-        Gives::Nothing => taken == Some(TakeOutcome::Nothing),
-        Gives::Ahead => taken == Some(TakeOutcome::Ahead),
-        Gives::NotYourTurn => taken == Some(TakeOutcome::NotYourTurn),
-        Gives::WordRefused => taken == Some(TakeOutcome::WordRefused),
-        Gives::Illegal(fault) => taken == Some(TakeOutcome::Illegal(fault)),
-        Gives::Accepted(number) => taken == Some(TakeOutcome::Accepted(number)),
         Gives::TheOpening(party) => tells_the_opening(taken, party),
         Gives::TheRoll(party) => tells_the_roll(taken, party),
         Gives::TheMoveAndTheRoll(party) => tells_the_move_and_the_roll(taken, party),
         Gives::TheNext(held, count) => tells_next(referee, taken, held, count),
+        _ => match outcome_of(gives) {
+            Some(outcome) => *taken == outcome,
+            None => false,
+        },
     }
+}
+
+/// The outcome, where it is no answer.
+fn outcome_of(gives: Gives) -> Option<TakeOutcome> {
+    Some(match gives {
+        Gives::OtherMatch => TakeOutcome::OtherMatch,
+        Gives::Nothing => TakeOutcome::Nothing,
+        Gives::Ahead => TakeOutcome::Ahead,
+        Gives::NotYourTurn => TakeOutcome::NotYourTurn,
+        Gives::WordRefused => TakeOutcome::WordRefused,
+        Gives::Illegal(fault) => TakeOutcome::Illegal(fault),
+        Gives::Accepted(number) => TakeOutcome::Accepted(number),
+        _ => return None,
+    })
 }
 
 /// Whether the referee makes this of a packet by these rules, of this kind and match, with these bytes.
@@ -118,8 +129,30 @@ fn takes(
     word: u32,
     gives: Gives,
 ) -> bool {
-    let taken = taken_by_rules(referee, rules, kind, id, head, tail, word);
-    is_given(referee, taken, gives)
+    match taken_by_rules(referee, rules, kind, id, head, tail, word) {
+        Some(taken) => is_given(referee, &taken, gives),
+        None => false,
+    }
+}
+
+/// Whether the referee makes this of what a party wants behind the first so many entries.
+fn answers(referee: &mut Referee, party: u8, held: u8, gives: Gives) -> bool {
+    let rules = rules_of(referee);
+    takes(referee, rules, 1, 1, &[party, 0, 0, 0, held], &[], 0, gives)
+}
+
+/// Whether the referee makes this of a claim.
+fn judges(
+    referee: &mut Referee,
+    party: u8,
+    number: u8,
+    action: &[u8],
+    word: u32,
+    gives: Gives,
+) -> bool {
+    let rules = rules_of(referee);
+    let head = [party, 0, 0, 0, number];
+    takes(referee, rules, 2, 1, &head, action, word, gives)
 }
 
 /// The number of the rules of the match.
@@ -136,49 +169,63 @@ fn dues(referee: &mut Referee, word: u32, expected: Result<Number, DueFault>) ->
     due == expected && (due.is_ok() || referee.held().len() == before)
 }
 
+/// Whether the next save has this slot and this number; it is marked.
+fn saves(referee: &mut Referee, slot: Slot, number: u32) -> bool {
+    save(referee) == Ok((slot, number))
+}
+
 /// Whether the call comes to what the row says.
-fn comes_to(referee: &mut Referee, row: Row) -> bool {
-    let rules = rules_of(referee);
+fn comes_to(referee: &mut Referee, row: &Row) -> bool {
     match row {
-        Row::Due(word, expected) => dues(referee, word, expected),
-        Row::Want(party, held, gives) => {
-            takes(referee, rules, 1, 1, &[party, 0, 0, 0, held], &[], 0, gives)
-        }
+        Row::Due(word, expected) => dues(referee, *word, *expected),
+        Row::Want(party, held, gives) => answers(referee, *party, *held, *gives),
         Row::Claim(party, number, action, word, gives) => {
-            takes(
-                referee,
-                rules,
-                2,
-                1,
-                &[party, 0, 0, 0, number],
-                action,
-                word,
-                gives,
-            )
+            judges(referee, *party, *number, action, *word, *gives)
         }
         Row::Packet(rules, kind, id, head, tail, word, gives) => {
-            takes(referee, rules, kind, id, head, tail, word, gives)
+            takes(referee, *rules, *kind, *id, head, tail, *word, *gives)
         }
-        Row::Offers(last) => offers(referee, last),
-        Row::Save(slot, number) => save(referee) == Ok((slot, number)),
-        Row::NextSave(slot, number, text) => is_next_save(referee, slot, number, text) == Ok(true),
-        Row::Saved(count) => referee.saved() == count,
-        Row::Held(count) => referee.held().len() == count,
-        Row::Holds(number, told) => referee.held().entry(number) == Some(&entry_of(told)),
-        Row::RefereeActs => referee.held().actor() == Actor::Referee,
-        Row::ByNoSeat(number) => referee.held().by(number).is_none(),
-        Row::Silence => referee.tick().is_empty(),
-        Row::Push(party, number, told) => pushes_to(referee, party, number, &entry_of(told)),
-        Row::PushToBoth(party, other, number, told) => {
-            pushes_to_both(referee, party, other, number, &entry_of(told))
-        }
-        Row::FirstPush(party) => first_push_goes_to(referee, party),
+        Row::Offers(last) => offers(referee, *last),
+        Row::Save(slot, number) => saves(referee, *slot, *number),
+        _ => sends(referee, row),
     }
+}
+
+/// Whether the tick sends what the row says, if it is about that.
+fn sends(referee: &mut Referee, row: &Row) -> bool {
+    match row {
+        Row::Silence => referee.tick().is_empty(),
+        Row::Push(party, number, told) => pushes_to(referee, *party, *number, *told),
+        Row::PushToBoth(party, other, number, told) => {
+            pushes_to_both(referee, *party, *other, *number, *told)
+        }
+        Row::FirstPush(party) => first_push_goes_to(referee, *party),
+        _ => has(referee, row),
+    }
+}
+
+/// Whether the referee has what the row says, if it is about that.
+fn has(referee: &Referee, row: &Row) -> bool {
+    match row {
+        Row::NextSave(slot, number, text) => is_next_save(referee, *slot, *number, text)
+            == Ok(true),
+        Row::Saved(count) => referee.saved() == *count,
+        Row::Held(count) => referee.held().len() == *count,
+        Row::Holds(number, told) => holds_told(referee, *number, *told),
+        Row::RefereeActs => referee.held().actor() == Actor::Referee,
+        Row::ByNoSeat(number) => referee.held().by(*number).is_none(),
+        _ => false,
+    }
+}
+
+/// Whether the entry of this number is this one.
+fn holds_told(referee: &Referee, number: Number, told: Told) -> bool {
+    referee.held().entry(number) == Some(&entry_of(told))
 }
 
 /// Every call comes to what its row says.
 pub(crate) fn check_rows(rt: &impl Abort, referee: &mut Referee, rows: &[Row]) {
     for (i, row) in rows.iter().enumerate() {
-        assert!(rt; comes_to(referee, *row), "row {i}");
+        assert!(rt; comes_to(referee, row), "row {i}");
     }
 }

@@ -5,7 +5,6 @@ use bg_match::Rules;
 use bg_referee::Referee;
 use bg_wire::{REFEREE, SaveRefusal, Slot, restore};
 use std::alloc::Global;
-use std::test::Fail;
 
 /// The referee's save 2 of match 1, of length 1: the opening 3 1, and 8-5 6-5.
 const SECOND_SAVE: [u8; 33] = [
@@ -50,9 +49,8 @@ const SAVES: [Row; 6] = [
 ];
 
 #[test]
-fn saves(rt: HostRuntime) -> Result<(), Fail> {
-    check_rows(&rt, &mut after_the_move(rt.alloc())?, &SAVES);
-    Ok(())
+fn saves(rt: HostRuntime) {
+    check_rows(&rt, after_the_move(&rt), &SAVES);
 }
 
 /// The referee that goes on from these bytes in slot 0, where they are a saved text of match 1.
@@ -91,9 +89,8 @@ fn goes_on_from_the_last_save(alloc: Global) -> bool {
 }
 
 #[test]
-fn resumes(rt: HostRuntime) -> Result<(), Fail> {
+fn resumes(rt: HostRuntime) {
     assert!(rt; goes_on_from_the_second_save(rt.alloc(), &SECOND_SAVE));
     assert!(rt; goes_on_from_the_second_save(rt.alloc(), &SECOND_SAVE_OF_OLD));
     assert!(rt; goes_on_from_the_last_save(rt.alloc()));
-    Ok(())
 }

@@ -1,6 +1,6 @@
 //! Datagrams that are sealed and opened, and those that are not opened.
 use crate::seals::keys::{SECRET, key_of, secret};
-use crate::words::{bytes_of, push_word, small_number, word};
+use crate::words::{bytes_of, bytes_of_both, small_number, word};
 use bg_seals::{Direction, Key, MOST_PACKET_BYTES, MasterSecret, TAG_BYTES};
 use std::process::Abort;
 
@@ -53,10 +53,9 @@ fn is_opened_as(key: &Key, way: Direction, party: u8, datagram: &[u8], packet: &
 fn check_row(rt: &(impl AllocGlobal + Abort), key: &Key, row: &str) {
     let (way, party) = (way(word(rt, row, 0)), small_number(rt, word(rt, row, 1)));
     let packet = bytes_of(rt, word(rt, row, 2));
-    let mut datagram = bytes_of(rt, word(rt, row, 2));
-    push_word(rt, &mut datagram, word(rt, row, 3));
-    let holds = is_sealed_as(key, way, party, &packet, &datagram)
-        && is_opened_as(key, way, party, &datagram, &packet);
+    let datagram = bytes_of_both(rt, word(rt, row, 2), word(rt, row, 3));
+    let holds = is_sealed_as(key, way, party, packet, datagram)
+        && is_opened_as(key, way, party, datagram, packet);
     assert!(rt; holds, "{row}");
 }
 

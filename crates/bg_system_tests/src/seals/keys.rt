@@ -35,7 +35,7 @@ fn check_key(rt: &(impl AllocGlobal + Abort), row: &str) {
     let party = small_number(rt, word(rt, row, 1));
     let bytes = bytes_of(rt, word(rt, row, 2));
     let key = key_of(id, party);
-    assert!(rt; key.bytes().as_slice() == bytes.as_slice(), "{row}");
+    assert!(rt; key.bytes().as_slice() == bytes, "{row}");
 }
 
 #[test]

@@ -1,5 +1,5 @@
 //! Parties that run each in a process of its own, as docs/USING.md shows them.
-use crate::hosts::{Host, new_folder, remove_folder};
+use crate::hosts::{Host, lasting, new_folder, remove_folder};
 use crate::lone::table::{MATCH, Table};
 use bg_examples::lone::referee::{LoneReferee, ProcessFault};
 use bg_match::{Number, Rules, Terms};
@@ -8,6 +8,7 @@ use bg_world::{Outcome, RestoreCause};
 use rand_chacha::ChaCha20Rng;
 use rand_core::SeedableRng;
 use std::fs;
+use std::process::Abort;
 
 const TERMS: Terms = Terms {
     length: 1,
@@ -20,10 +21,14 @@ const TURNS: u32 = 100;
 /// A match of one point, whose processes end at random and begin again, is the same for all in the end.
 fn check_match(rt: &impl Host, name: &str, rules: Rules) {
     let folder = new_folder(rt, name);
-    let mut table = Table::new(rt, folder.as_str(), rules);
+    play_match(rt, folder, rules);
+    remove_folder(rt, folder);
+}
+
+fn play_match(rt: &impl Host, folder: &str, rules: Rules) {
+    let mut table = Table::new(rt, folder, rules);
     table.play();
     table.check_end();
-    remove_folder(rt, folder.as_str());
 }
 
 #[test]
@@ -66,28 +71,42 @@ fn turn<R: Host>(rt: &R, referee: &mut LoneReferee<'_, R>) {
     referee.turn().expect(rt, "a turn");
 }
 
+/// So many turns.
+fn take_turns<R: Host>(rt: &R, referee: &mut LoneReferee<'_, R>) {
+    for _ in 0..TURNS {
+        turn(rt, referee);
+    }
+}
+
 /// A second process of a party is refused, and so is a folder of another match.
 #[test]
 fn processes_are_refused(rt: HostRuntime) {
-    let made = new_folder(&rt, "lone-refusals");
-    let folder = made.as_str();
-    let mut referee = begin(&rt, folder, 1);
-    for _ in 0..TURNS {
-        turn(&rt, &mut referee);
-    }
-    check_holds(&rt, &referee, 1);
-    let second = refusal(&rt, folder, MATCH, 2);
-    assert!(rt; matches!(second, Some(ProcessFault::System(_))));
-    drop(referee);
-    let other = refusal(&rt, folder, MATCH + 1, 3);
+    let folder = new_folder(&rt, "lone-refusals");
+    check_second(&rt, folder);
+    check_other(&rt, folder);
+    check_holds(&rt, &begin(&rt, folder, 4), 1);
+    remove_folder(&rt, folder);
+}
+
+fn check_second<R: Host>(rt: &R, folder: &str) {
+    let mut referee = begin(rt, folder, 1);
+    take_turns(rt, &mut referee);
+    check_holds(rt, &referee, 1);
+    assert!(rt; is_in_use(refusal(rt, folder, MATCH, 2)));
+}
+
+fn is_in_use(refusal: Option<ProcessFault>) -> bool {
+    matches!(refusal, Some(ProcessFault::System(_)))
+}
+
+fn check_other(rt: &impl Host, folder: &str) {
+    let other = refusal(rt, folder, MATCH + 1, 3);
     assert!(rt;
         matches!(
             other,
             Some(ProcessFault::Stopped(Outcome::RestoreFault(RestoreCause::WrongMatch)))
         )
     );
-    check_holds(&rt, &begin(&rt, folder, 4), 1);
-    remove_folder(&rt, folder);
 }
 
 /// The first watcher wants all entries.
@@ -104,25 +123,50 @@ fn asked_turn<R: Host>(rt: &R, referee: &mut LoneReferee<'_, R>) {
     turn(rt, referee);
 }
 
+/// So many turns after the watcher has asked.
+fn take_asked_turns<R: Host>(rt: &R, referee: &mut LoneReferee<'_, R>) {
+    for _ in 0..TURNS {
+        asked_turn(rt, referee);
+    }
+}
+
+/// A turn after the watcher has asked, in which nothing is saved or told.
+fn check_idle_turn<R: Host>(rt: &R, referee: &mut LoneReferee<'_, R>) {
+    asked_turn(rt, referee);
+    check_holds(rt, referee, 0);
+    assert!(rt; referee.link.outgoing().is_empty());
+}
+
+fn rename(rt: &impl Host, from: &str, to: &str) {
+    fs::rename(rt, from, to).expect(rt, "another name");
+}
+
+/// The folder is away for a while.
+fn check_away<R: Host>(rt: &R, referee: &mut LoneReferee<'_, R>, folder: &str, away: &str) {
+    rename(rt, folder, away);
+    for _ in 0..TURNS {
+        check_idle_turn(rt, referee);
+    }
+    rename(rt, away, folder);
+    take_asked_turns(rt, referee);
+    check_holds(rt, referee, 1);
+    assert!(rt; !referee.link.outgoing().is_empty());
+}
+
+fn path_away(rt: &(impl AllocGlobal + Abort), folder: &str) -> &'static str {
+    let path = format!(in rt.alloc(); "{folder}-away");
+    lasting(rt, path.expect(rt, "memory for a path"))
+}
+
 /// Where the first save can't be written, the referee goes on with nothing; and it tells nothing until one is.
 #[test]
 fn a_save_fails(rt: HostRuntime) {
-    let made = new_folder(&rt, "lone-save");
-    let folder = made.as_str();
-    let away = format!(in rt.alloc(); "{folder}-away").expect(&rt, "memory");
-    let mut referee = begin(&rt, folder, 1);
-    fs::rename(&rt, folder, away.as_str()).expect(&rt, "a folder that is away");
-    for _ in 0..TURNS {
-        asked_turn(&rt, &mut referee);
-        check_holds(&rt, &referee, 0);
-        assert!(rt; referee.link.outgoing().is_empty());
-    }
-    fs::rename(&rt, away.as_str(), folder).expect(&rt, "a folder that is back");
-    for _ in 0..TURNS {
-        asked_turn(&rt, &mut referee);
-    }
-    check_holds(&rt, &referee, 1);
-    assert!(rt; !referee.link.outgoing().is_empty());
-    drop(referee);
+    let folder = new_folder(&rt, "lone-save");
+    check_failed_save(&rt, folder);
     remove_folder(&rt, folder);
+}
+
+fn check_failed_save(rt: &impl Host, folder: &str) {
+    let away = path_away(rt, folder);
+    check_away(rt, &mut begin(rt, folder, 1), folder, away);
 }

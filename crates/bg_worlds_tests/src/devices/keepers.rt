@@ -6,7 +6,7 @@ use super::Recorder;
 use bg_streams::History;
 use bg_wire::{Slot, load};
 use bg_world::{DeviceFault, Keeper, count_failed};
-use std::alloc::{AllocError, Global};
+use std::alloc::Global;
 
 fn number_of(slot: Slot) -> u32 {
     match slot {
@@ -94,27 +94,28 @@ pub(crate) struct OwnKeeper<'a> {
 }
 
 impl<'a> OwnKeeper<'a> {
-    /// The keeper of a party whose slots have these bytes.
-    pub(crate) fn over(
-        recorder: &'a Recorder,
-        party: u8,
-        zero: &[u8],
-        one: &[u8],
-    ) -> Result<OwnKeeper<'a>, AllocError> {
-        Ok(OwnKeeper {
+    /// The keeper of a party whose slots are empty.
+    pub(crate) fn empty(recorder: &'a Recorder, party: u8) -> OwnKeeper<'a> {
+        OwnKeeper {
             slots: Written {
                 recorder,
                 party,
                 writes: 0,
                 reads: 0,
-                zero: zero.to_vec(recorder.alloc)?,
-                one: one.to_vec(recorder.alloc)?,
+                zero: Vec::new(recorder.alloc),
+                one: Vec::new(recorder.alloc),
             },
             writes: History::new(),
             reads: History::new(),
             faults: History::new(),
             written: Ok(()),
-        })
+        }
+    }
+
+    /// The slots have these bytes.
+    pub(crate) fn fill(&mut self, zero: &[u8], one: &[u8]) -> Result<(), DeviceFault> {
+        self.slots.keep(Slot::Zero, zero)?;
+        self.slots.keep(Slot::One, one)
     }
 }
 

@@ -1,5 +1,6 @@
 //! What automatic players do.
 use super::actions::{action, empty_record, push};
+use crate::checks::lasting;
 use crate::sections::{lines_of, names_of};
 use bg_board::{Die, Player};
 use bg_match::{Action, Entry, Level, MOST_ENTRIES, Record, Rules};
@@ -88,6 +89,17 @@ X: -
 O: roll
 ";
 
+/// Whether a player does this after a record.
+fn does(
+    rt: &(impl AllocGlobal + Abort),
+    record: &Record,
+    player: Player,
+    expected: Option<&Action>,
+) -> bool {
+    let found = action(rt.alloc(), record, player).expect(rt, "memory");
+    found.as_ref() == expected
+}
+
 /// After a record a player does this.
 fn check_action(
     rt: &(impl AllocGlobal + Abort),
@@ -95,17 +107,26 @@ fn check_action(
     player: Player,
     expected: Option<&Action>,
 ) {
-    let found = action(rt.alloc(), record, player).expect(rt, "memory");
-    assert!(rt; found.as_ref() == expected, "{player:?}");
+    assert!(rt; does(rt, record, player, expected), "{player:?}");
 }
 
-/// After a record a player does what the words say.
-fn check_words(rt: &(impl AllocGlobal + Abort), record: &Record, player: Player, words: &str) {
+/// After a record a player does nothing.
+fn check_idle(rt: &(impl AllocGlobal + Abort), record: &Record, player: Player) {
+    check_action(rt, record, player, None);
+}
+
+/// Whether a player does what the words say after a record.
+fn does_words(
+    rt: &(impl AllocGlobal + Abort),
+    record: &Record,
+    player: Player,
+    words: &str,
+) -> bool {
     match words {
-        "-" => check_action(rt, record, player, None),
+        "-" => does(rt, record, player, None),
         _ => {
             let expected = parse_action(words.as_bytes()).expect(rt, "an action");
-            check_action(rt, record, player, Some(&expected));
+            does(rt, record, player, Some(&expected))
         }
     }
 }
@@ -123,23 +144,31 @@ fn check_line(rt: &(impl AllocGlobal + Abort), record: &mut Record, line: &str) 
     if let Some(count) = line.strip_prefix("offers ") {
         offer(rt, record, count.parse().expect(rt, "a number"));
     } else if let Some(words) = line.strip_prefix("X: ") {
-        check_words(rt, record, Player::X, words);
+        assert!(rt; does_words(rt, record, Player::X, words), "{line}");
     } else if let Some(words) = line.strip_prefix("O: ") {
-        check_words(rt, record, Player::O, words);
+        assert!(rt; does_words(rt, record, Player::O, words), "{line}");
     } else {
         push(rt, record, line);
     }
 }
 
 fn check_match(rt: &(impl AllocGlobal + Abort), name: &str) {
-    let lines = lines_of(rt, MATCHES, "", name);
-    let mut lines = lines.iter();
-    let first = lines.next().expect(rt, "a line");
+    check_lines(rt, &lines_of(rt, MATCHES, "", name));
+}
+
+/// The lines of a match hold, the first of which has its length.
+fn check_lines(rt: &(impl AllocGlobal + Abort), lines: &[&str]) {
+    let (first, lines) = lines.split_first().expect(rt, "a line");
     let length = first.strip_prefix("length ").expect(rt, "a length");
-    let mut record = empty_record(rt, length.parse().expect(rt, "a number"), Rules::One);
+    let record = record_that_lasts(rt, length.parse().expect(rt, "a number"));
     for line in lines {
-        check_line(rt, &mut record, line);
+        check_line(rt, record, line);
     }
+}
+
+/// A record of no entry by the first rules, which lasts as long as its process.
+fn record_that_lasts(rt: &(impl AllocGlobal + Abort), length: u8) -> &'static mut Record {
+    lasting(rt.alloc(), empty_record(rt, length, Rules::One)).expect(rt, "memory")
 }
 
 #[test]
@@ -157,34 +186,48 @@ fn next_turn(rt: &(impl AllocGlobal + Abort), record: &Record) -> Turn {
     };
     let board = record.standing().board();
     let turns = legal_turns(rt.alloc(), &board, Player::X, dice).expect(rt, "memory");
-    let number = record.len() as usize + 1;
-    let index = number.checked_rem(turns.len()).expect(rt, "turns");
-    turns.get(index).expect(rt, "a turn").copy()
+    turn_by(&turns, record.len() as usize + 1).expect(rt, "a turn")
+}
+
+/// The turn of the index n mod k, of these k turns.
+fn turn_by(turns: &[Turn], number: usize) -> Option<Turn> {
+    let index = number.checked_rem(turns.len())?;
+    Some(turns.get(index)?.copy())
 }
 
 /// As entry n the turn of index n mod k is played, of the k legal turns.
 #[test]
 fn turn_goes_by_the_number_of_the_entry(rt: HostRuntime) {
-    let mut record = empty_record(&rt, 1, Rules::One);
-    push(&rt, &mut record, "open 3 1");
+    let record = record_that_lasts(&rt, 1);
+    push(&rt, record, "open 3 1");
     for _ in 0..10 {
-        let expected = Action::Move(next_turn(&rt, &record));
-        check_action(&rt, &record, Player::X, Some(&expected));
-        check_action(&rt, &record, Player::O, None);
-        offer(&rt, &mut record, 1);
+        check_next_turn(&rt, record);
+        check_idle(&rt, record, Player::O);
+        offer(&rt, record, 1);
     }
+}
+
+/// X plays the turn that goes by the number of the entry.
+fn check_next_turn(rt: &(impl AllocGlobal + Abort), record: &Record) {
+    let expected = Action::Move(next_turn(rt, record));
+    check_action(rt, record, Player::X, Some(&expected));
 }
 
 /// Nothing follows a full record.
 #[test]
 fn full_record(rt: HostRuntime) {
-    let mut record = empty_record(&rt, 1, Rules::One);
-    push(&rt, &mut record, "open 3 1");
-    offer(&rt, &mut record, 499_999);
-    let last = action(rt.alloc(), &record, Player::X).expect(&rt, "memory");
-    assert!(rt; matches!(last, Some(Action::Move(_))));
-    push(&rt, &mut record, "X resign normal");
+    let record = record_that_lasts(&rt, 1);
+    push(&rt, record, "open 3 1");
+    offer(&rt, record, 499_999);
+    assert!(rt; moves(&rt, record));
+    push(&rt, record, "X resign normal");
     assert!(rt; record.len() == MOST_ENTRIES);
-    check_action(&rt, &record, Player::X, None);
-    check_action(&rt, &record, Player::O, None);
+    check_idle(&rt, record, Player::X);
+    check_idle(&rt, record, Player::O);
+}
+
+/// Whether X moves.
+fn moves(rt: &(impl AllocGlobal + Abort), record: &Record) -> bool {
+    let last = action(rt.alloc(), record, Player::X).expect(rt, "memory");
+    matches!(last, Some(Action::Move(_)))
 }

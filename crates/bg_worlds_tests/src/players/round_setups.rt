@@ -56,25 +56,31 @@ pub(crate) const UNUSED: Devices<'static> = Devices {
     failing: NO_FAILURE,
 };
 
-/// A keeper of a party whose slots have these bytes.
-fn keeper<'a>(
-    rt: &impl Abort,
-    recorder: &'a Recorder,
-    party: u8,
-    slots: Slots<'_>,
-) -> OwnKeeper<'a> {
-    OwnKeeper::over(recorder, party, slots.zero, slots.one).expect(rt, "memory")
+/// The slots of a keeper have these bytes.
+fn fill(rt: &impl Abort, keeper: &mut OwnKeeper<'_>, slots: &Slots<'_>) {
+    assert!(rt; keeper.fill(slots.zero, slots.one).is_ok());
 }
 
-/// A link on which these datagrams wait that are no packets.
-fn link<'a>(rt: &impl Abort, recorder: &'a Recorder, garbled: &[u8; 3]) -> OwnLink<'a> {
-    let mut link = OwnLink::in_order(recorder);
+/// On a link these datagrams wait that are no packets.
+fn garble(rt: &impl Abort, link: &mut OwnLink<'_>, garbled: &[u8; 3]) {
     for (party, count) in (0..3u8).zip(garbled) {
         for _ in 0..*count {
             assert!(rt; link.wait(party, &[0]).is_ok());
         }
     }
-    link
+}
+
+/// The link and the keepers have what they begin with.
+fn set_up(
+    rt: &impl Abort,
+    devices: &Devices<'_>,
+    link: &mut OwnLink<'_>,
+    keepers: &mut Keepers<OwnKeeper<'_>>,
+) {
+    garble(rt, link, &devices.garbled);
+    fill(rt, &mut keepers.referee, &devices.of_referee);
+    fill(rt, &mut keepers.x, &devices.of_x);
+    fill(rt, &mut keepers.o, &devices.of_o);
 }
 
 /// What becomes of so many rounds of a match, whose calls the recorder notes.
@@ -86,18 +92,20 @@ fn played(
     rounds: u32,
     devices: &Devices<'_>,
 ) -> Result<(), LoopFault> {
-    let keepers = Keepers {
-        referee: keeper(rt, recorder, 0, devices.of_referee),
-        x: keeper(rt, recorder, 1, devices.of_x),
-        o: keeper(rt, recorder, 2, devices.of_o),
+    let mut link = OwnLink::in_order(recorder);
+    let mut keepers = Keepers {
+        referee: OwnKeeper::empty(recorder, 0),
+        x: OwnKeeper::empty(recorder, 1),
+        o: OwnKeeper::empty(recorder, 2),
     };
+    set_up(rt, devices, &mut link, &mut keepers);
     run_rounds(
         rt.alloc(),
         seed,
         length,
         Rules::One,
         rounds,
-        link(rt, recorder, &devices.garbled),
+        link,
         keepers,
         &mut Writing::new(&mut Vec::new(rt.alloc())),
     )
@@ -105,12 +113,28 @@ fn played(
 
 /// The lines of the calls are those of the section of this name.
 fn check_calls(rt: &impl Abort, calls: &[u8], name: &str) {
-    let mut calls = str::from_utf8(calls).expect(rt, "a text").lines();
-    for expected in &lines_of(rt, CALLS, SHARED_CALLS, name) {
+    let calls = str::from_utf8(calls).expect(rt, "a text");
+    check_lines(rt, calls, &lines_of(rt, CALLS, SHARED_CALLS, name), name);
+}
+
+/// The lines of the calls are these.
+fn check_lines(rt: &impl Abort, calls: &str, lines: &[&str], name: &str) {
+    let mut calls = calls.lines();
+    for expected in lines {
         let call = calls.next().unwrap_or("no call");
         assert!(rt; call == *expected, "{name}: {expected}, and not {call}");
     }
     assert!(rt; calls.next().is_none(), "{name}");
+}
+
+/// What became of the rounds of this name.
+fn check_result(
+    rt: &impl Abort,
+    found: &Result<(), LoopFault>,
+    expected: &Result<(), LoopFault>,
+    name: &str,
+) {
+    assert!(rt; found == expected, "{name}");
 }
 
 /// So many rounds of a match make the calls of the section of this name, and come to this.
@@ -125,6 +149,6 @@ pub(crate) fn check_rounds(
 ) {
     let recorder = Recorder::new(rt.alloc(), devices.failing);
     let result = played(rt, &recorder, seed, length, rounds, devices);
-    assert!(rt; result == *expected, "{name}");
+    check_result(rt, &result, expected, name);
     check_calls(rt, &recorder.into_calls(), name);
 }

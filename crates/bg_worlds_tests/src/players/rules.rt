@@ -3,7 +3,7 @@ use super::actions::{
     action, check_transcript, empty_record, push, text_in, text_of, transcript_in,
 };
 use bg_board::Player;
-use bg_match::Rules;
+use bg_match::{Record, Rules};
 use std::process::Abort;
 
 /// X is hit, and rolls double sixes with which he can't enter.
@@ -18,12 +18,16 @@ const NO_STEP: [&str; 5] = [
 /// Whether a player does something where X can't enter.
 fn acts(rt: &(impl AllocGlobal + Abort), rules: Rules, player: Player) -> bool {
     let mut record = empty_record(rt, 1, rules);
-    for line in &NO_STEP {
-        push(rt, &mut record, line);
-    }
+    push_all(rt, &mut record);
     action(rt.alloc(), &record, player)
         .expect(rt, "memory")
         .is_some()
+}
+
+fn push_all(rt: &impl Abort, record: &mut Record) {
+    for line in &NO_STEP {
+        push(rt, record, line);
+    }
 }
 
 #[test]

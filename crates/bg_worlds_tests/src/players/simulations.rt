@@ -5,7 +5,7 @@ use bg_board::{Die, Player};
 use bg_match::{Action, Entry, Rules};
 use bg_streams::EngineFault;
 use bg_world::{ScriptFault, WorldFault};
-use std::alloc::AllocError;
+use std::alloc::{AllocError, Global};
 use std::process::Abort;
 use std::test::Fail;
 
@@ -58,14 +58,15 @@ const SETUPS: [(u64, u8, u8, Option<WorldFault>); 5] = [
 #[test]
 fn refused_matches(rt: HostRuntime) {
     for (i, (seed, length, watchers, fault)) in SETUPS.iter().enumerate() {
-        let steps = if *watchers == 254 { 0 } else { 1 };
-        let text = text_of(rt.alloc(), *seed, *length, Rules::One, *watchers, steps);
-        let refused = match fault {
-            Some(fault) => text == Err(ScriptFault::World(*fault)),
-            None => text.is_ok(),
-        };
-        check_row(&rt, i, refused);
+        let found = refusal(rt.alloc(), *seed, *length, *watchers);
+        check_row(&rt, i, found == fault.map(ScriptFault::World));
     }
+}
+
+/// Why nothing is printed of such a match, if it is refused.
+fn refusal(alloc: Global, seed: u64, length: u8, watchers: u8) -> Option<ScriptFault> {
+    let steps = if watchers == 254 { 0 } else { 1 };
+    text_of(alloc, seed, length, Rules::One, watchers, steps).err()
 }
 
 /// How many entries a line says that a party holds, if it says that.
@@ -86,20 +87,22 @@ fn check_parties(rt: &impl Abort, text: &str) {
     }
 }
 
-/// What is printed of an automatic match by these rules, whose transcript is good.
-fn good_text(
+/// The transcript, which is good, of what is printed of an automatic match by these rules. It
+/// lasts.
+fn good_transcript(
     rt: &(impl AllocGlobal + Abort),
     seed: u64,
     rules: Rules,
     watchers: u8,
     steps: u32,
-) -> Vec<u8> {
+) -> &'static str {
     let bytes = text_of(rt.alloc(), seed, 3, rules, watchers, steps).expect(rt, "memory");
-    let text = text_in(rt, &bytes);
+    let text = text_in(rt, bytes.leak());
     assert!(rt; text.matches("party ").count() == 3 + usize::from(watchers));
     check_parties(rt, text);
-    check_transcript(rt, transcript_in(rt, text));
-    bytes
+    let transcript = transcript_in(rt, text);
+    check_transcript(rt, transcript);
+    transcript
 }
 
 /// One begins with the other.
@@ -110,12 +113,9 @@ fn check_one_match(rt: &impl Abort, left: &str, right: &str) {
 /// Whether somebody moves in a match of this seed: the seed and the length alone decide what its entries are, and the
 /// rest how many there are.
 fn moves_in(rt: &(impl AllocGlobal + Abort), seed: u64, rules: Rules) -> bool {
-    let short = good_text(rt, seed, rules, 1, 200);
-    let long = good_text(rt, seed, rules, 1, 2000);
-    let watched = good_text(rt, seed, rules, 5, 2000);
-    let short = transcript_in(rt, text_in(rt, &short));
-    let long = transcript_in(rt, text_in(rt, &long));
-    let watched = transcript_in(rt, text_in(rt, &watched));
+    let short = good_transcript(rt, seed, rules, 1, 200);
+    let long = good_transcript(rt, seed, rules, 1, 2000);
+    let watched = good_transcript(rt, seed, rules, 5, 2000);
     check_one_match(rt, short, long);
     check_one_match(rt, short, watched);
     check_one_match(rt, long, watched);

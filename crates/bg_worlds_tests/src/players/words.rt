@@ -157,10 +157,20 @@ fn words_of_attempts_are_those_of_the_dice(rt: HostRuntime) {
 /// What is printed of a match whose every event makes its own words.
 fn text_of_steps(rt: &(impl AllocGlobal + Abort), seed: u64, steps: u32) -> Vec<u8> {
     let mut simulation = Simulation::new(rt.alloc(), seed, 3, Rules::Two, 1).expect(rt, "memory");
+    make_steps(rt, &mut simulation, steps);
+    simulation.text().expect(rt, "memory")
+}
+
+fn make_steps(rt: &impl Abort, simulation: &mut Simulation, steps: u32) {
     for index in 0..steps {
         assert!(rt; simulation.step(index).is_ok(), "event {index}");
     }
-    simulation.text().expect(rt, "memory")
+}
+
+/// Whether single steps of a match come to the same text as the match does.
+fn comes_to_the_same(rt: &(impl AllocGlobal + Abort), seed: u64, steps: u32) -> bool {
+    let single = text_of_steps(rt, seed, steps);
+    text_of(rt.alloc(), seed, 3, Rules::Two, 1, steps) == Ok(single)
 }
 
 /// A match by kept words comes to the same as one whose every event makes its own, also where the referee is down, and
@@ -177,8 +187,6 @@ fn single_steps_come_to_the_same_text(rt: HostRuntime) {
         (u64::MAX, 500),
     ];
     for (i, (seed, steps)) in rows.iter().enumerate() {
-        let single = text_of_steps(&rt, *seed, *steps);
-        let text = text_of(rt.alloc(), *seed, 3, Rules::Two, 1, *steps);
-        check_row(&rt, i, text == Ok(single));
+        check_row(&rt, i, comes_to_the_same(&rt, *seed, *steps));
     }
 }

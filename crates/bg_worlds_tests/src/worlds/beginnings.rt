@@ -1,22 +1,44 @@
 //! How processes of nodes begin: over which slots, and with which lengths.
+use crate::checks::lasting;
 use crate::devices::keepers::OwnKeeper;
 use crate::devices::{NO_FAILURE, Recorder};
 use crate::worlds::parties::{ID, TERMS, begun_referee, begun_seat};
 use bg_board::Player;
 use bg_match::{LengthFault, Number, Rules, Terms};
 use bg_referee::Referee;
-use bg_world::{Outcome, RestoreCause, WatcherNode};
+use bg_world::{Outcome, RefereeNode, RestoreCause, WatcherNode};
 use std::process::Abort;
 
 /// A keeper of a party whose slots have these bytes.
-fn keeper<'a>(
-    rt: &impl Abort,
-    recorder: &'a Recorder,
+fn keeper(
+    rt: &(impl AllocGlobal + Abort),
     party: u8,
     zero: &[u8],
     one: &[u8],
-) -> OwnKeeper<'a> {
-    OwnKeeper::over(recorder, party, zero, one).expect(rt, "memory")
+) -> &'static mut OwnKeeper<'static> {
+    let recorder = Recorder::that_lasts(rt, rt.alloc(), NO_FAILURE);
+    let keeper = lasting(rt.alloc(), OwnKeeper::empty(recorder, party)).expect(rt, "memory");
+    assert!(rt; keeper.fill(zero, one).is_ok());
+    keeper
+}
+
+/// How many entries the referee holds, if it is up.
+fn held_by(node: &RefereeNode) -> Option<Number> {
+    Some(node.held()?.len())
+}
+
+/// How many entries a referee holds whose restart came to this, or why it is down.
+fn restored(
+    rt: &impl Abort,
+    held: Option<Number>,
+    outcome: &Outcome,
+) -> Result<Number, RestoreCause> {
+    if let Outcome::RestoreFault(cause) = outcome {
+        assert!(rt; held.is_none());
+        return Err(*cause);
+    }
+    assert!(rt; *outcome == Outcome::Restarted);
+    Ok(held.expect(rt, "a referee that is up"))
 }
 
 /// How many entries a referee holds that begins over these slots, or why they restore nothing.
@@ -25,16 +47,9 @@ fn referee_over(
     zero: &[u8],
     one: &[u8],
 ) -> Result<Number, RestoreCause> {
-    let recorder = Recorder::new(rt.alloc(), NO_FAILURE);
-    let mut keeper = keeper(rt, &recorder, 0, zero, one);
-    let (node, outcome) = begun_referee(rt.alloc(), TERMS, &mut keeper).expect(rt, "a referee");
-    let held = node.held().map(|record| record.len());
-    if let Outcome::RestoreFault(cause) = outcome {
-        assert!(rt; held.is_none());
-        return Err(cause);
-    }
-    assert!(rt; outcome == Outcome::Restarted);
-    Ok(held.expect(rt, "a referee that is up"))
+    let keeper = keeper(rt, 0, zero, one);
+    let (node, outcome) = begun_referee(rt.alloc(), TERMS, keeper).expect(rt, "a referee");
+    restored(rt, held_by(&node), &outcome)
 }
 
 /// Why a seat of X that begins over these slots is down, without a claim.
@@ -43,11 +58,8 @@ fn refusal_of_seat(
     zero: &[u8],
     one: &[u8],
 ) -> Option<RestoreCause> {
-    let recorder = Recorder::new(rt.alloc(), NO_FAILURE);
-    let mut keeper = keeper(rt, &recorder, 1, zero, one);
-    let (seat, outcome) = begun_seat(rt.alloc(), Player::X, TERMS, &mut keeper).expect(
-        rt, "a seat",
-    );
+    let keeper = keeper(rt, 1, zero, one);
+    let (seat, outcome) = begun_seat(rt.alloc(), Player::X, TERMS, keeper).expect(rt, "a seat");
     assert!(rt; seat.held().is_none() && seat.claim().is_none());
     match outcome {
         Outcome::RestoreFault(cause) => Some(cause),
@@ -55,16 +67,20 @@ fn refusal_of_seat(
     }
 }
 
-/// The first text that a referee of this match and these rules saves, of one entry.
-fn text_of(rt: &(impl AllocGlobal + Abort), id: u64, rules: Rules) -> Vec<u8> {
+/// The first text that a referee of this match and these rules saves, of one entry. It lasts.
+fn text_of(rt: &(impl AllocGlobal + Abort), id: u64, rules: Rules) -> &'static [u8] {
     let mut core = Referee::fresh(rt.alloc(), id, TERMS.length, rules).expect(
         rt,
         "a length from 1 to 99",
     );
+    first_text(rt, &mut core)
+}
+
+fn first_text(rt: &impl Abort, core: &mut Referee) -> &'static [u8] {
     assert!(rt; core.due(12).is_ok());
     let (_, save, text) = core.to_save().expect(rt, "a text");
     assert!(rt; save == 1);
-    text
+    text.leak()
 }
 
 /// A referee that begins over these slots holds so many entries.
@@ -96,28 +112,36 @@ fn processes_begin(rt: HostRuntime) {
     let other_rules = text_of(&rt, ID, Rules::Two);
     let torn = text.get(..20).expect(&rt, "a text of 33 bytes");
     check_restored(&rt, "empty", b"", b"", 0);
-    check_restored(&rt, "empty and a text", b"", &text, 1);
-    check_restored(&rt, "torn and a text", torn, &text, 1);
+    check_restored(&rt, "empty and a text", b"", text, 1);
+    check_restored(&rt, "torn and a text", torn, text, 1);
     check_restored(&rt, "empty and torn", b"", torn, 0);
     check_down(&rt, "torn", torn, torn, RestoreCause::Damaged);
     check_down(&rt, "torn and empty", torn, b"", RestoreCause::Damaged);
     let wrong = RestoreCause::WrongMatch;
-    check_down(&rt, "another match", b"", &another, wrong);
-    check_down(&rt, "other rules", b"", &other_rules, wrong);
+    check_down(&rt, "another match", b"", another, wrong);
+    check_down(&rt, "other rules", b"", other_rules, wrong);
     // A seat doesn't sit down on what the referee saved.
-    assert!(rt; refusal_of_seat(&rt, b"", &text) == Some(wrong));
+    assert!(rt; refusal_of_seat(&rt, b"", text) == Some(wrong));
 }
 
 /// No party of a match of this length begins.
 fn check_length(rt: &(impl AllocGlobal + Abort), length: u8) {
     let terms = Terms { length, ..TERMS };
     let refused = Some(LengthFault::LengthOutOfRange);
-    let recorder = Recorder::new(rt.alloc(), NO_FAILURE);
-    let mut of_referee = keeper(rt, &recorder, 0, b"", b"");
-    let mut of_seat = keeper(rt, &recorder, 2, b"", b"");
-    assert!(rt; begun_referee(rt.alloc(), terms, &mut of_referee).err() == refused);
-    assert!(rt; begun_seat(rt.alloc(), Player::O, terms, &mut of_seat).err() == refused);
-    assert!(rt; WatcherNode::fresh(rt.alloc(), 3, ID, terms).err() == refused);
+    let of_referee = keeper(rt, 0, b"", b"");
+    let of_seat = keeper(rt, 2, b"", b"");
+    assert!(rt;
+        begun_referee(rt.alloc(), terms, of_referee).err() == refused,
+        "length {length}"
+    );
+    assert!(rt;
+        begun_seat(rt.alloc(), Player::O, terms, of_seat).err() == refused,
+        "length {length}"
+    );
+    assert!(rt;
+        WatcherNode::fresh(rt.alloc(), 3, ID, terms).err() == refused,
+        "length {length}"
+    );
 }
 
 #[test]

@@ -1,6 +1,6 @@
 //! The devices in memory where memory is refused. No run of the tests refuses any, but `tools/checks/refuse_growths`
 //! refuses each growth in turn.
-use crate::checks::check_no_growth_is_left;
+use crate::checks::{check_no_growth_is_left, check_party};
 use crate::worlds::lines::check_outcome;
 use crate::worlds::memory_worlds::{
     MemoryWorld, check_line, check_lines, happen, held, sent_to, step, world_of,
@@ -32,29 +32,45 @@ fn check_send_at_last(
     event: &Event,
     expected: &str,
 ) {
+    check_outcome(rt, "sends", &sent_at_last(rt, world, to, event), expected);
+}
+
+/// What an event comes to that sends to a party, once more where there was no memory for it.
+fn sent_at_last(rt: &impl Abort, world: &mut MemoryWorld, to: u8, event: &Event) -> Outcome {
     let before = sent_to(world, to);
-    let mut outcome = step(world, event.copy());
+    let outcome = step(world, event.copy());
     if outcome == Outcome::Memory {
-        assert!(rt; sent_to(world, to) == before, "party {to}");
-        outcome = step(world, event.copy());
+        check_party(rt, to, sent_to(world, to) == before);
+        return step(world, event.copy());
     }
-    check_outcome(rt, "sends", &outcome, expected);
+    outcome
 }
 
 /// The referee's save has this number, also where there was no memory for it: then it is down, and comes back with
 /// what it had saved, so many entries, or opens a game anew.
 fn check_save_at_last(rt: &impl Abort, world: &mut MemoryWorld, save: u32) {
-    let mut outcome = at_last(rt, world, "save 0");
-    if outcome == Outcome::SaveFault {
-        check_at_last(rt, world, "restart 0 -> restarted");
-        let saved = if save == 1 { 0 } else { 1 };
-        assert!(rt; held(world, 0) == Some(saved));
-        if saved == 0 {
-            check_at_last(rt, world, "due 12 -> entry 1");
-        }
-        outcome = at_last(rt, world, "save 0");
-    }
+    let outcome = saved_at_last(rt, world, save);
     assert!(rt; outcome == Outcome::Saved(save), "save {save}");
+}
+
+/// What the referee's save comes to, once more where there was no memory for it.
+fn saved_at_last(rt: &impl Abort, world: &mut MemoryWorld, save: u32) -> Outcome {
+    let outcome = at_last(rt, world, "save 0");
+    if outcome == Outcome::SaveFault {
+        check_back(rt, world, save);
+        return at_last(rt, world, "save 0");
+    }
+    outcome
+}
+
+/// The referee comes back with what it had saved, so many entries, or opens a game anew.
+fn check_back(rt: &impl Abort, world: &mut MemoryWorld, save: u32) {
+    check_at_last(rt, world, "restart 0 -> restarted");
+    let saved = if save == 1 { 0 } else { 1 };
+    assert!(rt; held(world, 0) == Some(saved));
+    if saved == 0 {
+        check_at_last(rt, world, "due 12 -> entry 1");
+    }
 }
 
 /// A party that has forgotten all asks, and the referee answers.
@@ -73,16 +89,16 @@ fn check_answer(rt: &impl Abort, world: &mut MemoryWorld, party: u8, restart: &s
 /// Where memory is refused nothing changes and the same send then succeeds.
 #[test]
 fn refused_growths_of_sends(rt: HostRuntime) -> Result<(), Fail> {
-    let mut world = world_of(&rt, &["watchers 1"]);
-    check_at_last(&rt, &mut world, "due 12 -> entry 1");
-    check_save_at_last(&rt, &mut world, 1);
+    let world = world_of(&rt, &["watchers 1"]);
+    check_at_last(&rt, world, "due 12 -> entry 1");
+    check_save_at_last(&rt, world, 1);
     for _ in 0..6 {
         for (party, restart, answer) in [
             (1, "restart 1 -> restarted", "answer to 1: entries 1 to 1"),
             (2, "restart 2 -> restarted", "answer to 2: entries 1 to 1"),
             (3, "restart 3 -> restarted", "answer to 3: entries 1 to 1"),
         ] {
-            check_answer(&rt, &mut world, party, restart, answer);
+            check_answer(&rt, world, party, restart, answer);
         }
     }
     let counts = [
@@ -91,13 +107,13 @@ fn refused_growths_of_sends(rt: HostRuntime) -> Result<(), Fail> {
         "sent to 2: 6",
         "sent to 3: 6",
     ];
-    check_lines(&rt, &mut world, &counts);
+    check_lines(&rt, world, &counts);
     for row in [
         "take 1 5 0 -> learned 1",
         "take 2 5 0 -> learned 1",
         "take 3 5 0 -> learned 1",
     ] {
-        check_at_last(&rt, &mut world, row);
+        check_at_last(&rt, world, row);
     }
     check_no_growth_is_left(rt.alloc())
 }
@@ -112,26 +128,26 @@ fn refused_growths_of_no_send(rt: HostRuntime) -> Result<(), Fail> {
         "fails: send 0 lost",
         "fails: send 4294967295 lost",
     ];
-    let mut world = world_of(&rt, &plan);
+    let world = world_of(&rt, &plan);
     let rows = [
         "tick 2 -> link fault",
         "take 0 0 0 -> no datagram",
         "sent to 0: 0",
     ];
-    check_lines(&rt, &mut world, &rows);
+    check_lines(&rt, world, &rows);
     check_no_growth_is_left(rt.alloc())
 }
 
 /// Where memory is refused the slot stays as it was, and the same write or read then succeeds.
 #[test]
 fn refused_growths_of_keepers(rt: HostRuntime) -> Result<(), Fail> {
-    let mut world = world_of(&rt, &[]);
-    check_at_last(&rt, &mut world, "due 12 -> entry 1");
+    let world = world_of(&rt, &[]);
+    check_at_last(&rt, world, "due 12 -> entry 1");
     for save in 1..5 {
-        check_save_at_last(&rt, &mut world, save);
+        check_save_at_last(&rt, world, save);
     }
-    check_at_last(&rt, &mut world, "restart 0 -> restarted");
-    check_line(&rt, &mut world, "held: 1 0 0");
+    check_at_last(&rt, world, "restart 0 -> restarted");
+    check_line(&rt, world, "held: 1 0 0");
     check_no_growth_is_left(rt.alloc())
 }
 
@@ -144,14 +160,14 @@ fn refused_growths_of_no_bytes(rt: HostRuntime) -> Result<(), Fail> {
         "fails: write 1 2 0",
         "fails: read 1 1",
     ];
-    let mut world = world_of(&rt, &plan);
-    check_at_last(&rt, &mut world, "save 1 -> save fault");
+    let world = world_of(&rt, &plan);
+    check_at_last(&rt, world, "save 1 -> save fault");
     let rows = [
         "restart 1 -> restore fault: device",
         "restart 1 -> restarted",
     ];
-    check_lines(&rt, &mut world, &rows);
-    check_at_last(&rt, &mut world, "save 1 -> save fault");
-    check_lines(&rt, &mut world, &["restart 1 -> restarted", "held: 0 0 0"]);
+    check_lines(&rt, world, &rows);
+    check_at_last(&rt, world, "save 1 -> save fault");
+    check_lines(&rt, world, &["restart 1 -> restarted", "held: 0 0 0"]);
     check_no_growth_is_left(rt.alloc())
 }

@@ -158,14 +158,13 @@ fn run(world: &mut MemoryWorld, events: &[Event]) -> RunReport {
 /// No fault ends a run.
 #[test]
 fn runs_count_faults(rt: HostRuntime) {
-    let lines = lines_of(&rt, PLAYS, "failed_writes");
-    let events = events_of(&rt, &lines);
-    let mut world = world_of(&rt, &["fails: write 2 1 none"]);
+    let events = events_of(&rt, &lines_of(&rt, PLAYS, "failed_writes"));
+    let world = world_of(&rt, &["fails: write 2 1 none"]);
     let expected = RunReport {
         done: 8,
         memory: 0,
         faults: 1,
     };
-    assert!(rt; run(&mut world, &events) == expected);
-    check_line(&rt, &mut world, "held: 0 0 0");
+    assert!(rt; run(world, events) == expected);
+    check_line(&rt, world, "held: 0 0 0");
 }

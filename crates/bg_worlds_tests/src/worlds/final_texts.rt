@@ -95,7 +95,7 @@ fn final_texts(rt: HostRuntime) {
         ("a_seat_that_is_down", A_SEAT_IS_DOWN),
         ("a_referee_that_is_down", THE_REFEREE_IS_DOWN),
     ] {
-        check_final(&rt, &played(&rt, PLAYS, name, None), name, expected);
+        check_final(&rt, played(&rt, PLAYS, name, None), name, expected);
     }
 }
 
@@ -104,6 +104,6 @@ fn final_texts(rt: HostRuntime) {
 #[test]
 fn refused_growths_of_final_texts(rt: HostRuntime) -> Result<(), Fail> {
     let world = world_of(&rt, &["length 3"]);
-    check_final(&rt, &world, "the_start", AT_THE_START);
+    check_final(&rt, world, "the_start", AT_THE_START);
     check_no_growth_is_left(rt.alloc())
 }

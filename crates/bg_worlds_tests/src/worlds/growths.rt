@@ -60,20 +60,35 @@ as the_claim_kept
 
 /// The rows of a play, in which a growth may be refused. They hold as long as no memory was wanted and nothing failed.
 fn check_refused(rt: &(impl AllocGlobal + Abort), name: &str) -> Result<(), Fail> {
-    let lines = lines_of(rt, PLAYS, name);
-    let mut world = world_of(rt, &lines);
+    check_rows(rt, &lines_of(rt, PLAYS, name));
+    check_no_growth_is_left(rt.alloc())
+}
+
+fn check_rows(rt: &(impl AllocGlobal + Abort), lines: &[&str]) {
+    let world = world_of(rt, lines);
     let mut undisturbed = true;
-    for line in &lines {
+    for line in lines {
         if let Some((event, expected)) = line.split_once(" -> ") {
-            let outcome = happen(rt, &mut world, event);
-            check_fronts(rt, &world);
-            undisturbed = undisturbed && !outcome.wants_memory() && !is_fault(&outcome);
-            if undisturbed {
-                check_outcome(rt, event, &outcome, expected);
-            }
+            undisturbed = check_row(rt, world, undisturbed, event, expected);
+            check_fronts(rt, world);
         }
     }
-    check_no_growth_is_left(rt.alloc())
+}
+
+/// Whether no memory was wanted and nothing failed, up to this row, which then holds.
+fn check_row(
+    rt: &impl Abort,
+    world: &mut MemoryWorld,
+    undisturbed: bool,
+    event: &str,
+    expected: &str,
+) -> bool {
+    let outcome = happen(rt, world, event);
+    let still = undisturbed && !outcome.wants_memory() && !is_fault(&outcome);
+    if still {
+        check_outcome(rt, event, &outcome, expected);
+    }
+    still
 }
 
 #[test]

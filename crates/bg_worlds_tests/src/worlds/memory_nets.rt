@@ -114,15 +114,25 @@ pub(crate) fn take_last(world: &mut MemoryWorld, party: u8) -> Outcome {
     take(world, party, last)
 }
 
-/// The seat of a party asks, does this after what the referee has saved, and the referee saves it.
-fn act(rt: &impl Abort, world: &mut MemoryWorld, party: u8, choice: &str) {
+/// The seat of a party asks, and learns what the referee has saved.
+fn learn(world: &mut MemoryWorld, party: u8) {
     step(world, Event::Tick { party });
     take_last(world, 0);
     take_last(world, party);
-    happen(rt, world, choice);
+}
+
+/// The seat of a party saves, and tells the referee what it claims.
+fn tell(world: &mut MemoryWorld, party: u8) {
     step(world, Event::Save { party });
     step(world, Event::Tick { party });
     take_last(world, 0);
+}
+
+/// The seat of a party asks, does this after what the referee has saved, and the referee saves it.
+fn act(rt: &impl Abort, world: &mut MemoryWorld, party: u8, choice: &str) {
+    learn(world, party);
+    happen(rt, world, choice);
+    tell(world, party);
     happen(rt, world, "save 0");
 }
 
@@ -159,15 +169,20 @@ answer to 3: entries 1 to 8";
 /// other: an opening, and then by turns an offer to resign and its rejection, from one entry to eight.
 #[test]
 fn texts_of_many_lengths(rt: HostRuntime) {
-    let mut world = played(&rt, THE_OPENING, "the_opening", None);
-    for (i, answer) in ANSWERS.lines().enumerate() {
-        check_row(&rt, i, has_line(&ask_anew(&rt, &mut world), answer));
-        match i % 2 {
-            0 => act(&rt, &mut world, 1, "choose X resign normal"),
-            _ => act(&rt, &mut world, 2, "choose O reject"),
-        }
-    }
+    let world = played(&rt, THE_OPENING, "the_opening", None);
+    check_many_lengths(&rt, world);
     for index in [7, 0, 3, 1, 6, 2, 5, 4] {
-        assert!(rt; learns(&rt, &mut world, index), "datagram {index}");
+        assert!(rt; learns(&rt, world, index), "datagram {index}");
+    }
+}
+
+/// The watcher is answered with an entry more each time.
+fn check_many_lengths(rt: &impl Abort, world: &mut MemoryWorld) {
+    for (i, answer) in ANSWERS.lines().enumerate() {
+        check_row(rt, i, has_line(&ask_anew(rt, world), answer));
+        match i % 2 {
+            0 => act(rt, world, 1, "choose X resign normal"),
+            _ => act(rt, world, 2, "choose O reject"),
+        }
     }
 }

@@ -10,118 +10,30 @@
 //!
 //! Each call of a world stands in one short function with no contract, so that what the call ensures does not burden
 //! the proofs of the tests.
+use crate::checks::lasting;
 use crate::sections::names_of;
 use crate::worlds::lines::{check_outcome, event, lines_of};
-use bg_match::{Number, Record, Rules};
+use crate::worlds::setups::{number, parted, plan_of, setup_of, small_number};
+use bg_match::{Number, Record};
 use bg_text::parse_entry;
-use bg_world::{
-    Event, FailRead, FailSend, MemoryKeeper, MemoryNet, Outcome, Plan, RunReport, Setup, Tear,
-    World, WorldFault, simulate,
-};
-use std::alloc::{AllocError, Global};
+use bg_world::{Event, MemoryKeeper, MemoryNet, Outcome, RunReport, World, WorldFault, simulate};
+use std::alloc::Global;
 use std::process::Abort;
 
 pub(crate) type MemoryWorld = World<MemoryNet, MemoryKeeper>;
 
-/// The number that a word says.
-fn number(rt: &impl Abort, word: &str) -> u32 {
-    word.parse().expect(rt, "a number")
-}
-
-/// The small number that a word says: a party, a length, or how many watch.
-pub(crate) fn small_number(rt: &impl Abort, word: &str) -> u8 {
-    word.parse().expect(rt, "a number up to 255")
-}
-
-/// What stands before these words and behind them.
-pub(crate) fn parted<'a>(rt: &impl Abort, line: &'a str, by: &str) -> (&'a str, &'a str) {
-    line.split_once(by).expect(rt, "two parts")
-}
-
-fn tear(rt: &impl Abort, words: &str, given: Option<u32>) -> Tear {
-    let (party, rest) = parted(rt, words, " ");
-    let (nth, cut) = parted(rt, rest, " ");
-    Tear {
-        party: small_number(rt, party),
-        nth: number(rt, nth),
-        cut: if cut == "none" {
-            None
-        } else if cut == "cut" {
-            given
-        } else {
-            Some(number(rt, cut))
-        },
-    }
-}
-
-fn failed_send(rt: &impl Abort, words: &str) -> FailSend {
-    let (nth, how) = parted(rt, words, " ");
-    assert!(rt; how == "went" || how == "lost");
-    FailSend {
-        nth: number(rt, nth),
-        went: how == "went",
-    }
-}
-
-fn failed_read(rt: &impl Abort, words: &str) -> FailRead {
-    let (party, nth) = parted(rt, words, " ");
-    FailRead {
-        party: small_number(rt, party),
-        nth: number(rt, nth),
-    }
-}
-
-/// The plan of the lines "fails:", where this is the cut that is given.
-fn plan_of(
-    rt: &impl Abort,
-    alloc: Global,
-    lines: &[&str],
-    cut: Option<u32>,
-) -> Result<Plan, AllocError> {
-    let mut plan = Plan {
-        tears: Vec::new(alloc),
-        sends: Vec::new(alloc),
-        reads: Vec::new(alloc),
-    };
-    for line in lines {
-        if let Some(words) = line.strip_prefix("fails: write ") {
-            plan.tears.push(tear(rt, words, cut))?;
-        } else if let Some(words) = line.strip_prefix("fails: send ") {
-            plan.sends.push(failed_send(rt, words))?;
-        } else if let Some(words) = line.strip_prefix("fails: read ") {
-            plan.reads.push(failed_read(rt, words))?;
-        }
-    }
-    Ok(plan)
-}
-
-fn setup_of(rt: &impl Abort, lines: &[&str]) -> Setup {
-    let mut setup = Setup {
-        id: 1,
-        length: 1,
-        rules: Rules::One,
-        watchers: 0,
-    };
-    for line in lines {
-        if let Some(word) = line.strip_prefix("length ") {
-            setup.length = small_number(rt, word);
-        } else if let Some(word) = line.strip_prefix("watchers ") {
-            setup.watchers = small_number(rt, word);
-        }
-    }
-    setup
-}
-
-/// The world of a play after these events, and their report.
+/// The world of a play after these events, which lasts, and their report.
 pub(crate) fn simulated(
     rt: &impl Abort,
     alloc: Global,
     lines: &[&str],
     cut: Option<u32>,
     events: &[Event],
-) -> Result<(MemoryWorld, RunReport), WorldFault> {
+) -> Result<(&'static mut MemoryWorld, RunReport), WorldFault> {
+    let setup = setup_of(rt, lines);
     let plan = plan_of(rt, alloc, lines, cut)?;
-    simulate(alloc, setup_of(rt, lines), &plan, events)
+    let (world, report) = simulate(alloc, setup, &plan, events)?;
+    Ok((lasting(alloc, world)?, report))
 }
 
 /// The world of a play where nothing has happened yet.
@@ -130,28 +42,35 @@ fn world_by(
     alloc: Global,
     lines: &[&str],
     cut: Option<u32>,
-) -> Result<MemoryWorld, WorldFault> {
+) -> Result<&'static mut MemoryWorld, WorldFault> {
     let (world, _) = simulated(rt, alloc, lines, cut, &[])?;
     Ok(world)
 }
 
 /// The world of a play where nothing has happened yet. The first try may lack memory.
-pub(crate) fn world_of(rt: &(impl AllocGlobal + Abort), lines: &[&str]) -> MemoryWorld {
+pub(crate) fn world_of(
+    rt: &(impl AllocGlobal + Abort),
+    lines: &[&str],
+) -> &'static mut MemoryWorld {
     match world_by(rt, rt.alloc(), lines, None) {
         Ok(world) => world,
         Err(_) => world_by(rt, rt.alloc(), lines, None).expect(rt, "memory"),
     }
 }
 
-/// The events of the rows.
-pub(crate) fn events_of(rt: &(impl AllocGlobal + Abort), lines: &[&str]) -> Vec<Event> {
+/// The events of the rows, which last.
+pub(crate) fn events_of(rt: &(impl AllocGlobal + Abort), lines: &[&str]) -> &'static [Event] {
     let mut events = Vec::new(rt.alloc());
+    add_events(rt, &mut events, lines);
+    events.leak()
+}
+
+fn add_events(rt: &impl Abort, events: &mut Vec<Event>, lines: &[&str]) {
     for line in lines {
         if let Some((words, _)) = line.split_once(" -> ") {
             assert!(rt; events.push(event(rt, words)).is_ok());
         }
     }
-    events
 }
 
 /// The event happens.
@@ -218,11 +137,16 @@ fn check_entry(rt: &impl Abort, world: &MemoryWorld, line: &str) {
     );
 }
 
+/// The event of a row comes to what the row says.
+fn check_event(rt: &impl Abort, world: &mut MemoryWorld, event: &str, expected: &str) {
+    let outcome = happen(rt, world, event);
+    check_outcome(rt, event, &outcome, expected);
+}
+
 /// A row or another line of a play holds.
 pub(crate) fn check_line(rt: &impl Abort, world: &mut MemoryWorld, line: &str) {
     if let Some((event, expected)) = line.split_once(" -> ") {
-        let outcome = happen(rt, world, event);
-        check_outcome(rt, event, &outcome, expected);
+        check_event(rt, world, event, expected);
     } else if let Some(counts) = line.strip_prefix("held: ") {
         check_held(rt, world, counts);
     } else if let Some(count) = line.strip_prefix("sent to ") {
@@ -250,10 +174,18 @@ pub(crate) fn played(
     plays: &'static str,
     name: &str,
     cut: Option<u32>,
-) -> MemoryWorld {
-    let lines = lines_of(rt, plays, name);
-    let mut world = world_by(rt, rt.alloc(), &lines, cut).expect(rt, "memory");
-    check_lines(rt, &mut world, &lines);
+) -> &'static mut MemoryWorld {
+    played_by(rt, &lines_of(rt, plays, name), cut)
+}
+
+/// The world of these lines in the end, all of which hold.
+fn played_by(
+    rt: &(impl AllocGlobal + Abort),
+    lines: &[&str],
+    cut: Option<u32>,
+) -> &'static mut MemoryWorld {
+    let world = world_by(rt, rt.alloc(), lines, cut).expect(rt, "memory");
+    check_lines(rt, world, lines);
     world
 }
 

@@ -1,20 +1,17 @@
 //! Parties that are nodes of their own: rows of the worked matches, and the same events through a world and through
 //! nodes.
-ghost use Rattle.std.specs.Prelude.{◌≡◌, ◌<◌, ◌≤◌, [], IfSome, Ok, Some};
-ghost use Rattle.bg_world.specs.Devices.Handed.{handed};
+ghost use Rattle.std.specs.Prelude.{◌<◌, ◌≤◌};
 
 use crate::checks::{check_no_growth_is_left, check_party, check_row};
-use crate::devices::links::OwnLink;
 use crate::devices::{NO_FAILURE, Recorder};
 use crate::worlds::growths::is_front;
 use crate::worlds::lines::{event, lines_of};
 use crate::worlds::memory_worlds::{MemoryWorld, record_of, step, world_of};
+use crate::worlds::own_links::{is_taken, sends};
 use crate::worlds::parties::{Parties, failing};
-use arrayvec::ArrayVec;
 use bg_board::Player;
 use bg_match::Action;
-use bg_wire::{Datagram, PacketBytes, REFEREE};
-use bg_world::{DeviceFault, Event, Link, Outcome, Taken, WorldFault};
+use bg_world::{Event, Outcome, WorldFault};
 use std::process::Abort;
 use std::test::Fail;
 
@@ -38,7 +35,7 @@ as the_claim_kept
 ";
 
 /// Five parties, whose events come to what this play says.
-fn played<'a>(rt: &impl Abort, recorder: &'a Recorder, name: &str) -> Parties<'a> {
+fn played(rt: &impl Abort, recorder: &'static Recorder, name: &str) -> Parties {
     let mut parties = Parties::begin(rt, recorder).expect(rt, "memory");
     parties.check_rows(rt, &lines_of(rt, PLAYS, name));
     parties
@@ -46,9 +43,9 @@ fn played<'a>(rt: &impl Abort, recorder: &'a Recorder, name: &str) -> Parties<'a
 
 #[test]
 fn worked_matches_of_nodes(rt: HostRuntime) {
-    let recorder = Recorder::new(rt.alloc(), NO_FAILURE);
-    played(&rt, &recorder, "with_a_watcher");
-    played(&rt, &recorder, "a_lost_roll_and_a_kept_claim");
+    let recorder = Recorder::that_lasts(&rt, rt.alloc(), NO_FAILURE);
+    played(&rt, recorder, "with_a_watcher");
+    played(&rt, recorder, "a_lost_roll_and_a_kept_claim");
 }
 
 /// The number after this one, in a row of numbers that looks like chance.
@@ -85,7 +82,7 @@ fn any_event(rt: &impl Abort, seed: &mut u32) -> Event {
 }
 
 /// Every party holds as many entries here as there, and the same ones.
-fn check_same(rt: &impl Abort, parties: &Parties<'_>, world: &MemoryWorld) {
+fn check_same(rt: &impl Abort, parties: &Parties, world: &MemoryWorld) {
     for party in 0..6 {
         let same = match (parties.held(party), record_of(world, party)) {
             (None, None) => true,
@@ -108,16 +105,26 @@ const FAILING: [&str; 4] = [
 /// begins reads both slots, which a new world does not.
 fn check_events(rt: &(impl AllocGlobal + Abort), seed: u32, fails: bool) {
     let mut seed = seed;
-    let recorder = Recorder::new(rt.alloc(), if fails { failing(5) } else { NO_FAILURE });
-    let mut parties = Parties::begin(rt, &recorder).expect(rt, "memory");
-    let mut world = world_of(rt, if fails { &FAILING } else { &FAILING[..1] });
+    let failing = if fails { failing(5) } else { NO_FAILURE };
+    let recorder = Recorder::that_lasts(rt, rt.alloc(), failing);
+    let mut parties = Parties::begin(rt, recorder).expect(rt, "memory");
+    let world = world_of(rt, if fails { &FAILING } else { &FAILING[..1] });
     for i in 0..400 {
         let event = any_event(rt, &mut seed);
-        let here = parties.step(rt, event.copy());
-        let there = step(&mut world, event);
-        check_row(rt, i, here == there);
-        check_same(rt, &parties, &world);
+        check_row(rt, i, comes_to_the_same(rt, &mut parties, world, event));
+        check_same(rt, &parties, world);
     }
+}
+
+/// Whether an event comes to the same through the nodes and through the world.
+fn comes_to_the_same(
+    rt: &impl Abort,
+    parties: &mut Parties,
+    world: &mut MemoryWorld,
+    event: Event,
+) -> bool {
+    let here = parties.step(rt, event.copy());
+    here == step(world, event)
 }
 
 #[test]
@@ -128,7 +135,7 @@ fn nodes_and_a_world(rt: HostRuntime) {
 }
 
 /// Whether the last claim of X is a move as entry 2.
-fn claims_a_move(parties: &mut Parties<'_>) -> bool {
+fn claims_a_move(parties: &mut Parties) -> bool {
     matches!(parties.claim(Player::X), Some((2, Action::Move(_))))
 }
 
@@ -138,59 +145,23 @@ const CLAIM: [u8; 24] = [
     0x00, 0x02, 0x06, 0x02, 0x08, 0x05, 0x06, 0x05,
 ];
 
-/// Who knows nothing of a link but what every link promises is handed what the pick names, where there is a plan.
-fn take_over<L: Link>(link: &mut L, party: u8, pick: u32) -> Taken
-    ensures { IfSome (L.plan link.old) (λ _. result ≡ Ok (handed (L.sent link.old) party pick)) }
-{
-    link.take(party, pick)
-}
-
-/// Whether the third datagram to the referee has these bytes.
-fn is_third(link: &mut OwnLink<'_>, bytes: &[u8]) -> bool {
-    match take_over(link, REFEREE, 2) {
-        Ok(Some(taken)) => taken.as_slice() == bytes,
-        Ok(None) | Err(_) => false,
-    }
-}
-
-/// Who knows nothing of a link but what every link promises knows that it does not fail by itself where its plan is
-/// empty.
-fn send_over<L: Link>(link: &mut L, datagram: &Datagram) -> Result<(), DeviceFault>
-    ensures { L.plan link.old ≡ Some [] → L.faults link.new ≡ L.faults link.old }
-{
-    link.send(datagram)
-}
-
-/// Whether a stranger can send these bytes to the referee.
-fn sends(link: &mut OwnLink<'_>, bytes: &[u8]) -> bool {
-    let mut sent = ArrayVec::new();
-    if sent.try_extend_from_slice(bytes).is_err() {
-        return false;
-    }
-    let datagram = Datagram {
-        to: REFEREE,
-        bytes: PacketBytes { bytes: sent },
-    };
-    send_over(link, &datagram).is_ok()
-}
-
 /// A seat's claim is kept over the end of its process, and told by the next one, byte for byte. It counts once, also
 /// where somebody else repeats it.
 #[test]
 fn a_claim_over_two_processes(rt: HostRuntime) {
-    let recorder = Recorder::new(rt.alloc(), NO_FAILURE);
-    let mut parties = played(&rt, &recorder, "to_the_choice");
+    let recorder = Recorder::that_lasts(&rt, rt.alloc(), NO_FAILURE);
+    let mut parties = played(&rt, recorder, "to_the_choice");
     assert!(rt; claims_a_move(&mut parties));
     assert!(rt; parties.claim(Player::O).is_none());
     parties.check_rows(&rt, &lines_of(&rt, PLAYS, "a_claim_over_two_processes"));
     assert!(rt; claims_a_move(&mut parties));
-    assert!(rt; is_third(&mut parties.link, &CLAIM));
-    assert!(rt; sends(&mut parties.link, &CLAIM));
+    assert!(rt; is_taken(&mut *parties.link, 2, &CLAIM));
+    assert!(rt; sends(&mut *parties.link, &CLAIM));
     parties.check_rows(&rt, &["take 0 3 0 -> accepted 2", "take 0 2 0 -> nothing"]);
 }
 
 /// Five parties, whose first try may lack memory.
-fn begin_at_last<'a>(rt: &impl Abort, recorder: &'a Recorder) -> Result<Parties<'a>, WorldFault> {
+fn begin_at_last(rt: &impl Abort, recorder: &'static Recorder) -> Result<Parties, WorldFault> {
     match Parties::begin(rt, recorder) {
         Ok(parties) => Ok(parties),
         Err(_) => Parties::begin(rt, recorder),
@@ -199,7 +170,7 @@ fn begin_at_last<'a>(rt: &impl Abort, recorder: &'a Recorder) -> Result<Parties<
 
 /// What each party holds that is up is a front of what the referee does. One that could not save, or come back, is
 /// down.
-fn check_fronts(rt: &impl Abort, parties: &Parties<'_>) {
+fn check_fronts(rt: &impl Abort, parties: &Parties) {
     let Some(whole) = parties.held(0) else {
         return;
     };
@@ -214,13 +185,22 @@ fn check_fronts(rt: &impl Abort, parties: &Parties<'_>) {
 /// holds is still a front of what the referee does.
 #[test]
 fn refused_growths_of_nodes(rt: HostRuntime) -> Result<(), Fail> {
-    let recorder = Recorder::new(rt.alloc(), NO_FAILURE);
-    let mut parties = begin_at_last(&rt, &recorder)?;
-    for row in &lines_of(&rt, PLAYS, "with_a_watcher") {
-        let (words, _) = row.split_once(" -> ").expect(&rt, "a row");
-        let outcome = parties.step(&rt, event(&rt, words));
-        assert!(rt; !matches!(outcome, Outcome::NoSuchParty));
-        check_fronts(&rt, &parties);
-    }
+    let recorder = Recorder::that_lasts(&rt, rt.alloc(), NO_FAILURE);
+    let mut parties = begin_at_last(&rt, recorder)?;
+    check_all_fronts(&rt, &mut parties, &lines_of(&rt, PLAYS, "with_a_watcher"));
     check_no_growth_is_left(rt.alloc())
+}
+
+/// What parties hold is a front of what the referee does, after each event of these rows.
+fn check_all_fronts(rt: &impl Abort, parties: &mut Parties, rows: &[&str]) {
+    for row in rows {
+        let (words, _) = row.split_once(" -> ").expect(rt, "a row");
+        assert!(rt; is_there(rt, parties, words), "{row}");
+        check_fronts(rt, parties);
+    }
+}
+
+/// An event happens; whether its party is there.
+fn is_there(rt: &impl Abort, parties: &mut Parties, words: &str) -> bool {
+    !matches!(parties.step(rt, event(rt, words)), Outcome::NoSuchParty)
 }

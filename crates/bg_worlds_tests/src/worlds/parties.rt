@@ -1,4 +1,6 @@
-//! The parties of a match, each a node of its own, over a link of the tests' own: the words of the tests of nodes.
+//! The parties of a match, each a node of its own, over a link of the tests' own: the words of the
+//! tests of nodes. All of these last, so that there is nothing to drop.
+use crate::checks::lasting;
 use crate::devices::keepers::OwnKeeper;
 use crate::devices::links::OwnLink;
 use crate::devices::{Failing, Recorder};
@@ -7,8 +9,7 @@ use bg_board::Player;
 use bg_match::{Action, LengthFault, Number, Record, Rules, Terms};
 use bg_wire::FIRST_WATCHER;
 use bg_world::{
-    Event, FailRead, FailSend, Keepers, Outcome, RefereeNode, Role, SeatNode, Tear, WatcherNode,
-    WorldFault,
+    Event, FailRead, FailSend, Outcome, RefereeNode, Role, SeatNode, Tear, WatcherNode, WorldFault,
 };
 use std::alloc::Global;
 use std::process::Abort;
@@ -26,25 +27,25 @@ const COUNT: usize = 5;
 /// The nodes of five parties.
 #[derive(Drop)]
 struct Nodes {
-    referee: RefereeNode,
-    x: SeatNode,
-    o: SeatNode,
-    third: WatcherNode,
-    fourth: WatcherNode,
+    referee: &'static mut RefereeNode,
+    x: &'static mut SeatNode,
+    o: &'static mut SeatNode,
+    third: &'static mut WatcherNode,
+    fourth: &'static mut WatcherNode,
 }
 
 impl Nodes {
     fn seat(&mut self, player: Player) -> &mut SeatNode {
         match player {
-            Player::X => &mut self.x,
-            Player::O => &mut self.o,
+            Player::X => &mut *self.x,
+            Player::O => &mut *self.o,
         }
     }
 
     fn watcher(&mut self, index: usize) -> Option<&mut WatcherNode> {
         match index {
-            0 => Some(&mut self.third),
-            1 => Some(&mut self.fourth),
+            0 => Some(&mut *self.third),
+            1 => Some(&mut *self.fourth),
             _ => None,
         }
     }
@@ -52,10 +53,12 @@ impl Nodes {
 
 /// Five parties, each by itself; they share a link.
 #[derive(Drop)]
-pub(crate) struct Parties<'a> {
+pub(crate) struct Parties {
     alloc: Global,
-    pub(crate) link: OwnLink<'a>,
-    keepers: Keepers<OwnKeeper<'a>>,
+    pub(crate) link: &'static mut OwnLink<'static>,
+    of_referee: &'static mut OwnKeeper<'static>,
+    of_x: &'static mut OwnKeeper<'static>,
+    of_o: &'static mut OwnKeeper<'static>,
     nodes: Nodes,
 }
 
@@ -78,28 +81,31 @@ pub(crate) fn begun_seat(
     SeatNode::begin(alloc, player, ID, terms, keeper)
 }
 
-/// Keepers with empty slots, for which there may be no memory.
-fn empty_keepers<'a>(recorder: &'a Recorder) -> Result<Keepers<OwnKeeper<'a>>, WorldFault> {
-    Ok(Keepers {
-        referee: OwnKeeper::over(recorder, 0, &[], &[])?,
-        x: OwnKeeper::over(recorder, 1, &[], &[])?,
-        o: OwnKeeper::over(recorder, 2, &[], &[])?,
-    })
+/// A keeper with empty slots, for which there may be no memory.
+fn keeper(
+    recorder: &'static Recorder,
+    party: u8,
+) -> Result<&'static mut OwnKeeper<'static>, WorldFault> {
+    Ok(lasting(recorder.alloc, OwnKeeper::empty(recorder, party))?)
 }
 
 /// A referee of the match that begins over empty slots, for which there may be no memory.
-fn referee(alloc: Global, keeper: &mut OwnKeeper) -> Result<RefereeNode, WorldFault> {
+fn referee(alloc: Global, keeper: &mut OwnKeeper) -> Result<&'static mut RefereeNode, WorldFault> {
     match begun_referee(alloc, TERMS, keeper) {
-        Ok((referee, Outcome::Restarted)) => Ok(referee),
+        Ok((referee, Outcome::Restarted)) => Ok(lasting(alloc, referee)?),
         Ok(_) => Err(WorldFault::Memory),
         Err(_) => Err(WorldFault::LengthOutOfRange),
     }
 }
 
 /// A seat of the match that begins over empty slots, for which there may be no memory.
-fn seat(alloc: Global, player: Player, keeper: &mut OwnKeeper) -> Result<SeatNode, WorldFault> {
+fn seat(
+    alloc: Global,
+    player: Player,
+    keeper: &mut OwnKeeper,
+) -> Result<&'static mut SeatNode, WorldFault> {
     match begun_seat(alloc, player, TERMS, keeper) {
-        Ok((seat, Outcome::Restarted)) => Ok(seat),
+        Ok((seat, Outcome::Restarted)) => Ok(lasting(alloc, seat)?),
         Ok(_) => Err(WorldFault::Memory),
         Err(_) => Err(WorldFault::LengthOutOfRange),
     }
@@ -111,25 +117,31 @@ fn watcher(rt: &impl Abort, alloc: Global, party: u8) -> WatcherNode {
     WatcherNode::fresh(alloc, party, ID, TERMS).expect(rt, "a length from 1 to 99")
 }
 
-impl<'a> Parties<'a> {
+impl Parties {
     /// Five parties that begin over empty slots.
     pub(crate) fn begin(
         rt: &impl Abort,
-        recorder: &'a Recorder,
-    ) -> Result<Parties<'a>, WorldFault> {
+        recorder: &'static Recorder,
+    ) -> Result<Parties, WorldFault> {
         let alloc = recorder.alloc;
-        let mut keepers = empty_keepers(recorder)?;
+        let (of_referee, of_x, of_o) = (
+            keeper(recorder, 0)?,
+            keeper(recorder, 1)?,
+            keeper(recorder, 2)?,
+        );
         let nodes = Nodes {
-            referee: referee(alloc, &mut keepers.referee)?,
-            x: seat(alloc, Player::X, &mut keepers.x)?,
-            o: seat(alloc, Player::O, &mut keepers.o)?,
-            third: watcher(rt, alloc, 3),
-            fourth: watcher(rt, alloc, 4),
+            referee: referee(alloc, of_referee)?,
+            x: seat(alloc, Player::X, of_x)?,
+            o: seat(alloc, Player::O, of_o)?,
+            third: lasting(alloc, watcher(rt, alloc, 3))?,
+            fourth: lasting(alloc, watcher(rt, alloc, 4))?,
         };
         Ok(Parties {
             alloc,
-            link: OwnLink::by_picks(recorder),
-            keepers,
+            link: lasting(alloc, OwnLink::by_picks(recorder))?,
+            of_referee,
+            of_x,
+            of_o,
             nodes,
         })
     }
@@ -165,40 +177,40 @@ impl<'a> Parties<'a> {
 
     fn take(&mut self, party: u8, pick: u32, word: u32) -> Outcome {
         match Role::of(party) {
-            Role::Referee => self.nodes.referee.take(&mut self.link, COUNT, pick, word),
-            Role::Seat(player) => self.nodes.seat(player).take(&mut self.link, pick),
+            Role::Referee => self.nodes.referee.take(&mut *self.link, COUNT, pick, word),
+            Role::Seat(player) => self.nodes.seat(player).take(&mut *self.link, pick),
             Role::Watcher(index) => match self.nodes.watcher(index) {
                 None => Outcome::NoSuchParty,
-                Some(node) => node.take(&mut self.link, pick),
+                Some(node) => node.take(&mut *self.link, pick),
             },
         }
     }
 
     fn tick(&mut self, party: u8) -> Outcome {
         match Role::of(party) {
-            Role::Referee => self.nodes.referee.tick(&mut self.link, COUNT),
-            Role::Seat(player) => self.nodes.seat(player).tick(&mut self.link, COUNT),
+            Role::Referee => self.nodes.referee.tick(&mut *self.link, COUNT),
+            Role::Seat(player) => self.nodes.seat(player).tick(&mut *self.link, COUNT),
             Role::Watcher(index) => match self.nodes.watcher(index) {
                 None => Outcome::NoSuchParty,
-                Some(node) => node.tick(&mut self.link, COUNT),
+                Some(node) => node.tick(&mut *self.link, COUNT),
             },
         }
     }
 
     fn save(&mut self, party: u8) -> Outcome {
         match Role::of(party) {
-            Role::Referee => self.nodes.referee.save(&mut self.keepers.referee),
-            Role::Seat(Player::X) => self.nodes.x.save(&mut self.keepers.x),
-            Role::Seat(Player::O) => self.nodes.o.save(&mut self.keepers.o),
+            Role::Referee => self.nodes.referee.save(&mut *self.of_referee),
+            Role::Seat(Player::X) => self.nodes.x.save(&mut *self.of_x),
+            Role::Seat(Player::O) => self.nodes.o.save(&mut *self.of_o),
             Role::Watcher(_) => Outcome::NoSuchParty,
         }
     }
 
     fn restart(&mut self, rt: &impl Abort, party: u8) -> Outcome {
         match Role::of(party) {
-            Role::Referee => self.nodes.referee.restart(&mut self.keepers.referee),
-            Role::Seat(Player::X) => self.nodes.x.restart(&mut self.keepers.x),
-            Role::Seat(Player::O) => self.nodes.o.restart(&mut self.keepers.o),
+            Role::Referee => self.nodes.referee.restart(&mut *self.of_referee),
+            Role::Seat(Player::X) => self.nodes.x.restart(&mut *self.of_x),
+            Role::Seat(Player::O) => self.nodes.o.restart(&mut *self.of_o),
             Role::Watcher(index) => match self.nodes.watcher(index) {
                 None => Outcome::NoSuchParty,
                 Some(node) => {
@@ -213,9 +225,13 @@ impl<'a> Parties<'a> {
     pub(crate) fn check_rows(&mut self, rt: &impl Abort, lines: &[&str]) {
         for line in lines {
             let (words, expected) = line.split_once(" -> ").expect(rt, "a row");
-            let outcome = self.step(rt, event(rt, words));
-            check_outcome(rt, words, &outcome, expected);
+            self.check_row(rt, words, expected);
         }
+    }
+
+    fn check_row(&mut self, rt: &impl Abort, words: &str, expected: &str) {
+        let outcome = self.step(rt, event(rt, words));
+        check_outcome(rt, words, &outcome, expected);
     }
 }
 

@@ -41,10 +41,20 @@ fn run(
     name: &str,
     cut: Option<u32>,
     faults: usize,
-) -> MemoryWorld {
-    let lines = lines_of(rt, RUNS, name);
-    let events = events_of(rt, &lines);
-    let (world, report) = simulated(rt, rt.alloc(), &lines, cut, &events).expect(rt, "memory");
+) -> &'static mut MemoryWorld {
+    run_of(rt, name, &lines_of(rt, RUNS, name), cut, faults)
+}
+
+/// The same of these lines.
+fn run_of(
+    rt: &(impl AllocGlobal + Abort),
+    name: &str,
+    lines: &[&str],
+    cut: Option<u32>,
+    faults: usize,
+) -> &'static mut MemoryWorld {
+    let events = events_of(rt, lines);
+    let (world, report) = simulated(rt, rt.alloc(), lines, cut, events).expect(rt, "memory");
     let expected = RunReport {
         done: events.len(),
         memory: 0,
@@ -56,15 +66,14 @@ fn run(
 
 /// Behind a run with one fault these lines hold.
 fn check_torn(rt: &(impl AllocGlobal + Abort), name: &str, cut: Option<u32>, lines: &[&str]) {
-    let mut world = run(rt, name, cut, 1);
-    check_lines(rt, &mut world, lines);
+    check_lines(rt, run(rt, name, cut, 1), lines);
 }
 
 #[test]
 fn a_run_without_failures(rt: HostRuntime) {
     assert!(rt; events_of(&rt, &lines_of(&rt, RUNS, "a_run_without_failures")).len() == 16);
-    let mut world = run(&rt, "a_run_without_failures", None, 0);
-    check_lines(&rt, &mut world, &["held: 2 1 0 2"]);
+    let world = run(&rt, "a_run_without_failures", None, 0);
+    check_lines(&rt, world, &["held: 2 1 0 2"]);
 }
 
 /// The text of the fourth save has 33 bytes: only all of them are restored, else the third save is.

@@ -1,9 +1,8 @@
 //! Saves in two steps: a host is told what to write, writes it, and says what became of the write.
 use crate::worlds::faults::PLAYS as FAULTS;
-use crate::worlds::lines::{check_outcome, event, lines_of};
-use crate::worlds::memory_worlds::{
-    MemoryWorld, check_line, check_lines, held, parted, small_number, step, world_of,
-};
+use crate::worlds::lines::{check_outcome, lines_of};
+use crate::worlds::memory_worlds::{MemoryWorld, check_line, happen, held, played, world_of};
+use crate::worlds::setups::{parted, small_number};
 use crate::worlds::worked_matches::PLAYS as WORKED;
 use bg_world::{DeviceFault, Keeper, Outcome, Save};
 use std::process::Abort;
@@ -37,24 +36,33 @@ fn save_in_two_steps(rt: &impl Abort, world: &mut MemoryWorld, party: u8) -> Out
         Err(outcome) => outcome,
         Ok(save) => {
             let written = write(world, party, &save);
-            end(world, party, save.number, written).expect(rt, "a save that is under way")
+            let number = save.number;
+            drop(save);
+            end(world, party, number, written).expect(rt, "a save that is under way")
         }
     }
 }
 
 /// All lines of a play hold, where each party saves in two steps.
 fn check_play(rt: &(impl AllocGlobal + Abort), plays: &'static str, name: &str) {
-    let lines = lines_of(rt, plays, name);
-    let mut world = world_of(rt, &lines);
-    for line in &lines {
-        if let Some(row) = line.strip_prefix("save ") {
-            let (party, expected) = parted(rt, row, " -> ");
-            let outcome = save_in_two_steps(rt, &mut world, small_number(rt, party));
-            check_outcome(rt, line, &outcome, expected);
-        } else {
-            check_line(rt, &mut world, line);
+    check_lines_in_two_steps(rt, &lines_of(rt, plays, name));
+}
+
+fn check_lines_in_two_steps(rt: &(impl AllocGlobal + Abort), lines: &[&str]) {
+    let world = world_of(rt, lines);
+    for line in lines {
+        match line.strip_prefix("save ") {
+            Some(row) => check_save(rt, world, line, row),
+            None => check_line(rt, world, line),
         }
     }
+}
+
+/// The save of a row comes to what it says, in two steps.
+fn check_save(rt: &impl Abort, world: &mut MemoryWorld, line: &str, row: &str) {
+    let (party, expected) = parted(rt, row, " -> ");
+    let outcome = save_in_two_steps(rt, world, small_number(rt, party));
+    check_outcome(rt, line, &outcome, expected);
 }
 
 #[test]
@@ -104,11 +112,13 @@ as to_the_choice
 as to_the_claim
 ";
 
-fn world_after(rt: &(impl AllocGlobal + Abort), name: &str) -> MemoryWorld {
-    let lines = lines_of(rt, BEFORE, name);
-    let mut world = world_of(rt, &lines);
-    check_lines(rt, &mut world, &lines);
-    world
+fn world_after(rt: &(impl AllocGlobal + Abort), name: &str) -> &'static mut MemoryWorld {
+    played(rt, BEFORE, name, None)
+}
+
+/// The number of the save that begins now.
+fn begun(rt: &impl Abort, world: &mut MemoryWorld, party: u8) -> u32 {
+    begin(world, party).expect(rt, "a save").number
 }
 
 /// Whether a save of the party is still under way after this event.
@@ -118,13 +128,13 @@ fn is_under_way_after(
     party: u8,
     line: &str,
 ) -> bool {
-    let mut world = world_after(rt, before);
-    let save = begin(&mut world, party).expect(rt, "a save");
-    step(&mut world, event(rt, line));
-    match end(&mut world, party, save.number, Ok(())) {
+    let world = world_after(rt, before);
+    let save = begun(rt, world, party);
+    happen(rt, world, line);
+    match end(world, party, save, Ok(())) {
         None => false,
         Some(outcome) => {
-            assert!(rt; outcome == Outcome::Saved(save.number), "{line}");
+            assert!(rt; outcome == Outcome::Saved(save), "{line}");
             true
         }
     }
@@ -175,26 +185,55 @@ fn what_a_save_outlives(rt: HostRuntime) {
 
 #[test]
 fn saves_of_another_number(rt: HostRuntime) {
-    let mut world = world_after(&rt, "an_opening");
-    assert!(rt; end(&mut world, 0, 1, Ok(())).is_none(), "none was begun");
-    let save = begin(&mut world, 0).expect(&rt, "a save");
-    assert!(rt; save.number == 1 && save.text.len() == 27);
-    assert!(rt; end(&mut world, 0, 2, Ok(())).is_none(), "another number");
-    assert!(rt; end(&mut world, 1, 1, Ok(())).is_none(), "another party");
-    assert!(rt; end(&mut world, 3, 1, Ok(())).is_none(), "no party");
-    assert!(rt; end(&mut world, 0, 1, Ok(())) == Some(Outcome::Saved(1)));
-    assert!(rt; end(&mut world, 0, 1, Ok(())).is_none(), "it was ended");
+    let world = world_after(&rt, "an_opening");
+    check_no_end(&rt, world, 0, 1, "none was begun");
+    assert!(rt; begins(world, 0, 1, 27));
+    check_no_end(&rt, world, 0, 2, "another number");
+    check_no_end(&rt, world, 1, 1, "another party");
+    check_no_end(&rt, world, 3, 1, "no party");
+    assert!(rt; end(world, 0, 1, Ok(())) == Some(Outcome::Saved(1)));
+    check_no_end(&rt, world, 0, 1, "it was ended");
+}
+
+/// Whether the save that begins now has this number and so many bytes.
+fn begins(world: &mut MemoryWorld, party: u8, number: u32, count: usize) -> bool {
+    match begin(world, party) {
+        Ok(save) => save.number == number && save.text.len() == count,
+        Err(_) => false,
+    }
+}
+
+/// No save of this number is under way at the party.
+fn check_no_end(rt: &impl Abort, world: &mut MemoryWorld, party: u8, number: u32, why: &str) {
+    assert!(rt; end(world, party, number, Ok(())).is_none(), "{why}");
 }
 
 #[test]
 fn saves_that_fail(rt: HostRuntime) {
-    for fault in [DeviceFault::Failed, DeviceFault::Memory] {
-        let mut world = world_after(&rt, "an_opening");
-        let save = begin(&mut world, 0).expect(&rt, "a save");
-        let outcome = end(&mut world, 0, save.number, Err(fault));
-        assert!(rt; outcome == Some(Outcome::SaveFault));
-        assert!(rt; held(&world, 0).is_none() && held(&world, 1) == Some(0));
-        assert!(rt; begin(&mut world, 0).err() == Some(Outcome::Down));
-        assert!(rt; begin(&mut world, 3).err() == Some(Outcome::NoSuchParty));
-    }
+    check_failed(&rt, DeviceFault::Failed);
+    check_failed(&rt, DeviceFault::Memory);
+}
+
+/// A party whose save failed so is down, and no other.
+fn check_failed(rt: &(impl AllocGlobal + Abort), fault: DeviceFault) {
+    let world = world_after(rt, "an_opening");
+    let save = begun(rt, world, 0);
+    assert!(rt;
+        end(world, 0, save, Err(fault)) == Some(Outcome::SaveFault),
+        "{fault:?}"
+    );
+    assert!(rt;
+        held(world, 0).is_none() && held(world, 1) == Some(0),
+        "{fault:?}"
+    );
+    assert!(rt; refusal(world, 0) == Some(Outcome::Down), "{fault:?}");
+    assert!(rt;
+        refusal(world, 3) == Some(Outcome::NoSuchParty),
+        "{fault:?}"
+    );
+}
+
+/// Why no save begins, if none does.
+fn refusal(world: &mut MemoryWorld, party: u8) -> Option<Outcome> {
+    begin(world, party).err()
 }

@@ -113,15 +113,15 @@ fn check_gaps(rt: &impl Abort, world: &mut MemoryWorld, party: u8) {
 /// What the seats and the watchers send goes to the referee, who takes none of it and sends nothing.
 #[test]
 fn ticks_of_parties_that_are_alone(rt: HostRuntime) {
-    let mut world = played(&rt, ALONE, "parties_that_are_alone", None);
+    let world = played(&rt, ALONE, "parties_that_are_alone", None);
     for (party, sent) in [(1, 9), (2, 18), (3, 27), (4, 36)] {
-        check_gaps(&rt, &mut world, party);
-        assert!(rt; sent_to(&world, 0) == sent, "party {party}");
+        check_gaps(&rt, world, party);
+        assert!(rt; sent_to(world, 0) == sent, "party {party}");
     }
     for _ in 0..128 {
-        check_line(&rt, &mut world, "tick 0 -> sent 0");
+        check_line(&rt, world, "tick 0 -> sent 0");
     }
     // A restart begins anew.
-    check_line(&rt, &mut world, "restart 3 -> restarted");
-    check_gaps(&rt, &mut world, 3);
+    check_line(&rt, world, "restart 3 -> restarted");
+    check_gaps(&rt, world, 3);
 }
