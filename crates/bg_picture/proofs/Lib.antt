@@ -7,6 +7,7 @@ pub mod DrawnDice
 pub mod DrawnParts
 pub mod Ends
 pub mod Listed
+pub mod Numbered
 pub mod Parts
 pub mod Plain
 pub mod Told

@@ -1,20 +1,22 @@
 -- What holds of pictures and pages.
-use Rattle.std.specs.Prelude.{◌≡◌, ◌≢◌, ◌==◌, ◌<◌, ◌*◌, ◌^◌, ◌⊎◌, ℕ, Bool, not, ◌&&◌, List, [], ◌∷◌, Option, Some, None}
-use Rattle.std.specs.Prelude.{IsTrue, codes}
+use Rattle.std.specs.Prelude.{◌≡◌, ◌≢◌, ◌==◌, ◌<◌, ◌≤◌, ◌*◌, ◌^◌, ◌⊎◌, ℕ, Bool, not, ◌&&◌, IsTrue}
+use Rattle.std.specs.Prelude.{List, [], ◌∷◌, ◌++◌, length, codes, Option, Some, None}
 use Rattle.std.specs.List.{AllByRecursion, Contains, flat_map, list_all}
 use Rattle.bg_board.specs.Position.{IsPosition}
 use Rattle.bg_board.specs.declared.players.Player.{Player}
 use Rattle.bg_turns.specs.declared.throws.Dice.{Dice}
 use Rattle.bg_match.specs.State.{State, IsState}
+use Rattle.bg_match.specs.declared.entries.Entry.{Entry}
 use Rattle.bg_match.specs.declared.phases.Cube.{Cube}
 use Rattle.bg_match.specs.declared.phases.Phase.{Phase}
 use Rattle.bg_match.specs.declared.phases.Phase.TheVariants as phase
 use Rattle.bg_picture.specs.Escapes.{escaped}
 use Rattle.bg_picture.specs.ItemData.{position_data}
-use Rattle.bg_picture.specs.Items.{anchor_text}
+use Rattle.bg_picture.specs.Items.{AreItemsOf, anchor_text, item_start}
 use Rattle.bg_picture.specs.Pictures.{drawing}
 use Rattle.bg_picture.specs.declared.anchors.Anchor.{Anchor}
 use Rattle.bg_picture.specs.declared.anchors.Anchor.TheVariants as anchor
+use Rattle.bg_picture.specs.declared.captions.Caption.{Caption}
 
 -- whether a byte neither begins nor ends mark-up or an attribute: it is none of " ' < >
 abbrev pub is_plain_byte : ℕ → Bool
@@ -46,6 +48,17 @@ anchor_number (anchor.Result game) = game
 abbrev pub ItemNamesDiffer : Type 0
 ItemNamesDiffer = (a b : Anchor) → anchor_number a < 2 ^ 64 → anchor_number b < 2 ^ 64
     → anchor_text a ≡ anchor_text b → a ≡ b
+
+-- a text has an item of this name
+abbrev pub HasItem : List ℕ → Anchor → Type 0
+HasItem text which =
+    (before : List ℕ) × (s : State) × (caption : Caption) × (after : List ℕ)
+    × (text ≡ before ++ item_start which s caption ++ after)
+
+-- the items of a match's entries are named by their numbers, from 1 to that of the last entry
+abbrev pub EntriesHaveItems : Type 0
+EntriesHaveItems = (s t : State) (entries : List Entry) (items : List ℕ) → AreItemsOf 1 s entries items t
+    → (number : ℕ) → 1 ≤ number → number ≤ length entries → HasItem items (anchor.Entry number)
 
 -- the dice that lie on the board
 abbrev pub lying_dice : Phase → Option Dice

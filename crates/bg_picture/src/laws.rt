@@ -1,6 +1,6 @@
 //! Laws of the definitions: each is the contract of a function that does nothing.
 ghost use Rattle.bg_picture.specs.Laws.{AmpersandsBeginReferences, EscapedTextsArePlain, ItemNamesDiffer};
-ghost use Rattle.bg_picture.specs.Laws.{DrawingsTellPositions, ItemsTellPositions};
+ghost use Rattle.bg_picture.specs.Laws.{DrawingsTellPositions, EntriesHaveItems, ItemsTellPositions};
 
 /// States that an escaped text has none of `<`, `>`, `"` and `'`, and each `&` in it begins a
 /// reference to a character.
@@ -9,9 +9,11 @@ pub fn escaped_texts_are_plain()
     ensures references { AmpersandsBeginReferences }
 {}
 
-/// States that no two items of a page have one name.
+/// States that no two items of a page have one name, and that those of its entries are named by
+/// their numbers: `p1` to that of the last entry.
 pub fn item_names_differ()
-    ensures { ItemNamesDiffer }
+    ensures differ { ItemNamesDiffer }
+    ensures entries { EntriesHaveItems }
 {}
 
 /// States that the data of a page's item, from which its picture is drawn, are those of one board,

@@ -4,3 +4,5 @@ pub mod LineAt
 pub mod SameFronts
 mod MatchFileVerdicts
 mod TranscriptVerdicts
+mod MatchFileRows
+mod TranscriptRows

@@ -1,6 +1,7 @@
 -- What `check` prints of a file.
 use Rattle.std.specs.Prelude.{◌≡◌, ◌⊎◌, ◌==◌, ◌<◌, ℕ, ◌-◌, Bool, false, List, [], ◌++◌, length, slice_index_or, Option, None, Some}
-use Rattle.std.specs.Prelude.{codes, if◌then◌else◌}
+use Rattle.std.specs.Prelude.{codes, if◌then◌else◌, ◌&&◌, not, nat_eq, IsTrue}
+use Rattle.std.specs.List.{ends_with, starts_with}
 use Rattle.bg_match.specs.Match.{Log}
 use Rattle.bg_match.specs.declared.limits.Rules.TheVariants as rules
 use Rattle.bg_text.specs.Boards.BoardText.{line_text}
@@ -122,8 +123,17 @@ ImportFaultsAreSaid =
     → IsRefusal 0 rules.One (lines_in bytes) fault → (fault ≡ import_fault.TooLong → most_bytes < length bytes)
     → IsImportFaultText name bytes fault columns text verdict → IsMatchFileText name bytes columns text verdict
 
--- what is printed of a file: it is a match file where its first line that tells something is the length of a match
+-- the name is that of a match file, and the first bytes aren't those of a transcript
+abbrev pub is_named_match_file : List ℕ → List ℕ → Bool
+is_named_match_file name bytes =
+    ends_with nat_eq name (codes ".mat") && not (starts_with nat_eq bytes (codes "length "))
+
+-- a file is read as a match file where its first line that tells something is the length of a match, or by its name
+abbrev pub IsReadAsMatchFile : List ℕ → List ℕ → Type 0
+IsReadAsMatchFile name bytes = BeginAsMatchFile (lines_in bytes) ⊎ IsTrue (is_named_match_file name bytes)
+
+-- what is printed of a file: it is read as a match file, or else as a transcript
 abbrev pub IsCheckText : List ℕ → List ℕ → Option ℕ → List ℕ → Verdict → Type 0
 IsCheckText name bytes columns text verdict =
-    (BeginAsMatchFile (lines_in bytes) × IsMatchFileText name bytes columns text verdict)
-    ⊎ ((BeginAsMatchFile (lines_in bytes) → ⊥) × IsTranscriptText name bytes columns text verdict)
+    (IsReadAsMatchFile name bytes × IsMatchFileText name bytes columns text verdict)
+    ⊎ ((IsReadAsMatchFile name bytes → ⊥) × IsTranscriptText name bytes columns text verdict)

@@ -6,3 +6,5 @@ pub mod Check
 pub mod Harmless
 pub mod Restored
 pub mod Folder
+pub mod RowFields
+pub mod Rows

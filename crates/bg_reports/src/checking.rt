@@ -1,11 +1,12 @@
 //! The report on a file that was judged.
-ghost use Rattle.std.specs.Prelude.{◌≡◌, ◌++◌, [], Some, IfOk, OnOk, slice_index_or};
+ghost use Rattle.std.specs.Prelude.{◌≡◌, ◌++◌, ◌↔◌, [], Some, IsTrue, IfOk, OnOk, slice_index_or};
 ghost use Rattle.bg_text.specs.Judge.Judging.{lines_of};
 ghost use Rattle.bg_text.specs.Judge.Transcripts.{transcript_fault_words};
 ghost use Rattle.bg_mat.specs.FaultWords.{import_fault_words};
 ghost use Rattle.bg_reports.specs.Check.{IsCheckText, IsImportFaultText, IsMatchFileText, IsMatchFileVerdict};
 ghost use Rattle.bg_reports.specs.Check.{ImportFaultsAreSaid, TranscriptFaultsAreSaid};
 ghost use Rattle.bg_reports.specs.Check.{IsTranscriptFaultText, IsTranscriptText, IsTranscriptVerdict};
+ghost use Rattle.bg_reports.specs.Check.{IsReadAsMatchFile, is_named_match_file as named_match_file};
 ghost use Rattle.bg_reports.specs.Check.{import_verdict, transcript_verdict};
 ghost use Rattle.bg_reports.specs.Check.{printed_line, refused_in, refused_part, room_in};
 
@@ -27,8 +28,8 @@ pub const MOST_SHOWN: usize = 1000;
 
 /// Returns the report on a file with this name, and its verdict. The report can't break a terminal,
 /// and fits a screen of this number of columns, if there is one (docs/FORMATS.md,
-/// "Checking files"). It has the verdict, and the line that is refused. Files are told apart by
-/// their contents: a match file of another program, or else a transcript.
+/// "Checking files"). It has the verdict, and the line that is refused. A match file of another
+/// program is told from a transcript by its contents, or else by the end of its name.
 ///
 /// # Errors
 /// `AllocError` where memory runs out.
@@ -40,11 +41,27 @@ pub fn check_text(
 ) -> Result<(Vec<u8>, Verdict), AllocError>
     ensures { IfOk result (λ checked. IsCheckText name.now bytes.now columns checked.0.items checked.1) }
 {
-    if is_match_file(bytes) {
+    if is_read_as_match_file(name, bytes) {
         said_of_match_file(alloc, name, bytes, columns)
     } else {
         said_of_transcript(alloc, name, bytes, columns)
     }
+}
+
+/// Returns whether a file with this name and these bytes is read as a match file of another program.
+/// It is one where its first line that tells something is the length of a match. Where no file
+/// begins so, the name of one that doesn't begin as a transcript decides.
+pub fn is_read_as_match_file(name: &str, bytes: &[u8]) -> bool
+    ensures { IsTrue result ↔ IsReadAsMatchFile name.now bytes.now }
+{
+    is_match_file(bytes) || is_named_match_file(name, bytes)
+}
+
+/// Returns whether a name is that of a match file, and the file doesn't begin as a transcript.
+fn is_named_match_file(name: &str, bytes: &[u8]) -> bool
+    ensures { result ≡ named_match_file name.now bytes.now }
+{
+    name.as_bytes().ends_with(b".mat") && !bytes.starts_with(b"length ")
 }
 
 /// Returns the report on a transcript, and its verdict.
@@ -208,7 +225,7 @@ fn said(
 }
 
 /// Returns the line of a file that its verdict refuses; nothing where it refuses none.
-fn refused_line(bytes: &[u8], verdict: Verdict) -> &[u8]
+pub(crate) fn refused_line(bytes: &[u8], verdict: Verdict) -> &[u8]
     ensures { result.now ≡ refused_in verdict (lines_of bytes.now) }
 {
     match verdict {

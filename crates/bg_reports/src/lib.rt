@@ -16,17 +16,20 @@ mod checking;
 mod endings;
 mod escapes;
 mod folders;
+mod rows;
 mod showing;
 
 pub use answers::ending_of;
 pub use checking::tallies::Tally;
 pub use checking::{
-    MOST_SHOWN, check_text, import_faults_are_said, said_of_import_fault, said_of_transcript_fault,
-    transcript_faults_are_said,
+    MOST_SHOWN, check_text, import_faults_are_said, is_read_as_match_file, said_of_import_fault,
+    said_of_transcript_fault, transcript_faults_are_said,
 };
 pub use endings::{DONE, Ending, FAILED, Found, REFUSED};
 pub use escapes::harmless;
 pub use folders::comparing::{Compared, compare};
 pub use folders::restored::restored_transcript;
 pub use folders::{SlotBytes, folder_text, party_text};
+pub use rows::check_row;
+pub use rows::fields::RowForm;
 pub use showing::show_text;

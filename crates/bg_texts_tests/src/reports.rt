@@ -4,6 +4,7 @@ mod folders;
 mod growths;
 mod refusals;
 mod restored;
+mod rows;
 mod saved_files;
 mod shown;
 mod transcript_refusals;
