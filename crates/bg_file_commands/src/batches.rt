@@ -108,20 +108,29 @@ fn convert<R>(
 where
     R: Files<File = File> + Eprint + AllocGlobal,
 {
-    let BatchOptions {
-        folder,
-        has_headers,
-        is_forced,
-        ..
-    } = *batch;
     let bytes = bytes_of(rt, name)?;
-    let text = conversion.text(rt, name, &bytes, has_headers)?;
-    let target = target_of(rt.alloc(), folder, name, conversion.endings());
-    put_file(rt, allocated(rt, target)?.as_str(), &text, is_forced)?;
-    if has_headers && conversion.is_import() {
-        keep_headers(rt, folder, name, &bytes, is_forced)?;
+    write_one(rt, conversion, batch, name, &bytes)?;
+    if batch.has_headers && conversion.is_import() {
+        keep_headers(rt, batch.folder, name, &bytes, batch.is_forced)?;
     }
     Ok(())
+}
+
+/// Writes what is made of a file with this name and these bytes.
+fn write_one<R>(
+    rt: &R,
+    conversion: &Conversion<'_>,
+    batch: &BatchOptions<'_, '_>,
+    name: &str,
+    bytes: &[u8],
+) -> Result<(), Ending>
+where
+    R: Files<File = File> + Eprint + AllocGlobal,
+{
+    let text = conversion.text(rt, name, bytes, batch.has_headers)?;
+    let target = target_of(rt.alloc(), batch.folder, name, conversion.endings());
+    let target = allocated(rt, target)?;
+    put_file(rt, target.as_str(), &text, batch.is_forced)
 }
 
 /// Returns the bytes of a file with this name. Reports why where it can't be read.

@@ -6,7 +6,8 @@ mod names;
 mod outputs;
 mod stamps;
 
-use crate::board::boards::Boards;
+use crate::board::boards::{look, search, write_index};
+use crate::board::matches::Place;
 use crate::out_folders::check_out_folder;
 use bg_console::wrong;
 use bg_options::BoardOptions;
@@ -32,17 +33,36 @@ where
         return Err(wrong(rt, "the name of a folder is empty"));
     }
     check_out_folder(rt, options.out)?;
-    let mut boards = Boards::new(rt, options);
-    for look in 0..u64::MAX {
-        if look % LOOKS_OF_SEARCH == 0 {
-            boards.search(look == 0)?;
+    keep(rt, &options)?;
+    Ok(Ending::Told)
+}
+
+/// Keeps the pages and their index.
+fn keep<R>(rt: &R, options: &BoardOptions<'_, '_>) -> Result<(), Ending>
+where
+    R: Files<File = File> + Clock + Eprint + AllocGlobal,
+{
+    let place = Place {
+        out: options.out,
+        numbering: options.numbering,
+    };
+    let mut matches = Vec::new(rt.alloc());
+    for number in 0..u64::MAX {
+        let is_searched = number % LOOKS_OF_SEARCH == 0;
+        let mut is_new = number == 0;
+        if is_searched && search(rt, options, &mut matches, number == 0)? {
+            is_new = true;
         }
-        boards.look()?;
-        boards.write_index()?;
+        if look(rt, place, &mut matches)? {
+            is_new = true;
+        }
+        if is_new {
+            write_index(rt, options, &matches)?;
+        }
         if options.is_once {
             break;
         }
         thread::sleep(rt, Duration::from_secs(PAUSE_SECONDS));
     }
-    Ok(Ending::Told)
+    Ok(())
 }

@@ -20,15 +20,30 @@ pub fn run<R>(
 where
     R: Input + Files<File = File> + Clock + Print + Eprint + AllocGlobal,
 {
+    check_names(rt, options.files, options.list)?;
     let CheckOptions {
-        files,
-        list,
         is_quiet,
-        is_recursive,
         format,
+        ..
     } = options;
-    check_names(rt, files, list)?;
     let mut checker = Checker::begin(rt, columns, is_quiet, format, progress)?;
+    check_files(rt, &mut checker, options.files, options.is_recursive)?;
+    if let Some(list) = options.list {
+        check_list(rt, &mut checker, list)?;
+    }
+    Ok(checker.end())
+}
+
+/// Judges files, and those in folders if `is_recursive` is set.
+fn check_files<R>(
+    rt: &R,
+    checker: &mut Checker<'_, R>,
+    files: &[&str],
+    is_recursive: bool,
+) -> Result<(), Ending>
+where
+    R: Input + Files<File = File> + Clock + Print + Eprint + AllocGlobal,
+{
     for name in files {
         if !is_folder(rt, name) {
             checker.check(name)?;
@@ -38,15 +53,21 @@ where
             checker.pass_over_folder(name)?;
         }
     }
-    match list {
-        Some(STANDARD_INPUT) => checker.check_list(rt.reader())?,
-        Some(path) => match File::open(rt, path) {
-            Ok(file) => checker.check_list(file)?,
-            Err(error) => return Err(unread_list(rt, &error)),
-        },
-        None => {}
+    Ok(())
+}
+
+/// Judges the files that a list names.
+fn check_list<R>(rt: &R, checker: &mut Checker<'_, R>, list: &str) -> Result<(), Ending>
+where
+    R: Input + Files<File = File> + Clock + Print + Eprint + AllocGlobal,
+{
+    if list == STANDARD_INPUT {
+        return checker.check_list(rt.reader());
     }
-    Ok(checker.end())
+    match File::open(rt, list) {
+        Ok(file) => checker.check_list(file),
+        Err(error) => Err(unread_list(rt, &error)),
+    }
 }
 
 /// Refuses an empty file name, and two uses of the standard input.

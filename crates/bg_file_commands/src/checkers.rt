@@ -108,23 +108,29 @@ where
 
     /// Judges the files of a list, which has one name per line.
     pub(crate) fn check_list(&mut self, list: impl Read + Drop) -> Result<(), Ending> {
-        let mut list = match BufReader::new(self.rt.alloc(), list) {
-            Ok(list) => list,
-            Err(_) => return Err(no_memory(self.rt)),
+        let Ok(mut list) = BufReader::new(self.rt.alloc(), list) else {
+            return Err(no_memory(self.rt));
         };
         let mut name = Vec::new(self.rt.alloc());
         for _ in 0..u64::MAX {
-            name.clear();
-            match (&mut list)
-                .take(MOST_NAME_BYTES)
-                .read_until(b'\n', &mut name)
-            {
-                Ok(0) => break,
-                Ok(_) => self.check_listed(&name)?,
-                Err(error) => return Err(unread_list(self.rt, &error)),
+            if !self.check_next(&mut list, &mut name)? {
+                break;
             }
         }
         Ok(())
+    }
+
+    /// Judges the file that the next line of a list names. Returns whether there is such a line.
+    fn check_next(&mut self, list: &mut impl BufRead, name: &mut Vec<u8>) -> Result<bool, Ending> {
+        name.clear();
+        match list.take(MOST_NAME_BYTES).read_until(b'\n', name) {
+            Ok(0) => Ok(false),
+            Ok(_) => {
+                self.check_listed(name)?;
+                Ok(true)
+            }
+            Err(error) => Err(unread_list(self.rt, &error)),
+        }
     }
 
     /// Judges the file that a line of a list names, with its line feed if it has one.
@@ -182,16 +188,15 @@ where
         if self.format == CheckFormat::Text {
             return Ok(());
         }
-        let mut text = Vec::new(self.rt.alloc());
         let row = Row::new(self.rt.alloc(), self.format);
+        let mut text = Vec::new(self.rt.alloc());
         allocated(self.rt, put_unread_row(row, &mut text, name, error))?;
         print_text(self.rt, &text)
     }
 
     /// Judges a file with these bytes, and prints the result.
     fn judge(&mut self, name: &str, bytes: &[u8]) -> Result<(), Ending> {
-        let mut text = Vec::new(self.rt.alloc());
-        let Ok(is_good) = self.put_result(&mut text, name, bytes) else {
+        let Ok((text, is_good)) = self.result(name, bytes) else {
             say_of(self.rt, name, " could not be judged: out of memory");
             self.pass_over();
             return Ok(());
@@ -207,13 +212,15 @@ where
         print_text(self.rt, &text)
     }
 
-    /// Appends the result of a file with this name, and returns whether it is good.
-    fn put_result(&self, out: &mut Vec<u8>, name: &str, bytes: &[u8]) -> Result<bool, AllocError> {
+    /// Returns the result of a file with this name, and whether it is good.
+    fn result(&self, name: &str, bytes: &[u8]) -> Result<(Vec<u8>, bool), AllocError> {
         let alloc = self.rt.alloc();
         if self.format == CheckFormat::Text {
-            return put_report(alloc, out, name, bytes, self.columns);
+            return report_on(alloc, name, bytes, self.columns);
         }
-        put_row(Row::new(alloc, self.format), out, name, bytes)
+        let mut text = Vec::new(alloc);
+        let is_good = put_row(Row::new(alloc, self.format), &mut text, name, bytes)?;
+        Ok((text, is_good))
     }
 
     /// Counts a file that is not judged, after the reason was reported.
@@ -228,18 +235,16 @@ where
     }
 }
 
-/// Appends the report on a file with this name, and returns whether it is good.
-fn put_report(
+/// Returns the report on a file with this name, and whether it is good.
+fn report_on(
     alloc: Global,
-    out: &mut Vec<u8>,
     name: &str,
     bytes: &[u8],
     columns: Option<usize>,
-) -> Result<bool, AllocError> {
+) -> Result<(Vec<u8>, bool), AllocError> {
     let name = format!(in alloc; "{}", Printable(name))?;
     let (text, verdict) = check_text(alloc, name.as_str(), bytes, columns)?;
-    out.extend_from_slice(&text)?;
-    Ok(matches!(verdict, Verdict::Fine(_)))
+    Ok((text, matches!(verdict, Verdict::Fine(_))))
 }
 
 /// Reports that the list of files could not be read.

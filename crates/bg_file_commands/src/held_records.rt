@@ -1,11 +1,12 @@
 //! The records that seats and transcripts hold of a match.
 
 use crate::inputs::{read_input, record_in};
+use crate::paths::slot_path;
 use bg_board::Player;
-use bg_console::{failed_at, no_memory, say, unread, wrong};
-use bg_match::Record;
+use bg_console::{allocated, failed_at, no_memory, say, unread, wrong, wrong_at};
+use bg_match::{Number, Record};
 use bg_reports::{Compared, Ending, compare};
-use bg_system::{MatchFile, Printable, SlotName, read_saved};
+use bg_system::{MatchFile, Printable, read_saved};
 use bg_wire::{REFEREE, RestoreRefusal, Saved, Slot, party_of, restore};
 use std::fs::File;
 use std::io;
@@ -36,23 +37,30 @@ impl<'a> Held<'a> {
         }
     }
 
-    /// Returns the one of the two that holds more, this one where they hold equally many. Ends with
-    /// `WrongArguments` where an entry differs, or they are of different matches.
-    pub(crate) fn or<R: Eprint>(self, rt: &R, other: Held<'a>) -> Result<Held<'a>, Ending> {
-        let (one, two) = (Printable(self.name), Printable(other.name));
+    /// Becomes the other one where that holds more. Ends with `WrongArguments` where an entry
+    /// differs, or they are of different matches.
+    pub(crate) fn take<R: Eprint>(&mut self, rt: &R, other: Held<'a>) -> Result<(), Ending> {
+        let (one, two) = (self.name, other.name);
         match compare(&self.saved, &other.saved) {
-            Compared::Behind(0) => Ok(self),
-            Compared::Behind(_) => Ok(other),
-            Compared::Differs(number) => Err(wrong(
-                rt,
-                format_args!("{one} and {two} differ at entry {number}: nothing was made"),
-            )),
-            Compared::OtherMatch => Err(wrong(
-                rt,
-                format_args!("{two} is of another length or other rules: nothing was made"),
-            )),
+            Compared::Behind(0) => {}
+            Compared::Behind(_) => *self = other,
+            Compared::Differs(number) => return Err(differ(rt, one, two, number)),
+            Compared::OtherMatch => {
+                let words = " is of another length or other rules: nothing was made";
+                return Err(wrong_at(rt, two, words));
+            }
         }
+        Ok(())
     }
+}
+
+/// Reports that two sources differ at an entry.
+fn differ(rt: &impl Eprint, one: &str, two: &str, number: Number) -> Ending {
+    let (one, two) = (Printable(one), Printable(two));
+    wrong(
+        rt,
+        format_args!("{one} and {two} differ at entry {number}: nothing was made"),
+    )
 }
 
 /// Returns a record as the referee's first save.
@@ -77,34 +85,52 @@ where
     R: Files<File = File> + Eprint + AllocGlobal,
 {
     let party = party_of(player);
-    let zero = slot_of(rt, folder, party, Slot::Zero)?;
-    let one = slot_of(rt, folder, party, Slot::One)?;
-    let (length, rules) = (file.terms.length, file.terms.rules);
-    let shown = Printable(folder);
-    match restore(rt.alloc(), &zero, &one, party, file.id, length, rules) {
+    match restored(rt, file, folder, party)? {
         Ok(Some(saved)) => Ok(Some(saved)),
         Ok(None) => {
             check_seat(rt, folder, player)?;
+            let shown = Printable(folder);
             say(
                 rt,
                 format_args!("{shown} has no save of party {party}: it counts as holding nothing"),
             );
             Ok(None)
         }
-        Err(RestoreRefusal::Damaged) => Err(wrong(
-            rt,
-            format_args!(
-                "the files of party {party} in {shown} are damaged (`show` says how): nothing was made"
-            ),
-        )),
-        Err(RestoreRefusal::WrongMatch) => Err(wrong(
-            rt,
-            format_args!(
-                "the files of party {party} in {shown} are of another match: nothing was made"
-            ),
-        )),
+        Err(RestoreRefusal::Damaged) => {
+            let why = " are damaged (`show` says how): nothing was made";
+            Err(wrong_seat(rt, folder, party, why))
+        }
+        Err(RestoreRefusal::WrongMatch) => {
+            let why = " are of another match: nothing was made";
+            Err(wrong_seat(rt, folder, party, why))
+        }
         Err(RestoreRefusal::Memory) => Err(no_memory(rt)),
     }
+}
+
+/// Returns what the files of a party in a folder restore, or why they restore nothing.
+fn restored<R>(
+    rt: &R,
+    file: MatchFile,
+    folder: &str,
+    party: u8,
+) -> Result<Result<Option<Saved>, RestoreRefusal>, Ending>
+where
+    R: Files<File = File> + Eprint + AllocGlobal,
+{
+    let zero = slot_of(rt, folder, party, Slot::Zero)?;
+    let one = slot_of(rt, folder, party, Slot::One)?;
+    let (length, rules) = (file.terms.length, file.terms.rules);
+    Ok(restore(rt.alloc(), &zero, &one, party, file.id, length, rules))
+}
+
+/// Reports why the files of a party in a folder are refused.
+fn wrong_seat(rt: &impl Eprint, folder: &str, party: u8, why: &str) -> Ending {
+    let shown = Printable(folder);
+    wrong(
+        rt,
+        format_args!("the files of party {party} in {shown}{why}"),
+    )
 }
 
 /// Refuses a folder for this player's seat that has saves of the other seat.
@@ -112,19 +138,25 @@ fn check_seat<R>(rt: &R, folder: &str, player: Player) -> Result<(), Ending>
 where
     R: Files<File = File> + Eprint + AllocGlobal,
 {
-    let (own, other) = (party_of(player), party_of(player.opponent()));
-    for slot in [Slot::Zero, Slot::One] {
-        if !slot_of(rt, folder, other, slot)?.is_empty() {
-            let shown = Printable(folder);
-            return Err(wrong(
-                rt,
-                format_args!(
-                    "{shown} has saves of party {other}, and none of party {own}: nothing was made"
-                ),
-            ));
-        }
+    let other = party_of(player.opponent());
+    if !has_saved(rt, folder, other, Slot::Zero)? && !has_saved(rt, folder, other, Slot::One)? {
+        return Ok(());
     }
-    Ok(())
+    let (own, shown) = (party_of(player), Printable(folder));
+    Err(wrong(
+        rt,
+        format_args!(
+            "{shown} has saves of party {other}, and none of party {own}: nothing was made"
+        ),
+    ))
+}
+
+/// Returns whether a party's file in a folder has a byte.
+fn has_saved<R>(rt: &R, folder: &str, party: u8, slot: Slot) -> Result<bool, Ending>
+where
+    R: Files<File = File> + Eprint + AllocGlobal,
+{
+    Ok(!slot_of(rt, folder, party, slot)?.is_empty())
 }
 
 /// Reads the bytes of a party's file in a folder.
@@ -132,10 +164,7 @@ fn slot_of<R>(rt: &R, folder: &str, party: u8, slot: Slot) -> Result<Vec<u8>, En
 where
     R: Files<File = File> + Eprint + AllocGlobal,
 {
-    let name = SlotName { party, slot };
-    let Ok(path) = format!(in rt.alloc(); "{folder}/{name}") else {
-        return Err(no_memory(rt));
-    };
+    let path = allocated(rt, slot_path(rt.alloc(), folder, party, slot))?;
     match read_saved(rt, path.as_str()) {
         Ok(bytes) => Ok(bytes),
         Err(error) => Err(failed_at(rt, path.as_str(), " could not be read", &error)),

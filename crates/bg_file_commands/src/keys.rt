@@ -1,8 +1,9 @@
 //! The command that makes the key files of a match.
 
 use crate::new_folders::{derived_keys, make_secret_of_keys, tell_key_files, write_key_files};
+use crate::paths::path_in;
 use bg_console::{
-    check_folder, has_key_secret, key_files_of, lock_of, match_of, no_memory, tell_if_open,
+    allocated, check_folder, has_key_secret, key_files_of, lock_of, match_of, tell_if_open,
 };
 use bg_reports::Ending;
 use bg_system::{KeyFiles, NamedMatch};
@@ -19,9 +20,7 @@ where
     check_folder(rt, folder, " is no folder")?;
     let _lock = lock_of(rt, folder)?;
     tell_if_open(rt, folder);
-    let Ok(path) = format!(in rt.alloc(); "{folder}/match") else {
-        return Err(no_memory(rt));
-    };
+    let path = allocated(rt, path_in(rt.alloc(), folder, "match"))?;
     let file = match_of(rt, path.as_str())?;
     let keys = keys_for(rt, folder, &file)?;
     write_key_files(rt, folder, &keys)?;

@@ -35,6 +35,7 @@ mod new_folders;
 pub mod new_match;
 mod out_folders;
 pub mod page;
+mod paths;
 pub mod picture;
 mod ports_beside;
 pub mod recover;

@@ -18,6 +18,7 @@ use crate::list::searching::{Place, places_below};
 use bg_console::{allocated, no_memory, print_text, say_of, wrong};
 use bg_options::{ListFormat, ListOptions};
 use bg_reports::{Ending, Found};
+use std::alloc::{AllocError, Global};
 use std::fs::File;
 use std::io;
 use std::rt::Files;
@@ -35,82 +36,87 @@ where
     if folders.contains(&"") {
         return Err(wrong(rt, "the name of a folder is empty"));
     }
-    let mut lister = Lister {
-        rt,
-        format,
-        locks: Locks::read(rt),
-        lines: Vec::new(rt.alloc()),
-        worst: Soundness::Sound,
-    };
+    let locks = Locks::read(rt);
+    let mut lines = Vec::new(rt.alloc());
+    let mut worst = Soundness::Sound;
     for folder in folders {
-        lister.list(folder)?;
+        worst = worst.or(list(rt, format, folder, &locks, &mut lines)?);
     }
-    lister.end()
+    print_lines(rt, format, &lines)?;
+    Ok(Ending::Checked(match worst {
+        Soundness::Sound => Found::Good,
+        Soundness::Unsound => Found::Refused,
+        Soundness::Unread => Found::Unjudged,
+    }))
 }
 
-/// Goes through folders, and keeps a line for each match in them.
-#[derive(Drop)]
-struct Lister<'a, R> {
-    rt: &'a R,
+/// Appends the lines of the matches in a folder and below it, whose parts are not aligned yet.
+/// Returns the worst that was found. Reports where there is no match.
+fn list<R>(
+    rt: &R,
     format: ListFormat,
-    locks: Locks,
-    /// The lines, whose parts are not aligned yet.
-    lines: Vec<u8>,
-    worst: Soundness,
+    folder: &str,
+    locks: &Locks,
+    lines: &mut Vec<u8>,
+) -> Result<Soundness, Ending>
+where
+    R: Files<File = File> + Eprint + AllocGlobal,
+{
+    let places = read(rt, places_below(rt, folder))?;
+    if places.is_empty() {
+        say_of(rt, folder, NO_MATCH);
+    }
+    let mut worst = Soundness::Sound;
+    for place in places {
+        let listed = read(rt, listing_of(rt, place, locks))?;
+        worst = worst.or(listed.soundness);
+        allocated(rt, put_line(rt.alloc(), format, lines, &listed))?;
+    }
+    Ok(worst)
 }
 
-impl<'a, R> Lister<'a, R>
+/// Returns the listing of a place.
+fn listing_of<R>(rt: &R, place: Place, locks: &Locks) -> io::Result<Listed>
 where
-    R: Files<File = File> + Print + Eprint + AllocGlobal,
+    R: Files<File = File> + AllocGlobal,
 {
-    /// Appends the matches in a folder and below it. Reports where there is none.
-    fn list(&mut self, folder: &str) -> Result<(), Ending> {
-        let places = self.read(places_below(self.rt, folder))?;
-        if places.is_empty() {
-            say_of(self.rt, folder, NO_MATCH);
-        }
-        for place in places {
-            self.add(place)?;
-        }
-        Ok(())
+    match place.fault {
+        Some(fault) => Listed::unread(rt.alloc(), place.path, fault),
+        None => examine(rt, place.path, locks),
     }
+}
 
-    /// Appends the line of a place.
-    fn add(&mut self, place: Place) -> Result<(), Ending> {
-        let listed = match place.fault {
-            Some(fault) => Listed::unread(self.rt.alloc(), place.path, fault),
-            None => examine(self.rt, place.path, &self.locks),
-        };
-        let listed = self.read(listed)?;
-        self.worst = self.worst.or(listed.soundness);
-        let put = match self.format {
-            ListFormat::Text => put_row(self.rt.alloc(), &mut self.lines, &listed),
-            ListFormat::Json => put_object(self.rt.alloc(), &mut self.lines, &listed),
-        };
-        allocated(self.rt, put)
+/// Appends the line of a listing.
+fn put_line(
+    alloc: Global,
+    format: ListFormat,
+    lines: &mut Vec<u8>,
+    listed: &Listed,
+) -> Result<(), AllocError> {
+    match format {
+        ListFormat::Text => put_row(alloc, lines, listed),
+        ListFormat::Json => put_object(alloc, lines, listed),
     }
+}
 
-    /// Prints the lines, and returns the ending for the worst that was found.
-    fn end(self) -> Result<Ending, Ending> {
-        match self.format {
-            ListFormat::Text => {
-                let text = allocated(self.rt, aligned(self.rt.alloc(), &self.lines))?;
-                print_text(self.rt, &text)?;
-            }
-            ListFormat::Json => print_text(self.rt, &self.lines)?,
+/// Prints the lines.
+fn print_lines<R>(rt: &R, format: ListFormat, lines: &[u8]) -> Result<(), Ending>
+where
+    R: Print + Eprint + AllocGlobal,
+{
+    match format {
+        ListFormat::Text => {
+            let text = allocated(rt, aligned(rt.alloc(), lines))?;
+            print_text(rt, &text)
         }
-        Ok(Ending::Checked(match self.worst {
-            Soundness::Sound => Found::Good,
-            Soundness::Unsound => Found::Refused,
-            Soundness::Unread => Found::Unjudged,
-        }))
+        ListFormat::Json => print_text(rt, lines),
     }
+}
 
-    /// Returns the result of reading, which fails for want of memory alone. Reports that failure.
-    fn read<T>(&self, attempt: io::Result<T>) -> Result<T, Ending> {
-        match attempt {
-            Ok(found) => Ok(found),
-            Err(_) => Err(no_memory(self.rt)),
-        }
+/// Returns the result of reading, which fails for want of memory alone. Reports that failure.
+fn read<T>(rt: &impl Eprint, attempt: io::Result<T>) -> Result<T, Ending> {
+    match attempt {
+        Ok(found) => Ok(found),
+        Err(_) => Err(no_memory(rt)),
     }
 }

@@ -1,6 +1,7 @@
 //! Creating a referee's folder.
 
-use bg_console::{failed, failed_at, has_key_secret, no_memory, own_folder, written, wrong};
+use crate::paths::path_in;
+use bg_console::{allocated, failed, failed_at, has_key_secret, own_folder, written, wrong};
 use bg_reports::Ending;
 use bg_system::{
     FolderLock, KeyFiles, NamedMatch, Printable, make_key_secret, make_secret, name_of_key_file,
@@ -58,9 +59,7 @@ where
     if !has_key_secret(rt, folder)? {
         return Ok(());
     }
-    let Ok(path) = format!(in rt.alloc(); "{folder}/key-secret") else {
-        return Err(no_memory(rt));
-    };
+    let path = allocated(rt, path_in(rt.alloc(), folder, "key-secret"))?;
     match fs::remove_file(rt, path.as_str()) {
         Ok(()) => Ok(()),
         Err(error) => Err(failed_at(rt, path.as_str(), " could not be removed", &error)),
@@ -142,9 +141,7 @@ where
     R: Files<File = File> + Eprint + AllocGlobal,
 {
     for name in NAMES {
-        let Ok(path) = format!(in rt.alloc(); "{folder}/{name}") else {
-            return Err(no_memory(rt));
-        };
+        let path = allocated(rt, path_in(rt.alloc(), folder, name))?;
         if fs::symlink_metadata(rt, path.as_str()).is_ok() {
             let shown = Printable(folder);
             return Err(wrong(rt, format_args!("{shown} has a match already: {name}")));

@@ -3,8 +3,9 @@
 use crate::header_texts::occasion_of;
 use crate::inputs::read_record;
 use bg_console::{allocated, page_words, print_text, table_of, title_of};
+use bg_match::Record;
 use bg_options::{HeaderOptions, PageOptions};
-use bg_picture::page_text;
+use bg_picture::{Numbering, PageWords, page_text};
 use bg_reports::Ending;
 use bg_system::Names;
 use std::alloc::{AllocError, Global};
@@ -18,35 +19,51 @@ pub fn run<R>(rt: &R, options: PageOptions<'_>) -> Result<Ending, Ending>
 where
     R: Input + Files<File = File> + Print + Eprint + AllocGlobal,
 {
-    let PageOptions {
-        title,
-        match_path,
-        numbering,
-        ..
-    } = options;
-    let mut names = options.names();
-    if let Some(path) = match_path {
-        let file = table_of(rt, path)?.names;
-        names = Names {
-            x: names.x.or(file.x),
-            o: names.o.or(file.o),
-        };
-    }
-    let title = title_of(rt, title, &names)?;
-    let title = allocated(rt, with_occasion(rt.alloc(), title, &options.headers))?;
+    let names = names_of(rt, &options)?;
+    let title = title_in(rt, &options, &names)?;
+    let words = page_words(title.as_str(), &names);
     let record = read_record(rt)?;
-    let text = allocated(
-        rt,
-        page_text(
-            rt.alloc(),
-            &record,
-            page_words(title.as_str(), &names),
-            numbering,
-            0,
-        ),
-    )?;
-    print_text(rt, &text)?;
+    print_page(rt, &record, words, options.numbering)?;
     Ok(Ending::Told)
+}
+
+/// Prints the page of a record.
+fn print_page<R>(
+    rt: &R,
+    record: &Record,
+    words: PageWords<'_>,
+    numbering: Numbering,
+) -> Result<(), Ending>
+where
+    R: Print + Eprint + AllocGlobal,
+{
+    let text = allocated(rt, page_text(rt.alloc(), record, words, numbering, 0))?;
+    print_text(rt, &text)
+}
+
+/// Returns the names of the players: those of the options, or else those of the file that they name.
+fn names_of<R>(rt: &R, options: &PageOptions<'_>) -> Result<Names, Ending>
+where
+    R: Files<File = File> + Eprint + AllocGlobal,
+{
+    let names = options.names();
+    let Some(path) = options.match_path else {
+        return Ok(names);
+    };
+    let file = table_of(rt, path)?.names;
+    Ok(Names {
+        x: names.x.or(file.x),
+        o: names.o.or(file.o),
+    })
+}
+
+/// Returns the title of a page.
+fn title_in<R>(rt: &R, options: &PageOptions<'_>, names: &Names) -> Result<String, Ending>
+where
+    R: Eprint + AllocGlobal,
+{
+    let title = title_of(rt, options.title, names)?;
+    allocated(rt, with_occasion(rt.alloc(), title, &options.headers))
 }
 
 /// Returns a title with the occasion behind it, if there is one.

@@ -12,7 +12,7 @@ use bg_console::{
 use bg_match::{Number, Record};
 use bg_options::RecoverOptions;
 use bg_reports::Ending;
-use bg_system::{Failures, FolderLock, KeyFiles, NamedMatch, PartyFiles, Printable};
+use bg_system::{Failures, FolderLock, KeyFiles, MatchFile, NamedMatch, PartyFiles, Printable};
 use bg_wire::{REFEREE, next_save};
 use std::fs::File;
 use std::random::RandomSource;
@@ -31,84 +31,117 @@ where
         ));
     }
     let file = table_of(rt, options.match_path)?;
-    let kept = match options.keys {
-        Some(folder) => Some(key_files_in(rt, folder, &file.table)?.named(&file.names)),
-        None => None,
-    };
-    let seats = [(Player::X, options.x), (Player::O, options.o)];
-    let mut locks: Vec<FolderLock> = Vec::new(rt.alloc());
-    let mut longest = Held::nothing(rt, file.table, options.match_path)?;
-    for (player, folder) in seats {
-        check_folder(rt, folder, " is no folder")?;
-        if locks.push(lock_of(rt, folder)?).is_err() {
-            return Err(no_memory(rt));
+    // The seats stay locked until the folder is made.
+    let mut locks = Vec::new(rt.alloc());
+    match options.keys {
+        Some(folder) => {
+            let kept = key_files_in(rt, folder, &file.table)?.named(&file.names);
+            let longest = longest_of(rt, file.table, &options, &mut locks)?;
+            make_with(rt, &file, options.folder, &kept, &longest)?;
         }
-        if let Some(saved) = seat_of(rt, file.table, folder, player)? {
-            longest = longest.or(
-                rt,
-                Held {
-                    name: folder,
-                    saved,
-                },
-            )?;
+        None => {
+            let longest = longest_of(rt, file.table, &options, &mut locks)?;
+            make_anew(rt, &file, options.folder, &longest)?;
         }
     }
-    for name in options.transcripts.iter().copied() {
-        let saved = saved_of(transcript_of(rt, file.table, name)?);
-        longest = longest.or(rt, Held { name, saved })?;
-    }
-    make(rt, &file, options.folder, kept, &longest)
+    Ok(Ending::Served)
 }
 
-/// Makes the folder: a new secret of the dice, the first save with this record, and the keys that
-/// are kept or new ones. The match file comes last, so that where there is one the match is
-/// complete.
-fn make<R>(
+/// Returns the record of the source that holds most. Locks the folders of the seats.
+fn longest_of<'a, R>(
+    rt: &R,
+    table: MatchFile,
+    options: &RecoverOptions<'_, 'a>,
+    locks: &mut Vec<FolderLock>,
+) -> Result<Held<'a>, Ending>
+where
+    R: Input + Files<File = File> + Eprint + AllocGlobal,
+{
+    let mut longest = Held::nothing(rt, table, options.match_path)?;
+    take_seat(rt, table, Player::X, options.x, locks, &mut longest)?;
+    take_seat(rt, table, Player::O, options.o, locks, &mut longest)?;
+    for name in options.transcripts.iter().copied() {
+        let saved = saved_of(transcript_of(rt, table, name)?);
+        longest.take(rt, Held { name, saved })?;
+    }
+    Ok(longest)
+}
+
+/// Locks the folder of a seat, and takes what it holds where that is more.
+fn take_seat<'a, R>(
+    rt: &R,
+    table: MatchFile,
+    player: Player,
+    folder: &'a str,
+    locks: &mut Vec<FolderLock>,
+    longest: &mut Held<'a>,
+) -> Result<(), Ending>
+where
+    R: Files<File = File> + Eprint + AllocGlobal,
+{
+    check_folder(rt, folder, " is no folder")?;
+    if locks.push(lock_of(rt, folder)?).is_err() {
+        return Err(no_memory(rt));
+    }
+    match seat_of(rt, table, folder, player)? {
+        Some(saved) => longest.take(
+            rt,
+            Held {
+                name: folder,
+                saved,
+            },
+        ),
+        None => Ok(()),
+    }
+}
+
+/// Makes the folder with the keys that are kept, and leaves no secret of other keys in it.
+fn make_with<R>(
     rt: &R,
     file: &NamedMatch,
     folder: &str,
-    kept: Option<KeyFiles>,
+    kept: &KeyFiles,
     longest: &Held<'_>,
-) -> Result<Ending, Ending>
+) -> Result<(), Ending>
 where
     R: Files<File = File> + RandomSource + Print + Eprint + AllocGlobal,
 {
     let _lock = begin_folder(rt, folder)?;
     make_secret_of_dice(rt, folder)?;
-    let are_kept = kept.is_some();
-    let keys = keys_for(rt, folder, file, kept)?;
-    save_first(rt, folder, &longest.saved.log)?;
-    end_folder(rt, folder, file, &keys)?;
-    tell_made(rt, folder, longest.name, longest.saved.log.len());
-    if are_kept {
-        tell_kept_keys(rt)?;
-    } else {
-        tell_key_files(rt, folder)?;
-    }
-    Ok(Ending::Served)
+    remove_secret_of_keys(rt, folder)?;
+    fill(rt, file, folder, kept, longest)?;
+    tell_kept_keys(rt)
 }
 
-/// Returns the keys that are kept, and leaves no other secret in the folder. Without kept keys,
-/// returns new ones, with their secret.
-fn keys_for<R>(
-    rt: &R,
-    folder: &str,
-    file: &NamedMatch,
-    kept: Option<KeyFiles>,
-) -> Result<KeyFiles, Ending>
+/// Makes the folder with new keys, and their secret.
+fn make_anew<R>(rt: &R, file: &NamedMatch, folder: &str, longest: &Held<'_>) -> Result<(), Ending>
 where
-    R: Files<File = File> + RandomSource + Eprint + AllocGlobal,
+    R: Files<File = File> + RandomSource + Print + Eprint + AllocGlobal,
 {
-    match kept {
-        Some(kept) => {
-            remove_secret_of_keys(rt, folder)?;
-            Ok(kept)
-        }
-        None => {
-            make_secret_of_keys(rt, folder)?;
-            derived_keys(rt, folder, file)
-        }
-    }
+    let _lock = begin_folder(rt, folder)?;
+    make_secret_of_dice(rt, folder)?;
+    make_secret_of_keys(rt, folder)?;
+    let keys = derived_keys(rt, folder, file)?;
+    fill(rt, file, folder, &keys, longest)?;
+    tell_key_files(rt, folder)
+}
+
+/// Writes the first save with this record, and the keys. The match file comes last, so that where
+/// there is one the match is complete.
+fn fill<R>(
+    rt: &R,
+    file: &NamedMatch,
+    folder: &str,
+    keys: &KeyFiles,
+    longest: &Held<'_>,
+) -> Result<(), Ending>
+where
+    R: Files<File = File> + Eprint + AllocGlobal,
+{
+    save_first(rt, folder, &longest.saved.log)?;
+    end_folder(rt, folder, file, keys)?;
+    tell_made(rt, folder, longest.name, longest.saved.log.len());
+    Ok(())
 }
 
 /// Writes the referee's first save, with this record, to the folder.

@@ -1,10 +1,12 @@
 //! The command that shows saved files.
 
-use bg_console::{allocated, check_folder, failed_at, no_memory, print_text, say, wrong};
+use crate::paths::{path_in, slot_path};
+use bg_console::{allocated, check_folder, failed_at, print_text, say, wrong};
 use bg_options::ShowOptions;
 use bg_reports::{Ending, SlotBytes, folder_text, party_text, restored_transcript, show_text};
-use bg_system::{SlotName, read_saved};
+use bg_system::read_saved;
 use bg_wire::{REFEREE, SEAT_OF_O, SEAT_OF_X, Slot};
+use std::alloc::{AllocError, Global};
 use std::fs;
 use std::fs::File;
 use std::rt::Files;
@@ -37,11 +39,21 @@ fn show_files<R>(rt: &R, path0: &str, path1: &str) -> Result<Ending, Ending>
 where
     R: Files<File = File> + Print + Eprint + AllocGlobal,
 {
-    let file0 = bytes_of(rt, path0)?;
-    let file1 = bytes_of(rt, path1)?;
-    let (text, loads) = allocated(rt, show_text(rt.alloc(), &file0, &file1))?;
+    let slots = named_slots(rt, path0, path1)?;
+    let shown = show_text(rt.alloc(), &slots.zero, &slots.one);
+    let (text, loads) = allocated(rt, shown)?;
     print_text(rt, &text)?;
     Ok(Ending::Shown { loads })
+}
+
+/// Reads the bytes of the two files of a party.
+fn named_slots<R>(rt: &R, path0: &str, path1: &str) -> Result<SlotBytes, Ending>
+where
+    R: Files<File = File> + Eprint + AllocGlobal,
+{
+    let zero = bytes_of(rt, path0)?;
+    let one = bytes_of(rt, path1)?;
+    Ok(SlotBytes { zero, one })
 }
 
 /// Prints the transcript of what the two files of a party restore. Where that is nothing, it
@@ -50,14 +62,23 @@ fn print_transcript<R>(rt: &R, path0: &str, path1: &str) -> Result<Ending, Endin
 where
     R: Files<File = File> + Print + Eprint + AllocGlobal,
 {
-    let file0 = bytes_of(rt, path0)?;
-    let file1 = bytes_of(rt, path1)?;
-    let transcript = allocated(rt, restored_transcript(rt.alloc(), &file0, &file1))?;
-    if let Some(text) = transcript {
-        print_text(rt, &text)?;
-        return Ok(Ending::Shown { loads: true });
+    let slots = named_slots(rt, path0, path1)?;
+    let transcript = restored_transcript(rt.alloc(), &slots.zero, &slots.one);
+    match allocated(rt, transcript)? {
+        Some(text) => {
+            print_text(rt, &text)?;
+            Ok(Ending::Shown { loads: true })
+        }
+        None => say_slots(rt, &slots),
     }
-    let (text, _) = allocated(rt, show_text(rt.alloc(), &file0, &file1))?;
+}
+
+/// Reports what the two files of a party hold, of which none loads.
+fn say_slots<R>(rt: &R, slots: &SlotBytes) -> Result<Ending, Ending>
+where
+    R: Eprint + AllocGlobal,
+{
+    let (text, _) = allocated(rt, show_text(rt.alloc(), &slots.zero, &slots.one))?;
     for line in str::from_utf8(&text).unwrap_or_default().lines() {
         say(rt, line);
     }
@@ -71,18 +92,47 @@ where
     R: Files<File = File> + Print + Eprint + AllocGlobal,
 {
     check_folder(rt, folder, NO_FOLDER)?;
+    let parties = parties_in(rt, folder)?;
+    let (text, loads) = allocated(rt, parties.report(rt.alloc()))?;
+    print_text(rt, &text)?;
+    Ok(Ending::Shown { loads })
+}
+
+/// The saved files of a folder.
+#[derive(Drop)]
+struct Parties {
+    referee: SlotBytes,
+    x: SlotBytes,
+    o: SlotBytes,
+    /// Whether the folder is that of a referee.
+    has_match: bool,
+}
+
+impl Parties {
+    /// Returns the report on the files, and whether one of them loads.
+    fn report(&self, alloc: Global) -> Result<(Vec<u8>, bool), AllocError> {
+        if self.has_match && !has_bytes(&self.x) && !has_bytes(&self.o) {
+            return party_text(alloc, REFEREE, &self.referee);
+        }
+        folder_text(alloc, &self.referee, &self.x, &self.o)
+    }
+}
+
+/// Reads the saved files of a folder.
+fn parties_in<R>(rt: &R, folder: &str) -> Result<Parties, Ending>
+where
+    R: Files<File = File> + Eprint + AllocGlobal,
+{
+    let has_match = has_match(rt, folder)?;
     let referee = slots_of(rt, folder, REFEREE)?;
     let x = slots_of(rt, folder, SEAT_OF_X)?;
     let o = slots_of(rt, folder, SEAT_OF_O)?;
-    let is_alone = !has_bytes(&x) && !has_bytes(&o) && has_match(rt, folder)?;
-    let shown = if is_alone {
-        party_text(rt.alloc(), REFEREE, &referee)
-    } else {
-        folder_text(rt.alloc(), &referee, &x, &o)
-    };
-    let (text, loads) = allocated(rt, shown)?;
-    print_text(rt, &text)?;
-    Ok(Ending::Shown { loads })
+    Ok(Parties {
+        referee,
+        x,
+        o,
+        has_match,
+    })
 }
 
 /// Returns whether one of the two files of a party has a byte.
@@ -95,10 +145,8 @@ fn has_match<R>(rt: &R, folder: &str) -> Result<bool, Ending>
 where
     R: Files<File = File> + Eprint + AllocGlobal,
 {
-    match format!(in rt.alloc(); "{folder}/match") {
-        Ok(path) => Ok(fs::metadata(rt, path.as_str()).is_ok()),
-        Err(_) => Err(no_memory(rt)),
-    }
+    let path = allocated(rt, path_in(rt.alloc(), folder, "match"))?;
+    Ok(fs::metadata(rt, path.as_str()).is_ok())
 }
 
 /// Reads the bytes of the two files of a party in a folder.
@@ -117,11 +165,8 @@ fn slot_of<R>(rt: &R, folder: &str, party: u8, slot: Slot) -> Result<Vec<u8>, En
 where
     R: Files<File = File> + Eprint + AllocGlobal,
 {
-    let name = SlotName { party, slot };
-    match format!(in rt.alloc(); "{folder}/{name}") {
-        Ok(path) => bytes_of(rt, path.as_str()),
-        Err(_) => Err(no_memory(rt)),
-    }
+    let path = allocated(rt, slot_path(rt.alloc(), folder, party, slot))?;
+    bytes_of(rt, path.as_str())
 }
 
 /// Reads the bytes of a saved file.

@@ -1,5 +1,6 @@
 //! The files below a folder.
 
+use std::alloc::Global;
 use std::fs::File;
 use std::io::ErrorKind;
 use std::rt::Files;
@@ -33,24 +34,49 @@ where
 {
     let mut places = Vec::new(rt.alloc());
     let mut level = Vec::new(rt.alloc());
-    let name = folder.trim_end_matches('/');
-    level.push(String::from_str(rt.alloc(), if name.is_empty() { "/" } else { name })?)?;
+    level.push(String::from_str(rt.alloc(), without_slashes(folder))?)?;
     for _ in 0..MOST_DEEP {
-        let mut below = Vec::new(rt.alloc());
-        for path in level {
-            if let Err(error) = add_content(rt, path.as_str(), &mut places, &mut below) {
-                let fault = Some(not_memory(error)?);
-                places.push(Place { path, fault })?;
-            }
-        }
-        level = below;
+        level = add_level(rt, &level, &mut places)?;
     }
-    for path in level {
-        let fault = Some(io::Error::from(ErrorKind::FilesystemLoop));
-        places.push(Place { path, fault })?;
+    for path in &level {
+        let fault = io::Error::from(ErrorKind::FilesystemLoop);
+        add_unread(rt.alloc(), &mut places, path.as_str(), fault)?;
     }
     places.sort_by(|one: &Place, other: &Place| one.path.as_str().cmp(other.path.as_str()))?;
     Ok(places)
+}
+
+/// Returns the name of a folder without the slashes at its end.
+pub(crate) fn without_slashes(folder: &str) -> &str {
+    let name = folder.trim_end_matches('/');
+    if name.is_empty() { "/" } else { name }
+}
+
+/// Appends the files in these folders, and those of them that can't be read. Returns the folders in
+/// them.
+fn add_level<R>(rt: &R, level: &[String], places: &mut Vec<Place>) -> io::Result<Vec<String>>
+where
+    R: Files<File = File> + AllocGlobal,
+{
+    let mut below = Vec::new(rt.alloc());
+    for path in level {
+        if let Err(error) = add_content(rt, path.as_str(), places, &mut below) {
+            add_unread(rt.alloc(), places, path.as_str(), error)?;
+        }
+    }
+    Ok(below)
+}
+
+/// Appends a folder that can't be read.
+fn add_unread(
+    alloc: Global,
+    places: &mut Vec<Place>,
+    path: &str,
+    error: io::Error,
+) -> io::Result<()> {
+    let fault = Some(not_memory(error)?);
+    let path = String::from_str(alloc, path)?;
+    Ok(places.push(Place { path, fault })?)
 }
 
 /// Appends the files in a folder, and the folders in it.

@@ -2,12 +2,13 @@
 
 use crate::board::outputs::put;
 use crate::board::stamps::{SavedFiles, Stamps};
-use bg_console::{allocated, no_memory, page_words, say_of, title_of};
+use bg_console::{allocated, no_memory, page_words, say_of};
 use bg_match::{Number, Phase, Record, Standing};
 use bg_picture::{IndexMatch, Numbering, page_text, picture_text, put_match};
 use bg_reports::Ending;
-use bg_system::{NamedMatch, read_saved};
+use bg_system::{MatchFile, NamedMatch, read_saved};
 use bg_wire::{REFEREE, restore};
+use std::alloc::{AllocError, Global};
 use std::fs::File;
 use std::io;
 use std::rt::Files;
@@ -86,16 +87,38 @@ impl BoardMatch {
         if !self.is_to_be_read(rt) {
             return Ok(false);
         }
-        let Some(record) = self.record(rt)? else {
-            return Ok(false);
-        };
+        match record_of(rt, &self.file.table, &self.saved)? {
+            Some(record) => self.show(rt, place, &record),
+            None => {
+                self.report(rt);
+                Ok(false)
+            }
+        }
+    }
+
+    /// Writes the pages of a record that was read, where it is new. Returns whether it is.
+    fn show<R>(&mut self, rt: &R, place: Place<'_>, record: &Record) -> Result<bool, Ending>
+    where
+        R: Files<File = File> + Eprint + AllocGlobal,
+    {
+        self.is_reported = false;
         let seen = Some((record.standing(), record.len()));
         if self.seen == seen {
             return Ok(false);
         }
         self.seen = seen;
-        self.write(rt, place, &record)?;
+        let title = allocated(rt, self.title(rt.alloc()))?;
+        self.write_page(rt, place, title.as_str(), record)?;
+        self.write_picture(rt, place, record)?;
         Ok(true)
+    }
+
+    /// Reports once that the saved files can't be read. A save that is being written can look torn.
+    fn report(&mut self, rt: &impl Eprint) {
+        if !self.is_reported && self.looks_left == 0 {
+            self.is_reported = true;
+            say_of(rt, self.path.as_str(), " has saves that can't be read");
+        }
     }
 
     /// Returns whether the saved files have changed since the last look, or shortly before it.
@@ -111,79 +134,88 @@ impl BoardMatch {
         is_recent
     }
 
-    /// Returns the record that the saved files hold. Reports once where they hold none.
-    fn record<R>(&mut self, rt: &R) -> Result<Option<Record>, Ending>
+    /// Writes the page of a record.
+    fn write_page<R>(
+        &self,
+        rt: &R,
+        place: Place<'_>,
+        title: &str,
+        record: &Record,
+    ) -> Result<(), Ending>
     where
         R: Files<File = File> + Eprint + AllocGlobal,
     {
-        let (id, terms) = (self.file.table.id, self.file.table.terms);
-        let zero = bytes_of(rt, self.saved.zero.as_str())?;
-        let one = bytes_of(rt, self.saved.one.as_str())?;
-        let alloc = rt.alloc();
-        match restore(alloc, &zero, &one, REFEREE, id, terms.length, terms.rules) {
-            Ok(Some(saved)) => {
-                self.is_reported = false;
-                Ok(Some(saved.log))
-            }
-            Ok(None) => Ok(Record::new(alloc, id, terms.length, terms.rules).ok()),
-            Err(_) => {
-                // A save that is being written can look torn.
-                if !self.is_reported && self.looks_left == 0 {
-                    self.is_reported = true;
-                    say_of(rt, self.path.as_str(), " has saves that can't be read");
-                }
-                Ok(None)
-            }
-        }
+        let seconds = if self.is_over() { 0 } else { PAGE_SECONDS };
+        let words = page_words(title, &self.file.names);
+        let page = page_text(rt.alloc(), record, words, place.numbering, seconds);
+        self.put(rt, place, ".html", page)
     }
 
-    /// Writes the page and the picture of a record.
-    fn write<R>(&self, rt: &R, place: Place<'_>, record: &Record) -> Result<(), Ending>
+    /// Writes the picture of where a record stands.
+    fn write_picture<R>(&self, rt: &R, place: Place<'_>, record: &Record) -> Result<(), Ending>
     where
         R: Files<File = File> + Eprint + AllocGlobal,
     {
-        let (alloc, name) = (rt.alloc(), self.name.as_str());
-        let Place { out, numbering } = place;
-        let seconds = if self.is_over() { 0 } else { PAGE_SECONDS };
-        let title = self.title(rt)?;
-        let words = page_words(title.as_str(), &self.file.names);
-        let page = allocated(rt, page_text(alloc, record, words, numbering, seconds))?;
-        let path = allocated(rt, format!(in alloc; "{out}/{name}.html"))?;
-        put(rt, path.as_str(), &page)?;
-        let picture = allocated(rt, picture_text(alloc, &record.standing(), numbering))?;
-        let path = allocated(rt, format!(in alloc; "{out}/{name}.svg"))?;
-        put(rt, path.as_str(), &picture)
+        let picture = picture_text(rt.alloc(), &record.standing(), place.numbering);
+        self.put(rt, place, ".svg", picture)
+    }
+
+    /// Writes a text into the file of the match with this end of its name.
+    fn put<R>(
+        &self,
+        rt: &R,
+        place: Place<'_>,
+        ending: &str,
+        text: Result<Vec<u8>, AllocError>,
+    ) -> Result<(), Ending>
+    where
+        R: Files<File = File> + Eprint + AllocGlobal,
+    {
+        let text = allocated(rt, text)?;
+        let (out, name) = (place.out, self.name.as_str());
+        let path = allocated(rt, format!(in rt.alloc(); "{out}/{name}{ending}"))?;
+        put(rt, path.as_str(), &text)
     }
 
     /// Appends the match to an index, if it was read.
-    pub(crate) fn put_into<R>(&self, rt: &R, index: &mut Vec<u8>) -> Result<(), Ending>
-    where
-        R: Eprint + AllocGlobal,
-    {
+    pub(crate) fn put_into(&self, alloc: Global, index: &mut Vec<u8>) -> Result<(), AllocError> {
         let Some((standing, entries)) = self.seen else {
             return Ok(());
         };
-        let title = self.title(rt)?;
+        let title = self.title(alloc)?;
         let shown = IndexMatch {
             file: self.name.as_str(),
             title: title.as_str(),
             entries,
         };
-        allocated(rt, put_match(index, shown, &standing))
+        put_match(index, shown, &standing)
     }
 
     /// Returns the title: the names of both players, or else the name of the pages.
-    fn title<R>(&self, rt: &R) -> Result<String, Ending>
-    where
-        R: Eprint + AllocGlobal,
-    {
-        let names = &self.file.names;
-        let given = match (&names.x, &names.o) {
-            (Some(_), Some(_)) => None,
-            _ => Some(self.name.as_str()),
-        };
-        title_of(rt, given, names)
+    fn title(&self, alloc: Global) -> Result<String, AllocError> {
+        match (&self.file.names.x, &self.file.names.o) {
+            (Some(x), Some(o)) => format!(in alloc; "{x} against {o}"),
+            _ => String::from_str(alloc, self.name.as_str()),
+        }
     }
+}
+
+/// Returns the record that the saved files of a match hold, or nothing where they can't be read.
+fn record_of<R>(rt: &R, table: &MatchFile, saved: &SavedFiles) -> Result<Option<Record>, Ending>
+where
+    R: Files<File = File> + Eprint + AllocGlobal,
+{
+    let zero = bytes_of(rt, saved.zero.as_str())?;
+    let one = bytes_of(rt, saved.one.as_str())?;
+    let alloc = rt.alloc();
+    let (length, rules) = (table.terms.length, table.terms.rules);
+    Ok(
+        match restore(alloc, &zero, &one, REFEREE, table.id, length, rules) {
+            Ok(Some(saved)) => Some(saved.log),
+            Ok(None) => Record::new(alloc, table.id, length, rules).ok(),
+            Err(_) => None,
+        },
+    )
 }
 
 /// Returns the bytes of a saved file, and none where it can't be read.

@@ -1,11 +1,12 @@
 //! Whether saved files have changed.
 
-use bg_system::SlotName;
+use crate::paths::slot_path;
 use bg_wire::{REFEREE, Slot};
+use std::alloc::{AllocError, Global};
+use std::fs;
 use std::fs::File;
 use std::os::unix::fs::MetadataExt;
 use std::rt::Files;
-use std::{fs, io};
 
 /// The paths of a referee's two saved files.
 #[derive(Drop)]
@@ -34,11 +35,11 @@ impl SavedFiles {
     /// Returns the paths of the files in a match's folder.
     ///
     /// # Errors
-    /// `OutOfMemory` alone.
-    pub(crate) fn of(rt: &impl AllocGlobal, folder: &str) -> io::Result<SavedFiles> {
+    /// `AllocError` where memory runs out.
+    pub(crate) fn of(alloc: Global, folder: &str) -> Result<SavedFiles, AllocError> {
         Ok(SavedFiles {
-            zero: path_of(rt, folder, Slot::Zero)?,
-            one: path_of(rt, folder, Slot::One)?,
+            zero: slot_path(alloc, folder, REFEREE, Slot::Zero)?,
+            one: slot_path(alloc, folder, REFEREE, Slot::One)?,
         })
     }
 
@@ -49,15 +50,6 @@ impl SavedFiles {
             one: stamp_of(rt, self.one.as_str()),
         }
     }
-}
-
-/// Returns the path of one of the referee's files.
-fn path_of(rt: &impl AllocGlobal, folder: &str, slot: Slot) -> io::Result<String> {
-    let name = SlotName {
-        party: REFEREE,
-        slot,
-    };
-    Ok(format!(in rt.alloc(); "{folder}/{name}")?)
 }
 
 /// Returns the stamp of a file.

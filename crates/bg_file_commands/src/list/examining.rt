@@ -2,9 +2,10 @@
 
 use crate::list::locks::Locks;
 use crate::list::saves::{Held, held_in};
+use crate::paths::{path_in, slot_path};
 use crate::walks::not_memory;
 use bg_match::{Number, Standing};
-use bg_system::{MatchFile, NamedMatch, SlotName, read_saved};
+use bg_system::{MatchFile, NamedMatch, read_saved};
 use bg_wire::{REFEREE, Slot};
 use std::alloc::Global;
 use std::fs::File;
@@ -77,7 +78,7 @@ impl Listed {
     /// # Errors
     /// `OutOfMemory` alone.
     pub(crate) fn unread(alloc: Global, path: String, error: io::Error) -> io::Result<Listed> {
-        let fault = format!(in alloc; "could not be read: {error}")?;
+        let fault = unread_words(alloc, "", error)?;
         Ok(Listed::faulty(path, Soundness::Unread, fault))
     }
 }
@@ -90,19 +91,52 @@ pub(crate) fn examine<R>(rt: &R, path: String, locks: &Locks) -> io::Result<List
 where
     R: Files<File = File> + AllocGlobal,
 {
-    let name = format!(in rt.alloc(); "{path}/match")?;
-    let file = match NamedMatch::read(rt, name.as_str()) {
-        Ok(Some(file)) => file,
-        Ok(None) => {
-            let fault = String::from_str(rt.alloc(), "match is no match file")?;
-            return Ok(Listed::faulty(path, Soundness::Unsound, fault));
-        }
-        Err(error) => {
-            let error = not_memory(error)?;
-            let fault = format!(in rt.alloc(); "match could not be read: {error}")?;
-            return Ok(Listed::faulty(path, Soundness::Unread, fault));
-        }
-    };
+    match match_file_in(rt, path.as_str())? {
+        Ok(file) => listing_of(rt, path, file, locks),
+        Err(fault) => Ok(Listed::faulty(path, fault.soundness, fault.words)),
+    }
+}
+
+/// What is wrong with a match file.
+#[derive(Drop)]
+struct MatchFileFault {
+    soundness: Soundness,
+    words: String,
+}
+
+/// Reads the match file of a folder, or returns what is wrong with it.
+fn match_file_in<R>(rt: &R, folder: &str) -> io::Result<Result<NamedMatch, MatchFileFault>>
+where
+    R: Files<File = File> + AllocGlobal,
+{
+    let name = path_in(rt.alloc(), folder, "match")?;
+    Ok(match NamedMatch::read(rt, name.as_str()) {
+        Ok(Some(file)) => Ok(file),
+        Ok(None) => Err(MatchFileFault {
+            soundness: Soundness::Unsound,
+            words: String::from_str(rt.alloc(), "match is no match file")?,
+        }),
+        Err(error) => Err(MatchFileFault {
+            soundness: Soundness::Unread,
+            words: unread_words(rt.alloc(), "match ", error)?,
+        }),
+    })
+}
+
+/// Returns the words for a file that can't be read, unless memory ran out.
+///
+/// # Errors
+/// `OutOfMemory` alone.
+fn unread_words(alloc: Global, name: &str, error: io::Error) -> io::Result<String> {
+    let error = not_memory(error)?;
+    Ok(format!(in alloc; "{name}could not be read: {error}")?)
+}
+
+/// Returns the listing of a folder with this match file.
+fn listing_of<R>(rt: &R, path: String, file: NamedMatch, locks: &Locks) -> io::Result<Listed>
+where
+    R: Files<File = File> + AllocGlobal,
+{
     let held = settled(rt, path.as_str(), &file.table)?;
     let changed = change_of(rt, path.as_str())?;
     let is_open = locks.have(rt, path.as_str())?;
@@ -154,16 +188,15 @@ fn bytes_of<R>(rt: &R, folder: &str, slot: Slot) -> io::Result<Result<Vec<u8>, S
 where
     R: Files<File = File> + AllocGlobal,
 {
-    let name = SlotName {
-        party: REFEREE,
-        slot,
-    };
-    let path = format!(in rt.alloc(); "{folder}/{name}")?;
+    let path = slot_path(rt.alloc(), folder, REFEREE, slot)?;
     match read_saved(rt, path.as_str()) {
         Ok(bytes) => Ok(Ok(bytes)),
         Err(error) => {
-            let error = not_memory(error)?;
-            Ok(Err(format!(in rt.alloc(); "{name} could not be read: {error}")?))
+            let name = match slot {
+                Slot::Zero => "party-0.0 ",
+                Slot::One => "party-0.1 ",
+            };
+            Ok(Err(unread_words(rt.alloc(), name, error)?))
         }
     }
 }
@@ -173,16 +206,19 @@ fn change_of<R>(rt: &R, folder: &str) -> io::Result<Option<u64>>
 where
     R: Files<File = File> + AllocGlobal,
 {
-    let mut newest = None;
-    for slot in [Slot::Zero, Slot::One] {
-        let name = SlotName {
-            party: REFEREE,
-            slot,
-        };
-        let path = format!(in rt.alloc(); "{folder}/{name}")?;
-        if let Ok(found) = fs::metadata(rt, path.as_str()) {
-            newest = newest.max(u64::try_from(found.mtime()).ok());
-        }
+    let zero = time_of(rt, folder, Slot::Zero)?;
+    let one = time_of(rt, folder, Slot::One)?;
+    Ok(zero.max(one))
+}
+
+/// Returns the time when one of the referee's files was written, in seconds since 1970.
+fn time_of<R>(rt: &R, folder: &str, slot: Slot) -> io::Result<Option<u64>>
+where
+    R: Files<File = File> + AllocGlobal,
+{
+    let path = slot_path(rt.alloc(), folder, REFEREE, slot)?;
+    match fs::metadata(rt, path.as_str()) {
+        Ok(found) => Ok(u64::try_from(found.mtime()).ok()),
+        Err(_) => Ok(None),
     }
-    Ok(newest)
 }

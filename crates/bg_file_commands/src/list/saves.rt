@@ -56,27 +56,33 @@ pub(crate) fn held_in(
             Ok(Held::with(Some(saved.log.standing()), saved.log.len(), fault))
         }
         Ok(None) => {
-            let fault = if one.is_empty() {
-                String::new(alloc)
-            } else {
-                fault_of(alloc, Slot::One, one)?
-            };
             let start = Record::new(alloc, table.id, length, rules).ok();
+            let fault = fault_at_start(alloc, one)?;
             Ok(Held::with(start.map(|record| record.standing()), 0, fault))
         }
-        Err(RestoreRefusal::Damaged) => {
-            let (first, second) = (
-                fault_of(alloc, Slot::Zero, zero)?,
-                fault_of(alloc, Slot::One, one)?,
-            );
-            Ok(Held::with(None, 0, format!(in alloc; "{first}, {second}")?))
-        }
+        Err(RestoreRefusal::Damaged) => { Ok(Held::with(None, 0, faults_of(alloc, zero, one)?)) }
         Err(RestoreRefusal::WrongMatch) => {
             let fault = String::from_str(alloc, "the saves are of another match")?;
             Ok(Held::with(None, 0, fault))
         }
         Err(RestoreRefusal::Memory) => Err(AllocError),
     }
+}
+
+/// Returns what is wrong with the first save of a match of which nothing else was saved.
+fn fault_at_start(alloc: Global, one: &[u8]) -> Result<String, AllocError> {
+    if one.is_empty() {
+        return Ok(String::new(alloc));
+    }
+    fault_of(alloc, Slot::One, one)
+}
+
+/// Returns what is wrong with two saves.
+fn faults_of(alloc: Global, zero: &[u8], one: &[u8]) -> Result<String, AllocError> {
+    let mut faults = fault_of(alloc, Slot::Zero, zero)?;
+    faults.push_str(", ")?;
+    faults.push_str(fault_of(alloc, Slot::One, one)?.as_str())?;
+    Ok(faults)
 }
 
 /// Returns what is wrong with the save beside the one that counts. It should be the one before, and

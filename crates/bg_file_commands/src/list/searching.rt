@@ -1,6 +1,7 @@
 //! Searching for the folders of matches.
 
-use crate::walks::not_memory;
+use crate::paths::path_in;
+use crate::walks::{not_memory, without_slashes};
 use std::fs::File;
 use std::io::ErrorKind;
 use std::rt::Files;
@@ -35,22 +36,30 @@ where
 {
     let mut places = Vec::new(rt.alloc());
     let mut level = Vec::new(rt.alloc());
-    level.push(without_slashes(rt, folder)?)?;
+    level.push(String::from_str(rt.alloc(), without_slashes(folder))?)?;
     for depth in 0..=MOST_DEEP {
-        let mut below = Vec::new(rt.alloc());
-        for path in level {
-            search(rt, path, depth < MOST_DEEP, &mut places, &mut below)?;
-        }
-        level = below;
+        level = search_level(rt, level, depth < MOST_DEEP, &mut places)?;
     }
     places.sort_by(|one: &Place, other: &Place| one.path.as_str().cmp(other.path.as_str()))?;
     Ok(places)
 }
 
-/// Returns the name of a folder without the slashes at its end.
-fn without_slashes(rt: &impl AllocGlobal, folder: &str) -> io::Result<String> {
-    let name = folder.trim_end_matches('/');
-    Ok(String::from_str(rt.alloc(), if name.is_empty() { "/" } else { name })?)
+/// Appends those of these folders that are places. Returns the folders in the others, where they are
+/// to be searched.
+fn search_level<R>(
+    rt: &R,
+    level: Vec<String>,
+    is_searched: bool,
+    places: &mut Vec<Place>,
+) -> io::Result<Vec<String>>
+where
+    R: Files<File = File> + AllocGlobal,
+{
+    let mut below = Vec::new(rt.alloc());
+    for path in level {
+        search(rt, path, is_searched, places, &mut below)?;
+    }
+    Ok(below)
 }
 
 /// Appends a folder to the places where it is one. Otherwise appends the folders in it to `below`,
@@ -86,7 +95,7 @@ fn content_of<R>(rt: &R, path: &str) -> io::Result<Content>
 where
     R: Files<File = File> + AllocGlobal,
 {
-    let name = format!(in rt.alloc(); "{path}/match")?;
+    let name = path_in(rt.alloc(), path, "match")?;
     Ok(match fs::metadata(rt, name.as_str()) {
         Ok(found) if found.is_file() => Content::Match,
         Ok(_) => Content::NoMatch,
