@@ -1,161 +1,136 @@
 //! The results of files as rows, for programs.
 
-mod fields;
-mod matches;
-
-pub(crate) use crate::check_rows::fields::Row;
-use crate::check_rows::matches::put_good;
-use crate::headers::{HeaderFault, Headers};
+use crate::headers::Headers;
 use crate::marks::Mark;
-use bg_mat::{ImportFault, import_mat, is_match_file};
-use bg_match::{Number, Rules};
-use bg_reports::{MOST_SHOWN, harmless};
-use bg_text::{TranscriptFault, read_transcript, split_line};
-use std::alloc::AllocError;
-use std::fmt::Display;
+use bg_match::Number;
+use bg_reports::{RowForm, check_row, is_read_as_match_file};
+use bg_system::Printable;
+use bg_text::{Verdict, put_text, split_line};
+use std::alloc::{AllocError, Global};
 use std::io;
-
-/// The number of a match that is read from a file, which has none.
-const NO_NUMBER: u64 = 0;
 
 /// The line above rows with tabs: the names of the fields, in their order.
 pub(crate) const HEADINGS: &[u8] =
     b"file\tkind\tverdict\tline\treason\ttext\tentries\tlength\trules\tx\to\tgame\twinner\tstate\tposition_id\tmatch_id\txgid\tpoints\tmet\tname_x\tname_o\tdate\tevent\tplace\theader_fault\n";
 
-/// The number of fields that only a good match has.
-const FIELDS_OF_MATCHES: u8 = 12;
-
-/// The number of fields that only a match file has.
-const FIELDS_OF_HEADERS: u8 = 6;
-
-/// Appends the row of a file with these bytes (docs/FORMATS.md, "Checking files"), with its line
-/// feed. Returns whether the file is good.
+/// Returns the row of a file with these bytes (docs/FORMATS.md, "Checking files"), with its line
+/// feed, and whether the file is good.
 ///
 /// # Errors
 /// `AllocError` where memory runs out.
-pub(crate) fn put_row(
-    row: Row,
-    out: &mut Vec<u8>,
+pub(crate) fn row_of(
+    alloc: Global,
+    form: RowForm,
     name: &str,
     bytes: &[u8],
-) -> Result<bool, AllocError> {
-    row.begin(out, name)?;
-    let is_good = if is_match_file(bytes) {
-        row.text(out, "kind", "match file")?;
-        let is_good = put_match_file(row, out, bytes)?;
-        put_headers(row, out, &Headers::read(bytes))?;
-        is_good
+) -> Result<(Vec<u8>, bool), AllocError> {
+    let name = content(alloc, form, name)?;
+    let (mut row, verdict) = check_row(alloc, form, name.as_str(), bytes)?;
+    if is_read_as_match_file(name.as_str(), bytes) {
+        form.put_unknown(&mut row, "\t")?;
+        put_headers(alloc, form, &mut row, &Headers::read(bytes))?;
     } else {
-        row.text(out, "kind", "transcript")?;
-        let is_good = put_transcript(row, out, bytes)?;
-        row.missing(out, FIELDS_OF_HEADERS)?;
-        is_good
-    };
-    row.end(out)?;
-    Ok(is_good)
+        let met = met_in(bytes, verdict);
+        put_optional(alloc, form, &mut row, "met", met)?;
+        form.put_unknown(&mut row, "\t\t\t\t\t\t")?;
+    }
+    put_end(form, &mut row)?;
+    Ok((row, matches!(verdict, Verdict::Fine(_))))
 }
 
-/// Appends the row of a file that can't be read.
+/// Returns the row of a file that can't be read.
 ///
 /// # Errors
 /// `AllocError` where memory runs out.
-pub(crate) fn put_unread_row(
-    row: Row,
-    out: &mut Vec<u8>,
+pub(crate) fn unread_row(
+    alloc: Global,
+    form: RowForm,
     name: &str,
     error: &io::Error,
-) -> Result<(), AllocError> {
-    row.begin(out, name)?;
-    row.missing(out, 1)?;
-    row.text(out, "verdict", "unread")?;
-    row.missing(out, 1)?;
-    put_reason(row, out, error)?;
-    row.missing(out, 1 + FIELDS_OF_MATCHES + 1 + FIELDS_OF_HEADERS)?;
-    row.end(out)
+) -> Result<Vec<u8>, AllocError> {
+    let name = content(alloc, form, name)?;
+    let reason = format!(in alloc; "{error}")?;
+    let mut row = Vec::new(alloc);
+    form.put_file(alloc, &mut row, name.as_str())?;
+    form.put_unknown(&mut row, "\t")?;
+    form.put_words(alloc, &mut row, "verdict", "unread")?;
+    form.put_unknown(&mut row, "\t")?;
+    put_text_of(alloc, form, &mut row, "reason", reason.as_str())?;
+    form.put_unknown(&mut row, "\t\t\t\t\t\t\t\t\t\t\t\t\t\t\t\t\t\t\t\t")?;
+    put_end(form, &mut row)?;
+    Ok(row)
 }
 
-/// Appends the fields of a match file up to its headers. It is read under the first rules. Returns
-/// whether it is good.
-fn put_match_file(row: Row, out: &mut Vec<u8>, bytes: &[u8]) -> Result<bool, AllocError> {
-    match import_mat(row.alloc, NO_NUMBER, Rules::One, bytes) {
-        Ok(imported) => put_good(row, out, &imported.record, imported.within_game),
-        Err(ImportFault::Refused { line, why }) => put_refused(row, out, bytes, line, why, None),
-        Err(ImportFault::TooLong) => put_too_long(row, out),
-        Err(ImportFault::Memory) => Err(AllocError),
+/// Returns a text as a row has it: with its unprintable characters escaped where tabs stand between
+/// fields.
+fn content(alloc: Global, form: RowForm, text: &str) -> Result<String, AllocError> {
+    match form {
+        RowForm::Tsv => format!(in alloc; "{}", Printable(text)),
+        RowForm::Json => String::from_str(alloc, text),
     }
 }
 
-/// Appends the fields of a transcript up to what was met in the line that is refused. Returns
-/// whether it is good.
-fn put_transcript(row: Row, out: &mut Vec<u8>, bytes: &[u8]) -> Result<bool, AllocError> {
-    match read_transcript(row.alloc, NO_NUMBER, bytes) {
-        Ok(record) => put_good(row, out, &record, false),
-        Err(TranscriptFault::Refused { line, why }) => {
-            let mark = Mark::in_line(line_at(bytes, line));
-            put_refused(row, out, bytes, line, why, mark)
-        }
-        Err(TranscriptFault::TooLong) => put_too_long(row, out),
-        Err(TranscriptFault::Memory) => Err(AllocError),
+/// Appends a field with a text that may have unprintable characters.
+fn put_text_of(
+    alloc: Global,
+    form: RowForm,
+    out: &mut Vec<u8>,
+    name: &str,
+    text: &str,
+) -> Result<(), AllocError> {
+    let text = content(alloc, form, text)?;
+    form.put_words(alloc, out, name, text.as_str())
+}
+
+/// Appends a field with a text, or with nothing where there is none.
+fn put_optional(
+    alloc: Global,
+    form: RowForm,
+    out: &mut Vec<u8>,
+    name: &str,
+    text: Option<&str>,
+) -> Result<(), AllocError> {
+    match text {
+        Some(text) => put_text_of(alloc, form, out, name, text),
+        None => form.put_unknown(out, "\t"),
+    }
+}
+
+/// Appends the end of a row.
+fn put_end(form: RowForm, out: &mut Vec<u8>) -> Result<(), AllocError> {
+    match form {
+        RowForm::Tsv => put_text(out, "\n"),
+        RowForm::Json => put_text(out, "}\n"),
     }
 }
 
 /// Appends what a match file says of its match beside the games.
-fn put_headers(row: Row, out: &mut Vec<u8>, headers: &Headers<'_>) -> Result<(), AllocError> {
-    row.optional(out, "name_x", headers.x)?;
-    row.optional(out, "name_o", headers.o)?;
-    row.optional(out, "date", headers.date)?;
-    row.optional(out, "event", headers.event)?;
-    row.optional(out, "place", headers.place)?;
+fn put_headers(
+    alloc: Global,
+    form: RowForm,
+    out: &mut Vec<u8>,
+    headers: &Headers<'_>,
+) -> Result<(), AllocError> {
+    put_optional(alloc, form, out, "name_x", headers.x)?;
+    put_optional(alloc, form, out, "name_o", headers.o)?;
+    put_optional(alloc, form, out, "date", headers.date)?;
+    put_optional(alloc, form, out, "event", headers.event)?;
+    put_optional(alloc, form, out, "place", headers.place)?;
     match headers.fault {
-        Some(fault) => put_header_fault(row, out, fault),
-        None => row.missing(out, 1),
+        Some(fault) => {
+            let words = format!(in alloc; "{fault}")?;
+            form.put_words(alloc, out, "header_fault", words.as_str())
+        }
+        None => form.put_unknown(out, "\t"),
     }
 }
 
-/// Appends which of these texts is malformed.
-fn put_header_fault(row: Row, out: &mut Vec<u8>, fault: HeaderFault) -> Result<(), AllocError> {
-    let words = format!(in row.alloc; "{fault}")?;
-    row.text(out, "header_fault", words.as_str())
-}
-
-/// Appends the fields of a file with a line that is refused: its number, from 1, the reason, its
-/// text, and what was met in it. The file is not good.
-fn put_refused<D: Display + Drop>(
-    row: Row,
-    out: &mut Vec<u8>,
-    bytes: &[u8],
-    line: Number,
-    why: D,
-    mark: Option<Mark>,
-) -> Result<bool, AllocError> {
-    row.text(out, "verdict", "refused")?;
-    row.number(out, "line", line.into())?;
-    put_reason(row, out, why)?;
-    put_line(row, out, line_at(bytes, line))?;
-    row.missing(out, FIELDS_OF_MATCHES)?;
-    row.optional(out, "met", mark.map(Mark::words))?;
-    Ok(false)
-}
-
-/// Appends the fields of a file that is too long. It is not good.
-fn put_too_long(row: Row, out: &mut Vec<u8>) -> Result<bool, AllocError> {
-    row.text(out, "verdict", "refused")?;
-    row.missing(out, 1)?;
-    row.text(out, "reason", "input too long")?;
-    row.missing(out, 1 + FIELDS_OF_MATCHES + 1)?;
-    Ok(false)
-}
-
-/// Appends the reason why a file is refused, or can't be read.
-fn put_reason<D: Display + Drop>(row: Row, out: &mut Vec<u8>, why: D) -> Result<(), AllocError> {
-    let reason = format!(in row.alloc; "{why}")?;
-    row.text(out, "reason", reason.as_str())
-}
-
-/// Appends the text of a line that is refused.
-fn put_line(row: Row, out: &mut Vec<u8>, line: &[u8]) -> Result<(), AllocError> {
-    let shown = harmless(row.alloc, line, MOST_SHOWN)?;
-    row.shown(out, "text", str::from_utf8(&shown).unwrap_or_default())
+/// Returns what other programs write, and was met in the line of a transcript that is refused.
+fn met_in(bytes: &[u8], verdict: Verdict) -> Option<&'static str> {
+    match verdict {
+        Verdict::Refused(number) => Mark::in_line(line_at(bytes, number)).map(Mark::words),
+        _ => None,
+    }
 }
 
 /// Returns the line with this number, from 1, without its line feed; nothing where there is none.

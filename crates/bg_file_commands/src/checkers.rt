@@ -1,13 +1,13 @@
 //! Judging many files, one after the other.
 
-use crate::check_rows::{HEADINGS, Row, put_row, put_unread_row};
+use crate::check_rows::{HEADINGS, row_of, unread_row};
 use crate::inputs::read_input;
 use crate::walks::files_below;
 use bg_console::{
     Progress, allocated, failed_for, no_memory, print_text, say, say_number, say_of, say_why,
 };
 use bg_options::CheckFormat;
-use bg_reports::{Ending, MOST_SHOWN, Tally, check_text, harmless};
+use bg_reports::{Ending, MOST_SHOWN, RowForm, Tally, check_text, harmless};
 use bg_system::Printable;
 use bg_text::Verdict;
 use std::alloc::{AllocError, Global};
@@ -185,13 +185,11 @@ where
 
     /// Prints the row of a file that could not be read, in the formats for programs.
     fn print_unread(&self, name: &str, error: &io::Error) -> Result<(), Ending> {
-        if self.format == CheckFormat::Text {
+        let Some(form) = form_of(self.format) else {
             return Ok(());
-        }
-        let row = Row::new(self.rt.alloc(), self.format);
-        let mut text = Vec::new(self.rt.alloc());
-        allocated(self.rt, put_unread_row(row, &mut text, name, error))?;
-        print_text(self.rt, &text)
+        };
+        let row = allocated(self.rt, unread_row(self.rt.alloc(), form, name, error))?;
+        print_text(self.rt, &row)
     }
 
     /// Judges a file with these bytes, and prints the result.
@@ -215,12 +213,10 @@ where
     /// Returns the result of a file with this name, and whether it is good.
     fn result(&self, name: &str, bytes: &[u8]) -> Result<(Vec<u8>, bool), AllocError> {
         let alloc = self.rt.alloc();
-        if self.format == CheckFormat::Text {
-            return report_on(alloc, name, bytes, self.columns);
+        match form_of(self.format) {
+            None => report_on(alloc, name, bytes, self.columns),
+            Some(form) => row_of(alloc, form, name, bytes),
         }
-        let mut text = Vec::new(alloc);
-        let is_good = put_row(Row::new(alloc, self.format), &mut text, name, bytes)?;
-        Ok((text, is_good))
     }
 
     /// Counts a file that is not judged, after the reason was reported.
@@ -232,6 +228,15 @@ where
     pub(crate) fn end(self) -> Ending {
         say(self.rt, self.tally);
         Ending::Checked(self.tally.worst())
+    }
+}
+
+/// Returns the form of rows in a format, if it has rows.
+fn form_of(format: CheckFormat) -> Option<RowForm> {
+    match format {
+        CheckFormat::Text => None,
+        CheckFormat::Tsv => Some(RowForm::Tsv),
+        CheckFormat::Json => Some(RowForm::Json),
     }
 }
 
