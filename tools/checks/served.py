@@ -23,8 +23,10 @@ class Served:
         self.folder, self.port = folder, port
         self.command = command or [PROGRAM, "serve", "--dir", folder, "--port", str(port)]
         self.process = None
+        self.began = None
 
     def begin(self):
+        self.began = time.time()
         self.process = subprocess.Popen(self.command, stdout=subprocess.DEVNULL, stderr=subprocess.PIPE)
         for _ in range(600):
             try:

@@ -13,13 +13,15 @@ class Closed(Exception):
 class Socket:
     """A WebSocket of a client."""
 
-    def __init__(self, port, path, host="127.0.0.1", origin=None, timeout=20):
+    def __init__(self, port, path, host="127.0.0.1", origin=None, timeout=20, address=None):
         self.sock = socket.create_connection((host, port), timeout=timeout)
         key = base64.b64encode(os.urandom(16)).decode()
         lines = [f"GET {path} HTTP/1.1", f"Host: {host}:{port}", "Connection: Upgrade", "Upgrade: websocket",
                  "Sec-WebSocket-Version: 13", f"Sec-WebSocket-Key: {key}"]
         if origin:
             lines.append(f"Origin: {origin}")
+        if address:
+            lines.append(f"X-Forwarded-For: {address}")
         self.sock.sendall("\r\n".join(lines + ["", ""]).encode())
         self.buffer = b""
         while b"\r\n\r\n" not in self.buffer:

@@ -31,6 +31,8 @@ pub enum Kind {
     Plain,
     /// SVG.
     Picture,
+    /// Files, as `tar` reads them.
+    Archive,
 }
 
 impl Kind {
@@ -40,6 +42,7 @@ impl Kind {
             Kind::Json => HeaderValue::from_static("application/json"),
             Kind::Plain => HeaderValue::from_static("text/plain; charset=utf-8"),
             Kind::Picture => HeaderValue::from_static("image/svg+xml"),
+            Kind::Archive => HeaderValue::from_static("application/x-tar"),
         }
     }
 }

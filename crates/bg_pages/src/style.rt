@@ -43,6 +43,7 @@ input, select { min-height: 2.75rem; padding: .4rem .5rem; border: 1px solid var
 #made:not(:empty) { border: 1px solid var(--line); padding: .25rem 1rem .75rem; }
 .link { display: flex; gap: .6rem; flex-wrap: wrap; align-items: center; }
 .link a { overflow-wrap: anywhere; }
+.downloads { display: flex; gap: .6rem; flex-wrap: wrap; align-items: center; color: var(--faint); }
 .search { color: var(--faint); font-size: .9rem; }
 table { border-collapse: collapse; width: 100%; }
 th, td { text-align: left; padding: .35rem .6rem .35rem 0; border-bottom: 1px solid var(--line); }

@@ -65,7 +65,7 @@ impl Client {
     /// Notes that it is gone.
     pub(crate) fn leave<K: Keeper + Drop, S: Store<K> + Drop>(&self, site: &mut Site<K, S>) {
         if let Some(channel) = &self.channel {
-            site.leave(channel.peer());
+            site.end_socket(channel.peer());
         }
     }
 
@@ -123,10 +123,13 @@ impl Client {
         site: &mut Site<K, S>,
         now: u64,
     ) -> Step {
-        let (Some(peer), Some(connection)) = (self.upgraded.take(), self.http.take()) else {
+        let Some(peer) = self.upgraded.take() else {
             return Step::Gone;
         };
-        site.come(&peer);
+        let Some(connection) = self.http.take() else {
+            return Step::Gone;
+        };
+        site.begin_socket(&peer);
         let (input, output) = connection.into_buffers();
         self.channel = Some(Channel::new(self.alloc, input, output, peer));
         self.since = now;

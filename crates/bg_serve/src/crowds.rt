@@ -50,12 +50,13 @@ impl<'a> Server<'a> {
             Interest::READABLE | Interest::WRITABLE,
         )?;
         let keys = RandomState::new(self.rt)?;
-        let client = Some(Client::new(self.rt.alloc(), keys, stream, now));
-        match self.clients.get_mut(free) {
-            Some(slot) => *slot = client,
-            None => self.clients.push(client)?,
-        }
         self.again.push(free)?;
+        if free == self.clients.len() {
+            self.clients.push(None)?;
+        }
+        if let Some(slot) = self.clients.get_mut(free) {
+            *slot = Some(Client::new(self.rt.alloc(), keys, stream, now));
+        }
         Ok(())
     }
 

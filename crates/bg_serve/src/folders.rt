@@ -1,17 +1,20 @@
 //! The folders of matches: each lies in the folder that is served, and has the files of a match as everywhere.
 
-use crate::seat_files::{random_digits, read_seats, write_seats};
+use crate::seat_files::{path_in, random_digits, read_seats, write_seats};
+use crate::timed_keepers::{SaveCounts, TimedKeeper};
 use bg_match::{Record, Terms};
 use bg_processes::{
     Failures, FileKeeper, FolderLock, MatchFile, NamedMatch, Names, make_secret, read_saved,
     read_secret,
 };
-use bg_site::{Found, Made, Seats, Store};
+use bg_site::{Found, Made, Saves, Seats, Store};
 use bg_wire::{REFEREE, SEAT_OF_O, SEAT_OF_X, restore};
 use bg_world::Keepers;
+use std::alloc::{AllocError, Global};
 use std::fs::{DirBuilder, File};
 use std::os::unix::fs::DirBuilderExt;
 use std::random::RandomSource;
+use std::rc::Rc;
 use std::{fs, io};
 
 /// No match of the server has sockets of its own. A match file wants a port nevertheless.
@@ -21,7 +24,7 @@ const PORT: u16 = 1024;
 const OWNER_ALONE: u32 = 0o700;
 
 /// A keeper of a match that is served.
-pub(crate) type Kept<'a> = FileKeeper<'a, HostRuntime>;
+pub(crate) type Kept<'a> = TimedKeeper<'a, FileKeeper<'a, HostRuntime>>;
 
 /// The folder of all matches.
 #[derive(Drop)]
@@ -29,16 +32,25 @@ pub struct FolderStore<'a> {
     rt: &'a HostRuntime,
     folder: &'a str,
     failures: &'a Failures,
+    saves: Rc<SaveCounts>,
 }
 
 impl<'a> FolderStore<'a> {
     /// The matches in a folder, whose keepers note their failures there.
-    pub fn new(rt: &'a HostRuntime, folder: &'a str, failures: &'a Failures) -> FolderStore<'a> {
-        FolderStore {
+    ///
+    /// # Errors
+    /// AllocError where there is no memory for it.
+    pub fn new(
+        rt: &'a HostRuntime,
+        folder: &'a str,
+        failures: &'a Failures,
+    ) -> Result<FolderStore<'a>, AllocError> {
+        Ok(FolderStore {
             rt,
             folder,
             failures,
-        }
+            saves: Rc::new(rt.alloc(), SaveCounts::new())?,
+        })
     }
 
     /// The names of all that lies in the folder.
@@ -48,7 +60,7 @@ impl<'a> FolderStore<'a> {
     pub(crate) fn names(&self) -> io::Result<Vec<String>> {
         let mut names = Vec::new(self.rt.alloc());
         for entry in fs::read_dir(self.rt, self.folder)? {
-            names.push(format!(in self.rt.alloc(); "{}", entry?.file_name())?)?;
+            names.push(String::from_str(self.rt.alloc(), entry?.file_name())?)?;
         }
         names.sort()?;
         Ok(names)
@@ -63,20 +75,26 @@ impl<'a> FolderStore<'a> {
         &self,
         name: &str,
     ) -> io::Result<Option<(Found<Kept<'a>>, Option<FolderLock>)>> {
-        let rt = self.rt;
-        let path = format!(in rt.alloc(); "{}/{name}", self.folder)?;
-        let match_path = format!(in rt.alloc(); "{path}/match")?;
-        let file = match NamedMatch::read(rt, match_path.as_str()) {
-            Ok(Some(file)) => file,
-            _ => return Ok(None),
+        let path = path_in(self.rt.alloc(), self.folder, name)?;
+        let Some(file) = self.match_in(path.as_str())? else {
+            return Ok(None);
         };
-        let seats = read_seats(rt, path.as_str())?;
-        let lock = if seats.is_none() {
-            Some(FolderLock::take(rt, path.as_str())?)
-        } else {
-            None
+        let seats = read_seats(self.rt, path.as_str())?;
+        let lock = match seats {
+            Some(_) => None,
+            None => Some(FolderLock::take(self.rt, path.as_str())?),
         };
-        Ok(Some((self.found(name, path.as_str(), file, seats)?, lock)))
+        let found = self.found(name, path.as_str(), file, seats)?;
+        Ok(Some((found, lock)))
+    }
+
+    /// The match file of a folder; None where it has none that can be read.
+    fn match_in(&self, path: &str) -> io::Result<Option<NamedMatch>> {
+        let path = path_in(self.rt.alloc(), path, "match")?;
+        match NamedMatch::read(self.rt, path.as_str()) {
+            Ok(file) => Ok(file),
+            Err(_) => Ok(None),
+        }
     }
 
     /// The match of this name, with its keepers.
@@ -87,33 +105,52 @@ impl<'a> FolderStore<'a> {
         file: NamedMatch,
         seats: Option<Seats>,
     ) -> io::Result<Found<Kept<'a>>> {
-        let rt = self.rt;
+        let key = read_secret(self.rt, path)?;
+        let name = String::from_str(self.rt.alloc(), name)?;
         Ok(Found {
-            name: format!(in rt.alloc(); "{name}")?,
+            name,
             names: file.names,
             id: file.table.id,
             terms: file.table.terms,
             seats,
-            key: read_secret(rt, path)?,
-            keepers: Keepers {
-                referee: FileKeeper::new(rt, path, REFEREE, self.failures)?,
-                x: FileKeeper::new(rt, path, SEAT_OF_X, self.failures)?,
-                o: FileKeeper::new(rt, path, SEAT_OF_O, self.failures)?,
-            },
+            key,
+            keepers: self.keepers(path)?,
         })
     }
 
-    /// Makes the folder of a match. Its match file comes last: a folder without one is no match.
+    /// The keepers of the parties in a folder.
+    fn keepers(&self, path: &str) -> Result<Keepers<Kept<'a>>, AllocError> {
+        let referee = self.keeper(path, REFEREE)?;
+        let x = self.keeper(path, SEAT_OF_X)?;
+        let o = self.keeper(path, SEAT_OF_O)?;
+        Ok(Keepers { referee, x, o })
+    }
+
+    /// The keeper of a party in a folder.
+    fn keeper(&self, path: &str, party: u8) -> Result<Kept<'a>, AllocError> {
+        let counts = self.saves.clone()?;
+        let keeper = FileKeeper::new(self.rt, path, party, self.failures)?;
+        Ok(TimedKeeper::new(self.rt, keeper, counts))
+    }
+
+    /// Makes a match, with secrets of its seats.
     fn try_make(&self, terms: Terms, names: Names) -> io::Result<Made<Kept<'a>>> {
-        let rt = self.rt;
-        let name = random_digits(rt, 6)?;
-        let path = format!(in rt.alloc(); "{}/{name}", self.folder)?;
-        DirBuilder::new()
-            .mode(OWNER_ALONE)
-            .create(rt, path.as_str())?;
-        make_secret(rt, path.as_str())?;
-        let (x, o) = (random_digits(rt, 16)?, random_digits(rt, 16)?);
-        let seats = write_seats(rt, path.as_str(), x.as_str(), o.as_str())?;
+        let (x, o) = (random_digits(self.rt, 16)?, random_digits(self.rt, 16)?);
+        let found = self.make_found(x.as_str(), o.as_str(), terms, names)?;
+        Ok(Made { found, x, o })
+    }
+
+    /// Makes a match whose seats have these secrets.
+    fn make_found(
+        &self,
+        x: &str,
+        o: &str,
+        terms: Terms,
+        names: Names,
+    ) -> io::Result<Found<Kept<'a>>> {
+        let name = random_digits(self.rt, 6)?;
+        let path = path_in(self.rt.alloc(), self.folder, name.as_str())?;
+        let seats = self.make_folder(path.as_str(), x, o)?;
         let file = NamedMatch {
             table: MatchFile {
                 id: self.random_id()?,
@@ -122,13 +159,21 @@ impl<'a> FolderStore<'a> {
             },
             names,
         };
-        file.write(rt, path.as_str())?;
-        File::open(rt, self.folder)?.sync_all()?;
-        Ok(Made {
-            found: self.found(name.as_str(), path.as_str(), file, Some(seats))?,
-            x,
-            o,
-        })
+        self.write_match(path.as_str(), &file)?;
+        self.found(name.as_str(), path.as_str(), file, Some(seats))
+    }
+
+    /// Makes the folder of a match, with the secret of its dice and the digests of its seats.
+    fn make_folder(&self, path: &str, x: &str, o: &str) -> io::Result<Seats> {
+        DirBuilder::new().mode(OWNER_ALONE).create(self.rt, path)?;
+        make_secret(self.rt, path)?;
+        write_seats(self.rt, path, x, o)
+    }
+
+    /// Writes the match file. It comes last, as a folder without one is no match.
+    fn write_match(&self, path: &str, file: &NamedMatch) -> io::Result<()> {
+        file.write(self.rt, path)?;
+        File::open(self.rt, self.folder)?.sync_all()
     }
 
     fn random_id(&self) -> io::Result<u64> {
@@ -139,27 +184,28 @@ impl<'a> FolderStore<'a> {
 
     /// Reads the record that a match's referee has saved.
     fn try_load(&self, name: &str) -> io::Result<Option<Record>> {
-        let rt = self.rt;
-        let path = format!(in rt.alloc(); "{}/{name}", self.folder)?;
-        let match_path = format!(in rt.alloc(); "{path}/match")?;
-        let Some(file) = MatchFile::read(rt, match_path.as_str())? else {
+        let path = path_in(self.rt.alloc(), self.folder, name)?;
+        let Some(file) = self.match_in(path.as_str())? else {
             return Ok(None);
         };
-        let zero = read_saved(rt, format!(in rt.alloc(); "{path}/party-0.0")?.as_str())?;
-        let one = read_saved(rt, format!(in rt.alloc(); "{path}/party-0.1")?.as_str())?;
-        let (id, terms) = (file.id, file.terms);
-        match restore(
-            rt.alloc(),
-            &zero,
-            &one,
-            REFEREE,
-            id,
-            terms.length,
-            terms.rules,
-        ) {
-            Ok(Some(saved)) => Ok(Some(saved.log)),
-            _ => Ok(None),
-        }
+        let zero = self.saved_in(path.as_str(), "party-0.0")?;
+        let one = self.saved_in(path.as_str(), "party-0.1")?;
+        Ok(record_in(self.rt.alloc(), &zero, &one, file.table))
+    }
+
+    /// Reads a slot of a folder.
+    fn saved_in(&self, path: &str, slot: &str) -> io::Result<Vec<u8>> {
+        let path = path_in(self.rt.alloc(), path, slot)?;
+        read_saved(self.rt, path.as_str())
+    }
+}
+
+/// Returns the record that a referee's two slots have, if they have one of this match.
+fn record_in(alloc: Global, zero: &[u8], one: &[u8], file: MatchFile) -> Option<Record> {
+    let (id, length, rules) = (file.id, file.terms.length, file.terms.rules);
+    match restore(alloc, zero, one, REFEREE, id, length, rules) {
+        Ok(Some(saved)) => Some(saved.log),
+        _ => None,
     }
 }
 
@@ -176,5 +222,9 @@ impl<'a> Store<Kept<'a>> for FolderStore<'a> {
             Ok(found) => found,
             Err(_) => None,
         }
+    }
+
+    fn saves(&self) -> Saves {
+        self.saves.counted()
     }
 }

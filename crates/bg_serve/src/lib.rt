@@ -19,6 +19,7 @@ mod quotas;
 mod seat_files;
 pub mod serve;
 mod servers;
+mod timed_keepers;
 
 pub use folders::FolderStore;
 pub use limits::{
@@ -26,3 +27,4 @@ pub use limits::{
     SILENT_SECONDS, STALL_SECONDS,
 };
 pub use servers::Server;
+pub use timed_keepers::TimedKeeper;

@@ -1,6 +1,7 @@
 //! The file of a match that says who may play it: the SHA-256 of the secret of each seat.
 
 use bg_site::{Digest, Seats, digest_of};
+use std::alloc::{AllocError, Global};
 use std::fs::{File, OpenOptions};
 use std::io::{ErrorKind, Write};
 use std::os::unix::fs::OpenOptionsExt;
@@ -22,10 +23,16 @@ pub(crate) fn random_digits(
     let mut bytes = [0u8; 16];
     rt.fill_bytes(&mut bytes)?;
     let mut text = String::new(rt.alloc());
-    for byte in &bytes[..count.min(16)] {
-        write!(text, "{byte:02x}")?;
-    }
+    put_hex(&mut text, &bytes[..count.min(16)])?;
     Ok(text)
+}
+
+/// Returns the path of what has this name in a folder.
+pub(crate) fn path_in(alloc: Global, folder: &str, name: &str) -> Result<String, AllocError> {
+    let mut path = String::from_str(alloc, folder)?;
+    path.push('/')?;
+    path.push_str(name)?;
+    Ok(path)
 }
 
 /// Returns the seats of a match, if its folder says who may play it.
@@ -36,7 +43,7 @@ pub(crate) fn read_seats(
     rt: &(impl Files<File = File> + AllocGlobal),
     folder: &str,
 ) -> io::Result<Option<Seats>> {
-    let path = format!(in rt.alloc(); "{folder}/{NAME}")?;
+    let path = path_in(rt.alloc(), folder, NAME)?;
     let text = match fs::read_to_string(rt, path.as_str()) {
         Err(error) if error.kind() == ErrorKind::NotFound => return Ok(None),
         read => read?,
@@ -83,22 +90,42 @@ pub(crate) fn write_seats(
     let mut text = String::new(rt.alloc());
     put_line(&mut text, "x ", &seats.x)?;
     put_line(&mut text, "o ", &seats.o)?;
-    let path = format!(in rt.alloc(); "{folder}/{NAME}")?;
+    write_new(rt, folder, text.as_str())?;
+    Ok(seats)
+}
+
+/// Writes the file of a folder that has none yet, and has it written through.
+fn write_new(
+    rt: &(impl Files<File = File> + AllocGlobal),
+    folder: &str,
+    text: &str,
+) -> io::Result<()> {
+    let path = path_in(rt.alloc(), folder, NAME)?;
     let mut file = OpenOptions::new()
         .write(true)
         .create_new(true)
         .mode(OWNER_ALONE)
         .open(rt, path.as_str())?;
-    file.write_all(text.as_str().as_bytes())?;
-    file.sync_all()?;
-    Ok(seats)
+    file.write_all(text.as_bytes())?;
+    file.sync_all()
 }
 
-fn put_line(text: &mut String, word: &str, digest: &Digest) -> io::Result<()> {
+fn put_line(text: &mut String, word: &str, digest: &Digest) -> Result<(), AllocError> {
     text.push_str(word)?;
-    for byte in digest {
-        write!(text, "{byte:02x}")?;
+    put_hex(text, digest)?;
+    text.push('\n')
+}
+
+/// Adds bytes as hexadecimal digits.
+fn put_hex(text: &mut String, bytes: &[u8]) -> Result<(), AllocError> {
+    for byte in bytes.iter() {
+        text.push(hex_digit(byte / 16))?;
+        text.push(hex_digit(byte % 16))?;
     }
-    text.push('\n')?;
     Ok(())
+}
+
+/// Returns the hexadecimal digit of a number under 16.
+fn hex_digit(number: u8) -> char {
+    char::from_digit(number.into(), 16).unwrap_or('0')
 }

@@ -23,13 +23,23 @@ pub fn run(
     if tells_requests {
         server.site.keep_log();
     }
+    go_on(rt, &mut server, folder, &failures)
+}
+
+/// Lets a server take its turns.
+fn go_on(
+    rt: &HostRuntime,
+    server: &mut Server<'_>,
+    folder: &str,
+    failures: &Failures,
+) -> Result<Ending, Ending> {
     for _ in 0..u64::MAX {
         match server.turn() {
             Ok(made) => tell_made(rt, made),
             Err(error) => return Err(failed_for(rt, "the sockets can't be waited for", &error)),
         }
-        tell_requests(rt, &mut server);
-        say_failures(rt, &failures, folder);
+        tell_requests(rt, server);
+        say_failures(rt, failures, folder);
     }
     Ok(Ending::Served)
 }

@@ -40,6 +40,30 @@ pub struct Server<'a> {
     pub(crate) is_accepting: bool,
 }
 
+/// What a server waits for: its listener, and what happened at its sockets.
+#[derive(Drop)]
+struct Sockets {
+    poll: Poll,
+    events: Events,
+    listener: TcpListener,
+}
+
+impl Sockets {
+    /// Those of a port on the loopback address.
+    fn bind(rt: &HostRuntime, port: u16) -> io::Result<Sockets> {
+        let events = Events::with_capacity(rt.alloc(), 256)?;
+        let mut listener = TcpListener::bind(rt, SocketAddr::from((Ipv4Addr::LOCALHOST, port)))?;
+        let poll = Poll::new(rt)?;
+        poll.registry()
+            .register(&mut listener, LISTENER, Interest::READABLE)?;
+        Ok(Sockets {
+            poll,
+            events,
+            listener,
+        })
+    }
+}
+
 impl<'a> Server<'a> {
     /// Binds the port on the loopback address, and takes in the matches of the folder.
     ///
@@ -51,28 +75,37 @@ impl<'a> Server<'a> {
         port: u16,
         failures: &'a Failures,
     ) -> io::Result<Server<'a>> {
-        let poll = Poll::new(rt)?;
-        let mut listener = TcpListener::bind(rt, SocketAddr::from((Ipv4Addr::LOCALHOST, port)))?;
-        poll.registry()
-            .register(&mut listener, LISTENER, Interest::READABLE)?;
-        let mut server = Server {
+        let start = Instant::now(rt)?;
+        let store = FolderStore::new(rt, folder, failures)?;
+        let sockets = Sockets::bind(rt, port)?;
+        let mut server = Server::over(rt, sockets, store, start);
+        server.open_all()?;
+        Ok(server)
+    }
+
+    /// A server without matches and clients.
+    fn over(
+        rt: &'a HostRuntime,
+        sockets: Sockets,
+        store: FolderStore<'a>,
+        start: Instant,
+    ) -> Server<'a> {
+        Server {
             rt,
-            site: Site::new(rt.alloc(), FolderStore::new(rt, folder, failures)),
+            site: Site::new(rt.alloc(), store),
             left_out: Vec::new(rt.alloc()),
             locks: Vec::new(rt.alloc()),
-            poll,
-            events: Events::with_capacity(rt.alloc(), 256)?,
-            listener,
+            poll: sockets.poll,
+            events: sockets.events,
+            listener: sockets.listener,
             clients: Vec::new(rt.alloc()),
             again: Vec::new(rt.alloc()),
             quota: Quota::new(MOST_MADE),
-            start: Instant::now(rt)?,
+            start,
             looked: 0,
             ticked: 0,
             is_accepting: true,
-        };
-        server.open_all()?;
-        Ok(server)
+        }
     }
 
     /// Takes in the matches of the folder. What is no match is passed over; what can't be served is left out.
@@ -134,6 +167,7 @@ impl<'a> Server<'a> {
         let since = Instant::now(self.rt)?.duration_since(self.start);
         let now = since.as_secs();
         self.site.allow_making(self.quota.has_any(now));
+        self.site.begin_minute(now / 60);
         self.accept(now);
         self.step_ready(now)?;
         self.tick(tenths_of(since));

@@ -78,7 +78,7 @@ impl<K: Keeper + Drop, S: Store<K> + Drop> Site<K, S> {
 
     /// Answers with what is counted.
     fn answer_metrics(&self, response: &mut Response) -> Result<(), AllocError> {
-        let text = metrics_text(self.alloc, &self.places, self.counts)?;
+        let text = metrics_text(self.alloc, &self.places, self.counts, self.store.saves())?;
         answer_text(response, Kind::Plain, text)
     }
 

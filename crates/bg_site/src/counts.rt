@@ -1,6 +1,6 @@
 //! What is counted of a server, and told as Prometheus reads it.
 
-use crate::places::Place;
+use crate::places::{Place, Saves};
 use bg_hosted::Acted;
 use bg_text::{put_number, put_text};
 use std::alloc::{AllocError, Global};
@@ -86,54 +86,107 @@ pub(crate) fn metrics_text<K>(
     alloc: Global,
     places: &[Place<K>],
     counts: Counts,
+    saves: Saves,
 ) -> Result<Vec<u8>, AllocError> {
-    let crowd = Crowd::of(places);
     let mut out = Vec::new(alloc);
-    put_gauges(&mut out, crowd, counts.connections)?;
+    put_gauges(&mut out, Crowd::of(places), counts.connections)?;
     put_counters(&mut out, counts)?;
+    put_saves(&mut out, saves)?;
     Ok(out)
 }
 
 /// Adds what there is now.
 fn put_gauges(out: &mut Vec<u8>, crowd: Crowd, connections: u64) -> Result<(), AllocError> {
-    put_text(out, "# TYPE bg_relay_matches gauge\n")?;
-    put_count(out, "bg_relay_matches{state=\"live\"}", crowd.live)?;
-    put_count(out, "bg_relay_matches{state=\"finished\"}", crowd.finished)?;
-    put_text(out, "# TYPE bg_relay_peers gauge\n")?;
-    put_count(out, "bg_relay_peers{role=\"player\"}", crowd.players)?;
-    put_count(out, "bg_relay_peers{role=\"watcher\"}", crowd.watchers)?;
-    put_text(out, "# TYPE bg_relay_connections gauge\n")?;
-    put_count(out, "bg_relay_connections", connections)
+    let matches = [
+        ("{state=\"live\"}", crowd.live),
+        ("{state=\"finished\"}", crowd.finished),
+    ];
+    let peers = [
+        ("{role=\"player\"}", crowd.players),
+        ("{role=\"watcher\"}", crowd.watchers),
+    ];
+    put_rows(out, "bg_relay_matches", " gauge\n", &matches)?;
+    put_rows(out, "bg_relay_peers", " gauge\n", &peers)?;
+    put_rows(
+        out,
+        "bg_relay_connections",
+        " gauge\n",
+        &[("", connections)],
+    )
 }
 
 /// Adds what has happened since the server began.
 fn put_counters(out: &mut Vec<u8>, counts: Counts) -> Result<(), AllocError> {
-    put_text(out, "# TYPE bg_relay_requests_total counter\n")?;
-    put_count(out, "bg_relay_requests_total", counts.requests)?;
-    put_text(out, "# TYPE bg_relay_matches_made_total counter\n")?;
-    put_count(out, "bg_relay_matches_made_total", counts.made)?;
-    put_text(out, "# TYPE bg_relay_actions_total counter\n")?;
-    put_count(out, "bg_relay_actions_total{result=\"done\"}", counts.done)?;
-    put_count(
+    let actions = [
+        ("{result=\"done\"}", counts.done),
+        ("{result=\"waits\"}", counts.waiting),
+        ("{result=\"refused\"}", counts.refused),
+        ("{result=\"failed\"}", counts.failed),
+    ];
+    put_rows(
         out,
-        "bg_relay_actions_total{result=\"waits\"}",
-        counts.waiting,
+        "bg_relay_requests_total",
+        COUNTER,
+        &[("", counts.requests)],
     )?;
-    put_count(
+    put_rows(
         out,
-        "bg_relay_actions_total{result=\"refused\"}",
-        counts.refused,
+        "bg_relay_matches_made_total",
+        COUNTER,
+        &[("", counts.made)],
     )?;
-    put_count(
-        out,
-        "bg_relay_actions_total{result=\"failed\"}",
-        counts.failed,
-    )
+    put_rows(out, "bg_relay_actions_total", COUNTER, &actions)
 }
 
-/// Adds the number of a name.
-fn put_count(out: &mut Vec<u8>, name: &str, count: u64) -> Result<(), AllocError> {
+/// Adds what the disk has done since then.
+fn put_saves(out: &mut Vec<u8>, saves: Saves) -> Result<(), AllocError> {
+    let rows = [
+        ("{result=\"done\"}", saves.done),
+        ("{result=\"failed\"}", saves.failed),
+    ];
+    put_rows(out, "bg_relay_saves_total", COUNTER, &rows)?;
+    put_text(out, "# TYPE bg_relay_save_seconds_total counter\n")?;
+    put_text(out, "bg_relay_save_seconds_total ")?;
+    put_seconds(out, saves.micros)?;
+    put_text(out, "\n")
+}
+
+/// Adds a number of microseconds as seconds, with six digits behind the point.
+fn put_seconds(out: &mut Vec<u8>, micros: u64) -> Result<(), AllocError> {
+    let rest = micros % 1_000_000;
+    put_number(out, micros / 1_000_000)?;
+    put_text(out, ".")?;
+    for least in [100_000, 10_000, 1000, 100, 10] {
+        if rest < least {
+            put_text(out, "0")?;
+        }
+    }
+    put_number(out, rest)
+}
+
+/// The end of the line that says that a number only grows.
+const COUNTER: &str = " counter\n";
+
+/// Adds the numbers of a name, one of each label, behind the line of their kind.
+fn put_rows(
+    out: &mut Vec<u8>,
+    name: &str,
+    kind: &str,
+    rows: &[(&str, u64)],
+) -> Result<(), AllocError> {
+    put_text(out, "# TYPE ")?;
     put_text(out, name)?;
+    put_text(out, kind)?;
+    for (label, count) in rows.iter() {
+        put_count(out, name, label, *count)?;
+    }
+    Ok(())
+}
+
+/// Adds the number of a name with a label.
+fn put_count(out: &mut Vec<u8>, name: &str, label: &str, count: u64) -> Result<(), AllocError> {
+    put_text(out, name)?;
+    put_text(out, label)?;
     put_text(out, " ")?;
     put_number(out, count)?;
     put_text(out, "\n")

@@ -15,13 +15,23 @@ pub(crate) fn greeting_text(
     seat: Option<Player>,
 ) -> Result<Vec<u8>, AllocError> {
     let mut out = Vec::new(alloc);
-    put_text(&mut out, "{\"match\":")?;
-    put_quoted(&mut out, name)?;
-    put_names(&mut out, names)?;
-    put_text(&mut out, ",\"you\":\"")?;
-    put_text(&mut out, letter_of(seat))?;
-    put_text(&mut out, "\"}")?;
+    put_greeting(&mut out, name, names, seat)?;
     Ok(out)
+}
+
+/// Adds which match it is, how its players are called, and whose seat a peer has.
+fn put_greeting(
+    out: &mut Vec<u8>,
+    name: &str,
+    names: &Names,
+    seat: Option<Player>,
+) -> Result<(), AllocError> {
+    put_text(out, "{\"match\":")?;
+    put_quoted(out, name)?;
+    put_names(out, names)?;
+    put_text(out, ",\"you\":\"")?;
+    put_text(out, letter_of(seat))?;
+    put_text(out, "\"}")
 }
 
 /// Adds how the players are called.

@@ -11,7 +11,9 @@
 //! ```
 #![tactic(auto)]
 
+mod addresses;
 mod answering;
+mod archives;
 mod channels;
 mod counts;
 mod files;
@@ -28,9 +30,10 @@ mod sending;
 mod sites;
 mod sockets;
 
+pub use addresses::{MOST_MADE_BY_ADDRESS, MOST_OF_ADDRESS};
 pub use bg_requests::{Digest, MOST_MESSAGE, Seats, digest_of};
 pub use channels::{Channel, MOST_WAITING, Step};
 pub use messages::Reply;
 pub use peers::Peer;
-pub use places::{Found, Made, MatchName, Store};
+pub use places::{Found, Made, MatchName, Saves, Store};
 pub use sites::{MOST_MATCHES, Site};

@@ -18,26 +18,54 @@ pub(crate) struct Wanted<'a> {
     is_finished: bool,
     /// How many pages stand before the one that is wanted.
     before: u32,
-    /// What the name of a player, or of the match, is to have in it.
+    /// What the name of a player, or of the match, is to have in it, in lower case.
     search: &'a str,
+    /// Whether those with the oldest news come first.
+    is_oldest_first: bool,
 }
 
 impl<'a> Wanted<'a> {
-    /// Returns what a query asks for, `list=finished`, `page=N`, with the text that it searches for.
+    /// Returns what a query asks for, `list=finished`, `page=N`, with the text that it searches for, which is in lower
+    /// case.
     pub(crate) fn of(query: Option<&str>, search: &'a str) -> Wanted<'a> {
         Wanted {
             is_finished: query_part(query, "list") == Some("finished"),
             before: pages_before(query_part(query, "page")),
             search,
+            is_oldest_first: false,
+        }
+    }
+
+    /// The same, with the oldest news first: so a page stays as it is once it is full.
+    pub(crate) fn oldest_first(self) -> Wanted<'a> {
+        Wanted {
+            is_oldest_first: true,
+            ..self
         }
     }
 
     /// Whether a match is among those that are asked for.
-    fn takes<K>(&self, place: &Place<K>) -> bool {
-        place.summary.winner.is_some() == self.is_finished
-            && (has_text(&place.names.x, self.search)
-                || has_text(&place.names.o, self.search)
-                || place.name.as_str().contains(self.search))
+    fn takes<K>(&self, alloc: Global, place: &Place<K>) -> Result<bool, AllocError> {
+        if place.summary.winner.is_some() != self.is_finished {
+            return Ok(false);
+        }
+        if self.search.is_empty() {
+            return Ok(true);
+        }
+        Ok(
+            is_named(alloc, &place.names.x, self.search)?
+                || is_named(alloc, &place.names.o, self.search)?
+                || has_text(alloc, place.name.as_str(), self.search)?,
+        )
+    }
+
+    /// Returns where a match stands in the list, by its news.
+    fn rank<K>(&self, place: &Place<K>) -> u64 {
+        if self.is_oldest_first {
+            place.news
+        } else {
+            u64::MAX - place.news
+        }
     }
 }
 
@@ -50,11 +78,17 @@ fn pages_before(digits: Option<&str>) -> u32 {
 }
 
 /// Whether there is a name, which has a text in it.
-fn has_text(name: &Option<Name>, search: &str) -> bool {
+fn is_named(alloc: Global, name: &Option<Name>, search: &str) -> Result<bool, AllocError> {
     match name {
-        Some(name) => name.as_str().contains(search),
-        None => false,
+        Some(name) => has_text(alloc, name.as_str(), search),
+        None => Ok(false),
     }
+}
+
+/// Whether a text, in lower case, has another in it.
+fn has_text(alloc: Global, text: &str, search: &str) -> Result<bool, AllocError> {
+    let text = text.to_lowercase(alloc)?;
+    Ok(text.as_str().contains(search))
 }
 
 /// Returns a page of a list, those with the latest news first.
@@ -65,20 +99,45 @@ pub(crate) fn list_text<K>(
 ) -> Result<Vec<u8>, AllocError> {
     let found = found_by(alloc, places, wanted)?;
     let mut out = Vec::new(alloc);
-    put_text(&mut out, "{\"count\":")?;
-    put_number(&mut out, found.len() as u64)?;
-    put_text(&mut out, ",\"page\":")?;
-    put_number(&mut out, u64::from(wanted.before) + 1)?;
-    put_text(&mut out, ",\"pages\":")?;
-    put_number(&mut out, found.len().div_ceil(PAGE).max(1) as u64)?;
-    put_text(&mut out, ",\"matches\":[")?;
-    let start = (wanted.before as usize).saturating_mul(PAGE);
-    put_rows(&mut out, places, rows_from(&found, start))?;
-    put_text(&mut out, "]}")?;
+    put_list(&mut out, places, wanted, &found)?;
     Ok(out)
 }
 
-/// Returns the places of the matches that are asked for, those with the latest news first.
+/// Adds a page of the matches that were found.
+fn put_list<K>(
+    out: &mut Vec<u8>,
+    places: &[Place<K>],
+    wanted: &Wanted<'_>,
+    found: &[(u64, usize)],
+) -> Result<(), AllocError> {
+    put_text(out, "{\"count\":")?;
+    put_number(out, found.len() as u64)?;
+    put_text(out, ",\"page\":")?;
+    put_number(out, u64::from(wanted.before) + 1)?;
+    put_text(out, ",\"pages\":")?;
+    put_number(out, found.len().div_ceil(PAGE).max(1) as u64)?;
+    put_text(out, ",\"matches\":[")?;
+    let start = (wanted.before as usize).saturating_mul(PAGE);
+    put_rows(out, places, rows_from(found, start))?;
+    put_text(out, "]}")
+}
+
+/// Returns the places of the matches on the page that is asked for.
+pub(crate) fn page_of<K>(
+    alloc: Global,
+    places: &[Place<K>],
+    wanted: &Wanted<'_>,
+) -> Result<Vec<usize>, AllocError> {
+    let found = found_by(alloc, places, wanted)?;
+    let start = (wanted.before as usize).saturating_mul(PAGE);
+    let mut page = Vec::new(alloc);
+    for row in rows_from(&found, start) {
+        page.push(row.1)?;
+    }
+    Ok(page)
+}
+
+/// Returns the places of the matches that are asked for, in order.
 fn found_by<K>(
     alloc: Global,
     places: &[Place<K>],
@@ -86,8 +145,8 @@ fn found_by<K>(
 ) -> Result<Vec<(u64, usize)>, AllocError> {
     let mut found = Vec::new(alloc);
     for (index, place) in places.iter().enumerate() {
-        if wanted.takes(place) {
-            found.push((u64::MAX - place.news, index))?;
+        if wanted.takes(alloc, place)? {
+            found.push((wanted.rank(place), index))?;
         }
     }
     found.sort()?;

@@ -2,7 +2,9 @@
 ghost use Rattle.std.specs.Prelude.{◌≡◌, ◌++◌, IfOk, OnOk};
 ghost use Rattle.bg_site.specs.Links.{link_text, links_text as text_of_links};
 
+use crate::addresses::address_of;
 use crate::answering::missing;
+use crate::files::Asked;
 use crate::lists::{Wanted, list_text};
 use crate::places::{Made, Store};
 use crate::requests::{bearer_of, is_json, ordered_by, query_part};
@@ -18,7 +20,7 @@ use http_server::Response;
 use std::alloc::{AllocError, Global};
 
 impl<K: Keeper + Drop, S: Store<K> + Drop> Site<K, S> {
-    /// Answers with a page of the list of matches.
+    /// Answers with a page of the list of matches, or with an archive of what is on it.
     pub(crate) fn list(
         &self,
         request: &Request<Bytes>,
@@ -27,9 +29,16 @@ impl<K: Keeper + Drop, S: Store<K> + Drop> Site<K, S> {
         let query = request.uri().query();
         let search = query_part(query, "search").unwrap_or("");
         let search = form_urlencoded::decode(self.alloc, search.as_bytes())?;
+        let search = search.as_str().to_lowercase(self.alloc)?;
         let wanted = Wanted::of(query, search.as_str());
-        let text = list_text(self.alloc, &self.places, &wanted)?;
-        answer_text(response, Kind::Json, text)
+        match query_part(query, "form") {
+            Some("transcript") => self.archive(wanted, Asked::Transcript, response),
+            Some("mat") => self.archive(wanted, Asked::Mat, response),
+            _ => {
+                let text = list_text(self.alloc, &self.places, &wanted)?;
+                answer_text(response, Kind::Json, text)
+            }
+        }
     }
 
     /// Makes the match that a request asks for, and answers with the links of its seats: nobody else is told them.
@@ -52,7 +61,8 @@ impl<K: Keeper + Drop, S: Store<K> + Drop> Site<K, S> {
                 "a match has a length from 1 to 99, rules 1 or 2, and names\n",
             );
         };
-        if !self.may_make {
+        let address = address_of(request);
+        if !self.may_make || !self.addresses.may_make(address) {
             return refuse(
                 response,
                 StatusCode::TOO_MANY_REQUESTS,
@@ -63,7 +73,10 @@ impl<K: Keeper + Drop, S: Store<K> + Drop> Site<K, S> {
             return refuse_full(response);
         }
         match self.store.make(ordered.terms, ordered.names) {
-            Some(made) => self.answer_made(made, response),
+            Some(made) => {
+                self.addresses.make(address);
+                self.answer_made(made, response)
+            }
             None => refuse(
                 response,
                 StatusCode::INSUFFICIENT_STORAGE,

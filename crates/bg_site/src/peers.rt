@@ -1,6 +1,7 @@
 //! What is known of a peer that has a socket.
 ghost use Rattle.std.specs.Prelude.{◌≡◌, ◌↔◌, IsSome, IsTrue, None, Some};
 
+use crate::addresses::Address;
 use bg_board::Player;
 
 /// A peer that has a socket: which match he looks at, whose seat he has, and what he was handed last.
@@ -15,6 +16,8 @@ pub struct Peer {
     pub(crate) version: u64,
     /// The same of who is there.
     pub(crate) comings: u64,
+    /// Where he connects from, if a proxy has said so.
+    pub(crate) address: Option<Address>,
 }
 
 impl Peer {
@@ -29,6 +32,7 @@ impl Peer {
             is_greeted: false,
             version: 0,
             comings: 0,
+            address: None,
         }
     }
 

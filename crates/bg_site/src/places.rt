@@ -35,6 +35,26 @@ pub struct Made<K> {
     pub o: String,
 }
 
+/// What was counted of the saves of all matches.
+#[derive(Clone, Copy, Debug, PartialEq, Eq)]
+pub struct Saves {
+    /// How many were written through.
+    pub done: u64,
+    /// How many failed.
+    pub failed: u64,
+    /// How many microseconds they took, each with its sync.
+    pub micros: u64,
+}
+
+impl Saves {
+    /// Nothing was counted.
+    pub const NONE: Saves = Saves {
+        done: 0,
+        failed: 0,
+        micros: 0,
+    };
+}
+
 /// What keeps the matches.
 pub trait Store<K> {
     /// Makes a match, and has it written through. None where that failed.
@@ -42,6 +62,11 @@ pub trait Store<K> {
 
     /// Reads the record of a match that has ended. None where that failed.
     fn load(&self, name: &str) -> Option<Record>;
+
+    /// What was counted of the saves of all matches, where that is known.
+    fn saves(&self) -> Saves {
+        Saves::NONE
+    }
 }
 
 /// What is told of a match in lists.

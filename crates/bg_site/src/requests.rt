@@ -20,11 +20,16 @@ pub(crate) fn ordered_by(alloc: Global, body: &[u8]) -> Option<Ordered> {
     let Ok(text) = str::from_utf8(body) else {
         return None;
     };
-    let Ok(value) = Value::from_str(alloc, text) else {
-        return None;
-    };
-    let length = number_in(&value, "length")?;
-    let rules = match number_in(&value, "rules") {
+    match Value::from_str(alloc, text) {
+        Ok(value) => ordered_in(&value),
+        Err(_) => None,
+    }
+}
+
+/// Returns the match that an object orders.
+fn ordered_in(value: &Value) -> Option<Ordered> {
+    let length = number_in(value, "length")?;
+    let rules = match number_in(value, "rules") {
         Some(2) => Rules::Two,
         Some(1) | None => Rules::One,
         Some(_) => return None,
@@ -32,7 +37,7 @@ pub(crate) fn ordered_by(alloc: Global, body: &[u8]) -> Option<Ordered> {
     if length == 0 || length > 99 {
         return None;
     }
-    let (x, o) = (name_in(&value, "x")?, name_in(&value, "o")?);
+    let (x, o) = (name_in(value, "x")?, name_in(value, "o")?);
     Some(Ordered {
         terms: Terms {
             length: length as u8,

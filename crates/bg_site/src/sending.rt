@@ -21,6 +21,24 @@ impl<K: Keeper + Drop, S: Store<K> + Drop> Site<K, S> {
         self.upgraded.take()
     }
 
+    /// Notes that a connection has become a socket.
+    pub fn begin_socket(&mut self, peer: &Peer)
+        ensures { (place : ℕ) → peer.now.place ≡ Some place
+            → ChangesOnly self.old.places.items self.new.places.items place }
+    {
+        self.addresses.come(peer.address);
+        self.come(peer);
+    }
+
+    /// Notes that a socket has ended.
+    pub fn end_socket(&mut self, peer: &Peer)
+        ensures { (place : ℕ) → peer.now.place ≡ Some place
+            → ChangesOnly self.old.places.items self.new.places.items place }
+    {
+        self.addresses.leave(peer.address);
+        self.leave(peer);
+    }
+
     /// Notes that a peer has come, as his socket begins.
     #[tactic(auto, using(crate::proofs::Others::other_stays))]
     pub fn come(&mut self, peer: &Peer)

@@ -2,6 +2,7 @@
 ghost use Rattle.std.specs.Prelude.{◌≡◌, IfSome};
 ghost use Rattle.sha2.specs.Sha256.{sha256};
 
+use crate::addresses::Addresses;
 use crate::counts::Counts;
 use crate::peers::Peer;
 use crate::places::{Found, Place, Store, acted_before};
@@ -25,6 +26,8 @@ pub struct Site<K, S> {
     pub(crate) upgraded: Option<Peer>,
     /// Whether the request at hand may make a match.
     pub(crate) may_make: bool,
+    /// What the clients of each address have.
+    pub(crate) addresses: Addresses,
     /// How much news there was.
     news: u64,
     /// Of it, how much the host has asked for.
@@ -46,6 +49,7 @@ impl<K: Keeper + Drop, S: Store<K> + Drop> Site<K, S> {
             places: Vec::new(alloc),
             upgraded: None,
             may_make: true,
+            addresses: Addresses::none(alloc),
             news: 1,
             asked: 1,
             counts: Counts::NONE,
@@ -92,6 +96,11 @@ impl<K: Keeper + Drop, S: Store<K> + Drop> Site<K, S> {
     /// Says whether the requests that are handed in next may make matches.
     pub fn allow_making(&mut self, may_make: bool) {
         self.may_make = may_make;
+    }
+
+    /// Says which minute it is: matches that an address makes are counted in each.
+    pub fn begin_minute(&mut self, minute: u64) {
+        self.addresses.begin_minute(minute);
     }
 
     /// How many matches were made by requests.

@@ -1,5 +1,6 @@
 //! Requests for a socket.
 
+use crate::addresses::address_of;
 use crate::peers::Peer;
 use crate::places::Store;
 use crate::requests::{asks_for_socket, is_own_origin};
@@ -41,12 +42,28 @@ impl<K: Keeper + Drop, S: Store<K> + Drop> Site<K, S> {
                 "the key of the WebSocket is none\n",
             );
         };
+        let address = address_of(request);
+        if !self.addresses.may_come(address) {
+            return refuse(
+                response,
+                StatusCode::TOO_MANY_REQUESTS,
+                "too many sockets of one address\n",
+            );
+        }
         give_socket(self.alloc, &key, response)?;
-        self.upgraded = Some(match place {
-            Some(index) => Peer::watching(index),
-            None => Peer::unknown(),
+        self.upgraded = Some(Peer {
+            address,
+            ..peer_at(place)
         });
         Ok(())
+    }
+}
+
+/// Returns a peer who watches a match, or is to say whose seat he has.
+fn peer_at(place: Option<usize>) -> Peer {
+    match place {
+        Some(index) => Peer::watching(index),
+        None => Peer::unknown(),
     }
 }
 

@@ -51,7 +51,31 @@ async function refreshList(kind) {
   const place = byId(kind);
   if (!found.count) return fill(place, element('p', { class: 'none' }, list.search ? 'Nothing found.' : 'None yet.'));
   fill(place, element('table', {}, element('thead', {}, head), element('tbody', {}, ...found.matches.map(matchRow))),
-    element('p', { class: 'pages' }, ...pages));
+    element('p', { class: 'pages' }, ...pages), kind === 'finished' ? downloads(list.search, found) : null);
+}
+
+// The matches that were found, to be downloaded.
+function downloads(search, found) {
+  const said = element('span', { role: 'status' }), which = found.count === 1 ? 'the match' : `all ${found.count}`;
+  const as = (words, form) => button(words, () => download(form, search, found.pages, said));
+  return element('p', { class: 'downloads' }, element('span', {}, `Download ${which} as`), as('transcripts', 'transcript'),
+    as('.mat', 'mat'), said);
+}
+
+// Fetches all pages of an archive, and joins them: each but the last without the zeros that end it.
+async function download(form, search, pages, said) {
+  const parts = [];
+  for (let page = 1; page <= pages; page += 1) {
+    said.textContent = pages > 1 ? `${page} of ${pages}` : '';
+    const answer = await fetch('/matches?' + new URLSearchParams({ list: 'finished', form, page, search }));
+    if (!answer.ok) return void (said.textContent = 'Not downloaded: try again.');
+    const bytes = await answer.arrayBuffer();
+    parts.push(page < pages ? bytes.slice(0, -1024) : bytes);
+  }
+  const path = URL.createObjectURL(new Blob(parts, { type: 'application/x-tar' }));
+  element('a', { href: path, download: `matches-${form}.tar` }).click();
+  setTimeout(() => URL.revokeObjectURL(path), 60000);
+  said.textContent = 'Downloaded.';
 }
 
 function turnPage(kind, by, pages) {

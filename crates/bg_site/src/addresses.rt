@@ -1,0 +1,173 @@
+//! How much the clients of one address have, and may have.
+
+use bytes::Bytes;
+use http::Request;
+use std::alloc::{AllocError, Global};
+use std::net::{IpAddr, Ipv6Addr};
+
+/// The most sockets of an address at once.
+pub const MOST_OF_ADDRESS: u32 = 64;
+
+/// The most matches that an address makes in a minute.
+pub const MOST_MADE_BY_ADDRESS: u32 = 10;
+
+/// The address of a client: 16 bytes, of which one of IPv6 has the first 8 alone, as a network has the others to give.
+pub(crate) type Address = [u8; 16];
+
+/// Returns the address of the client whose request a proxy has passed on: the last one of the last `x-forwarded-for`.
+/// None where no proxy has said one: then the client is on this machine.
+pub(crate) fn address_of(request: &Request<Bytes>) -> Option<Address> {
+    let mut said = None;
+    for value in request.headers().get_all("x-forwarded-for") {
+        said = Some(address_in(value.as_bytes()));
+    }
+    said
+}
+
+/// Returns the last address of a list; what is no address is one like another.
+fn address_in(list: &[u8]) -> Address {
+    let text = str::from_utf8(list).unwrap_or("");
+    let last = match text.rsplit_once(',') {
+        Some((_, last)) => last,
+        None => text,
+    };
+    match last.trim().parse::<IpAddr>() {
+        Ok(address) => key_of(address),
+        Err(_) => [0; 16],
+    }
+}
+
+/// Returns what is compared of an address.
+fn key_of(address: IpAddr) -> Address {
+    match address.to_canonical() {
+        IpAddr::V4(address) => address.to_ipv6_mapped().octets(),
+        IpAddr::V6(address) => {
+            let [one, two, three, four, ..] = address.segments();
+            Ipv6Addr::new(one, two, three, four, 0, 0, 0, 0).octets()
+        }
+    }
+}
+
+/// What is known of an address.
+#[derive(Clone, Copy, Debug, PartialEq, Eq)]
+struct Known {
+    address: Address,
+    /// How many sockets it has.
+    sockets: u32,
+    /// The minute in which it made a match last, and how many it made in it.
+    minute: u64,
+    made: u32,
+}
+
+impl Known {
+    /// How many matches were made in this minute.
+    fn made_in(&self, minute: u64) -> u32 {
+        if self.minute == minute { self.made } else { 0 }
+    }
+
+    /// Whether it need not be known any more.
+    fn is_idle(&self, minute: u64) -> bool {
+        self.sockets == 0 && self.made_in(minute) == 0
+    }
+}
+
+/// What is known of all addresses that have sockets, or made matches in this minute.
+#[derive(Drop)]
+pub(crate) struct Addresses {
+    known: Vec<Known>,
+    minute: u64,
+}
+
+impl Addresses {
+    /// Nothing is known.
+    pub(crate) fn none(alloc: Global) -> Addresses {
+        Addresses {
+            known: Vec::new(alloc),
+            minute: 0,
+        }
+    }
+
+    /// Notes which minute it is, and forgets what need not be known any more.
+    pub(crate) fn begin_minute(&mut self, minute: u64) {
+        if minute != self.minute {
+            self.minute = minute;
+            self.known.retain(|known| !known.is_idle(minute));
+        }
+    }
+
+    /// Whether a client may have one more socket.
+    pub(crate) fn may_come(&self, address: Option<Address>) -> bool {
+        match self.find(address) {
+            Some(known) => known.sockets < MOST_OF_ADDRESS,
+            None => true,
+        }
+    }
+
+    /// Whether a client may make one more match.
+    pub(crate) fn may_make(&self, address: Option<Address>) -> bool {
+        match self.find(address) {
+            Some(known) => known.made_in(self.minute) < MOST_MADE_BY_ADDRESS,
+            None => true,
+        }
+    }
+
+    /// Notes that a client has one socket more.
+    pub(crate) fn come(&mut self, address: Option<Address>) {
+        if let Some(known) = self.find_or_add(address) {
+            known.sockets = known.sockets.saturating_add(1);
+        }
+    }
+
+    /// Notes that a client has one socket less.
+    pub(crate) fn leave(&mut self, address: Option<Address>) {
+        if let Some(known) = self.find_or_add(address) {
+            known.sockets = known.sockets.saturating_sub(1);
+        }
+    }
+
+    /// Notes that a client has made a match.
+    pub(crate) fn make(&mut self, address: Option<Address>) {
+        let minute = self.minute;
+        if let Some(known) = self.find_or_add(address) {
+            known.made = known.made_in(minute).saturating_add(1);
+            known.minute = minute;
+        }
+    }
+
+    /// What is known of an address, if there is one.
+    fn find(&self, address: Option<Address>) -> Option<Known> {
+        let address = address?;
+        for known in self.known.iter() {
+            if known.address == address {
+                return Some(*known);
+            }
+        }
+        None
+    }
+
+    /// The place of what is known of an address, which may be new. None where there is no memory for it, or no address.
+    fn find_or_add(&mut self, address: Option<Address>) -> Option<&mut Known> {
+        let address = address?;
+        let mut found = self.known.len();
+        for (index, known) in self.known.iter().enumerate() {
+            if known.address == address {
+                found = index;
+            }
+        }
+        if found == self.known.len() {
+            self.add(address).ok()?;
+        }
+        self.known.get_mut(found)
+    }
+
+    /// Adds an address of which nothing is known.
+    fn add(&mut self, address: Address) -> Result<(), AllocError> {
+        self.known.push(Known {
+            address,
+            sockets: 0,
+            minute: self.minute,
+            made: 0,
+        })?;
+        Ok(())
+    }
+}
