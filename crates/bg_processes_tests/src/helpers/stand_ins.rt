@@ -1,5 +1,6 @@
 //! A runtime that stands in for the system's: it has so many sockets and no more, and opens files, or some, or none.
 use crate::helpers::hosts::Host;
+use crate::helpers::lasting::lasting;
 use std::alloc::{Alloc, Allocator, Global};
 use std::cell::{Cell, RefCell};
 use std::fs::{File, Metadata, OpenOptions};
@@ -24,9 +25,13 @@ pub(crate) struct StandIn<'a, R> {
     sockets: RefCell<Vec<UdpSocket>>,
 }
 
+/// One that opens so many sockets, and all files. It lasts as long as the process.
+pub(crate) fn stand_in<'a, R: Host>(rt: &'a R, sockets: usize) -> &'a StandIn<'a, R> {
+    lasting(rt, StandIn::new(rt, sockets))
+}
+
 impl<'a, R: Host> StandIn<'a, R> {
-    /// It opens so many sockets, and all files.
-    pub(crate) fn new(rt: &'a R, sockets: usize) -> StandIn<'a, R> {
+    fn new(rt: &'a R, sockets: usize) -> StandIn<'a, R> {
         StandIn {
             rt,
             sockets_left: Cell::new(sockets),
@@ -46,15 +51,22 @@ impl<'a, R: Host> StandIn<'a, R> {
     }
 
     /// Another handle of a socket, by the order in which they were opened.
-    pub(crate) fn socket(&self, index: usize) -> UdpSocket {
+    pub(crate) fn socket(&self, index: usize) -> &'a UdpSocket {
         let found = copied(&self.sockets, index);
-        found.expect(self.rt, "a socket of this number")
+        lasting(self.rt, found.expect(self.rt, "a socket of this number"))
     }
 
     /// Where a socket is reached.
     pub(crate) fn address(&self, index: usize) -> SocketAddr {
-        let address = self.socket(index).local_addr();
-        address.expect(self.rt, "the address of a socket")
+        address_of(&self.sockets, index).expect(self.rt, "the address of a socket")
+    }
+}
+
+/// Where one of the sockets is reached.
+fn address_of(sockets: &RefCell<Vec<UdpSocket>>, index: usize) -> Option<SocketAddr> {
+    match sockets.try_borrow() {
+        Ok(sockets) => sockets.get(index)?.local_addr().ok(),
+        Err(_) => None,
     }
 }
 
