@@ -1,5 +1,4 @@
 //! A runtime that stands in for the system's: it has so many sockets and no more, and opens files, or some, or none.
-use crate::helpers::hosts::Host;
 use crate::helpers::lasting::lasting;
 use std::alloc::{Alloc, Allocator, Global};
 use std::cell::{Cell, RefCell};
@@ -7,6 +6,7 @@ use std::fs::{File, Metadata, OpenOptions};
 use std::io;
 use std::io::ErrorKind;
 use std::net::{Ipv4Addr, Net, SocketAddr, TcpListener, TcpStream, UdpSocket};
+use std::process::Abort;
 use std::rt::Files;
 
 /// The system's files and sockets, as far as this lets them through.
@@ -26,11 +26,11 @@ pub(crate) struct StandIn<'a, R> {
 }
 
 /// One that opens so many sockets, and all files. It lasts as long as the process.
-pub(crate) fn stand_in<'a, R: Host>(rt: &'a R, sockets: usize) -> &'a StandIn<'a, R> {
+pub(crate) fn stand_in<R: AllocGlobal + Abort + Drop>(rt: &R, sockets: usize) -> &StandIn<'_, R> {
     lasting(rt, StandIn::new(rt, sockets))
 }
 
-impl<'a, R: Host> StandIn<'a, R> {
+impl<'a, R: AllocGlobal + Abort> StandIn<'a, R> {
     fn new(rt: &'a R, sockets: usize) -> StandIn<'a, R> {
         StandIn {
             rt,
@@ -89,7 +89,7 @@ fn keep(sockets: &RefCell<Vec<UdpSocket>>, socket: UdpSocket) -> io::Result<()> 
 /// Any port of this machine alone that the system chooses.
 const ANY_PORT: (Ipv4Addr, u16) = (Ipv4Addr::LOCALHOST, 0);
 
-impl<'a, R: Host> Alloc for StandIn<'a, R> {
+impl<'a, R: AllocGlobal> Alloc for StandIn<'a, R> {
     type A = Global;
 
     fn alloc(&self) -> Global {
@@ -97,7 +97,7 @@ impl<'a, R: Host> Alloc for StandIn<'a, R> {
     }
 }
 
-impl<'a, R: Host> Net for StandIn<'a, R> {
+impl<'a, R: Net> Net for StandIn<'a, R> {
     type Stream = TcpStream;
 
     type Listener = TcpListener;
@@ -128,7 +128,7 @@ impl<'a, R: Host> Net for StandIn<'a, R> {
 /// The system's number of the error that a process has as many open files as it may.
 const TOO_MANY_OPEN_FILES: i32 = 24;
 
-impl<'a, R: Host> Files for StandIn<'a, R> {
+impl<'a, R: Files<File = File>> Files for StandIn<'a, R> {
     type File = File;
 
     type Dir = R::Dir;
