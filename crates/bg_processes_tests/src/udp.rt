@@ -184,9 +184,9 @@ fn check_sockets(rt: &impl Host, sockets: usize, line: &str) {
 
 /// Whether there are those of four parties, or a fault of sockets.
 fn comes_to(net: &(impl Net + AllocGlobal), is_bound: bool, failures: &Failures) -> bool {
-    match UdpLink::bind(net, 4, failures) {
-        Ok(_) => is_bound,
-        Err(fault) => !is_bound && fault == LoopFault::Socket,
+    match UdpLink::bind(net, 4, failures).err() {
+        None => is_bound,
+        Some(fault) => !is_bound && fault == LoopFault::Socket,
     }
 }
 
