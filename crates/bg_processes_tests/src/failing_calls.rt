@@ -4,6 +4,7 @@ use crate::helpers::devices::{keeper, link};
 use crate::helpers::failing_devices::{Calls, Failing};
 use crate::helpers::folders::{new_folder, remove_folder};
 use crate::helpers::hosts::Host;
+use crate::helpers::lasting::lasting;
 use crate::helpers::played_loops::SEED;
 use bg_auto::{LoopFault, PARTIES, run_rounds};
 use bg_match::Rules;
@@ -23,6 +24,19 @@ fn keep<'a, R: Host>(
     Failing::new(keeper(rt, rt, folder, party, &calls.failures), calls)
 }
 
+/// The files of three parties.
+fn keepers<'a, R: Host>(
+    rt: &'a R,
+    folder: &str,
+    calls: &'a Calls,
+) -> Keepers<Failing<'a, FileKeeper<'a, R>>> {
+    Keepers {
+        referee: keep(rt, folder, REFEREE, calls),
+        x: keep(rt, folder, SEAT_OF_X, calls),
+        o: keep(rt, folder, SEAT_OF_O, calls),
+    }
+}
+
 /// Plays ten rounds over devices of which one call fails.
 fn play_failing(
     rt: &impl Host,
@@ -30,13 +44,9 @@ fn play_failing(
     calls: &Calls,
     text: &mut Vec<u8>,
 ) -> Result<(), LoopFault> {
-    let keepers = Keepers {
-        referee: keep(rt, folder, REFEREE, calls),
-        x: keep(rt, folder, SEAT_OF_X, calls),
-        o: keep(rt, folder, SEAT_OF_O, calls),
-    };
-    let link = Failing::new(link(rt, rt, PARTIES, &calls.failures), calls);
-    play_ten(rt.alloc(), link, keepers, text)
+    let link = link(rt, rt, PARTIES, &calls.failures);
+    let keepers = keepers(rt, folder, calls);
+    play_ten(rt.alloc(), Failing::new(link, calls), keepers, text)
 }
 
 /// Plays ten rounds over any devices.
@@ -61,19 +71,23 @@ pub(crate) fn is_sound(text: &[u8]) -> bool {
 /// The call of this number fails, in a match of its own. Whether the match came to it.
 fn comes_to_call(rt: &impl Host, name: &str, failing: u32) -> bool {
     let folder = new_folder(rt, name);
-    let calls = Calls::new(failing);
-    let mut text = Vec::new(rt.alloc());
-    let result = play_failing(rt, folder.as_str(), &calls, &mut text);
-    remove_folder(rt, folder.as_str());
+    let calls: &Calls = lasting(rt, Calls::new(failing));
+    let is_as_expected = comes_to(rt, folder, calls);
+    remove_folder(rt, folder);
     if calls.made.get() < failing {
         return false;
     }
-    let is_as_expected = match result {
-        Ok(()) => !calls.failed_to_read.get() && is_sound(&text),
-        Err(fault) => calls.failed_to_read.get() && fault == STOPPED,
-    };
     assert!(rt; is_as_expected, "call {failing}");
     true
+}
+
+/// Whether ten rounds come to their end, or the match ends where a read fails.
+fn comes_to(rt: &impl Host, folder: &str, calls: &Calls) -> bool {
+    let text = lasting(rt, Vec::new(rt.alloc()));
+    match play_failing(rt, folder, calls, text) {
+        Ok(()) => !calls.failed_to_read.get() && is_sound(text.as_slice()),
+        Err(fault) => calls.failed_to_read.get() && fault == STOPPED,
+    }
 }
 
 /// Why a match ends of which a read fails.

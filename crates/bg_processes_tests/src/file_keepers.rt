@@ -1,8 +1,9 @@
 //! What is noted of files and folders that fail.
-use crate::helpers::devices::keeper;
+use crate::helpers::devices::{failures, lasting_keeper};
 use crate::helpers::folders::{new_folder, path_in, remove_folder};
 use crate::helpers::hosts::Host;
-use crate::helpers::stand_ins::StandIn;
+use crate::helpers::lasting::lasting_text;
+use crate::helpers::stand_ins::stand_in;
 use crate::helpers::told_failures::check_told;
 use bg_processes::Failures;
 use bg_wire::Slot;
@@ -36,7 +37,7 @@ fn check_both<K: Keeper>(
 }
 
 /// The name of the folder without the control character that it ends with.
-fn shown<'a>(rt: &impl Host, folder: &'a str, end: &str) -> &'a str {
+fn shown<'a>(rt: &impl Abort, folder: &'a str, end: &str) -> &'a str {
     folder.strip_suffix(end).expect(rt, "such an end")
 }
 
@@ -47,31 +48,41 @@ fn a_folder_that_cant_be_synced(rt: HostRuntime) {
 
 /// What is written to a folder that can't be synced is taken back, and it is noted once.
 fn check_unsynced(rt: &impl Host) {
-    let made = new_folder(rt, "sync\u{1b}");
-    let folder = made.as_str();
-    let files = StandIn::new(rt, 0);
+    let folder = new_folder(rt, "sync\u{1b}");
+    let files = stand_in(rt, 0);
+    let failures = failures(rt);
+    let keeper = lasting_keeper(rt, files, folder, 1, failures);
     files.barred.set(folder);
-    let failures = Failures::new();
-    let mut keeper = keeper(rt, &files, folder, 1, &failures);
-    let file = path_in(rt, folder, "party-1.0");
     // The name of the file may be lost: so what was written is taken back, and nothing is read. It is noted once.
     for _ in 0..2 {
-        check_both(rt, &mut keeper, FAILED, FAILED);
-        let bytes = fs::read(rt, file.as_str()).expect(rt, "the file");
-        assert!(rt; bytes.is_empty());
+        check_both(rt, keeper, FAILED, FAILED);
+        assert!(rt; is_empty(rt, path_in(rt, folder, "party-1.0")));
     }
+    check_unsynced_told(rt, failures, folder);
+    // Synced once for each file, and then no more.
+    files.barred.set("");
+    check_both(rt, keeper, OK, OK);
+    files.barred.set(folder);
+    check_both(rt, keeper, OK, OK);
+    check_told(rt, failures, folder, "");
+    remove_folder(rt, folder);
+}
+
+/// Whether there is a file with no bytes.
+fn is_empty(rt: &impl Host, path: &str) -> bool {
+    match fs::read(rt, path) {
+        Ok(bytes) => bytes.is_empty(),
+        Err(_) => false,
+    }
+}
+
+fn check_unsynced_told(rt: &(impl AllocGlobal + Abort), failures: &Failures, folder: &str) {
     let shown = shown(rt, folder, "\u{1b}");
     let wanted = format!(in rt.alloc();
         "{shown}\\u{{1b}} could not be synced: permission denied\n"
     );
-    check_told(rt, &failures, folder, wanted.expect(rt, "memory").as_str());
-    // Synced once for each file, and then no more.
-    files.barred.set("");
-    check_both(rt, &mut keeper, OK, OK);
-    files.barred.set(folder);
-    check_both(rt, &mut keeper, OK, OK);
-    check_told(rt, &failures, folder, "");
-    remove_folder(rt, folder);
+    let wanted = lasting_text(rt, wanted.expect(rt, "memory"));
+    check_told(rt, failures, folder, wanted);
 }
 
 #[test]
@@ -81,21 +92,24 @@ fn a_file_that_cant_be_opened(rt: HostRuntime) {
 
 /// One file fails, and the other does not.
 fn check_unopened(rt: &impl Host) {
-    let made = new_folder(rt, "file\n");
-    let folder = made.as_str();
-    let barred = path_in(rt, folder, "party-2.1");
-    let files = StandIn::new(rt, 0);
-    files.barred.set(barred.as_str());
-    let failures = Failures::new();
-    let mut keeper = keeper(rt, &files, folder, 2, &failures);
+    let folder = new_folder(rt, "file\n");
+    let files = stand_in(rt, 0);
+    files.barred.set(path_in(rt, folder, "party-2.1"));
+    let failures = failures(rt);
+    let keeper = lasting_keeper(rt, files, folder, 2, failures);
     for _ in 0..2 {
-        check_both(rt, &mut keeper, OK, FAILED);
+        check_both(rt, keeper, OK, FAILED);
     }
+    check_unopened_told(rt, failures, folder);
+    remove_folder(rt, folder);
+}
+
+fn check_unopened_told(rt: &(impl AllocGlobal + Abort), failures: &Failures, folder: &str) {
     let shown = shown(rt, folder, "\n");
     let wanted = format!(in rt.alloc();
         "{shown}\\n/party-2.1 could not be written: permission denied\n\
          {shown}\\n/party-2.1 could not be read: permission denied\n"
     );
-    check_told(rt, &failures, folder, wanted.expect(rt, "memory").as_str());
-    remove_folder(rt, folder);
+    let wanted = lasting_text(rt, wanted.expect(rt, "memory"));
+    check_told(rt, failures, folder, wanted);
 }

@@ -3,6 +3,7 @@ use super::failing_calls::is_sound;
 use crate::helpers::failing_devices::Calls;
 use crate::helpers::folders::{remove_folder, try_folder};
 use crate::helpers::hosts::Host;
+use crate::helpers::lasting::lasting_text;
 use crate::helpers::played_loops::{SEED, SHORT, played, try_played};
 use crate::helpers::tables::Table;
 use bg_auto::LoopFault;
@@ -11,6 +12,7 @@ use bg_processes::{
     KeyFile, MatchFile, make_key_secret, make_secret, publish, read_key_secret, read_secret,
 };
 use bg_world::WorldFault;
+use std::alloc::AllocError;
 use std::io::ErrorKind;
 use std::process::Abort;
 use std::random::RandomSource;
@@ -23,7 +25,7 @@ fn check_no_growth_is_left(rt: &(impl AllocGlobal + Abort)) {
 }
 
 /// A new folder, by a second try where the first lacked memory.
-fn folder_at_last(rt: &impl Host, name: &str) -> String {
+fn folder_at_last(rt: &impl Host, name: &str) -> &'static str {
     let folder = match try_folder(rt, name) {
         Err(error) if error.kind() == ErrorKind::OutOfMemory => try_folder(rt, name),
         result => result,
@@ -56,7 +58,7 @@ fn check_files(rt: &(impl Host + RandomSource)) {
     let folder = folder_at_last(rt, "file-growths");
     let mut failed = false;
     for _ in 0..2 {
-        match write_and_read(rt, folder.as_str(), &WRITTEN) {
+        match write_and_read(rt, folder, &WRITTEN) {
             Ok(read) => assert!(rt; read == Some(WRITTEN)),
             Err(error) => {
                 assert!(rt; error.kind() == ErrorKind::OutOfMemory && !failed);
@@ -64,7 +66,7 @@ fn check_files(rt: &(impl Host + RandomSource)) {
             }
         }
     }
-    remove_at_last(rt, folder.as_str());
+    remove_at_last(rt, folder);
     check_no_growth_is_left(rt);
 }
 
@@ -77,14 +79,33 @@ fn write_and_read(
     make_secret(rt, folder)?;
     read_secret(rt, folder)?;
     make_key_secret(rt, folder)?;
-    KeyFile::derive(*file, &read_key_secret(rt, folder)?, 1).write(rt, folder)?;
-    let path = format!(in rt.alloc(); "{folder}/match-x")?;
-    KeyFile::read(rt, path.as_str())?;
+    write_key(rt, folder, file)?;
+    read_key(rt, folder)?;
     file.write(rt, folder)?;
-    let path = format!(in rt.alloc(); "{folder}/board")?;
-    publish(rt, path.as_str(), b"board")?;
-    let path = format!(in rt.alloc(); "{folder}/match")?;
-    MatchFile::read(rt, path.as_str())
+    publish(rt, try_path(rt, folder, "board")?, b"board")?;
+    MatchFile::read(rt, try_path(rt, folder, "match")?)
+}
+
+/// The path of a file in a folder, where there is memory.
+fn try_path(
+    rt: &(impl AllocGlobal + Abort),
+    folder: &str,
+    name: &str,
+) -> Result<&'static str, AllocError> {
+    let path = format!(in rt.alloc(); "{folder}/{name}")?;
+    Ok(lasting_text(rt, path))
+}
+
+/// Writes the key of X, by the secret in the folder.
+fn write_key(rt: &(impl Host + RandomSource), folder: &str, file: &MatchFile) -> io::Result<()> {
+    let secret = read_key_secret(rt, folder)?;
+    KeyFile::derive(*file, &secret, 1).write(rt, folder)
+}
+
+/// Reads the key of X.
+fn read_key(rt: &impl Host, folder: &str) -> io::Result<()> {
+    KeyFile::read(rt, try_path(rt, folder, "match-x")?)?;
+    Ok(())
 }
 
 /// Processes that lacked memory lose nothing: the match goes on, by the same process or by the next.
@@ -96,8 +117,8 @@ fn refused_growths_of_processes(rt: HostRuntime) {
 /// A match between processes goes on where memory was refused.
 fn check_processes(rt: &impl Host) {
     let folder = folder_at_last(rt, "process-growths");
-    play_some(rt, folder.as_str());
-    remove_at_last(rt, folder.as_str());
+    play_some(rt, folder);
+    remove_at_last(rt, folder);
     check_no_growth_is_left(rt);
 }
 
@@ -124,8 +145,7 @@ fn refused_growths_of_a_round(rt: HostRuntime) {
 
 /// A round is played once more where memory was refused.
 fn check_round(rt: &impl Host) {
-    let made = folder_at_last(rt, "growths");
-    let folder = made.as_str();
+    let folder = folder_at_last(rt, "growths");
     let text = match try_played(rt, folder, SEED, SHORT, 1) {
         Ok(text) => text,
         Err(fault) => {
@@ -133,7 +153,7 @@ fn check_round(rt: &impl Host) {
             played(rt, folder, SEED, SHORT, 1)
         }
     };
-    assert!(rt; is_sound(&text));
+    assert!(rt; is_sound(text));
     remove_at_last(rt, folder);
     check_no_growth_is_left(rt);
 }

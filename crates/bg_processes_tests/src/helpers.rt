@@ -4,6 +4,7 @@ pub(crate) mod devices;
 pub(crate) mod failing_devices;
 pub(crate) mod folders;
 pub(crate) mod hosts;
+pub(crate) mod lasting;
 pub(crate) mod party_scripts;
 pub(crate) mod played_loops;
 pub(crate) mod saved_records;

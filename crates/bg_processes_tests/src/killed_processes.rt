@@ -2,6 +2,7 @@
 use crate::helpers::failing_devices::Calls;
 use crate::helpers::folders::{new_folder, remove_folder};
 use crate::helpers::hosts::Host;
+use crate::helpers::lasting::lasting;
 use crate::helpers::tables::Table;
 use bg_match::Rules;
 
@@ -10,14 +11,14 @@ use bg_match::Rules;
 fn check_matches(rt: &impl Host, name: &str, rules: Rules, kills: u32, calls: &[u32]) {
     for failing in calls {
         let folder = new_folder(rt, name);
-        check_match(rt, folder.as_str(), rules, kills, *failing);
-        remove_folder(rt, folder.as_str());
+        check_match(rt, folder, rules, kills, *failing);
+        remove_folder(rt, folder);
     }
 }
 
-fn check_match(rt: &impl Host, folder: &str, rules: Rules, kills: u32, failing: u32) {
-    let calls = Calls::new(failing);
-    let mut table = Table::new(rt, &calls, folder, rules);
+fn check_match<'a, R: Host>(rt: &'a R, folder: &'a str, rules: Rules, kills: u32, failing: u32) {
+    let calls: &Calls = lasting(rt, Calls::new(failing));
+    let table = lasting(rt, Table::new(rt, calls, folder, rules));
     table.play(failing.wrapping_add(kills), kills);
     table.check_end();
 }

@@ -8,6 +8,7 @@ use bg_match::{Entry, Number, Record, Rules, Terms};
 use bg_wire::REFEREE;
 use bg_world::{Outcome, RestoreCause};
 use std::fs;
+use std::process::Abort;
 
 const AT_THE_START: &str = "party 0: 0 entries
 party 1: 0 entries
@@ -57,15 +58,15 @@ fn no_rounds(rt: HostRuntime) {
 /// What is printed of a match that did not begin.
 fn check_no_rounds(rt: &impl Host) {
     let folder = new_folder(rt, "no-rounds");
-    let text = played(rt, folder.as_str(), SEED, SHORT, 0);
-    assert!(rt; text.as_slice() == AT_THE_START.as_bytes());
-    remove_folder(rt, folder.as_str());
+    let text = played(rt, folder, SEED, SHORT, 0);
+    assert!(rt; text == AT_THE_START.as_bytes());
+    remove_folder(rt, folder);
 }
 
 /// Plays forty rounds, and gives what the referee saved.
-fn after_forty(rt: &impl Host, folder: &str) -> Record {
+fn after_forty<'a>(rt: &impl Host, folder: &str) -> &'a Record {
     let text = played(rt, folder, SEED, SHORT, 40);
-    assert!(rt; counts(&text).is_some_and(|counts| counts[0] >= 3));
+    assert!(rt; counts(text).is_some_and(|counts| counts[0] >= 3));
     saved_record(rt, folder, REFEREE, SEED, SHORT)
 }
 
@@ -77,10 +78,10 @@ fn forty_rounds_and_forty_more(rt: HostRuntime) {
 /// The later rounds go on where the earlier ones ended.
 fn check_forty(rt: &impl Host) {
     let folder = new_folder(rt, "forty-rounds");
-    let earlier = after_forty(rt, folder.as_str());
-    let later = after_forty(rt, folder.as_str());
-    assert!(rt; later.len() > earlier.len() && begins_with(&later, &earlier));
-    remove_folder(rt, folder.as_str());
+    let earlier = after_forty(rt, folder);
+    let later = after_forty(rt, folder);
+    assert!(rt; later.len() > earlier.len() && begins_with(later, earlier));
+    remove_folder(rt, folder);
 }
 
 /// Matches of length 3, so many rounds of each, and how many entries these have at least. The first game of match 417
@@ -90,28 +91,56 @@ const PLAYED: [(u64, u32, Number); 2] = [(417, 170, 80), (8, 12, 4)];
 /// The entries are those that seed and length decide: those of the automatic match in memory.
 #[test]
 fn entries_are_those_of_the_match_in_memory(rt: HostRuntime) {
+    check_matches(&rt);
+}
+
+fn check_matches(rt: &impl Host) {
     for (seed, rounds, least) in PLAYED {
-        check_entries(&rt, seed, rounds, least);
+        let record = record_of(rt, seed, rounds);
+        assert!(rt;
+            record.len() >= least && has_opening(record, seed),
+            "match {seed}"
+        );
+        check_entries(rt, seed, record);
     }
 }
 
-fn check_entries(rt: &impl Host, seed: u64, rounds: u32, least: Number) {
+/// What is saved of a match after so many rounds.
+fn record_of<'a>(rt: &impl Host, seed: u64, rounds: u32) -> &'a Record {
     let terms = Terms { length: 3, ..SHORT };
     let folder = new_folder(rt, "entries");
-    played(rt, folder.as_str(), seed, terms, rounds);
-    let record = saved_record(rt, folder.as_str(), REFEREE, seed, terms);
-    remove_folder(rt, folder.as_str());
-    assert!(rt; record.len() >= least);
-    assert!(rt; seed != 417 || matches!(record.entry(77), Some(Entry::Opening(..))));
+    played(rt, folder, seed, terms, rounds);
+    let record = saved_record(rt, folder, REFEREE, seed, terms);
+    remove_folder(rt, folder);
+    record
+}
+
+/// Whether the second game of match 417 begins with its entry.
+fn has_opening(record: &Record, seed: u64) -> bool {
+    seed != 417 || matches!(record.entry(77), Some(Entry::Opening(..)))
+}
+
+/// The match in memory begins with the entries of a record.
+fn check_entries(rt: &(impl AllocGlobal + Abort), seed: u64, record: &Record) {
     let in_memory = sim_text(rt.alloc(), seed, 3, Rules::One, 0, 14_000);
-    let in_memory = in_memory.expect(rt, "a match in memory");
-    assert!(rt; in_memory.starts_with(&text_of(rt, &record)));
+    let in_memory = in_memory.expect(rt, "a match in memory").leak();
+    assert!(rt; in_memory.starts_with(text_of(rt, record)), "match {seed}");
 }
 
 /// A match over the folder stops for this cause.
 fn check_stops(rt: &impl Host, folder: &str, seed: u64, cause: RestoreCause) {
-    let stopped = LoopFault::Stopped(Outcome::RestoreFault(cause));
-    assert!(rt; try_played(rt, folder, seed, SHORT, 10) == Err(stopped));
+    assert!(rt;
+        stops(try_played(rt, folder, seed, SHORT, 10), cause),
+        "match {seed}"
+    );
+}
+
+/// Whether a match stopped for this cause.
+pub(crate) fn stops(played: Result<&[u8], LoopFault>, cause: RestoreCause) -> bool {
+    match played {
+        Ok(_) => false,
+        Err(fault) => fault == LoopFault::Stopped(Outcome::RestoreFault(cause)),
+    }
 }
 
 #[test]
@@ -121,13 +150,11 @@ fn other_files(rt: HostRuntime) {
 
 /// A match stops where the files are those of another one, or are damaged.
 fn check_other_files(rt: &impl Host) {
-    let made = new_folder(rt, "other-files");
-    let folder = made.as_str();
+    let folder = new_folder(rt, "other-files");
     played(rt, folder, SEED, SHORT, 10);
     check_stops(rt, folder, SEED + 1, RestoreCause::WrongMatch);
     for file in ["party-0.0", "party-0.1"] {
-        let path = path_in(rt, folder, file);
-        fs::write(rt, path.as_str(), [0x42]).expect(rt, "a file is written");
+        fs::write(rt, path_in(rt, folder, file), [0x42]).expect(rt, "a file is written");
     }
     check_stops(rt, folder, SEED, RestoreCause::Damaged);
     remove_folder(rt, folder);
@@ -143,11 +170,13 @@ fn check_no_matches(rt: &impl Host) {
     let folder = new_folder(rt, "no-such-matches");
     for length in [0, 100] {
         let terms = Terms { length, ..SHORT };
-        let refused = try_played(rt, folder.as_str(), SEED, terms, 1);
-        assert!(rt;
-            matches!(refused, Err(LoopFault::World(_))),
-            "length {length}"
-        );
+        let is_refused = is_no_world(try_played(rt, folder, SEED, terms, 1));
+        assert!(rt; is_refused, "length {length}");
     }
-    remove_folder(rt, folder.as_str());
+    remove_folder(rt, folder);
+}
+
+/// Whether there is no such match.
+fn is_no_world(played: Result<&[u8], LoopFault>) -> bool {
+    matches!(played, Err(LoopFault::World(_)))
 }

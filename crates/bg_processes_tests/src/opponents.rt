@@ -9,9 +9,10 @@
 //!
 //! All other lines say at which tick what is said to X.
 use crate::helpers::hosts::Host;
-use crate::helpers::party_scripts::{SetClock, Sockets};
+use crate::helpers::lasting::lasting;
+use crate::helpers::party_scripts::{Sockets, lasting_sockets};
 use crate::helpers::words::number;
-use bg_processes::{Failures, Opponent, OpponentChange};
+use bg_processes::{Opponent, OpponentChange};
 use std::process::Abort;
 
 /// What stands behind the first word of a line of a play; nothing where it has no such line.
@@ -86,6 +87,8 @@ fn word_of(change: Option<OpponentChange>) -> &'static str {
 /// What a tick brings to the sockets. O asks half a second behind X.
 fn let_be<R: Host>(sockets: &mut Sockets<'_, R>, play: &str, tick: u32) {
     let rt = sockets.rt;
+    let time = u64::from(tick).saturating_mul(100);
+    sockets.clock.milliseconds.set(time);
     if begins(rt, play, "referee", tick) {
         sockets.play("rebind 0 0");
     }
@@ -115,15 +118,13 @@ fn check_said<R: Host>(
 }
 
 fn check(rt: &impl Host, play: &str) {
-    let (clock, failures) = (SetClock::new(), Failures::new());
-    let mut sockets = Sockets::new(rt, &clock, &failures);
-    let mut opponent = Opponent::new();
+    let sockets = lasting_sockets(rt);
+    let opponent = lasting(rt, Opponent::new());
     let (start, end) = ends(rt, words_behind(play, "x")).expect(rt, "when X is there");
     for tick in 0..end {
-        clock.milliseconds.set(u64::from(tick).saturating_mul(100));
-        let_be(&mut sockets, play, tick);
+        let_be(sockets, play, tick);
         if tick >= start {
-            check_said(&mut sockets, &mut opponent, play, tick);
+            check_said(sockets, opponent, play, tick);
         }
     }
 }

@@ -1,17 +1,13 @@
 //! A party's socket, and what strangers send to it.
 use crate::helpers::hosts::Host;
-use crate::helpers::party_scripts::{SetClock, Sockets};
-use bg_processes::{Attendance, Change, Failures, Liveness, LivenessChange, Ticking, Waiting};
+use crate::helpers::lasting::lasting;
+use crate::helpers::party_scripts::{Sockets, check_script, lasting_sockets};
+use bg_processes::{Attendance, Change, Liveness, LivenessChange, Ticking, Waiting};
 use bg_world::Link;
 use std::io::ErrorKind;
+use std::os::fd::RawFd;
 use std::process::Abort;
 use std::time::{Duration, Instant};
-
-/// Sockets of three parties come through a script.
-fn check_script(rt: &impl Host, script: &str) {
-    let (clock, failures) = (SetClock::new(), Failures::new());
-    Sockets::new(rt, &clock, &failures).play(script);
-}
 
 const TO_THEIR_PARTY: &str = "\
 send 1 0 x-wants
@@ -34,17 +30,27 @@ fn packets_go_to_their_party(rt: HostRuntime) {
 
 /// What comes of packets, and of a second socket of a party.
 fn check_packets(rt: &impl Host) {
-    let (clock, failures) = (SetClock::new(), Failures::new());
-    let mut sockets = Sockets::new(rt, &clock, &failures);
+    let sockets = lasting_sockets(rt);
     sockets.play(TO_THEIR_PARTY);
     // A second process of the party, and a party that has no port.
-    for (port, party, kind) in [
-        (sockets.port, 1, ErrorKind::AddrInUse),
-        (65_500, 200, ErrorKind::AddrNotAvailable),
-    ] {
-        let refused = sockets.bound(port, party, party).err();
-        let refused = refused.expect(rt, "no socket");
-        assert!(rt; refused.kind() == kind, "party {party}");
+    check_refused(sockets, sockets.port, 1, ErrorKind::AddrInUse);
+    check_refused(sockets, 65_500, 200, ErrorKind::AddrNotAvailable);
+}
+
+/// There is no socket at this port for this party.
+fn check_refused<R: Host>(sockets: &Sockets<'_, R>, port: u16, party: u8, kind: ErrorKind) {
+    let rt = sockets.rt;
+    assert!(rt;
+        refusal(sockets, port, party) == Some(kind),
+        "party {party}"
+    );
+}
+
+/// Why there is no socket at this port for this party.
+fn refusal<R: Host>(sockets: &Sockets<'_, R>, port: u16, party: u8) -> Option<ErrorKind> {
+    match sockets.bound(port, party, party) {
+        Ok(_) => None,
+        Err(error) => Some(error.kind()),
     }
 }
 
@@ -158,12 +164,10 @@ fn silence_of_the_referee(rt: HostRuntime) {
 
 /// X is told of the silence, and of its end.
 fn check_silence(rt: &impl Host) {
-    let (clock, failures) = (SetClock::new(), Failures::new());
-    let mut sockets = Sockets::new(rt, &clock, &failures);
-    let mut liveness = Liveness::new();
+    let sockets = lasting_sockets(rt);
+    let liveness = lasting(rt, Liveness::new());
     for tick in 0..100u32 {
-        let stood_still = if tick < 5 { 0 } else { 10_000 };
-        clock.milliseconds.set(u64::from(tick) * 100 + stood_still);
+        set_time(sockets, tick);
         if !(10..50).contains(&tick) {
             take(rt, sockets.of(0), 0);
         }
@@ -171,6 +175,14 @@ fn check_silence(rt: &impl Host) {
         let word = liveness.after_round(sockets.of(1), true);
         assert!(rt; word == said_at(tick), "tick {tick}");
     }
+}
+
+/// The time of a tick.
+fn set_time<R: Host>(sockets: &Sockets<'_, R>, tick: u32) {
+    let stood_still = if tick < 5 { 0 } else { 10_000 };
+    let time = u64::from(tick).saturating_mul(100);
+    let time = time.saturating_add(stood_still);
+    sockets.clock.milliseconds.set(time);
 }
 
 /// What is told of X after so many milliseconds, who is heard after 1000, 60,000 and 200,000.
@@ -185,22 +197,26 @@ fn told_at(time: u64) -> Option<Change> {
 
 #[test]
 fn parties_that_come_and_go(rt: HostRuntime) {
-    let (clock, failures) = (SetClock::new(), Failures::new());
-    let mut sockets = Sockets::new(&rt, &clock, &failures);
-    let mut attendance = Attendance::new();
-    for time in [
-        0, 999, 1000, 1001, 60_000, 119_999, 120_000, 180_000, 200_000, 259_999, 260_000, 400_000,
-    ] {
-        clock.milliseconds.set(time);
+    check_attendance(&rt);
+}
+
+const TIMES: [u64; 12] = [
+    0, 999, 1000, 1001, 60_000, 119_999, 120_000, 180_000, 200_000, 259_999, 260_000, 400_000,
+];
+
+/// X comes and goes, and O is never there.
+fn check_attendance(rt: &impl Host) {
+    let sockets = lasting_sockets(rt);
+    let attendance = lasting(rt, Attendance::new());
+    for time in TIMES {
+        sockets.clock.milliseconds.set(time);
         if matches!(time, 1000 | 60_000 | 200_000) {
             sockets.play("send 1 0 x-wants\ntake 0 x-wants\n");
         }
         let found = attendance.change(sockets.of(0), 1);
         assert!(rt; found == told_at(time), "X after {time}");
-        assert!(rt;
-            attendance.change(sockets.of(0), 2).is_none(),
-            "O after {time}"
-        );
+        let found = attendance.change(sockets.of(0), 2);
+        assert!(rt; found.is_none(), "O after {time}");
     }
 }
 
@@ -211,22 +227,31 @@ fn waiting_for_a_socket(rt: HostRuntime) {
 
 /// A wait ends when there is something to be read, or after its time.
 fn check_waiting(rt: &impl Host) {
-    let (clock, failures) = (SetClock::new(), Failures::new());
-    let mut sockets = Sockets::new(rt, &clock, &failures);
-    let waiting = Waiting::new(rt, sockets.of(0).descriptor(), false);
-    let mut waiting = waiting.expect(rt, "a socket to wait for");
-    let begun = Instant::now(rt).expect(rt, "a clock");
-    check_ready(rt, &mut waiting, 30, false);
-    let ended = Instant::now(rt).expect(rt, "a clock");
-    assert!(rt; ended.duration_since(begun).as_millis() >= 25);
+    let sockets = lasting_sockets(rt);
+    let waiting = waiting_for(rt, sockets.of(0).descriptor());
+    check_time(rt, waiting);
     sockets.play("send 1 0 x-wants");
     // What is not taken is told again.
     for _ in 0..2 {
-        check_ready(rt, &mut waiting, 1000, true);
+        check_ready(rt, waiting, 1000, true);
     }
     sockets.play("take 0 x-wants");
-    check_ready(rt, &mut waiting, 10, false);
-    check_ticks(rt, &mut waiting);
+    check_ready(rt, waiting, 10, false);
+    check_ticks(rt, waiting);
+}
+
+/// A wait for a socket, which lasts as long as the process.
+fn waiting_for<'a>(rt: &impl Host, socket: RawFd) -> &'a mut Waiting {
+    let waiting = Waiting::new(rt, socket, false);
+    lasting(rt, waiting.expect(rt, "a socket to wait for"))
+}
+
+/// Nothing comes for as long as is waited.
+fn check_time(rt: &impl Host, waiting: &mut Waiting) {
+    let begun = Instant::now(rt).expect(rt, "a clock");
+    check_ready(rt, waiting, 30, false);
+    let ended = Instant::now(rt).expect(rt, "a clock");
+    assert!(rt; ended.duration_since(begun).as_millis() >= 25);
 }
 
 /// A first tick is due at once, and the next one after a wait.

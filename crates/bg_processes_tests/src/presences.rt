@@ -1,8 +1,10 @@
 //! How the other seat stands, as the referee's socket tells a seat of it.
+use crate::helpers::devices::failures;
 use crate::helpers::hosts::Host;
-use crate::helpers::party_scripts::{SetClock, Sockets, takes};
+use crate::helpers::lasting::lasting;
+use crate::helpers::party_scripts::{SetClock, check_script, takes};
 use crate::helpers::tables::{free_port, keys_of};
-use bg_processes::{Failures, PartySocket};
+use bg_processes::PartySocket;
 use std::net::{Ipv4Addr, UdpSocket};
 
 /// X was heard at 0, and O at 0 and at 20,000.
@@ -54,9 +56,7 @@ told 0 nothing
 
 #[test]
 fn a_seat_is_told_of_the_other(rt: HostRuntime) {
-    let (clock, failures) = (SetClock::new(), Failures::new());
-    let mut sockets = Sockets::new(&rt, &clock, &failures);
-    sockets.play(STANDS);
+    check_script(&rt, STANDS);
 }
 
 /// The socket of a party that the test plays.
@@ -97,11 +97,18 @@ fn check_answers<'a>(
 ) {
     let socket = socket_of(rt, port, party);
     send(rt, &socket, port, party, &[0]);
-    assert!(rt; takes(referee, 0, None), "party {party}");
+    let is_so = takes(referee, 0, None) && are_all(&socket, party, answers);
+    assert!(rt; is_so, "party {party}");
+}
+
+/// Whether these have come to a party from the referee, one behind the other, and no more.
+fn are_all(socket: &UdpSocket, party: u8, answers: &[&[u8]]) -> bool {
     for bytes in answers {
-        assert!(rt; is_next(&socket, party, Some(bytes)), "party {party}");
+        if !is_next(socket, party, Some(bytes)) {
+            return false;
+        }
     }
-    assert!(rt; is_next(&socket, party, None), "party {party}");
+    is_next(socket, party, None)
 }
 
 #[test]
@@ -111,16 +118,25 @@ fn answers_in_bytes(rt: HostRuntime) {
 
 /// Seats ask one after the other, and who watches.
 fn check_bytes(rt: &impl Host) {
-    let (clock, failures) = (SetClock::new(), Failures::new());
+    let clock: &SetClock = lasting(rt, SetClock::new());
     let port = free_port(rt, 10_000);
-    let bound = PartySocket::bind(rt, &clock, port, 0, keys_of(0), &failures);
-    let mut referee = bound.expect(rt, "a free port");
+    let referee = referee(rt, clock, port);
     // Who watches is told nothing of the seats.
-    check_answers(rt, &mut referee, port, 3, &[&[0]]);
-    check_answers(rt, &mut referee, port, 1, &[&[0, 0], &[0]]);
-    check_answers(rt, &mut referee, port, 2, &[&[0, 1], &[0]]);
+    check_answers(rt, referee, port, 3, &[&[0]]);
+    check_answers(rt, referee, port, 1, &[&[0, 0], &[0]]);
+    check_answers(rt, referee, port, 2, &[&[0, 1], &[0]]);
     clock.milliseconds.set(10_000);
-    check_answers(rt, &mut referee, port, 1, &[&[0, 2], &[0]]);
-    check_answers(rt, &mut referee, port, 2, &[&[0, 1], &[0]]);
-    check_answers(rt, &mut referee, port, 4, &[&[0]]);
+    check_answers(rt, referee, port, 1, &[&[0, 2], &[0]]);
+    check_answers(rt, referee, port, 2, &[&[0, 1], &[0]]);
+    check_answers(rt, referee, port, 4, &[&[0]]);
+}
+
+/// The referee's socket, which lasts as long as the process.
+fn referee<'a>(
+    rt: &impl Host,
+    clock: &'a SetClock,
+    port: u16,
+) -> &'a mut PartySocket<'a, SetClock> {
+    let bound = PartySocket::bind(rt, clock, port, 0, keys_of(0), failures(rt));
+    lasting(rt, bound.expect(rt, "a free port"))
 }

@@ -2,9 +2,9 @@
 use crate::helpers::folders::{new_folder, remove_folder};
 use crate::helpers::hosts::Host;
 use crate::helpers::played_loops::{SEED, SHORT, played, try_played};
-use bg_auto::LoopFault;
+use crate::loops::stops;
 use bg_match::{Rules, Terms};
-use bg_world::{Outcome, RestoreCause};
+use bg_world::RestoreCause;
 
 #[test]
 fn rules_belong_to_the_files(rt: HostRuntime) {
@@ -13,18 +13,16 @@ fn rules_belong_to_the_files(rt: HostRuntime) {
 
 /// Files of the second rules are none of the first.
 fn check_rules(rt: &impl Host) {
-    let made = new_folder(rt, "other-rules");
-    let folder = made.as_str();
+    let folder = new_folder(rt, "other-rules");
     let terms = Terms {
         rules: Rules::Two,
         ..SHORT
     };
     let text = played(rt, folder, SEED, terms, 5);
-    let text = str::from_utf8(&text).expect(rt, "a text");
+    let text = str::from_utf8(text).expect(rt, "a text");
     assert!(rt; text.contains("\nlength 1 rules 2 game 1 "));
-    let mismatch = Outcome::RestoreFault(RestoreCause::WrongMatch);
     let refused = try_played(rt, folder, SEED, SHORT, 5);
-    assert!(rt; refused == Err(LoopFault::Stopped(mismatch)));
+    assert!(rt; stops(refused, RestoreCause::WrongMatch));
     played(rt, folder, SEED, terms, 5);
     remove_folder(rt, folder);
 }

@@ -1,21 +1,23 @@
 //! Which file has what: single calls of the files of a match, and the first rounds.
-use crate::helpers::devices::keeper;
+use crate::helpers::devices::{failures, lasting_keeper};
 use crate::helpers::folders::{new_folder, path_in, remove_folder};
 use crate::helpers::hosts::Host;
 use crate::helpers::played_loops::{SEED, SHORT, played};
-use crate::helpers::stand_ins::StandIn;
-use bg_processes::Failures;
+use crate::helpers::stand_ins::{StandIn, stand_in};
 use bg_wire::{Slot, load};
 use bg_world::{DeviceFault, Keeper};
+use std::alloc::Global;
 use std::io::ErrorKind;
 use std::process::Abort;
 use std::{fs, io};
 
 /// The bytes of a file in a folder; none where there is no such file.
-fn file(rt: &impl Host, folder: &str, name: &str) -> Option<Vec<u8>> {
-    let found = fs::read(rt, path_in(rt, folder, name).as_str());
-    match found {
-        Ok(bytes) => Some(bytes),
+fn file(rt: &impl Host, folder: &str, name: &str) -> Option<&'static [u8]> {
+    match fs::read(rt, path_in(rt, folder, name)) {
+        Ok(bytes) => {
+            let bytes: &[u8] = bytes.leak();
+            Some(bytes)
+        }
         Err(error) => {
             assert!(rt; error.kind() == ErrorKind::NotFound, "{name}");
             None
@@ -26,7 +28,7 @@ fn file(rt: &impl Host, folder: &str, name: &str) -> Option<Vec<u8>> {
 /// A file has these bytes; `None` where there is no such file.
 fn check_file(rt: &impl Host, folder: &str, name: &str, bytes: Option<&[u8]>) {
     let has = match (file(rt, folder, name), bytes) {
-        (Some(found), Some(bytes)) => found.as_slice() == bytes,
+        (Some(found), Some(bytes)) => found == bytes,
         (None, None) => true,
         _ => false,
     };
@@ -79,27 +81,26 @@ fn files_of_slots(rt: HostRuntime) {
 fn check_all_files(rt: &impl Host) {
     let folder = new_folder(rt, "files-of-slots");
     for (party, zero, one) in FILES {
-        check_files(rt, folder.as_str(), party, zero, one);
+        check_files(rt, folder, party, zero, one);
     }
-    check_count(rt, folder.as_str(), 6);
-    remove_folder(rt, folder.as_str());
+    check_count(rt, folder, 6);
+    remove_folder(rt, folder);
 }
 
 /// The writes of a party, and what its files have after each; of slot 0 nothing before it was written.
 fn check_files(rt: &impl Host, folder: &str, party: u8, zero: &str, one: &str) {
-    let failures = Failures::new();
-    let mut keeper = keeper(rt, rt, folder, party, &failures);
+    let keeper = lasting_keeper(rt, rt, folder, party, failures(rt));
     let (long, own, short) = (b"the longer text", [party], b"text");
-    check_slots(rt, &mut keeper, b"", b"");
-    check_writes(rt, &mut keeper, Slot::One, long);
-    check_slots(rt, &mut keeper, b"", long);
+    check_slots(rt, keeper, b"", b"");
+    check_writes(rt, keeper, Slot::One, long);
+    check_slots(rt, keeper, b"", long);
     check_file(rt, folder, zero, None);
     check_file(rt, folder, one, Some(long));
-    check_writes(rt, &mut keeper, Slot::Zero, &own);
-    check_slots(rt, &mut keeper, &own, long);
+    check_writes(rt, keeper, Slot::Zero, &own);
+    check_slots(rt, keeper, &own, long);
     check_both(rt, folder, (zero, &own), (one, long));
-    check_writes(rt, &mut keeper, Slot::One, short);
-    check_slots(rt, &mut keeper, &own, short);
+    check_writes(rt, keeper, Slot::One, short);
+    check_slots(rt, keeper, &own, short);
     check_both(rt, folder, (zero, &own), (one, short));
 }
 
@@ -117,27 +118,33 @@ fn files_that_fail(rt: HostRuntime) {
 
 /// Reads and writes fail while no file can be opened.
 fn check_failing(rt: &impl Host) {
-    let made = new_folder(rt, "files-that-fail");
-    let folder = made.as_str();
-    let (files, failures) = (StandIn::new(rt, 0), Failures::new());
-    let mut keeper = keeper(rt, &files, folder, 1, &failures);
-    for (kind, fault) in [
-        (ErrorKind::OutOfMemory, DeviceFault::Memory),
-        (ErrorKind::PermissionDenied, DeviceFault::Failed),
-        (ErrorKind::StorageFull, DeviceFault::Failed),
-    ] {
-        files.files_fail.set(Some(io::Error::from(kind)));
-        check_fails(rt, &mut keeper, fault);
+    let folder = new_folder(rt, "files-that-fail");
+    let files = stand_in(rt, 0);
+    let keeper = lasting_keeper(rt, files, folder, 1, failures(rt));
+    for (kind, fault) in FAULTS {
+        fail_as(files, kind);
+        check_fails(rt, keeper, fault);
     }
     // A file that is missing is none that fails: it has no bytes.
-    let missing = io::Error::from(ErrorKind::NotFound);
-    files.files_fail.set(Some(missing));
-    check_slots(rt, &mut keeper, b"", b"");
+    fail_as(files, ErrorKind::NotFound);
+    check_slots(rt, keeper, b"", b"");
     check_count(rt, folder, 0);
     files.files_fail.set(None);
-    check_writes(rt, &mut keeper, Slot::One, b"text");
+    check_writes(rt, keeper, Slot::One, b"text");
     check_file(rt, folder, "party-1.1", Some(b"text"));
     remove_folder(rt, folder);
+}
+
+/// Why no file is opened, and the fault that this is.
+const FAULTS: [(ErrorKind, DeviceFault); 3] = [
+    (ErrorKind::OutOfMemory, DeviceFault::Memory),
+    (ErrorKind::PermissionDenied, DeviceFault::Failed),
+    (ErrorKind::StorageFull, DeviceFault::Failed),
+];
+
+/// No file is opened from now on, for this reason.
+fn fail_as<R: Host>(files: &StandIn<'_, R>, kind: ErrorKind) {
+    files.files_fail.set(Some(io::Error::from(kind)));
 }
 
 /// Of the system's errors the wants of memory are told from all others, by their numbers on Linux: ENOMEM is 12, and
@@ -149,12 +156,12 @@ fn faults_of_devices(rt: HostRuntime) {
 
 /// Each number has its fault.
 fn check_faults(rt: &impl Host) {
-    let (files, failures) = (StandIn::new(rt, 0), Failures::new());
-    let mut keeper = keeper(rt, &files, ".", 1, &failures);
+    let files = stand_in(rt, 0);
+    let keeper = lasting_keeper(rt, files, ".", 1, failures(rt));
     for number in [12, 1, 2, 5, 24, 28, 30, 98, 105, 111] {
         let error = io::Error::from_raw_os_error(number);
         files.files_fail.set(Some(error));
-        check_fault(rt, &mut keeper, number);
+        check_fault(rt, keeper, number);
     }
 }
 
@@ -170,8 +177,15 @@ fn check_fault<K: Keeper>(rt: &impl Abort, keeper: &mut K, number: i32) {
 /// A file has this save of a party.
 fn check_save(rt: &impl Host, folder: &str, name: &str, party: u8, save: u32) {
     let bytes = file(rt, folder, name).expect(rt, name);
-    let saved = load(rt.alloc(), &bytes).expect(rt, name);
-    assert!(rt; saved.party == party && saved.save == save, "{name}");
+    assert!(rt; is_save(rt.alloc(), bytes, party, save), "{name}");
+}
+
+/// Whether bytes are this save of a party.
+fn is_save(alloc: Global, bytes: &[u8], party: u8, save: u32) -> bool {
+    match load(alloc, bytes) {
+        Ok(saved) => saved.party == party && saved.save == save,
+        Err(_) => false,
+    }
 }
 
 /// In each round each party but the watcher saves once, and nothing else is kept: save 1 stands in the file with the
@@ -183,8 +197,7 @@ fn files_of_the_first_rounds(rt: HostRuntime) {
 
 /// The saves of three rounds.
 fn check_first_rounds(rt: &impl Host) {
-    let made = new_folder(rt, "first-rounds");
-    let folder = made.as_str();
+    let folder = new_folder(rt, "first-rounds");
     played(rt, folder, SEED, SHORT, 1);
     for (party, zero, one) in FILES {
         check_save(rt, folder, one, party, 1);
@@ -193,11 +206,16 @@ fn check_first_rounds(rt: &impl Host) {
     check_count(rt, folder, 3);
     for (zeros, ones) in [(2, 1), (2, 3)] {
         played(rt, folder, SEED, SHORT, 1);
-        for (party, zero, one) in FILES {
-            check_save(rt, folder, zero, party, zeros);
-            check_save(rt, folder, one, party, ones);
-        }
-        check_count(rt, folder, 6);
+        check_saves(rt, folder, zeros, ones);
     }
     remove_folder(rt, folder);
+}
+
+/// All files have these saves of their parties.
+fn check_saves(rt: &impl Host, folder: &str, zeros: u32, ones: u32) {
+    for (party, zero, one) in FILES {
+        check_save(rt, folder, zero, party, zeros);
+        check_save(rt, folder, one, party, ones);
+    }
+    check_count(rt, folder, 6);
 }

@@ -1,9 +1,10 @@
 //! Single calls of the sockets of a match.
-use crate::helpers::devices::link;
+use crate::helpers::devices::{failures, lasting_link};
 use crate::helpers::folders::new_folder;
 use crate::helpers::hosts::Host;
+use crate::helpers::lasting::lasting;
 use crate::helpers::party_scripts::{sends, takes};
-use crate::helpers::stand_ins::StandIn;
+use crate::helpers::stand_ins::{StandIn, stand_in};
 use crate::helpers::told_failures::check_told;
 use crate::helpers::words::number;
 use bg_auto::LoopFault;
@@ -12,7 +13,7 @@ use bg_processes::{Failures, UdpLink, run_loop};
 use bg_streams::Writing;
 use bg_world::Link;
 use std::fs;
-use std::net::{IpAddr, Ipv4Addr, UdpSocket};
+use std::net::{IpAddr, Ipv4Addr, Net, SocketAddr, UdpSocket};
 use std::process::Abort;
 
 /// Each party has a socket of its own, and each is bound to 127.0.0.1.
@@ -23,14 +24,17 @@ fn sockets_are_bound_to_the_loopback_address(rt: HostRuntime) {
 
 /// The addresses of as many sockets as there are parties.
 fn check_addresses(rt: &impl Host) {
-    let net = StandIn::new(rt, 255);
-    let failures = Failures::new();
-    let _link = link(rt, &net, 255, &failures);
+    let net = stand_in(rt, 255);
+    lasting_link(rt, net, 255, failures(rt));
     assert!(rt; net.opened() == 255 && !net.strayed.get());
     for index in 0..255 {
-        let address = net.address(index);
-        assert!(rt; address.ip() == IpAddr::V4(Ipv4Addr::LOCALHOST) && address.port() != 0);
+        assert!(rt; is_loopback(net.address(index)), "socket {index}");
     }
+}
+
+/// Whether it is a port of 127.0.0.1.
+fn is_loopback(address: SocketAddr) -> bool {
+    address.ip() == IpAddr::V4(Ipv4Addr::LOCALHOST) && address.port() != 0
 }
 
 /// Bytes that differ from one another: 0, 1 and so on up to 250, and then again.
@@ -55,8 +59,7 @@ fn datagrams_come_to_their_party(rt: HostRuntime) {
 
 /// The sockets of four parties.
 fn check_datagrams(rt: &impl Host) {
-    let failures = Failures::new();
-    check_order(rt, &mut link(rt, rt, 4, &failures));
+    check_order(rt, lasting_link(rt, rt, 4, failures(rt)));
 }
 
 fn check_order<L: Link>(rt: &impl Abort, link: &mut L) {
@@ -90,32 +93,35 @@ fn longer_datagrams_are_cut(rt: HostRuntime) {
 
 /// Datagrams of each length.
 fn check_long(rt: &impl Host) {
-    let net = StandIn::new(rt, 4);
-    let failures = Failures::new();
-    let mut link = link(rt, &net, 4, &failures);
+    let net = stand_in(rt, 4);
+    let link = lasting_link(rt, net, 4, failures(rt));
     let socket = net.socket(3);
     for (count, taken) in [(0, 0), (255, 255), (256, 256), (257, 256), (600, 256)] {
-        check_cut(rt, &socket, &mut link, count, taken);
+        check_cut(rt, socket, link, count, taken);
     }
 }
 
 /// Of so many bytes that are sent to the socket of party 3 so many are taken.
 fn check_cut<L: Link>(
-    rt: &impl Host,
+    rt: &impl Abort,
     socket: &UdpSocket,
     link: &mut L,
     count: usize,
     taken: usize,
 ) {
     let bytes = counted();
-    let address = socket.local_addr().expect(rt, "an address");
-    let sent = socket.send_to(&bytes[..count.min(bytes.len())], address);
-    assert!(rt;
-        sent.expect(rt, "a datagram is sent") == count,
-        "{count} bytes"
-    );
+    let sent = &bytes[..count.min(bytes.len())];
+    assert!(rt; sends_itself(socket, sent), "{count} bytes");
     check_taken(rt, link, 3, Some(&bytes[..taken.min(bytes.len())]));
     check_taken(rt, link, 3, None);
+}
+
+/// Whether a socket sends all these bytes to itself.
+fn sends_itself(socket: &UdpSocket, bytes: &[u8]) -> bool {
+    match socket.local_addr() {
+        Ok(address) => socket.send_to(bytes, address).ok() == Some(bytes.len()),
+        Err(_) => false,
+    }
 }
 
 /// A party that has no socket takes nothing, and what is sent to it fails; the others are as they were.
@@ -126,12 +132,11 @@ fn parties_beyond_the_last(rt: HostRuntime) {
 
 /// Parties with a socket and without one.
 fn check_parties(rt: &impl Host) {
-    let net = StandIn::new(rt, 255);
-    let failures = Failures::new();
-    let mut link = link(rt, &net, 4, &failures);
+    let net = stand_in(rt, 255);
+    let link = lasting_link(rt, net, 4, failures(rt));
     assert!(rt; net.opened() == 4);
     for party in [4, 5, 255, 0, 1, 2, 3] {
-        check_beyond(rt, &mut link, party);
+        check_beyond(rt, link, party);
     }
 }
 
@@ -171,18 +176,18 @@ const TOO_FEW: &str = "\
 
 /// Of a system that has so many sockets there are those of four parties, or none and this line.
 fn check_sockets(rt: &impl Host, sockets: usize, line: &str) {
-    let failures = Failures::new();
-    let refused = UdpLink::bind(&StandIn::new(rt, sockets), 4, &failures).err();
-    assert!(rt;
-        refused
-            == if sockets < 4 {
-                Some(LoopFault::Socket)
-            } else {
-                None
-            },
-        "{sockets} sockets"
-    );
-    check_told(rt, &failures, "", line);
+    let failures = failures(rt);
+    let is_so = comes_to(stand_in(rt, sockets), sockets >= 4, failures);
+    assert!(rt; is_so, "{sockets} sockets");
+    check_told(rt, failures, "", line);
+}
+
+/// Whether there are those of four parties, or a fault of sockets.
+fn comes_to(net: &(impl Net + AllocGlobal), is_bound: bool, failures: &Failures) -> bool {
+    match UdpLink::bind(net, 4, failures).err() {
+        None => is_bound,
+        Some(fault) => !is_bound && fault == LoopFault::Socket,
+    }
 }
 
 /// Sockets are opened before the match is looked at, and no file before there are all of them.
@@ -195,23 +200,26 @@ fn sockets_come_before_the_match(rt: HostRuntime) {
 fn check_first(rt: &impl Host) {
     let folder = new_folder(rt, "sockets-first");
     for length in [0, 1, 100] {
-        check_no_socket(rt, folder.as_str(), length);
+        check_no_socket(rt, folder, length);
     }
     // It is empty: else it is not removed so.
-    fs::remove_dir(rt, folder.as_str()).expect(rt, "an empty folder");
+    fs::remove_dir(rt, folder).expect(rt, "an empty folder");
 }
 
 fn check_no_socket(rt: &impl Host, folder: &str, length: u8) {
-    let mut text = Vec::new(rt.alloc());
-    let refused = run_loop(
-        &StandIn::new(rt, 3),
-        7,
-        length,
-        Rules::One,
-        1,
-        folder,
-        &Failures::new(),
-        &mut Writing::new(&mut text),
-    );
-    assert!(rt; refused == Err(LoopFault::Socket) && text.is_empty());
+    let text = lasting(rt, Vec::new(rt.alloc()));
+    let refused = refusal(stand_in(rt, 3), length, folder, failures(rt), text);
+    assert!(rt; refused == Some(LoopFault::Socket) && text.is_empty());
+}
+
+/// Why no match of this length is played over these sockets.
+fn refusal<R: Host>(
+    net: &StandIn<'_, R>,
+    length: u8,
+    folder: &str,
+    failures: &Failures,
+    text: &mut Vec<u8>,
+) -> Option<LoopFault> {
+    let mut output = Writing::new(text);
+    run_loop(net, 7, length, Rules::One, 1, folder, failures, &mut output).err()
 }

@@ -1,14 +1,15 @@
 //! Sockets of a match among those of others, and what is noted of sockets that fail.
-use crate::helpers::devices::{keeper, link};
+use crate::helpers::devices::{failures, keeper, lasting_link, link};
 use crate::helpers::folders::{new_folder, remove_folder};
 use crate::helpers::hosts::Host;
+use crate::helpers::lasting::lasting;
 use crate::helpers::party_scripts::sends;
 use crate::helpers::played_loops::{SEED, SHORT, played};
-use crate::helpers::stand_ins::StandIn;
+use crate::helpers::stand_ins::{StandIn, stand_in};
 use crate::helpers::told_failures::told;
 use bg_auto::{LoopFault, Observer, PARTIES, play_rounds};
 use bg_match::{Number, Rules};
-use bg_processes::{Failures, UdpLink};
+use bg_processes::{Failures, FileKeeper, UdpLink};
 use bg_streams::Writing;
 use bg_wire::{REFEREE, SEAT_OF_O, SEAT_OF_X, decode};
 use bg_world::{Event, Keeper, Keepers, Link, Outcome};
@@ -38,12 +39,12 @@ const FORGED: [&[u8]; 5] = [
 
 /// Another process, which sends forged packets to each party after each event.
 #[derive(Drop)]
-struct Forger {
-    socket: UdpSocket,
+struct Forger<'a> {
+    socket: &'a UdpSocket,
     addresses: [SocketAddr; 4],
 }
 
-impl Observer for Forger {
+impl<'a> Observer for Forger<'a> {
     fn happened(&mut self, _event: &Event, _outcome: &Outcome, _held: Option<Number>) {
         for address in &self.addresses {
             for packet in &FORGED {
@@ -55,33 +56,52 @@ impl Observer for Forger {
     fn played(&mut self, _done: u32) {}
 }
 
-fn stranger(rt: &impl Host) -> UdpSocket {
-    UdpSocket::bind(rt, (Ipv4Addr::LOCALHOST, 0)).expect(rt, "a socket")
+/// A socket that no party has, which lasts as long as the process.
+fn stranger<'a>(rt: &impl Host) -> &'a UdpSocket {
+    let socket = UdpSocket::bind(rt, (Ipv4Addr::LOCALHOST, 0));
+    lasting(rt, socket.expect(rt, "a socket"))
+}
+
+/// A forger who knows the addresses of four sockets.
+fn lasting_forger<'a, R: Host>(rt: &R, net: &StandIn<'a, R>) -> &'a mut Forger<'a> {
+    let addresses = [
+        net.address(0),
+        net.address(1),
+        net.address(2),
+        net.address(3),
+    ];
+    let socket = stranger(rt);
+    lasting(rt, Forger { socket, addresses })
+}
+
+/// The files of three parties.
+fn keepers<'a, R: Host>(
+    rt: &'a R,
+    folder: &str,
+    failures: &'a Failures,
+) -> Keepers<FileKeeper<'a, R>> {
+    Keepers {
+        referee: keeper(rt, rt, folder, REFEREE, failures),
+        x: keeper(rt, rt, folder, SEAT_OF_X, failures),
+        o: keeper(rt, rt, folder, SEAT_OF_O, failures),
+    }
 }
 
 /// What is printed of sixty rounds, while a forger looks on.
-fn besieged(rt: &impl Host, folder: &str) -> Vec<u8> {
-    let failures = Failures::new();
-    let net = StandIn::new(rt, 4);
-    let link = link(rt, &net, PARTIES, &failures);
-    let mut forger = Forger {
-        socket: stranger(rt),
-        addresses: [
-            net.address(0),
-            net.address(1),
-            net.address(2),
-            net.address(3),
-        ],
-    };
-    let keepers = Keepers {
-        referee: keeper(rt, rt, folder, REFEREE, &failures),
-        x: keeper(rt, rt, folder, SEAT_OF_X, &failures),
-        o: keeper(rt, rt, folder, SEAT_OF_O, &failures),
-    };
-    let mut text = Vec::new(rt.alloc());
-    let ended = play_sixty(rt.alloc(), link, keepers, &mut text, &mut forger);
+fn besieged<'a>(rt: &'a impl Host, folder: &str) -> &'a [u8] {
+    let failures = failures(rt);
+    let net = stand_in(rt, 4);
+    let text = lasting(rt, Vec::new(rt.alloc()));
+    let link = link(rt, net, PARTIES, failures);
+    let ended = play_sixty(
+        rt.alloc(),
+        link,
+        keepers(rt, folder, failures),
+        text,
+        lasting_forger(rt, net),
+    );
     ended.expect(rt, "sixty rounds");
-    text
+    text.as_slice()
 }
 
 fn play_sixty<L: Link + Drop, K: Keeper + Drop>(
@@ -89,7 +109,7 @@ fn play_sixty<L: Link + Drop, K: Keeper + Drop>(
     link: L,
     keepers: Keepers<K>,
     text: &mut Vec<u8>,
-    forger: &mut Forger,
+    forger: &mut Forger<'_>,
 ) -> Result<(), LoopFault> {
     let mut output = Writing::new(text);
     let rules = Rules::One;
@@ -117,33 +137,36 @@ fn check_forged(rt: &impl Host) {
         assert!(rt; decode(*packet).is_ok());
     }
     let quiet = new_folder(rt, "quiet");
-    let expected = played(rt, quiet.as_str(), SEED, SHORT, 60);
-    remove_folder(rt, quiet.as_str());
+    let expected = played(rt, quiet, SEED, SHORT, 60);
+    remove_folder(rt, quiet);
     let folder = new_folder(rt, "besieged");
-    let text = besieged(rt, folder.as_str());
-    assert!(rt; text.as_slice() == expected.as_slice());
-    remove_folder(rt, folder.as_str());
+    assert!(rt; besieged(rt, folder) == expected);
+    remove_folder(rt, folder);
 }
 
 /// Sockets of three parties. Those of the first two reach a port that nobody has, so that the call after each send
 /// fails.
-fn broken<'a>(rt: &impl Host, failures: &'a Failures) -> UdpLink<'a> {
-    let net = StandIn::new(rt, 3);
-    let link = link(rt, &net, 3, failures);
+fn broken<'a>(rt: &impl Host, failures: &'a Failures) -> &'a mut UdpLink<'a> {
+    let net = stand_in(rt, 3);
+    let link = lasting_link(rt, net, 3, failures);
     for index in 0..2 {
-        let closed = stranger(rt).local_addr().expect(rt, "an address");
-        net.socket(index)
-            .connect(closed)
-            .expect(rt, "an address to reach");
+        let reached = net.socket(index).connect(closed(rt));
+        reached.expect(rt, "an address to reach");
     }
     link
+}
+
+/// The address of a socket that is closed.
+fn closed(rt: &impl Host) -> SocketAddr {
+    let socket = UdpSocket::bind(rt, (Ipv4Addr::LOCALHOST, 0)).expect(rt, "a socket");
+    socket.local_addr().expect(rt, "an address")
 }
 
 /// So many failures were noted, whose lines begin so.
 fn check_noted(rt: &impl Host, failures: &Failures, lines: &[&str]) {
     let noted = told(rt, failures, "");
-    assert!(rt; noted.as_str().lines().count() == lines.len(), "{noted}");
-    for (line, wanted) in noted.as_str().lines().zip(lines) {
+    assert!(rt; noted.lines().count() == lines.len(), "{noted}");
+    for (line, wanted) in noted.lines().zip(lines) {
         assert!(rt; line.starts_with(*wanted), "{line}");
     }
 }
@@ -181,21 +204,22 @@ fn each_socket_notes_that_it_fails(rt: HostRuntime) {
 
 /// Reads fail first, and then sends.
 fn check_notes(rt: &impl Host) {
-    let failures = Failures::new();
-    let mut link = broken(rt, &failures);
+    let failures = failures(rt);
+    let link = broken(rt, failures);
     for _ in 0..3 {
-        check_broken(rt, &mut link, true);
+        check_broken(rt, link, true);
     }
-    let unread = [
-        "the socket of party 0 could not be read: ",
-        "the socket of party 1 could not be read: ",
-    ];
-    check_noted(rt, &failures, &unread);
+    check_noted(rt, failures, &UNREAD);
     for _ in 0..2 {
-        check_broken(rt, &mut link, false);
+        check_broken(rt, link, false);
     }
-    check_noted(rt, &failures, &UNSENT);
+    check_noted(rt, failures, &UNSENT);
 }
+
+const UNREAD: [&str; 2] = [
+    "the socket of party 0 could not be read: ",
+    "the socket of party 1 could not be read: ",
+];
 
 #[test]
 fn a_party_without_a_socket(rt: HostRuntime) {
@@ -204,12 +228,12 @@ fn a_party_without_a_socket(rt: HostRuntime) {
 
 /// Sends to such a party fail, and are noted once.
 fn check_missing(rt: &impl Host) {
-    let failures = Failures::new();
-    let mut link = link(rt, rt, 2, &failures);
+    let failures = failures(rt);
+    let link = lasting_link(rt, rt, 2, failures);
     for _ in 0..2 {
-        check_without(rt, &mut link);
+        check_without(rt, link);
     }
-    check_noted(rt, &failures, &["no datagram could be sent to party 2: "]);
+    check_noted(rt, failures, &["no datagram could be sent to party 2: "]);
 }
 
 fn check_without<L: Link>(rt: &impl Abort, link: &mut L) {

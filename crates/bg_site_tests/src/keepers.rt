@@ -2,11 +2,13 @@
 ghost use Rattle.std.specs.Prelude.{None, length};
 ghost use Rattle.bg_world.specs.Protocol.Slots.{empty_slots};
 
+use crate::lasting::lasting;
 use bg_streams::History;
 use bg_wire::Slot;
 use bg_world::{DeviceFault, Keeper, Keepers, count_failed};
 use std::alloc::Global;
 use std::cell::RefCell;
+use std::process::Abort;
 
 /// The slots of a party.
 #[derive(Drop)]
@@ -60,8 +62,13 @@ pub(crate) struct Shelf {
     good: RefCell<u32>,
 }
 
+/// A shelf that has nothing yet. It lasts as long as the process.
+pub(crate) fn lasting_shelf<'a>(rt: &(impl AllocGlobal + Abort)) -> &'a Shelf {
+    lasting(rt, Shelf::new(rt.alloc()))
+}
+
 impl Shelf {
-    pub(crate) fn new(alloc: Global) -> Shelf {
+    fn new(alloc: Global) -> Shelf {
         Shelf {
             referee: Slots::new(alloc),
             x: Slots::new(alloc),

@@ -4,6 +4,8 @@
 #[cfg(test)]
 mod keepers;
 #[cfg(test)]
+mod lasting;
+#[cfg(test)]
 mod matches;
 #[cfg(test)]
 mod queues;

@@ -1,9 +1,15 @@
 //! The queue between the parties of a hosted match.
+use crate::lasting::lasting;
 use arrayvec::ArrayVec;
 use bg_hosted::{MOST_WAITING, QueueLink};
 use bg_wire::{Datagram, PacketBytes};
 use bg_world::{DeviceFault, Link};
-use std::test::Fail;
+use std::process::Abort;
+
+/// A queue that lasts as long as the process.
+fn queue<'a>(rt: &(impl AllocGlobal + Abort)) -> &'a mut QueueLink {
+    lasting(rt, QueueLink::new(rt.alloc()))
+}
 
 fn datagram(to: u8, byte: u8) -> Datagram {
     let mut bytes = ArrayVec::new();
@@ -14,6 +20,10 @@ fn datagram(to: u8, byte: u8) -> Datagram {
     }
 }
 
+fn check_sent(rt: &impl Abort, link: &mut QueueLink, to: u8, byte: u8) {
+    assert!(rt; link.send(&datagram(to, byte)).is_ok(), "byte {byte}");
+}
+
 fn take(link: &mut QueueLink, party: u8) -> Option<u8> {
     match link.take(party, 0) {
         Ok(Some(bytes)) => bytes.first().copied(),
@@ -21,28 +31,42 @@ fn take(link: &mut QueueLink, party: u8) -> Option<u8> {
     }
 }
 
-#[test]
-fn each_is_taken_once_and_in_order(rt: HostRuntime) -> Result<(), Fail> {
-    let mut link = QueueLink::new(rt.alloc());
-    for (to, byte) in [(1, 10), (2, 20), (1, 11)] {
-        assert!(rt; link.send(&datagram(to, byte)).is_ok());
-    }
-    assert!(rt; take(&mut link, 1) == Some(10));
-    assert!(rt; take(&mut link, 1) == Some(11));
-    assert!(rt; take(&mut link, 1).is_none());
-    assert!(rt; take(&mut link, 2) == Some(20));
-    assert!(rt; take(&mut link, 0).is_none());
-    Ok(())
+/// A party takes a datagram of this byte, or there is none.
+fn check_taken(rt: &impl Abort, link: &mut QueueLink, party: u8, byte: Option<u8>) {
+    assert!(rt; take(link, party) == byte, "party {party}, {byte:?}");
 }
 
 #[test]
-fn one_more_than_wait_at_most_is_lost(rt: HostRuntime) -> Result<(), Fail> {
-    let mut link = QueueLink::new(rt.alloc());
+fn each_is_taken_once_and_in_order(rt: HostRuntime) {
+    check_order(&rt);
+}
+
+fn check_order(rt: &(impl AllocGlobal + Abort)) {
+    let link = queue(rt);
+    check_sent(rt, link, 1, 10);
+    check_sent(rt, link, 2, 20);
+    check_sent(rt, link, 1, 11);
+    check_taken(rt, link, 1, Some(10));
+    check_taken(rt, link, 1, Some(11));
+    check_taken(rt, link, 1, None);
+    check_taken(rt, link, 2, Some(20));
+    check_taken(rt, link, 0, None);
+}
+
+#[test]
+fn one_more_than_wait_at_most_is_lost(rt: HostRuntime) {
+    check_lost(&rt);
+}
+
+fn check_lost(rt: &(impl AllocGlobal + Abort)) {
+    let link = queue(rt);
     for _ in 0..MOST_WAITING {
-        assert!(rt; link.send(&datagram(3, 5)).is_ok());
+        check_sent(rt, link, 3, 5);
     }
-    assert!(rt; link.send(&datagram(3, 6)) == Err(DeviceFault::Failed));
-    assert!(rt; take(&mut link, 3) == Some(5));
-    assert!(rt; link.send(&datagram(3, 7)).is_ok());
-    Ok(())
+    assert!(rt;
+        link.send(&datagram(3, 6)) == Err(DeviceFault::Failed),
+        "one more"
+    );
+    check_taken(rt, link, 3, Some(5));
+    check_sent(rt, link, 3, 7);
 }

@@ -1,5 +1,5 @@
 //! The lines of use that stand in the libraries' documentation, run (`tools/checks/check_uses` compares them).
-use crate::keepers::{Shelf, ShelfKeeper};
+use crate::keepers::{Shelf, ShelfKeeper, lasting_shelf};
 use bg_board::{Die, Player};
 use bg_hosted::{Acted, HostedMatch};
 use bg_match::{Action, Entry, Record, Rules, Terms};
@@ -12,13 +12,13 @@ use bg_states::state_text;
 use bg_system::Names;
 use http_server::{Config, Connection, Response};
 use std::hash::RandomState;
+use std::process::Abort;
 use std::test::Fail;
 
 #[test]
 fn hosted_matches(rt: HostRuntime) -> Result<(), Fail> {
     let alloc = rt.alloc();
-    let shelf = Shelf::new(alloc);
-    let keepers = shelf.keepers();
+    let keepers = lasting_shelf(&rt).keepers();
     // bg_hosted
     let terms = Terms {
         length: 1,
@@ -80,13 +80,11 @@ impl<'a> Store<ShelfKeeper<'a>> for NoStore {
     }
 }
 
-#[test]
-fn sites(rt: HostRuntime) -> Result<(), Fail> {
-    let alloc = rt.alloc();
-    let shelf = Shelf::new(alloc);
-    let store = NoStore {};
-    let found = Found {
-        name: format!(in alloc; "table")?,
+/// A match that is found over a shelf.
+fn found<'a>(rt: &(impl AllocGlobal + Abort), shelf: &'a Shelf) -> Found<ShelfKeeper<'a>> {
+    let name = format!(in rt.alloc(); "table");
+    Found {
+        name: name.expect(rt, "memory for a name"),
         names: Names::none(),
         id: 7,
         terms: Terms {
@@ -96,8 +94,15 @@ fn sites(rt: HostRuntime) -> Result<(), Fail> {
         seats: None,
         key: [3; 32],
         keepers: shelf.keepers(),
-    };
+    }
+}
+
+#[test]
+fn sites(rt: HostRuntime) -> Result<(), Fail> {
+    let alloc = rt.alloc();
     let keys = RandomState::new(&rt)?;
+    let store = NoStore {};
+    let found = found(&rt, lasting_shelf(&rt));
     // bg_site
     let mut site = Site::new(alloc, store);
     let is_open = site.open(found);

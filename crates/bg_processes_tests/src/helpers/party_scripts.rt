@@ -14,7 +14,9 @@
 //! - "rebind 1 3": another process has the first party's port, with the keys of the second;
 //! - "# ..": a comment.
 
+use crate::helpers::devices::failures;
 use crate::helpers::hosts::Host;
+use crate::helpers::lasting::lasting;
 use crate::helpers::script_words::{packet_of, presence_of};
 use crate::helpers::tables::{free_port, keys_of};
 use crate::helpers::words::{number, small_number, word};
@@ -91,21 +93,31 @@ pub(crate) struct Sockets<'a, R> {
     o: Option<PartySocket<'a, SetClock>>,
 }
 
+/// Sockets of a match at a port of its own, by a clock that shows 0. They last as long as the process.
+pub(crate) fn lasting_sockets<R: Host>(rt: &R) -> &mut Sockets<'_, R> {
+    let sockets = lasting(rt, Sockets::unbound(rt, free_port(rt, 10_000)));
+    for party in 0..3 {
+        sockets.rebind(party, party);
+    }
+    sockets
+}
+
+/// The sockets of a match come through a script.
+pub(crate) fn check_script(rt: &impl Host, script: &str) {
+    lasting_sockets(rt).play(script);
+}
+
 impl<'a, R: Host> Sockets<'a, R> {
-    pub(crate) fn new(rt: &'a R, clock: &'a SetClock, failures: &'a Failures) -> Sockets<'a, R> {
-        let mut sockets = Sockets {
+    fn unbound(rt: &'a R, port: u16) -> Sockets<'a, R> {
+        Sockets {
             rt,
-            clock,
-            failures,
-            port: free_port(rt, 10_000),
+            clock: lasting(rt, SetClock::new()),
+            failures: failures(rt),
+            port,
             referee: None,
             x: None,
             o: None,
-        };
-        for party in 0..3 {
-            sockets.rebind(party, party);
         }
-        sockets
     }
 
     /// A socket at a party's port, with the keys of another one.

@@ -14,15 +14,15 @@ pub(crate) const SHORT: Terms = Terms {
     rules: Rules::One,
 };
 
-/// What is printed of so many rounds of a match over the folder, or why it ends early.
-pub(crate) fn try_played(
+/// Prints into a text so many rounds of a match over the folder, or says why it ends early.
+fn play(
     rt: &impl Host,
     folder: &str,
     seed: u64,
     terms: Terms,
     rounds: u32,
-) -> Result<Vec<u8>, LoopFault> {
-    let mut text = Vec::new(rt.alloc());
+    text: &mut Vec<u8>,
+) -> Result<(), LoopFault> {
     run_loop(
         rt,
         seed,
@@ -31,8 +31,21 @@ pub(crate) fn try_played(
         rounds,
         folder,
         &Failures::new(),
-        &mut Writing::new(&mut text),
-    )?;
+        &mut Writing::new(text),
+    )
+}
+
+/// What is printed of so many rounds of a match over the folder, or why it ends early.
+pub(crate) fn try_played(
+    rt: &impl Host,
+    folder: &str,
+    seed: u64,
+    terms: Terms,
+    rounds: u32,
+) -> Result<&'static [u8], LoopFault> {
+    let mut text = Vec::new(rt.alloc());
+    play(rt, folder, seed, terms, rounds, &mut text)?;
+    let text: &[u8] = text.leak();
     Ok(text)
 }
 
@@ -43,6 +56,6 @@ pub(crate) fn played(
     seed: u64,
     terms: Terms,
     rounds: u32,
-) -> Vec<u8> {
+) -> &'static [u8] {
     try_played(rt, folder, seed, terms, rounds).expect(rt, "so many rounds")
 }

@@ -1,11 +1,12 @@
 //! A runtime that stands in for the system's: it has so many sockets and no more, and opens files, or some, or none.
-use crate::helpers::hosts::Host;
+use crate::helpers::lasting::lasting;
 use std::alloc::{Alloc, Allocator, Global};
 use std::cell::{Cell, RefCell};
 use std::fs::{File, Metadata, OpenOptions};
 use std::io;
 use std::io::ErrorKind;
 use std::net::{Ipv4Addr, Net, SocketAddr, TcpListener, TcpStream, UdpSocket};
+use std::process::Abort;
 use std::rt::Files;
 
 /// The system's files and sockets, as far as this lets them through.
@@ -24,9 +25,13 @@ pub(crate) struct StandIn<'a, R> {
     sockets: RefCell<Vec<UdpSocket>>,
 }
 
-impl<'a, R: Host> StandIn<'a, R> {
-    /// It opens so many sockets, and all files.
-    pub(crate) fn new(rt: &'a R, sockets: usize) -> StandIn<'a, R> {
+/// One that opens so many sockets, and all files. It lasts as long as the process.
+pub(crate) fn stand_in<R: AllocGlobal + Abort + Drop>(rt: &R, sockets: usize) -> &StandIn<'_, R> {
+    lasting(rt, StandIn::new(rt, sockets))
+}
+
+impl<'a, R: AllocGlobal + Abort> StandIn<'a, R> {
+    fn new(rt: &'a R, sockets: usize) -> StandIn<'a, R> {
         StandIn {
             rt,
             sockets_left: Cell::new(sockets),
@@ -46,15 +51,22 @@ impl<'a, R: Host> StandIn<'a, R> {
     }
 
     /// Another handle of a socket, by the order in which they were opened.
-    pub(crate) fn socket(&self, index: usize) -> UdpSocket {
+    pub(crate) fn socket(&self, index: usize) -> &'a UdpSocket {
         let found = copied(&self.sockets, index);
-        found.expect(self.rt, "a socket of this number")
+        lasting(self.rt, found.expect(self.rt, "a socket of this number"))
     }
 
     /// Where a socket is reached.
     pub(crate) fn address(&self, index: usize) -> SocketAddr {
-        let address = self.socket(index).local_addr();
-        address.expect(self.rt, "the address of a socket")
+        address_of(&self.sockets, index).expect(self.rt, "the address of a socket")
+    }
+}
+
+/// Where one of the sockets is reached.
+fn address_of(sockets: &RefCell<Vec<UdpSocket>>, index: usize) -> Option<SocketAddr> {
+    match sockets.try_borrow() {
+        Ok(sockets) => sockets.get(index)?.local_addr().ok(),
+        Err(_) => None,
     }
 }
 
@@ -77,7 +89,7 @@ fn keep(sockets: &RefCell<Vec<UdpSocket>>, socket: UdpSocket) -> io::Result<()> 
 /// Any port of this machine alone that the system chooses.
 const ANY_PORT: (Ipv4Addr, u16) = (Ipv4Addr::LOCALHOST, 0);
 
-impl<'a, R: Host> Alloc for StandIn<'a, R> {
+impl<'a, R: AllocGlobal> Alloc for StandIn<'a, R> {
     type A = Global;
 
     fn alloc(&self) -> Global {
@@ -85,7 +97,7 @@ impl<'a, R: Host> Alloc for StandIn<'a, R> {
     }
 }
 
-impl<'a, R: Host> Net for StandIn<'a, R> {
+impl<'a, R: Net> Net for StandIn<'a, R> {
     type Stream = TcpStream;
 
     type Listener = TcpListener;
@@ -116,7 +128,7 @@ impl<'a, R: Host> Net for StandIn<'a, R> {
 /// The system's number of the error that a process has as many open files as it may.
 const TOO_MANY_OPEN_FILES: i32 = 24;
 
-impl<'a, R: Host> Files for StandIn<'a, R> {
+impl<'a, R: Files<File = File>> Files for StandIn<'a, R> {
     type File = File;
 
     type Dir = R::Dir;

@@ -17,6 +17,7 @@ use bg_processes::{
 };
 use bg_seals::MasterSecret;
 use bg_wire::{FIRST_WATCHER, REFEREE, SEAT_OF_O, SEAT_OF_X, party_of};
+use std::alloc::AllocError;
 use std::io;
 
 const ID: u64 = 7;
@@ -102,13 +103,13 @@ impl<'a, R: Host> Table<'a, R> {
 
     fn socket(&self, party: u8) -> io::Result<Socket<'a, R>> {
         let (rt, keys) = (self.rt, keys_of(party));
-        let socket = PartySocket::bind(rt, rt, self.port, party, keys, &self.calls.failures)?;
-        Ok(Failing::new(socket, self.calls))
+        let bound = PartySocket::bind(rt, rt, self.port, party, keys, &self.calls.failures);
+        Failing::over(bound, self.calls)
     }
 
-    fn keeper(&self, party: u8) -> io::Result<Files<'a, R>> {
-        let keeper = FileKeeper::new(self.rt, self.folder, party, &self.calls.failures)?;
-        Ok(Failing::new(keeper, self.calls))
+    fn keeper(&self, party: u8) -> Result<Files<'a, R>, AllocError> {
+        let keeper = FileKeeper::new(self.rt, self.folder, party, &self.calls.failures);
+        Failing::over(keeper, self.calls)
     }
 
     /// A round of the referee, which begins first where it does not run. Whether the match is over for it.

@@ -1,25 +1,36 @@
 //! What devices noted, as lines of words.
 
-use crate::helpers::hosts::Host;
+use crate::helpers::lasting::lasting_text;
 use bg_system::Failures;
 use std::alloc::AllocError;
+use std::process::Abort;
 
 /// Takes the failures out: a line for each, of devices over this folder.
-fn try_told(rt: &impl Host, failures: &Failures, folder: &str) -> Result<String, AllocError> {
-    let mut text = String::new(rt.alloc());
+fn write_lines(text: &mut String, failures: &Failures, folder: &str) -> Result<(), AllocError> {
     for failure in failures.drain() {
         writeln!(text, "{}", failure.in_folder(folder))?;
     }
-    Ok(text)
+    Ok(())
 }
 
 /// The same, where there is memory.
-pub(crate) fn told(rt: &impl Host, failures: &Failures, folder: &str) -> String {
-    try_told(rt, failures, folder).expect(rt, "memory for lines")
+pub(crate) fn told(
+    rt: &(impl AllocGlobal + Abort),
+    failures: &Failures,
+    folder: &str,
+) -> &'static str {
+    let mut text = String::new(rt.alloc());
+    write_lines(&mut text, failures, folder).expect(rt, "memory for lines");
+    lasting_text(rt, text)
 }
 
 /// Takes the failures out, of devices over this folder: they are told by these lines.
-pub(crate) fn check_told(rt: &impl Host, failures: &Failures, folder: &str, lines: &str) {
+pub(crate) fn check_told(
+    rt: &(impl AllocGlobal + Abort),
+    failures: &Failures,
+    folder: &str,
+    lines: &str,
+) {
     let said = told(rt, failures, folder);
-    assert!(rt; said.as_str() == lines, "{said}");
+    assert!(rt; said == lines, "{said}");
 }

@@ -5,7 +5,7 @@ use bg_board::Player;
 use bg_match::{Action, Terms};
 use bg_processes::{Going, RefereeProcess, SeatProcess, WatcherProcess};
 use bg_world::{Keeper, Link, Outcome};
-use std::alloc::Global;
+use std::alloc::{AllocError, Global};
 use std::io;
 
 /// The referee's process, unless it can't begin now.
@@ -13,7 +13,7 @@ pub(super) fn begun_referee<L: Link + Drop, K: Keeper + Drop>(
     alloc: Global,
     terms: Terms,
     link: io::Result<L>,
-    keeper: io::Result<K>,
+    keeper: Result<K, AllocError>,
 ) -> Option<RefereeProcess<L, K>> {
     match RefereeProcess::begin(alloc, ID, terms, KEY, link.ok()?, keeper.ok()?) {
         Ok((process, Outcome::Restarted)) => Some(process),
@@ -27,7 +27,7 @@ pub(super) fn begun_seat<L: Link + Drop, K: Keeper + Drop>(
     player: Player,
     terms: Terms,
     link: io::Result<L>,
-    keeper: io::Result<K>,
+    keeper: Result<K, AllocError>,
 ) -> Option<SeatProcess<L, K>> {
     match SeatProcess::begin(alloc, player, ID, terms, link.ok()?, keeper.ok()?) {
         Ok((process, Outcome::Restarted)) => Some(process),

@@ -7,7 +7,7 @@ use bg_wire::{REFEREE, SEAT_OF_O, SEAT_OF_X};
 
 impl<'a, R: Host> Table<'a, R> {
     /// The record of what a party has saved.
-    fn saved(&self, party: u8) -> Record {
+    fn saved(&self, party: u8) -> &'a Record {
         saved_record(self.rt, self.folder, party, ID, self.terms)
     }
 
@@ -16,9 +16,9 @@ impl<'a, R: Host> Table<'a, R> {
         let rt = self.rt;
         let whole = self.saved(REFEREE);
         assert!(rt; matches!(whole.standing().phase(), Phase::Over(_)));
-        let text = text_of(rt, &whole);
+        let text = text_of(rt, whole);
         for party in [SEAT_OF_X, SEAT_OF_O] {
-            assert!(rt; text_of(rt, &self.saved(party)) == text, "party {party}");
+            assert!(rt; text_of(rt, self.saved(party)) == text, "party {party}");
         }
         let watcher = self.watcher.as_ref().expect(rt, "the watcher runs");
         assert!(rt; text_of(rt, watcher.held()) == text, "the watcher");
