@@ -1,8 +1,7 @@
 //! The colours of checkers and of offers, and the texts without them.
-use crate::lasting::lasting;
 use bg_board::Player;
 use bg_console::{with_bold_offers, with_coloured_checkers};
-use std::process::Abort;
+use std::test::Fail;
 
 /// What a player sees where checkers stand one above another, where they are numbers, and where
 /// points are a list.
@@ -47,63 +46,56 @@ your turn, O:\x1b[1m roll, double, resign normal,\x1b[0m
 ";
 
 /// A text without the sequences of looks, each of which ends with an `m`.
-fn plain(rt: &(impl AllocGlobal + Abort), text: &[u8]) -> &'static [u8] {
-    let out = lasting(rt, Vec::new(rt.alloc()));
+fn plain(rt: &HostRuntime, text: &[u8]) -> Result<Vec<u8>, Fail> {
+    let mut out = Vec::new(rt.alloc());
     let mut is_sequence = false;
     for byte in text {
         if *byte == b'\x1b' {
             is_sequence = true;
         } else if !is_sequence {
-            assert!(rt; out.push(*byte).is_ok(), "memory for a text");
+            out.push(*byte)?;
         } else if *byte == b'm' {
             is_sequence = false;
         }
     }
-    out.as_slice()
-}
-
-/// The text has these looks, and without them it is as it was.
-fn check_looks(rt: &(impl AllocGlobal + Abort), text: &str, found: &[u8], wanted: &str) {
-    assert!(rt; found == wanted.as_bytes(), "{text}");
-    assert!(rt; plain(rt, found) == text.as_bytes(), "{text}");
-}
-
-fn check_checkers(rt: &(impl AllocGlobal + Abort), text: &str, bold: Player, wanted: &str) {
-    let coloured = with_coloured_checkers(rt.alloc(), text.as_bytes(), bold);
-    let coloured = coloured.expect(rt, "memory for a text").leak();
-    check_looks(rt, text, coloured, wanted);
+    Ok(out)
 }
 
 #[test]
-fn checkers_have_the_colours_of_their_players(rt: HostRuntime) {
-    check_all_checkers(&rt);
-}
-
-fn check_all_checkers(rt: &(impl AllocGlobal + Abort)) {
-    check_checkers(rt, STACKS, Player::X, COLOURED_STACKS);
-    check_checkers(rt, ROWS, Player::O, COLOURED_ROWS);
-    let moved = "X roll 3 1\nO move bar-20\n";
-    check_checkers(rt, moved, Player::X, moved);
-    check_checkers(rt, OFFERS, Player::O, OFFERS);
-    check_checkers(rt, "", Player::O, "");
-}
-
-fn check_offers(rt: &(impl AllocGlobal + Abort), text: &str, wanted: &str) {
-    let bold = with_bold_offers(rt.alloc(), text.as_bytes());
-    let bold = bold.expect(rt, "memory for a text").leak();
-    check_looks(rt, text, bold, wanted);
+fn checkers_have_the_colours_of_their_players(rt: HostRuntime) -> Result<(), Fail> {
+    for (text, bold, wanted) in [
+        (STACKS, Player::X, COLOURED_STACKS),
+        (ROWS, Player::O, COLOURED_ROWS),
+        (
+            "X roll 3 1\nO move bar-20\n",
+            Player::X,
+            "X roll 3 1\nO move bar-20\n",
+        ),
+        (OFFERS, Player::O, OFFERS),
+        ("", Player::O, ""),
+    ] {
+        let coloured = with_coloured_checkers(rt.alloc(), text.as_bytes(), bold)?;
+        assert!(rt; coloured.as_slice() == wanted.as_bytes(), "{text}");
+        assert!(rt;
+            plain(&rt, &coloured)?.as_slice() == text.as_bytes(),
+            "{text}"
+        );
+    }
+    Ok(())
 }
 
 #[test]
-fn offers_are_bold(rt: HostRuntime) {
-    check_all_offers(&rt);
-}
-
-fn check_all_offers(rt: &(impl AllocGlobal + Abort)) {
-    check_offers(rt, OFFERS, BOLD_OFFERS);
-    check_offers(rt, "it is O's turn\n", "it is O's turn\n");
-    let bold = "your turn, X:\x1b[1m roll\x1b[0m";
-    check_offers(rt, "your turn, X: roll", bold);
-    check_offers(rt, STACKS, STACKS);
-    check_offers(rt, "", "");
+fn offers_are_bold(rt: HostRuntime) -> Result<(), Fail> {
+    for (text, wanted) in [
+        (OFFERS, BOLD_OFFERS),
+        ("it is O's turn\n", "it is O's turn\n"),
+        ("your turn, X: roll", "your turn, X:\x1b[1m roll\x1b[0m"),
+        (STACKS, STACKS),
+        ("", ""),
+    ] {
+        let bold = with_bold_offers(rt.alloc(), text.as_bytes())?;
+        assert!(rt; bold.as_slice() == wanted.as_bytes(), "{text}");
+        assert!(rt; plain(&rt, &bold)?.as_slice() == text.as_bytes(), "{text}");
+    }
+    Ok(())
 }

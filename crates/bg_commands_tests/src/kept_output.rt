@@ -1,6 +1,5 @@
 //! A runtime that keeps what is printed and what is said.
 
-use crate::lasting::lasting;
 use std::alloc::{Alloc, AllocError, Global};
 use std::cell::{Cell, RefCell};
 use std::fmt::Display;
@@ -16,13 +15,8 @@ pub(crate) struct KeptOutput<'a> {
     printed: RefCell<Vec<u8>>,
 }
 
-/// A runtime that has kept nothing yet. It lasts as long as the process.
-pub(crate) fn kept_output(rt: &HostRuntime) -> &KeptOutput<'_> {
-    lasting(rt, KeptOutput::new(rt))
-}
-
 impl<'a> KeptOutput<'a> {
-    fn new(rt: &'a HostRuntime) -> KeptOutput<'a> {
+    pub(crate) fn new(rt: &'a HostRuntime) -> KeptOutput<'a> {
         KeptOutput {
             rt,
             said: Cell::new(String::new(rt.alloc())),
@@ -42,12 +36,9 @@ impl<'a> KeptOutput<'a> {
         Ok(())
     }
 
-    /// Whether this was printed.
-    pub(crate) fn has_printed(&self, text: &[u8]) -> bool {
-        match self.printed.try_borrow() {
-            Ok(printed) => printed.as_slice() == text,
-            Err(_) => false,
-        }
+    /// What was printed.
+    pub(crate) fn into_printed(self) -> Vec<u8> {
+        self.printed.into_inner()
     }
 }
 

@@ -13,8 +13,6 @@ mod folders;
 #[cfg(test)]
 mod kept_output;
 #[cfg(test)]
-mod lasting;
-#[cfg(test)]
 mod observers;
 #[cfg(test)]
 mod operators;
@@ -24,5 +22,3 @@ mod pairings;
 mod sim;
 #[cfg(test)]
 mod uses;
-#[cfg(test)]
-mod words;

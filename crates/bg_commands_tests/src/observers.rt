@@ -1,6 +1,5 @@
 //! What one who looks on is told of a match over sockets and files.
-use crate::folders::{new_folder, path_in, remove_folder};
-use crate::lasting::lasting;
+use crate::folders::new_folder;
 use bg_auto::{LoopFault, Observer, party_at};
 use bg_board::Player;
 use bg_match::{Action, Number, Rules};
@@ -8,7 +7,7 @@ use bg_processes::{Failures, play_loop};
 use bg_streams::Writing;
 use bg_world::{Event, Outcome, RestoreCause};
 use std::fs;
-use std::process::Abort;
+use std::test::Fail;
 
 /// Keeps the last event that it is told of, by its party and whether the slots were damaged, and counts rounds.
 #[derive(Drop)]
@@ -31,45 +30,35 @@ impl Observer for Heard {
     }
 }
 
-/// Plays three rounds over a folder, of which one is told who looks on. Why the match ends early, if it does.
-fn look_on(
-    rt: &HostRuntime,
-    folder: &str,
-    failures: &Failures,
-    text: &mut Vec<u8>,
-    heard: &mut Heard,
-) -> Option<LoopFault> {
-    let mut output = Writing::new(text);
-    let rules = Rules::One;
-    play_loop(rt, 7, 1, rules, 3, folder, failures, &mut output, heard).err()
-}
-
-/// What one is told who looks on while three rounds are played over a folder, and whether the match ends by damage.
-fn heard_of(rt: &HostRuntime, folder: &str, is_damaged: bool) -> Heard {
+/// What one is told who looks on while so many rounds are played over a folder.
+fn heard_of(rt: &HostRuntime, folder: &str, rounds: u32) -> (Result<(), LoopFault>, Heard) {
+    let failures = Failures::new();
     let mut heard = Heard {
         last: None,
         rounds: 0,
         in_order: true,
     };
-    let text = lasting(rt, Vec::new(rt.alloc()));
-    let fault = look_on(rt, folder, lasting(rt, Failures::new()), text, &mut heard);
-    assert!(rt; is_as_expected(fault, is_damaged), "damaged: {is_damaged}");
-    heard
-}
-
-/// Whether a match ended by damage, or did not end.
-fn is_as_expected(fault: Option<LoopFault>, is_damaged: bool) -> bool {
-    let damaged = Outcome::RestoreFault(RestoreCause::Damaged);
-    match fault {
-        Some(fault) => is_damaged && fault == LoopFault::Stopped(damaged),
-        None => !is_damaged,
-    }
+    let mut text = Vec::new(rt.alloc());
+    let mut output = Writing::new(&mut text);
+    let played = play_loop(
+        rt,
+        7,
+        1,
+        Rules::One,
+        rounds,
+        folder,
+        &failures,
+        &mut output,
+        &mut heard,
+    );
+    (played, heard)
 }
 
 #[test]
-fn rounds_are_told_from_the_first(rt: HostRuntime) {
-    let folder = new_folder(&rt, "told-rounds");
-    let heard = heard_of(&rt, folder, false);
+fn rounds_are_told_from_the_first(rt: HostRuntime) -> Result<(), Fail> {
+    let folder = new_folder(&rt, "told-rounds")?;
+    let (played, heard) = heard_of(&rt, folder.as_str(), 3);
+    assert!(rt; played == Ok(()), "{played:?}");
     assert!(rt;
         heard.rounds == 3 && heard.in_order,
         "{} rounds",
@@ -77,47 +66,53 @@ fn rounds_are_told_from_the_first(rt: HostRuntime) {
     );
     // A round ends with the tick of the watcher.
     assert!(rt; heard.last == Some((3, false)), "{:?}", heard.last);
-    remove_folder(&rt, folder);
+    fs::remove_dir_all(&rt, folder.as_str())?;
+    Ok(())
 }
 
 #[test]
-fn the_event_that_ends_a_match_is_told(rt: HostRuntime) {
-    let folder = new_folder(&rt, "told-end");
-    write_rubbish(&rt, path_in(&rt, folder, "party-0.0"));
-    write_rubbish(&rt, path_in(&rt, folder, "party-0.1"));
-    let heard = heard_of(&rt, folder, true);
+fn the_event_that_ends_a_match_is_told(rt: HostRuntime) -> Result<(), Fail> {
+    let folder = new_folder(&rt, "told-end")?;
+    for slot in 0..2 {
+        let path = format!(in rt.alloc(); "{folder}/party-0.{slot}")?;
+        fs::write(&rt, path.as_str(), b"rubbish")?;
+    }
+    let (played, heard) = heard_of(&rt, folder.as_str(), 3);
+    let damaged = LoopFault::Stopped(Outcome::RestoreFault(RestoreCause::Damaged));
+    assert!(rt; played == Err(damaged), "it played on");
     assert!(rt; heard.last == Some((0, true)), "{:?}", heard.last);
     assert!(rt; heard.rounds == 0, "{} rounds", heard.rounds);
-    remove_folder(&rt, folder);
-}
-
-fn write_rubbish(rt: &HostRuntime, path: &str) {
-    fs::write(rt, path, b"rubbish").expect(rt, "a file is written");
+    fs::remove_dir_all(&rt, folder.as_str())?;
+    Ok(())
 }
 
 #[test]
 fn parties_of_events(rt: HostRuntime) {
-    check_parties(&rt);
-}
-
-fn check_parties(rt: &impl Abort) {
-    let (pick, word) = (0, 5);
-    check_party(rt, Event::Due { word }, 0);
-    let party = 4;
-    check_party(rt, Event::Take { party, pick, word }, 4);
-    check_choice(rt, Player::X, Action::Roll, 1);
-    check_choice(rt, Player::O, Action::Double, 2);
-    check_party(rt, Event::Save { party: 2 }, 2);
-    check_party(rt, Event::Tick { party: 255 }, 255);
-    check_party(rt, Event::Restart { party: 1 }, 1);
-}
-
-fn check_choice(rt: &impl Abort, seat: Player, action: Action, party: u8) {
-    check_party(rt, Event::Choose { seat, action }, party);
-}
-
-/// An event is one at this party.
-fn check_party(rt: &impl Abort, event: Event, party: u8) {
-    let found = party_at(&event);
-    assert!(rt; found == party, "party {found} for {party}");
+    let word = 5;
+    let action = Action::Roll;
+    let seat = Player::X;
+    for (event, party) in [
+        (Event::Due { word }, 0),
+        (
+            Event::Take {
+                party: 4,
+                pick: 0,
+                word,
+            },
+            4,
+        ),
+        (Event::Choose { seat, action }, 1),
+        (
+            Event::Choose {
+                seat: Player::O,
+                action: Action::Double,
+            },
+            2,
+        ),
+        (Event::Save { party: 2 }, 2),
+        (Event::Tick { party: 255 }, 255),
+        (Event::Restart { party: 1 }, 1),
+    ] {
+        assert!(rt; party_at(&event) == party, "{event:?}");
+    }
 }

@@ -1,5 +1,5 @@
 //! The lines of use of the libraries of commands and of processes, run (`tools/checks/check_uses` compares them).
-use crate::folders::{new_folder, remove_folder};
+use crate::folders::new_folder;
 use bg_auto::NoObserver;
 use bg_board::{Die, Player};
 use bg_command_parts::{Asked, FailureReporter, OwnSaves, stopped};
@@ -17,6 +17,7 @@ use bg_seals::MasterSecret;
 use bg_seat_commands::auto;
 use bg_wire::REFEREE;
 use bg_world::Outcome;
+use std::fs;
 use std::test::Fail;
 
 #[test]
@@ -119,7 +120,8 @@ fn no_match_is_simulated(rt: HostRuntime) -> Result<(), Fail> {
 #[test]
 fn processes(rt: HostRuntime) -> Result<(), Fail> {
     let alloc = rt.alloc();
-    let folder = new_folder(&rt, "uses");
+    let made = new_folder(&rt, "uses")?;
+    let folder = made.as_str();
     // bg_processes
     // What all processes of a match agree on is a line; this is one of a match to 3 points.
     let file = MatchFile::parse("match 7 length 3 rules 1 port 4000\n").expect(&rt, "a good text");
@@ -138,6 +140,6 @@ fn processes(rt: HostRuntime) -> Result<(), Fail> {
     assert!(rt; !read_saved(&rt, format!(in alloc; "{folder}/party-0.1")?.as_str())?.is_empty());
     assert!(rt; failures.drain().next().is_none());
     // end
-    remove_folder(&rt, folder);
+    fs::remove_dir_all(&rt, folder)?;
     Ok(())
 }
