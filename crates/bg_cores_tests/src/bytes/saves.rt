@@ -1,5 +1,6 @@
 //! Worked saved texts of both layouts, byte by byte, and long ones.
-ghost use Rattle.std.specs.Prelude.{IfOk};
+ghost use Rattle.std.specs.Prelude.{◌≤◌, IfOk};
+ghost use Rattle.bg_wire.specs.Entries.Codes.{least_save, seat_of_o};
 ghost use Rattle.bg_wire.specs.Saved.SavedText.{IsSavable, parts_of};
 
 use crate::bytes::bytes::{turn, with_bytes};
@@ -180,15 +181,25 @@ fn check_long(rt: &impl Abort, again: &Saved, saved: &Saved, count: Number) {
 
 /// What a party saves that claims nothing. It lasts.
 fn save_of(rt: &(impl AllocGlobal + Abort), party: u8, save: u32, log: Record) -> &'static Saved
+    requires party { party ≤ seat_of_o }
+    requires save { least_save ≤ save }
     ensures { IsSavable (parts_of result.now) }
 {
-    let saved = Saved {
+    lasting(rt, unclaimed(party, save, log))
+}
+
+/// What a party saves that claims nothing.
+fn unclaimed(party: u8, save: u32, log: Record) -> Saved
+    requires party { party ≤ seat_of_o }
+    requires save { least_save ≤ save }
+    ensures { IsSavable (parts_of result) }
+{
+    Saved {
         party,
         save,
         claim: None,
         log,
-    };
-    lasting(rt, saved)
+    }
 }
 
 /// The text of what is saved. It lasts.

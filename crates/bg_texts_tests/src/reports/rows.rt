@@ -48,11 +48,8 @@ const ROWS: [Told; 5] = [
 
 /// The row of a file in a form begins so, and the verdict stands behind it.
 fn check_form(rt: &impl Abort, alloc: Global, row: &Told, form: RowForm, wanted: &str) {
-    let told = told(
-        rt,
-        alloc,
-        check_row(alloc, form, row.name, row.bytes.as_bytes()),
-    );
+    let row_told = check_row(alloc, form, row.name, row.bytes.as_bytes());
+    let told = told(alloc, row_told).expect(rt, "memory");
     let start = told.as_str().get(..wanted.len()).unwrap_or(told.as_str());
     check_told(rt, row.name, start, wanted);
 }
