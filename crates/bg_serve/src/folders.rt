@@ -185,12 +185,18 @@ impl<'a> FolderStore<'a> {
     /// Reads the record that a match's referee has saved.
     fn try_load(&self, name: &str) -> io::Result<Option<Record>> {
         let path = path_in(self.rt.alloc(), self.folder, name)?;
-        let Some(file) = self.match_in(path.as_str())? else {
+        let Some(file) = self.table_in(path.as_str())? else {
             return Ok(None);
         };
         let zero = self.saved_in(path.as_str(), "party-0.0")?;
         let one = self.saved_in(path.as_str(), "party-0.1")?;
-        Ok(record_in(self.rt.alloc(), &zero, &one, file.table))
+        Ok(record_in(self.rt.alloc(), &zero, &one, file))
+    }
+
+    /// Reads the match file of a folder, if it has one, without the names.
+    fn table_in(&self, path: &str) -> io::Result<Option<MatchFile>> {
+        let path = path_in(self.rt.alloc(), path, "match")?;
+        MatchFile::read(self.rt, path.as_str())
     }
 
     /// Reads a slot of a folder.
