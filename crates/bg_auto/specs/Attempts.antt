@@ -32,16 +32,17 @@ abbrev pub held_entries : Option Log → Option ℕ
 held_entries None = None
 held_entries (Some log) = Some (length log.entries)
 
--- what is noted after an event, where the referee then holds so many entries: the first attempt where the event
--- restarted it, or it held another number of entries before, else the attempt after the outcome
+-- what is noted after an event, where the referee then holds so many entries: the first attempt
+-- where the event restarted it, or it held another number of entries before, else the attempt after
+-- the outcome
 pub record Notes
     (old : DiceAttempts) (restarted : Bool) (outcome : Outcome) (held : Option ℕ) (new : DiceAttempts) : Type 0 where
   pub held_now : new.held ≡ held
   pub first : (restarted ≡ true) ⊎ (held ≢ old.held) → new.attempt ≡ 0
   pub next : restarted ≡ false → held ≡ old.held → new.attempt ≡ attempt_after old.attempt outcome
 
--- the word that is handed in where the referee holds so many entries, by the bytes of a key: 0 where it is down; and by
--- the key of a seed
+-- the word that is handed in where the referee holds so many entries, by the bytes of a key: 0
+-- where it is down; and by the key of a seed
 abbrev pub keyed_word_for : List ℕ → Option ℕ → ℕ → ℕ
 keyed_word_for key None attempt = 0
 keyed_word_for key (Some entries) attempt = keyed_dice_word key (entries + 1) attempt

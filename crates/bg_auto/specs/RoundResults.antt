@@ -56,8 +56,8 @@ IsWriteFault sink before after Memory = after ≡ before
 IsWriteFault sink before after _ = ⊥
 
 module _ {W : Type 0} (sink : SinkGhosts W) (link_honest keepers_honest : Type 0) where
-  -- What so many rounds come to over any devices, with the output before and after. It is the same after as before
-  -- unless the final text was handed to it.
+  -- What so many rounds come to over any devices, with the output before and after. It is the same
+  -- after as before unless the final text was handed to it.
   abbrev pub IsRoundsResult : Setup → Moment → ℕ → Result (Unit {0}) LoopFault → W → W → Type 0
   IsRoundsResult setup start rounds (Ok done) before after =
       IsGood setup

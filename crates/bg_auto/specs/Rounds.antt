@@ -71,7 +71,8 @@ handed_word at party = if party == referee then next_word at else 0
 abbrev pub pick : ℕ
 pick = 0
 
--- a player whose seat is up does what an automatic player does after its record; no event, where that is nothing
+-- a player whose seat is up does what an automatic player does after its record; no event, where
+-- that is nothing
 abbrev pub IsChosen : Moment → Player → Option Event → Type 0
 IsChosen at player None = (log : Log) → seat_log at.world player ≡ Some log → IsAutoAction log player None
 IsChosen at player (Some event) =
@@ -92,12 +93,14 @@ abbrev pub follow_up : Part → Outcome → Option Event
 follow_up (Save party) SaveFault = Some (events.Restart party)
 follow_up part outcome = None
 
--- there is memory for a choice, but for that of a player who is to move: he wants the list of all legal turns
+-- there is memory for a choice, but for that of a player who is to move: he wants the list of all
+-- legal turns
 abbrev pub MayLackMemory : Moment → Part → Type 0
 MayLackMemory at (Choose player) = (log : Log) × (seat_log at.world player ≡ Some log) × IsToMove log player
 MayLackMemory at part = ⊥
 
--- the outcome ends the match: the slots of a party can't be restored, or there was no memory for the event
+-- the outcome ends the match: the slots of a party can't be restored, or there was no memory for
+-- the event
 abbrev pub ends : Outcome → Bool
 ends (RestoreFault cause) = true
 ends outcome = is_memory outcome

@@ -13,7 +13,8 @@ use Rattle.bg_world.specs.declared.events.Event.{Event}
 use Rattle.bg_world.specs.declared.events.Event.TheVariants.{Choose, Due, Restart, Save, Take, Tick}
 use Rattle.bg_auto.specs.AutoAction.{IsAutoAction}
 
--- of so many datagrams to a party: the last, or one of the four before it; else a pick that names none
+-- of so many datagrams to a party: the last, or one of the four before it; else a pick that names
+-- none
 abbrev pub late_pick : ℕ → ℕ → ℕ
 late_pick count back = if nat_lt back count then count - 1 - back else count
 
@@ -36,8 +37,8 @@ named_party parties b = b % parties
 abbrev pub named_player : ℕ → Player
 named_player b = if b % 2 == 0 then X else O
 
--- The event that words a and b choose in a world of so many parties, where this word is handed to the referee: a row
--- for each rest of a by 16.
+-- The event that words a and b choose in a world of so many parties, where this word is handed to
+-- the referee: a row for each rest of a by 16.
 pub record IsScheduled (w : WorldView) (parties word a b : ℕ) (event : Event) : Type 0 where
   pub due : a % 16 ≡ 0 → event ≡ Due word
   pub take : 1 ≤ a % 16 → a % 16 ≤ 6 → event ≡ Take (named_party parties b)

@@ -40,7 +40,8 @@ abbrev pub wants_memory : Outcome → Bool
 wants_memory SaveFault = true
 wants_memory outcome = is_memory outcome
 
--- the event of index i happens: the one that the schedule's words choose, with the word for the referee's next entry
+-- the event of index i happens: the one that the schedule's words choose, with the word for the
+-- referee's next entry
 pub record HappensAs (old : Simulation) (i : ℕ) (new : Simulation) : Type 0 where
   pub event : Event
   pub outcome : Outcome
@@ -58,7 +59,8 @@ abbrev pub Runs : ℕ → Simulation → Simulation → Type 0
 Runs zero old new = new ≡ old
 Runs (suc n) old new = (before : Simulation) × Runs n old before × HappensAs before n new
 
--- what is printed of a world: the transcript of the referee's record, where it is up, and then the final text
+-- what is printed of a world: the transcript of the referee's record, where it is up, and then the
+-- final text
 abbrev pub IsTranscriptOf : Option Log → List ℕ → Type 0
 IsTranscriptOf None text = text ≡ []
 IsTranscriptOf (Some log) text = IsTranscript log.terms log.entries text
@@ -68,7 +70,8 @@ IsPrinted w text =
     (transcript : List ℕ) × (end : List ℕ) × IsTranscriptOf (held_of w roles.Referee) transcript × IsFinalText w end
     × (text ≡ transcript ++ end)
 
--- the start of the match that has the seed as its number: a run of no events, over devices that never fail
+-- the start of the match that has the seed as its number: a run of no events, over devices that
+-- never fail
 pub record IsSimStart (setup : Setup) (start : Simulation) : Type 0 where
   pub plan : Plan
   pub report : RunReport

@@ -29,7 +29,8 @@ word_of seed stream place = keyed_word (key_bytes seed) stream place
 abbrev pub attempts : ℕ
 attempts = 65536
 
--- the word for the dice of entry n at an attempt, from 0, for the bytes of a key; and for the key of a seed
+-- the word for the dice of entry n at an attempt, from 0, for the bytes of a key; and for the key
+-- of a seed
 abbrev pub keyed_dice_word : List ℕ → ℕ → ℕ → ℕ
 keyed_dice_word key n attempt = keyed_word key dice_stream (attempts * n + attempt)
 

@@ -1,4 +1,5 @@
--- Where a turn is to be passed, the referee acts and nothing but a pass follows; elsewhere the phase says who acts.
+-- Where a turn is to be passed, the referee acts and nothing but a pass follows; elsewhere the
+-- phase says who acts.
 use Rattle.std.proofs.Common.{◌≡◌, ◌≢◌, false, true, Option, Some, None, refl, ◌∙◌, ap}
 use Rattle.std.specs.Prelude.{IsSome}
 use Rattle.bg_board.specs.Position.{Position, opponent}

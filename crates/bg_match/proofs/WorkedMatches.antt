@@ -77,7 +77,8 @@ backgammon_on_bar = refl
 no_win_yet : level_of start_position X ≡ None
 no_win_yet = refl
 
--- A match of seven points at 3-2, the cube at 2: X bears off his last checker while O has one on the bar.
+-- A match of seven points at 3-2, the cube at 2: X bears off his last checker while O has one on
+-- the bar.
 
 abbrev six_five : Dice
 six_five = record { first = Six; second = Five }
@@ -134,7 +135,8 @@ at_cap = (X, refl, refl, (refl, inr refl, refl))
 no_cube : IsEntryFault (fault.NoDouble no_double.Crawford) (record (start_of (to_points 1)) { phase = phase.ToAct X }) entry.Doubled
 no_cube = (X, refl, refl, refl)
 
--- A match of three points: O resigns a gammon, X a normal game, and O, whose first offer is rejected, a backgammon.
+-- A match of three points: O resigns a gammon, X a normal game, and O, whose first offer is
+-- rejected, a backgammon.
 
 abbrev one_three : Dice
 one_three = record { first = One; second = Three }

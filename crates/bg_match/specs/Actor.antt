@@ -26,8 +26,8 @@ passes s = passes_in (rules_of s.terms) s.board s.phase
 abbrev pub IsPassOf : State → Player → Type 0
 IsPassOf s p = (dice : Dice) × (s.phase ≡ ToMove p dice) × (passes s ≡ true)
 
--- who acts by the phase alone: the referee opens a game, an offer to resign is answered by the other player, and after
--- the match nobody acts
+-- who acts by the phase alone: the referee opens a game, an offer to resign is answered by the
+-- other player, and after the match nobody acts
 abbrev pub actor_in : Phase → Actor
 actor_in Opening = Referee
 actor_in (ToAct p) = Seat p

@@ -50,18 +50,20 @@ SeatAfter terms entries seat = (s : State) × StandsAt terms entries s × (seat 
 abbrev pub scores_then : State → State → List ℕ → List ℕ
 scores_then s t scores = if t.game == s.game then scores else greater_score t ∷ scores
 
--- the entries lead from s to t, and the greater scores before the games from those at s to those at t
+-- the entries lead from s to t, and the greater scores before the games from those at s to those at
+-- t
 abbrev pub LeadsWithScores : State → List ℕ → List Entry → State → List ℕ → Type 0
 LeadsWithScores s scores [] t all = (t ≡ s) × (all ≡ scores)
 LeadsWithScores s scores (e ∷ rest) t all =
     (next : State) × Follows s e next × LeadsWithScores next (scores_then s next scores) rest t all
 
--- the entries of a match of these terms lead to t, and these are the greater scores before its games, the latest first
+-- the entries of a match of these terms lead to t, and these are the greater scores before its
+-- games, the latest first
 abbrev pub StandsWithScores : Terms → List Entry → State → List ℕ → Type 0
 StandsWithScores terms entries t scores = LeadsWithScores (start_of terms) (0 ∷ []) entries t scores
 
--- the latest game is the Crawford game: the greater score before it is one point short of the match, and it is the
--- first game or the greater score before the game before it was less
+-- the latest game is the Crawford game: the greater score before it is one point short of the
+-- match, and it is the first game or the greater score before the game before it was less
 abbrev pub IsCrawfordGame : ℕ → List ℕ → Type 0
 IsCrawfordGame points [] = ⊥
 IsCrawfordGame points (latest ∷ []) = latest + 1 ≡ points
@@ -78,8 +80,8 @@ abbrev pub MarksCrawford : Type 0
 MarksCrawford = (terms : Terms) (entries : List Entry) (t : State) (scores : List ℕ)
     → StandsWithScores terms entries t scores → (t.crawford ≡ true) ↔ IsCrawfordGame (match_length terms) scores
 
--- what a `Record` keeps: where the entries stand, and beside each one the seat that made it, which is the one that
--- acts after the entries before it
+-- what a `Record` keeps: where the entries stand, and beside each one the seat that made it, which
+-- is the one that acts after the entries before it
 pub record IsKept (terms : Terms) (entries : List Entry) (seats : List (Option Player)) (t : State) : Type 0 where
   pub shortest : shortest_match ≤ match_length terms
   pub longest : match_length terms ≤ longest_match
@@ -95,7 +97,8 @@ pub record Log : Type 0 where
   pub entries : List Entry
   pub spare : ℕ
 
--- what holds of every record: a match of such terms may be played, and its entries are a legal match so far
+-- what holds of every record: a match of such terms may be played, and its entries are a legal
+-- match so far
 pub record IsLog (log : Log) : Type 0 where
   pub points : IsMatchLength (match_length log.terms)
   pub legal : IsLegalRecord log.terms log.entries
@@ -109,7 +112,8 @@ abbrev pub at_number : {X : Type 0} → List X → ℕ → Option X
 at_number xs zero = None
 at_number xs (suc i) = slice_get xs i
 
--- the fault names the first test that fails; want of memory comes last, and only where no room is left
+-- the fault names the first test that fails; want of memory comes last, and only where no room is
+-- left
 abbrev pub IsRecordFault : EntryFault → Log → Entry → Type 0
 IsRecordFault fault.RecordFull log e = most_entries ≤ length log.entries
 IsRecordFault fault.Memory log e = (log.spare ≡ 0) × IsNext log.terms log.entries e

@@ -11,7 +11,8 @@ use Rattle.bg_match.specs.declared.phases.Cube.{Cube}
 use Rattle.bg_match.specs.declared.phases.Phase.{Phase}
 use Rattle.bg_match.specs.declared.phases.Phase.TheVariants.{Opening, Doubled, Over}
 
--- what contracts see of a `Standing`: `crawford` marks the game that is played without the cube, `game` is its number
+-- what contracts see of a `Standing`: `crawford` marks the game that is played without the cube,
+-- `game` is its number
 pub record State : Type 0 where
   pub terms : Terms
   pub board : Position
@@ -39,7 +40,8 @@ abbrev pub score_of : State → Player → ℕ
 score_of s X = s.x_score
 score_of s O = s.o_score
 
--- both scores are below the points that the match is played to, except that the winner's has reached it
+-- both scores are below the points that the match is played to, except that the winner's has
+-- reached it
 abbrev pub AreScoresOf : Phase → ℕ → ℕ → ℕ → Type 0
 AreScoresOf (Over X) points x o = (points ≤ x) × (x ≤ greatest_score) × (o < points)
 AreScoresOf (Over O) points x o = (points ≤ o) × (o ≤ greatest_score) × (x < points)
@@ -66,8 +68,8 @@ pub record IsState (s : State) : Type 0 where
   pub first_game : 1 ≤ s.game
   pub games : s.game ≤ s.x_score + s.o_score + 1
 
--- whether a game is played without the cube: the greater score before it is one point short of the match, and it is
--- the first game or the greater score before the game before it was less
+-- whether a game is played without the cube: the greater score before it is one point short of the
+-- match, and it is the first game or the greater score before the game before it was less
 abbrev pub is_crawford : ℕ → Option ℕ → ℕ → Bool
 is_crawford points None greater = greater + 1 == points
 is_crawford points (Some before) greater = greater + 1 == points && nat_lt before greater

@@ -39,7 +39,8 @@ MatchRole (suc zero) Referee Seat Watcher = Seat
 MatchRole (suc (suc zero)) Referee Seat Watcher = Seat
 MatchRole (suc (suc (suc index))) Referee Seat Watcher = Watcher
 
--- what the slots restore decides how a referee or a seat begins; a watcher is fresh whatever they have
+-- what the slots restore decides how a referee or a seat begins; a watcher is fresh whatever they
+-- have
 abbrev pub Begins : List ℕ → List ℕ → ℕ → ℕ → Terms → Core → Type 0
 Begins slot0 slot1 number id terms party =
     MatchRole number
@@ -49,7 +50,8 @@ Begins slot0 slot1 number id terms party =
     × (party ≡ begun_seat number id terms found))
     (party ≡ core.Watcher (fresh_watcher number id terms))
 
--- why it is not opened: the length is looked at first, and the slots of the referee and of seats alone
+-- why it is not opened: the length is looked at first, and the slots of the referee and of seats
+-- alone
 abbrev pub IsOpenFault : OpenFault → List ℕ → List ℕ → ℕ → ℕ → Terms → Type 0
 IsOpenFault LengthOutOfRange slot0 slot1 number id terms = IsMatchLength (match_length terms) → ⊥
 IsOpenFault (Restore why) slot0 slot1 number id terms =

@@ -30,7 +30,8 @@ early_fits early held new most all some =
     let size = length-drop new early in
     omega arith
 
--- so many of the early entries follow behind the new ones, so those and the new ones follow, and no more
+-- so many of the early entries follow behind the new ones, so those and the new ones follow, and no
+-- more
 pub follow_together : (terms : Terms) (entries new early : List Entry) (count : ℕ)
     → FollowsFor terms (entries ++ new) early count
     → FollowsFor terms entries (new ++ early) (length new + count)

@@ -93,7 +93,8 @@ keeps_none old p (learned.Illegal n) new h = λ k. absurd (h k)
 keeps_none old p learned.Memory new h = tt
 keeps_none old p (learned.Grew k) new h = λ c. absurd (h c)
 
--- the coming entries begin with the new ones of the list, and these are among those that are appended
+-- the coming entries begin with the new ones of the list, and these are among those that are
+-- appended
 pub grown_so_far : (f : FollowerView) (start : ℕ) (list : List Entry) (k : ℕ) → GrowsBy f start list k
     → (rest : List Entry)
     × (f.log.entries ++ take k (coming f start list) ≡

@@ -28,8 +28,8 @@ claim_number (Some claim) = claim.0
 abbrev pub trial_dice : Dice
 trial_dice = record { first = One; second = One }
 
--- the seat of the player acts after the entries, its last claim is answered by them, and the entry of the action
--- follows
+-- the seat of the player acts after the entries, its last claim is answered by them, and the entry
+-- of the action follows
 abbrev pub CanClaim : Terms → Player → List Entry → Option (ℕ × Action) → Action → Type 0
 CanClaim terms player entries claim action =
     ActsAfter terms entries (Seat player) × (claim_number claim ≤ length entries)
@@ -68,7 +68,8 @@ pub record SeatChooses
 abbrev pub want_of : ℕ → Log → Packet
 want_of party log = packet.Want log.id (rules_of log.terms) party (length log.entries)
 
--- what a seat sends, where it does: its claim, once that is saved and until its record answers it; else what it wants
+-- what a seat sends, where it does: its claim, once that is saved and until its record answers it;
+-- else what it wants
 abbrev pub packet_of_seat : SeatView → Packet
 packet_of_seat s = claimed s.claim where
   claimed : Option (ℕ × Action) → Packet

@@ -11,13 +11,15 @@ use Rattle.bg_party.specs.Window.{early_behind}
 use Rattle.bg_party.specs.declared.outcomes.Learned.{Learned}
 use Rattle.bg_party.specs.declared.outcomes.Learned.TheVariants as learned
 
--- what the list tells under numbers that are held is what is held; its first entry has the number `start`
+-- what the list tells under numbers that are held is what is held; its first entry has the number
+-- `start`
 abbrev pub Agrees : List Entry → ℕ → List Entry → Type 0
 Agrees entries start list =
     (i : ℕ) (e : Entry) → slice_get list i ≡ Some e → start + i ≤ length entries
     → at_number entries (start + i) ≡ Some e
 
--- under this number the list tells another entry than the one that is held, and under no smaller one
+-- under this number the list tells another entry than the one that is held, and under no smaller
+-- one
 abbrev pub IsConflict : List Entry → ℕ → List Entry → ℕ → Type 0
 IsConflict entries start list n =
     (i : ℕ) × (told : Entry) × (n ≡ start + i) × (n ≤ length entries) × (slice_get list i ≡ Some told)
@@ -37,7 +39,8 @@ Extends terms entries start list =
     Joins entries start list × (new_entries entries start list ≢ [])
     × IsLegalRecord terms (entries ++ new_entries entries start list)
 
--- the new entries of the list, and the early ones that are kept right behind them, up to the first that is missing
+-- the new entries of the list, and the early ones that are kept right behind them, up to the first
+-- that is missing
 abbrev pub coming : FollowerView → ℕ → List Entry → List Entry
 coming f start list =
     new_entries f.log.entries start list
@@ -54,7 +57,8 @@ abbrev pub GrowsBy : FollowerView → ℕ → List Entry → ℕ → Type 0
 GrowsBy f start list k =
     Extends f.log.terms f.log.entries start list × FollowsFor f.log.terms f.log.entries (coming f start list) k
 
--- what a list of entries teaches: a case for each answer. Want of memory comes only where the room is too small
+-- what a list of entries teaches: a case for each answer. Want of memory comes only where the room
+-- is too small
 abbrev pub Teaches : FollowerView → ℕ → List Entry → Learned → Type 0
 Teaches f start list learned.OtherMatch = ⊥
 Teaches f start list (learned.Conflict n) = IsConflict f.log.entries start list n

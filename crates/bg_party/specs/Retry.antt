@@ -5,7 +5,8 @@ use Rattle.std.specs.Prelude.{◌≡◌, ◌==◌, ℕ, zero, suc, ◌-◌, ◌*
 abbrev pub longest_gap : ℕ
 longest_gap = 32
 
--- how many ticks go by before it sends, and how many it is then from the tick on which it sends to the next such one
+-- how many ticks go by before it sends, and how many it is then from the tick on which it sends to
+-- the next such one
 pub record RetryView : Type 0 where
   pub wait : ℕ
   pub gap : ℕ
@@ -35,8 +36,8 @@ abbrev pub after_ticks : ℕ → RetryView → RetryView
 after_ticks zero r = r
 after_ticks (suc n) r = after_ticks n (after_tick r)
 
--- where it sends on the next tick, it is silent on those after it until its gap is over, and sends then; the gap
--- after that is twice as long, up to the longest
+-- where it sends on the next tick, it is silent on those after it until its gap is over, and sends
+-- then; the gap after that is twice as long, up to the longest
 abbrev pub KeepsTheGaps : Type 0
 KeepsTheGaps = (r : RetryView) → is_due r ≡ true
     → ((n : ℕ) → 1 ≤ n → n < r.gap → is_due (after_ticks n r) ≡ false)

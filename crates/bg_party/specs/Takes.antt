@@ -21,8 +21,9 @@ Stores old start list new =
     KeepsFrom old.early (start - (length old.log.entries + 1)) list new.early
     × (new ≡ record old { early = new.early })
 
--- the first entries of the list are appended, so many, with this spare room left. Where the next one does not follow,
--- it is dropped with all that are kept; else those behind it stay. The follower sends on the next tick
+-- the first entries of the list are appended, so many, with this spare room left. Where the next
+-- one does not follow, it is dropped with all that are kept; else those behind it stay. The
+-- follower sends on the next tick
 abbrev pub grown_with : FollowerView → List Entry → ℕ → ℕ → FollowerView
 grown_with f list k spare = record {
   log = record (f.log) { entries = f.log.entries ++ take k list; spare = spare };
@@ -44,15 +45,15 @@ Kept old _ new = ⊥
 abbrev pub TakesRoom : ℕ → ℕ → ℕ → Type 0
 TakesRoom old k new = k ≤ old → new + k ≡ old
 
--- the follower afterwards: `Grew` changes its record, `Gap` the early entries that it keeps, and nothing else changes
--- it
+-- the follower afterwards: `Grew` changes its record, `Gap` the early entries that it keeps, and
+-- nothing else changes it
 abbrev pub IsAfter : FollowerView → Packet → Learned → FollowerView → Type 0
 IsAfter old p learned.Gap new = Kept old p new
 IsAfter old p (learned.Grew k) new = (new ≡ grown old p k new.log.spare) × TakesRoom old.log.spare k new.log.spare
 IsAfter old p _ new = new ≡ old
 
--- the new entries and so many of the early ones behind them are appended; or there is no room for them, and nothing
--- changes
+-- the new entries and so many of the early ones behind them are appended; or there is no room for
+-- them, and nothing changes
 abbrev pub Appends : FollowerView → List Entry → List Entry → ℕ → Learned → FollowerView → Type 0
 Appends old new early count learned.Memory after = (old.log.spare < length new + count) × (after ≡ old)
 Appends old new early count (learned.Grew k) after =
@@ -60,8 +61,9 @@ Appends old new early count (learned.Grew k) after =
     × TakesRoom old.log.spare k after.log.spare
 Appends old new early count _ after = ⊥
 
--- what is learned from new entries that join what is held, and what the follower has then: the first that does not
--- follow is named, and where they follow they are appended with the early ones behind them, so many as follow
+-- what is learned from new entries that join what is held, and what the follower has then: the
+-- first that does not follow is named, and where they follow they are appended with the early ones
+-- behind them, so many as follow
 abbrev pub LearnsNew : FollowerView → List Entry → Learned → FollowerView → Type 0
 LearnsNew old new (learned.Illegal n) after =
     IsFirstIllegal old.log.terms (old.log.entries ++ new) n × (after ≡ old)

@@ -14,8 +14,8 @@ use Rattle.bg_wire.specs.declared.saves.Saved.{Saved}
 use Rattle.bg_party.specs.Retry.{RetryView, at_once}
 use Rattle.bg_party.specs.Window.{at_place, window_size}
 
--- what seats and watchers have in common: the record, as far as the referee told it; the early entries that are kept,
--- each at its place behind the record; and when it sends
+-- what seats and watchers have in common: the record, as far as the referee told it; the early
+-- entries that are kept, each at its place behind the record; and when it sends
 pub record FollowerView : Type 0 where
   pub log : Log
   pub early : List (Option Entry)
@@ -52,8 +52,8 @@ pub record IsWatcher (w : WatcherView) : Type 0 where
 abbrev pub fresh_watcher : ℕ → ℕ → Terms → WatcherView
 fresh_watcher party id terms = record { party = party; follower = fresh_follower id terms }
 
--- its player, what it has as a follower, its last claim (the number of the entry that shall answer the action),
--- whether that is saved, and the number of the next save
+-- its player, what it has as a follower, its last claim (the number of the entry that shall answer
+-- the action), whether that is saved, and the number of the next save
 pub record SeatView : Type 0 where
   pub player : Player
   pub follower : FollowerView
@@ -92,7 +92,8 @@ resumed_seat s = record {
   next_save = s.save + 1;
 }
 
--- the seat after its save of this number was written: a claim that was not saved is sent on the next tick
+-- the seat after its save of this number was written: a claim that was not saved is sent on the
+-- next tick
 abbrev pub seat_after_save : SeatView → ℕ → SeatView
 seat_after_save s save = record s {
   follower = record (s.follower) { retry = if s.claim_saved then s.follower.retry else at_once };

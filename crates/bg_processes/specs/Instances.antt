@@ -1,4 +1,5 @@
--- The processes of a match, over honest devices, are an instance of the law of processes: in a world of 256 parties.
+-- The processes of a match, over honest devices, are an instance of the law of processes: in a
+-- world of 256 parties.
 use Rattle.std.specs.Prelude.{◌≡◌, ◌+◌, ℕ, List, Some, map, slice_get}
 use Rattle.bg_board.specs.declared.players.Player.{Player}
 use Rattle.bg_wire.specs.Entries.Codes.{first_watcher}
@@ -56,8 +57,8 @@ abbrev pub outcomes_of : List (Event × Outcome) → List Outcome
 outcomes_of happened = map (λ h. h.1) happened
 
 module _ {M : Type 0} (Happens : M → Event → Outcome → M → Type 0) (RunsParty : WorldView → M → Type 0) (own : Role) where
-  -- a process that runs a party of a world of 256 parties: whatever happens at it is calls of processes there, after
-  -- which it runs that party still
+  -- a process that runs a party of a world of 256 parties: whatever happens at it is calls of
+  -- processes there, after which it runs that party still
   abbrev pub IsInstance : Type 0
   IsInstance =
       (w : WorldView) (old new : M) (happened : List (Event × Outcome)) → parties w ≡ most_parties → RunsParty w old

@@ -6,7 +6,8 @@ use Rattle.bg_processes.specs.declared.sockets.liveness.Liveness.{Liveness}
 use Rattle.bg_processes.specs.declared.sockets.liveness.LivenessChange.{LivenessChange}
 use Rattle.bg_processes.specs.declared.sockets.liveness.LivenessChange.TheVariants.{Silent, HeardAgain}
 
--- a tick comes a tenth of a second after the one before, or later: so many take three seconds at least
+-- a tick comes a tenth of a second after the one before, or later: so many take three seconds at
+-- least
 abbrev pub silent_ticks : ℕ
 silent_ticks = 31
 

@@ -7,8 +7,8 @@ use Rattle.bg_auto.specs.RoundResults.{IsRoundsResult, start_moment}
 use Rattle.bg_auto.specs.declared.loop_faults.LoopFault.{LoopFault}
 use Rattle.bg_auto.specs.declared.loop_faults.LoopFault.TheVariants.{Memory, Socket}
 
--- what so many rounds come to over some sockets and files, which claim nothing; there may be no sockets, or no memory
--- for them
+-- what so many rounds come to over some sockets and files, which claim nothing; there may be no
+-- sockets, or no memory for them
 abbrev pub IsLoopResult : {W : Type 0} → SinkGhosts W → Setup → ℕ → Result (Unit {0}) LoopFault → W → W → Type 0
 IsLoopResult sink setup rounds (Err Socket) before after = after ≡ before
 IsLoopResult sink setup rounds (Err Memory) before after = after ≡ before

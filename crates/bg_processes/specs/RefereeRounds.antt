@@ -25,8 +25,9 @@ use Rattle.bg_processes.specs.declared.processes.rounds.Going.{Going}
 
 -- ---- the process at a moment
 
--- its node with its link and its keeper, the bytes of the key that its dice go by, and what it notes: the attempt at its
--- next entry, how many entries are saved, and for how many ticks nobody was heard of that lacks one
+-- its node with its link and its keeper, the bytes of the key that its dice go by, and what it
+-- notes: the attempt at its next entry, how many entries are saved, and for how many ticks nobody
+-- was heard of that lacks one
 pub record RefereeMoment : Type 0 where
   pub node : RefereeNodeView
   pub link : LinkView
@@ -68,7 +69,8 @@ pub record NotesOfReferee
   pub quiet : new.quiet ≡ (if is_heard outcome then 0 else old.quiet)
 
 module _ (link_honest keeper_honest : Type 0) where
-  -- The event is a call of the node: it takes what comes first, and words are those for its next entry.
+  -- The event is a call of the node: it takes what comes first, and words are those for its next
+  -- entry.
   abbrev pub RefereeCalls : RefereeMoment → Event → Outcome → LinkView → KeeperView → RefereeNodeView → Type 0
   RefereeCalls at (events.Due word) outcome link keeper node =
       (word ≡ word_at at) × RefereeNodeDues at.node word outcome node × (link ≡ at.link) × (keeper ≡ at.keeper)
@@ -141,8 +143,8 @@ module _ (link_honest keeper_honest : Type 0) where
   RefereeRepeats event is_last most old new =
       Repeats (RefereeHappens link_honest keeper_honest) event is_last most old new
 
-  -- where it is down it is restarted, else what is not saved yet is saved; Ok says whether there was any, and it was
-  -- written
+  -- where it is down it is restarted, else what is not saved yet is saved; Ok says whether there
+  -- was any, and it was written
   abbrev pub SavesNews : RefereeMoment → Result Bool Outcome → RefereeMoment → Type 0
   SavesNews old result new =
       MatchBool (is_none (log_of old)) (Restarts (RefereeHappens link_honest keeper_honest) referee old result new)
@@ -157,8 +159,9 @@ module _ (link_honest keeper_honest : Type 0) where
       × (new ≡ with_quiet sent (quiet_later sent.notes.quiet tick))
       × MatchResult result (GoesWhere (IsServed new)) (λ _. ⊥)
 
-  -- A round, in which a tick is due or not: datagrams are taken, what is due is added, what has grown is saved, and then
-  -- it is sent; where the referee is down, a restart is all that happens at it. Err says why the process ends.
+  -- A round, in which a tick is due or not: datagrams are taken, what is due is added, what has
+  -- grown is saved, and then it is sent; where the referee is down, a restart is all that happens
+  -- at it. Err says why the process ends.
   pub record PlaysRefereeRound
       (old : RefereeMoment) (tick : Bool) (result : Result Going Outcome) (new : RefereeMoment) : Type 0 where
     pub taken : RefereeMoment
@@ -180,7 +183,8 @@ module _ (link_honest keeper_honest : Type 0) where
 
 -- ---- the beginning
 
--- the process begins with a restart of its node, whatever its keeper's slots have; the dice with the first attempt
+-- the process begins with a restart of its node, whatever its keeper's slots have; the dice with
+-- the first attempt
 pub record RefereeBegins
     (honest : Type 0) (id : ℕ) (terms : Terms) (key : List ℕ) (link : LinkView) (keeper : KeeperView) (outcome : Outcome)
     (new : RefereeMoment) : Type 0 where

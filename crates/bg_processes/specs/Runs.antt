@@ -1,4 +1,5 @@
--- What the process of a party does, event by event: which may happen at it, and what each comes to, is another's to say.
+-- What the process of a party does, event by event: which may happen at it, and what each comes to,
+-- is another's to say.
 use Rattle.std.specs.Prelude.{◌≡◌, ℕ, zero, suc, Bool, true, false, List, [], ◌∷◌, Result, Ok, Err}
 use Rattle.std.specs.Bool.{MatchBool}
 use Rattle.bg_world.specs.declared.events.Event.{Event}
@@ -7,8 +8,8 @@ use Rattle.bg_world.specs.declared.events.Outcome.{Outcome}
 use Rattle.bg_world.specs.declared.events.Outcome.TheVariants as outcomes
 use Rattle.bg_world.specs.declared.events.RestoreCause.TheVariants as causes
 
--- a party that was restarted is up, and nothing was written; where its slots can't be read now, it is down until a later
--- round restarts it; any other reason why it is down ends its process
+-- a party that was restarted is up, and nothing was written; where its slots can't be read now, it
+-- is down until a later round restarts it; any other reason why it is down ends its process
 abbrev pub restarted : Outcome → Result Bool Outcome
 restarted outcomes.Restarted = Ok false
 restarted (outcomes.RestoreFault causes.Device) = Ok false
@@ -20,7 +21,8 @@ module _ {M : Type 0} (Happens : M → Event → Outcome → M → Type 0) where
   Runs old [] new = new ≡ old
   Runs old (first ∷ rest) new = (mid : M) × Happens old first.0 first.1 mid × Runs mid rest new
 
-  -- an event happens again and again: so many times at most, and no more where its outcome is the last
+  -- an event happens again and again: so many times at most, and no more where its outcome is the
+  -- last
   unfoldable pub Repeats : (M → Event) → (Outcome → Bool) → ℕ → M → M → Type 0
   Repeats event is_last zero old new = new ≡ old
   Repeats event is_last (suc most) old new =
@@ -32,8 +34,8 @@ module _ {M : Type 0} (Happens : M → Event → Outcome → M → Type 0) where
   Restarts party old result new =
       (outcome : Outcome) × Happens old (events.Restart party) outcome new × (result ≡ restarted outcome)
 
-  -- after a save: it was written; or it lacks memory, and is tried again later; or the write failed, and the party is
-  -- restarted; or the process ends
+  -- after a save: it was written; or it lacks memory, and is tried again later; or the write
+  -- failed, and the party is restarted; or the process ends
   abbrev pub FollowsSave : ℕ → M → Outcome → Result Bool Outcome → M → Type 0
   FollowsSave party old (outcomes.Saved save) result new = (result ≡ Ok true) × (new ≡ old)
   FollowsSave party old outcomes.Memory result new = (result ≡ Ok false) × (new ≡ old)

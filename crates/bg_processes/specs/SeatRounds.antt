@@ -26,8 +26,8 @@ use Rattle.bg_processes.specs.declared.processes.seat.notes.SeatNotes.{SeatNotes
 
 -- ---- the process at a moment
 
--- its player, its node with its link and its keeper, and what it notes: how many entries are saved, and whether its last
--- claim is to be saved still
+-- its player, its node with its link and its keeper, and what it notes: how many entries are saved,
+-- and whether its last claim is to be saved still
 pub record SeatMoment : Type 0 where
   pub player : Player
   pub node : SeatNodeView
@@ -120,7 +120,8 @@ abbrev pub is_answered : ℕ → ℕ → Option (ℕ × Action) → Bool
 is_answered held saved None = false
 is_answered held saved (Some claim) = nat_le claim.0 held && nat_lt saved claim.0
 
--- A save is worth it: the last claim is to be saved still, or it was answered, or the match is over and not all saved.
+-- A save is worth it: the last claim is to be saved still, or it was answered, or the match is over
+-- and not all saved.
 abbrev pub WantsSave : SeatMoment → Bool → Type 0
 WantsSave at wanted =
     (over : Bool) × Tells over (IsOver (log_of at))
@@ -148,9 +149,9 @@ module _ (link_honest keeper_honest : Type 0) where
       ((outcome : Outcome) × SeatHappens link_honest keeper_honest old (events.Tick (party_of old.player)) outcome new)
       (new ≡ old)
 
-  -- A round, in which a tick is due or not: datagrams are taken, what is worth it is saved, and where a tick is due it
-  -- sends; where the seat is down, a restart is all that happens at it. It ends where the match is over and all of it
-  -- saved, and Err says why the process ends.
+  -- A round, in which a tick is due or not: datagrams are taken, what is worth it is saved, and
+  -- where a tick is due it sends; where the seat is down, a restart is all that happens at it. It
+  -- ends where the match is over and all of it saved, and Err says why the process ends.
   pub record PlaysSeatRound
       (old : SeatMoment) (tick : Bool) (result : Result Going Outcome) (new : SeatMoment) : Type 0 where
     pub taken : SeatMoment
@@ -165,7 +166,8 @@ module _ (link_honest keeper_honest : Type 0) where
 
   -- ---- a choice
 
-  -- the claim is saved, and then sent; where it is lost with a save that failed, that is what the choice came to
+  -- the claim is saved, and then sent; where it is lost with a save that failed, that is what the
+  -- choice came to
   abbrev pub SavesClaim : SeatMoment → Outcome → Result Outcome Outcome → SeatMoment → Type 0
   SavesClaim old chosen result new =
       (saved : Result Bool Outcome) × (kept : SeatMoment)

@@ -32,7 +32,8 @@ abbrev pub log_of : WatcherMoment → Log
 log_of at = (at.node).follower.log
 
 module _ (honest : Type 0) where
-  -- The event is a call of the node: it takes what comes first. It saves nothing, and begins anew with its process alone.
+  -- The event is a call of the node: it takes what comes first. It saves nothing, and begins anew
+  -- with its process alone.
   abbrev pub WatcherCalls : WatcherMoment → Event → Outcome → LinkView → WatcherView → Type 0
   WatcherCalls at (events.Take party pick word) outcome link node =
       (party ≡ at.party) × (pick ≡ 0) × (word ≡ 0)

@@ -5,8 +5,8 @@
 //! // What all processes of a match agree on is a line; this is one of a match to 3 points.
 //! let file = MatchFile::parse("match 7 length 3 rules 1 port 4000\n").expect(&rt, "a good text");
 //! assert!(rt; file.terms.length == 3);
-//! // The referee's process, over its own socket and a folder, with the keys of all parties and a secret that its dice
-//! // go by. Why a call of the socket or of the files failed is noted.
+//! // The referee's process, over its own socket and a folder, with the keys of all parties and a
+//! // secret that its dice go by. Why a call of the socket or of the files failed is noted.
 //! let failures = Failures::new();
 //! let keys = Keyring::of_referee(&MasterSecret::new(&[8; 32]), file.id);
 //! let link = PartySocket::bind(&rt, &rt, file.port, REFEREE, keys, &failures)?;
@@ -14,7 +14,8 @@
 //! let begun = RefereeProcess::begin(alloc, file.id, file.terms, [7; 32], link, keeper)?;
 //! let (mut referee, outcome) = begun;
 //! assert!(rt; outcome == Outcome::Restarted);
-//! // A round opens the game, and saves that. Between two of them a process waits (`Waiting`, `Ticking`).
+//! // A round opens the game, and saves that. Between two of them a process waits (`Waiting`,
+//! // `Ticking`).
 //! assert!(rt; referee.round(true, &mut NoObserver) == Ok(Going::On));
 //! assert!(rt; !read_saved(&rt, format!(in alloc; "{folder}/party-0.1")?.as_str())?.is_empty());
 //! assert!(rt; failures.drain().next().is_none());

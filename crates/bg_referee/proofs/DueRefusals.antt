@@ -1,4 +1,5 @@
--- A refusal, want of memory aside, comes only where neither an opening with the word's dice nor a pass follows.
+-- A refusal, want of memory aside, comes only where neither an opening with the word's dice nor a
+-- pass follows.
 use Rattle.std.proofs.Common.{◌≡◌, ◌≢◌, ℕ, Result, Ok, Err, [], ◌∷◌, length-append, sym, ◌∙◌, ap, subst, arith, refl}
 use Rattle.std.specs.Prelude.{IfErr}
 use Rattle.std.proofs.lemmas.Option.{same_Some}

@@ -14,8 +14,8 @@ use Rattle.bg_referee.proofs.Accepting.{accepts}
 use Rattle.bg_referee.proofs.Answering.{answers_sender}
 use Rattle.bg_referee.proofs.Hearing.{replies_keep, with_old, came, ruling_hears}
 
--- the promise follows from what is known of a ruling on a packet, after which the referee is `mid`, of what it taught,
--- and of the outcome
+-- the promise follows from what is known of a ruling on a packet, after which the referee is `mid`,
+-- of what it taught, and of the outcome
 pub taken : (old mid : RefereeView) (p : Packet) (word : ℕ) (r : Ruling) (result : TakeOutcome)
     → (log : Log) (saved next_save : ℕ) (sessions heard : SessionsView)
     → RulesOn old word p r mid → IsShowable old.saved r → IsUnchanged old r mid → IsReferee old

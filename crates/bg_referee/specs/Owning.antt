@@ -1,4 +1,5 @@
--- Which entry the referee tries where he acts: words of a private contract, of which no public clause speaks.
+-- Which entry the referee tries where he acts: words of a private contract, of which no public
+-- clause speaks.
 use Rattle.std.specs.Prelude.{◌≡◌, ◌≢◌, ◌⊎◌, ℕ, Some}
 use Rattle.bg_match.specs.declared.entries.Entry.{Entry}
 use Rattle.bg_match.specs.declared.entries.Entry.TheVariants.{Opening, Passed}

@@ -8,7 +8,8 @@ use Rattle.bg_wire.specs.declared.saves.Saved.{Saved}
 use Rattle.bg_wire.specs.Entries.Codes.{least_save, greatest_save, most_in_packet}
 use Rattle.bg_referee.specs.Sessions.{SessionsView, IsSessions, no_sessions}
 
--- the record, how many of its entries are saved, the number of the next save, and what the parties are known to have
+-- the record, how many of its entries are saved, the number of the next save, and what the parties
+-- are known to have
 pub record RefereeView : Type 0 where
   pub log : Log
   pub saved : ℕ
@@ -28,7 +29,8 @@ abbrev pub fresh_referee : ℕ → Terms → RefereeView
 fresh_referee id terms =
     record { log = empty_log id terms; saved = 0; next_save = least_save; sessions = no_sessions }
 
--- the referee that goes on from what was saved: all of its entries are saved, and nothing is known of any party
+-- the referee that goes on from what was saved: all of its entries are saved, and nothing is known
+-- of any party
 abbrev pub resumed_referee : Saved → RefereeView
 resumed_referee s =
     record { log = s.log; saved = length (s.log).entries; next_save = s.save + 1; sessions = no_sessions }
@@ -50,7 +52,8 @@ pub record IsShown (r : RefereeView) (start : ℕ) (list : List Entry) : Type 0 
   pub run : IsRun (saved_entries r) start list
   pub many : length list ≡ min most_in_packet (r.saved + 1 - start)
 
--- the record has grown by the entry, which took one of its spare room where there was any; all else is as before
+-- the record has grown by the entry, which took one of its spare room where there was any; all else
+-- is as before
 pub record Appends (old : RefereeView) (e : Entry) (new : RefereeView) : Type 0 where
   pub spare : 0 < old.log.spare → new.log.spare + 1 ≡ old.log.spare
   pub grown : new ≡ record old { log = record (old.log) { entries = old.log.entries ++ e ∷ []; spare = new.log.spare } }

@@ -1,5 +1,5 @@
--- What a packet comes to before the entries of an answer are read: words of private contracts, of which no public
--- clause speaks.
+-- What a packet comes to before the entries of an answer are read: words of private contracts, of
+-- which no public clause speaks.
 use Rattle.std.specs.Prelude.{◌≡◌, ℕ, ◌+◌, ◌-◌, ◌≤◌, Bool, List, min, Option}
 use Rattle.bg_turns.specs.declared.throws.Dice.{Dice}
 use Rattle.bg_match.specs.Terms.{rules_of}

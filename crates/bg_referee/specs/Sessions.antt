@@ -21,8 +21,9 @@ most_pushes = 2
 
 -- ---- sessions
 
--- the number of the last entry that each party is known to have, or nothing, in the order of the parties' numbers from
--- 0 (the referee's own place has nothing); and the party with which the next round begins
+-- the number of the last entry that each party is known to have, or nothing, in the order of the
+-- parties' numbers from 0 (the referee's own place has nothing); and the party with which the next
+-- round begins
 pub record SessionsView : Type 0 where
   pub told : List (Option ℕ)
   pub cursor : ℕ
@@ -71,17 +72,20 @@ abbrev pub parties_from : ℕ → ℕ → List ℕ
 parties_from first zero = []
 parties_from first (suc n) = first ∷ parties_from (first + 1) n
 
--- the party beside the number of its last entry, before these, where it is known to have less than is saved
+-- the party beside the number of its last entry, before these, where it is known to have less than
+-- is saved
 abbrev pub before_if_behind : ℕ → ℕ → Option ℕ → List (ℕ × ℕ) → List (ℕ × ℕ)
 before_if_behind saved party None rest = rest
 before_if_behind saved party (Some n) rest = if nat_lt n saved then (party, n) ∷ rest else rest
 
--- those of the parties that are known to have less than is saved, each beside the number of its last entry
+-- those of the parties that are known to have less than is saved, each beside the number of its
+-- last entry
 abbrev pub behind : SessionsView → ℕ → List ℕ → List (ℕ × ℕ)
 behind s saved [] = []
 behind s saved (party ∷ rest) = before_if_behind saved party (told_to s party) (behind s saved rest)
 
--- those of all parties, once round from the cursor on: up to the last party, and then from the first
+-- those of all parties, once round from the cursor on: up to the last party, and then from the
+-- first
 abbrev pub all_behind : SessionsView → ℕ → List (ℕ × ℕ)
 all_behind s saved =
     behind s saved (parties_from s.cursor (last_party + 1 - s.cursor))
@@ -95,8 +99,8 @@ pushed s saved = take most_pushes (all_behind s saved)
 abbrev pub party_after : ℕ → ℕ
 party_after party = if party == last_party then first_party else party + 1
 
--- afterwards each of these is known to have the last entry that it was sent, eight at most behind its last one; and the
--- next round begins with the party after the last of them
+-- afterwards each of these is known to have the last entry that it was sent, eight at most behind
+-- its last one; and the next round begins with the party after the last of them
 abbrev pub after_pushes : SessionsView → ℕ → List (ℕ × ℕ) → SessionsView
 after_pushes s saved [] = s
 after_pushes s saved (one ∷ rest) =

@@ -10,7 +10,8 @@ use Rattle.bg_referee.specs.Referee.{RefereeView, IsShown}
 use Rattle.bg_referee.specs.Sessions.{pushed, after_pushes}
 use Rattle.bg_referee.specs.Takes.{TellsSaved}
 
--- beside a party and the number of its last entry: the packet goes to the party, and shows the saved entries behind it
+-- beside a party and the number of its last entry: the packet goes to the party, and shows the
+-- saved entries behind it
 abbrev pub IsPush : RefereeView → ℕ × ℕ → ℕ × Packet → Type 0
 IsPush r one push =
     (push.0 ≡ one.0)
@@ -21,8 +22,9 @@ IsPush r one push =
 abbrev pub ArePushes : RefereeView → List (ℕ × ℕ) → List (ℕ × Packet) → Type 0
 ArePushes r some pushes = AllZip (IsPush r) some pushes
 
--- what a tick sends, each packet beside the party that it goes to: one for each of the first two parties that are known
--- to have less than is saved; and the referee afterwards, who knows that they have what it told them
+-- what a tick sends, each packet beside the party that it goes to: one for each of the first two
+-- parties that are known to have less than is saved; and the referee afterwards, who knows that
+-- they have what it told them
 pub record RefereeTicks (old : RefereeView) (sent : List (ℕ × Packet)) (new : RefereeView) : Type 0 where
   pub pushes : ArePushes old (pushed old.sessions old.saved) sent
   -- each tells saved entries, and has a text

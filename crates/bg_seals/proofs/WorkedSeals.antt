@@ -1,4 +1,5 @@
--- A worked datagram: a key that is derived, and a packet that is sealed under it, by values of another program.
+-- A worked datagram: a key that is derived, and a packet that is sealed under it, by values of
+-- another program.
 use Rattle.std.proofs.Common.{◌≡◌, ℕ, List, [], ◌∷◌, ◌++◌, refl, arith}
 use Rattle.sha2.specs.Sha256.{sha256, digest_bytes, hash_after, compress, rounds, schedule, first_words}
 use Rattle.bg_seals.specs.Hmac.{hmac_sha256, key_xor_ipad, key_xor_opad}

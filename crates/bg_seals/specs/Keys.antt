@@ -11,7 +11,8 @@ key_bytes = 32
 abbrev pub key_label : List ℕ
 key_label = codes "bg_relay key 1"
 
--- the text that a party's key is derived by: the label, the number of the match in 8 bytes, and the party
+-- the text that a party's key is derived by: the label, the number of the match in 8 bytes, and the
+-- party
 abbrev pub key_text : ℕ → ℕ → List ℕ
 key_text id party = key_label ++ to_be_bytes w64 id ++ party ∷ []
 

@@ -16,7 +16,8 @@ pub record ReadsInput {S : Type 0} (most : ℕ) (source : SourceGhosts S) (befor
   pub ended : length input ≤ most → source.ends after ≡ source.ends before + 1
   pub known : IfSome (source.remaining before) (IsReadOf most input)
 
--- the text was written to the sink, behind what was written before, and flushed once, so that all of it is taken
+-- the text was written to the sink, behind what was written before, and flushed once, so that all
+-- of it is taken
 pub record WritesText {T : Type 0} (sink : SinkGhosts T) (before after : T) (text : List ℕ) : Type 0 where
   pub written : sink.written after ≡ sink.written before ++ text
   pub taken : sink.taken after ≡ sink.written before ++ text

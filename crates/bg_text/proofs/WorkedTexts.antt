@@ -77,7 +77,8 @@ offer_line = refl
 roll_text : action_text action.Roll ≡ codes "roll"
 roll_text = refl
 
--- the lines of an input: a line feed at the end opens no further line, and two in a row have an empty line between them
+-- the lines of an input: a line feed at the end opens no further line, and two in a row have an
+-- empty line between them
 lines_split : lines_of (codes "ab\n\nc\n") ≡ codes "ab" ∷ [] ∷ codes "c" ∷ []
 lines_split = refl
 

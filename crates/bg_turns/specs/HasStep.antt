@@ -1,4 +1,5 @@
--- Whether a player has a step at all, as a truth value: what is printed, and who acts, may depend on it.
+-- Whether a player has a step at all, as a truth value: what is printed, and who acts, may depend
+-- on it.
 use Rattle.std.specs.Prelude.{◌≡◌, ◌↔◌, ◌==◌, ◌&&◌, ◌||◌, ℕ, zero, suc, ◌-◌, Bool, false, nat_lt, nat_le}
 use Rattle.bg_board.specs.FromTo.{FromTo}
 use Rattle.bg_board.specs.Position.{Position, count, count_above, opponent}

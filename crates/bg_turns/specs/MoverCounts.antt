@@ -21,8 +21,8 @@ pub record IsHighest (own : List ℕ) (point : ℕ) : Type 0 where
 abbrev pub step_of : ℕ → ℕ → FromTo
 step_of from die = record { from = from; to = from - die }
 
--- the same by numbers: how many stand here and on the bar, how many of the other where it lands, how many stand
--- outside the home board and above
+-- the same by numbers: how many stand here and on the bar, how many of the other where it lands,
+-- how many stand outside the home board and above
 abbrev pub can_by : ℕ → ℕ → ℕ → ℕ → ℕ → ℕ → ℕ → Bool
 can_by here bar other outside above from die =
     nat_lt 0 here && ((bar == 0 || from == 25)

@@ -1,5 +1,6 @@
--- A reader reads just its texts, more bytes change nothing but a fault Short, a fault Short comes after the front of a
--- text, and a fault Field names where bytes stop being one. Readers in a row do so too.
+-- A reader reads just its texts, more bytes change nothing but a fault Short, a fault Short comes
+-- after the front of a text, and a fault Field names where bytes stop being one. Readers in a row
+-- do so too.
 use Rattle.std.proofs.Common.{◌≡◌, ◌≢◌, ℕ, zero, suc, ◌+◌, ◌<◌, ◌⊎◌, inl, inr, Bool, true, false, cond, List, [], ◌∷◌, ◌++◌, length, get_or, Result, Ok, Err, refl, sym, ap, subst, ◌∙◌, append_assoc, arith}
 use Rattle.std.specs.Prelude.{◌==◌, IfErr}
 use Rattle.std.proofs.lemmas.Bool.{eqb-true}
@@ -45,7 +46,8 @@ OneByte before w = w ≡ 1
 abbrev pub Single : ℕ → List ℕ → ℕ → Type 0
 Single size before w = (before ≡ []) × (w ≡ size)
 
--- the field of this offset is wrong: what stands before it begins a text, and what stands behind it does not matter
+-- the field of this offset is wrong: what stands before it begins a text, and what stands behind it
+-- does not matter
 pub record FailsAt {A : Type 0} (F : List ℕ → ℕ → Type 0) (read : Cursor → Read A) (Text : A → List ℕ → Type 0) (c : Cursor) (n : ℕ) : Type 0 where
   pub before : List ℕ
   pub wrong : List ℕ

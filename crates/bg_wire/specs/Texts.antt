@@ -19,8 +19,8 @@ IsFront {A} IsTextOf bytes = (x : A) × (rest : List ℕ) × IsTextOf x (bytes +
 abbrev pub GoesOn : {A : Type 0} → (A → List ℕ → Type 0) → List ℕ → Type 0
 GoesOn {A} IsTextOf bytes = (x : A) × (rest : List ℕ) × IsTextOf x (bytes ++ rest) × (rest ≢ [])
 
--- the bytes end within a field, or before one: what stands before that field begins a text, and too few bytes follow.
--- How wide the field is, the bytes before it say
+-- the bytes end within a field, or before one: what stands before that field begins a text, and too
+-- few bytes follow. How wide the field is, the bytes before it say
 pub record IsCut {A : Type 0} (IsTextOf : A → List ℕ → Type 0) (width : List ℕ → ℕ) (bytes : List ℕ) : Type 0 where
   pub before : List ℕ
   pub part : List ℕ
@@ -28,7 +28,8 @@ pub record IsCut {A : Type 0} (IsTextOf : A → List ℕ → Type 0) (width : Li
   pub missing : length part < width before
   pub goes_on : GoesOn IsTextOf before
 
--- the field at this offset is wrong: what stands before it begins a text, and with the whole field it begins none
+-- the field at this offset is wrong: what stands before it begins a text, and with the whole field
+-- it begins none
 pub record IsWrongAt
     {A : Type 0} (IsTextOf : A → List ℕ → Type 0) (width : List ℕ → ℕ) (bytes : List ℕ) (at : ℕ) : Type 0 where
   pub before : List ℕ

@@ -1,4 +1,5 @@
-//! The parties of a match, each by itself: its core, while it is up, and the save that is under way.
+//! The parties of a match, each by itself: its core, while it is up, and the save that is under
+//! way.
 //!
 //! A process that runs one party makes the calls of its node, and a [`World`](crate::World) is made
 //! of the same nodes (docs/PROTOCOL.md, "Parties in processes of their own"). Each call is handed

@@ -121,8 +121,8 @@ impl<L: Link, K: Keeper> World<L, K> {
         &self.link
     }
 
-    /// Returns the keepers, for a host that writes the saves that it has begun. All else of the world
-    /// stays.
+    /// Returns the keepers, for a host that writes the saves that it has begun. All else of the
+    /// world stays.
     pub fn keepers_mut(&mut self) -> &mut Keepers<K>
         ensures* lends { sem 𝓛 (LendsKeepers L.row K.row self.entry result) }
         ensures value { result.now ≡ self.old.keepers }

@@ -95,7 +95,8 @@ AreLinesOf-same s (e ∷ entries) (f ∷ others) (line ∷ lines) t u h k =
     let next = Follows-same s e h.1 k.1 h.2 follows in
     AreLinesOf-same h.1 entries others lines t u h.3 (subst (λ (x : State). AreLinesOf x others lines u) (sym next) k.3)
 
--- the lines of a longer list begin with those of a shorter one, and the next line is that of an entry that follows
+-- the lines of a longer list begin with those of a shorter one, and the next line is that of an
+-- entry that follows
 pub AreLinesOf-next : (s : State) (entries : List Entry) (front : List (List ℕ)) (line : List ℕ) (lines : List (List ℕ)) (t : State)
     → AreLinesOf s entries (front ++ line ∷ lines) t → (first : List Entry) × (m : State) × AreLinesOf s first front m × ((e : Entry) × IsLineAt m line e)
 AreLinesOf-next s [] [] line lines t h = absurd h

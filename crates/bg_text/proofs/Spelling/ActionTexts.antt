@@ -56,7 +56,8 @@ words_of_action (action.Resign Backgammon) h = refl
 words_of_action action.Accept h = refl
 words_of_action action.Reject h = refl
 
--- the sum of the first word's letters, the first of them three times, which tells the kinds of lines apart
+-- the sum of the first word's letters, the first of them three times, which tells the kinds of
+-- lines apart
 abbrev pub first_sum : List (List ℕ) → ℕ
 first_sum [] = 0
 first_sum ([] ∷ words) = 0

@@ -46,7 +46,8 @@ header_line s = game_part s ++ score_part s ++ cube_part s.cube ++ crawford_mark
 abbrev pub in_four : List ℕ → List ℕ
 in_four text = replicate (4 - length text) 32 ++ text
 
--- what stands on a point, in X's numbering: the player's letter and how many checkers he has there, or a dot
+-- what stands on a point, in X's numbering: the player's letter and how many checkers he has there,
+-- or a dot
 abbrev pub cell : Position → ℕ → List ℕ
 cell b point =
     if nat_lt 0 (count b X point) then codes "X" ++ decimal (count b X point)

@@ -12,7 +12,8 @@ use Rattle.bg_text.specs.Boards.TermsText.{terms_text}
 abbrev pub length_line : Terms → List ℕ
 length_line terms = terms_text terms
 
--- each line is that of its entry, by the seat that acts or the referee, and the entries lead from s to t
+-- each line is that of its entry, by the seat that acts or the referee, and the entries lead from s
+-- to t
 abbrev pub AreLinesOf : State → List Entry → List (List ℕ) → State → Type 0
 AreLinesOf s [] [] t = t ≡ s
 AreLinesOf s (e ∷ entries) (line ∷ lines) t =

@@ -80,7 +80,8 @@ abbrev pub MovesDownward : Action → Type 0
 MovesDownward (action.Move steps) = AllByRecursion IsDownward steps
 MovesDownward _ = Unit {0}
 
--- the fault names the first of three tests that the line fails: its shape, its numbers, the count of its steps
+-- the fault names the first of three tests that the line fails: its shape, its numbers, the count
+-- of its steps
 abbrev pub IsEntryTextFault : TextFault → List ℕ → Type 0
 IsEntryTextFault NotALine line = IsEntryShape (words_of line) → ⊥
 IsEntryTextFault BadNumber line =

@@ -10,7 +10,8 @@ use Rattle.bg_text.specs.Entries.EntryShape.{IsNumeral, IsPairShape}
 use Rattle.bg_text.specs.declared.faults.TextFault.{TextFault}
 use Rattle.bg_text.specs.declared.faults.TextFault.TheVariants.{NotALine, BadNumber, TooManySteps}
 
--- what a word says, by the shape of such words and the text of each value: the value, or why there is none
+-- what a word says, by the shape of such words and the text of each value: the value, or why there
+-- is none
 module _ {A : Type 0} (HasShape : List ℕ → Type 0) (IsRight : A → Type 0) (text : A → List ℕ) where
   abbrev pub Says : List ℕ → Result A TextFault → Type 0
   Says word (Ok value) = IsRight value × (word ≡ text value)
@@ -18,7 +19,8 @@ module _ {A : Type 0} (HasShape : List ℕ → Type 0) (IsRight : A → Type 0) 
   Says word (Err BadNumber) = HasShape word × ((value : A) → IsRight value → word ≡ text value → ⊥)
   Says word (Err TooManySteps) = ⊥
 
--- what two words say together: both values, or the graver of the faults. Another shape is graver than a wrong number
+-- what two words say together: both values, or the graver of the faults. Another shape is graver
+-- than a wrong number
 abbrev pub both_of : Result ℕ TextFault → Result ℕ TextFault → Result (ℕ × ℕ) TextFault
 both_of (Err NotALine) second = Err NotALine
 both_of first (Err NotALine) = Err NotALine

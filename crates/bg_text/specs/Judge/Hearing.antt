@@ -39,8 +39,8 @@ Stops why c line =
     IsLineFault why c.entries c.standing line
     × ((e : Entry) → c.entries < most_entries → IsLineAt c.standing line e → ⊥)
 
--- what is kept of lines: nothing of none, and of others where they lead; of lines of which the last is refused, where
--- those before it lead, and why it is
+-- what is kept of lines: nothing of none, and of others where they lead; of lines of which the last
+-- is refused, where those before it lead, and why it is
 abbrev pub Keeps : Option Course → Option LineFault → List (List ℕ) → Type 0
 Keeps None None lines = lines ≡ []
 Keeps (Some c) None lines = IsHeardAs lines c
@@ -52,8 +52,8 @@ Keeps (Some c) (Some why) lines =
 abbrev pub IsUnended : List ℕ → Type 0
 IsUnended bytes = (i : ℕ) → i < length bytes → get_or bytes i 0 ≢ 10
 
--- whatever follows the bytes, the lines are those that were heard and those of the bytes behind them; once one is
--- refused, the others don't count
+-- whatever follows the bytes, the lines are those that were heard and those of the bytes behind
+-- them; once one is refused, the others don't count
 abbrev pub Begins : Option LineFault → List ℕ → List ℕ → List (List ℕ) → Type 0
 Begins None bytes unended lines =
     IsUnended unended × ((more : List ℕ) → lines_of (bytes ++ more) ≡ lines ++ lines_of (unended ++ more))

@@ -46,8 +46,8 @@ IsDigitsFault fault.LengthOutOfRange digits =
     AreLengthDigits digits × ((n : ℕ) → shortest_match ≤ n → n ≤ longest_match → digits ≡ decimal n → ⊥)
 IsDigitsFault _ digits = ⊥
 
--- what is wrong with line 1, or that there is none: the word length, a space, one to three digits and the mark of the
--- rules are its shape
+-- what is wrong with line 1, or that there is none: the word length, a space, one to three digits
+-- and the mark of the rules are its shape
 abbrev pub IsLengthFault : LineFault → List (List ℕ) → Type 0
 IsLengthFault fault.NotALengthLine [] = Unit {0}
 IsLengthFault fault.NotALengthLine (line ∷ lines) =
@@ -67,8 +67,8 @@ abbrev pub IsRefusal : EntryFault → ℕ → State → Entry → Type 0
 IsRefusal RecordFull n s e = most_entries ≤ n
 IsRefusal why n s e = (n < most_entries) × IsEntryFault why s e
 
--- why a line can't follow n entries that lead to s, by the first of three tests that fails: its text, its seat, its
--- entry
+-- why a line can't follow n entries that lead to s, by the first of three tests that fails: its
+-- text, its seat, its entry
 abbrev pub IsLineFault : LineFault → ℕ → State → List ℕ → Type 0
 IsLineFault (fault.Text why) n s line = IsEntryTextFault why line
 IsLineFault fault.WrongPlayer n s line =
@@ -111,7 +111,8 @@ IsVerdict (Refused number) line lines n t =
     × ((why : LineFault) × IsLineFault why n t (slice_index_or lines n []) × (line ≡ refused_line number why))
 IsVerdict TooLong line lines n t = ⊥
 
--- the text and the verdict on a transcript: the board after its longest legal part, and the verdict line
+-- the text and the verdict on a transcript: the board after its longest legal part, and the verdict
+-- line
 pub record IsJudged (terms : Terms) (lines : List (List ℕ)) (text : List ℕ) (verdict : Verdict) : Type 0 where
   pub count : ℕ
   pub state : State
@@ -145,7 +146,8 @@ IsJudgement input text verdict =
     ((most_bytes < length input) × IsTooLong text verdict)
     ⊎ ((length input ≤ most_bytes) × IsAnswerTo (lines_of input) text verdict)
 
--- what the judge says of a transcript is this alone: the board where its entries lead, and that they are fine, so many
+-- what the judge says of a transcript is this alone: the board where its entries lead, and that
+-- they are fine, so many
 abbrev pub TranscriptsAreFine : Type 0
 TranscriptsAreFine =
     (terms : Terms) (entries : List Entry) (t : State) (input text : List ℕ) (verdict : Verdict)

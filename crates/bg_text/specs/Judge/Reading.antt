@@ -63,7 +63,8 @@ abbrev pub IsStop : Option LineFault → List (List ℕ) → ℕ → State → T
 IsStop None lines n t = n ≡ length lines
 IsStop (Some why) lines n t = (n < length lines) × IsLineFault why n t (slice_index_or lines n [])
 
--- the record of the longest legal part of the lines after line 1, and why the line behind that is refused, if one is
+-- the record of the longest legal part of the lines after line 1, and why the line behind that is
+-- refused, if one is
 pub record AreRead (id : ℕ) (terms : Terms) (lines : List (List ℕ)) (r : Log) (why : Option LineFault) : Type 0 where
   pub state : State
   pub same_id : r.id ≡ id

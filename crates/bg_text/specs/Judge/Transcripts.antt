@@ -16,7 +16,8 @@ use Rattle.bg_text.specs.declared.faults.TranscriptFault.{TranscriptFault}
 use Rattle.bg_text.specs.declared.faults.TranscriptFault.TheVariants as transcript
 use Rattle.bg_text.specs.declared.judging.verdicts.Verdict.TheVariants.{Refused}
 
--- the record of the longest legal part of an input, and why the line behind that is refused, if one is
+-- the record of the longest legal part of an input, and why the line behind that is refused, if one
+-- is
 pub record IsReadOf (id : ℕ) (input : List ℕ) (r : Log) (why : Option LineFault) : Type 0 where
   pub short : length input ≤ most_bytes
   pub terms : Terms
@@ -47,8 +48,8 @@ pub record ReadsTranscript (id : ℕ) (input : List ℕ) (r : Log) : Type 0 wher
   pub entries : AreLinesOf (start_of r.terms) r.entries lines state
   pub same_id : r.id ≡ id
 
--- the line behind the longest legal part of these is refused, and why; its number counts from line 1, which stands
--- before them
+-- the line behind the longest legal part of these is refused, and why; its number counts from line
+-- 1, which stands before them
 pub record IsRefusedBehind (terms : Terms) (lines : List (List ℕ)) (number : ℕ) (why : LineFault) : Type 0 where
   pub count : ℕ
   pub state : State
@@ -57,8 +58,8 @@ pub record IsRefusedBehind (terms : Terms) (lines : List (List ℕ)) (number : �
   pub fault : IsLineFault why count state (slice_index_or lines count [])
   pub number_is : number ≡ count + 2
 
--- the first of the lines that is refused, from 1, and why, as the judge has it: line 1, or the one behind the longest
--- legal part of the others
+-- the first of the lines that is refused, from 1, and why, as the judge has it: line 1, or the one
+-- behind the longest legal part of the others
 abbrev pub IsFirstRefused : List (List ℕ) → ℕ → LineFault → Type 0
 IsFirstRefused lines number why =
     (IsLengthFault why lines × (number ≡ 1))
@@ -78,7 +79,8 @@ transcript_fault_words (transcript.Refused number why) = refused_line number why
 transcript_fault_words transcript.TooLong = codes "refused: input too long"
 transcript_fault_words transcript.Memory = codes "out of memory"
 
--- what the judge writes before its verdict line: where the lines lead, or nothing where line 1 is refused
+-- what the judge writes before its verdict line: where the lines lead, or nothing where line 1 is
+-- refused
 abbrev pub IsBoardBefore : List ℕ → Type 0
 IsBoardBefore board = (board ≡ []) ⊎ ((s : State) × (board ≡ board_text s))
 

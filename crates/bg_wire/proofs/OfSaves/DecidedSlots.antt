@@ -1,5 +1,5 @@
--- Bytes are a saved text or they are none: which of the two, can be computed. So of two slots the one with the greater
--- number is enough.
+-- Bytes are a saved text or they are none: which of the two, can be computed. So of two slots the
+-- one with the greater number is enough.
 use Rattle.std.proofs.Common.{◌≡◌, ℕ, ◌<◌, ◌≤◌, true, false, List, Result, Ok, Err, Option, Some, None, refl, sym, ◌∙◌, ap, arith, inl, inr}
 use Rattle.std.specs.Prelude.{◌⊎◌, nat_lt}
 use Rattle.std.proofs.lemmas.Bool.Decides.{nat_tests}

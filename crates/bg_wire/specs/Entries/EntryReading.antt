@@ -1,4 +1,5 @@
--- Reading entries and actions, as the code does it: words of private contracts, of which no public clause speaks.
+-- Reading entries and actions, as the code does it: words of private contracts, of which no public
+-- clause speaks.
 use Rattle.std.specs.Prelude.{◌==◌, ℕ, ◌-◌, List, Ok, if◌then◌else◌}
 use Rattle.bg_board.specs.FromTo.{FromTo}
 use Rattle.bg_board.specs.Die.{die_of}

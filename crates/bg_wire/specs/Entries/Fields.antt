@@ -20,8 +20,8 @@ abbrev pub bytes_each : ℕ → Fields
 bytes_each zero = Done
 bytes_each (suc n) = Field 1 (λ byte. bytes_each n)
 
--- the width of the field that begins behind these bytes; 0 where they end within a field. Behind the last field each
--- byte is a field
+-- the width of the field that begins behind these bytes; 0 where they end within a field. Behind
+-- the last field each byte is a field
 unfoldable pub width_of : Fields → List ℕ → ℕ
 width_of Done before = 1
 width_of (Field width next) before =

@@ -1,5 +1,5 @@
--- Reading fields from left to right, up to the first fault, as the code does it: words of private contracts, of
--- which no public clause speaks.
+-- Reading fields from left to right, up to the first fault, as the code does it: words of private
+-- contracts, of which no public clause speaks.
 use Rattle.std.specs.Prelude.{◌≡◌, ℕ, zero, suc, ◌+◌, ◌==◌, Bool, false, List, [], ◌∷◌, length, take, drop, Result, Ok, Err, nat_lt, ◌||◌, if◌then◌else◌}
 use Rattle.std.specs.Int.{w16, w32, w64, from_be_bytes}
 use Rattle.bg_wire.specs.declared.entries.reader.ReadFault.{ReadFault}

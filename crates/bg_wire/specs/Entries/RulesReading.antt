@@ -1,4 +1,5 @@
--- Reading the rules of a match, as the code does it: words of private contracts, of which no public clause speaks.
+-- Reading the rules of a match, as the code does it: words of private contracts, of which no public
+-- clause speaks.
 use Rattle.std.specs.Prelude.{◌==◌, ℕ, if◌then◌else◌}
 use Rattle.bg_match.specs.declared.limits.Rules.{Rules}
 use Rattle.bg_match.specs.declared.limits.Rules.TheVariants.{One, Two}

@@ -1,4 +1,5 @@
--- Reading packets, as the code does it: words of private contracts, of which no public clause speaks.
+-- Reading packets, as the code does it: words of private contracts, of which no public clause
+-- speaks.
 use Rattle.std.specs.Prelude.{◌==◌, ℕ, ◌+◌, ◌-◌, List, Result, Ok, nat_lt, if◌then◌else◌}
 use Rattle.bg_match.specs.declared.entries.Entry.{Entry}
 use Rattle.bg_match.specs.declared.limits.Rules.{Rules}

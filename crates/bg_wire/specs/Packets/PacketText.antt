@@ -63,7 +63,8 @@ pub record IsText (p : Packet) (bytes : List ℕ) : Type 0 where
   pub in_range : IsPacket p
   pub spelled : bytes ≡ packet_text p
 
--- the fields behind the header, by the kind. Behind them each byte is a field, of an action or of the list of entries
+-- the fields behind the header, by the kind. Behind them each byte is a field, of an action or of
+-- the list of entries
 abbrev pub body_fields : ℕ → Fields
 body_fields kind =
     if kind == want_kind then Field 1 (λ sender. Field 4 (λ held. Done))

@@ -6,18 +6,21 @@ use Rattle.bg_wire.specs.declared.saves.Saved.{Saved}
 use Rattle.bg_wire.specs.declared.faults.RestoreRefusal.{RestoreRefusal}
 use Rattle.bg_wire.specs.declared.faults.RestoreRefusal.TheVariants.{Damaged, WrongMatch, Memory}
 
--- what the bytes of one slot load as: the match that they are the saved text of, or nothing, where they are none
+-- what the bytes of one slot load as: the match that they are the saved text of, or nothing, where
+-- they are none
 abbrev pub LoadsAs : List ℕ → Option SavedParts → Type 0
 LoadsAs bytes (Some p) = IsSavedText p bytes
 LoadsAs bytes None = (p : SavedParts) → IsSavedText p bytes → ⊥
 
--- of two saved matches the one whose save has the greater number, and the first where they are equal
+-- of two saved matches the one whose save has the greater number, and the first where they are
+-- equal
 abbrev pub newer : Option SavedParts → Option SavedParts → Option SavedParts
 newer None second = second
 newer (Some first) None = Some first
 newer (Some first) (Some second) = if nat_lt first.save second.save then Some second else Some first
 
--- what the bytes of the two slots restore: of what loads the newer one, and nothing where neither loads
+-- what the bytes of the two slots restore: of what loads the newer one, and nothing where neither
+-- loads
 pub record SlotsRestore (slot0 slot1 : List ℕ) (restored : Option SavedParts) : Type 0 where
   pub first : Option SavedParts
   pub second : Option SavedParts

@@ -1,4 +1,5 @@
--- The two layouts of saved texts: one layout with a parameter. The first is only read; saves are written in the second.
+-- The two layouts of saved texts: one layout with a parameter. The first is only read; saves are
+-- written in the second.
 use Rattle.std.specs.Prelude.{◌==◌, ℕ, List, [], ◌∷◌, ◌++◌, length, Option, Some, None, if◌then◌else◌}
 use Rattle.std.specs.Int.{Width, w16, w32, w64, byte_len, to_be_bytes, from_be_bytes}
 use Rattle.bg_match.specs.Limits.{most_entries}

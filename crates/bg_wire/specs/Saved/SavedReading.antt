@@ -1,4 +1,5 @@
--- Reading saved texts, as the code does it: words of private contracts, of which no public clause speaks.
+-- Reading saved texts, as the code does it: words of private contracts, of which no public clause
+-- speaks.
 use Rattle.std.specs.Prelude.{◌≡◌, ◌≢◌, [], ◌==◌, ℕ, List, length, Option, Some, None, Result, Ok, Err, IsOk, if◌then◌else◌}
 use Rattle.bg_match.specs.declared.actions.Action.{Action}
 use Rattle.bg_match.specs.declared.entries.Entry.{Entry}
@@ -146,8 +147,8 @@ abbrev pub append_fault : ℕ → EntryFault → LoadFault
 append_fault n entry_fault.Memory = fault.Memory
 append_fault n _ = fault.Illegal n
 
--- what is answered where entries are appended to a record that has none: the fault of the layout, where it has one,
--- else the first entry that does not follow, want of memory aside
+-- what is answered where entries are appended to a record that has none: the fault of the layout,
+-- where it has one, else the first entry that does not follow, want of memory aside
 abbrev pub Replays : {A : Type 0} → Result A LoadFault → Log → Log → Result (List Entry) LoadFault → Type 0
 Replays result old new (Err why) = result ≡ Err why
 Replays (Ok _) old new (Ok entries) =

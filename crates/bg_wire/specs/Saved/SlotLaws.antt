@@ -72,8 +72,8 @@ abbrev pub save_in : Option SavedParts → ℕ
 save_in None = 0
 save_in (Some p) = p.save
 
--- the slots restore this, and its text stands in the slot of its save: so the next save goes over the older of two
--- texts
+-- the slots restore this, and its text stands in the slot of its save: so the next save goes over
+-- the older of two texts
 pub record AreWritten (slots : Slots) (restored : Option SavedParts) : Type 0 where
   pub restore : SlotsRestore slots.zero slots.one restored
   pub in_its_slot : (p : SavedParts) → restored ≡ Some p → IsSavedText p (bytes_in slots (slot_of p.save))
@@ -89,7 +89,8 @@ abbrev pub WrittenIsRestored : Type 0
 WrittenIsRestored = (slots : Slots) (old : Option SavedParts) (p : SavedParts) (text : List ℕ)
     → IsSaveAfter slots old p text → AreWritten (with_slot slots (slot_of p.save) text) (Some p)
 
--- where that text was written in part, the slots restore what they did, whatever was in its slot before
+-- where that text was written in part, the slots restore what they did, whatever was in its slot
+-- before
 abbrev pub TornIsNotRestored : Type 0
 TornIsNotRestored = (slots : Slots) (old : Option SavedParts) (p : SavedParts) (front rest : List ℕ)
     → IsSaveAfter slots old p (front ++ rest) → rest ≢ [] → AreWritten (with_slot slots (slot_of p.save) front) old
@@ -103,8 +104,8 @@ GivesBack restored (Err Damaged) = ⊥
 GivesBack restored (Err WrongMatch) = ⊥
 GivesBack restored (Err Memory) = Unit {0}
 
--- the party of a match may have these slots: what they restore is of that match, and slot 0 is empty where that is
--- nothing
+-- the party of a match may have these slots: what they restore is of that match, and slot 0 is
+-- empty where that is nothing
 abbrev pub AreOfMatch : ℕ → ℕ → Terms → Slots → Option SavedParts → Type 0
 AreOfMatch party id terms slots None = slots.zero ≡ []
 AreOfMatch party id terms slots (Some p) = IsSavedBy party id terms p

@@ -1,4 +1,5 @@
--- The words of a line, which are its bytes without the digits, and the number that its digits write.
+-- The words of a line, which are its bytes without the digits, and the number that its digits
+-- write.
 use Rattle.std.proofs.Common.{Bool, true, false, ◌≡◌, ℕ, ◌<◌, List, [], ◌∷◌, ◌++◌, length, refl, sym, ◌∙◌, ap, subst, arith}
 use Rattle.std.specs.Prelude.{◌==◌, if◌then◌else◌, not}
 use Rattle.std.specs.Char.{is_ascii_digit}

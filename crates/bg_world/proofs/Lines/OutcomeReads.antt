@@ -1,4 +1,5 @@
--- Outcomes read back from their lines: a line is told from the others by its words, as the definition has them.
+-- Outcomes read back from their lines: a line is told from the others by its words, as the
+-- definition has them.
 use Rattle.std.proofs.Common.{◌≡◌, ℕ, ◌+◌, ◌-◌, List, [], ◌∷◌, ◌++◌, Option, Some, None, Ok, Err, refl, ◌∙◌, ap, arith}
 use Rattle.std.specs.Prelude.{if◌then◌else◌, IfSome, map}
 use Rattle.std.specs.Fmt.{decimal}

@@ -1,4 +1,5 @@
--- What a link with a known plan was sent, and how often it was asked and failed, tell what its sends answered.
+-- What a link with a known plan was sent, and how often it was asked and failed, tell what its
+-- sends answered.
 use Rattle.std.specs.Prelude.{◌≡◌, ℕ, ◌+◌, ◌≤◌, Bool, true, false, Option, Some, None, IfSome, List, [], ◌∷◌, ◌++◌, length}
 use Rattle.std.specs.Prelude.{Result, Ok, Err, MatchResult, nat_lt}
 use Rattle.std.specs.Bool.{MatchBool}

@@ -1,4 +1,5 @@
--- Over honest devices with known plans an event comes to one outcome between the same two worlds, want of memory aside.
+-- Over honest devices with known plans an event comes to one outcome between the same two worlds,
+-- want of memory aside.
 use Rattle.std.specs.Prelude.{◌≡◌, ◌≢◌, ℕ, zero, suc, [], ◌∷◌, true, false, Option, Some, None, IfSome, IsSome, List, slice_get, slice_set}
 use Rattle.std.specs.Prelude.{Result, Ok, Err, MatchOption}
 use Rattle.std.proofs.Common.{refl, sym, ◌∙◌, ap, subst}

@@ -1,4 +1,5 @@
--- The invariant of each reached state, and what keeps it: a change at the referee, at a seat, at a watcher, and sending.
+-- The invariant of each reached state, and what keeps it: a change at the referee, at a seat, at a
+-- watcher, and sending.
 use Rattle.std.specs.Prelude.{◌≡◌, ℕ, suc, ◌<◌, ◌≤◌, true, false, Option, Some, None, List, [], ◌∷◌, ◌++◌, ◌⊎◌, length, take, slice_get, slice_set, Contains, All}
 use Rattle.std.proofs.Common.{refl, sym, ◌∙◌, ap, subst, inl, inr, arith}
 use Rattle.std.proofs.lemmas.List.{length-set, length-take}
@@ -75,7 +76,7 @@ of_seat w X inv = inv.x
 of_seat w O inv = inv.o
 
 -- what the referee has saved only grows
-IsLegalClaim-more : (terms : Terms) (S T : List Entry) (q : Player) (n : ℕ) (a : Action) → IsPrefix S T → IsLegalClaim terms S q n a → IsLegalClaim terms T q n a
+pub IsLegalClaim-more : (terms : Terms) (S T : List Entry) (q : Player) (n : ℕ) (a : Action) → IsPrefix S T → IsLegalClaim terms S q n a → IsLegalClaim terms T q n a
 IsLegalClaim-more terms S T q n a p h =
     let e = prefix_front S T h.before p h.within in
     let l = prefix_length S T p in
@@ -90,11 +91,11 @@ IsLegalClaim-more terms S T q n a p h =
       legal = subst (λ (x : List Entry). IsLegalRecord terms (x ++ h.entry ∷ [])) (sym e) h.legal;
     }
 
-LegalClaim-more : (terms : Terms) (S T : List Entry) (q : Player) (c : Option (ℕ × Action)) → IsPrefix S T → LegalClaim terms S q c → LegalClaim terms T q c
+pub LegalClaim-more : (terms : Terms) (S T : List Entry) (q : Player) (c : Option (ℕ × Action)) → IsPrefix S T → LegalClaim terms S q c → LegalClaim terms T q c
 LegalClaim-more terms S T q None p h = tt
 LegalClaim-more terms S T q (Some c) p h = IsLegalClaim-more terms S T q c.0 c.1 p h
 
-SeatOk-more : (id : ℕ) (terms : Terms) (sent : List Datagram) (S T : List Entry) (q : Player) (f : SeatState) → IsPrefix S T → SeatOk id terms sent S q f → SeatOk id terms sent T q f
+pub SeatOk-more : (id : ℕ) (terms : Terms) (sent : List Datagram) (S T : List Entry) (q : Player) (f : SeatState) → IsPrefix S T → SeatOk id terms sent S q f → SeatOk id terms sent T q f
 SeatOk-more id terms sent S T q f p h = record {
   log = prefix_trans f.log S T h.log p;
   kept_log = prefix_trans (entries_in f.restorable) S T h.kept_log p;
@@ -175,7 +176,7 @@ may_send w d to p m c =
     let same = one_packet m.0 p d.bytes m.1 c.1 in
     subst (λ (x : Packet). IsSound w x × IsKeptClaim w x) same (m.2, m.3)
 
-WasSent-cases : (sent out : List Datagram) (to : ℕ) (p : Packet) → WasSent (sent ++ out) to p → WasSent sent to p ⊎ WasSent out to p
+pub WasSent-cases : (sent out : List Datagram) (to : ℕ) (p : Packet) → WasSent (sent ++ out) to p → WasSent sent to p ⊎ WasSent out to p
 WasSent-cases sent out to p h = at_place (Contains-append_cases sent out h.0 h.1)
   where
     at_place : Contains sent h.0 ⊎ Contains out h.0 → WasSent sent to p ⊎ WasSent out to p
@@ -185,7 +186,7 @@ WasSent-cases sent out to p h = at_place (Contains-append_cases sent out h.0 h.1
 pub WasSent-more : (sent out : List Datagram) (to : ℕ) (p : Packet) → WasSent sent to p → WasSent (sent ++ out) to p
 WasSent-more sent out to p h = (h.0, Contains-append_left sent out h.0 h.1, h.2)
 
-Claimed-more : (sent out : List Datagram) (q : Player) (n : ℕ) (a : Action) → Claimed sent q n a → Claimed (sent ++ out) q n a
+pub Claimed-more : (sent out : List Datagram) (q : Player) (n : ℕ) (a : Action) → Claimed sent q n a → Claimed (sent ++ out) q n a
 Claimed-more sent out q n a h = (h.0, h.1, h.2, WasSent-more sent out h.0 (packet.Claim h.1 h.2 (party_of q) n a) h.3)
 
 AreClaimsKept-more : (sent out : List Datagram) (q : Player) (restorable : Option (ℕ × Action)) → ((n : ℕ) (a : Action) → Claimed out q n a → restorable ≡ Some (n, a)) → AreClaimsKept sent q restorable → AreClaimsKept (sent ++ out) q restorable

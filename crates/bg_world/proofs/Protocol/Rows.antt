@@ -67,7 +67,7 @@ if_up true w o v P inv f h = f h
 if_up false w o v P inv f h = stays w v inv h.1
 
 -- A seat's row keeps the seat in order, and so the invariant.
-SeatKeeps : ProtocolState → Player → SeatState → Type 0
+pub SeatKeeps : ProtocolState → Player → SeatState → Type 0
 SeatKeeps w q f = SeatOk w.id w.terms w.sent (saved_log w) q f
 
 of_seat_row : (w : ProtocolState) (q : Player) (v : ProtocolState) (P : SeatState → Type 0) → Inv w → ((new : SeatState) → P new → SeatKeeps w q new) → SeatChanges w q v P → Inv v
@@ -152,7 +152,7 @@ ticks w outcomes.LinkFault v may most inv f h = sends_some w v may most inv f h
 ticks w outcomes.Memory v may most inv f h = sends_some w v may most inv f h
 ticks w _ v may most inv f h = absurd h
 
-same_number : (p q : Player) → party_of p ≡ party_of q → p ≡ q
+pub same_number : (p q : Player) → party_of p ≡ party_of q → p ≡ q
 same_number X X h = refl
 same_number O O h = refl
 same_number X O h = absurd (omega (h, arith))
@@ -206,7 +206,7 @@ take_at_referee w word outcomes.Memory v inv h = sends_some w v (ShowsSaved w) 1
 take_at_referee w word _ v inv h = absurd h
 
 -- what comes to a follower's record stands in what the referee has saved
-grows : (w : ProtocolState) (party : ℕ) (old new : List Entry) → Inv w → IsPrefix old (saved_log w) → GrowsAsShown w.id w.terms w.sent party old new → IsPrefix new (saved_log w)
+pub grows : (w : ProtocolState) (party : ℕ) (old new : List Entry) → Inv w → IsPrefix old (saved_log w) → GrowsAsShown w.id w.terms w.sent party old new → IsPrefix new (saved_log w)
 grows w party old new inv p h = subst (λ (l : List Entry). IsPrefix l (saved_log w)) (sym h.is) (prefix_more old h.more (saved_log w) p stood)
   where
     stood : (i n : ℕ) (e : Entry) → n ≡ length old + i → slice_get h.more i ≡ Some e → slice_get (saved_log w) n ≡ Some e
@@ -216,12 +216,12 @@ grows w party old new inv p h = subst (λ (l : List Entry). IsPrefix l (saved_lo
         let j : s.start + s.place ≡ suc n = omega (s.number, m, arith) in
         subst (λ (x : ℕ). at_number (saved_log w) x ≡ Some e) j k
 
-learns_keep : (w : ProtocolState) (party : ℕ) (p : Packet) (l : Learned) (old new : List Entry) → Inv w → IsPrefix old (saved_log w) → LearnStep w.id w.terms w.sent party p l old new → IsPrefix new (saved_log w)
+pub learns_keep : (w : ProtocolState) (party : ℕ) (p : Packet) (l : Learned) (old new : List Entry) → Inv w → IsPrefix old (saved_log w) → LearnStep w.id w.terms w.sent party p l old new → IsPrefix new (saved_log w)
 learns_keep w party p (learns.Grew k) old new inv q h = grows w party old new inv q h.2
 learns_keep w party p learns.Memory old new inv q h = subst (λ (l : List Entry). IsPrefix l (saved_log w)) (sym h) q
 learns_keep w party p _ old new inv q h = subst (λ (l : List Entry). IsPrefix l (saved_log w)) (sym h.1) q
 
-take_at_follower : (w : ProtocolState) (party : ℕ) (o : Outcome) (old new : List Entry) → Inv w → IsPrefix old (saved_log w) → FollowerTakeStep w.id w.terms w.sent party o old new → IsPrefix new (saved_log w)
+pub take_at_follower : (w : ProtocolState) (party : ℕ) (o : Outcome) (old new : List Entry) → Inv w → IsPrefix old (saved_log w) → FollowerTakeStep w.id w.terms w.sent party o old new → IsPrefix new (saved_log w)
 take_at_follower w party (outcomes.Learned l) old new inv p h = learns_keep w party h.0 l old new inv p h.2
 take_at_follower w party outcomes.NoDatagram old new inv p h = subst (λ (l : List Entry). IsPrefix l (saved_log w)) (sym h) p
 take_at_follower w party (outcomes.NotAPacket why) old new inv p h = subst (λ (l : List Entry). IsPrefix l (saved_log w)) (sym h) p
@@ -237,14 +237,14 @@ seat_learns w q new inv p =
 
 -- ---- choosing
 
-below_claim : (w : ProtocolState) (q : Player) → Inv w → claim_number (claim_in (seat_in w q).restorable) ≤ claim_number (seat_in w q).claim
+pub below_claim : (w : ProtocolState) (q : Player) → Inv w → claim_number (claim_in (seat_in w q).restorable) ≤ claim_number (seat_in w q).claim
 below_claim w q inv = at_saved (cases_Bool (seat_in w q).claim_saved)
   where
     at_saved : ((seat_in w q).claim_saved ≡ true) ⊎ ((seat_in w q).claim_saved ≡ false) → claim_number (claim_in (seat_in w q).restorable) ≤ claim_number (seat_in w q).claim
     at_saved (inl h) = let k : claim_number (seat_in w q).claim ≡ claim_number (claim_in (seat_in w q).restorable) = ap claim_number ((of_seat w q inv).claim_old h) in omega (k, arith)
     at_saved (inr h) = let k = (of_seat w q inv).claim_new h in omega (k, arith)
 
-chooses : (w : ProtocolState) (q : Player) (a : Action) → Inv w → CanClaim w.terms q (seat_in w q).log (seat_in w q).claim a → SeatKeeps w q (record (seat_in w q) { claim = Some (length (seat_in w q).log + 1, a); claim_saved = false })
+pub chooses : (w : ProtocolState) (q : Player) (a : Action) → Inv w → CanClaim w.terms q (seat_in w q).log (seat_in w q).claim a → SeatKeeps w q (record (seat_in w q) { claim = Some (length (seat_in w q).log + 1, a); claim_saved = false })
 unfolding SeatKeeps
 chooses w q a inv h =
     let s = of_seat w q inv in
@@ -272,7 +272,8 @@ chooses w q a inv h =
 
 -- ---- saving and restoring
 
--- the referee with what its slots restore, where that is no less than what was saved and no more than its record
+-- the referee with what its slots restore, where that is no less than what was saved and no more
+-- than its record
 restores_referee : (w : ProtocolState) (slots : Slots) (restorable : Option SavedParts) (up : Bool) → Inv w → SlotsOk w.id w.terms 0 slots restorable → IsPrefix (saved_log w) (entries_in restorable) → IsPrefix (entries_in restorable) w.referee.log → Inv (record w { referee = restored_referee slots restorable up })
 restores_referee w slots restorable up inv ok p q = referee_steps w (restored_referee slots restorable up) inv good (subst (λ (l : List Entry). IsPrefix (saved_log w) l) (sym all) p)
   where
@@ -332,7 +333,8 @@ save_at_referee w outcomes.SavesSpent v inv h = stays w v inv h
 save_at_referee w outcomes.Memory v inv h = stays w v inv h
 save_at_referee w _ v inv h = absurd h
 
--- The claims that were sent are restorable by a save of a seat: its claim is the restorable one, or has a greater number.
+-- The claims that were sent are restorable by a save of a seat: its claim is the restorable one, or
+-- has a greater number.
 claims_kept : (w : ProtocolState) (q : Player) → Inv w → AreClaimsKept w.sent q (seat_in w q).claim
 claims_kept w q inv = at_saved (cases_Bool (seat_in w q).claim_saved)
   where

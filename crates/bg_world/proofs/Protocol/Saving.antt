@@ -1,4 +1,5 @@
--- What the slots of a party have: the text of the save that they restore, in its slot, and beside it an older text or none.
+-- What the slots of a party have: the text of the save that they restore, in its slot, and beside
+-- it an older text or none.
 use Rattle.std.proofs.Common.{◌≡◌, ◌⊎◌, inl, inr, ℕ, suc, ◌+◌, Option, Some, None, List, [], ◌∷◌, ◌++◌, refl, sym, ◌∙◌, ap, subst, arith}
 use Rattle.std.proofs.lemmas.List.{append-nil}
 use Rattle.bg_match.specs.Terms.{Terms}

@@ -529,7 +529,8 @@ first_turn_is_a_run = (
 
 -- ---- what is no run, and no step
 
--- no run leads to a state in which a watcher holds more than the referee has saved, as a roll that is not saved
+-- no run leads to a state in which a watcher holds more than the referee has saved, as a roll that
+-- is not saved
 pub unsaved_roll_is_held_by_nobody : (w : ProtocolState) (log : List Entry) → log_of w 3 ≡ Some log → w.referee.saved < length log → IsReached w → ⊥
 unsaved_roll_is_held_by_nobody w log holds more h =
     let p = (agreement w (reached w h)).followers 3 log (omega arith) holds in
@@ -540,6 +541,7 @@ unsaved_roll_is_held_by_nobody w log holds more h =
     length-take-most (suc n) [] = omega arith
     length-take-most (suc n) (x ∷ xs) = let k = length-take-most n xs in omega arith
 
--- the claim of the move is accepted once: where the referee holds the move, taking the same claim again is no such step
+-- the claim of the move is accepted once: where the referee holds the move, taking the same claim
+-- again is no such step
 pub claim_is_accepted_once : (word n : ℕ) (v : ProtocolState) → ReplyStep accepted word claim (takes.Accepted n) v → ⊥
 claim_is_accepted_once word n v h = let next = h.1.1 in omega arith

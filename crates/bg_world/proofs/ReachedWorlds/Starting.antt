@@ -1,5 +1,5 @@
--- A world where nothing has happened yet, over an empty link and empty slots, is a reached world: its state is the
--- start.
+-- A world where nothing has happened yet, over an empty link and empty slots, is a reached world:
+-- its state is the start.
 use Rattle.std.specs.Prelude.{◌≡◌, ◌⊎◌, ℕ, zero, suc, ◌+◌, List, [], ◌∷◌, ◌++◌, Option, Some, None, Result, Ok, Err, IfOk}
 use Rattle.std.specs.Prelude.{MatchResult, length, map, replicate, slice_get}
 use Rattle.std.proofs.Common.{refl, sym, ◌∙◌, ap, ap₂, subst, inl, inr, arith, length-append}

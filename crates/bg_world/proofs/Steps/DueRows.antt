@@ -1,4 +1,5 @@
--- The referee's opening of a game is a row of the protocol, and what a referee that grew is in its state.
+-- The referee's opening of a game is a row of the protocol, and what a referee that grew is in its
+-- state.
 use Rattle.std.specs.Prelude.{◌≡◌, ℕ, List, Option, Some, None, Result, Ok, Err}
 use Rattle.std.proofs.Common.{refl, sym, ◌∙◌, ap, ap₂, subst}
 use Rattle.bg_match.specs.declared.entries.Entry.{Entry}

@@ -1,4 +1,5 @@
--- The calls of an event on honest devices, from a reached world, are a step of the protocol, and leave a reached world.
+-- The calls of an event on honest devices, from a reached world, are a step of the protocol, and
+-- leave a reached world.
 use Rattle.std.specs.Prelude.{◌≡◌, ℕ, zero, suc, ◌+◌, List, [], ◌∷◌}
 use Rattle.std.proofs.Common.{refl, sym, subst, arith}
 use Rattle.bg_board.specs.declared.players.Player.TheVariants.{X, O}

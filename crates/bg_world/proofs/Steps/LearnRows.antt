@@ -156,8 +156,8 @@ module _ (id : ℕ) (terms : Terms) (sent : List Datagram) (party : ℕ) (old : 
 
 -- ---- a core that follows: its record alone changes
 
--- what a take comes to: the record has taken a step of the protocol, and is of the match, and what is kept beside it
--- was shown
+-- what a take comes to: the record has taken a step of the protocol, and is of the match, and what
+-- is kept beside it was shown
 abbrev pub FollowerStep : ℕ → Terms → List Datagram → ℕ → Outcome → FollowerView → FollowerView → Type 0
 FollowerStep id terms sent party o old new =
     FollowerTakeStep id terms sent party o old.log.entries new.log.entries × IsLogOf id terms new.log

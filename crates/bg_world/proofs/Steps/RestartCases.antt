@@ -21,7 +21,8 @@ use Rattle.bg_world.specs.Devices.KeeperCalls.{ReadsBoth, ReadsSecond, restored_
 use Rattle.bg_world.specs.Devices.DeviceCalls.{read_outcome}
 use Rattle.bg_world.proofs.Protocol.Saving.{SlotsOk}
 
--- what the reads of the slots come to: what these restore is given back, or a read failed, or memory was wanted
+-- what the reads of the slots come to: what these restore is given back, or a read failed, or
+-- memory was wanted
 pub data IsReread (restored : Option SavedParts) (answer : Result (Option Saved) Outcome) : Type 0 where
   given : (s : Saved) → restored ≡ Some (parts_of s) → answer ≡ Ok (Some s) → IsReread restored answer
   empty : restored ≡ None → answer ≡ Ok None → IsReread restored answer

@@ -56,7 +56,8 @@ module _ (honest : Type 0) (is_honest : honest) (many : ℕ) (may : Datagram →
         told = inr (fault, e);
       }
 
-  -- what is sent of these packets, each of which may be sent where its party exists and it has a text
+  -- what is sent of these packets, each of which may be sent where its party exists and it has a
+  -- text
   pub sends_all : (before : ℕ) (old : LinkView) (packets : List (ℕ × Packet)) (result : Outcome) (new : LinkView)
       → AllByRecursion (λ p. p.0 < many → IsPacket p.1 → may (datagram_of p.0 p.1)) packets
       → SendCalls honest many before old packets result new

@@ -24,7 +24,8 @@ use Rattle.bg_world.specs.Protocol.Step.{Step}
 use Rattle.bg_world.proofs.Protocol.Saving.{SlotsOk}
 use Rattle.bg_world.proofs.Protocol.Invariant.{Inv}
 
--- From the state of the world, whose slots restore `c`, this is a step of the protocol, to the state of the new world.
+-- From the state of the world, whose slots restore `c`, this is a step of the protocol, to the
+-- state of the new world.
 pub record StepsTo (w : WorldView) (c : Restorable) (event : Event) (result : Outcome)
     (new : WorldView) : Type 0 where
   pub restorable : Restorable

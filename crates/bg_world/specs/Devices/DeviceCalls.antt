@@ -26,7 +26,8 @@ abbrev pub link_outcome : DeviceFault → Outcome
 link_outcome faults.Failed = outcomes.LinkFault
 link_outcome faults.Memory = outcomes.Memory
 
--- the packet in hand after a take is the one whose text the link gave; or the outcome says why there is none
+-- the packet in hand after a take is the one whose text the link gave; or the outcome says why
+-- there is none
 abbrev pub IsHand : Result (Option (ArrayVec ℕ)) DeviceFault → Result Packet Outcome → Type 0
 IsHand (Ok (Some bytes)) (Ok p) = IsText p bytes.items
 IsHand (Ok (Some bytes)) (Err (outcomes.NotAPacket fault)) = IsWireFault fault bytes.items
@@ -34,8 +35,8 @@ IsHand (Ok None) (Err o) = o ≡ outcomes.NoDatagram
 IsHand (Err fault) (Err o) = o ≡ link_outcome fault
 IsHand _ _ = ⊥
 
--- One take for a party: what is in hand is what the link gave. Where the link is honest, that was sent to the party;
--- where it has a plan, it is what the pick names.
+-- One take for a party: what is in hand is what the link gave. Where the link is honest, that was
+-- sent to the party; where it has a plan, it is what the pick names.
 pub record Receives
     (honest : Type 0) (old : LinkView) (party pick : ℕ) (hand : Result Packet Outcome) (new : LinkView) : Type 0 where
   pub takes : new.takes ≡ old.takes + 1

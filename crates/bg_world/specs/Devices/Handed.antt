@@ -27,8 +27,8 @@ bytes_handed (Some datagram) = Some (record { items = datagram.bytes })
 abbrev pub garbled_pick : ℕ
 garbled_pick = 4294967295
 
--- The garbled pick names one byte 0, which is no packet's text. Any other pick is an index, from 0, into the datagrams
--- that were sent to the party; it names nothing where there is none.
+-- The garbled pick names one byte 0, which is no packet's text. Any other pick is an index, from 0,
+-- into the datagrams that were sent to the party; it names nothing where there is none.
 abbrev pub handed : List Datagram → ℕ → ℕ → Option (ArrayVec ℕ)
 handed sent party pick =
     if pick == garbled_pick then Some (record { items = 0 ∷ [] })

@@ -1,4 +1,5 @@
--- What a call of a device may do. A link carries datagrams; a keeper keeps the saved texts of a party.
+-- What a call of a device may do. A link carries datagrams; a keeper keeps the saved texts of a
+-- party.
 use Rattle.std.specs.Prelude.{◌≡◌, ◌⊎◌, ℕ, ◌+◌, ◌<◌, ◌≤◌, List, [], ◌∷◌, ◌++◌, Contains, Result, Ok, Err, IsErrOf}
 use Rattle.bg_wire.specs.Saved.SlotLaws.{Slots, bytes_in, with_slot}
 use Rattle.bg_wire.specs.Packets.PacketText.{IsText}
@@ -24,7 +25,8 @@ CountsFailed before after (Err Memory) = after ≡ before
 
 -- ---- an honest link
 
--- a send that succeeds puts the datagram behind those that were sent; one that fails does so, or changes nothing
+-- a send that succeeds puts the datagram behind those that were sent; one that fails does so, or
+-- changes nothing
 abbrev pub Sends : List Datagram → Datagram → List Datagram → Result (Unit {0}) DeviceFault → Type 0
 Sends old datagram new (Ok done) = new ≡ old ++ datagram ∷ []
 Sends old datagram new (Err fault) = (new ≡ old) ⊎ (new ≡ old ++ datagram ∷ [])

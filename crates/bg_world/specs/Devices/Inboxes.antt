@@ -18,7 +18,8 @@ abbrev pub texts_from : ℕ → List ℕ → List ℕ → List (List ℕ)
 texts_from from [] bytes = []
 texts_from from (end ∷ ends) bytes = text_between from end bytes ∷ texts_from end ends bytes
 
--- the texts end there in this order, none has more bytes than a text may have, and the last ends with the bytes
+-- the texts end there in this order, none has more bytes than a text may have, and the last ends
+-- with the bytes
 abbrev pub AreEnds : ℕ → List ℕ → ℕ → Type 0
 AreEnds from [] count = from ≡ count
 AreEnds from (end ∷ ends) count = (from ≤ end) × (end ≤ from + text_size) × AreEnds end ends count

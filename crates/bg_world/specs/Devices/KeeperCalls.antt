@@ -39,7 +39,8 @@ abbrev pub SaveTold : {C : Type 0} → ℕ → C → Result (Unit {0}) DeviceFau
 SaveTold save after_save (Ok done) result after = (result ≡ outcomes.Saved save) × (after ≡ Some after_save)
 SaveTold save after_save (Err fault) result after = (result ≡ outcomes.SaveFault) × (after ≡ None)
 
--- the save of this number is ended, whose write had this answer; none is ended at a party that is down
+-- the save of this number is ended, whose write had this answer; none is ended at a party that is
+-- down
 abbrev pub EndsSave : {C : Type 0} → (C → ℕ → C) → Option C → ℕ → Result (Unit {0}) DeviceFault → Outcome → Option C →
     Type 0
 EndsSave after_save None save answer result after = ⊥

@@ -31,8 +31,8 @@ AnswerCalls honest parties old (takes.Answer to p) result new =
     ((result ≡ outcomes.Took (takes.Answer to p)) × (new ≡ old))
 AnswerCalls honest parties old took result new = (result ≡ outcomes.Took took) × (new ≡ old)
 
--- packets to parties that exist are sent in order, up to the first that fails, and the outcome counts them; so many
--- were sent before
+-- packets to parties that exist are sent in order, up to the first that fails, and the outcome
+-- counts them; so many were sent before
 abbrev pub SendCalls : Type 0 → ℕ → ℕ → LinkView → List (ℕ × Packet) → Outcome → LinkView → Type 0
 SendCalls honest parties before old [] result new = (result ≡ outcomes.Sent before) × (new ≡ old)
 SendCalls honest parties before old (packet ∷ packets) result new =

@@ -1,5 +1,5 @@
--- Which calls of a device fail by its plan, and what a call that follows a plan does. Calls are counted from 1 over the
--- whole run, those that failed included.
+-- Which calls of a device fail by its plan, and what a call that follows a plan does. Calls are
+-- counted from 1 over the whole run, those that failed included.
 use Rattle.std.specs.Prelude.{◌≡◌, ◌≢◌, ℕ, List, [], ◌∷◌, ◌++◌, Bool, ◌&&◌, Option, Some, None, Result, Ok, Err, IsTrue}
 use Rattle.std.specs.Prelude.{take, find, nat_lt, ◌==◌, if◌then◌else◌}
 use Rattle.std.specs.Global.{Vec}
@@ -44,8 +44,9 @@ read_failure_at plan nth =
 
 -- ---- what a call does by its plan
 
--- A send goes out where the plan says nothing of it. Where it has a failure for it, the send fails, and goes out or not
--- as the failure says. Memory is wanted only by a send that goes out, which then does not.
+-- A send goes out where the plan says nothing of it. Where it has a failure for it, the send fails,
+-- and goes out or not as the failure says. Memory is wanted only by a send that goes out, which
+-- then does not.
 abbrev pub SendsBy : Option FailSend → List Datagram → Datagram → List Datagram → Result (Unit {0}) DeviceFault → Type 0
 SendsBy None old datagram new (Ok done) = new ≡ old ++ datagram ∷ []
 SendsBy None old datagram new (Err Failed) = ⊥
@@ -64,8 +65,9 @@ abbrev pub LeavesBytes : Option ℕ → List ℕ → Type 0
 LeavesBytes None bytes = ⊥
 LeavesBytes (Some cut) bytes = take cut bytes ≢ []
 
--- A write leaves its bytes where the plan says nothing of it. Where it has a tear for it, the write fails, and leaves
--- what the tear says. Memory is wanted only by a write that leaves bytes, which then leaves the slots as they were.
+-- A write leaves its bytes where the plan says nothing of it. Where it has a tear for it, the write
+-- fails, and leaves what the tear says. Memory is wanted only by a write that leaves bytes, which
+-- then leaves the slots as they were.
 abbrev pub WritesBy : Option Tear → Slots → Slot → List ℕ → Slots → Result (Unit {0}) DeviceFault → Type 0
 WritesBy None old slot bytes new (Ok done) = new ≡ with_slot old slot bytes
 WritesBy None old slot bytes new (Err Failed) = ⊥
@@ -74,8 +76,8 @@ WritesBy (Some tear) old slot bytes new (Ok done) = ⊥
 WritesBy (Some tear) old slot bytes new (Err Failed) = new ≡ torn_at tear.cut old slot bytes
 WritesBy (Some tear) old slot bytes new (Err Memory) = LeavesBytes tear.cut bytes × (new ≡ old)
 
--- A read gives the bytes of its slot, or wants memory for them if there are any, where the plan says nothing of it.
--- Where it has a failure for it, the read fails.
+-- A read gives the bytes of its slot, or wants memory for them if there are any, where the plan
+-- says nothing of it. Where it has a failure for it, the read fails.
 abbrev pub ReadsBy : Option FailRead → Slots → Slot → Result (Vec ℕ) DeviceFault → Type 0
 ReadsBy None slots slot (Ok bytes) = bytes.items ≡ bytes_in slots slot
 ReadsBy None slots slot (Err Failed) = ⊥

@@ -11,8 +11,8 @@ use Rattle.bg_world.specs.Protocol.State.{ProtocolState, saved_log, log_of}
 abbrev pub IsPrefix : List Entry → List Entry → Type 0
 IsPrefix xs ys = (rest : List Entry) × (xs ++ rest ≡ ys)
 
--- each follower's record is a prefix of what the referee has saved, that is one of its record, and each datagram of
--- entries that was ever sent tells a run of it
+-- each follower's record is a prefix of what the referee has saved, that is one of its record, and
+-- each datagram of entries that was ever sent tells a run of it
 pub record Agreement (w : ProtocolState) : Type 0 where
   pub saved : IsPrefix (saved_log w) w.referee.log
   pub followers : (party : ℕ) (log : List Entry) → 0 < party → log_of w party ≡ Some log → IsPrefix log (saved_log w)

@@ -11,8 +11,8 @@ abbrev pub IsOnlyClaim : List Datagram → Player → ℕ → Action → Type 0
 IsOnlyClaim sent player n action =
     Claimed sent player n action × ((other : Action) → Claimed sent player n other → other ≡ action)
 
--- the numbers that a seat has claimed are up to that of the claim which its slots restore, which is the one at that
--- number; and under one number it has claimed one action
+-- the numbers that a seat has claimed are up to that of the claim which its slots restore, which is
+-- the one at that number; and under one number it has claimed one action
 pub record AreClaimsKept (sent : List Datagram) (player : Player) (restorable : Option (ℕ × Action)) : Type 0 where
   pub up_to : (n : ℕ) (a : Action) → Claimed sent player n a → n ≤ claim_number restorable
   pub same : (n : ℕ) (a : Action) → Claimed sent player n a → n ≡ claim_number restorable → restorable ≡ Some (n, a)

@@ -11,8 +11,8 @@ use Rattle.bg_wire.specs.declared.faults.RestoreRefusal.{RestoreRefusal}
 use Rattle.bg_wire.specs.declared.saves.Saved.{Saved}
 use Rattle.bg_world.specs.Protocol.State.{ProtocolState, seat_in}
 
--- whatever `bg_wire::restore` answers to this party of the match, of the bytes of these slots: it is this, or memory
--- was wanted
+-- whatever `bg_wire::restore` answers to this party of the match, of the bytes of these slots: it
+-- is this, or memory was wanted
 abbrev pub IsGivenBack : ℕ → Terms → ℕ → Slots → Option SavedParts → Type 0
 IsGivenBack id terms party slots restorable =
     (answer : Result (Option Saved) RestoreRefusal) → Restores slots.zero slots.one party id terms answer

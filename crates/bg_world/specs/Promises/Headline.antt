@@ -11,7 +11,8 @@ use Rattle.bg_world.specs.Promises.Agreement.{IsPrefix}
 use Rattle.bg_world.specs.Promises.Claims.{IsOnlyClaim}
 use Rattle.bg_world.specs.Protocol.State.{ProtocolState, log_of}
 
--- each entry of a seat in the record answers the one action that this seat ever claimed under its number
+-- each entry of a seat in the record answers the one action that this seat ever claimed under its
+-- number
 abbrev pub AreAnswered : Terms → List Entry → List Datagram → Type 0
 AreAnswered terms entries sent =
     (n : ℕ) (e : Entry) (player : Player) → at_number entries n ≡ Some e

@@ -22,7 +22,8 @@ use Rattle.bg_party.specs.Learns.{Agrees, new_entries}
 use Rattle.bg_world.specs.Protocol.Datagrams.{WasSent}
 use Rattle.bg_world.specs.Protocol.State.{ProtocolState, Exists, saved_log, log_of, seat_in}
 
--- the claim could be made after a front of the saved entries: the seat acts there, and the action's entry may follow
+-- the claim could be made after a front of the saved entries: the seat acts there, and the action's
+-- entry may follow
 pub record IsLegalClaim (terms : Terms) (saved : List Entry) (player : Player) (n : ℕ) (action : Action) : Type 0 where
   pub before : ℕ
   pub number : n ≡ before + 1
@@ -32,8 +33,9 @@ pub record IsLegalClaim (terms : Terms) (saved : List Entry) (player : Player) (
   pub of_action : Answers action (Some trial_dice) entry
   pub legal : IsNext terms (take before saved) entry
 
--- the packet is of this match, and says what its sender may say: a party that exists asks for no more than is
--- saved, a seat claims what it could claim, and entries are saved ones under their own numbers
+-- the packet is of this match, and says what its sender may say: a party that exists asks for no
+-- more than is saved, a seat claims what it could claim, and entries are saved ones under their own
+-- numbers
 abbrev pub IsSound : ProtocolState → Packet → Type 0
 IsSound w (packet.Want id rules sender held) =
     ((id ≡ w.id) × (rules ≡ rules_of w.terms)) × Exists w sender × (held ≤ w.referee.saved)
@@ -43,8 +45,8 @@ IsSound w (packet.Claim id rules sender n action) =
 IsSound w (packet.Entries id rules start list) =
     ((id ≡ w.id) × (rules ≡ rules_of w.terms)) × IsRun (saved_log w) start list
 
--- what the referee may be handed: a claim is no later than the next entry, and there it is of the seat that acts,
--- and its entry may follow, with any dice
+-- what the referee may be handed: a claim is no later than the next entry, and there it is of the
+-- seat that acts, and its entry may follow, with any dice
 pub record IsNoClaimRefused (w : ProtocolState) : Type 0 where
   pub not_ahead : (id : ℕ) (rules : Rules) (sender n : ℕ) (a : Action)
       → WasSent w.sent referee (packet.Claim id rules sender n a)
@@ -58,7 +60,8 @@ pub record IsNoClaimRefused (w : ProtocolState) : Type 0 where
       → n ≡ length w.referee.log + 1
       → (dice : Option Dice) (e : Entry) → Answers a dice e → IsNext w.terms w.referee.log e
 
--- what a follower may be handed: entries agree with its record, and where they join it they continue it legally
+-- what a follower may be handed: entries agree with its record, and where they join it they
+-- continue it legally
 pub record AreNoEntriesRefused (w : ProtocolState) : Type 0 where
   pub agree : (party : ℕ) (log : List Entry) (to id : ℕ) (rules : Rules) (start : ℕ) (list : List Entry)
       → 0 < party → log_of w party ≡ Some log → WasSent w.sent to (packet.Entries id rules start list)

@@ -5,7 +5,8 @@ use Rattle.bg_world.specs.declared.events.Outcome.TheVariants as outcomes
 use Rattle.bg_world.specs.Protocol.SaveStep.{RefereeSaveStep, SeatSaveStep, to_save_referee, to_save_seat}
 use Rattle.bg_world.specs.Protocol.State.{ProtocolState, SeatState, seat_in}
 
--- after a save that was written the slots restore it; after one that was not, what they restored before, or it
+-- after a save that was written the slots restore it; after one that was not, what they restored
+-- before, or it
 pub record SavesSurvive (w : ProtocolState) : Type 0 where
   pub referee_saved : (k : ℕ) (v : ProtocolState) → RefereeSaveStep w (outcomes.Saved k) v
       → v.referee.restorable ≡ Some (to_save_referee w)

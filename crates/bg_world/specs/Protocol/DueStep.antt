@@ -10,7 +10,8 @@ use Rattle.bg_world.specs.Protocol.State.{ProtocolState}
 abbrev pub with_entry : ProtocolState → Entry → ProtocolState
 with_entry w e = record w { referee = record (w.referee) { log = w.referee.log ++ e ∷ [] } }
 
--- The referee's record grows by the entry that is due with the word, exactly where one is, want of memory aside.
+-- The referee's record grows by the entry that is due with the word, exactly where one is, want of
+-- memory aside.
 abbrev pub DueStep : ProtocolState → ℕ → Outcome → ProtocolState → Type 0
 DueStep w word (outcomes.Due (Ok n)) v =
     (e : Entry) × IsDue w.terms w.referee.log word e × (v ≡ with_entry w e) × (n ≡ length w.referee.log + 1)

@@ -23,7 +23,8 @@ pub record GrowsAsShown
 abbrev pub HoldsWhatContinues : ℕ → Terms → List Entry → Packet → List Entry → Type 0
 HoldsWhatContinues id terms old p new = Continues id terms old p → Holds new p
 
--- The record grows by k entries exactly where k were learned. What continues it is held, want of memory aside.
+-- The record grows by k entries exactly where k were learned. What continues it is held, want of
+-- memory aside.
 abbrev pub LearnStep : ℕ → Terms → List Datagram → ℕ → Packet → Learned → List Entry → List Entry → Type 0
 LearnStep id terms sent party p (learns.Grew k) old new =
     (0 < k) × (length new ≡ length old + k) × GrowsAsShown id terms sent party old new

@@ -30,8 +30,8 @@ ShowsSaved w d = (p : Packet) × Carries d d.to p × IsOfSaved w p
 abbrev pub AcceptsNone : ProtocolState → ℕ → Packet → Type 0
 AcceptsNone w word p = (e : Entry) → IsAccepted w.id w.terms w.referee.log word p e → ⊥
 
--- The referee's record grows by the entry that the packet in hand claims, exactly where it is accepted, want of
--- memory aside. At an answer the list of datagrams grows by just that answer.
+-- The referee's record grows by the entry that the packet in hand claims, exactly where it is
+-- accepted, want of memory aside. At an answer the list of datagrams grows by just that answer.
 abbrev pub ReplyStep : ProtocolState → ℕ → Packet → TakeOutcome → ProtocolState → Type 0
 ReplyStep w word p (takes.Accepted n) v =
     (e : Entry) × IsAccepted w.id w.terms w.referee.log word p e × (v ≡ with_entry w e) × (n ≡ length w.referee.log + 1)
@@ -41,7 +41,8 @@ ReplyStep w word p (takes.Answer party answer) v =
 ReplyStep w word p takes.Memory v = v ≡ w
 ReplyStep w word p _ v = AcceptsNone w word p × (v ≡ w)
 
--- The packet in hand was sent to the referee. Where the link or memory fails, an answer may have gone out.
+-- The packet in hand was sent to the referee. Where the link or memory fails, an answer may have
+-- gone out.
 abbrev pub RefereeTakeStep : ProtocolState → ℕ → Outcome → ProtocolState → Type 0
 RefereeTakeStep w word (outcomes.Took took) v = (p : Packet) × WasSent w.sent referee p × ReplyStep w word p took v
 RefereeTakeStep w word outcomes.NoDatagram v = v ≡ w

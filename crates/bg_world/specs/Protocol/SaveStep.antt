@@ -16,7 +16,8 @@ use Rattle.bg_world.specs.Protocol.Frames.{IfUp, SeatChanges, NoParty}
 use Rattle.bg_world.specs.Protocol.Slots.{SaveWritten, SaveTorn, next_number}
 use Rattle.bg_world.specs.Protocol.State.{ProtocolState, SeatState, restored_referee, restored_seat, seat_in}
 
--- what the next save of a party tells: its number is one above that of the save that the slots restore
+-- what the next save of a party tells: its number is one above that of the save that the slots
+-- restore
 abbrev pub to_save : ℕ → ℕ → Terms → Option SavedParts → Option (ℕ × Action) → List Entry → SavedParts
 to_save party id terms found claim log =
     record { party = party; id = id; terms = terms; save = next_number found; claim = claim; entries = log }
@@ -27,8 +28,9 @@ to_save_referee w = to_save referee w.id w.terms w.referee.restorable None w.ref
 abbrev pub to_save_seat : ℕ → Terms → Player → SeatState → SavedParts
 to_save_seat id terms player f = to_save (party_of player) id terms f.restorable f.claim f.log
 
--- The save that tells p, over these slots: what is to hold of the slots that it leaves, and of what they restore, where
--- it was written, and where it was torn. Where there is no number or no memory for it, nothing changes.
+-- The save that tells p, over these slots: what is to hold of the slots that it leaves, and of what
+-- they restore, where it was written, and where it was torn. Where there is no number or no memory
+-- for it, nothing changes.
 abbrev pub SavesTo : SavedParts → Slots → Outcome → (Slots → Option SavedParts → Type 0)
     → (Slots → Option SavedParts → Type 0) → Type 0 → Type 0
 SavesTo p old (outcomes.Saved k) Written Torn Same =
@@ -40,7 +42,8 @@ SavesTo p old outcomes.SavesSpent Written Torn Same = Same
 SavesTo p old outcomes.Memory Written Torn Same = Same
 SavesTo p old _ Written Torn Same = ⊥
 
--- a save that is written makes all entries count as saved, and a seat's claim; after one that is not the party is down
+-- a save that is written makes all entries count as saved, and a seat's claim; after one that is
+-- not the party is down
 abbrev pub RefereeSaveStep : ProtocolState → Outcome → ProtocolState → Type 0
 RefereeSaveStep w o v =
     let r = w.referee in

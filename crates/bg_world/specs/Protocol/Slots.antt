@@ -23,11 +23,13 @@ claim_in (Some p) = p.claim
 abbrev pub next_number : Option SavedParts → ℕ
 next_number restorable = suc (save_in restorable)
 
--- what a write that failed may leave in its slot: what was there, or any number of the first bytes of the text
+-- what a write that failed may leave in its slot: what was there, or any number of the first bytes
+-- of the text
 abbrev pub MayBeLeft : List ℕ → List ℕ → List ℕ → Type 0
 MayBeLeft old text left = (left ≡ old) ⊎ ((rest : List ℕ) × (left ++ rest ≡ text))
 
--- the bytes stand in the slot of this save, the other slot is as it was, and this is what the slots restore then
+-- the bytes stand in the slot of this save, the other slot is as it was, and this is what the slots
+-- restore then
 pub record AfterWrite
     (old : Slots) (save : ℕ) (bytes : List ℕ) (new : Slots) (restorable : Option SavedParts) : Type 0 where
   pub slots : new ≡ with_slot old (slot_of save) bytes

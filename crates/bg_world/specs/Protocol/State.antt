@@ -1,4 +1,5 @@
--- The state of the world: what each party holds, what its slots have, and every datagram that was ever sent.
+-- The state of the world: what each party holds, what its slots have, and every datagram that was
+-- ever sent.
 use Rattle.std.specs.Prelude.{ℕ, ◌<◌, ◌≤◌, ◌+◌, ◌-◌, ◌^◌, Bool, true, Option, Some, None, List, [], length, take}
 use Rattle.std.specs.Prelude.{replicate, slice_get}
 use Rattle.bg_board.specs.declared.players.Player.{Player}
@@ -16,7 +17,8 @@ use Rattle.bg_world.specs.Protocol.Roles.{role}
 use Rattle.bg_wire.specs.Saved.SlotLaws.{Slots}
 use Rattle.bg_world.specs.Protocol.Slots.{claim_in, empty_slots, entries_in}
 
--- whether it is up, its record, and how many entries of it are saved; its slots, and what they restore
+-- whether it is up, its record, and how many entries of it are saved; its slots, and what they
+-- restore
 pub record RefereeState : Type 0 where
   pub up : Bool
   pub log : List Entry
@@ -24,7 +26,8 @@ pub record RefereeState : Type 0 where
   pub slots : Slots
   pub restorable : Option SavedParts
 
--- whether it is up, its record, its last claim and whether that is saved; its slots, and what they restore
+-- whether it is up, its record, its last claim and whether that is saved; its slots, and what they
+-- restore
 pub record SeatState : Type 0 where
   pub up : Bool
   pub log : List Entry
@@ -33,7 +36,8 @@ pub record SeatState : Type 0 where
   pub slots : Slots
   pub restorable : Option SavedParts
 
--- a match and its parties, of a watcher, who is never down, the record alone; and all datagrams that were ever sent
+-- a match and its parties, of a watcher, who is never down, the record alone; and all datagrams
+-- that were ever sent
 pub record ProtocolState : Type 0 where
   pub id : ℕ
   pub terms : Terms
@@ -87,7 +91,8 @@ abbrev pub restored_seat : Slots → Option SavedParts → Bool → SeatState
 restored_seat slots r up =
     record { up = up; log = entries_in r; claim = claim_in r; claim_saved = true; slots = slots; restorable = r }
 
--- the start: all records, all slots and the list of datagrams are empty, there is no claim, and all parties are up
+-- the start: all records, all slots and the list of datagrams are empty, there is no claim, and all
+-- parties are up
 abbrev pub protocol_start : ℕ → Terms → ℕ → ProtocolState
 protocol_start id terms watchers = record {
   id = id;

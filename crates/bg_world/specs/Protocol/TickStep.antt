@@ -17,7 +17,8 @@ use Rattle.bg_world.specs.Protocol.Frames.{IfUp, AtWatcher, SendsAtMost}
 use Rattle.bg_world.specs.Protocol.RefereeTakeStep.{ShowsSaved}
 use Rattle.bg_world.specs.Protocol.State.{ProtocolState, Exists, seat_in}
 
--- so many datagrams are sent as the outcome says, at most `most`; where the link or memory fails, at most `most` too
+-- so many datagrams are sent as the outcome says, at most `most`; where the link or memory fails,
+-- at most `most` too
 abbrev pub SendsOnTick : (Datagram → Type 0) → ℕ → ProtocolState → Outcome → ProtocolState → Type 0
 SendsOnTick may most w (outcomes.Sent n) v = (sends : SendsAtMost may most w v) × (length sends.out ≡ n)
 SendsOnTick may most w outcomes.LinkFault v = SendsAtMost may most w v
@@ -28,15 +29,17 @@ SendsOnTick may most w _ v = ⊥
 abbrev pub want_packet : ℕ → Terms → ℕ → List Entry → Packet
 want_packet id terms party log = packet.Want id (rules_of terms) party (length log)
 
--- a seat's claim, where it is saved and its number is above the length of the record; else what the seat asks for
+-- a seat's claim, where it is saved and its number is above the length of the record; else what the
+-- seat asks for
 abbrev pub seat_packet : ℕ → Terms → ℕ → List Entry → Option (ℕ × Action) → Bool → Packet
 seat_packet id terms party log (Some claim) true =
     if nat_lt (length log) claim.0 then packet.Claim id (rules_of terms) party claim.0 claim.1
     else want_packet id terms party log
 seat_packet id terms party log _ _ = want_packet id terms party log
 
--- The referee sends two datagrams at most, of saved entries, under their own numbers, to parties that exist. A follower
--- sends one at most, to the referee: what it asks for, or a seat its saved claim.
+-- The referee sends two datagrams at most, of saved entries, under their own numbers, to parties
+-- that exist. A follower sends one at most, to the referee: what it asks for, or a seat its saved
+-- claim.
 abbrev pub TickStep : ProtocolState → Role → Outcome → ProtocolState → Type 0
 TickStep w AsReferee o v = IfUp w.referee.up w o v (SendsOnTick (λ d. Exists w d.to × ShowsSaved w d) 2 w o v)
 TickStep w (AsSeat player) o v =

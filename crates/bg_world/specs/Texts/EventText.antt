@@ -37,7 +37,8 @@ greatest_party = 255
 abbrev pub greatest_word : ℕ
 greatest_word = 4294967295
 
--- the numbers of the event are in their ranges; a move may have more than four steps, and each leads down
+-- the numbers of the event are in their ranges; a move may have more than four steps, and each
+-- leads down
 abbrev pub HasRightNumbers : Event → Type 0
 HasRightNumbers (event.Due word) = word ≤ greatest_word
 HasRightNumbers (event.Take party pick word) =
@@ -88,7 +89,8 @@ IsEventShape words =
 
 -- ---- faults
 
--- the fault names the first of three tests that the line fails: its shape, its numbers, the count of its steps
+-- the fault names the first of three tests that the line fails: its shape, its numbers, the count
+-- of its steps
 abbrev pub IsEventTextFault : TextFault → List ℕ → Type 0
 IsEventTextFault NotALine line = IsEventShape (words_of line) → ⊥
 IsEventTextFault BadNumber line =

@@ -34,7 +34,8 @@ due_text (Err due_fault.EqualOpening) = codes "due refused: equal opening"
 due_text (Err due_fault.RecordFull) = codes "due refused: record full"
 due_text (Err due_fault.Memory) = codes "out of memory"
 
--- the numbers of the first and of the last entry that a packet tells; the referee answers with such packets alone
+-- the numbers of the first and of the last entry that a packet tells; the referee answers with such
+-- packets alone
 abbrev pub entries_told : Packet → Option (ℕ × ℕ)
 entries_told (packet.Entries id rules start list) = Some (start, start + length list - 1)
 entries_told _ = None
@@ -158,8 +159,8 @@ pub record AreAnswersAlike (a b : Outcome) : Type 0 where
   pub second : b ≡ outcome.Took (take.Answer party other)
   pub same : entries_told one ≡ entries_told other
 
--- one line stands for both: it names neither the place where memory was wanted, nor whether the referee or a follower
--- had the packet in hand, nor what the entries of an answer are
+-- one line stands for both: it names neither the place where memory was wanted, nor whether the
+-- referee or a follower had the packet in hand, nor what the entries of an answer are
 abbrev pub ShareLine : Outcome → Outcome → Type 0
 ShareLine a b =
     (IsTrue (is_memory a) × IsTrue (is_memory b))

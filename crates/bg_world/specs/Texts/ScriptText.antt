@@ -47,7 +47,8 @@ pub record IsRefusedAt (lines : List (List ℕ)) (number : ℕ) (why : TextFault
   pub counted : number ≡ length events + 1
   pub fault : IsEventTextFault why bad
 
--- all lines are those of events: what each of these comes to in a world, one after the other, and what it holds then
+-- all lines are those of events: what each of these comes to in a world, one after the other, and
+-- what it holds then
 pub record IsPlayed (link_honest keepers_honest : Type 0) (old : WorldView) (lines : List (List ℕ)) (text : List ℕ)
     (verdict : Verdict) : Type 0 where
   pub events : List Event
@@ -76,7 +77,8 @@ IsTextFrom link_honest keepers_honest old input text verdict =
     × (IsPlayed link_honest keepers_honest old (lines_of input) text verdict
     ⊎ IsRefused (lines_of input) text verdict))
 
--- the text of a script: its world is one where nothing has happened yet, over devices in memory that never fail
+-- the text of a script: its world is one where nothing has happened yet, over devices in memory
+-- that never fail
 abbrev pub IsScriptText : Setup → List ℕ → List ℕ → Verdict → Type 0
 IsScriptText setup input text verdict =
     (plan : Plan) × IsEmptyPlan plan
@@ -87,7 +89,8 @@ abbrev pub IsScriptFault : ScriptFault → Setup → Type 0
 IsScriptFault (World why) setup = IsWorldFault why setup
 IsScriptFault (Engine why) setup = IsSetup setup.id (terms_in setup) setup.watchers
 
--- how often the source and the sink failed: once each where the answer is their fault, and else not at all
+-- how often the source and the sink failed: once each where the answer is their fault, and else not
+-- at all
 abbrev pub SourceFailsOnce : {T : Type 0} → Result T ScriptFault → ℕ → ℕ → Type 0
 SourceFailsOnce (Err (Engine engine.Read)) before after = after ≡ before + 1
 SourceFailsOnce _ before after = after ≡ before

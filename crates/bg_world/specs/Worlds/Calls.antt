@@ -1,4 +1,5 @@
--- The calls that one event makes on a world, and no others: of the link, of the keepers and of the cores.
+-- The calls that one event makes on a world, and no others: of the link, of the keepers and of the
+-- cores.
 use Rattle.std.specs.Prelude.{◌≡◌, ℕ, None, Option, Some, Result, MatchOption, slice_get, slice_set}
 use Rattle.bg_board.specs.declared.players.Player.{Player}
 use Rattle.bg_match.specs.declared.actions.Action.{Action}

@@ -1,4 +1,5 @@
--- Parties that run each in a process of its own, over one network: their calls, one after the other in any order.
+-- Parties that run each in a process of its own, over one network: their calls, one after the other
+-- in any order.
 use Rattle.std.specs.Prelude.{◌≡◌, ℕ, List, [], ◌∷◌, ⊤, MatchOption, slice_get, slice_set}
 use Rattle.bg_board.specs.declared.players.Player.{Player}
 use Rattle.bg_party.specs.Claims.{WatcherTicks}
@@ -99,8 +100,9 @@ NodeCalls link keepers w (events.Restart party) o v = NodeRestarts keepers w (ro
 
 -- ---- many, in any order
 
--- the devices of another process, or of another life of it: they count its own calls, and have failures of their own,
--- while the datagrams that were ever sent are common to all, and the slots have what was written to them
+-- the devices of another process, or of another life of it: they count its own calls, and have
+-- failures of their own, while the datagrams that were ever sent are common to all, and the slots
+-- have what was written to them
 pub record AreSeenAs (w : WorldView) (link : LinkView) (referee x o : KeeperView) : Type 0 where
   pub datagrams : link.sent ≡ w.link.sent
   pub referee_slots : referee.slots ≡ w.referee_keeper.slots
@@ -112,7 +114,8 @@ abbrev pub over_devices : WorldView → LinkView → KeeperView → KeeperView �
 over_devices w link referee x o =
     record w { link = link; referee_keeper = referee; x_keeper = x; o_keeper = o }
 
--- the calls of the events, each by the process of the party that it names, over an honest network and honest keepers
+-- the calls of the events, each by the process of the party that it names, over an honest network
+-- and honest keepers
 abbrev pub Interleaves : WorldView → List Event → List Outcome → WorldView → Type 0
 Interleaves old [] [] new = new ≡ old
 Interleaves old (event ∷ events) (outcome ∷ outcomes) new =

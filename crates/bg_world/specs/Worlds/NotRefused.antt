@@ -8,7 +8,8 @@ use Rattle.bg_world.specs.declared.events.Outcome.TheVariants as outcomes
 use Rattle.bg_world.specs.declared.events.RestoreCause.{RestoreCause}
 use Rattle.bg_world.specs.declared.events.RestoreCause.TheVariants as causes
 
--- the referee refuses the packet neither for its match nor its number nor its sender's turn nor the rules
+-- the referee refuses the packet neither for its match nor its number nor its sender's turn nor the
+-- rules
 abbrev pub IsNotRefusedByReferee : TakeOutcome → Type 0
 IsNotRefusedByReferee takes.OtherMatch = ⊥
 IsNotRefusedByReferee takes.Ahead = ⊥
@@ -16,7 +17,8 @@ IsNotRefusedByReferee takes.NotYourTurn = ⊥
 IsNotRefusedByReferee (takes.Illegal why) = ⊥
 IsNotRefusedByReferee _ = Unit {0}
 
--- a follower refuses the packet neither for its match nor for an entry that it holds otherwise nor for the rules
+-- a follower refuses the packet neither for its match nor for an entry that it holds otherwise nor
+-- for the rules
 abbrev pub IsNotRefusedByFollower : Learned → Type 0
 IsNotRefusedByFollower learns.OtherMatch = ⊥
 IsNotRefusedByFollower (learns.Conflict n) = ⊥

@@ -28,7 +28,8 @@ abbrev pub unused_link : Plan → LinkView
 unused_link plan =
     record { plan = Some plan.sends.items; sent = []; faults = 0; takes = 0; sends = 0; taken = Ok None }
 
--- the keeper in memory of a party that nothing was asked of, with empty slots, whose calls fail by the plan
+-- the keeper in memory of a party that nothing was asked of, with empty slots, whose calls fail by
+-- the plan
 abbrev pub unused_keeper : ℕ → Plan → KeeperView
 unused_keeper party plan = record {
   plan = Some (record { party = party; tears = plan.tears.items; reads = plan.reads.items });
@@ -66,7 +67,8 @@ pub record IsEmptyPlan (plan : Plan) : Type 0 where
   pub sends : plan.sends.items ≡ []
   pub reads : plan.reads.items ≡ []
 
--- Why there is no simulation is why there is no world; but memory is wanted also for what the plan says.
+-- Why there is no simulation is why there is no world; but memory is wanted also for what the plan
+-- says.
 abbrev pub IsSimulationFault : WorldFault → Setup → Plan → Type 0
 IsSimulationFault faults.Memory setup plan =
     IsSetup setup.id (terms_in setup) setup.watchers × (IsEmptyPlan plan → 1 ≤ setup.watchers)
@@ -74,8 +76,8 @@ IsSimulationFault fault setup plan = IsWorldFault fault setup
 
 -- ---- the run
 
--- All events happen, in order, over devices in memory that fail by the plan; the report counts; and they are a run of
--- the protocol from its start, to the state of the new world.
+-- All events happen, in order, over devices in memory that fail by the plan; the report counts; and
+-- they are a run of the protocol from its start, to the state of the new world.
 pub record Simulates
     (setup : Setup) (plan : Plan) (events : List Event) (report : RunReport) (new : WorldView) : Type 0 where
   pub outcomes : List Outcome

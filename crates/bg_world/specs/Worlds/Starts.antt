@@ -20,7 +20,8 @@ use Rattle.bg_world.specs.declared.worlds.setups.WorldFault.TheVariants as fault
 abbrev pub terms_in : Setup → Terms
 terms_in setup = terms_of setup.length setup.rules
 
--- the fault names the first test that fails; want of memory comes last, and only where there are watchers
+-- the fault names the first test that fails; want of memory comes last, and only where there are
+-- watchers
 abbrev pub IsWorldFault : WorldFault → Setup → Type 0
 IsWorldFault faults.TooManyWatchers setup = most_watchers < setup.watchers
 IsWorldFault faults.LengthOutOfRange setup =

@@ -16,17 +16,18 @@ use Rattle.bg_world.specs.Promises.Survival.{SavesSurvive}
 use Rattle.bg_world.specs.Worlds.Views.{WorldView}
 use Rattle.bg_world.specs.Worlds.WorldState.{IsLogOf, IsReachedWorld, restorable_of, protocol_state}
 
--- The headline over what a world holds, where its referee is up and has this record: each record that a party holds is
--- of the world's match, and a prefix of it; it is a legal match; and each entry of a seat in it answers the one action
--- that this seat ever claimed under its number.
+-- The headline over what a world holds, where its referee is up and has this record: each record
+-- that a party holds is of the world's match, and a prefix of it; it is a legal match; and each
+-- entry of a seat in it answers the one action that this seat ever claimed under its number.
 pub record HeadlineHeld (w : WorldView) (log : Log) : Type 0 where
   pub of_match : (party : ℕ) (held : Log) → held_of w (role party) ≡ Some held → IsLogOf w.id w.terms held
   pub prefix : (party : ℕ) (held : Log) → held_of w (role party) ≡ Some held → IsPrefix held.entries log.entries
   pub legal : IsLegalRecord w.terms log.entries
   pub answered : AreAnswered w.terms log.entries w.link.sent
 
--- The headline over what a world holds, and over the state of the protocol that it is in; and the other laws of runs.
--- That state has the datagrams that were sent over the link, and of a party that is up the record that it holds.
+-- The headline over what a world holds, and over the state of the protocol that it is in; and the
+-- other laws of runs. That state has the datagrams that were sent over the link, and of a party
+-- that is up the record that it holds.
 pub record Upholds (w : WorldView) : Type 0 where
   pub world : IsReachedWorld w
   pub held_headline : (log : Log) → held_of w (role referee) ≡ Some log → HeadlineHeld w log

@@ -15,7 +15,8 @@ use Rattle.bg_world.specs.declared.devices.Keeper as keeper
 use Rattle.bg_world.specs.declared.devices.Link as link
 use Rattle.bg_world.specs.declared.devices.plans.FailSend.{FailSend}
 
--- of a link: what was ever sent over it; which sends fail, where that is known, what is counted, and the last take
+-- of a link: what was ever sent over it; which sends fail, where that is known, what is counted,
+-- and the last take
 pub record LinkView : Type 0 where
   pub plan : Option (List FailSend)
   pub sent : List Datagram
@@ -34,7 +35,8 @@ link_view l device = record {
   taken = l.taken device;
 }
 
--- of a keeper: its slots; which calls fail, where that is known, what is counted, and what the last write answered
+-- of a keeper: its slots; which calls fail, where that is known, what is counted, and what the last
+-- write answered
 pub record KeeperView : Type 0 where
   pub plan : Option KeeperPlan
   pub slots : Slots
@@ -53,7 +55,8 @@ keeper_view k device = record {
   written = k.written device;
 }
 
--- of a world: its match, its link, the keepers of those who save, and the cores; a party that is down has none
+-- of a world: its match, its link, the keepers of those who save, and the cores; a party that is
+-- down has none
 pub record WorldView : Type 0 where
   pub id : ℕ
   pub terms : Terms

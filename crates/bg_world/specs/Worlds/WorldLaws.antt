@@ -13,7 +13,8 @@ use Rattle.bg_world.specs.declared.events.Event.TheVariants as events
 use Rattle.bg_world.specs.declared.events.Outcome.{Outcome}
 use Rattle.bg_world.specs.declared.worlds.setups.Setup.{Setup}
 
--- over unused devices a run leads to a new world, and the state of the protocol that it is in is the start
+-- over unused devices a run leads to a new world, and the state of the protocol that it is in is
+-- the start
 abbrev pub NewWorldsAreAtTheStart : Type 0
 NewWorldsAreAtTheStart =
     (setup : Setup) (link : LinkView) (referee_keeper x_keeper o_keeper : KeeperView)
@@ -43,8 +44,8 @@ pub record ArePlansKnown (w : WorldView) : Type 0 where
   pub referee : IsSome w.referee_keeper.plan
   pub seats : (player : Player) → IsSome (seat_keeper w player).plan
 
--- between the same two worlds any event comes to one outcome, over honest devices with known plans, from a world that a
--- run leads to, want of memory aside
+-- between the same two worlds any event comes to one outcome, over honest devices with known plans,
+-- from a world that a run leads to, want of memory aside
 abbrev pub ComeToOneOutcome : Type 0 → Type 0 → Type 0
 ComeToOneOutcome link_honest keepers_honest =
     link_honest → keepers_honest
@@ -60,7 +61,8 @@ CallsThrough link_honest keepers_honest old (event ∷ events) (outcome ∷ outc
     × CallsThrough link_honest keepers_honest new events outcomes worlds
 CallsThrough link_honest keepers_honest old _ _ _ = ⊥
 
--- of two lists of outcomes that fit the same calls through the same worlds there is one, under these premises
+-- of two lists of outcomes that fit the same calls through the same worlds there is one, under
+-- these premises
 abbrev pub ComeToOneList : Type 0 → Type 0 → Type 0
 ComeToOneList link_honest keepers_honest =
     link_honest → keepers_honest

@@ -73,7 +73,8 @@ abbrev pub history_of : List Event → List Outcome → List (Event × Outcome)
 history_of (event ∷ events) (outcome ∷ outcomes) = (event, outcome) ∷ history_of events outcomes
 history_of _ _ = []
 
--- from a reached world the events are a run of the protocol, with these outcomes, and leave a reached world
+-- from a reached world the events are a run of the protocol, with these outcomes, and leave a
+-- reached world
 abbrev pub RunsProtocol : WorldView → List Event → List Outcome → WorldView → Type 0
 RunsProtocol old events outcomes new =
     (before : IsReachedWorld old)
@@ -88,7 +89,8 @@ pub record RunsCalls
   pub calls : CallsAll link_honest keepers_honest old events outcomes new
   pub reports : Reports report events outcomes
 
--- All events happen, in order; the report counts; and over honest devices they are a run of the protocol.
+-- All events happen, in order; the report counts; and over honest devices they are a run of the
+-- protocol.
 pub record RunsAll
     (link_honest keepers_honest : Type 0) (old : WorldView) (events : List Event) (report : RunReport)
     (new : WorldView) : Type 0 where

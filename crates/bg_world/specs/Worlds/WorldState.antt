@@ -106,7 +106,8 @@ pub record CoresMatch (w : WorldView) (r : Restorable) : Type 0 where
 
 -- ---- what followers keep beside their records
 
--- each early entry that the follower keeps stood under its number in entries that were sent to its party
+-- each early entry that the follower keeps stood under its number in entries that were sent to its
+-- party
 abbrev pub KeepsWhatWasShown : ℕ → Terms → List Datagram → ℕ → FollowerView → Type 0
 KeepsWhatWasShown id terms sent party f = (n : ℕ) (e : Entry) → IsEarly f n e → WasShown id terms sent party n e
 

@@ -143,7 +143,8 @@ impl RefereeNode {
 
     /// Begins a save, and returns what is to be written, for a host that writes it by itself, for
     /// instance together with the saves of others. The save is under way until
-    /// [`end_save`](Self::end_save) is told what became of the write, and a change of the record ends it.
+    /// [`end_save`](Self::end_save) is told what became of the write, and a change of the record
+    /// ends it.
     ///
     /// # Errors
     /// The outcome of the save: `Down`, `SavesSpent` or `Memory`. Then nothing changes.

@@ -2,7 +2,8 @@ use Rattle.std.proofs.Common.{◌≡◌, ◌≤◌, ◌+◌, ◌-◌, ◌++◌, 
 use Rattle.std.specs.Io.KnownBytes.{Consumes}
 use Rattle.bg_streams.proofs.transfers.read_input.Given as goal
 
--- what was given and what was read of the known bytes, a byte at least with each read, and no read failed
+-- what was given and what was read of the known bytes, a byte at least with each read, and no read
+-- failed
 abbrev pub invariant-loop-chunk : goal.invariant-loop-chunk
 invariant-loop-chunk g l = record {
   read : Consumes (g.S.Source.remaining l.initial.source) (g.S.Source.remaining l.source) l.input.items;

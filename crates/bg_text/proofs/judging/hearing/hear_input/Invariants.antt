@@ -4,8 +4,8 @@ use Rattle.bg_text.specs.Judge.Hearing.{HasHeard}
 use Rattle.bg_text.specs.Limits.{most_bytes}
 use Rattle.bg_text.proofs.judging.hearing.hear_input.Given as goal
 
--- what was given and what was read of the known bytes, a byte at least with each read, and no read failed; all of it was
--- told
+-- what was given and what was read of the known bytes, a byte at least with each read, and no read
+-- failed; all of it was told
 abbrev pub invariant-loop-left : goal.invariant-loop-left
 invariant-loop-left g l = record {
   input : List ℕ;
