@@ -1,6 +1,7 @@
 pub mod Counted
 pub mod Distinct
 pub mod Followed
+pub mod Judging
 pub mod Latest
 pub mod Listed
 pub mod Named

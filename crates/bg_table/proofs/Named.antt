@@ -18,6 +18,7 @@ use Rattle.bg_turns.specs.declared.throws.Dice.{Dice}
 use Rattle.bg_text.specs.Entries.EntryText.{step_text}
 use Rattle.bg_table.specs.Laws.{NamesStep}
 use Rattle.bg_table.specs.StepRefusals.{IsRefusedAt, judging_pips, reason_words, refusal_words, refused_words}
+use Rattle.bg_table.specs.declared.step_refusals.DiceLeft.{DiceLeft}
 use Rattle.bg_table.specs.declared.step_refusals.StepRefusal.{StepRefusal}
 
 -- the die is one of the two
@@ -113,14 +114,14 @@ no_fault b player step die fault.NotAllHome h is = let none = h.home is.2 in let
 no_fault b player step die fault.HigherChecker h is = let none = h.highest is.2 is.4 in let some = is.5 in omega (arith, none, some)
 
 -- behind steps that can be played the next one is refused
-refused : (b : Position) (player : Player) (dice : Dice) (steps : List FromTo) (n : ℕ) (refusal : Option StepRefusal)
-    → n < length steps → AreThrown b player dice (take n steps) → IsRefusedAt b player dice steps n refusal
+refused : (b : Position) (player : Player) (dice : Dice) (left : DiceLeft) (steps : List FromTo) (n : ℕ) (refusal : Option StepRefusal)
+    → n < length steps → AreThrown b player dice (take n steps) → IsRefusedAt b player dice left steps n refusal
     → (one : StepRefusal) × (refusal ≡ Some one) × (slice_get steps n ≡ Some one.step)
-refused b player dice [] n refusal within played h = absurd (omega arith)
-refused b player dice (step ∷ rest) zero refusal within played h = (record { step = step; fault = h.0 }, h.2, refl)
-refused b player dice (step ∷ rest) (suc n) refusal within played (inl h) =
-    refused (after_step b player step) player dice rest n refusal (omega arith) played.1 h.1
-refused b player dice (step ∷ rest) (suc n) refusal within played (inr h) =
+refused b player dice left [] n refusal within played h = absurd (omega arith)
+refused b player dice left (step ∷ rest) zero refusal within played h = (record { step = step; fault = h.0 }, h.2, refl)
+refused b player dice left (step ∷ rest) (suc n) refusal within played (inl h) =
+    refused (after_step b player step) player dice left rest n refusal (omega arith) played.1 h.1
+refused b player dice left (step ∷ rest) (suc n) refusal within played (inr h) =
     absurd (no_fault b player step (judging_pips step dice) h.0 played.0 h.1)
 
 -- a turn that can't be played has a step behind those that can
@@ -131,16 +132,17 @@ more_steps b player dice steps n within played not_all = elim (cases_lt n (lengt
   | inr all ↦ absurd (not_all (rw (take_all n steps all) at played))
 ]
 
-words : (player : Player) (dice : Dice) (refusal : StepRefusal)
-    → refusal_words player dice (Some refusal) ++ 10 ∷ []
-    ≡ step_text refusal.step ++ codes " can't be played: " ++ (reason_words player dice refusal.step refusal.fault ++ 10 ∷ [])
+words : (b : Position) (player : Player) (dice : Dice) (refusal : StepRefusal)
+    → refusal_words b player dice (Some refusal) ++ 10 ∷ []
+    ≡ step_text refusal.step ++ codes " can't be played: " ++ (reason_words b player dice refusal.step refusal.fault ++ 10 ∷ [])
 unfolding refusal_words refused_words
-words player dice refusal = append_assoc (step_text refusal.step ++ codes " can't be played: ") (reason_words player dice refusal.step refusal.fault) (10 ∷ [])
+words b player dice refusal =
+    append_assoc (step_text refusal.step ++ codes " can't be played: ") (reason_words b player dice refusal.step refusal.fault) (10 ∷ [])
 
 pub names_step : NamesStep
-names_step b player dice steps playable line wrong said =
+names_step b player dice steps playable line wrong (left, refusal, are_left, at, said) =
     let part = wrong.1 in
     let within = more_steps b player (dice_list dice) steps playable part.within part.playable wrong.0 in
-    let of = refused b player dice steps playable said.0 within (thrown b player dice (take playable steps) part.playable) said.1 in
-    let line_of = ap (λ (r : Option StepRefusal). refusal_words player dice r ++ 10 ∷ []) of.1 in
-    (of.0.step, reason_words player dice of.0.step of.0.fault ++ 10 ∷ [], of.2, said.2 ∙ line_of ∙ words player dice of.0)
+    let of = refused b player dice left steps playable refusal within (thrown b player dice (take playable steps) part.playable) at in
+    let line_of = ap (λ (r : Option StepRefusal). refusal_words b player dice r ++ 10 ∷ []) of.1 in
+    (of.0.step, reason_words b player dice of.0.step of.0.fault ++ 10 ∷ [], of.2, said ∙ line_of ∙ words b player dice of.0)

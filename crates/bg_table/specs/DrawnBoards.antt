@@ -1,4 +1,5 @@
--- The board with its checkers one above another, and as a list of points: for screens that are wide, or narrow.
+-- The board with its checkers one above another, and as a list of points: for screens that are
+-- wide, or narrow.
 use Rattle.std.specs.Prelude.{ℕ, ◌-◌, ◌==◌, ◌&&◌, ◌||◌, List, [], ◌∷◌, ◌++◌, nat_lt, codes, if◌then◌else◌}
 use Rattle.std.specs.List.{flat_map}
 use Rattle.std.specs.Fmt.{decimal}
@@ -21,8 +22,8 @@ from_edge = 1 ∷ 2 ∷ 3 ∷ 4 ∷ 5 ∷ []
 abbrev pub to_edge : List ℕ
 to_edge = 5 ∷ 4 ∷ 3 ∷ 2 ∷ 1 ∷ []
 
--- what a stack of so many checkers shows in a row: a checker, in the last row their number where there are more, and
--- beyond them nothing, but for a dot where there is none
+-- what a stack of so many checkers shows in a row: a checker, in the last row their number where
+-- there are more, and beyond them nothing, but for a dot where there is none
 abbrev pub stacked : List ℕ → ℕ → ℕ → List ℕ
 stacked mark checkers row =
     if nat_lt checkers row then (if row == 1 then codes "." else codes "")
@@ -55,7 +56,8 @@ drawn_board b reader =
     ++ line_text (numbers_words lower_left lower_right)
     ++ line_text (seen_aside b reader)
 
--- a point of the reader with what stands there, as in "24 X2", in a line of its own; nothing where nothing stands
+-- a point of the reader with what stands there, as in "24 X2", in a line of its own; nothing where
+-- nothing stands
 abbrev pub listed_point : Position → Player → ℕ → List ℕ
 listed_point b reader point =
     if nat_lt 0 (count b reader point) || nat_lt 0 (count b (opponent reader) (25 - point))

@@ -25,8 +25,8 @@ abbrev pub TellsWin : Type 0
 TellsWin = (s : State) (winner reader : Player) (points : ℕ) → 1 ≤ points
     → result_words s (after_win s winner points) reader ≡ won_words (after_win s winner points) winner points reader
 
--- each text of a turn is shorter than a cell of their list. The cells of a line, without the blank at the end, have as
--- many letters as the line at most, or there is one alone
+-- each text of a turn is shorter than a cell of their list. The cells of a line, without the blank
+-- at the end, have as many letters as the line at most, or there is one alone
 abbrev pub FitsLines : Type 0
 FitsLines = (b : Position) (player : Player) (turns : List (List FromTo)) (columns width : ℕ)
     → width ≡ cell_width b player turns

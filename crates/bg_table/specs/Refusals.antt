@@ -62,7 +62,8 @@ abbrev pub IsWhy : State → Player → Action → EntryFault → List ℕ → T
 IsWhy s reader a why line = MatchOption (refused_turn s.phase a why) (line ≡ why_words s.phase reader a why)
     (λ refused. IsTurnRefusal s.board refused.player refused.dice refused.turn refused.fault line)
 
--- the text says to a player why an action of his can't be made, and then whose turn it is and what he may do
+-- the text says to a player why an action of his can't be made, and then whose turn it is and what
+-- he may do
 abbrev pub IsRefusal : State → Player → Action → EntryFault → List ℕ → Type 0
 IsRefusal s reader a why text =
     (reason : List ℕ) × (o : Offers) × IsWhy s reader a why reason × AreOffered s reader o

@@ -36,7 +36,8 @@ unfoldable pub won_words : State → Player → ℕ → Player → List ℕ
 won_words t winner points reader =
     line_text (winner_words winner reader ++ worth_words t.phase points ++ scores_words t winner)
 
--- what a game came to, where the match stood at s and stands at t: nothing where no score is greater
+-- what a game came to, where the match stood at s and stands at t: nothing where no score is
+-- greater
 unfoldable pub result_words : State → State → Player → List ℕ
 result_words s t reader =
     if nat_lt 0 (gained s t X) then won_words t X (gained s t X) reader

@@ -7,7 +7,8 @@ use Rattle.bg_board.specs.declared.players.Player.{Player}
 use Rattle.bg_text.specs.Boards.BoardText.{in_four, line_text, numbers_line}
 use Rattle.bg_text.specs.Entries.EntryText.{letter}
 
--- what stands on a point of the reader: the letter of who holds it and how many checkers he has there, or a dot
+-- what stands on a point of the reader: the letter of who holds it and how many checkers he has
+-- there, or a dot
 abbrev pub seen_cell : Position → Player → ℕ → List ℕ
 seen_cell b reader point =
     if nat_lt 0 (count b reader point) then letter reader ++ decimal (count b reader point)

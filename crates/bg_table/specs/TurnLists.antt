@@ -26,11 +26,13 @@ abbrev pub cell_width : Position → Player → List (List FromTo) → ℕ
 cell_width b player [] = 1
 cell_width b player (steps ∷ turns) = max (length (marked_steps b player steps) + 1) (cell_width b player turns)
 
--- how many cells of a width fit into a line of so many letters, the last of them without the blank at its end
+-- how many cells of a width fit into a line of so many letters, the last of them without the blank
+-- at its end
 abbrev pub in_row : ℕ → ℕ → ℕ
 in_row columns width = max ((columns + 1) / width) 1
 
--- whether a line ends behind the cell of this number, from 1, where a line has so many, and so many stand behind it
+-- whether a line ends behind the cell of this number, from 1, where a line has so many, and so many
+-- stand behind it
 abbrev pub ends_line : ℕ → ℕ → ℕ → Bool
 ends_line number row behind = number % row == 0 || behind == 0
 
@@ -39,7 +41,8 @@ abbrev pub gap : ℕ → Bool → List ℕ
 gap spare true = codes "\n"
 gap spare false = replicate spare 32
 
--- the texts of turns, in cells of this width and so many in a line: the first has this number, from 1
+-- the texts of turns, in cells of this width and so many in a line: the first has this number, from
+-- 1
 abbrev pub cells_text : Position → Player → ℕ → ℕ → ℕ → List (List FromTo) → List ℕ
 cells_text b player width row number [] = []
 cells_text b player width row number (steps ∷ turns) =

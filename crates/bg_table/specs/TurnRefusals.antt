@@ -12,8 +12,9 @@ use Rattle.bg_turns.specs.declared.faults.TurnFault.{TurnFault}
 use Rattle.bg_turns.specs.declared.faults.TurnFault.TheVariants.{StepIllegal, MoreCanBePlayed, LargerMustBePlayed}
 use Rattle.bg_turns.specs.declared.throws.Dice.{Dice}
 use Rattle.bg_text.specs.Boards.BoardText.{line_text}
-use Rattle.bg_table.specs.StepRefusals.{IsRefusedAt, refusal_words}
+use Rattle.bg_table.specs.StepRefusals.{AreLeft, IsRefusedAt, refusal_words}
 use Rattle.bg_table.specs.StepTexts.{steps_text}
+use Rattle.bg_table.specs.declared.step_refusals.DiceLeft.{DiceLeft}
 use Rattle.bg_table.specs.declared.step_refusals.StepRefusal.{StepRefusal}
 
 -- the legal turns, each once, the greatest first
@@ -55,8 +56,9 @@ larger_words dice (greatest ∷ turns) = must_play_larger_words (larger_die dice
 -- the line refuses the step behind so many that can be played
 abbrev pub IsStepLine : Position → Player → Dice → List FromTo → ℕ → List ℕ → Type 0
 IsStepLine b player dice steps playable line =
-    (refusal : Option StepRefusal) × IsRefusedAt b player dice steps playable refusal
-    × (line ≡ line_text (refusal_words player dice refusal))
+    (left : DiceLeft) × (refusal : Option StepRefusal) × AreLeft dice steps playable left
+    × IsRefusedAt b player dice left steps playable refusal
+    × (line ≡ line_text (refusal_words b player dice refusal))
 
 -- the line says that more steps must be played
 abbrev pub IsMoreLine : Position → Player → Dice → List ℕ → Type 0
@@ -68,7 +70,8 @@ abbrev pub IsLargerLine : Position → Player → Dice → List ℕ → Type 0
 IsLargerLine b player dice line =
     (turns : List (List FromTo)) × AreLegalTurns b player dice turns × (line ≡ line_text (larger_words dice turns))
 
--- the line says why a turn with this fault is refused, with the greatest legal turn where another one must be played
+-- the line says why a turn with this fault is refused, with the greatest legal turn where another
+-- one must be played
 abbrev pub IsTurnRefusal : Position → Player → Dice → List FromTo → TurnFault → List ℕ → Type 0
 IsTurnRefusal b player dice steps (StepIllegal playable) line = IsStepLine b player dice steps playable line
 IsTurnRefusal b player dice steps MoreCanBePlayed line = IsMoreLine b player dice line

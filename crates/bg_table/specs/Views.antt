@@ -19,8 +19,8 @@ unfoldable pub table_text : State → Player → Drawing → List ℕ
 table_text s reader drawing =
     board_drawn drawing s.board reader ++ line_text (pips_line s.board reader) ++ line_text (cube_line s reader)
 
--- the text is what a player sees of a match: where it stands after its entries, what the other player did last, and
--- what is to happen next
+-- the text is what a player sees of a match: where it stands after its entries, what the other
+-- player did last, and what is to happen next
 abbrev pub IsSeatView : Log → Player → Drawing → List ℕ → Type 0
 IsSeatView log reader drawing text =
     (s : State) × (seen : List ℕ) × StandsAt log.terms log.entries s

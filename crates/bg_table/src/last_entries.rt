@@ -1,14 +1,20 @@
 //! A player's last entry.
-ghost use Rattle.std.specs.Prelude.{◌≡◌, ◌≤◌, ◌++◌, ◌↔◌, IsTrue, MatchOption, OnOk, length};
-ghost use Rattle.bg_match.specs.Match.{IsLegalRecord};
-ghost use Rattle.bg_table.specs.LastEntries.{AddsLastLine, HasMadeNone, IsLastOf, IsMadeBy, counted_words as note};
+ghost use Rattle.std.specs.Prelude.{◌≡◌, ◌≤◌, ◌++◌, ◌↔◌, Some, [], IsTrue, MatchOption, OnOk, length};
+ghost use Rattle.bg_match.specs.Match.{IsLegalRecord, at_number};
+ghost use Rattle.bg_table.specs.Grown.{Adds};
+ghost use Rattle.bg_table.specs.LastEntries.{AddsLastLine, CouldMove, CouldNotMove, HasMadeNone, HasNoRoll, IsEntryOf};
+ghost use Rattle.bg_table.specs.LastEntries.{IsLastOf, IsLastRoll, IsMadeBy, IsNoRoll, IsRoll, TellsEntry};
+ghost use Rattle.bg_table.specs.LastEntries.{counted_words as note, thrown_words, not_moved_words};
 
+use crate::step_refusals::put_die;
 use bg_board::Player;
 use bg_match::{Entry, Number, Record};
 use bg_text::{entry_text, letter, put_text};
+use bg_turns::Dice;
 use std::alloc::AllocError;
 
-/// Appends the line of the last entry that a player made, if there is one.
+/// Appends the line of the last entry that a player made, if there is one. Where the player could
+/// not move, the line says so in place of the roll, or of the move without a step.
 pub(crate) fn put_last(out: &mut Vec<u8>, log: &Record, player: Player) -> Result<(), AllocError>
     ensures { OnOk result (AddsLastLine log.now player out.old.items out.new.items) }
 {
@@ -59,11 +65,122 @@ fn put_last_line(
     requires legal { IsLegalRecord log.now.terms log.now.entries }
     ensures { OnOk result (AddsLastLine log.now player out.old.items out.new.items) }
 {
-    let entry = log.entry(number).unwrap();
     put_text(out, "last: ")?;
-    put_text(out, entry_text(Some(player), entry).as_str())?;
-    put_counted(out, player, entry)?;
+    put_told(out, log, player, number)?;
     put_text(out, "\n")
+}
+
+/// Appends what a player did by the entry of this number, or that the player could not move.
+fn put_told(
+    out: &mut Vec<u8>,
+    log: &Record,
+    player: Player,
+    number: Number,
+) -> Result<(), AllocError>
+    requires made { IsMadeBy log.now number player }
+    requires legal { IsLegalRecord log.now.terms log.now.entries }
+    ensures { OnOk result (Adds (TellsEntry log.now player number) out.old.items out.new.items) }
+{
+    match unmoved_dice(log, number) {
+        Some(dice) => put_not_moved(out, player, dice),
+        None => put_entry(out, log, player, number),
+    }
+}
+
+/// Returns the dice that a player could not move, as the entry of this number shows.
+fn unmoved_dice(log: &Record, number: Number) -> Option<Dice>
+    requires last { number ≤ length log.now.entries }
+    requires legal { IsLegalRecord log.now.terms log.now.entries }
+    ensures { MatchOption result (CouldMove log.now number) (λ dice. CouldNotMove log.now number dice) }
+{
+    if let Some(dice) = roll_at(log, number) {
+        return if is_pass(log, number + 1) {
+            Some(dice)
+        } else {
+            None
+        };
+    }
+    if is_empty_move(log, number) {
+        last_roll(log, number)
+    } else {
+        None
+    }
+}
+
+/// Returns the dice of the last roll before the entry of this number.
+fn last_roll(log: &Record, number: Number) -> Option<Dice>
+    ensures { MatchOption result (HasNoRoll log.now 0 number) (λ dice. IsLastRoll log.now number dice) }
+{
+    for behind in 1..number {
+        if let Some(dice) = roll_at(log, number - behind) {
+            return Some(dice);
+        }
+    }
+    None
+}
+
+/// Returns the dice of the entry of this number, where it is a roll.
+fn roll_at(log: &Record, number: Number) -> Option<Dice>
+    ensures { MatchOption result (IsNoRoll log.now number) (λ dice. IsRoll log.now number dice) }
+{
+    match log.entry(number) {
+        Some(Entry::Rolled(dice)) => Some(*dice),
+        _ => None,
+    }
+}
+
+/// Returns whether the entry of this number passes a turn.
+fn is_pass(log: &Record, number: Number) -> bool
+    ensures { IsTrue result ↔ (at_number log.now.entries number ≡ Some Entry.Passed) }
+{
+    matches!(log.entry(number), Some(Entry::Passed))
+}
+
+/// Returns whether the entry of this number is a move without a step.
+fn is_empty_move(log: &Record, number: Number) -> bool
+    ensures { IsTrue result ↔ (at_number log.now.entries number ≡ Some (Entry.Moved [])) }
+{
+    match log.entry(number) {
+        Some(Entry::Moved(turn)) => turn.steps().is_empty(),
+        _ => false,
+    }
+}
+
+/// Appends that a player rolled these dice and could not move.
+#[tactic(auto, unfolding(crate::specs::LastEntries::not_moved_words))]
+fn put_not_moved(out: &mut Vec<u8>, player: Player, dice: Dice) -> Result<(), AllocError>
+    ensures { OnOk result (out.new.items ≡ out.old.items ++ not_moved_words player dice) }
+{
+    put_text(out, letter(player))?;
+    put_text(out, " rolled ")?;
+    put_thrown(out, dice)?;
+    put_text(out, " and could not move")
+}
+
+/// Appends what two dice show.
+#[tactic(auto, unfolding(crate::specs::LastEntries::thrown_words))]
+fn put_thrown(out: &mut Vec<u8>, dice: Dice) -> Result<(), AllocError>
+    ensures { OnOk result (out.new.items ≡ out.old.items ++ thrown_words dice) }
+{
+    put_die(out, dice.first)?;
+    put_text(out, " ")?;
+    put_die(out, dice.second)
+}
+
+/// Appends the entry of this number, which the player made.
+fn put_entry(
+    out: &mut Vec<u8>,
+    log: &Record,
+    player: Player,
+    number: Number,
+) -> Result<(), AllocError>
+    requires made { IsMadeBy log.now number player }
+    requires legal { IsLegalRecord log.now.terms log.now.entries }
+    ensures { OnOk result (Adds (IsEntryOf log.now player number) out.old.items out.new.items) }
+{
+    let entry = log.entry(number).unwrap();
+    put_text(out, entry_text(Some(player), entry).as_str())?;
+    put_counted(out, player, entry)
 }
 
 /// Appends whose numbering the points of an entry have.

@@ -6,7 +6,7 @@ ghost use Rattle.bg_table.specs.TurnRefusals.{IsLargerLine, IsMoreLine, IsStepLi
 ghost use Rattle.bg_table.specs.TurnRefusals.{example_words, larger_words, more_words, must_play_larger_words};
 ghost use Rattle.bg_table.specs.TurnRefusals.{must_play_words, of_four_words};
 
-use crate::step_refusals::{put_die, put_step_refusal, refused_step};
+use crate::step_refusals::{dice_left, put_die, put_step_refusal, refused_step};
 use crate::step_texts::put_steps;
 use bg_board::{Board, Die, Player, Step};
 use bg_text::{put_number, put_text};
@@ -17,8 +17,9 @@ use std::alloc::{AllocError, Global};
 /// [`judge_turn`](bg_turns::judge_turn) gives this fault:
 ///
 /// - `StepIllegal`: which step can't be played, and why, as in
-///   `24-18 can't be played: point 18 is held by O`. The die that judges the step is the one that
-///   shows its pips, else the larger one.
+///   `24-18 can't be played: point 18 is held by O`. The step is judged by a die that those before
+///   it left: the one that shows its pips, else the larger one. Where none of these leads where it
+///   ends, but a die that was played does, the reason is `no die is left for it`.
 /// - `MoreCanBePlayed`, `LargerMustBePlayed`: what must be played, with the greatest legal turn, as
 ///   in `you must play both dice: 24-18 13-11 can be played`.
 ///
@@ -74,8 +75,9 @@ fn put_illegal_step(
 ) -> Result<(), AllocError>
     ensures { OnOk result (Adds (IsStepLine board.now player dice steps.now playable) out.old.items out.new.items) }
 {
-    let refusal = refused_step(*board, player, dice, steps, playable);
-    put_step_refusal(out, player, dice, refusal)?;
+    let left = dice_left(dice, steps, playable);
+    let refusal = refused_step(*board, player, dice, left, steps, playable);
+    put_step_refusal(out, board, player, dice, refusal)?;
     put_text(out, "\n")?;
     Ok(())
 }

@@ -62,7 +62,8 @@ meaning_faults b p dice legs typed_fault.SeveralTurns typed_fault.WrongHits (emp
 meaning_faults b p dice legs typed_fault.SeveralTurns (typed_fault.Ambiguous one two) (empty, h) (any, marks, unwritten, k) unlike unmet = absurd (any empty)
 meaning_faults b p dice legs typed_fault.SeveralTurns typed_fault.SeveralTurns h k unlike unmet = refl
 
--- what a refusal says of the legs that are told: there are none, more than four, or some that mean no turn
+-- what a refusal says of the legs that are told: there are none, more than four, or some that mean
+-- no turn
 data Why (b : Position) (p : Player) (dice : Dice) (typed : List ℕ) (fault : TypedFault) : Type 0 where
   Nothing : fault ≡ typed_fault.NotAMovement → ((legs : List Leg) → TellsTyped typed legs → ⊥) → Why b p dice typed fault
   Many : fault ≡ typed_fault.TooManySteps → (legs : List Leg) → TellsTyped typed legs → 4 < length legs → Why b p dice typed fault

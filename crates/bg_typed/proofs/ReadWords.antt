@@ -32,7 +32,8 @@ word_after text word behind legs is (w ∷ words, rest, (after, first, begins), 
 pub no_words : (text : List ℕ) → IsBlankText text → TellsWords text []
 no_words text blank = ([], text, refl, blank, refl)
 
--- the words up to the rest tell legs, with which those of the rest go on, and the rest tells some where the text does
+-- the words up to the rest tell legs, with which those of the rest go on, and the rest tells some
+-- where the text does
 pub record IsReadUpTo (text rest : List ℕ) (legs : List Leg) (too_many : Bool) : Type 0 where
   pub told : List Leg
   pub goes_on : (more : List Leg) → TellsWords rest more → TellsWords text (told ++ more)

@@ -14,7 +14,8 @@ use Rattle.bg_typed.specs.TypedWords.{TellsTyped}
 abbrev pub has_marks : List Leg → Bool
 has_marks legs = list_any (λ leg. leg.hits) legs
 
--- the turn of legs that mark no hit: the legs as steps where these are a legal turn, and else the unambiguous one
+-- the turn of legs that mark no hit: the legs as steps where these are a legal turn, and else the
+-- unambiguous one
 abbrev pub MeansUnmarked : Position → Player → Dice → List Leg → List FromTo → Type 0
 MeansUnmarked board player dice legs turn =
     ((turn ≡ steps_of legs) × IsLegalTurn board player dice turn)
@@ -25,8 +26,8 @@ pub record IsOnly (board : Position) (player : Player) (dice : Dice) (turn : Lis
   pub legal : IsLegalTurn board player dice turn
   pub only : (other : List FromTo) → IsLegalTurn board player dice other → other ≡ turn
 
--- the turn that legs mean: the only one where there are none. Where hits are marked it is the turn that a match file
--- tells by them, which has just these hits
+-- the turn that legs mean: the only one where there are none. Where hits are marked it is the turn
+-- that a match file tells by them, which has just these hits
 abbrev pub MeansLegs : Position → Player → Dice → List Leg → List FromTo → Type 0
 MeansLegs board player dice legs turn =
     ((legs ≡ []) × IsOnly board player dice turn)

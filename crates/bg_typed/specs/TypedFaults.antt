@@ -13,7 +13,8 @@ use Rattle.bg_typed.specs.TypedWords.{TellsTyped}
 use Rattle.bg_typed.specs.declared.faults.TypedFault.{TypedFault}
 use Rattle.bg_typed.specs.declared.faults.TypedFault.TheVariants as typed_fault
 
--- turns of one movement hit on different points: the greatest of them, and the greatest of those that hit otherwise
+-- turns of one movement hit on different points: the greatest of them, and the greatest of those
+-- that hit otherwise
 pub record AreTwo (board : Position) (player : Player) (dice : Dice) (legs : List Leg) (one other : List FromTo)
     : Type 0 where
   pub first : IsGreatest board player dice legs one

@@ -24,7 +24,7 @@ abbrev pub SkipsMove : List ℕ → List ℕ → Type 0
 SkipsMove text rest =
     ((text ≡ rest) × ((behind : List ℕ) → HasMoveWord text behind → ⊥)) ⊎ HasMoveWord text rest
 
--- what is typed tells the legs, by all its words but `m` or `move` at its beginning. It tells none where there is no
--- other word
+-- what is typed tells the legs, by all its words but `m` or `move` at its beginning. It tells none
+-- where there is no other word
 abbrev pub TellsTyped : List ℕ → List Leg → Type 0
 TellsTyped typed legs = (movement : List ℕ) × SkipsMove (spelled typed) movement × TellsWords movement legs

@@ -8,6 +8,6 @@ use Rattle.bg_table.proofs.turn_refusals.put_illegal_step.Goals as goal
 pub returns : goal.returns
 returns c =
     let refusal = c.refused_step-refusal.result in
-    let words = refusal_words c.args.player c.args.dice refusal in
+    let words = refusal_words c.args.board.now c.args.player c.args.dice refusal in
     let put = two_parts words (codes "\n") _ _ _ c.in_ok-put_step_refusal.ensures c.in_ok-put_text.ensures in
-    (line_text words, (refusal, c.refused_step-refusal.ensures, refl), put)
+    (line_text words, (c.dice_left-left.result, refusal, c.dice_left-left.ensures, c.refused_step-refusal.ensures, refl), put)
