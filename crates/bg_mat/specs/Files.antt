@@ -81,15 +81,16 @@ behind_mark input = if bytes_eq (take 3 input) byte_order_mark then drop 3 input
 abbrev pub lines_in : List ℕ → List (List ℕ)
 lines_in input = lines_of (behind_mark input)
 
--- lines are those of a match that would have a Crawford game: the first of them that tells something is its length, and
--- that is more than one point
+-- lines are those of a match that would have a Crawford game: the first of them that tells
+-- something is its length, and that is more than one point
 abbrev pub HasCrawford : List (List ℕ) → Type 0
 HasCrawford [] = ⊥
 HasCrawford (line ∷ lines) =
     (IsHeader line × HasCrawford lines)
     ⊎ ((IsHeader line → ⊥) × ((points : ℕ) × IsLengthLine line points × (1 < points)))
 
--- lines, of which the first has the number n, are a match file: first its length, then its games. Something may follow
+-- lines, of which the first has the number n, are a match file: first its length, then its games.
+-- Something may follow
 abbrev pub TellsFile : ℕ → List (List ℕ) → ℕ → List Told → Awaited → Type 0
 TellsFile n [] points told there = ⊥
 TellsFile n (line ∷ lines) points told there =
@@ -111,13 +112,15 @@ EndsFile lines within =
 abbrev pub start_place : Terms → Place
 start_place terms = record { state = start_of terms; game = 0; x_before = 0; o_before = 0 }
 
--- lines begin as those of a match file: the first of them that tells something is the length of a match
+-- lines begin as those of a match file: the first of them that tells something is the length of a
+-- match
 abbrev pub BeginAsMatchFile : List (List ℕ) → Type 0
 BeginAsMatchFile [] = ⊥
 BeginAsMatchFile (line ∷ lines) =
     (IsHeader line × BeginAsMatchFile lines) ⊎ ((IsHeader line → ⊥) × ((n : ℕ) × IsLengthLine line n))
 
--- the lines are a match file, and the record, with the line of each entry, is what it tells: a legal match
+-- the lines are a match file, and the record, with the line of each entry, is what it tells: a
+-- legal match
 pub record ReadsFile (id : ℕ) (rules : Rules) (input : List (List ℕ)) (log : Log) (lines : List ℕ) : Type 0 where
   pub points : ℕ
   pub told : List Told
@@ -133,8 +136,8 @@ pub record ReadsFile (id : ℕ) (rules : Rules) (input : List (List ℕ)) (log :
 abbrev pub Imports : ℕ → Rules → List ℕ → Log → List ℕ → Type 0
 Imports id rules input log lines = ReadsFile id rules (lines_in input) log lines
 
--- the entries that a match file keeps where an offer to resign is open, or none is: it keeps the offer once that is
--- accepted
+-- the entries that a match file keeps where an offer to resign is open, or none is: it keeps the
+-- offer once that is accepted
 abbrev pub kept_behind : Option Level → List Entry → List Entry
 kept_behind offer [] = []
 kept_behind offer (entry.Resigned level ∷ rest) = kept_behind (Some level) rest

@@ -1,4 +1,5 @@
--- Why what a line tells is refused where a match stands: the first fault of the list in docs/FORMATS.md that applies.
+-- Why what a line tells is refused where a match stands: the first fault of the list in
+-- docs/FORMATS.md that applies.
 use Rattle.std.specs.Prelude.{◌≡◌, ◌≢◌, ◌⊎◌, ℕ, ◌+◌, ◌*◌, ◌<◌, Bool, true, false, Option, IfSome, List, [], ◌∷◌, ◌++◌}
 use Rattle.bg_board.specs.FromTo.{FromTo}
 use Rattle.bg_board.specs.Position.{Position, opponent}
@@ -34,7 +35,8 @@ RefusesEntry log e fault =
 abbrev pub with_entry : Log → Entry → Log
 with_entry log e = record log { entries = log.entries ++ e ∷ [] }
 
--- the player brings no such dice: he is neither to open the game nor to roll, or opens it with two equal dice
+-- the player brings no such dice: he is neither to open the game nor to roll, or opens it with two
+-- equal dice
 abbrev pub IsDiceFault : State → Player → Dice → MatFault → Type 0
 IsDiceFault s player dice why.OutOfTurn = (s.phase ≢ phase.Opening) × (s.phase ≢ phase.ToAct player)
 IsDiceFault s player dice (why.Entry entry_fault.EqualOpening) =
@@ -81,7 +83,8 @@ IsThrowFault log s player dice Then fault =
     ⊎ ((roll : Entry) × (t : State) × BringsDice s player dice roll × Follows s roll t
     × Then (with_entry log roll) t fault)
 
--- dice alone are refused by what follows them. They stay without a turn, or the player has none to play
+-- dice alone are refused by what follows them. They stay without a turn, or the player has none to
+-- play
 abbrev pub IsPendingFault : Bool → Log → State → Player → Dice → MatFault → Type 0
 IsPendingFault stays log s player dice fault =
     IsThrowFault log s player dice (λ l t why. (stays ≡ false) × IsEmptyFault l t player dice why) fault
@@ -106,8 +109,8 @@ IsResignFault log level fault =
     RefusesEntry log (entry.Resigned level) fault
     ⊎ RefusesEntry (with_entry log (entry.Resigned level)) entry.Accepted fault
 
--- the win of a game that goes on: the other player is neither to roll nor to move, or the points are not once, twice or
--- three times the cube, or the rules refuse what he does
+-- the win of a game that goes on: the other player is neither to roll nor to move, or the points
+-- are not once, twice or three times the cube, or the rules refuse what he does
 abbrev pub IsOfferFault : Log → State → Player → ℕ → MatFault → Type 0
 IsOfferFault log s winner won fault =
     ((fault ≡ why.ResignsOutOfTurn) × (MayResign s (opponent winner) → ⊥))

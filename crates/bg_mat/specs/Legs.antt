@@ -8,7 +8,8 @@ use Rattle.bg_mat.specs.declared.movements.legs.Leg.{Leg}
 use Rattle.bg_mat.specs.declared.movements.legs.LegFault.{LegFault}
 use Rattle.bg_mat.specs.declared.movements.legs.LegFault.TheVariants as leg_fault
 
--- the word names the point, which is 25 for the bar and 0 for off. Capital letters are as good as others
+-- the word names the point, which is 25 for the bar and 0 for off. Capital letters are as good as
+-- others
 abbrev pub IsPointText : List ℕ → ℕ → Type 0
 IsPointText word point =
     ((point ≡ 25) × SameLetters word (codes "bar"))
@@ -28,7 +29,8 @@ pub record TellsLeg (from : ℕ) (word : List ℕ) (leg : Leg) : Type 0 where
   pub ends : IsPointText point leg.step.to
   pub marked : word ≡ point ++ mark leg.hits
 
--- from a point on, the text tells the legs, each behind a slash and from where the one before it ends
+-- from a point on, the text tells the legs, each behind a slash and from where the one before it
+-- ends
 abbrev pub TellsLegs : ℕ → List ℕ → List Leg → Type 0
 TellsLegs from text [] = text ≡ []
 TellsLegs from text (leg ∷ legs) =
@@ -76,7 +78,8 @@ abbrev pub BeginsSlash : List ℕ → Type 0
 BeginsSlash [] = Unit {0}
 BeginsSlash (byte ∷ rest) = (byte == 47) ≡ true
 
--- no legs of which this holds can be added to others: there are none, or with them there are more than four
+-- no legs of which this holds can be added to others: there are none, or with them there are more
+-- than four
 abbrev pub RefusesLegs : (List Leg → Type 0) → List Leg → LegFault → Type 0
 RefusesLegs Tells old leg_fault.NotAMovement = (more : List Leg) → Tells more → ⊥
 RefusesLegs Tells old leg_fault.TooMany = (more : List Leg) × Tells more × (4 < length old + length more)

@@ -16,14 +16,16 @@ AreAlike [] [] = Unit {0}
 AreAlike (a ∷ told) (b ∷ more) = (a.line ≡ b.line) × IsAlike a.item b.item × AreAlike told more
 AreAlike _ _ = ⊥
 
--- the lines of a file tell one length, and one after the other the same, whatever the scores, and one thing may follow
+-- the lines of a file tell one length, and one after the other the same, whatever the scores, and
+-- one thing may follow
 abbrev pub FilesReadOnce : Type 0
 FilesReadOnce =
     (n : ℕ) (lines : List (List ℕ)) (points others : ℕ) (told more : List Told) (there then : Awaited)
     → TellsFile n lines points told there → TellsFile n lines others more then
     → (points ≡ others) × AreAlike told more × (there ≡ then)
 
--- a line tells one thing at a place of a match, and one thing may follow it: the scores are those of the place
+-- a line tells one thing at a place of a match, and one thing may follow it: the scores are those
+-- of the place
 abbrev pub LinesReadOnce : Type 0
 LinesReadOnce =
     (here : Awaited) (line : List ℕ) (n : ℕ) (place : Place) (items others : List Item) (next after : Awaited)

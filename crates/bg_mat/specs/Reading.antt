@@ -20,8 +20,8 @@ EndsGames n lines within =
     (told : List Told) × (there : Awaited) × TellsLines awaited.Game n lines told there
     × (within ≡ is_within_game there)
 
--- from a replay on, the lines of games, of which the first has the number n, are read as this record and these numbers
--- of lines
+-- from a replay on, the lines of games, of which the first has the number n, are read as this
+-- record and these numbers of lines
 pub record ReadsGames (from : Replay) (n : ℕ) (lines : List (List ℕ)) (log : Log) (numbers : List ℕ) : Type 0 where
   pub told : List Told
   pub entries : List Entry

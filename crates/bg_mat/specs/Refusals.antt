@@ -55,8 +55,8 @@ abbrev pub LosesBy : Player → Item → Type 0
 LosesBy player (Does winner (Wins won ends)) = player ≢ winner
 LosesBy player _ = ⊥
 
--- an item of line n is refused behind a replay: the dice that are pending are, or what comes behind them is. They stay
--- without a turn where their player then loses
+-- an item of line n is refused behind a replay: the dice that are pending are, or what comes behind
+-- them is. They stay without a turn where their player then loses
 pub record IsRefusedItem (r : Replay) (n : ℕ) (item : Item) (number : ℕ) (fault : MatFault) : Type 0 where
   pub stays : Bool
   pub loses : IfSome r.pending (λ turn. IsTrue stays ↔ LosesBy turn.player item)
@@ -75,7 +75,8 @@ pub record AreRefusedItems (r : Replay) (n : ℕ) (items : List Item) (number : 
   pub goes : GoesOnBy r old (numbered n before)
   pub refused : IsRefusedItem old n item number fault
 
--- line n is refused behind a replay, where this is awaited: by its shape, or the scores are others, or by what it tells
+-- line n is refused behind a replay, where this is awaited: by its shape, or the scores are others,
+-- or by what it tells
 abbrev pub IsRefusedLine : Awaited → Replay → List ℕ → ℕ → ℕ → MatFault → Type 0
 IsRefusedLine here r line n number fault =
     ((number ≡ n) × IsShapeFault here line fault)
@@ -84,7 +85,8 @@ IsRefusedLine here r line n number fault =
     ⊎ ((items : List Item) × (next : Awaited) × TellsAwaited here line items next
     × AreRefusedItems r n items number fault))
 
--- from a replay on, of lines of which the first has this number, those up to one are read, and it is refused
+-- from a replay on, of lines of which the first has this number, those up to one are read, and it
+-- is refused
 pub record AreRefusedLines (from : Replay) (first : ℕ) (lines : List (List ℕ)) (number : ℕ) (fault : MatFault)
     : Type 0 where
   pub before : List (List ℕ)
@@ -99,8 +101,8 @@ pub record AreRefusedLines (from : Replay) (first : ℕ) (lines : List (List ℕ
   pub goes : GoesOnBy from r told
   pub refused : IsRefusedLine here r line (first + length before) number fault
 
--- from a replay on all lines are read, and the dice that are pending then are refused. They stay without a turn where
--- the player has a step
+-- from a replay on all lines are read, and the dice that are pending then are refused. They stay
+-- without a turn where the player has a step
 pub record IsRefusedEnd (from : Replay) (first : ℕ) (lines : List (List ℕ)) (number : ℕ) (fault : MatFault)
     : Type 0 where
   pub told : List Told
@@ -120,8 +122,8 @@ AreRefusedGames from first lines number fault =
     IsToldLine first lines number
     × (AreRefusedLines from first lines number fault ⊎ IsRefusedEnd from first lines number fault)
 
--- the lines, of which the first has the number n, are refused: at a header that takes the Crawford game away, or as there
--- is no length, or at a later line that tells something
+-- the lines, of which the first has the number n, are refused: at a header that takes the Crawford
+-- game away, or as there is no length, or at a later line that tells something
 abbrev pub AreRefused : ℕ → Rules → ℕ → List (List ℕ) → ℕ → MatFault → Type 0
 AreRefused id rules n [] number fault = (number ≡ n) × (fault ≡ why.NoLength)
 AreRefused id rules n (line ∷ lines) number fault =

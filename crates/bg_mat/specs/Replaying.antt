@@ -100,7 +100,8 @@ pub record GoesOnBy (old new : Replay) (items : List Told) : Type 0 where
 abbrev pub Closes : Replay → Replay → Type 0
 Closes old new = GoesOnBy old new [] × (new.pending ≡ None)
 
--- the turn that was pending is added, with its dice alone where they stay so, else with a move; and none is pending
+-- the turn that was pending is added, with its dice alone where they stay so, else with a move; and
+-- none is pending
 abbrev pub ClosesBy : Bool → Replay → Replay → Type 0
 ClosesBy stays old new =
     Closes old new

@@ -18,8 +18,9 @@ use Rattle.bg_mat.specs.declared.movements.legs.Leg.{Leg}
 use Rattle.bg_mat.specs.declared.rows.cells.Cell.{Cell}
 use Rattle.bg_mat.specs.declared.rows.cells.Cell.TheVariants as cell
 
--- what a player does, by a cell: he brings dice and moves, or can't move, or it is not known what he moves; he doubles,
--- to so much where the file says so, takes, drops, or wins so many points, which may be said to end the match
+-- what a player does, by a cell: he brings dice and moves, or can't move, or it is not known what
+-- he moves; he doubles, to so much where the file says so, takes, drops, or wins so many points,
+-- which may be said to end the match
 pub data Deed : Type 0 where
   Turn : Dice → List Leg → Deed
   CannotMove : Dice → Deed
@@ -49,8 +50,8 @@ pub record Told : Type 0 where
   pub line : ℕ
   pub item : Item
 
--- where the match stands that a file tells so far: also the game that is told, 0 before the first one, and the scores
--- before it
+-- where the match stands that a file tells so far: also the game that is told, 0 before the first
+-- one, and the scores before it
 pub record Place : Type 0 where
   pub state : State
   pub game : ℕ
@@ -98,8 +99,8 @@ AreOfTurn s player dice legs entries =
 abbrev pub MayResign : State → Player → Type 0
 MayResign s loser = (s.phase ≡ phase.ToAct loser) ⊎ ((dice : Dice) × (s.phase ≡ phase.ToMove loser dice))
 
--- the entries of a win: none where the game was won with these points, else the other player's offer to resign and its
--- acceptance, at the level that the points are of the cube
+-- the entries of a win: none where the game was won with these points, else the other player's
+-- offer to resign and its acceptance, at the level that the points are of the cube
 abbrev pub AreOfWin : Place → Player → ℕ → List Entry → Type 0
 AreOfWin p winner won entries =
     (IsOver p × (0 < won) × (score_of p.state winner ≡ before_of p winner + won) × (entries ≡ []))

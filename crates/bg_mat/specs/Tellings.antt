@@ -111,8 +111,8 @@ AreOfItems p (item ∷ more) entries q =
 abbrev pub IsOnBoard : Leg → Type 0
 IsOnBoard leg = (leg.step.from ≤ 25) × (leg.step.to < leg.step.from)
 
--- the legs of a cell are on the board, and at most four, and its numbers have four digits at most. What is not written
--- has none
+-- the legs of a cell are on the board, and at most four, and its numbers have four digits at most.
+-- What is not written has none
 abbrev pub HasNumbers : Cell → Type 0
 HasNumbers (cell.Turn dice legs) = AllByRecursion IsOnBoard legs.items × (length legs.items ≤ most_legs)
 HasNumbers (cell.CannotMove dice) = ⊥

@@ -39,8 +39,8 @@ abbrev pub is_reached : ℕ → List FromTo → Bool
 is_reached point [] = false
 is_reached point (step ∷ steps) = step.to == point || is_reached point steps
 
--- a turn of these steps hits on the point: it is no bearing off, a single opposing checker stands there, and a step
--- ends there
+-- a turn of these steps hits on the point: it is no bearing off, a single opposing checker stands
+-- there, and a step ends there
 abbrev pub is_hit : Position → Player → List FromTo → ℕ → Bool
 is_hit board player steps point =
     nat_lt 0 point && (count board (opponent player) (25 - point) == 1 && is_reached point steps)
@@ -62,8 +62,8 @@ pub record IsAsWritten (board : Position) (player : Player) (dice : Dice) (legs 
   pub legal : IsLegalTurn board player dice (steps_of legs)
   pub hits : HasHits board player legs (steps_of legs)
 
--- the turn that a movement tells: of this movement and with these hits. It is the legs as steps where these are such a
--- turn, and else none of such turns is greater
+-- the turn that a movement tells: of this movement and with these hits. It is the legs as steps
+-- where these are such a turn, and else none of such turns is greater
 pub record TellsTurn (board : Position) (player : Player) (dice : Dice) (legs : List Leg) (turn : List FromTo)
     : Type 0 where
   pub movement : HasMovement board player dice legs turn
@@ -95,8 +95,8 @@ pub record IsUnambiguous (board : Position) (player : Player) (dice : Dice) (leg
   pub greatest : IsGreatest board player dice legs turn
   pub alike : (other : List FromTo) → IsOfMovement board player dice legs other → HitAlike board player turn other
 
--- the turn that a file tells by a movement: one with its hits. Where no legal turn has these it is the greatest of this
--- movement, if all turns of it hit on the same points
+-- the turn that a file tells by a movement: one with its hits. Where no legal turn has these it is
+-- the greatest of this movement, if all turns of it hit on the same points
 abbrev pub IsToldTurn : Position → Player → Dice → List Leg → List FromTo → Type 0
 IsToldTurn board player dice legs turn =
     TellsTurn board player dice legs turn

@@ -34,8 +34,8 @@ pub struct Imported {
     pub record: Record,
     /// For each entry, in order, the line of the file that it comes from, counted from 1.
     pub lines: Vec<u32>,
-    /// Whether the file ends within a game: no row of a win ends its last game. If the match isn't over
-    /// either, the file was cut, or the game is still being played.
+    /// Whether the file ends within a game: no row of a win ends its last game. If the match isn't
+    /// over either, the file was cut, or the game is still being played.
     pub within_game: bool,
 }
 
@@ -46,9 +46,9 @@ pub struct Imported {
 /// `TooLong` where the file has more than 41943040 bytes. `Refused` with the first line that is
 /// refused, and why. `Memory` where memory runs out.
 ///
-/// The line that is refused has content: it is neither blank nor a comment, except for a header that
-/// takes the Crawford game away. Where no line has content, its number is one more than the number
-/// of lines.
+/// The line that is refused has content: it is neither blank nor a comment, except for a header
+/// that takes the Crawford game away. Where no line has content, its number is one more than the
+/// number of lines.
 pub fn import_mat(
     alloc: Global,
     id: u64,

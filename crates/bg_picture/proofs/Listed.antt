@@ -12,7 +12,8 @@ use Rattle.bg_picture.specs.Items.{AreItemsOf, entry_items, game_start}
 use Rattle.bg_picture.specs.Pages.{PutsEntries, IsPage, Words, page_start, page_end}
 use Rattle.bg_picture.specs.declared.numberings.Numbering.{Numbering}
 
--- the items of the entries before this number stand behind an old text, and the match then stands at s
+-- the items of the entries before this number stand behind an old text, and the match then stands
+-- at s
 pub record IsPartListed (log : Log) (number : ℕ) (old : List ℕ) (s : State) (text : List ℕ) : Type 0 where
   pub items : List ℕ
   pub each : AreItemsOf 1 (start_of log.terms) (take (number - 1) log.entries) items s

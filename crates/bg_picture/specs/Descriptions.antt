@@ -46,7 +46,8 @@ number_for O O point = point
 number_for X O point = 25 - point
 number_for O X point = 25 - point
 
--- how many checkers a player has on one of his points, where he has some, with the number that a reader counts it by
+-- how many checkers a player has on one of his points, where he has some, with the number that a
+-- reader counts it by
 unfoldable pub point_words : Position → Player → Player → ℕ → List ℕ
 point_words b player reader point =
     if nat_lt 0 (count b player point)

@@ -2,8 +2,8 @@
 use Rattle.std.specs.Prelude.{ℕ, List, ◌++◌, codes}
 use Rattle.std.specs.Fmt.{decimal}
 
--- a shape of Shapes.antt with its origin at a place, or words around a place on their base line. Places are in units of
--- the picture: x to the right, y down
+-- a shape of Shapes.antt with its origin at a place, or words around a place on their base line.
+-- Places are in units of the picture: x to the right, y down
 pub data Element : Type 0 where
   Shape : (name : List ℕ) → (x : ℕ) → (y : ℕ) → Element
   Words : (x : ℕ) → (y : ℕ) → (words : List ℕ) → Element

@@ -2,8 +2,8 @@
 use Rattle.std.specs.Prelude.{ℕ, List, [], ◌∷◌, ◌==◌, nat_lt, codes, if◌then◌else◌}
 use Rattle.std.specs.List.{flat_map}
 
--- a byte of a text from outside, so that no mark-up begins or ends by it: a character for mark-up by its name or its
--- number, and a control character as a space
+-- a byte of a text from outside, so that no mark-up begins or ends by it: a character for mark-up
+-- by its name or its number, and a control character as a space
 unfoldable pub escaped_byte : ℕ → List ℕ
 escaped_byte b =
     if b == 38 then codes "&amp;"

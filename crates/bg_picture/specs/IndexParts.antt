@@ -9,7 +9,7 @@ index_style =
     ++ codes "h1,h2,p{margin:.3rem 0;overflow-wrap:anywhere}a{color:inherit;text-decoration:none}\n"
     ++ codes "ul{list-style:none;margin:0;padding:0;display:grid;gap:1rem}\n"
     ++ codes "ul{grid-template-columns:repeat(auto-fill,minmax(11rem,1fr))}\n"
-    ++ codes "li{overflow-wrap:anywhere}img{display:block;width:100%;aspect-ratio:616/560}\n"
+    ++ codes "li{overflow-wrap:anywhere}span{white-space:nowrap}img{display:block;width:100%;aspect-ratio:616/560}\n"
     ++ codes ":root{--moved:#c2410c}@media(prefers-color-scheme:dark){:root{--moved:#fb923c}}\n"
     ++ codes ".late #age{font-weight:bold;color:var(--moved)}\n"
 

@@ -40,9 +40,13 @@ link_text file = codes "<li><a href='" ++ escaped file ++ codes ".html'>"
 unfoldable pub image_text : List ℕ → ℕ → List ℕ
 image_text file entries = codes "<img src='" ++ escaped file ++ codes ".svg?" ++ decimal entries ++ codes "' alt=''>\n"
 
+-- the score, as in "3-1", in which no line ends
+unfoldable pub unbroken_score : State → List ℕ
+unbroken_score s = codes "<span>" ++ decimal s.x_score ++ codes "-" ++ decimal s.o_score ++ codes "</span>"
+
 -- the score and the length, as in "3-1 of 7"
 unfoldable pub points_text : State → List ℕ
-points_text s = decimal s.x_score ++ codes "-" ++ decimal s.o_score ++ codes " of " ++ decimal (match_length s.terms)
+points_text s = unbroken_score s ++ codes " of " ++ decimal (match_length s.terms)
 
 unfoldable pub match_title : List ℕ → List ℕ
 match_title title = codes "<b><bdi>" ++ escaped title ++ codes "</bdi></b> "

@@ -1,4 +1,5 @@
--- The items of a page, each with the data of its picture: the start of each game, its entries, and its result.
+-- The items of a page, each with the data of its picture: the start of each game, its entries, and
+-- its result.
 use Rattle.std.specs.Prelude.{◌≡◌, ℕ, ◌+◌, List, [], ◌∷◌, ◌++◌, Option, Some, None, codes}
 use Rattle.std.specs.Fmt.{decimal}
 use Rattle.bg_match.specs.Actor.{actor_of, seat_of}
@@ -35,15 +36,15 @@ item_start which s caption = item_tag which s caption ++ codes "><a href='#" ++ 
 unfoldable pub item_end : List ℕ
 item_end = codes "</a></li>\n"
 
--- the number of a game; and what a script hides until the reader is there, whether it is the Crawford game, and the
--- score before it
+-- the number of a game; and what a script hides until the reader is there, whether it is the
+-- Crawford game, and the score before it
 unfoldable pub game_heading : State → List ℕ
 game_heading s =
     codes "<h2>game " ++ decimal s.game ++ codes "<span>" ++ crawford_words s.crawford ++ score_words s
     ++ codes "</span></h2>\n"
 
--- and then a list, whose first item has this number, which only that of an entry shows; it has the words above the
--- pictures of the game
+-- and then a list, whose first item has this number, which only that of an entry shows; it has the
+-- words above the pictures of the game
 unfoldable pub list_start : ℕ → State → List ℕ
 list_start number s =
     codes "<ol start='" ++ decimal number ++ codes "' data-game='" ++ game_words s ++ codes "'>\n"
@@ -72,8 +73,9 @@ told_result win end = codes "result<span>: " ++ result_words win end ++ codes "<
 unfoldable pub result_item : Win → State → List ℕ
 result_item win end = item_start (anchor.Result end.game) end (Won win) ++ told_result win end ++ item_end
 
--- the item of the entry of this number, behind which the match stands at next; or where it ended a game by a win, at
--- such an end, that of the entry with the game's end, the result, and the start of the next game
+-- the item of the entry of this number, behind which the match stands at next; or where it ended a
+-- game by a win, at such an end, that of the entry with the game's end, the result, and the start
+-- of the next game
 unfoldable pub items_by : ℕ → State → Entry → State → State → Option Win → List ℕ
 items_by number s e next end None = entry_item number s e next Next
 items_by number s e next end (Some win) =

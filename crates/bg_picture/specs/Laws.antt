@@ -79,8 +79,8 @@ abbrev pub ItemsTellPositions : Type 0
 ItemsTellPositions = (s t : State) → IsState s → IsState t → IsPosition s.board → IsPosition t.board
     → position_data s ≡ position_data t → ToldAlike s t
 
--- the cube as it is seen: before the player who answers a double, with twice its value; else beside the board, in the
--- middle or on its owner's side
+-- the cube as it is seen: before the player who answers a double, with twice its value; else beside
+-- the board, in the middle or on its owner's side
 pub data SeenCube : Type 0 where
   Offered : (to : Player) → (value : ℕ) → SeenCube
   Beside : (owner : Option Player) → (value : ℕ) → SeenCube
@@ -95,7 +95,8 @@ pub record DrawnAlike (s t : State) : Type 0 where
   pub cube : seen_cube s.phase s.cube ≡ seen_cube t.phase t.cube
   pub dice : lying_dice s.phase ≡ lying_dice t.phase
 
--- drawings that are one text show one board, one cube and one pair of dice, in whosever numbers the points are
+-- drawings that are one text show one board, one cube and one pair of dice, in whosever numbers the
+-- points are
 abbrev pub DrawingsTellPositions : Type 0
 DrawingsTellPositions = (s t : State) (r q : Player) → IsState s → IsState t → IsPosition s.board → IsPosition t.board
     → drawing s r ≡ drawing t q → DrawnAlike s t

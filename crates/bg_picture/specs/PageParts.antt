@@ -10,8 +10,8 @@ head_start =
     ++ codes "<meta charset='utf-8'>\n"
     ++ codes "<meta name='viewport' content='width=device-width,initial-scale=1'>\n"
 
--- the style of the page, beside that of pictures: a plain list of entries, and the last picture behind it; and where
--- scripts run, which class js says, one picture beside the list
+-- the style of the page, beside that of pictures: a plain list of entries, and the last picture
+-- behind it; and where scripts run, which class js says, one picture beside the list
 unfoldable pub page_style : List ℕ
 page_style =
     codes "body{margin:0 auto;max-width:75rem;padding:.5rem;box-sizing:border-box}\n"
@@ -31,8 +31,8 @@ page_style =
     ++ codes "li[id^=start],li[id^=result]{list-style:none}li[id^=result] a{font-weight:bold}\n"
     ++ codes "@media(min-width:48rem){.js main{grid-template:minmax(0,1fr)/minmax(0,1fr) 20rem;gap:1rem}}\n"
 
--- where the script shows one picture, with the words of its item, the pip counts, the buttons, the games, and from when
--- the page is; and then the lists begin
+-- where the script shows one picture, with the words of its item, the pip counts, the buttons, the
+-- games, and from when the page is; and then the lists begin
 unfoldable pub view : List ℕ
 view =
     codes "<main>\n"
@@ -48,8 +48,9 @@ view =
     ++ codes "</div>\n"
     ++ codes "<div id='list'>\n"
 
--- the script: keys, buttons, links and the list of games choose an item. It draws the item from its data, as Pictures
--- says, and rings around the checkers of the last move. It takes the games of a newer page
+-- the script: keys, buttons, links and the list of games choose an item. It draws the item from its
+-- data, as Pictures says, and rings around the checkers of the last move. It takes the games of a
+-- newer page
 unfoldable pub script : List ℕ
 script =
     codes "const named = name => document.getElementById(name), title = document.title;\n"
@@ -191,7 +192,8 @@ script =
     ++ codes "begin();\n"
     ++ codes "find(location.hash);\n"
 
--- the script of a live page: it asks for a newer one, takes it once it has come whole, and says when it came
+-- the script of a live page: it asks for a newer one, takes it once it has come whole, and says
+-- when it came
 unfoldable pub live_script : List ℕ
 live_script =
     codes "let came = Date.now();\n"

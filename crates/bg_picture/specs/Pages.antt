@@ -90,7 +90,8 @@ inner_picture s reader = codes "<svg" ++ frame ++ titles_text s reader ++ drawin
 unfoldable pub summary_text : State → List ℕ
 summary_text s = codes "<p>" ++ terms_words s ++ codes "; " ++ phase_words s ++ codes "</p>\n"
 
--- behind the games, where the match stands: whoever reads without scripts sees it, and no one before the games
+-- behind the games, where the match stands: whoever reads without scripts sees it, and no one
+-- before the games
 unfoldable pub end_text : Numbering → State → List ℕ
 end_text numbering s =
     codes "</ol>\n</div>\n</main>\n<div id='end'>\n" ++ inner_picture s (reader_of numbering s.phase)

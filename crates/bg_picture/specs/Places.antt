@@ -4,7 +4,8 @@ use Rattle.std.specs.Prelude.{Option, Some, None}
 use Rattle.bg_board.specs.declared.players.Player.{Player}
 use Rattle.bg_board.specs.declared.players.Player.TheVariants.{X, O}
 
--- the x of a player's points, from 0, which is off, to 25, the bar. The same point of the other player is opposite
+-- the x of a player's points, from 0, which is off, to 25, the bar. The same point of the other
+-- player is opposite
 abbrev pub columns : List ℕ
 columns =
     580 ∷ 540 ∷ 500 ∷ 460 ∷ 420 ∷ 380 ∷ 340 ∷ 260 ∷ 220 ∷ 180 ∷ 140 ∷ 100 ∷ 60

@@ -1,4 +1,5 @@
--- The shapes of pictures, and their style: texts that stand as they are in each SVG file, and once in a page.
+-- The shapes of pictures, and their style: texts that stand as they are in each SVG file, and once
+-- in a page.
 use Rattle.std.specs.Prelude.{ℕ, List, ◌++◌, codes}
 
 -- the style of a picture, light and dark by the preference of its reader
@@ -18,8 +19,8 @@ style =
     ++ codes ".tag{fill:var(--page);stroke:var(--rim);stroke-width:2}.bar{fill:var(--bar)}.rim{fill:var(--rim)}\n"
     ++ codes ".pale{fill:var(--pale)}.deep{fill:var(--deep)}\n"
 
--- the shapes: the empty board; stacks of one to five checkers, from their top on; and around their middles dice, the
--- cube and the tag of an offer
+-- the shapes: the empty board; stacks of one to five checkers, from their top on; and around their
+-- middles dice, the cube and the tag of an offer
 unfoldable pub shapes : List ℕ
 shapes =
     codes "<g id='board'><path class='field' d='M40 64h560v432h-560z'/><path class='bar' d='M280 65h40v430h-40z'/>\n"

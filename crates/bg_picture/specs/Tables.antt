@@ -22,8 +22,8 @@ cube_at x y value =
     group_start (codes "cube") ++ element_text (Shape (codes "cube") x y)
     ++ element_text (Words x (y + 6) (decimal value)) ++ group_end
 
--- the cube: beside the board, in the middle or on its owner's side; but while a double is to be answered before the
--- player who answers, with twice its value
+-- the cube: beside the board, in the middle or on its owner's side; but while a double is to be
+-- answered before the player who answers, with twice its value
 unfoldable pub cube_text : Phase → Cube → List ℕ
 cube_text (phase.Doubled p) cube = cube_at (half p) 280 (2 * cube.value)
 cube_text _ cube = cube_at 20 (cube_height cube.owner) cube.value

@@ -41,8 +41,9 @@ win_in _ _ board cube = None
 abbrev pub win_of : State → Entry → Option Win
 win_of s e = win_in e s.phase (board_after e s.phase s.board) s.cube.value
 
--- the end of a game by an entry that leads from s to next: what stands after it but for the next game, which is the
--- score and whether the match is over, with the board, the cube, the Crawford mark and the number of the game itself
+-- the end of a game by an entry that leads from s to next: what stands after it but for the next
+-- game, which is the score and whether the match is over, with the board, the cube, the Crawford
+-- mark and the number of the game itself
 abbrev pub end_of : State → Entry → State → State
 end_of s e next = record next {
   board = board_after e s.phase s.board;

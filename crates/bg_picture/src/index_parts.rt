@@ -12,7 +12,7 @@ body{font:1rem/1.4 sans-serif;color:var(--ink)}h1{font-size:1.2rem}h2{font-size:
 h1,h2,p{margin:.3rem 0;overflow-wrap:anywhere}a{color:inherit;text-decoration:none}
 ul{list-style:none;margin:0;padding:0;display:grid;gap:1rem}
 ul{grid-template-columns:repeat(auto-fill,minmax(11rem,1fr))}
-li{overflow-wrap:anywhere}img{display:block;width:100%;aspect-ratio:616/560}
+li{overflow-wrap:anywhere}span{white-space:nowrap}img{display:block;width:100%;aspect-ratio:616/560}
 :root{--moved:#c2410c}@media(prefers-color-scheme:dark){:root{--moved:#fb923c}}
 .late #age{font-weight:bold;color:var(--moved)}
 ";

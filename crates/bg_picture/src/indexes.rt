@@ -2,6 +2,7 @@
 ghost use Rattle.std.specs.Prelude.{◌≡◌, ◌++◌, OnOk};
 ghost use Rattle.bg_picture.specs.Indexes.{image_text, index_body, index_end, index_head, index_start, index_styles};
 ghost use Rattle.bg_picture.specs.Indexes.{link_text, match_item, match_title, match_words, points_text, section_end, section_start};
+ghost use Rattle.bg_picture.specs.Indexes.{unbroken_score};
 
 use crate::descriptions::put_phase_words;
 use crate::escapes::put_escaped;
@@ -160,12 +161,23 @@ fn put_match_title(out: &mut Vec<u8>, title: &str) -> Result<(), AllocError>
 fn put_points(out: &mut Vec<u8>, standing: &Standing) -> Result<(), AllocError>
     ensures { OnOk result (out.new.items ≡ out.old.items ++ points_text standing.now) }
 {
+    put_score(out, standing)?;
+    put_text(out, " of ")?;
+    put_number(out, standing.length().into())?;
+    Ok(())
+}
+
+/// Appends the score, in which no line ends.
+#[tactic(auto, unfolding(crate::specs::Indexes::unbroken_score))]
+fn put_score(out: &mut Vec<u8>, standing: &Standing) -> Result<(), AllocError>
+    ensures { OnOk result (out.new.items ≡ out.old.items ++ unbroken_score standing.now) }
+{
     let (x, o) = standing.score();
+    put_text(out, "<span>")?;
     put_number(out, x.into())?;
     put_text(out, "-")?;
     put_number(out, o.into())?;
-    put_text(out, " of ")?;
-    put_number(out, standing.length().into())?;
+    put_text(out, "</span>")?;
     Ok(())
 }
 

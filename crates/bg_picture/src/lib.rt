@@ -1,5 +1,5 @@
-//! Pictures of matches, for programs that show them in a browser: a standing as an SVG file, a match
-//! as an HTML page, and an index of many matches.
+//! Pictures of matches, for programs that show them in a browser: a standing as an SVG file, a
+//! match as an HTML page, and an index of many matches.
 //!
 //! ```
 //! let record = Record::new(alloc, 1, 5, Rules::One)?;

@@ -11,7 +11,8 @@ use Rattle.bg_reports.specs.declared.endings.Ending.TheVariants.{ActionRefused, 
 abbrev pub IsAnsweredAt : List Entry → Action → ℕ → Type 0
 IsAnsweredAt entries action number = (e : Entry) × (at_number entries number ≡ Some e) × IsAnswer action e
 
--- the call is served exactly where the entry is there and answers the action; else the action counts as refused
+-- the call is served exactly where the entry is there and answers the action; else the action
+-- counts as refused
 abbrev pub IsActEnding : List Entry → Action → ℕ → Ending → Type 0
 IsActEnding entries action number Served = IsAnsweredAt entries action number
 IsActEnding entries action number ActionRefused = IsAnsweredAt entries action number → ⊥

@@ -46,7 +46,8 @@ abbrev pub check_line : List ℕ → List ℕ → List ℕ → Option ℕ → Li
 check_line name words line columns =
     let front = name ++ codes ": " ++ words in front ++ refused_part (room_in columns (length front)) line
 
--- what is said of a transcript: how many entries its match has and what became of it, or why it has none
+-- what is said of a transcript: how many entries its match has and what became of it, or why it has
+-- none
 abbrev pub IsTranscriptVerdict : List ℕ → List ℕ → Verdict → Type 0
 IsTranscriptVerdict bytes words (Fine n) =
     (log : Log) × ReadsTranscript 0 bytes log × (n ≡ length log.entries) × IsSaidOfMatch log false words
@@ -56,8 +57,8 @@ IsTranscriptVerdict bytes words (Refused n) =
 IsTranscriptVerdict bytes words TooLong =
     RefusesTranscript transcript_fault.TooLong bytes × (words ≡ transcript_fault_words transcript_fault.TooLong)
 
--- what is said of a match file, which is read by the first rules: how many entries its match has and what became of it,
--- or why it has none. It is cut where it ends within a game
+-- what is said of a match file, which is read by the first rules: how many entries its match has
+-- and what became of it, or why it has none. It is cut where it ends within a game
 abbrev pub IsMatchFileVerdict : List ℕ → List ℕ → Verdict → Type 0
 IsMatchFileVerdict bytes words (Fine n) =
     (log : Log) × (lines : List ℕ) × (is_cut : Bool) × Imports 0 rules.One bytes log lines
@@ -80,7 +81,8 @@ transcript_verdict (transcript_fault.Refused line why) = Some (Refused line)
 transcript_verdict transcript_fault.TooLong = Some TooLong
 transcript_verdict transcript_fault.Memory = None
 
--- what is printed of a file of this name, of which these words are said, on a screen of so many columns
+-- what is printed of a file of this name, of which these words are said, on a screen of so many
+-- columns
 abbrev pub printed_line : List ℕ → List ℕ → Verdict → List ℕ → Option ℕ → List ℕ
 printed_line name words verdict bytes columns =
     line_text (check_line name words (refused_in verdict (lines_of bytes)) columns)
@@ -128,7 +130,8 @@ abbrev pub is_named_match_file : List ℕ → List ℕ → Bool
 is_named_match_file name bytes =
     ends_with nat_eq name (codes ".mat") && not (starts_with nat_eq bytes (codes "length "))
 
--- a file is read as a match file where its first line that tells something is the length of a match, or by its name
+-- a file is read as a match file where its first line that tells something is the length of a
+-- match, or by its name
 abbrev pub IsReadAsMatchFile : List ℕ → List ℕ → Type 0
 IsReadAsMatchFile name bytes = BeginAsMatchFile (lines_in bytes) ⊎ IsTrue (is_named_match_file name bytes)
 

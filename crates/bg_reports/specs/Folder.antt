@@ -28,7 +28,8 @@ pub record IsFirstDifference (n : ℕ) (entries others : List Entry) : Type 0 wh
 abbrev pub Agree : List Entry → List Entry → Type 0
 Agree entries others = take (length others) entries ≡ take (length entries) others
 
--- how one saved match goes on beside another: it is of another match; an entry differs; or they agree as far as both go
+-- how one saved match goes on beside another: it is of another match; an entry differs; or they
+-- agree as far as both go
 abbrev pub IsCompared : Compared → SavedParts → SavedParts → Type 0
 IsCompared OtherMatch a b = IsSameMatch a b → ⊥
 IsCompared (Differs n) a b = IsSameMatch a b × IsFirstDifference n a.entries b.entries
@@ -93,7 +94,8 @@ IsPartyLine party None leader line = line ≡ codes "party " ++ decimal party ++
 IsPartyLine party (Some saved) leader line =
     (words : List ℕ) × IsHolding saved leader words × (line ≡ codes "party " ++ decimal party ++ codes ": " ++ words)
 
--- what is printed of a folder that has the two files of one party alone, and whether one of them loads
+-- what is printed of a folder that has the two files of one party alone, and whether one of them
+-- loads
 pub record IsPartyText (party : ℕ) (slot0 slot1 text : List ℕ) (loads : Bool) : Type 0 where
   pub zero : Result SavedParts LoadFault
   pub one : Result SavedParts LoadFault
@@ -106,8 +108,8 @@ pub record IsPartyText (party : ℕ) (slot0 slot1 text : List ℕ) (loads : Bool
   pub printed : text ≡ slot_lines party slot0 slot1 zero one ++ line_text line ++ board
   pub flag : loads ≡ is_ok zero || is_ok one
 
--- what is printed of a folder with these six files, and whether one of them loads. The board is that of the party who
--- holds most
+-- what is printed of a folder with these six files, and whether one of them loads. The board is
+-- that of the party who holds most
 pub record IsFolderText (a0 a1 b0 b1 c0 c1 text : List ℕ) (loads : Bool) : Type 0 where
   pub zero0 : Result SavedParts LoadFault
   pub zero1 : Result SavedParts LoadFault

@@ -8,7 +8,8 @@ use Rattle.bg_match.specs.declared.phases.Phase.{Phase}
 use Rattle.bg_match.specs.declared.phases.Phase.TheVariants.{Over}
 use Rattle.bg_text.specs.Judge.Judging.{fine_line}
 
--- what became of a match that stands here: who has won it, or that it goes on. A match file that is cut ends within a game
+-- what became of a match that stands here: who has won it, or that it goes on. A match file that is
+-- cut ends within a game
 abbrev pub result_words : Phase → State → Bool → List ℕ
 result_words (Over X) s is_cut = codes ", X wins " ++ decimal s.x_score ++ codes "-" ++ decimal s.o_score
 result_words (Over O) s is_cut = codes ", O wins " ++ decimal s.o_score ++ codes "-" ++ decimal s.x_score

@@ -49,7 +49,8 @@ IsBoardOf None text = text ≡ []
 IsBoardOf (Some saved) text =
     (t : State) × StandsAt saved.terms saved.entries t × (text ≡ board_text t)
 
--- what `show` prints of two files, and whether one of them loads. The board is that of what the two restore
+-- what `show` prints of two files, and whether one of them loads. The board is that of what the two
+-- restore
 pub record IsShowText (file0 file1 text : List ℕ) (loads : Bool) : Type 0 where
   pub zero : Result SavedParts LoadFault
   pub one : Result SavedParts LoadFault

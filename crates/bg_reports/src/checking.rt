@@ -1,6 +1,5 @@
 //! The report on a file that was judged.
-ghost use Rattle.std.specs.Prelude.{◌≡◌, ◌++◌, ◌↔◌, [], Some, IsTrue, IfOk, OnOk, slice_index_or};
-ghost use Rattle.bg_text.specs.Judge.Judging.{lines_of};
+ghost use Rattle.std.specs.Prelude.{◌≡◌, ◌↔◌, Some, IsTrue, IfOk};
 ghost use Rattle.bg_text.specs.Judge.Transcripts.{transcript_fault_words};
 ghost use Rattle.bg_mat.specs.FaultWords.{import_fault_words};
 ghost use Rattle.bg_reports.specs.Check.{IsCheckText, IsImportFaultText, IsMatchFileText, IsMatchFileVerdict};
@@ -8,23 +7,20 @@ ghost use Rattle.bg_reports.specs.Check.{ImportFaultsAreSaid, TranscriptFaultsAr
 ghost use Rattle.bg_reports.specs.Check.{IsTranscriptFaultText, IsTranscriptText, IsTranscriptVerdict};
 ghost use Rattle.bg_reports.specs.Check.{IsReadAsMatchFile, is_named_match_file as named_match_file};
 ghost use Rattle.bg_reports.specs.Check.{import_verdict, transcript_verdict};
-ghost use Rattle.bg_reports.specs.Check.{printed_line, refused_in, refused_part, room_in};
 
+pub(crate) mod lines;
 mod results;
 pub(crate) mod tallies;
 
+use crate::checking::lines::said;
 use crate::checking::results::words_of_match;
-use crate::escapes::harmless;
 use bg_mat::{ImportFault, import_mat, is_match_file};
 use bg_match::Rules;
-use bg_text::{TranscriptFault, Verdict, put_text, read_transcript, split_line};
+use bg_text::{TranscriptFault, Verdict, read_transcript};
 use std::alloc::{AllocError, Global};
 
 /// The number of a match that is checked, which no file gives.
 const NO_NUMBER: u64 = 0;
-
-/// Number of columns of a refused line that are shown where there is no screen, at most.
-pub const MOST_SHOWN: usize = 1000;
 
 /// Returns the report on a file with this name, and its verdict. The report can't break a terminal,
 /// and fits a screen of this number of columns, if there is one (docs/FORMATS.md,
@@ -48,9 +44,9 @@ pub fn check_text(
     }
 }
 
-/// Returns whether a file with this name and these bytes is read as a match file of another program.
-/// It is one where its first line that tells something is the length of a match. Where no file
-/// begins so, the name of one that doesn't begin as a transcript decides.
+/// Returns whether a file with this name and these bytes is read as a match file of another
+/// program. It is one where its first line that tells something is the length of a match. Where no
+/// file begins so, the name of one that doesn't begin as a transcript decides.
 pub fn is_read_as_match_file(name: &str, bytes: &[u8]) -> bool
     ensures { IsTrue result ↔ IsReadAsMatchFile name.now bytes.now }
 {
@@ -168,8 +164,8 @@ pub fn import_faults_are_said()
     ensures { ImportFaultsAreSaid }
 {}
 
-/// Returns the verdict on a transcript that gives no record because of this fault, in words and as a
-/// value.
+/// Returns the verdict on a transcript that gives no record because of this fault, in words and as
+/// a value.
 fn verdict_of_transcript_fault(
     alloc: Global,
     fault: TranscriptFault,
@@ -202,73 +198,4 @@ fn verdict_of_import_fault(
     };
     let words = format!(in alloc; "{fault}")?;
     Ok((words.into_bytes(), verdict))
-}
-
-/// Returns the report on a file with this name and a verdict in these words.
-fn said(
-    alloc: Global,
-    name: &str,
-    words: &[u8],
-    bytes: &[u8],
-    verdict: Verdict,
-    columns: Option<usize>,
-) -> Result<Vec<u8>, AllocError>
-    ensures { IfOk result (λ text. text.items ≡ printed_line name.now words.now verdict bytes.now columns) }
-{
-    let mut text = Vec::from_slice(alloc, name.as_bytes())?;
-    put_text(&mut text, ": ")?;
-    text.extend_from_slice(words)?;
-    let room = room_behind(columns, text.len());
-    put_refused(alloc, &mut text, refused_line(bytes, verdict), room)?;
-    put_text(&mut text, "\n")?;
-    Ok(text)
-}
-
-/// Returns the line of a file that its verdict refuses; nothing where it refuses none.
-pub(crate) fn refused_line(bytes: &[u8], verdict: Verdict) -> &[u8]
-    ensures { result.now ≡ refused_in verdict (lines_of bytes.now) }
-{
-    match verdict {
-        Verdict::Refused(number) => line_at(bytes, number.saturating_sub(1)),
-        Verdict::Fine(_) | Verdict::TooLong => &[],
-    }
-}
-
-/// Returns the line at this index, from 0; nothing where there are fewer lines.
-fn line_at(text: &[u8], index: u32) -> &[u8]
-    ensures { result.now ≡ slice_index_or (lines_of text.now) index [] }
-{
-    let mut rest = text;
-    for _before in 0..index {
-        match split_line(rest) {
-            Some((_, after)) => rest = after,
-            None => return &[],
-        }
-    }
-    match split_line(rest) {
-        Some((line, _)) => line,
-        None => &[],
-    }
-}
-
-/// Returns the number of columns of a screen that are left behind `taken` columns.
-fn room_behind(columns: Option<usize>, taken: usize) -> usize
-    ensures { result ≡ room_in columns taken }
-{
-    match columns {
-        Some(columns) => columns.saturating_sub(taken),
-        None => MOST_SHOWN,
-    }
-}
-
-/// Appends a refused line behind its verdict.
-fn put_refused(alloc: Global, out: &mut Vec<u8>, line: &[u8], room: usize) -> Result<(), AllocError>
-    ensures { OnOk result (out.new.items ≡ out.old.items ++ refused_part room line.now) }
-{
-    let part = harmless(alloc, line, room.saturating_sub(2))?;
-    if part.is_empty() {
-        return Ok(());
-    }
-    put_text(out, ": ")?;
-    out.extend_from_slice(&part)
 }

@@ -20,9 +20,10 @@ mod rows;
 mod showing;
 
 pub use answers::ending_of;
+pub use checking::lines::{MOST_SHOWN, refused_line};
 pub use checking::tallies::Tally;
 pub use checking::{
-    MOST_SHOWN, check_text, import_faults_are_said, is_read_as_match_file, said_of_import_fault,
+    check_text, import_faults_are_said, is_read_as_match_file, said_of_import_fault,
     said_of_transcript_fault, transcript_faults_are_said,
 };
 pub use endings::{DONE, Ending, FAILED, Found, REFUSED};

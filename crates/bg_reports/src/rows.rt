@@ -8,7 +8,8 @@ ghost use Rattle.bg_reports.specs.Rows.{import_fault_fields, line_field, refused
 pub(crate) mod fields;
 mod matches;
 
-use crate::checking::{MOST_SHOWN, is_read_as_match_file, refused_line};
+use crate::checking::is_read_as_match_file;
+use crate::checking::lines::{MOST_SHOWN, refused_line};
 use crate::escapes::harmless;
 use crate::rows::fields::RowForm;
 use crate::rows::matches::match_row;

@@ -88,7 +88,8 @@ calm_phase ph = ph
 abbrev pub calm : State → State
 calm s = record s { phase = calm_phase s.phase }
 
--- the entries that are kept lead to c, and those that are told to p: dice that are left to move are not told yet
+-- the entries that are kept lead to c, and those that are told to p: dice that are left to move are
+-- not told yet
 abbrev pub IsAt : Phase → List Entry → List Entry → Place → State → Type 0
 IsAt phase.Opening told kept p c = (kept ≡ told) × (p.state ≡ c) × (c.game ≢ p.game)
 IsAt (phase.ToMove player dice) told kept p c =

@@ -68,7 +68,8 @@ kept_next s entry.Accepted t rest (player, level, back, ph, is) =
 kept_next s entry.Rejected t rest (player, level, back, ph, is) = rw (is, back_offer player back) refl
 kept_next s entry.Passed t rest (player, dice, ph, on, is) = rw is refl
 
--- an entry of a list that leads somewhere follows what is before it, and stands before what is behind it
+-- an entry of a list that leads somewhere follows what is before it, and stands before what is
+-- behind it
 pub entry_at : (s : State) (entries : List Entry) (t : State) (i : ℕ) (e : Entry) → Leads s entries t → slice_get entries i ≡ Some e
     → (m u : State) × Leads s (take i entries) m × Follows m e u × (take (suc i) entries ≡ take i entries ++ e ∷ [])
     × (drop i entries ≡ e ∷ drop (suc i) entries)

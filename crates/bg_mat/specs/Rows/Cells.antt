@@ -19,8 +19,8 @@ use Rattle.bg_mat.specs.declared.rows.Row.{Row}
 abbrev pub AreDice : List ℕ → Dice → Type 0
 AreDice word dice = word ≡ (48 + first_pips dice) ∷ (48 + second_pips dice) ∷ codes ":"
 
--- behind any blanks two digits and a colon begin a text: the dice, in the order in which they are named. Then comes the
--- rest, at once or behind blanks
+-- behind any blanks two digits and a colon begin a text: the dice, in the order in which they are
+-- named. Then comes the rest, at once or behind blanks
 pub record BeginsDice (text : List ℕ) (dice : Dice) (rest : List ℕ) : Type 0 where
   pub blanks : List ℕ
   pub blank : IsBlankText blanks
@@ -111,7 +111,8 @@ TellsDouble text (Some shows) rest =
 abbrev pub most_legs : ℕ
 most_legs = 4
 
--- a text begins with a cell, and then comes the rest. All words of a movement that stand behind the dice are of it
+-- a text begins with a cell, and then comes the rest. All words of a movement that stand behind the
+-- dice are of it
 abbrev pub TellsCell : List ℕ → Cell → List ℕ → Type 0
 TellsCell text (Turn dice legs) rest =
     (after : List ℕ) × BeginsDice text dice after × MayMove after × TellsLegsAt after rest legs.items
@@ -123,7 +124,8 @@ TellsCell text Takes rest = SaysEither text (codes "Take") (codes "Takes") rest
 TellsCell text Drops rest = SaysEither text (codes "Drop") (codes "Drops") rest
 TellsCell text (Wins win) rest = TellsWin text win rest
 
--- behind any blanks the number of a row and a bracket begin a line, and then comes the rest, at once or behind blanks
+-- behind any blanks the number of a row and a bracket begin a line, and then comes the rest, at
+-- once or behind blanks
 pub record HasRowNumber (line rest : List ℕ) : Type 0 where
   pub blanks : List ℕ
   pub digits : List ℕ
@@ -141,7 +143,8 @@ SkipsNumber line rest =
 abbrev pub left_column : ℕ
 left_column = 16
 
--- the cells of a row: one in the left column, one in the right, or both, or none behind the number of the row
+-- the cells of a row: one in the left column, one in the right, or both, or none behind the number
+-- of the row
 abbrev pub TellsCells : List ℕ → Option Cell → Option Cell → Type 0
 TellsCells text None None = IsBlankText text
 TellsCells text (Some x) None =

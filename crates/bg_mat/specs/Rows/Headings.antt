@@ -21,7 +21,8 @@ abbrev pub IsHeaderWord : List ℕ → Type 0
 IsHeaderWord word =
     IsComment word ⊎ ((more : List ℕ) × ((word ≡ codes "#" ++ more) ⊎ (word ≡ codes "[" ++ more)))
 
--- a line that tells nothing before the length of a match: it is blank, or begins with one of these three
+-- a line that tells nothing before the length of a match: it is blank, or begins with one of these
+-- three
 abbrev pub IsHeader : List ℕ → Type 0
 IsHeader line = IsBlankOr IsHeaderWord line
 
@@ -30,7 +31,8 @@ abbrev pub SkipsSemicolon : List ℕ → List ℕ → Type 0
 SkipsSemicolon line text =
     Says line (codes ";") text ⊎ ((text ≡ line) × ((rest : List ℕ) → Says line (codes ";") rest → ⊥))
 
--- the line of a header that says that the match has no Crawford game: `; [Crawford "Off"]`, or without the semicolon
+-- the line of a header that says that the match has no Crawford game: `; [Crawford "Off"]`, or
+-- without the semicolon
 abbrev pub SaysNoCrawford : List ℕ → Type 0
 SaysNoCrawford line =
     (text after rest : List ℕ) × SkipsSemicolon line text

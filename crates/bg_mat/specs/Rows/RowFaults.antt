@@ -61,7 +61,8 @@ abbrev pub AreCellsFault : List ℕ → MatFault → Type 0
 AreCellsFault text fault =
     ((left right : Option Cell) → TellsCells text left right → ⊥) × IsPlaceFault (IsCellPlace text) fault
 
--- the line is no row, for this fault: a cell begins with a beaver, or has too many legs, or neither is so
+-- the line is no row, for this fault: a cell begins with a beaver, or has too many legs, or neither
+-- is so
 abbrev pub IsRowFault : List ℕ → MatFault → Type 0
 IsRowFault line fault = ((row : Row) → TellsRow line row → ⊥) × IsPlaceFault (IsRowPlace line) fault
 

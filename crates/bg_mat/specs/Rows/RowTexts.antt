@@ -20,7 +20,8 @@ padded width text = text ++ replicate (max 1 (width - length text)) 32
 abbrev pub blanks_before : ℕ → ℕ
 blanks_before row = if nat_lt row 10 then 2 else if nat_lt row 100 then 1 else 0
 
--- the number of a row at the right of three places, and a bracket; a number of five digits is left out
+-- the number of a row at the right of three places, and a bracket; a number of five digits is left
+-- out
 abbrev pub row_number : ℕ → List ℕ
 row_number row =
     if nat_lt 9999 row then replicate 5 32 else replicate (blanks_before row) 32 ++ decimal row ++ codes ") "
@@ -34,7 +35,8 @@ abbrev pub row_start : ℕ → Cell → List ℕ
 row_start row (cell.Wins win) = replicate 5 32
 row_start row _ = row_number row
 
--- a cell that is alone in its row, in the player's column. Behind a cell of X, but for a win, the column is filled
+-- a cell that is alone in its row, in the player's column. Behind a cell of X, but for a win, the
+-- column is filled
 abbrev pub in_column : Player → Cell → List ℕ
 in_column X (cell.Wins win) = cell_text (cell.Wins win)
 in_column X cell = padded 28 (cell_text cell)
@@ -59,7 +61,8 @@ pub data Line : Type 0 where
   Alone : Player → Cell → Line
   Both : Cell → Cell → Line
 
--- a cell of X shares its row with the cell of O behind it. A win shares one with a drop alone, which it follows
+-- a cell of X shares its row with the cell of O behind it. A win shares one with a drop alone,
+-- which it follows
 abbrev pub share_row : Cell → Cell → Bool
 share_row cell.Drops right = true
 share_row left right = not (is_win (Some left) || is_win (Some right))

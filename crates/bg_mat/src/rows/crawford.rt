@@ -8,7 +8,8 @@ use crate::rows::headings::{is_header, read_length};
 use crate::rows::words::{is_blank_text, skip_either, skip_word};
 use bg_text::split_line;
 
-/// Returns whether a line of a header says that the match has no Crawford game, as `; [Crawford "Off"]`.
+/// Returns whether a line of a header says that the match has no Crawford game, as `; [Crawford
+/// "Off"]`.
 fn says_no_crawford(line: &[u8]) -> bool
     ensures { IsTrue result ↔ SaysNoCrawford line.now }
 {
@@ -21,7 +22,8 @@ fn says_no_crawford(line: &[u8]) -> bool
     }
 }
 
-/// Returns what follows a semicolon that stands alone at the beginning of a line, or the line itself.
+/// Returns what follows a semicolon that stands alone at the beginning of a line, or the line
+/// itself.
 fn skip_semicolon(line: &[u8]) -> &[u8]
     ensures { SkipsSemicolon line.now result.now }
 {

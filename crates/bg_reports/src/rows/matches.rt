@@ -1,4 +1,4 @@
-//! What rows tell of a good match.
+//! The fields of rows on a legal match.
 ghost use Rattle.std.specs.Prelude.{◌≡◌, ◌++◌, IfOk, OnOk};
 ghost use Rattle.bg_reports.specs.Rows.{AreMatchFields, id_fields, match_field, open_fields, position_field, points_field, result_fields, rules_number};
 ghost use Rattle.bg_reports.specs.Rows.{standing_fields, terms_fields, won_fields, xgid_field};
@@ -85,7 +85,7 @@ fn put_result(
     }
 }
 
-/// Appends the winner of a match that is over, by his letter, and its state.
+/// Appends the letter of the winner of a match that is over, and its state.
 fn put_win(alloc: Global, form: RowForm, out: &mut Vec<u8>, letter: &str) -> Result<(), AllocError>
     ensures { OnOk result (out.new.items ≡ out.old.items ++ won_fields form letter.now) }
 {

@@ -1,7 +1,7 @@
 use Rattle.std.proofs.Common.{◌∙◌, []}
 use Rattle.bg_text.specs.Judge.Judging.{lines_of}
 use Rattle.bg_reports.proofs.LineAt.{next_behind}
-use Rattle.bg_reports.proofs.checking.line_at.Goals as goal
+use Rattle.bg_reports.proofs.checking.lines.line_at.Goals as goal
 
 pub loop-before-preserved : goal.loop-before-preserved
 loop-before-preserved c =
