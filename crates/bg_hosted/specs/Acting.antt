@@ -44,7 +44,8 @@ IsSaidOf (outcomes.Chose (Ok claimed)) number new result = IsAnsweredBy number n
 IsSaidOf (outcomes.Chose (Err fault)) number new result = result ≡ acted.Refused fault
 IsSaidOf _ number new result = result ≡ acted.Failed
 
--- The player acts once: his seat is asked to claim the action, and whatever else happens, no player acts by it.
+-- The player acts once: his seat is asked to claim the action, and whatever else happens, no player
+-- acts by it.
 pub record ActsOnce
     (keepers_honest : Type 0) (old : WorldView) (player : Player) (number : ℕ) (action : Action) (result : Acted)
     (new : WorldView) : Type 0 where
@@ -62,8 +63,9 @@ pub record DoesNothing
   pub said : (result ≡ acted.Done) ⊎ (result ≡ acted.OtherEntry)
   pub done : (result ≡ acted.Done) ↔ IsAnswered log player number action
 
--- An action has the number of the entry that it is to become. It acts where that is the next one of the seat's record,
--- and then once; under any other number nothing happens. So it does where the seat is down.
+-- An action has the number of the entry that it is to become. It acts where that is the next one of
+-- the seat's record, and then once; under any other number nothing happens. So it does where the
+-- seat is down.
 abbrev pub Acts : Type 0 → WorldView → Player → ℕ → Action → Acted → WorldView → Type 0
 Acts keepers_honest old player number action result new =
     MatchOption (held_of old (role (party_of player))) ((new ≡ old) × (result ≡ acted.Failed))

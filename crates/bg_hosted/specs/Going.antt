@@ -12,7 +12,8 @@ abbrev pub IsNoChoice : Event → Type 0
 IsNoChoice (events.Choose seat action) = ⊥
 IsNoChoice _ = Unit {0}
 
--- events happened one after the other, over an honest link and over keepers that may be honest; by none a player acts
+-- events happened one after the other, over an honest link and over keepers that may be honest; by
+-- none a player acts
 pub record GoesOn (keepers_honest : Type 0) (old new : WorldView) : Type 0 where
   pub events : List Event
   pub outcomes : List Outcome

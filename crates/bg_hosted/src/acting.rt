@@ -1,4 +1,4 @@
-//! What becomes of an action of a player.
+//! The actions of the players, and their outcomes.
 ghost use Rattle.std.specs.Prelude.{◌≡◌, ◌↔◌, IsTrue};
 ghost use Rattle.bg_hosted.specs.Acting.{IsAnswered, IsBy};
 ghost use Rattle.bg_match.specs.Answers.{IsAnswer};
@@ -10,18 +10,19 @@ use bg_party::ChooseFault;
 use bg_wire::party_of;
 use bg_world::{Event, Keeper, Outcome};
 
-/// What an action came to.
+/// The outcome of an action (docs/SERVING.md, "Scripts").
 #[derive(Clone, Copy, Debug, PartialEq, Eq)]
 pub enum Acted {
-    /// The entry of its number answers it, now or since it came before.
+    /// The action has been carried out, now or when it came before: the entry of its number answers
+    /// it.
     Done,
-    /// It is claimed and saved. The entry will follow.
+    /// The seat has claimed the action, and the claim is saved. Its entry is not shown yet.
     Waits,
-    /// The entry of its number is another, or is not the next one.
+    /// Nothing happened: another entry has the number, or none has it and it isn't the next one.
     OtherEntry,
-    /// The seat does not claim it.
+    /// The seat refused to claim the action, for this reason.
     Refused(ChooseFault),
-    /// The seat is down, or could not save.
+    /// The seat is down, or its claim could not be saved. The action may be sent again.
     Failed,
 }
 
@@ -31,7 +32,17 @@ impl<K: Keeper> HostedMatch<K> {
     ghost use Rattle.bg_hosted.specs.Going.{GoesOn};
     ghost use Rattle.bg_hosted.specs.HostedMatches.{world_of};
 
-    /// Lets a player act: the action is to become the entry of this number. So it acts once, however often it comes.
+    /// Carries out a player's action, which is to become the entry of this number, from 1. The
+    /// number makes the call idempotent: however often it is repeated, the player acts at most
+    /// once.
+    ///
+    /// Returns the first of these outcomes that fits:
+    /// - `Failed` if the player's seat is down;
+    /// - `Done` or `OtherEntry` if the number is not that of the next entry in the seat's record.
+    ///   Then nothing happens, and the entry of that number decides: see [`is_answered`];
+    /// - `Refused` if the seat does not claim the action (docs/PROTOCOL.md, "Claims");
+    /// - `Failed` if the claim can't be saved, also for lack of memory. The call may be repeated;
+    /// - `Done` or `Waits` once the claim is saved, by whether the entry is already shown.
     pub fn act(&mut self, player: Player, number: Number, action: Action) -> Acted
         ensures { Acts K.is_honest (world_of K.Keeper self.old) player number action result (world_of K.Keeper self.new) }
     {
@@ -48,7 +59,7 @@ impl<K: Keeper> HostedMatch<K> {
         Acted::OtherEntry
     }
 
-    /// Lets a player act next.
+    /// Carries out an action that is to become the next entry of the seat's record.
     fn act_next(&mut self, player: Player, number: Number, action: Action) -> Acted
         ensures { ActsOnce K.is_honest (world_of K.Keeper self.old) player number action result (world_of K.Keeper self.new) }
     {
@@ -59,7 +70,7 @@ impl<K: Keeper> HostedMatch<K> {
         }
     }
 
-    /// Goes on after what a seat made of a choice.
+    /// Continues after the seat has claimed the action under a number, or refused it.
     fn after_choice(
         &mut self,
         player: Player,
@@ -75,7 +86,11 @@ impl<K: Keeper> HostedMatch<K> {
         }
     }
 
-    /// Saves what a player claims under a number, and lets the parties answer it.
+    /// Saves the claim that a player's seat has made under this number, and lets the parties answer
+    /// it.
+    ///
+    /// Returns `Failed` if the save fails, after restarting the seat from its last save. Otherwise
+    /// returns `Done` or `Waits`, by whether the entry of this number is shown.
     fn after_claim(&mut self, player: Player, number: Number) -> Acted
         ensures goes_on { GoesOn K.is_honest (world_of K.Keeper self.old) (world_of K.Keeper self.new) }
         ensures said { IsAnsweredBy number (world_of K.Keeper self.new) result }
@@ -97,7 +112,8 @@ impl<K: Keeper> HostedMatch<K> {
     }
 }
 
-/// Whether the entry of a number is the player's, and answers the action.
+/// Returns whether the record has an entry of this number, from 1, that is the player's and answers
+/// the action.
 pub fn is_answered(log: &Record, player: Player, number: Number, action: &Action) -> bool
     ensures { IsTrue result ↔ IsAnswered log.now player number action.now }
 {
@@ -107,21 +123,22 @@ pub fn is_answered(log: &Record, player: Player, number: Number, action: &Action
     }
 }
 
-/// Whether the entry of a number, if there is one, is the player's.
+/// Returns whether the entry of this number exists and is the player's.
 fn is_by(log: &Record, number: Number, player: Player) -> bool
     ensures { IsTrue result ↔ IsBy log.now number player }
 {
     is_seat(log.by(number), player)
 }
 
-/// Whether this is the seat of the player.
+/// Returns whether this is the seat of the player.
 fn is_seat(seat: Option<Player>, player: Player) -> bool
     ensures { IsTrue result ↔ (seat ≡ Some player) }
 {
     seat == Some(player)
 }
 
-/// Whether an entry answers an action: a roll has any dice.
+/// Returns whether an entry answers an action. A roll is answered by a roll of any dice, every
+/// other action only by the entry of the same kind and content.
 fn answers(entry: &Entry, action: &Action) -> bool
     ensures { IsTrue result ↔ IsAnswer action.now entry.now }
 {

@@ -12,28 +12,31 @@ use bg_wire::{FIRST_WATCHER, REFEREE, SEAT_OF_O, SEAT_OF_X};
 use bg_world::{Event, Keeper, Keepers, Outcome, Setup, World, WorldFault};
 use std::alloc::Global;
 
-/// The party whose record is told to everybody: it only watches, so what it holds is saved.
+/// The party whose record is shown to everybody. It is a watcher, so it holds only entries that the
+/// referee has sent, and the referee sends an entry only after saving it.
 pub(crate) const TELLER: u8 = FIRST_WATCHER;
 
-/// The parties that save.
+/// The parties that save: the referee and the two seats.
 pub(crate) const SAVERS: [u8; 3] = [REFEREE, SEAT_OF_X, SEAT_OF_O];
 
-/// The parties that follow the referee.
+/// The parties that follow the referee: the two seats and the teller.
 pub(crate) const FOLLOWERS: [u8; 3] = [SEAT_OF_X, SEAT_OF_O, TELLER];
 
-/// A match with its referee, its two seats, and a teller, who watches, between a queue and keepers.
+/// A match whose parties all run in this process: the referee, the two seats, and a watcher, the
+/// teller. They send through a queue in memory, and save through keepers.
 ///
-/// Players act by it, and everybody is told what the teller holds. So nothing is told that is not saved.
+/// Players act through [`HostedMatch::act`]. Everybody is shown the record of the teller, so
+/// nothing is shown that the referee hasn't saved.
 #[derive(Drop)]
 pub struct HostedMatch<K> {
     pub(crate) world: World<QueueLink, K>,
     pub(crate) dice: DiceAttempts,
     pub(crate) key: [u8; 32],
-    /// How many entries the referee's last save has.
+    /// The number of entries in the referee's last save.
     pub(crate) saved: Number,
-    /// The number of the last claim that was saved here; 0 before the first.
+    /// The number of the last claim that was saved since this value was made; 0 before the first.
     pub(crate) claimed: Number,
-    /// Whether something is left to be done by a tick.
+    /// Whether the next tick has something left to do.
     pub(crate) restless: bool,
 }
 
@@ -41,10 +44,12 @@ impl<K: Keeper + Drop> HostedMatch<K> {
     ghost use Rattle.bg_hosted.specs.Going.{GoesOn};
     ghost use Rattle.bg_hosted.specs.HostedMatches.{fresh_match, world_of};
 
-    /// The match that goes on from what its keepers have. Its dice go by the key (docs/FORMATS.md, "Random words").
+    /// Returns a match that continues from what its keepers hold; over empty keepers, it begins.
+    /// Its dice are made from the key (docs/FORMATS.md, "Random words").
     ///
     /// # Errors
-    /// Where the length is not from 1 to 99, or there is no memory.
+    /// - `LengthOutOfRange` if the length is not from 1 to 99;
+    /// - `Memory` if memory runs out.
     pub fn begin(
         alloc: Global,
         id: u64,
@@ -60,7 +65,8 @@ impl<K: Keeper + Drop> HostedMatch<K> {
         Ok(hosted)
     }
 
-    /// The match with all parties fresh.
+    /// Returns the match with all its parties fresh: nothing is read from the keepers yet. Fails
+    /// like [`HostedMatch::begin`].
     fn fresh(
         alloc: Global,
         id: u64,
@@ -91,21 +97,22 @@ impl<K: Keeper> HostedMatch<K> {
     ghost use Rattle.bg_hosted.specs.Going.{GoesOn, IsNoChoice};
     ghost use Rattle.bg_hosted.specs.HostedMatches.{IsOverBy, count_of, told_of, world_of};
 
-    /// What everybody may see: the record of the teller.
+    /// Returns the record that everybody may see, which is the teller's; `None` if the teller is
+    /// down.
     pub fn shown(&self) -> Option<&Record>
         ensures { option_copied result ≡ told_of (world_of K.Keeper self.now) }
     {
         self.world.held(TELLER)
     }
 
-    /// How many entries may be seen.
+    /// Returns the number of entries that everybody may see; 0 if the teller is down.
     pub fn told(&self) -> Number
         ensures { result ≡ count_of (told_of (world_of K.Keeper self.now)) }
     {
         self.held_by(TELLER)
     }
 
-    /// Whether everybody may see that the match is over.
+    /// Returns whether the record that everybody may see says that the match is over.
     pub fn is_over(&self) -> bool
         ensures { IsTrue result ↔ IsOverBy (told_of (world_of K.Keeper self.now)) }
     {
@@ -115,12 +122,14 @@ impl<K: Keeper> HostedMatch<K> {
         }
     }
 
-    /// Whether something is left to be done by a tick, as after a save that failed.
+    /// Returns whether [`HostedMatch::tick`] has something left to do, for instance after a failed
+    /// save.
     pub fn is_restless(&self) -> bool {
         self.restless
     }
 
-    /// Lets all parties send what they have to send, and come to rest.
+    /// Lets the seats and the teller send what is due, and then lets all parties work until nothing
+    /// moves. Call it again after a while if [`HostedMatch::is_restless`] says so.
     pub fn tick(&mut self)
         ensures { GoesOn K.is_honest (world_of K.Keeper self.old) (world_of K.Keeper self.new) }
     {
@@ -130,7 +139,8 @@ impl<K: Keeper> HostedMatch<K> {
         self.settle();
     }
 
-    /// Lets the parties that save begin again from what their keepers have, and come to rest.
+    /// Restarts the parties that save from what their keepers hold, and lets all parties work until
+    /// nothing moves.
     fn go_on(&mut self)
         ensures { GoesOn K.is_honest (world_of K.Keeper self.old) (world_of K.Keeper self.new) }
     {
@@ -140,7 +150,7 @@ impl<K: Keeper> HostedMatch<K> {
         self.tick();
     }
 
-    /// Lets a party begin again.
+    /// Restarts a party from what its keeper holds. If that fails, the match is restless.
     pub(crate) fn restart(&mut self, party: u8)
         ensures { GoesOn K.is_honest (world_of K.Keeper self.old) (world_of K.Keeper self.new) }
     {
@@ -152,7 +162,7 @@ impl<K: Keeper> HostedMatch<K> {
         }
     }
 
-    /// Returns how many entries a party holds; none where it is down.
+    /// Returns the number of entries that a party holds; 0 if it is down.
     pub(crate) fn held_by(&self, party: u8) -> Number
         ensures { result ≡ count_of (held_of (world_of K.Keeper self.now) (role party)) }
     {
@@ -162,7 +172,7 @@ impl<K: Keeper> HostedMatch<K> {
         }
     }
 
-    /// Lets an event happen by which no player acts, and returns what it came to.
+    /// Runs an event by which no player acts, and returns its outcome.
     pub(crate) fn pass(&mut self, event: Event) -> Outcome
         requires { IsNoChoice event }
         ensures { GoesOn K.is_honest (world_of K.Keeper self.old) (world_of K.Keeper self.new) }
@@ -170,7 +180,7 @@ impl<K: Keeper> HostedMatch<K> {
         self.happen(event)
     }
 
-    /// Lets an event happen, and returns what it came to.
+    /// Runs an event, and returns its outcome.
     pub(crate) fn happen(&mut self, event: Event) -> Outcome
         ensures { Calls (Unit {0}) K.is_honest (world_of K.Keeper self.old) event result (world_of K.Keeper self.new) }
     {
@@ -178,7 +188,7 @@ impl<K: Keeper> HostedMatch<K> {
     }
 }
 
-/// Whether a player has won the match of a record.
+/// Returns whether the record says that a player has won the match.
 fn is_won(log: &Record) -> bool
     ensures { IsTrue result ↔ IsWon log.now }
 {

@@ -1,5 +1,5 @@
-//! A match that one process hosts whole: its referee, its two seats, and one who watches, over a queue in memory. For
-//! servers that let people play who bring nothing but a connection.
+//! Hosts a whole match in one process: the referee, the two seats and one watcher, over a queue in
+//! memory. It is for servers whose players bring nothing but a connection.
 //!
 //! ```
 //! let terms = Terms {

@@ -1,4 +1,4 @@
-//! A link in memory that keeps only what nobody has taken yet.
+//! A link in memory that keeps only the datagrams that nobody has taken yet.
 ghost use Rattle.std.specs.Prelude.{◌≡◌, None, length};
 ghost use Rattle.bg_world.specs.Devices.Handed.{noted_answer};
 
@@ -8,11 +8,13 @@ use bg_wire::Datagram;
 use bg_world::{DeviceFault, Link, Taken, count_failed, note_taken};
 use std::alloc::Global;
 
-/// So many datagrams wait at most. One more is lost, as a network may lose one.
+/// The largest number of datagrams that wait at once. A datagram that is sent when so many wait is
+/// lost, as on a network.
 pub const MOST_WAITING: usize = 64;
 
-/// A link between the parties of one process, which is honest: it hands over each datagram once, in the order in which
-/// those to a party were sent. It keeps at most 64 that wait, and nothing of those that were taken.
+/// An honest link between the parties of one process: it hands over each datagram at most once, and
+/// the datagrams to one party in the order in which they were sent. It keeps at most 64 datagrams
+/// that wait, and nothing of those that have been taken.
 #[derive(Drop)]
 pub struct QueueLink {
     waiting: Waiting,
@@ -25,7 +27,7 @@ pub struct QueueLink {
 impl QueueLink {
     ghost use Rattle.bg_hosted.specs.QueueLinks.{queue_view, unused_queue};
 
-    /// A link that nothing was sent over and nothing was asked of.
+    /// Returns an unused link: nothing has been sent over it, and nothing taken from it.
     pub fn new(alloc: Global) -> QueueLink
         ensures { queue_view result ≡ unused_queue }
     {
@@ -42,7 +44,7 @@ impl QueueLink {
 impl Link for QueueLink {
     ghost is_honest = { Unit {0} };
 
-    // Which sends fail is not known beforehand: those that find the queue full.
+    // It isn't known beforehand which sends fail: those that find the queue full, or no memory.
     ghost plan = { λ _. None };
 
     ghost sent = { λ link. link.waiting.sent.datagrams };

@@ -1,4 +1,4 @@
-//! The order in which datagrams were sent, which only clauses read.
+//! The datagrams that were sent, in order. Only clauses read them.
 ghost use Rattle.std.specs.Prelude.{◌≡◌, [], ◌∷◌, ◌++◌, List};
 ghost use Rattle.std.specs.Borrow.{ftrue};
 ghost use Rattle.std.specs.Coded.{coded_list};
@@ -8,7 +8,8 @@ ghost use Rattle.bg_world.specs.Devices.SentCodes.{coded_datagram};
 use bg_wire::Datagram;
 use std::marker::Model;
 
-/// The datagrams that were sent, the oldest first. It takes no memory: a clause reads it, and code reads nothing of it.
+/// The datagrams that were sent, the oldest first. It is ghost state: clauses read it, code
+/// doesn't, and it takes no memory.
 #[derive(Drop)]
 pub(crate) struct SentHistory {
     pub(crate) ghost datagrams: { List Sent } by { coded_list coded_datagram },
@@ -19,14 +20,14 @@ impl Model for SentHistory {
 }
 
 impl SentHistory {
-    /// Nothing yet.
+    /// Returns the empty history.
     pub(crate) fn new() -> SentHistory
         ensures { result.datagrams ≡ [] }
     {
         SentHistory {}
     }
 
-    /// This datagram more.
+    /// Returns the history with this datagram added at its end.
     pub(crate) fn then(&self, _datagram: &Datagram) -> SentHistory
         ensures { result.datagrams ≡ self.now.datagrams ++ _datagram.now ∷ [] }
     {

@@ -1,4 +1,4 @@
-//! How the parties of a match come to rest.
+//! Lets the parties of a match work until nothing moves.
 
 use crate::hosted_matches::{FOLLOWERS, HostedMatch};
 use bg_match::Actor;
@@ -6,21 +6,23 @@ use bg_referee::DueFault;
 use bg_wire::REFEREE;
 use bg_world::{Event, Keeper, Outcome};
 
-/// So many turns are made at most; what is left then is done by the next tick.
+/// The largest number of turns in one call of [`HostedMatch::settle`]. The next tick does what is
+/// left then.
 const MOST_TURNS: u32 = 4096;
 
-/// So many datagrams a party takes in one turn at most.
+/// The largest number of datagrams that a party takes in one turn.
 const MOST_TAKES: u32 = 64;
 
-/// So many words the referee is handed in one turn at most.
+/// The largest number of random words that the referee gets in one turn.
 const MOST_DUE: u32 = 16;
 
 impl<K: Keeper> HostedMatch<K> {
     ghost use Rattle.bg_hosted.specs.Going.{GoesOn};
     ghost use Rattle.bg_hosted.specs.HostedMatches.{world_of};
 
-    /// Lets datagrams be taken, entries that are due be added, and what is new be saved and then told, until nothing
-    /// moves.
+    /// Lets the parties take datagrams, add the entries that are due, save what is new and only
+    /// then send it, in turns, until nothing moves. Notes whether something is left for the next
+    /// tick.
     pub(crate) fn settle(&mut self)
         ensures { GoesOn K.is_honest (world_of K.Keeper self.old) (world_of K.Keeper self.new) }
     {
@@ -33,7 +35,7 @@ impl<K: Keeper> HostedMatch<K> {
         }
     }
 
-    /// Makes one turn; whether anything moved.
+    /// Makes one turn, and returns whether anything moved.
     fn turn(&mut self) -> bool
         ensures { GoesOn K.is_honest (world_of K.Keeper self.old) (world_of K.Keeper self.new) }
     {
@@ -44,7 +46,8 @@ impl<K: Keeper> HostedMatch<K> {
         taken || added || saved || told
     }
 
-    /// Lets the referee send, and the others take; whether anything moved.
+    /// Lets the referee send and the followers take. Returns whether there was anything to send or
+    /// take.
     fn tell(&mut self) -> bool
         ensures { GoesOn K.is_honest (world_of K.Keeper self.old) (world_of K.Keeper self.new) }
     {
@@ -58,7 +61,8 @@ impl<K: Keeper> HostedMatch<K> {
         moved
     }
 
-    /// Whether all hold what is saved, the last claim is answered, and the referee has nothing to add.
+    /// Returns whether all parties hold what is saved, the last claim is answered, and the referee
+    /// has nothing to add.
     fn is_at_rest(&self) -> bool {
         let Some(record) = self.world.held(REFEREE) else {
             return false;
@@ -69,7 +73,7 @@ impl<K: Keeper> HostedMatch<K> {
             && self.all_hold_saved()
     }
 
-    /// Whether each follower holds as many entries as are saved.
+    /// Returns whether each follower holds as many entries as the referee's last save.
     fn all_hold_saved(&self) -> bool {
         for party in FOLLOWERS {
             if self.held_by(party) != self.saved {
@@ -79,7 +83,8 @@ impl<K: Keeper> HostedMatch<K> {
         true
     }
 
-    /// Lets a party take what there is for it; whether there was anything.
+    /// Lets a party take the datagrams that wait for it, at most 64. Returns whether there were
+    /// any.
     fn take_all(&mut self, party: u8) -> bool
         ensures { GoesOn K.is_honest (world_of K.Keeper self.old) (world_of K.Keeper self.new) }
     {
@@ -98,7 +103,8 @@ impl<K: Keeper> HostedMatch<K> {
         true
     }
 
-    /// Lets the referee add what is due; whether there was anything.
+    /// Gives the referee random words, at most 16, until it has nothing to add by itself. Returns
+    /// whether it had.
     fn add_due(&mut self) -> bool
         ensures { GoesOn K.is_honest (world_of K.Keeper self.old) (world_of K.Keeper self.new) }
     {
@@ -112,7 +118,8 @@ impl<K: Keeper> HostedMatch<K> {
         true
     }
 
-    /// Lets the referee save where it holds more than is saved; whether it did.
+    /// Lets the referee save if what it holds differs from its last save. Returns whether it saved.
+    /// If the save fails, the referee restarts from its last one.
     fn save_news(&mut self) -> bool
         ensures { GoesOn K.is_honest (world_of K.Keeper self.old) (world_of K.Keeper self.new) }
     {

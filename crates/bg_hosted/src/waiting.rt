@@ -11,7 +11,7 @@ use bg_wire::Datagram;
 use bg_world::DeviceFault;
 use std::alloc::Global;
 
-/// The datagrams that nobody has taken yet, the oldest first: at most 64. Each of them was sent.
+/// The datagrams that nobody has taken yet, the oldest first: at most 64. Each was sent.
 #[derive(Drop)]
 pub(crate) struct Waiting {
     datagrams: Vec<Datagram>,
@@ -21,7 +21,7 @@ pub(crate) struct Waiting {
 }
 
 impl Waiting {
-    /// None wait, and none was sent.
+    /// Returns an empty queue over which nothing has been sent.
     pub(crate) fn new(alloc: Global) -> Waiting
         ensures { result.sent.datagrams ≡ [] }
     {
@@ -31,10 +31,12 @@ impl Waiting {
         }
     }
 
-    /// Puts a datagram behind the others.
+    /// Adds a datagram at the end.
     ///
     /// # Errors
-    /// `Failed` where 64 wait already, `Memory` where there is no memory for it. Then it is lost.
+    /// The datagram is lost:
+    /// - `Failed` if 64 wait already;
+    /// - `Memory` if memory runs out.
     pub(crate) fn put(&mut self, datagram: &Datagram) -> Result<(), DeviceFault>
         ensures ok { OnOk result (self.new.sent.datagrams ≡ self.old.sent.datagrams ++ datagram.now ∷ []) }
         ensures err { OnErr result (self.new.sent.datagrams ≡ self.old.sent.datagrams) }
@@ -47,7 +49,7 @@ impl Waiting {
         Ok(())
     }
 
-    /// Takes out the oldest datagram to a party, and returns its bytes.
+    /// Removes the oldest datagram to a party and returns its bytes, or `None` if none waits.
     pub(crate) fn take(&mut self, party: u8) -> Option<ArrayVec<u8, 256>>
         ensures same { self.new.sent.datagrams ≡ self.old.sent.datagrams }
         ensures taken { IfSome result (λ bytes.
@@ -58,7 +60,7 @@ impl Waiting {
         Some(bytes_of(&datagram))
     }
 
-    /// Returns the index of the oldest datagram to a party.
+    /// Returns the index, from 0, of the oldest datagram to a party, or `None` if none waits.
     fn first_to(&self, party: u8) -> Option<usize>
         ensures within { IfSome result (λ index. index < vec_len self.now.datagrams) }
         ensures theirs { IfSome result (λ index.

@@ -1,5 +1,5 @@
-//! The pages of a match server, with their script and style, and the headers of all its answers. For programs that
-//! answer requests by `http_server`.
+//! The pages of a match server, with their script and style, and the headers of all its answers.
+//! For programs that answer requests by `http_server`.
 //!
 //! ```
 //! let mut response = Response::new(alloc);

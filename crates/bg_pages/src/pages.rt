@@ -49,6 +49,10 @@ const HOME_PAGE: &str = r#"<!DOCTYPE html>
 <h2>Live</h2>
 <div id="live"></div>
 </section>
+<details id="idlers" hidden>
+<summary>Idle: nobody has played for a long time</summary>
+<div id="idle"></div>
+</details>
 <section>
 <h2>Finished</h2>
 <label class="search">Search <input id="search" type="search" autocomplete="off"></label>
@@ -94,6 +98,7 @@ const MATCH_PAGE: &str = r#"<!DOCTYPE html>
 </nav>
 <ol id="moves"></ol>
 <p id="links"></p>
+<div id="dice"></div>
 </aside>
 </main>
 <dialog id="ask"></dialog>

@@ -74,6 +74,9 @@ nav button { min-width: 2.75rem; padding: .3rem; }
 .line { display: block; width: 100%; min-height: 0; text-align: left; border: 0; border-radius: 0; background: none; padding: .15rem .6rem; font-size: .9rem; font-variant-numeric: tabular-nums; }
 .line.now { background: var(--main); color: var(--main-ink); }
 #links { display: flex; gap: .8rem; flex-wrap: wrap; font-size: .9rem; overflow-wrap: anywhere; }
+details { font-size: .9rem; margin: .4rem 0; }
+summary { cursor: pointer; color: var(--main); padding: .4rem 0; }
+code { overflow-wrap: anywhere; font-size: .85em; }
 dialog { border: 1px solid var(--line); border-radius: .8rem; background: var(--card); color: var(--ink); max-width: 22rem; }
 dialog button { margin: .2rem .3rem .2rem 0; }
 

@@ -16,6 +16,7 @@ behind_slash word (parts.StateAfter count) is = (word, is, refl)
 behind_slash word parts.Transcript is = (word, is, refl)
 behind_slash word parts.Mat is = (word, is, refl)
 behind_slash word parts.Picture is = (word, is, refl)
+behind_slash word parts.Dice is = (word, is, refl)
 behind_slash word parts.Actions is = (word, is, refl)
 behind_slash word parts.Live is = (word, is, refl)
 

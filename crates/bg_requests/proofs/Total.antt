@@ -34,6 +34,7 @@ split_behind behind (parts.StateAfter count) is = inr is
 split_behind behind parts.Transcript is = inr is
 split_behind behind parts.Mat is = inr is
 split_behind behind parts.Picture is = inr is
+split_behind behind parts.Dice is = inr is
 split_behind behind parts.Actions is = inr is
 split_behind behind parts.Live is = inr is
 

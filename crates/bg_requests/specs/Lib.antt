@@ -1,3 +1,4 @@
 pub mod Seats
 pub mod Targets
 pub mod Messages
+pub mod Orders

@@ -31,6 +31,7 @@ IsWordOf word (parts.StateAfter count) = (word ≡ codes "states/" ++ decimal co
 IsWordOf word parts.Transcript = word ≡ codes "transcript"
 IsWordOf word parts.Mat = word ≡ codes "mat"
 IsWordOf word parts.Picture = word ≡ codes "picture"
+IsWordOf word parts.Dice = word ≡ codes "dice"
 IsWordOf word parts.Actions = word ≡ codes "actions"
 IsWordOf word parts.Live = word ≡ codes "live"
 

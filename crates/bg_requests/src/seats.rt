@@ -1,4 +1,5 @@
-//! Who may play a match: whoever knows the secret of a seat, of which the server keeps the SHA-256 alone.
+//! Who may play a match: whoever knows the secret of a seat, of which the server keeps the SHA-256
+//! alone.
 ghost use Rattle.std.specs.Prelude.{◌≡◌};
 ghost use Rattle.bg_requests.specs.Seats.{same_bytes};
 ghost use Rattle.sha2.specs.Sha256.{sha256};
@@ -28,8 +29,8 @@ pub fn digest_of(secret: &str) -> Digest
 impl Seats {
     ghost use Rattle.bg_requests.specs.Seats.{player_with};
 
-    /// Returns the player whose seat has a secret of this digest: X, where both have. It compares the same bytes
-    /// whatever the digest is, so that the time tells nothing of the secrets.
+    /// Returns the player whose seat has a secret of this digest: X, where both have. It compares
+    /// the same bytes whatever the digest is, so that the time tells nothing of the secrets.
     pub fn player_of(&self, digest: &Digest) -> Option<Player>
         ensures { result ≡ player_with self.now digest.now }
     {
@@ -45,7 +46,7 @@ impl Seats {
     }
 }
 
-/// Whether two lists have the same bytes. All of them are compared in any case.
+/// Returns whether two lists have the same bytes. It does not stop at the first difference.
 fn is_same(one: &[u8], other: &[u8]) -> bool
     ensures { result ≡ same_bytes one.now other.now }
 {

@@ -22,6 +22,8 @@ pub enum Part {
     /// The match file of other programs.
     Mat,
     Picture,
+    /// What is told of the secret that its dice are made of.
+    Dice,
     /// Where players' programs send actions.
     Actions,
     /// The socket of those who watch.
@@ -113,13 +115,15 @@ fn plain_part(word: &str) -> Option<Part>
         "transcript" => Some(Part::Transcript),
         "mat" => Some(Part::Mat),
         "picture" => Some(Part::Picture),
+        "dice" => Some(Part::Dice),
         "actions" => Some(Part::Actions),
         "live" => Some(Part::Live),
         _ => None,
     }
 }
 
-/// Returns the number that digits say, as it is written: without a sign, and with no zero before other digits.
+/// Returns the number that digits say, as it is written: without a sign, and with no zero before
+/// other digits.
 fn count_of(digits: &str) -> Option<u32>
     ensures said { IfSome result (λ count. digits.now ≡ decimal count) }
     ensures total { (count : ℕ) → count < 2 ^ 32 → digits.now ≡ decimal count → IsSome result }
@@ -136,7 +140,8 @@ fn count_of(digits: &str) -> Option<u32>
 /// The most bytes of a match's name.
 const MOST_NAME: usize = 64;
 
-/// Whether a match may have a name, which has letters, digits, hyphens and underscores alone, 1 to 64.
+/// Returns whether a match may have this name: only letters, digits, hyphens and underscores, 1 to
+/// 64 of them.
 pub fn is_name(name: &str) -> bool
     ensures { result ≡ may_name name.now }
 {
@@ -144,14 +149,14 @@ pub fn is_name(name: &str) -> bool
     has_letters(bytes) && !bytes.is_empty() && bytes.len() <= MOST_NAME
 }
 
-/// Whether all bytes may be in a name.
+/// Returns whether all bytes may be in a name.
 fn has_letters(bytes: &[u8]) -> bool
     ensures { result ≡ list_all may_be_in_name bytes.now }
 {
     bytes.iter().all(|byte| is_of_name(*byte))
 }
 
-/// Whether a byte may be in a name.
+/// Returns whether a byte may be in a name.
 fn is_of_name(byte: u8) -> bool
     ensures { result ≡ may_be_in_name byte }
 {

@@ -1,11 +1,11 @@
 //! A client: a connection that speaks HTTP first, and perhaps becomes a socket then.
 
-use crate::exchanges::{note_upgrade, read_http, write_http};
+use crate::exchanges::{answer_http, read_http, write_http};
 use crate::limits::{
     HEAD_SECONDS, HELLO_SECONDS, MOST_BODY, MOST_HEAD, MOST_READS, MOST_WRITES, PING_SECONDS,
     SILENT_SECONDS, STALL_SECONDS,
 };
-use bg_site::{Channel, Peer, Site, Step, Store};
+use bg_site::{Caller, Channel, Peer, Site, Step, Store};
 use bg_world::Keeper;
 use http_server::{Config, Connection};
 use mio::net::TcpStream;
@@ -20,6 +20,8 @@ pub(crate) struct Client {
     pub(crate) stream: TcpStream,
     /// None once it is a socket.
     http: Option<Connection>,
+    /// Whose connection it is.
+    caller: Caller,
     /// Who it is, once its request for a socket was granted.
     upgraded: Option<Peer>,
     channel: Option<Channel>,
@@ -32,7 +34,7 @@ pub(crate) struct Client {
     asked: u64,
 }
 
-/// What a client may send in a request.
+/// Returns the limits on what a client may send in a request.
 fn config() -> Config {
     let mut config = Config::default();
     config.limits.max_head_len = MOST_HEAD;
@@ -48,6 +50,7 @@ impl Client {
             alloc,
             stream,
             http: Some(Connection::new(alloc, keys, config())),
+            caller: Caller::UNKNOWN,
             upgraded: None,
             channel: None,
             since: now,
@@ -57,7 +60,7 @@ impl Client {
         }
     }
 
-    /// Whether news may be of interest to it.
+    /// Returns whether news may be of interest to it.
     pub(crate) fn is_live(&self) -> bool {
         self.channel.is_some()
     }
@@ -67,6 +70,7 @@ impl Client {
         if let Some(channel) = &self.channel {
             site.end_socket(channel.peer());
         }
+        site.end_connection(self.caller);
     }
 
     /// Reads, answers and sends.
@@ -97,15 +101,13 @@ impl Client {
             let Some(has_read) = read_http(connection, &mut self.stream) else {
                 return Step::Gone;
             };
-            connection.advance(site);
-            note_upgrade(connection, site, &mut self.upgraded);
+            answer_http(connection, site, &mut self.caller, &mut self.upgraded);
             let Some(has_sent) = write_http(connection, &mut self.stream) else {
                 return Step::Gone;
             };
             if has_sent {
                 self.since = now;
-                connection.advance(site);
-                note_upgrade(connection, site, &mut self.upgraded);
+                answer_http(connection, site, &mut self.caller, &mut self.upgraded);
             }
             if connection.is_done() {
                 return self.end_http(site, now);
@@ -172,7 +174,7 @@ impl Client {
         }
     }
 
-    /// Whether anything waits for it as a socket.
+    /// Returns whether anything waits for it as a socket.
     fn has_output(&self) -> bool {
         match &self.channel {
             Some(channel) => channel.has_output(),
@@ -208,7 +210,7 @@ impl Client {
         Step::More
     }
 
-    /// Whether it may stay in this second. A silent peer is asked whether he is there.
+    /// Returns whether it may stay in this second. A silent peer is pinged.
     pub(crate) fn may_stay<K: Keeper + Drop, S: Store<K> + Drop>(
         &mut self,
         site: &mut Site<K, S>,

@@ -9,7 +9,7 @@ use mio::{Interest, Token};
 use std::hash::RandomState;
 use std::io;
 
-/// So many connections are accepted in one turn at most.
+/// The most connections that are accepted in one turn.
 const MOST_ACCEPTED: u32 = 64;
 
 impl<'a> Server<'a> {
@@ -28,7 +28,8 @@ impl<'a> Server<'a> {
                 Ok((stream, _)) => {
                     let _ = self.take_in(stream, now);
                 }
-                // Nobody waits; or there are too many open files, and it is tried again in the next second.
+                // Nobody waits; or there are too many open files, and it is tried again in the next
+                // second.
                 Err(_) => self.is_accepting = false,
             }
         }
@@ -60,7 +61,7 @@ impl<'a> Server<'a> {
         Ok(())
     }
 
-    /// The first index without a client.
+    /// Returns the first index without a client.
     fn free_index(&self) -> usize {
         for (index, client) in self.clients.iter().enumerate() {
             if client.is_none() {
@@ -118,13 +119,14 @@ impl<'a> Server<'a> {
         }
     }
 
-    /// Looks once a second whether each client may stay.
+    /// Looks once a second whether each client may stay, and what the operator has changed.
     pub(crate) fn look(&mut self, now: u64) {
         if now == self.looked {
             return;
         }
         self.looked = now;
         self.is_accepting = true;
+        self.take_changes();
         let connections = self.clients.iter().flatten().count();
         self.site.note_connections(connections as u64);
         for index in 0..self.clients.len() {

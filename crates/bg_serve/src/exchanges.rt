@@ -1,13 +1,13 @@
-//! What a client sends and gets while it speaks HTTP.
+//! The exchange of requests and answers with a client that speaks HTTP.
 
-use bg_site::{Peer, Site, Store};
+use bg_site::{Caller, Peer, Site, Store};
 use bg_world::Keeper;
 use http_server::{Connection, State};
 use mio::net::TcpStream;
 use std::io;
 use std::io::ErrorKind;
 
-/// Reads once, where more is wanted. Whether anything came; None where the client is gone.
+/// Reads once, where more is wanted. Returns whether anything came; None where the client is gone.
 pub(crate) fn read_http(connection: &mut Connection, stream: &mut TcpStream) -> Option<bool> {
     if !connection.wants_read() {
         return Some(false);
@@ -15,7 +15,8 @@ pub(crate) fn read_http(connection: &mut Connection, stream: &mut TcpStream) -> 
     moved(connection.read_from(stream))
 }
 
-/// Writes once, where something waits. Whether anything went; None where the client is gone.
+/// Writes once, where something waits. Returns whether anything went; None where the client is
+/// gone.
 pub(crate) fn write_http(connection: &mut Connection, stream: &mut TcpStream) -> Option<bool> {
     if !connection.wants_write() {
         return Some(false);
@@ -26,7 +27,7 @@ pub(crate) fn write_http(connection: &mut Connection, stream: &mut TcpStream) ->
     }
 }
 
-/// Whether a read or a write has done anything; None where the client is gone.
+/// Returns whether a read or a write has done anything; None if the client is gone.
 fn moved(count: io::Result<usize>) -> Option<bool> {
     match count {
         Ok(_) => Some(true),
@@ -36,12 +37,17 @@ fn moved(count: io::Result<usize>) -> Option<bool> {
     }
 }
 
-/// Notes who the connection is, right after the site has granted it a socket.
-pub(crate) fn note_upgrade<K: Keeper + Drop, S: Store<K> + Drop>(
-    connection: &Connection,
+/// Answers the requests that have come, and notes whose connection it is, and who it is where the
+/// site has granted it a socket.
+pub(crate) fn answer_http<K: Keeper + Drop, S: Store<K> + Drop>(
+    connection: &mut Connection,
     site: &mut Site<K, S>,
+    caller: &mut Caller,
     upgraded: &mut Option<Peer>,
 ) {
+    site.begin_requests(*caller);
+    connection.advance(site);
+    *caller = site.caller();
     if upgraded.is_none() && connection.state() == State::Upgraded {
         *upgraded = site.take_upgraded();
     }

@@ -1,27 +1,23 @@
-//! The folders of matches: each lies in the folder that is served, and has the files of a match as everywhere.
+//! The folders of matches: each lies in the folder that is served, and has the files of a match as
+//! everywhere.
 
-use crate::seat_files::{path_in, random_digits, read_seats, write_seats};
+use crate::changes::take_changes;
+use crate::marks::{is_hidden, quiet_minutes};
+use crate::seat_files::read_seats;
 use crate::timed_keepers::{SaveCounts, TimedKeeper};
+use bg_console::path_in;
+use bg_dice::{digest_of, read_digest};
 use bg_match::{Record, Terms};
 use bg_processes::{
-    Failures, FileKeeper, FolderLock, MatchFile, NamedMatch, Names, make_secret, read_saved,
-    read_secret,
+    Failures, FileKeeper, FolderLock, MatchFile, NamedMatch, Names, read_saved, read_secret,
 };
-use bg_site::{Found, Made, Saves, Seats, Store};
+use bg_site::{Changed, Found, Made, Saves, Seats, Store};
 use bg_wire::{REFEREE, SEAT_OF_O, SEAT_OF_X, restore};
 use bg_world::Keepers;
 use std::alloc::{AllocError, Global};
-use std::fs::{DirBuilder, File};
-use std::os::unix::fs::DirBuilderExt;
-use std::random::RandomSource;
+use std::io::ErrorKind;
 use std::rc::Rc;
 use std::{fs, io};
-
-/// No match of the server has sockets of its own. A match file wants a port nevertheless.
-const PORT: u16 = 1024;
-
-/// A folder that only its owner reads, writes and enters.
-const OWNER_ALONE: u32 = 0o700;
 
 /// A keeper of a match that is served.
 pub(crate) type Kept<'a> = TimedKeeper<'a, FileKeeper<'a, HostRuntime>>;
@@ -29,14 +25,15 @@ pub(crate) type Kept<'a> = TimedKeeper<'a, FileKeeper<'a, HostRuntime>>;
 /// The folder of all matches.
 #[derive(Drop)]
 pub struct FolderStore<'a> {
-    rt: &'a HostRuntime,
-    folder: &'a str,
+    pub(crate) rt: &'a HostRuntime,
+    pub(crate) folder: &'a str,
     failures: &'a Failures,
     saves: Rc<SaveCounts>,
 }
 
 impl<'a> FolderStore<'a> {
-    /// The matches in a folder, whose keepers note their failures there.
+    /// Returns the store of the matches in a folder, whose keepers note their failures in
+    /// `failures`.
     ///
     /// # Errors
     /// AllocError where there is no memory for it.
@@ -53,7 +50,7 @@ impl<'a> FolderStore<'a> {
         })
     }
 
-    /// The names of all that lies in the folder.
+    /// Returns the names of all that lies in the folder.
     ///
     /// # Errors
     /// Why it could not be read.
@@ -66,8 +63,8 @@ impl<'a> FolderStore<'a> {
         Ok(names)
     }
 
-    /// Finds the match of this name, and locks its folder where others may play over it, as one that `bg_relay new`
-    /// has made. None where there is none.
+    /// Finds the match of this name, and locks its folder where others may play over it, as one
+    /// that `bg_relay new` has made. Returns None where there is none.
     ///
     /// # Errors
     /// Why it could not be read, or locked.
@@ -88,7 +85,32 @@ impl<'a> FolderStore<'a> {
         Ok(Some((found, lock)))
     }
 
-    /// The match file of a folder; None where it has none that can be read.
+    /// Returns what the operator may have changed of the match of this name; None where there is
+    /// none any more.
+    ///
+    /// # Errors
+    /// Why it could not be read.
+    pub(crate) fn changed(&self, name: &str) -> io::Result<Option<Changed>> {
+        let path = path_in(self.rt.alloc(), self.folder, name)?;
+        let Some(file) = self.match_in(path.as_str())? else {
+            return Ok(None);
+        };
+        Ok(Some(Changed {
+            names: file.names,
+            seats: read_seats(self.rt, path.as_str())?,
+            is_hidden: is_hidden(self.rt, path.as_str())?,
+        }))
+    }
+
+    /// Takes the names of the matches that the operator has changed, and forgets them.
+    ///
+    /// # Errors
+    /// Why they could not be read.
+    pub(crate) fn take_changes(&self) -> io::Result<Vec<String>> {
+        take_changes(self.rt, self.folder)
+    }
+
+    /// Returns the match file of a folder; None where it has none that can be read.
     fn match_in(&self, path: &str) -> io::Result<Option<NamedMatch>> {
         let path = path_in(self.rt.alloc(), path, "match")?;
         match NamedMatch::read(self.rt, path.as_str()) {
@@ -97,8 +119,8 @@ impl<'a> FolderStore<'a> {
         }
     }
 
-    /// The match of this name, with its keepers.
-    fn found(
+    /// Returns the match of this name, with its keepers.
+    pub(crate) fn found(
         &self,
         name: &str,
         path: &str,
@@ -106,6 +128,10 @@ impl<'a> FolderStore<'a> {
         seats: Option<Seats>,
     ) -> io::Result<Found<Kept<'a>>> {
         let key = read_secret(self.rt, path)?;
+        let digest = read_digest(self.rt, path)?;
+        if digest.is_some_and(|digest| digest != digest_of(&key)) {
+            return Err(io::Error::from(ErrorKind::InvalidData));
+        }
         let name = String::from_str(self.rt.alloc(), name)?;
         Ok(Found {
             name,
@@ -114,11 +140,14 @@ impl<'a> FolderStore<'a> {
             terms: file.table.terms,
             seats,
             key,
+            digest,
             keepers: self.keepers(path)?,
+            is_hidden: is_hidden(self.rt, path)?,
+            quiet_minutes: quiet_minutes(self.rt, path)?,
         })
     }
 
-    /// The keepers of the parties in a folder.
+    /// Returns the keepers of the parties in a folder.
     fn keepers(&self, path: &str) -> Result<Keepers<Kept<'a>>, AllocError> {
         let referee = self.keeper(path, REFEREE)?;
         let x = self.keeper(path, SEAT_OF_X)?;
@@ -126,60 +155,11 @@ impl<'a> FolderStore<'a> {
         Ok(Keepers { referee, x, o })
     }
 
-    /// The keeper of a party in a folder.
+    /// Returns the keeper of a party in a folder.
     fn keeper(&self, path: &str, party: u8) -> Result<Kept<'a>, AllocError> {
         let counts = self.saves.clone()?;
         let keeper = FileKeeper::new(self.rt, path, party, self.failures)?;
         Ok(TimedKeeper::new(self.rt, keeper, counts))
-    }
-
-    /// Makes a match, with secrets of its seats.
-    fn try_make(&self, terms: Terms, names: Names) -> io::Result<Made<Kept<'a>>> {
-        let (x, o) = (random_digits(self.rt, 16)?, random_digits(self.rt, 16)?);
-        let found = self.make_found(x.as_str(), o.as_str(), terms, names)?;
-        Ok(Made { found, x, o })
-    }
-
-    /// Makes a match whose seats have these secrets.
-    fn make_found(
-        &self,
-        x: &str,
-        o: &str,
-        terms: Terms,
-        names: Names,
-    ) -> io::Result<Found<Kept<'a>>> {
-        let name = random_digits(self.rt, 6)?;
-        let path = path_in(self.rt.alloc(), self.folder, name.as_str())?;
-        let seats = self.make_folder(path.as_str(), x, o)?;
-        let file = NamedMatch {
-            table: MatchFile {
-                id: self.random_id()?,
-                terms,
-                port: PORT,
-            },
-            names,
-        };
-        self.write_match(path.as_str(), &file)?;
-        self.found(name.as_str(), path.as_str(), file, Some(seats))
-    }
-
-    /// Makes the folder of a match, with the secret of its dice and the digests of its seats.
-    fn make_folder(&self, path: &str, x: &str, o: &str) -> io::Result<Seats> {
-        DirBuilder::new().mode(OWNER_ALONE).create(self.rt, path)?;
-        make_secret(self.rt, path)?;
-        write_seats(self.rt, path, x, o)
-    }
-
-    /// Writes the match file. It comes last, as a folder without one is no match.
-    fn write_match(&self, path: &str, file: &NamedMatch) -> io::Result<()> {
-        file.write(self.rt, path)?;
-        File::open(self.rt, self.folder)?.sync_all()
-    }
-
-    fn random_id(&self) -> io::Result<u64> {
-        let mut id = [0; 8];
-        self.rt.fill_bytes(&mut id)?;
-        Ok(u64::from_be_bytes(id))
     }
 
     /// Reads the record that a match's referee has saved.

@@ -1,5 +1,5 @@
-//! A server of matches for browsers: one thread over sockets on the loopback address, and a folder for each match.
-//! What requests and messages mean is `bg_site`'s.
+//! A server of matches for browsers: one thread over sockets on the loopback address, and a folder
+//! for each match. What requests and messages mean is `bg_site`'s.
 //!
 //! ```
 //! let failures = Failures::new();
@@ -10,15 +10,22 @@
 //! ```
 #![tactic(auto)]
 
+mod backups;
+mod changes;
 mod clients;
 mod crowds;
 mod exchanges;
 mod folders;
 mod limits;
+mod making;
+pub mod manage;
+mod marks;
 mod quotas;
 mod seat_files;
 pub mod serve;
 mod servers;
+mod sockets;
+mod tables;
 mod timed_keepers;
 
 pub use folders::FolderStore;

@@ -1,6 +1,7 @@
-//! How often something may be done in a time.
+//! Quotas: how often something may be done in a time.
 
-/// A number of times that something may be done in a minute: what is not used up is kept, up to a minute's worth.
+/// A number of times that something may be done in a minute: what is not used up is kept, up to a
+/// minute's worth.
 #[derive(Clone, Copy, Debug, PartialEq, Eq)]
 pub(crate) struct Quota {
     a_minute: u64,
@@ -10,7 +11,7 @@ pub(crate) struct Quota {
 }
 
 impl Quota {
-    /// A full one.
+    /// Returns a full quota of so many times a minute.
     pub(crate) fn new(a_minute: u64) -> Quota {
         Quota {
             a_minute,

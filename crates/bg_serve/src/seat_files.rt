@@ -1,5 +1,7 @@
 //! The file of a match that says who may play it: the SHA-256 of the secret of each seat.
 
+use bg_board::Player;
+use bg_console::path_in;
 use bg_site::{Digest, Seats, digest_of};
 use std::alloc::{AllocError, Global};
 use std::fs::{File, OpenOptions};
@@ -25,14 +27,6 @@ pub(crate) fn random_digits(
     let mut text = String::new(rt.alloc());
     put_hex(&mut text, &bytes[..count.min(16)])?;
     Ok(text)
-}
-
-/// Returns the path of what has this name in a folder.
-pub(crate) fn path_in(alloc: Global, folder: &str, name: &str) -> Result<String, AllocError> {
-    let mut path = String::from_str(alloc, folder)?;
-    path.push('/')?;
-    path.push_str(name)?;
-    Ok(path)
 }
 
 /// Returns the seats of a match, if its folder says who may play it.
@@ -73,7 +67,47 @@ fn digest_in(text: &str) -> Option<Digest> {
     }
 }
 
-/// Writes who may play a match into its folder: those who know these secrets. The secrets themselves are not kept.
+/// Gives a player's seat another secret. The file is whole at any moment.
+///
+/// # Errors
+/// Why the file could not be written.
+pub(crate) fn replace_seat(
+    rt: &(impl Files<File = File> + AllocGlobal),
+    folder: &str,
+    seats: Seats,
+    player: Player,
+    secret: &str,
+) -> io::Result<()> {
+    let digest = digest_of(secret);
+    let seats = match player {
+        Player::X => Seats { x: digest, ..seats },
+        Player::O => Seats { o: digest, ..seats },
+    };
+    let path = path_in(rt.alloc(), folder, NAME)?;
+    let beside = path_in(rt.alloc(), folder, "seats.new")?;
+    let text = seats_text(rt.alloc(), &seats)?;
+    let mut file = OpenOptions::new()
+        .write(true)
+        .create(true)
+        .truncate(true)
+        .mode(OWNER_ALONE)
+        .open(rt, beside.as_str())?;
+    file.write_all(text.as_bytes())?;
+    file.sync_all()?;
+    fs::rename(rt, beside.as_str(), path.as_str())?;
+    File::open(rt, folder)?.sync_all()
+}
+
+/// Returns the text of the file: two lines, `x DIGEST` and `o DIGEST`.
+fn seats_text(alloc: Global, seats: &Seats) -> Result<String, AllocError> {
+    let mut text = String::new(alloc);
+    put_line(&mut text, "x ", &seats.x)?;
+    put_line(&mut text, "o ", &seats.o)?;
+    Ok(text)
+}
+
+/// Writes who may play a match into its folder: those who know these secrets. The secrets
+/// themselves are not kept.
 ///
 /// # Errors
 /// Why the file could not be written.
@@ -87,9 +121,7 @@ pub(crate) fn write_seats(
         x: digest_of(x),
         o: digest_of(o),
     };
-    let mut text = String::new(rt.alloc());
-    put_line(&mut text, "x ", &seats.x)?;
-    put_line(&mut text, "o ", &seats.o)?;
+    let text = seats_text(rt.alloc(), &seats)?;
     write_new(rt, folder, text.as_str())?;
     Ok(seats)
 }

@@ -1,29 +1,55 @@
 //! The command that serves matches to browsers.
 
 use crate::servers::Server;
-use bg_console::{failed_for, own_folder, say, say_failures};
+use bg_console::{failed, failed_or, own_folder, say, say_failures};
+use bg_options::ServeOptions;
 use bg_processes::{Failures, Printable};
 use bg_reports::Ending;
+use std::io;
+use std::io::ErrorKind;
 
-/// Serves the matches of a folder at a port of this machine until the process is ended. Says each request, if that is
-/// wanted.
-pub fn run(
-    rt: &HostRuntime,
-    folder: &str,
-    port: u16,
-    tells_requests: bool,
-) -> Result<Ending, Ending> {
+/// The words on what a server needs to begin, and to go on.
+const FOLDER_AND_PORT: &str =
+    "; allow it to read the folder and to listen at the port, and start it again";
+
+const NOT_WAITED: &str = "the sockets can't be waited for";
+
+const MORE_FILES: &str = "; allow it more open files (`ulimit -n`), and start it again";
+
+/// Serves the matches of a folder at a port of this machine until the process is ended. Says each
+/// request, if that is wanted.
+pub fn run(rt: &HostRuntime, options: ServeOptions<'_>) -> Result<Ending, Ending> {
+    let ServeOptions {
+        folder,
+        port,
+        idle_hours,
+        tells_requests,
+    } = options;
     let _lock = own_folder(rt, folder)?;
     let failures = Failures::new();
     let mut server = match Server::begin(rt, folder, port, &failures) {
         Ok(server) => server,
-        Err(error) => return Err(failed_for(rt, "the matches can't be served", &error)),
+        Err(error) => return Err(not_begun(rt, port, &error)),
     };
+    server.site.set_idle(u64::from(idle_hours) * 60);
     tell_begin(rt, &server);
     if tells_requests {
         server.site.keep_log();
     }
     go_on(rt, &mut server, folder, &failures)
+}
+
+/// Reports why the matches of a folder can't be served at a port.
+fn not_begun(rt: &HostRuntime, port: u16, error: &io::Error) -> Ending {
+    if error.kind() == ErrorKind::AddrInUse {
+        return failed(
+            rt,
+            format_args!(
+                "port {port} is taken: end the process that has it, or name another by --port"
+            ),
+        );
+    }
+    failed_or(rt, "the matches can't be served", error, FOLDER_AND_PORT)
 }
 
 /// Lets a server take its turns.
@@ -35,8 +61,8 @@ fn go_on(
 ) -> Result<Ending, Ending> {
     for _ in 0..u64::MAX {
         match server.turn() {
-            Ok(made) => tell_made(rt, made),
-            Err(error) => return Err(failed_for(rt, "the sockets can't be waited for", &error)),
+            Ok(made) => tell_counts(rt, made, server.ended(), server.changed()),
+            Err(error) => return Err(failed_or(rt, NOT_WAITED, &error, MORE_FILES)),
         }
         tell_requests(rt, server);
         say_failures(rt, failures, folder);
@@ -64,10 +90,17 @@ fn tell_begin(rt: &HostRuntime, server: &Server<'_>) {
     }
 }
 
-/// Says that matches were made, if any were.
-fn tell_made(rt: &HostRuntime, made: u64) {
+/// Says how many matches were made, how many have ended, and how many the operator has changed, as
+/// far as any were.
+fn tell_counts(rt: &HostRuntime, made: u64, ended: u64, changed: u64) {
     if made > 0 {
         say(rt, format_args!("matches made: {made}"));
+    }
+    if ended > 0 {
+        say(rt, format_args!("matches ended: {ended}"));
+    }
+    if changed > 0 {
+        say(rt, format_args!("changes by `manage`: {changed}"));
     }
 }
 

@@ -4,13 +4,14 @@ use crate::clients::Client;
 use crate::folders::{FolderStore, Kept};
 use crate::limits::MOST_MADE;
 use crate::quotas::Quota;
+use crate::sockets::Sockets;
 use bg_processes::{Failures, FolderLock};
 use bg_requests::is_name;
 use bg_site::Site;
 use mio::net::TcpListener;
-use mio::{Events, Interest, Poll, Token};
+use mio::{Events, Poll, Token};
 use std::io;
-use std::net::{Ipv4Addr, SocketAddr};
+use std::net::SocketAddr;
 use std::time::{Duration, Instant};
 
 /// The token of the listener; that of a client is one more than its index.
@@ -32,36 +33,16 @@ pub struct Server<'a> {
     /// The indices of clients that may have more to do.
     pub(crate) again: Vec<usize>,
     quota: Quota,
+    /// How many changes of the operator were taken in, and not told yet.
+    changed: u64,
+    /// How many matches were told to have ended.
+    ended: u64,
     start: Instant,
     /// The second in which all were looked at last, and the tenth in which matches ticked last.
     pub(crate) looked: u64,
     ticked: u64,
     /// Whether connections may wait to be accepted.
     pub(crate) is_accepting: bool,
-}
-
-/// What a server waits for: its listener, and what happened at its sockets.
-#[derive(Drop)]
-struct Sockets {
-    poll: Poll,
-    events: Events,
-    listener: TcpListener,
-}
-
-impl Sockets {
-    /// Those of a port on the loopback address.
-    fn bind(rt: &HostRuntime, port: u16) -> io::Result<Sockets> {
-        let events = Events::with_capacity(rt.alloc(), 256)?;
-        let mut listener = TcpListener::bind(rt, SocketAddr::from((Ipv4Addr::LOCALHOST, port)))?;
-        let poll = Poll::new(rt)?;
-        poll.registry()
-            .register(&mut listener, LISTENER, Interest::READABLE)?;
-        Ok(Sockets {
-            poll,
-            events,
-            listener,
-        })
-    }
 }
 
 impl<'a> Server<'a> {
@@ -83,7 +64,7 @@ impl<'a> Server<'a> {
         Ok(server)
     }
 
-    /// A server without matches and clients.
+    /// Creates a server without matches and clients.
     fn over(
         rt: &'a HostRuntime,
         sockets: Sockets,
@@ -101,6 +82,8 @@ impl<'a> Server<'a> {
             clients: Vec::new(rt.alloc()),
             again: Vec::new(rt.alloc()),
             quota: Quota::new(MOST_MADE),
+            changed: 0,
+            ended: 0,
             start,
             looked: 0,
             ticked: 0,
@@ -108,7 +91,8 @@ impl<'a> Server<'a> {
         }
     }
 
-    /// Takes in the matches of the folder. What is no match is passed over; what can't be served is left out.
+    /// Takes in the matches of the folder. What is no match is passed over; what can't be served is
+    /// left out.
     fn open_all(&mut self) -> io::Result<()> {
         for name in self.site.store().names()? {
             if !is_name(name.as_str()) {
@@ -121,7 +105,7 @@ impl<'a> Server<'a> {
         Ok(())
     }
 
-    /// Takes in the match of a folder, if it is that of one. Whether it could be served.
+    /// Takes in the match of a folder, if it has one. Returns false where that can't be served.
     fn open(&mut self, name: &str) -> io::Result<bool> {
         let Ok(found) = self.site.store().find(name) else {
             return Ok(false);
@@ -138,7 +122,49 @@ impl<'a> Server<'a> {
         Ok(true)
     }
 
-    /// The address that it listens on.
+    /// Takes in what the operator has changed, as far as it can be read.
+    pub(crate) fn take_changes(&mut self) {
+        let Ok(names) = self.site.store().take_changes() else {
+            return;
+        };
+        for name in names.iter() {
+            let _ = self.take_change(name.as_str());
+            self.changed = self.changed.saturating_add(1);
+        }
+    }
+
+    /// Takes in what the operator has changed of a match: it may be new, or gone.
+    fn take_change(&mut self, name: &str) -> io::Result<()> {
+        match self.site.store().changed(name) {
+            Ok(Some(changed)) => {
+                if !self.site.change(name, changed) && is_name(name) {
+                    self.open(name)?;
+                }
+                Ok(())
+            }
+            Ok(None) => {
+                self.site.remove(name);
+                Ok(())
+            }
+            Err(error) => Err(error),
+        }
+    }
+
+    /// Returns how many changes of the operator were taken in since this was asked last.
+    pub fn changed(&mut self) -> u64 {
+        let changed = self.changed;
+        self.changed = 0;
+        changed
+    }
+
+    /// Returns how many matches have ended since this was asked last.
+    pub fn ended(&mut self) -> u64 {
+        let ended = self.site.ended().saturating_sub(self.ended);
+        self.ended = self.site.ended();
+        ended
+    }
+
+    /// Returns the address that it listens on.
     ///
     /// # Errors
     /// Why the system does not tell.
@@ -146,13 +172,13 @@ impl<'a> Server<'a> {
         self.listener.local_addr()
     }
 
-    /// How many matches it has.
+    /// Returns the number of its matches.
     pub fn matches(&self) -> usize {
         self.site.len()
     }
 
-    /// The folders whose matches are not served, as they can't be read, another process plays over them, or there are
-    /// too many.
+    /// Returns the folders whose matches are not served, as they can't be read, another process
+    /// plays over them, or there are too many.
     pub fn left_out(&self) -> &[String] {
         &self.left_out
     }
@@ -180,14 +206,13 @@ impl<'a> Server<'a> {
         Ok(made)
     }
 
-    /// Waits until a socket is ready, or time has come for something else.
+    /// Waits until a socket is ready, or time has come for something else. Where connections may
+    /// wait to be accepted, nothing tells of them again.
     fn wait(&mut self) -> io::Result<()> {
-        let most = if !self.again.is_empty() {
+        let most = if !self.again.is_empty() || self.is_accepting {
             0
         } else if self.site.is_restless() {
             100
-        } else if self.clients.is_empty() {
-            60_000
         } else {
             1000
         };
@@ -209,7 +234,7 @@ impl<'a> Server<'a> {
     }
 }
 
-/// How many tenths of a second there are in a time.
+/// Returns the tenths of a second in a time.
 fn tenths_of(time: Duration) -> u64 {
     time.as_secs()
         .saturating_mul(10)

@@ -14,14 +14,14 @@ pub(crate) struct SaveCounts {
 }
 
 impl SaveCounts {
-    /// Nothing was counted.
+    /// Creates counts with no save counted yet.
     pub(crate) fn new() -> SaveCounts {
         SaveCounts {
             counted: Cell::new(Saves::NONE),
         }
     }
 
-    /// What was counted.
+    /// Returns what was counted.
     pub(crate) fn counted(&self) -> Saves {
         self.counted.get()
     }
@@ -46,7 +46,7 @@ pub struct TimedKeeper<'a, K> {
 }
 
 impl<'a, K> TimedKeeper<'a, K> {
-    /// The keeper that counts there what this one saves.
+    /// Creates a keeper that counts in `counts` what this one saves.
     pub(crate) fn new(
         rt: &'a HostRuntime,
         keeper: K,

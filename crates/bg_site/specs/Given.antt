@@ -13,7 +13,8 @@ use Rattle.bg_site.specs.declared.files.Asked.TheVariants as asked
 use Rattle.bg_site.specs.declared.files.Given.{Given}
 use Rattle.bg_site.specs.declared.files.Given.TheVariants as given
 
--- The text is the one about the match of this record that was asked for. Of an earlier state nothing is said.
+-- The text is the one about the match of this record that was asked for. Of an earlier state
+-- nothing is said.
 abbrev pub IsTextOf : Log → Asked → List ℕ → Type 0
 IsTextOf log (asked.State seat) text = IsStateText log seat text
 IsTextOf log (asked.StateAfter count) text = Unit {0}
@@ -22,7 +23,8 @@ IsTextOf log asked.Mat text = Exports log text
 IsTextOf log asked.Picture text =
     (s : State) × StandsAt log.terms log.entries s × (text ≡ picture_text s (reader_of numbers_of_x s.phase))
 
--- this is given of the match of this record: such a text, or none, where it has fewer entries than were asked for
+-- this is given of the match of this record: such a text, or none, where it has fewer entries than
+-- were asked for
 abbrev pub IsGivenOf : Log → Asked → Given → Type 0
 IsGivenOf log asked (given.Text text) = IsTextOf log asked text.items
 IsGivenOf log (asked.StateAfter count) given.Missing = length log.entries < count

@@ -19,6 +19,15 @@ abbrev pub told_in : {K : Type 0} → keeper.Ghosts K → Option (HostedMatch K)
 told_in k None = None
 told_in k (Some hosted) = told_of (world_of k hosted)
 
+-- the secret, where the match does not go on
+abbrev pub secret_once_ended : {K : Type 0} → Option (HostedMatch K) → List ℕ → Option (List ℕ)
+secret_once_ended None secret = Some secret
+secret_once_ended (Some hosted) secret = None
+
+-- the secret of the dice of a match, which is told once it has ended
+abbrev pub secret_in : {K : Type 0} → Place K → Option (List ℕ)
+secret_in place = secret_once_ended place.hosted place.key
+
 -- what is given of the match at a place, while it goes on, is made of what everybody is told
 abbrev pub IsGivenAt : {K : Type 0} → keeper.Ghosts K → List (Place K) → ℕ → Asked → Given → Type 0
 IsGivenAt k places index asked given =
@@ -39,13 +48,13 @@ HasSeatAt places digest index player =
 abbrev pub ChangesOnly : {K : Type 0} → List (Place K) → List (Place K) → ℕ → Type 0
 ChangesOnly old new index = (other : ℕ) → other ≢ index → slice_get new other ≡ slice_get old other
 
--- the seat that a peer has now, if he has one, is that of this secret
+-- the seat that a peer has now, if it has one, is that of this secret
 abbrev pub HasSeatBy : {K : Type 0} → List (Place K) → List ℕ → Peer → Type 0
 HasSeatBy places secret peer =
     (index : ℕ) (player : Player) → peer.place ≡ Some index → peer.seat ≡ Some player
     → HasSeatAt places (sha256 secret) index player
 
--- the seat that a peer has now, if he has one, is that of the secret in his greeting
+-- the seat that a peer has now, if it has one, is that of the secret in its greeting
 abbrev pub HasSeatByGreeting : {K : Type 0} → List (Place K) → List ℕ → Peer → Type 0
 HasSeatByGreeting places text peer =
     (index : ℕ) (player : Player) → peer.place ≡ Some index → peer.seat ≡ Some player

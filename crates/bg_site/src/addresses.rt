@@ -1,4 +1,4 @@
-//! How much the clients of one address have, and may have.
+//! Limits on the clients of one address.
 
 use bytes::Bytes;
 use http::Request;
@@ -8,14 +8,18 @@ use std::net::{IpAddr, Ipv6Addr};
 /// The most sockets of an address at once.
 pub const MOST_OF_ADDRESS: u32 = 64;
 
+/// The most connections of an address at once, those that have become sockets among them.
+pub const MOST_CONNECTIONS_OF_ADDRESS: u32 = 128;
+
 /// The most matches that an address makes in a minute.
 pub const MOST_MADE_BY_ADDRESS: u32 = 10;
 
-/// The address of a client: 16 bytes, of which one of IPv6 has the first 8 alone, as a network has the others to give.
+/// The address of a client: 16 bytes, of which one of IPv6 has the first 8 alone, as a network has
+/// the others to give.
 pub(crate) type Address = [u8; 16];
 
-/// Returns the address of the client whose request a proxy has passed on: the last one of the last `x-forwarded-for`.
-/// None where no proxy has said one: then the client is on this machine.
+/// Returns the address of the client whose request a proxy has passed on: the last one of the last
+/// `x-forwarded-for`. Returns None where no proxy has said one: then the client is on this machine.
 pub(crate) fn address_of(request: &Request<Bytes>) -> Option<Address> {
     let mut said = None;
     for value in request.headers().get_all("x-forwarded-for") {
@@ -52,7 +56,8 @@ fn key_of(address: IpAddr) -> Address {
 #[derive(Clone, Copy, Debug, PartialEq, Eq)]
 struct Known {
     address: Address,
-    /// How many sockets it has.
+    /// How many connections it has, and how many of them are sockets.
+    connections: u32,
     sockets: u32,
     /// The minute in which it made a match last, and how many it made in it.
     minute: u64,
@@ -60,14 +65,14 @@ struct Known {
 }
 
 impl Known {
-    /// How many matches were made in this minute.
+    /// Returns how many matches it made in this minute.
     fn made_in(&self, minute: u64) -> u32 {
         if self.minute == minute { self.made } else { 0 }
     }
 
-    /// Whether it need not be known any more.
+    /// Returns whether it can be forgotten.
     fn is_idle(&self, minute: u64) -> bool {
-        self.sockets == 0 && self.made_in(minute) == 0
+        self.connections == 0 && self.sockets == 0 && self.made_in(minute) == 0
     }
 }
 
@@ -79,7 +84,7 @@ pub(crate) struct Addresses {
 }
 
 impl Addresses {
-    /// Nothing is known.
+    /// Creates an empty one: nothing is known of any address.
     pub(crate) fn none(alloc: Global) -> Addresses {
         Addresses {
             known: Vec::new(alloc),
@@ -95,7 +100,7 @@ impl Addresses {
         }
     }
 
-    /// Whether a client may have one more socket.
+    /// Returns whether a client may have one more socket.
     pub(crate) fn may_come(&self, address: Option<Address>) -> bool {
         match self.find(address) {
             Some(known) => known.sockets < MOST_OF_ADDRESS,
@@ -103,7 +108,29 @@ impl Addresses {
         }
     }
 
-    /// Whether a client may make one more match.
+    /// Returns whether a client may have one more connection.
+    pub(crate) fn may_connect(&self, address: Option<Address>) -> bool {
+        match self.find(address) {
+            Some(known) => known.connections < MOST_CONNECTIONS_OF_ADDRESS,
+            None => true,
+        }
+    }
+
+    /// Notes that a client has one connection more.
+    pub(crate) fn connect(&mut self, address: Option<Address>) {
+        if let Some(known) = self.find_or_add(address) {
+            known.connections = known.connections.saturating_add(1);
+        }
+    }
+
+    /// Notes that a client has one connection less.
+    pub(crate) fn disconnect(&mut self, address: Option<Address>) {
+        if let Some(known) = self.find_or_add(address) {
+            known.connections = known.connections.saturating_sub(1);
+        }
+    }
+
+    /// Returns whether a client may make one more match.
     pub(crate) fn may_make(&self, address: Option<Address>) -> bool {
         match self.find(address) {
             Some(known) => known.made_in(self.minute) < MOST_MADE_BY_ADDRESS,
@@ -134,7 +161,7 @@ impl Addresses {
         }
     }
 
-    /// What is known of an address, if there is one.
+    /// Returns what is known of an address, if there is one.
     fn find(&self, address: Option<Address>) -> Option<Known> {
         let address = address?;
         for known in self.known.iter() {
@@ -145,7 +172,8 @@ impl Addresses {
         None
     }
 
-    /// The place of what is known of an address, which may be new. None where there is no memory for it, or no address.
+    /// Returns what is known of an address, which is added where it is new. Returns None where
+    /// there is no memory for it, or no address.
     fn find_or_add(&mut self, address: Option<Address>) -> Option<&mut Known> {
         let address = address?;
         let mut found = self.known.len();
@@ -164,6 +192,7 @@ impl Addresses {
     fn add(&mut self, address: Address) -> Result<(), AllocError> {
         self.known.push(Known {
             address,
+            connections: 0,
             sockets: 0,
             minute: self.minute,
             made: 0,

@@ -1,10 +1,10 @@
-//! What a request is answered.
+//! Answers to requests.
 
 use crate::counts::metrics_text;
 use crate::files::Asked;
-use crate::places::Store;
 use crate::requests::is_own_origin;
 use crate::sites::Site;
+use crate::stores::Store;
 use bg_pages::{
     Kind, Page, add_common, answer_line, answer_page, answer_script, answer_style, answer_text,
     refuse,
@@ -41,6 +41,13 @@ impl<K: Keeper + Drop, S: Store<K> + Drop> Site<K, S> {
         response: &mut Response,
     ) -> Result<(), AllocError> {
         add_common(response)?;
+        if !self.admit(request) {
+            return refuse(
+                response,
+                StatusCode::TOO_MANY_REQUESTS,
+                "too many connections of one address\n",
+            );
+        }
         match request.method().as_str() {
             "GET" | "HEAD" => self.get(request, response),
             "POST" if is_own_origin(request) => self.post(request, response),
@@ -52,7 +59,7 @@ impl<K: Keeper + Drop, S: Store<K> + Drop> Site<K, S> {
             _ => refuse(
                 response,
                 StatusCode::METHOD_NOT_ALLOWED,
-                "GET, HEAD and POST alone are known\n",
+                "only GET, HEAD and POST are supported\n",
             ),
         }
     }
@@ -78,7 +85,13 @@ impl<K: Keeper + Drop, S: Store<K> + Drop> Site<K, S> {
 
     /// Answers with what is counted.
     fn answer_metrics(&self, response: &mut Response) -> Result<(), AllocError> {
-        let text = metrics_text(self.alloc, &self.places, self.counts, self.store.saves())?;
+        let text = metrics_text(
+            self.alloc,
+            &self.places,
+            self.patience,
+            self.counts,
+            self.store.saves(),
+        )?;
         answer_text(response, Kind::Plain, text)
     }
 
@@ -94,6 +107,7 @@ impl<K: Keeper + Drop, S: Store<K> + Drop> Site<K, S> {
             Part::Page => return answer_page(response, Page::Match),
             Part::Embed => return answer_page(response, Page::Embedded),
             Part::Live => return self.upgrade(request, Some(index), response),
+            Part::Dice => return self.answer_dice(index, response),
             Part::Actions => {
                 return refuse(
                     response,
@@ -123,7 +137,7 @@ impl<K: Keeper + Drop, S: Store<K> + Drop> Site<K, S> {
             _ => refuse(
                 response,
                 StatusCode::METHOD_NOT_ALLOWED,
-                "this takes no POST\n",
+                "this address does not take POST\n",
             ),
         }
     }

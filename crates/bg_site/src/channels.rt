@@ -2,8 +2,8 @@
 ghost use Rattle.std.specs.Prelude.{◌↔◌, ◌≤◌, ◌<◌, IsTrue, length};
 
 use crate::peers::Peer;
-use crate::places::Store;
 use crate::sites::Site;
+use crate::stores::Store;
 use bg_requests::MOST_MESSAGE;
 use bg_world::Keeper;
 use bytes::{Buf, BytesMut};
@@ -13,23 +13,23 @@ use std::io;
 use std::io::{Read, Write};
 use websocket::protocol::{FrameStatus, Message, NoMask, Role, WebSocketConfig, WebSocketContext};
 
-/// The most bytes that wait for a peer before nothing more is read of him.
+/// The most bytes that wait for a peer before nothing more is read from it.
 pub const MOST_WAITING: usize = 65_536;
 
-/// So many messages of a peer are taken in one turn at most, so that others have theirs.
+/// The most messages of a peer that are taken in one turn, so that others have theirs.
 const MOST_TAKEN: u32 = 64;
 
 /// So much room a read has at least.
 const ROOM: usize = 2048;
 
-/// What becomes of a peer after a step.
+/// The state of a peer after a step.
 #[derive(Clone, Copy, Debug, PartialEq, Eq)]
 pub enum Step {
-    /// There is nothing to do until his socket is ready again.
+    /// There is nothing to do until its socket is ready again.
     Waits,
     /// There may be more to do.
     More,
-    /// He is gone, or has to go.
+    /// It is gone, or has to go.
     Gone,
 }
 
@@ -44,7 +44,7 @@ pub struct Channel {
 }
 
 impl Channel {
-    /// The socket of a peer, of which this was read, and for which this waits.
+    /// Creates the socket of a peer, of which `input` was read, and for which `output` waits.
     pub fn new(alloc: Global, input: BytesMut, output: Rope, peer: Peer) -> Channel {
         let config = WebSocketConfig::default()
             .max_message_size(Some(MOST_MESSAGE))
@@ -58,19 +58,19 @@ impl Channel {
         }
     }
 
-    /// Whose socket it is.
+    /// Returns the peer whose socket it is.
     pub fn peer(&self) -> &Peer {
         &self.peer
     }
 
-    /// Whether anything waits to be sent.
+    /// Returns whether anything waits to be sent.
     pub fn has_output(&self) -> bool
         ensures { IsTrue result ↔ (0 < length self.now.output.items) }
     {
         !self.output.is_empty()
     }
 
-    /// Whether more is to be read of it: not while more than 65,536 bytes wait.
+    /// Returns whether more is to be read from it: not while more than 65,536 bytes wait.
     pub fn wants_read(&self) -> bool
         ensures { IsTrue result ↔ (length self.now.output.items ≤ MOST_WAITING) }
     {
@@ -144,7 +144,7 @@ impl Channel {
         }
     }
 
-    /// Puts bytes behind what waits. Whether there was memory for them.
+    /// Puts bytes behind what waits; returns whether there was memory for them.
     fn put(&mut self, bytes: BytesMut) -> bool {
         match bytes.freeze() {
             Ok(bytes) => self.output.push(bytes).is_ok(),
@@ -152,13 +152,13 @@ impl Channel {
         }
     }
 
-    /// Puts the next frame that the peer lacks behind what waits; `Waits` where he lacks none.
+    /// Queues the next frame that the peer lacks; returns `Waits` if it lacks none.
     pub fn pull<K, S>(&mut self, site: &mut Site<K, S>) -> Step
     where
         K: Keeper + Drop,
         S: Store<K> + Drop,
     {
-        if !self.context.can_write() {
+        if !self.context.can_write() || !site.may_stay(&self.peer) {
             return Step::Gone;
         }
         match site.next_frame(&mut self.peer) {
@@ -171,7 +171,7 @@ impl Channel {
         }
     }
 
-    /// Asks whether the peer is there. Whether there was memory to do so.
+    /// Asks whether the peer is there; returns whether there was memory to do so.
     pub fn ask(&mut self) -> bool {
         let mut out = BytesMut::new(self.alloc);
         match self
@@ -184,7 +184,7 @@ impl Channel {
     }
 }
 
-/// Puts the answer to a text behind what waits. Whether the peer may stay.
+/// Puts the answer to a text behind what waits; returns whether the peer may stay.
 fn answer_text<K, S>(site: &mut Site<K, S>, peer: &mut Peer, text: &str, output: &mut Rope) -> bool
 where
     K: Keeper + Drop,

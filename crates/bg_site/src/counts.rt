@@ -1,17 +1,21 @@
-//! What is counted of a server, and told as Prometheus reads it.
+//! Counters of a server, as Prometheus reads them.
 
-use crate::places::{Place, Saves};
+use crate::places::Place;
+use crate::quiet::Patience;
+use crate::stores::Saves;
 use bg_hosted::Acted;
 use bg_text::{put_number, put_text};
 use std::alloc::{AllocError, Global};
 
-/// What was counted since the server began.
+/// The counters since the server began.
 #[derive(Clone, Copy, Debug, PartialEq, Eq)]
 pub(crate) struct Counts {
     /// How many connections there are.
     pub(crate) connections: u64,
     /// How many matches were made by requests.
     pub(crate) made: u64,
+    /// How many have ended.
+    pub(crate) ended: u64,
     pub(crate) requests: u64,
     done: u64,
     waiting: u64,
@@ -24,12 +28,18 @@ impl Counts {
     pub(crate) const NONE: Counts = Counts {
         connections: 0,
         made: 0,
+        ended: 0,
         requests: 0,
         done: 0,
         waiting: 0,
         refused: 0,
         failed: 0,
     };
+
+    /// Counts a match that has ended.
+    pub(crate) fn note_end(&mut self) {
+        self.ended = self.ended.saturating_add(1);
+    }
 
     /// Counts what came of an action.
     pub(crate) fn note(&mut self, acted: Acted) {
@@ -43,37 +53,45 @@ impl Counts {
     }
 }
 
-/// How many matches there are, and how many peers look at them.
+/// The number of matches, and of peers that look at them.
 #[derive(Clone, Copy, Debug, PartialEq, Eq)]
 struct Crowd {
     live: u64,
+    idle: u64,
     finished: u64,
     players: u64,
     watchers: u64,
 }
 
 impl Crowd {
-    /// Those of all matches.
-    fn of<K>(places: &[Place<K>]) -> Crowd {
+    /// Counts the matches that were not deleted, and the peers that look at them.
+    fn of<K>(places: &[Place<K>], patience: Patience) -> Crowd {
         let mut crowd = Crowd {
             live: 0,
+            idle: 0,
             finished: 0,
             players: 0,
             watchers: 0,
         };
         for place in places.iter() {
-            crowd = crowd.with(place);
+            if !place.is_gone {
+                crowd = crowd.with(place, patience);
+            }
         }
         crowd
     }
 
-    /// Those of a match more.
-    fn with<K>(self, place: &Place<K>) -> Crowd {
+    /// Returns the numbers with a match more, and the peers that look at it.
+    fn with<K>(self, place: &Place<K>, patience: Patience) -> Crowd {
         let is_finished = place.summary.winner.is_some();
+        let is_idle = !is_finished && patience.is_over(place.quiet);
         let presence = place.presence;
         let players = u64::from(presence.x).saturating_add(presence.o.into());
         Crowd {
-            live: self.live.saturating_add(u64::from(!is_finished)),
+            live: self
+                .live
+                .saturating_add(u64::from(!is_finished && !is_idle)),
+            idle: self.idle.saturating_add(u64::from(is_idle)),
             finished: self.finished.saturating_add(u64::from(is_finished)),
             players: self.players.saturating_add(players),
             watchers: self.watchers.saturating_add(presence.watching.into()),
@@ -85,11 +103,12 @@ impl Crowd {
 pub(crate) fn metrics_text<K>(
     alloc: Global,
     places: &[Place<K>],
+    patience: Patience,
     counts: Counts,
     saves: Saves,
 ) -> Result<Vec<u8>, AllocError> {
     let mut out = Vec::new(alloc);
-    put_gauges(&mut out, Crowd::of(places), counts.connections)?;
+    put_gauges(&mut out, Crowd::of(places, patience), counts.connections)?;
     put_counters(&mut out, counts)?;
     put_saves(&mut out, saves)?;
     Ok(out)
@@ -99,6 +118,7 @@ pub(crate) fn metrics_text<K>(
 fn put_gauges(out: &mut Vec<u8>, crowd: Crowd, connections: u64) -> Result<(), AllocError> {
     let matches = [
         ("{state=\"live\"}", crowd.live),
+        ("{state=\"idle\"}", crowd.idle),
         ("{state=\"finished\"}", crowd.finished),
     ];
     let peers = [
@@ -134,6 +154,12 @@ fn put_counters(out: &mut Vec<u8>, counts: Counts) -> Result<(), AllocError> {
         "bg_relay_matches_made_total",
         COUNTER,
         &[("", counts.made)],
+    )?;
+    put_rows(
+        out,
+        "bg_relay_matches_ended_total",
+        COUNTER,
+        &[("", counts.ended)],
     )?;
     put_rows(out, "bg_relay_actions_total", COUNTER, &actions)
 }

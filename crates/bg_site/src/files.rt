@@ -4,8 +4,8 @@ ghost use Rattle.bg_site.specs.Given.{IsGivenOf};
 ghost use Rattle.bg_site.specs.declared.files.Asked.TheVariants as asked_of;
 
 use crate::answering::missing;
-use crate::places::Store;
 use crate::sites::Site;
+use crate::stores::Store;
 use bg_board::Player;
 use bg_mat::export_mat;
 use bg_match::{Number, Record};
@@ -42,7 +42,7 @@ impl Asked {
     }
 }
 
-/// What comes of asking for a text about a match.
+/// The answer to a request for a text about a match.
 #[derive(Drop)]
 pub(crate) enum Given {
     Text(Vec<u8>),

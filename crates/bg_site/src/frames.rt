@@ -5,7 +5,8 @@ use bytes::{Bytes, BytesMut};
 use std::alloc::{AllocError, Global};
 use websocket::protocol::{Message, NoMask, Role, WebSocketConfig, WebSocketContext};
 
-/// The frames of the state of a match, as far as they were made: for those who watch, for X and for O.
+/// The frames of the state of a match, as far as they were made: for those who watch, for X and for
+/// O.
 #[derive(Drop)]
 pub(crate) struct Frames {
     watching: Option<Bytes>,
@@ -14,7 +15,7 @@ pub(crate) struct Frames {
 }
 
 impl Frames {
-    /// None was made.
+    /// Returns no frames: none was made yet.
     pub(crate) fn none() -> Frames {
         Frames {
             watching: None,
@@ -46,7 +47,8 @@ impl Frames {
     }
 }
 
-/// Returns a text message of a server as a frame: the same bytes for every peer, as a server masks nothing.
+/// Returns a text message of a server as a frame: the same bytes for every peer, as a server masks
+/// nothing.
 ///
 /// # Errors
 /// AllocError where there is no memory for it, or the text is no UTF-8.

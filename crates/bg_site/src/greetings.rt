@@ -1,21 +1,29 @@
-//! What a peer is told beside the state: which match it is, and who is there.
+//! Messages to a peer beside the state: which match it is, and who is there.
 
-use crate::places::Presence;
+use crate::making::digits_of;
+use crate::presences::Presence;
 use bg_board::Player;
+use bg_requests::Digest;
 use bg_states::{letter_of, put_quoted, truth};
 use bg_system::{Name, Names};
 use bg_text::{put_number, put_text};
 use std::alloc::{AllocError, Global};
 
-/// Returns which match a peer looks at, how its players are called, and whose seat he has.
+/// Returns the match that a peer looks at, the names of its players, whose seat the peer has, and
+/// the SHA-256 of the secret of its dice.
 pub(crate) fn greeting_text(
     alloc: Global,
     name: &str,
     names: &Names,
     seat: Option<Player>,
+    digest: &Option<Digest>,
 ) -> Result<Vec<u8>, AllocError> {
+    let digits = digits_of(alloc, digest)?;
     let mut out = Vec::new(alloc);
     put_greeting(&mut out, name, names, seat)?;
+    put_text(&mut out, ",\"dice\":\"")?;
+    put_text(&mut out, digits.as_str())?;
+    put_text(&mut out, "\"}")?;
     Ok(out)
 }
 
@@ -31,7 +39,7 @@ fn put_greeting(
     put_names(out, names)?;
     put_text(out, ",\"you\":\"")?;
     put_text(out, letter_of(seat))?;
-    put_text(out, "\"}")
+    put_text(out, "\"")
 }
 
 /// Adds how the players are called.

@@ -1,11 +1,13 @@
-//! What requests and messages do to the matches of a server, and which bytes a peer gets. It opens no socket and no
-//! file: the host hands in bytes, and keeps the matches. For `bg_serve`, and hosts of another kind.
+//! What requests and messages do to the matches of a server, and which bytes a peer gets. It opens
+//! no socket and no file: the host hands in bytes, and keeps the matches. For `bg_serve`, and hosts
+//! of another kind.
 //!
 //! ```
 //! let mut site = Site::new(alloc, store);
 //! let is_open = site.open(found);
 //! assert!(rt; is_open && site.len() == 1);
-//! // A connection of http_server calls the site for each request, and a Channel for each message of a socket.
+//! // A connection of http_server calls the site for each request, and a Channel for each message
+//! // of a socket.
 //! let mut connection = Connection::new(alloc, keys, Config::default());
 //! connection.advance(&mut site);
 //! ```
@@ -14,8 +16,10 @@
 mod addresses;
 mod answering;
 mod archives;
+mod callers;
 mod channels;
 mod counts;
+mod dice;
 mod files;
 mod frames;
 mod greetings;
@@ -23,17 +27,25 @@ mod lists;
 mod logs;
 mod making;
 mod messages;
+mod operating;
+mod orders;
 mod peers;
 mod places;
+mod presences;
+mod quiet;
 mod requests;
 mod sending;
 mod sites;
 mod sockets;
+mod stores;
+mod summaries;
 
-pub use addresses::{MOST_MADE_BY_ADDRESS, MOST_OF_ADDRESS};
+pub use addresses::{MOST_CONNECTIONS_OF_ADDRESS, MOST_MADE_BY_ADDRESS, MOST_OF_ADDRESS};
 pub use bg_requests::{Digest, MOST_MESSAGE, Seats, digest_of};
+pub use callers::Caller;
 pub use channels::{Channel, MOST_WAITING, Step};
 pub use messages::Reply;
+pub use operating::Changed;
 pub use peers::Peer;
-pub use places::{Found, Made, MatchName, Saves, Store};
 pub use sites::{MOST_MATCHES, Site};
+pub use stores::{Found, Made, MatchName, Saves, Store};

@@ -1,21 +1,59 @@
 //! Lists of matches.
 
 use crate::greetings::{put_names, put_presence};
-use crate::places::{Place, Summary};
+use crate::places::Place;
+use crate::quiet::Patience;
 use crate::requests::query_part;
+use crate::summaries::Summary;
 use bg_states::{letter_of, put_quoted};
 use bg_system::Name;
 use bg_text::{put_number, put_text};
 use std::alloc::{AllocError, Global};
 
-/// So many matches stand on a page.
+/// The number of matches on a page.
 const PAGE: usize = 50;
+
+/// A list of matches.
+#[derive(Clone, Copy, Debug, PartialEq, Eq)]
+pub(crate) enum List {
+    Live,
+    /// Those in which nobody has acted for a long time.
+    Idle,
+    /// Those that have ended.
+    Finished,
+}
+
+impl List {
+    /// Returns the list that is called so: that of live matches, where it is none of the others.
+    fn named(name: Option<&str>) -> List {
+        match name {
+            Some("finished") => List::Finished,
+            Some("idle") => List::Idle,
+            _ => List::Live,
+        }
+    }
+
+    /// Returns the list that a match is on; None where it is on none.
+    pub(crate) fn of<K>(place: &Place<K>, patience: Patience) -> Option<List> {
+        if place.is_hidden || place.is_gone {
+            return None;
+        }
+        if place.summary.winner.is_some() {
+            return Some(List::Finished);
+        }
+        Some(if patience.is_over(place.quiet) {
+            List::Idle
+        } else {
+            List::Live
+        })
+    }
+}
 
 /// Which matches are asked for.
 #[derive(Clone, Copy, Debug, PartialEq, Eq)]
 pub(crate) struct Wanted<'a> {
-    /// Whether those that have ended.
-    is_finished: bool,
+    list: List,
+    patience: Patience,
     /// How many pages stand before the one that is wanted.
     before: u32,
     /// What the name of a player, or of the match, is to have in it, in lower case.
@@ -25,18 +63,19 @@ pub(crate) struct Wanted<'a> {
 }
 
 impl<'a> Wanted<'a> {
-    /// Returns what a query asks for, `list=finished`, `page=N`, with the text that it searches for, which is in lower
-    /// case.
-    pub(crate) fn of(query: Option<&str>, search: &'a str) -> Wanted<'a> {
+    /// Returns what a query asks for, `list=finished`, `page=N`, with the text that it searches
+    /// for, which is in lower case.
+    pub(crate) fn of(query: Option<&str>, search: &'a str, patience: Patience) -> Wanted<'a> {
         Wanted {
-            is_finished: query_part(query, "list") == Some("finished"),
+            list: List::named(query_part(query, "list")),
+            patience,
             before: pages_before(query_part(query, "page")),
             search,
             is_oldest_first: false,
         }
     }
 
-    /// The same, with the oldest news first: so a page stays as it is once it is full.
+    /// Returns the same, with the oldest news first: so a page stays as it is once it is full.
     pub(crate) fn oldest_first(self) -> Wanted<'a> {
         Wanted {
             is_oldest_first: true,
@@ -44,9 +83,9 @@ impl<'a> Wanted<'a> {
         }
     }
 
-    /// Whether a match is among those that are asked for.
+    /// Returns whether a match is among those asked for.
     fn takes<K>(&self, alloc: Global, place: &Place<K>) -> Result<bool, AllocError> {
-        if place.summary.winner.is_some() != self.is_finished {
+        if List::of(place, self.patience) != Some(self.list) {
             return Ok(false);
         }
         if self.search.is_empty() {
@@ -77,7 +116,7 @@ fn pages_before(digits: Option<&str>) -> u32 {
     }
 }
 
-/// Whether there is a name, which has a text in it.
+/// Returns whether there is a name that contains the text.
 fn is_named(alloc: Global, name: &Option<Name>, search: &str) -> Result<bool, AllocError> {
     match name {
         Some(name) => has_text(alloc, name.as_str(), search),
@@ -85,7 +124,7 @@ fn is_named(alloc: Global, name: &Option<Name>, search: &str) -> Result<bool, Al
     }
 }
 
-/// Whether a text, in lower case, has another in it.
+/// Returns whether a text, in lower case, contains another.
 fn has_text(alloc: Global, text: &str, search: &str) -> Result<bool, AllocError> {
     let text = text.to_lowercase(alloc)?;
     Ok(text.as_str().contains(search))

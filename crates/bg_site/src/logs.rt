@@ -1,14 +1,14 @@
 //! The log of requests.
 
-use crate::places::Store;
 use crate::sites::Site;
+use crate::stores::Store;
 use bg_world::Keeper;
 use bytes::Bytes;
 use http::Request;
 use http_server::Response;
 use std::alloc::AllocError;
 
-/// So many bytes of a log are kept at most until the host takes them.
+/// The most bytes of a log that are kept until the host takes them.
 const MOST_LOG: usize = 65_536;
 
 impl<K: Keeper + Drop, S: Store<K> + Drop> Site<K, S> {
@@ -17,8 +17,8 @@ impl<K: Keeper + Drop, S: Store<K> + Drop> Site<K, S> {
         self.log = Some(String::new(self.alloc));
     }
 
-    /// Returns the lines of the requests since it was asked last: method, path and status. No secret is in a path.
-    /// None where no log is kept.
+    /// Returns the lines of the requests since it was asked last: method, path and status. No
+    /// secret is in a path. Returns None where no log is kept.
     pub fn take_log(&mut self) -> Option<String> {
         let taken = self.log.take()?;
         self.log = Some(String::new(self.alloc));

@@ -1,16 +1,19 @@
 //! Requests that list matches, make one, or act in one.
 ghost use Rattle.std.specs.Prelude.{◌≡◌, ◌++◌, IfOk, OnOk};
-ghost use Rattle.bg_site.specs.Links.{link_text, links_text as text_of_links};
+ghost use Rattle.std.specs.Prelude.{string_bytes};
+ghost use Rattle.bg_site.specs.Links.{digits_of as digits_of_bytes, dice_text, link_text};
+ghost use Rattle.bg_site.specs.Links.{links_text as text_of_links};
 
 use crate::addresses::address_of;
 use crate::answering::missing;
 use crate::files::Asked;
 use crate::lists::{Wanted, list_text};
-use crate::places::{Made, Store};
-use crate::requests::{bearer_of, is_json, ordered_by, query_part};
+use crate::orders::{Order, order_of};
+use crate::requests::{bearer_of, is_json, query_part};
 use crate::sites::{MOST_MATCHES, Site};
+use crate::stores::{Made, Store};
 use bg_pages::{Kind, answer_text, refuse};
-use bg_requests::parse_act;
+use bg_requests::{Digest, parse_act};
 use bg_states::put_quoted;
 use bg_text::put_text;
 use bg_world::Keeper;
@@ -30,7 +33,7 @@ impl<K: Keeper + Drop, S: Store<K> + Drop> Site<K, S> {
         let search = query_part(query, "search").unwrap_or("");
         let search = form_urlencoded::decode(self.alloc, search.as_bytes())?;
         let search = search.as_str().to_lowercase(self.alloc)?;
-        let wanted = Wanted::of(query, search.as_str());
+        let wanted = Wanted::of(query, search.as_str(), self.patience);
         match query_part(query, "form") {
             Some("transcript") => self.archive(wanted, Asked::Transcript, response),
             Some("mat") => self.archive(wanted, Asked::Mat, response),
@@ -41,7 +44,8 @@ impl<K: Keeper + Drop, S: Store<K> + Drop> Site<K, S> {
         }
     }
 
-    /// Makes the match that a request asks for, and answers with the links of its seats: nobody else is told them.
+    /// Makes the match that a request asks for, and answers with the links of its seats: nobody
+    /// else is told them.
     pub(crate) fn make(
         &mut self,
         request: &Request<Bytes>,
@@ -54,12 +58,12 @@ impl<K: Keeper + Drop, S: Store<K> + Drop> Site<K, S> {
                 "this takes application/json\n",
             );
         }
-        let Some(ordered) = ordered_by(self.alloc, request.body().as_slice()) else {
-            return refuse(
-                response,
-                StatusCode::BAD_REQUEST,
-                "a match has a length from 1 to 99, rules 1 or 2, and names\n",
-            );
+        let ordered = match order_of(self.alloc, request.body().as_slice())? {
+            Order::Match(ordered) => ordered,
+            Order::Refused(why) => {
+                response.status = StatusCode::BAD_REQUEST;
+                return answer_text(response, Kind::Plain, why);
+            }
         };
         let address = address_of(request);
         if !self.may_make || !self.addresses.may_make(address) {
@@ -88,7 +92,8 @@ impl<K: Keeper + Drop, S: Store<K> + Drop> Site<K, S> {
     /// Takes in a match that was made, and answers with its links.
     fn answer_made(&mut self, made: Made<K>, response: &mut Response) -> Result<(), AllocError> {
         let Made { found, x, o } = made;
-        let text = links_text(self.alloc, found.name.as_str(), x.as_str(), o.as_str())?;
+        let name = found.name.as_str();
+        let text = links_text(self.alloc, name, &found.digest, x.as_str(), o.as_str())?;
         if !self.open_made(found) {
             return refuse_full(response);
         }
@@ -150,8 +155,14 @@ fn refuse_full(response: &mut Response) -> Result<(), AllocError> {
 
 /// Returns the links of a match that was made.
 #[tactic(auto, unfolding(crate::specs::Links::links_text))]
-fn links_text(alloc: Global, name: &str, x: &str, o: &str) -> Result<Vec<u8>, AllocError>
-    ensures { IfOk result (λ text. text.items ≡ text_of_links name.now x.now o.now) }
+fn links_text(
+    alloc: Global,
+    name: &str,
+    dice: &Option<Digest>,
+    x: &str,
+    o: &str,
+) -> Result<Vec<u8>, AllocError>
+    ensures { IfOk result (λ text. text.items ≡ text_of_links name.now dice.now x.now o.now) }
 {
     let mut out = Vec::new(alloc);
     put_text(&mut out, "{\"match\":")?;
@@ -159,8 +170,27 @@ fn links_text(alloc: Global, name: &str, x: &str, o: &str) -> Result<Vec<u8>, Al
     put_link(&mut out, ",\"watch\":\"/matches/", name)?;
     put_link(&mut out, ",\"x\":\"/play#", x)?;
     put_link(&mut out, ",\"o\":\"/play#", o)?;
+    put_dice(alloc, &mut out, dice)?;
     put_text(&mut out, "}\n")?;
     Ok(out)
+}
+
+/// Adds the SHA-256 of the secret of the dice, if there is one.
+fn put_dice(alloc: Global, out: &mut Vec<u8>, dice: &Option<Digest>) -> Result<(), AllocError>
+    ensures { OnOk result (out.new.items ≡ out.old.items ++ dice_text dice.now) }
+{
+    let digits = digits_of(alloc, dice)?;
+    put_link(out, ",\"dice\":\"", digits.as_str())
+}
+
+/// Returns the hexadecimal digits of a SHA-256, if there is one.
+pub(crate) fn digits_of(alloc: Global, digest: &Option<Digest>) -> Result<String, AllocError>
+    ensures { IfOk result (λ digits. string_bytes digits ≡ digits_of_bytes digest.now) }
+{
+    match digest {
+        Some(digest) => hex::encode(alloc, digest.as_slice()),
+        None => Ok(String::new(alloc)),
+    }
 }
 
 /// Adds a link: these words, and what it ends with.

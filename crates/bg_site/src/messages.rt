@@ -3,8 +3,8 @@ ghost use Rattle.std.specs.Prelude.{◌≡◌, ℕ, None, Some};
 
 use crate::frames::frame_of;
 use crate::peers::Peer;
-use crate::places::Store;
 use crate::sites::Site;
+use crate::stores::Store;
 use bg_board::Player;
 use bg_hosted::Acted;
 use bg_party::ChooseFault;
@@ -30,12 +30,13 @@ impl<K: Keeper + Drop, S: Store<K> + Drop> Site<K, S> {
     /// # Errors
     /// AllocError where there is no memory for it.
     pub fn message(&mut self, peer: &mut Peer, text: &str) -> Result<Reply, AllocError>
-        // Whoever is known stays who he is; who watches changes nothing, and a player his match alone.
+        // A known peer stays what it is. A watcher changes nothing, and a player only their own
+        // match.
         ensures known { (place : ℕ) → peer.old.place ≡ Some place → peer.new ≡ peer.old }
         ensures watches { (place : ℕ) → peer.old.place ≡ Some place → peer.old.seat ≡ None → self.new ≡ self.old }
         ensures plays { (place : ℕ) → peer.old.place ≡ Some place
             → ChangesOnly self.old.places.items self.new.places.items place }
-        // Whoever is not known gets the seat of the secret that he says, or none.
+        // An unknown peer gets the seat of the secret that it says, or none.
         ensures seat { peer.old.place ≡ None → HasSeatByGreeting self.old.places.items text.now peer.new }
     {
         match parse_message(text) {
@@ -47,14 +48,14 @@ impl<K: Keeper + Drop, S: Store<K> + Drop> Site<K, S> {
         }
     }
 
-    /// Gives a peer the seat of his secret.
+    /// Gives a peer the seat of its secret.
     fn hello(&mut self, peer: &mut Peer, secret: &str) -> Result<Reply, AllocError>
         ensures { peer.old.place ≡ None → HasSeatBy self.old.places.items secret.now peer.new }
     {
         let Some((index, player)) = self.by_secret(secret) else {
             return self.reply(b"{\"no\":\"there is no such seat\"}", false);
         };
-        peer.sit(index, player);
+        peer.sit(index, player, self.seat_changes_at(index, player));
         self.come(peer);
         self.reply(b"{\"hello\":true}", true)
     }
@@ -65,6 +66,9 @@ impl<K: Keeper + Drop, S: Store<K> + Drop> Site<K, S> {
         ensures plays { (place : ℕ) → peer.now.place ≡ Some place
             → ChangesOnly self.old.places.items self.new.places.items place }
     {
+        if !self.may_stay(peer) {
+            return self.reply(b"{\"no\":\"there is no such seat\"}", false);
+        }
         let (Some(index), Some(player)) = (peer.place, peer.seat) else {
             return self.reply(b"{\"no\":\"you watch\"}", true);
         };
@@ -108,7 +112,7 @@ impl<K: Keeper + Drop, S: Store<K> + Drop> Site<K, S> {
     }
 }
 
-/// What is said of what came of an action.
+/// Returns the answer to an action.
 fn acted_words(acted: Acted) -> &'static str {
     match acted {
         Acted::Done => ",\"done\":true",

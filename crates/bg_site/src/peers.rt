@@ -1,27 +1,30 @@
-//! What is known of a peer that has a socket.
+//! A peer that has a socket.
 ghost use Rattle.std.specs.Prelude.{◌≡◌, ◌↔◌, IsSome, IsTrue, None, Some};
 
 use crate::addresses::Address;
 use bg_board::Player;
 
-/// A peer that has a socket: which match he looks at, whose seat he has, and what he was handed last.
+/// A peer that has a socket: which match it looks at, whose seat it has, and what it was handed
+/// last.
 #[derive(Clone, Copy, Debug, PartialEq, Eq)]
 pub struct Peer {
-    /// None where he has not said yet whose seat he has.
+    /// None until it has said whose seat it has.
     pub(crate) place: Option<usize>,
     pub(crate) seat: Option<Player>,
-    /// Whether he was told what match it is.
+    /// How often the link of its seat was made anew before it sat down.
+    pub(crate) seat_changes: u64,
+    /// Whether it was told which match it is.
     pub(crate) is_greeted: bool,
-    /// The version of the state that he was handed last; 0 before the first.
+    /// The version of the state that it was handed last; 0 before the first.
     pub(crate) version: u64,
     /// The same of who is there.
     pub(crate) comings: u64,
-    /// Where he connects from, if a proxy has said so.
+    /// The address that it connects from, if a proxy has said so.
     pub(crate) address: Option<Address>,
 }
 
 impl Peer {
-    /// One who is to say whose seat he has.
+    /// Returns a peer that is to say whose seat it has.
     pub(crate) fn unknown() -> Peer
         ensures place { result.place ≡ None }
         ensures seat { result.seat ≡ None }
@@ -29,6 +32,7 @@ impl Peer {
         Peer {
             place: None,
             seat: None,
+            seat_changes: 0,
             is_greeted: false,
             version: 0,
             comings: 0,
@@ -36,7 +40,7 @@ impl Peer {
         }
     }
 
-    /// One who watches a match.
+    /// Returns a watcher of a match.
     pub(crate) fn watching(place: usize) -> Peer
         ensures place { result.place ≡ Some place }
         ensures seat { result.seat ≡ None }
@@ -47,16 +51,17 @@ impl Peer {
         }
     }
 
-    /// Gives him the seat of a player of a match.
-    pub(crate) fn sit(&mut self, place: usize, player: Player)
+    /// Gives it the seat of a player of a match, whose link was made anew so often.
+    pub(crate) fn sit(&mut self, place: usize, player: Player, seat_changes: u64)
         ensures place { self.new.place ≡ Some place }
         ensures seat { self.new.seat ≡ Some player }
     {
         self.place = Some(place);
         self.seat = Some(player);
+        self.seat_changes = seat_changes;
     }
 
-    /// Whether he looks at a match.
+    /// Returns whether it looks at a match.
     pub fn is_known(&self) -> bool
         ensures { IsTrue result ↔ IsSome self.now.place }
     {

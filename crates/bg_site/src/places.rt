@@ -1,159 +1,21 @@
-//! A match of the server, and what the host keeps of it.
-ghost use Rattle.std.specs.Prelude.{◌≡◌, ◌↔◌, IsSome, IsTrue, option_copied};
+//! A match of the server.
+ghost use Rattle.std.specs.Prelude.{◌≡◌, ◌↔◌, IsSome, IsTrue, None, option_copied};
 
 use crate::frames::Frames;
+use crate::operating::{Changed, SeatChanges};
+use crate::peers::Peer;
+use crate::presences::Presence;
+use crate::quiet::Quiet;
+use crate::stores::{Found, MatchName};
+use crate::summaries::Summary;
 use bg_board::Player;
+use bg_dice::Secret;
 use bg_hosted::{Acted, HostedMatch, is_answered};
-use bg_match::{Action, Number, Phase, Record, Terms};
+use bg_match::{Action, Number, Record, Terms};
 use bg_requests::{Digest, Seats};
 use bg_system::Names;
-use bg_world::{Keeper, Keepers};
+use bg_world::Keeper;
 use std::alloc::Global;
-
-/// The name of a match: that of its folder.
-pub type MatchName = String;
-
-/// A match that the host has found, or made.
-#[derive(Drop)]
-pub struct Found<K> {
-    pub name: MatchName,
-    pub names: Names,
-    pub id: u64,
-    pub terms: Terms,
-    /// None where nobody may play it here.
-    pub seats: Option<Seats>,
-    /// What its dice go by.
-    pub key: [u8; 32],
-    pub keepers: Keepers<K>,
-}
-
-/// A match that the host has made, and the secrets of its seats, which nothing keeps.
-#[derive(Drop)]
-pub struct Made<K> {
-    pub found: Found<K>,
-    pub x: String,
-    pub o: String,
-}
-
-/// What was counted of the saves of all matches.
-#[derive(Clone, Copy, Debug, PartialEq, Eq)]
-pub struct Saves {
-    /// How many were written through.
-    pub done: u64,
-    /// How many failed.
-    pub failed: u64,
-    /// How many microseconds they took, each with its sync.
-    pub micros: u64,
-}
-
-impl Saves {
-    /// Nothing was counted.
-    pub const NONE: Saves = Saves {
-        done: 0,
-        failed: 0,
-        micros: 0,
-    };
-}
-
-/// What keeps the matches.
-pub trait Store<K> {
-    /// Makes a match, and has it written through. None where that failed.
-    fn make(&mut self, terms: Terms, names: Names) -> Option<Made<K>>;
-
-    /// Reads the record of a match that has ended. None where that failed.
-    fn load(&self, name: &str) -> Option<Record>;
-
-    /// What was counted of the saves of all matches, where that is known.
-    fn saves(&self) -> Saves {
-        Saves::NONE
-    }
-}
-
-/// What is told of a match in lists.
-#[derive(Clone, Copy, Debug, PartialEq, Eq)]
-pub(crate) struct Summary {
-    pub(crate) entries: Number,
-    pub(crate) score: (u16, u16),
-    pub(crate) turn: Option<Player>,
-    pub(crate) winner: Option<Player>,
-}
-
-impl Summary {
-    /// What is told of a match with no entry.
-    const NONE: Summary = Summary {
-        entries: 0,
-        score: (0, 0),
-        turn: None,
-        winner: None,
-    };
-
-    /// What is told of a match with a record.
-    fn of(record: &Record) -> Summary {
-        let standing = record.standing();
-        Summary {
-            entries: record.len(),
-            score: standing.score(),
-            turn: standing.actor().seat(),
-            winner: match standing.phase() {
-                Phase::Over(player) => Some(player),
-                _ => None,
-            },
-        }
-    }
-}
-
-/// How many peers look at a match.
-#[derive(Clone, Copy, Debug, PartialEq, Eq)]
-pub(crate) struct Presence {
-    pub(crate) x: u32,
-    pub(crate) o: u32,
-    pub(crate) watching: u32,
-}
-
-impl Presence {
-    /// Nobody.
-    const NOBODY: Presence = Presence {
-        x: 0,
-        o: 0,
-        watching: 0,
-    };
-
-    /// One more has come who has this seat, or none.
-    pub(crate) fn come(self, seat: Option<Player>) -> Presence {
-        match seat {
-            None => Presence {
-                watching: self.watching.saturating_add(1),
-                ..self
-            },
-            Some(Player::X) => Presence {
-                x: self.x.saturating_add(1),
-                ..self
-            },
-            Some(Player::O) => Presence {
-                o: self.o.saturating_add(1),
-                ..self
-            },
-        }
-    }
-
-    /// One has left who had this seat, or none.
-    pub(crate) fn leave(self, seat: Option<Player>) -> Presence {
-        match seat {
-            None => Presence {
-                watching: self.watching.saturating_sub(1),
-                ..self
-            },
-            Some(Player::X) => Presence {
-                x: self.x.saturating_sub(1),
-                ..self
-            },
-            Some(Player::O) => Presence {
-                o: self.o.saturating_sub(1),
-                ..self
-            },
-        }
-    }
-}
 
 /// A match of the server.
 #[derive(Drop)]
@@ -162,10 +24,22 @@ pub(crate) struct Place<K> {
     pub(crate) names: Names,
     pub(crate) terms: Terms,
     seats: Option<Seats>,
+    /// The secret that its dice are made of, and its SHA-256, where that was told before the first
+    /// roll.
+    key: Secret,
+    digest: Option<Digest>,
     /// None where it has ended, and is read from the store.
     hosted: Option<HostedMatch<K>>,
     pub(crate) summary: Summary,
     pub(crate) presence: Presence,
+    /// For how long nobody has acted.
+    pub(crate) quiet: Quiet,
+    seat_changes: SeatChanges,
+    /// Whether lists leave it out.
+    pub(crate) is_hidden: bool,
+    /// Whether the operator has deleted it. Its place stays, as peers are known by the numbers of
+    /// places.
+    pub(crate) is_gone: bool,
     /// How often something became visible; from 1.
     pub(crate) version: u64,
     /// How often someone came or left; from 1.
@@ -177,10 +51,11 @@ pub(crate) struct Place<K> {
 }
 
 impl<K: Keeper + Drop> Place<K> {
-    ghost use Rattle.bg_site.specs.Places.{player_in, told_in};
+    ghost use Rattle.bg_site.specs.Places.{player_in, secret_in, told_in};
 
-    /// The place of a match that goes on from what its keepers have. None where there is no memory for it.
-    pub(crate) fn open(alloc: Global, found: Found<K>, news: u64) -> Option<Place<K>> {
+    /// Opens the place of a match that goes on from what its keepers have. Returns None where there
+    /// is no memory for it.
+    pub(crate) fn open(alloc: Global, found: Found<K>, news: u64, now: u64) -> Option<Place<K>> {
         let Found {
             name,
             names,
@@ -188,7 +63,10 @@ impl<K: Keeper + Drop> Place<K> {
             terms,
             seats,
             key,
+            digest,
             keepers,
+            is_hidden,
+            quiet_minutes,
         } = found;
         let Ok(hosted) = HostedMatch::begin(alloc, id, terms, key, keepers) else {
             return None;
@@ -198,9 +76,15 @@ impl<K: Keeper + Drop> Place<K> {
             names,
             terms,
             seats,
+            key,
+            digest,
             hosted: Some(hosted),
             summary: Summary::NONE,
             presence: Presence::NOBODY,
+            quiet: Quiet::for_minutes(quiet_minutes, now),
+            seat_changes: SeatChanges::NONE,
+            is_hidden,
+            is_gone: false,
             version: 1,
             comings: 1,
             news,
@@ -208,6 +92,45 @@ impl<K: Keeper + Drop> Place<K> {
         };
         let _ = place.refresh();
         Some(place)
+    }
+
+    /// Takes in what the operator has changed.
+    pub(crate) fn change(&mut self, changed: Changed)
+        ensures { self.new.seats ≡ changed.seats }
+    {
+        self.seat_changes.note(&self.seats, &changed.seats);
+        self.seats = changed.seats;
+        self.names = changed.names;
+        self.is_hidden = changed.is_hidden;
+    }
+
+    /// Lets go of the match, which the operator has deleted: nobody has a seat of it any more.
+    pub(crate) fn remove(&mut self)
+        ensures { self.new.seats ≡ None }
+    {
+        self.is_gone = true;
+        self.seats = None;
+        self.hosted = None;
+        self.key = [0; 32];
+        self.digest = None;
+        self.names = Names::none();
+    }
+
+    /// Returns how often the link of a player's seat was made anew.
+    pub(crate) fn seat_changes_of(&self, player: Player) -> u64 {
+        match player {
+            Player::X => self.seat_changes.x,
+            Player::O => self.seat_changes.o,
+        }
+    }
+
+    /// Returns whether a peer who looks at the match may go on to do so, and has his seat still.
+    pub(crate) fn has_room_for(&self, peer: &Peer) -> bool {
+        let has_seat = match peer.seat {
+            Some(player) => peer.seat_changes == self.seat_changes_of(player),
+            None => true,
+        };
+        has_seat && !self.is_gone
     }
 
     /// Returns the player whose seat has a secret of this digest.
@@ -220,7 +143,24 @@ impl<K: Keeper + Drop> Place<K> {
         }
     }
 
-    /// The record that everybody may see, while the match goes on.
+    /// Returns the SHA-256 of the secret of its dice, where that was told before the first roll.
+    pub(crate) fn digest_told(&self) -> &Option<Digest>
+        ensures { result.now ≡ self.now.digest }
+    {
+        &self.digest
+    }
+
+    /// Returns the secret of its dice, once the match has ended: before that nobody is told it.
+    pub(crate) fn secret(&self) -> Option<&Secret>
+        ensures { option_copied result ≡ secret_in self.now }
+    {
+        match self.hosted {
+            None => Some(&self.key),
+            Some(_) => None,
+        }
+    }
+
+    /// Returns the record that everybody may see, while the match goes on.
     pub(crate) fn held(&self) -> Option<&Record>
         ensures { option_copied result ≡ told_in K.Keeper self.now.hosted }
     {
@@ -230,14 +170,14 @@ impl<K: Keeper + Drop> Place<K> {
         }
     }
 
-    /// Whether the match goes on.
+    /// Returns whether the match goes on.
     pub(crate) fn is_live(&self) -> bool
         ensures { IsTrue result ↔ IsSome self.now.hosted }
     {
         self.hosted.is_some()
     }
 
-    /// Whether it has something left to do by a tick.
+    /// Returns whether it has something left to do on a tick.
     pub(crate) fn is_restless(&self) -> bool {
         match &self.hosted {
             Some(hosted) => hosted.is_restless(),
@@ -245,7 +185,7 @@ impl<K: Keeper + Drop> Place<K> {
         }
     }
 
-    /// Does what is left to be done; whether anything became visible.
+    /// Does what is left to be done; returns whether anything became visible.
     pub(crate) fn tick(&mut self) -> bool {
         if let Some(hosted) = &mut self.hosted {
             if hosted.is_restless() {
@@ -263,7 +203,7 @@ impl<K: Keeper + Drop> Place<K> {
         }
     }
 
-    /// Notes what became visible; whether anything did. A match that is over is let go.
+    /// Notes what became visible; returns whether anything did. Lets go of a match that is over.
     pub(crate) fn refresh(&mut self) -> bool {
         let Some(hosted) = &self.hosted else {
             return false;
@@ -284,7 +224,8 @@ impl<K: Keeper + Drop> Place<K> {
     }
 }
 
-/// What came of an action in a match that has ended, and has this record: it is done where its entry answers it.
+/// Returns what came of an action in a match that has ended with this record: it is done if its
+/// entry answers it.
 pub(crate) fn acted_before(
     record: &Record,
     player: Player,

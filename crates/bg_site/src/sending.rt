@@ -1,12 +1,12 @@
-//! What a peer gets by his socket.
+//! The frames that a peer gets by its socket.
 ghost use Rattle.std.specs.Prelude.{◌≡◌, ℕ, Some};
 
 use crate::files::{Asked, Given};
 use crate::frames::frame_of;
 use crate::greetings::{greeting_text, presence_text};
 use crate::peers::Peer;
-use crate::places::Store;
 use crate::sites::Site;
+use crate::stores::Store;
 use bg_board::Player;
 use bg_world::Keeper;
 use bytes::Bytes;
@@ -15,8 +15,8 @@ use std::alloc::AllocError;
 impl<K: Keeper + Drop, S: Store<K> + Drop> Site<K, S> {
     ghost use Rattle.bg_site.specs.Places.{ChangesOnly};
 
-    /// Returns who the connection is that the last request upgraded, if it did so. Ask this before another connection
-    /// goes on.
+    /// Returns who the connection is that the last request upgraded, if it did so. Ask this before
+    /// another connection goes on.
     pub fn take_upgraded(&mut self) -> Option<Peer> {
         self.upgraded.take()
     }
@@ -39,7 +39,7 @@ impl<K: Keeper + Drop, S: Store<K> + Drop> Site<K, S> {
         self.leave(peer);
     }
 
-    /// Notes that a peer has come, as his socket begins.
+    /// Notes that a peer has come, as its socket begins.
     #[tactic(auto, using(crate::proofs::Others::other_stays))]
     pub fn come(&mut self, peer: &Peer)
         ensures { (place : ℕ) → peer.now.place ≡ Some place
@@ -54,7 +54,7 @@ impl<K: Keeper + Drop, S: Store<K> + Drop> Site<K, S> {
         }
     }
 
-    /// Notes that a peer has left, as his socket ends.
+    /// Notes that a peer has left, as its socket ends.
     #[tactic(auto, using(crate::proofs::Others::other_stays))]
     pub fn leave(&mut self, peer: &Peer)
         ensures { (place : ℕ) → peer.now.place ≡ Some place
@@ -71,7 +71,7 @@ impl<K: Keeper + Drop, S: Store<K> + Drop> Site<K, S> {
         let _ = self.note_news();
     }
 
-    /// Returns the next frame that a peer lacks, and notes that he has it; None where he lacks none.
+    /// Returns the next frame that a peer lacks, and notes that it has it; None if it lacks none.
     ///
     /// # Errors
     /// AllocError where there is no memory for it.
@@ -85,7 +85,14 @@ impl<K: Keeper + Drop, S: Store<K> + Drop> Site<K, S> {
         let (version, comings, presence) = (place.version, place.comings, place.presence);
         if !peer.is_greeted {
             peer.is_greeted = true;
-            let text = greeting_text(self.alloc, place.name.as_str(), &place.names, peer.seat)?;
+            let name = place.name.as_str();
+            let text = greeting_text(
+                self.alloc,
+                name,
+                &place.names,
+                peer.seat,
+                place.digest_told(),
+            )?;
             return Ok(Some(frame_of(self.alloc, &text)?));
         }
         if peer.version != version {
@@ -100,8 +107,8 @@ impl<K: Keeper + Drop, S: Store<K> + Drop> Site<K, S> {
         Ok(None)
     }
 
-    /// Returns the frame of the state of a match, for those who watch or for a player; None where it can't be read. It
-    /// is made once for each version.
+    /// Returns the frame of the state of a match, for those who watch or for a player; None where
+    /// it can't be read. It is made once for each version.
     fn state_frame(
         &mut self,
         index: usize,

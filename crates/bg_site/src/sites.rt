@@ -3,9 +3,12 @@ ghost use Rattle.std.specs.Prelude.{◌≡◌, IfSome};
 ghost use Rattle.sha2.specs.Sha256.{sha256};
 
 use crate::addresses::Addresses;
+use crate::callers::Caller;
 use crate::counts::Counts;
 use crate::peers::Peer;
-use crate::places::{Found, Place, Store, acted_before};
+use crate::places::{Place, acted_before};
+use crate::quiet::{Patience, Quiet};
+use crate::stores::{Found, Store};
 use bg_board::Player;
 use bg_hosted::Acted;
 use bg_match::{Action, Number};
@@ -24,10 +27,14 @@ pub struct Site<K, S> {
     pub(crate) places: Vec<Place<K>>,
     /// Who the connection is that the last request upgraded.
     pub(crate) upgraded: Option<Peer>,
+    /// Whose the connection is that the request at hand came on.
+    pub(crate) caller: Caller,
     /// Whether the request at hand may make a match.
     pub(crate) may_make: bool,
     /// What the clients of each address have.
     pub(crate) addresses: Addresses,
+    /// The minute, as the host counts them, and for how long a match without an action is live.
+    pub(crate) patience: Patience,
     /// How much news there was.
     news: u64,
     /// Of it, how much the host has asked for.
@@ -41,15 +48,17 @@ pub struct Site<K, S> {
 impl<K: Keeper + Drop, S: Store<K> + Drop> Site<K, S> {
     ghost use Rattle.bg_site.specs.Places.{ChangesOnly, HasSeatAt};
 
-    /// A server without matches.
+    /// Creates a server without matches.
     pub fn new(alloc: Global, store: S) -> Site<K, S> {
         Site {
             alloc,
             store,
             places: Vec::new(alloc),
             upgraded: None,
+            caller: Caller::UNKNOWN,
             may_make: true,
             addresses: Addresses::none(alloc),
+            patience: Patience { now: 0, idle: 0 },
             news: 1,
             asked: 1,
             counts: Counts::NONE,
@@ -57,19 +66,19 @@ impl<K: Keeper + Drop, S: Store<K> + Drop> Site<K, S> {
         }
     }
 
-    /// Takes a match in. Whether there was room and memory for it.
+    /// Takes a match in; returns whether there was room and memory for it.
     pub fn open(&mut self, found: Found<K>) -> bool {
         if self.places.len() >= MOST_MATCHES {
             return false;
         }
         let news = self.note_news();
-        match Place::open(self.alloc, found, news) {
+        match Place::open(self.alloc, found, news, self.patience.now) {
             Some(place) => self.places.push(place).is_ok(),
             None => false,
         }
     }
 
-    /// Takes a match in that a request has made. Whether there was room and memory for it.
+    /// Takes a match in that a request has made; returns whether there was room and memory for it.
     pub(crate) fn open_made(&mut self, found: Found<K>) -> bool {
         let is_open = self.open(found);
         if is_open {
@@ -78,17 +87,17 @@ impl<K: Keeper + Drop, S: Store<K> + Drop> Site<K, S> {
         is_open
     }
 
-    /// What keeps the matches.
+    /// Returns the storage of the matches.
     pub fn store(&self) -> &S {
         &self.store
     }
 
-    /// How many matches there are.
+    /// Returns the number of matches.
     pub fn len(&self) -> usize {
         self.places.len()
     }
 
-    /// Whether there is none.
+    /// Returns whether there is none.
     pub fn is_empty(&self) -> bool {
         self.places.is_empty()
     }
@@ -98,14 +107,21 @@ impl<K: Keeper + Drop, S: Store<K> + Drop> Site<K, S> {
         self.may_make = may_make;
     }
 
-    /// Says which minute it is: matches that an address makes are counted in each.
+    /// Says which minute it is, counted from when the server began: matches that an address makes
+    /// are counted in each.
     pub fn begin_minute(&mut self, minute: u64) {
+        self.patience.now = minute;
         self.addresses.begin_minute(minute);
     }
 
-    /// How many matches were made by requests.
+    /// Returns how many matches were made by requests.
     pub fn made(&self) -> u64 {
         self.counts.made
+    }
+
+    /// Returns how many matches have ended while they were served.
+    pub fn ended(&self) -> u64 {
+        self.counts.ended
     }
 
     /// Notes how many connections there are.
@@ -113,14 +129,14 @@ impl<K: Keeper + Drop, S: Store<K> + Drop> Site<K, S> {
         self.counts.connections = count;
     }
 
-    /// Whether there was news since this was asked last.
+    /// Returns whether there was news since the last call.
     pub fn has_news(&mut self) -> bool {
         let has_news = self.news != self.asked;
         self.asked = self.news;
         has_news
     }
 
-    /// Whether a match has something left to do by a tick.
+    /// Returns whether a match has something left to do on a tick.
     pub fn is_restless(&self) -> bool {
         for place in self.places.iter() {
             if place.is_restless() {
@@ -132,11 +148,15 @@ impl<K: Keeper + Drop, S: Store<K> + Drop> Site<K, S> {
 
     /// Lets the matches tick that have something left to do.
     pub fn tick(&mut self) {
-        let mut news = self.news;
+        let (mut news, minute) = (self.news, self.patience.now);
         for place in self.places.iter_mut() {
             if place.tick() {
                 news = news.saturating_add(1);
                 place.news = news;
+                place.quiet = Quiet::broken(minute);
+                if !place.is_live() {
+                    self.counts.note_end();
+                }
             }
         }
         self.news = news;
@@ -150,17 +170,18 @@ impl<K: Keeper + Drop, S: Store<K> + Drop> Site<K, S> {
         self.news
     }
 
-    /// The place of the match with this name.
+    /// Returns the place of the match with this name.
     pub(crate) fn by_name(&self, name: &str) -> Option<usize> {
         for (index, place) in self.places.iter().enumerate() {
-            if place.name.as_str() == name {
+            if place.name.as_str() == name && !place.is_gone {
                 return Some(index);
             }
         }
         None
     }
 
-    /// The match and the player whose seat has this secret. Each match is compared, so that the time tells nothing.
+    /// Returns the match and the player whose seat has this secret. Each match is compared, so that
+    /// the time tells nothing.
     pub(crate) fn by_secret(&self, secret: &str) -> Option<(usize, Player)>
         ensures { IfSome result (λ seat. HasSeatAt self.now.places.items (sha256 secret.now) seat.0 seat.1) }
     {
@@ -174,13 +195,21 @@ impl<K: Keeper + Drop, S: Store<K> + Drop> Site<K, S> {
         found
     }
 
-    /// The player whose seat, in the match at this place, has a secret of this digest.
+    /// Returns the player whose seat, in the match at this place, has a secret of this digest.
     fn player_at(&self, index: usize, digest: &Digest) -> Option<Player>
         ensures { IfSome result (λ player. HasSeatAt self.now.places.items digest.now index player) }
     {
         match self.places.get(index) {
             Some(place) => place.player_of(digest),
             None => None,
+        }
+    }
+
+    /// Returns how often the link of a player's seat, in the match at this place, was made anew.
+    pub(crate) fn seat_changes_at(&self, index: usize, player: Player) -> u64 {
+        match self.places.get(index) {
+            Some(place) => place.seat_changes_of(player),
+            None => 0,
         }
     }
 
@@ -195,7 +224,7 @@ impl<K: Keeper + Drop, S: Store<K> + Drop> Site<K, S> {
     ) -> Acted
         ensures { ChangesOnly self.old.places.items self.new.places.items index }
     {
-        let news = self.news.saturating_add(1);
+        let (news, minute) = (self.news.saturating_add(1), self.patience.now);
         let Some(place) = self.places.get_mut(index) else {
             return Acted::Failed;
         };
@@ -208,7 +237,11 @@ impl<K: Keeper + Drop, S: Store<K> + Drop> Site<K, S> {
         let acted = place.act(player, number, action);
         if place.refresh() {
             place.news = news;
+            place.quiet = Quiet::broken(minute);
             self.news = news;
+            if !place.is_live() {
+                self.counts.note_end();
+            }
         }
         acted
     }

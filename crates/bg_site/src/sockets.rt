@@ -2,9 +2,9 @@
 
 use crate::addresses::address_of;
 use crate::peers::Peer;
-use crate::places::Store;
 use crate::requests::{asks_for_socket, is_own_origin};
 use crate::sites::Site;
+use crate::stores::Store;
 use bg_pages::refuse;
 use bg_world::Keeper;
 use bytes::Bytes;
@@ -18,7 +18,7 @@ use std::alloc::{AllocError, Global};
 use websocket::handshake::server::accept_key;
 
 impl<K: Keeper + Drop, S: Store<K> + Drop> Site<K, S> {
-    /// Gives a socket to one who watches a match, or to one who is to say whose seat he has.
+    /// Gives a socket to a watcher of a match, or to a peer that is to say whose seat it has.
     pub(crate) fn upgrade(
         &mut self,
         request: &Request<Bytes>,
@@ -39,7 +39,7 @@ impl<K: Keeper + Drop, S: Store<K> + Drop> Site<K, S> {
             return refuse(
                 response,
                 StatusCode::BAD_REQUEST,
-                "the key of the WebSocket is none\n",
+                "the key of the WebSocket is invalid\n",
             );
         };
         let address = address_of(request);
@@ -59,7 +59,7 @@ impl<K: Keeper + Drop, S: Store<K> + Drop> Site<K, S> {
     }
 }
 
-/// Returns a peer who watches a match, or is to say whose seat he has.
+/// Returns a peer that watches a match, or is to say whose seat it has.
 fn peer_at(place: Option<usize>) -> Peer {
     match place {
         Some(index) => Peer::watching(index),
@@ -83,7 +83,7 @@ fn refuse_others(response: &mut Response) -> Result<(), AllocError> {
     refuse(
         response,
         StatusCode::UPGRADE_REQUIRED,
-        "this takes a WebSocket\n",
+        "this address needs a WebSocket\n",
     )
 }
 

@@ -34,7 +34,8 @@ abbrev pub AddsSeat : State → Option Player → List ℕ → List ℕ → Type
 AddsSeat s seat old new =
     (text : List ℕ) × TellsSeat s seat text × (new ≡ old ++ codes ",\"you\":\"" ++ owner_letter seat ++ codes "\"" ++ text)
 
--- The text tells a peer with this seat, or with none, the state of the record. Nothing else is in it.
+-- The text tells a peer with this seat, or with none, the state of the record. Nothing else is in
+-- it.
 pub record IsStateText (log : Log) (seat : Option Player) (text : List ℕ) : Type 0 where
   pub state : State
   pub stands : StandsAt log.terms log.entries state

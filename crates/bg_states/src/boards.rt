@@ -1,4 +1,4 @@
-//! Where the checkers stand.
+//! The checkers in the state of a match.
 ghost use Rattle.std.specs.Prelude.{◌≡◌, ◌++◌, OnOk};
 ghost use Rattle.bg_states.specs.Boards.{board_text};
 
@@ -7,7 +7,8 @@ use bg_board::{Board, Player};
 use bg_text::put_text;
 use std::alloc::AllocError;
 
-/// Adds how many checkers X and O have on each point of their own numbering, from 0, which is off, to 25, the bar.
+/// Adds two lists, `x` and `o`: the number of checkers that the player has on each point in their
+/// own numbering, from 0 (off) to 25 (the bar).
 #[tactic(auto, unfolding(crate::specs::Boards::board_text))]
 pub(crate) fn put_board(out: &mut Vec<u8>, board: &Board) -> Result<(), AllocError>
     ensures { OnOk result (out.new.items ≡ out.old.items ++ board_text board.now) }

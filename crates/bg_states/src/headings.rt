@@ -1,4 +1,4 @@
-//! The match, the game, the score and the cube.
+//! The match, the game, the score and the cube in the state of a match.
 ghost use Rattle.std.specs.Prelude.{◌≡◌, ◌++◌, OnOk};
 ghost use Rattle.bg_states.specs.Headings.{cube_text, flag, game_text, match_text, owner_letter, owner_text, rules_digit, score_text};
 
@@ -7,7 +7,7 @@ use bg_match::{Cube, Record, Rules, Standing};
 use bg_text::{letter, put_number, put_text};
 use std::alloc::AllocError;
 
-/// Adds how many entries there are, the length and the rules.
+/// Adds the number of entries, and the length and the rules of the match.
 #[tactic(auto, unfolding(crate::specs::Headings::match_text))]
 pub(crate) fn put_match(out: &mut Vec<u8>, log: &Record) -> Result<(), AllocError>
     ensures { OnOk result (out.new.items ≡ out.old.items ++ match_text log.now) }
@@ -20,7 +20,7 @@ pub(crate) fn put_match(out: &mut Vec<u8>, log: &Record) -> Result<(), AllocErro
     put_text(out, rules_name(log.rules()))
 }
 
-/// The number by which rules are named.
+/// Returns the digit that names the rules: "1" or "2".
 fn rules_name(rules: Rules) -> &'static str
     ensures { result.now ≡ rules_digit rules }
 {
@@ -30,7 +30,7 @@ fn rules_name(rules: Rules) -> &'static str
     }
 }
 
-/// Adds the number of the game, and whether it is a Crawford game.
+/// Adds the number of the game, from 1, and whether it is a Crawford game.
 #[tactic(auto, unfolding(crate::specs::Headings::game_text))]
 pub(crate) fn put_game(out: &mut Vec<u8>, standing: &Standing) -> Result<(), AllocError>
     ensures { OnOk result (out.new.items ≡ out.old.items ++ game_text standing.now) }
@@ -41,14 +41,14 @@ pub(crate) fn put_game(out: &mut Vec<u8>, standing: &Standing) -> Result<(), All
     put_text(out, truth(standing.crawford()))
 }
 
-/// How JSON says that something holds, or not.
+/// Returns the JSON literal of a truth value: "true" or "false".
 pub fn truth(holds: bool) -> &'static str
     ensures { result.now ≡ flag holds }
 {
     if holds { "true" } else { "false" }
 }
 
-/// Adds the score of X and that of O.
+/// Adds the scores of X and of O, in this order.
 #[tactic(auto, unfolding(crate::specs::Headings::score_text))]
 pub(crate) fn put_score(out: &mut Vec<u8>, standing: &Standing) -> Result<(), AllocError>
     ensures { OnOk result (out.new.items ≡ out.old.items ++ score_text standing.now) }
@@ -61,7 +61,7 @@ pub(crate) fn put_score(out: &mut Vec<u8>, standing: &Standing) -> Result<(), Al
     put_text(out, "]")
 }
 
-/// Adds what the cube shows, and whose it is.
+/// Adds the value of the cube, and its owner.
 #[tactic(auto, unfolding(crate::specs::Headings::cube_text))]
 pub(crate) fn put_cube(out: &mut Vec<u8>, cube: Cube) -> Result<(), AllocError>
     ensures { OnOk result (out.new.items ≡ out.old.items ++ cube_text cube) }
@@ -72,7 +72,7 @@ pub(crate) fn put_cube(out: &mut Vec<u8>, cube: Cube) -> Result<(), AllocError>
     Ok(())
 }
 
-/// Adds whose the cube is.
+/// Adds the letter of the cube's owner; no letter while the cube is in the middle.
 #[tactic(auto, unfolding(crate::specs::Headings::owner_text))]
 fn put_owner(out: &mut Vec<u8>, owner: Option<Player>) -> Result<(), AllocError>
     ensures { OnOk result (out.new.items ≡ out.old.items ++ owner_text owner) }
@@ -82,7 +82,7 @@ fn put_owner(out: &mut Vec<u8>, owner: Option<Player>) -> Result<(), AllocError>
     put_text(out, "\"}")
 }
 
-/// The letter of a player; nothing where there is none.
+/// Returns the letter of a player, "X" or "O", or the empty text if there is no player.
 pub fn letter_of(player: Option<Player>) -> &'static str
     ensures { result.now ≡ owner_letter player }
 {

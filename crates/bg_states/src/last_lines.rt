@@ -1,4 +1,4 @@
-//! The last entries.
+//! The last entries in the state of a match.
 ghost use Rattle.std.specs.Prelude.{◌+◌, ◌≤◌, OnOk, length};
 ghost use Rattle.bg_match.specs.Match.{IsLegalRecord};
 ghost use Rattle.bg_states.specs.LastLines.{AddsLine, AddsLines};
@@ -9,10 +9,11 @@ use bg_match::{Number, Record};
 use bg_text::{entry_text, put_text};
 use std::alloc::AllocError;
 
-/// So many of the last entries are told.
+/// The largest number of entries that the list `last` has.
 const LAST: Number = 12;
 
-/// Adds the lines of the last entries, the oldest first: at most twelve.
+/// Adds the lines of the last twelve entries, or of all entries if there are fewer, the oldest
+/// first.
 pub(crate) fn put_last(out: &mut Vec<u8>, log: &Record) -> Result<(), AllocError>
     ensures { OnOk result (AddsLast log.now out.old.items out.new.items) }
 {
@@ -24,7 +25,10 @@ pub(crate) fn put_last(out: &mut Vec<u8>, log: &Record) -> Result<(), AllocError
     Ok(())
 }
 
-/// Adds the lines of so many entries from a number on, with commas between them; whether the first is that of the list.
+/// Adds the lines of `count` entries, from that of this number on, with commas between them.
+///
+/// `first` says whether the first of these lines is also the first of the list, which no comma
+/// precedes.
 fn put_lines(
     out: &mut Vec<u8>,
     log: &Record,
@@ -46,7 +50,7 @@ fn put_lines(
     Ok(())
 }
 
-/// Adds the line of an entry, between quotes.
+/// Adds the line of the entry of this number, in quotes.
 fn put_line(out: &mut Vec<u8>, log: &Record, number: Number) -> Result<(), AllocError>
     requires first { 1 ≤ number }
     requires last { number ≤ length log.now.entries }

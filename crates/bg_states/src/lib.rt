@@ -1,5 +1,5 @@
-//! What a peer of a match server is told: the state of a match as JSON, for those who watch, or for a player. For
-//! programs that draw the match themselves.
+//! Writes the state of a match as JSON, as a match server sends it to watchers and players
+//! (docs/SERVING.md, "State"). It is for programs that draw the match themselves.
 //!
 //! ```
 //! let mut log = Record::new(alloc, 7, 1, Rules::One)?;

@@ -1,11 +1,11 @@
-//! Lists of JSON.
+//! JSON lists.
 ghost use Rattle.std.specs.Prelude.{◌≡◌, ◌++◌, OnOk};
 ghost use Rattle.bg_states.specs.Lists.{comma_text, numbers_text, some_text};
 
 use bg_text::{put_number, put_text};
 use std::alloc::AllocError;
 
-/// Adds what stands before an item of a list: a comma, but before the first.
+/// Adds the comma that precedes an item of a list; before the first item, adds nothing.
 pub(crate) fn put_comma(out: &mut Vec<u8>, first: bool) -> Result<(), AllocError>
     ensures { OnOk result (out.new.items ≡ out.old.items ++ comma_text first) }
 {
@@ -15,7 +15,7 @@ pub(crate) fn put_comma(out: &mut Vec<u8>, first: bool) -> Result<(), AllocError
     put_text(out, ",")
 }
 
-/// Adds a list of numbers, in brackets.
+/// Adds a list of numbers in brackets, such as `[6,5]`.
 pub(crate) fn put_numbers(out: &mut Vec<u8>, numbers: &[u8]) -> Result<(), AllocError>
     ensures { OnOk result (out.new.items ≡ out.old.items ++ numbers_text numbers.now) }
 {
@@ -24,7 +24,10 @@ pub(crate) fn put_numbers(out: &mut Vec<u8>, numbers: &[u8]) -> Result<(), Alloc
     put_text(out, "]")
 }
 
-/// Adds numbers with commas between them; whether the first of them is that of the list.
+/// Adds numbers with commas between them.
+///
+/// `first` says whether the first of these numbers is also the first of the list, which no comma
+/// precedes.
 fn put_items(out: &mut Vec<u8>, first: bool, numbers: &[u8]) -> Result<(), AllocError>
     ensures { OnOk result (out.new.items ≡ out.old.items ++ some_text first numbers.now) }
 {

@@ -1,4 +1,4 @@
-//! What a player may do now.
+//! The actions that a player may take now, in the state of a match.
 ghost use Rattle.std.specs.Prelude.{◌≡◌, ◌++◌, IfOk, OnOk};
 ghost use Rattle.bg_states.specs.May.{AddsMay, is_first_behind, may_text, offer_text, word_text};
 
@@ -9,7 +9,7 @@ use bg_table::{Offers, offered};
 use bg_text::put_text;
 use std::alloc::AllocError;
 
-/// Adds the words of what a player may do.
+/// Adds the list `may`: the words of the actions that the player is offered.
 pub(crate) fn put_may(
     out: &mut Vec<u8>,
     standing: &Standing,
@@ -21,7 +21,7 @@ pub(crate) fn put_may(
     Ok(())
 }
 
-/// Adds the list of what is offered.
+/// Adds the list `may` of the offered actions.
 #[tactic(auto, unfolding(crate::specs::May::may_text))]
 fn put_list(out: &mut Vec<u8>, offers: Offers) -> Result<(), AllocError>
     ensures { OnOk result (out.new.items ≡ out.old.items ++ may_text offers) }
@@ -31,7 +31,7 @@ fn put_list(out: &mut Vec<u8>, offers: Offers) -> Result<(), AllocError>
     put_text(out, "]")
 }
 
-/// Adds the words of what is offered, with commas between them.
+/// Adds the words of the offered actions, with commas between them.
 fn put_offers(out: &mut Vec<u8>, offers: Offers) -> Result<(), AllocError>
     ensures { OnOk result (out.new.items ≡ out.old.items ++ offer_text offers) }
 {
@@ -46,7 +46,9 @@ fn put_offers(out: &mut Vec<u8>, offers: Offers) -> Result<(), AllocError>
     Ok(())
 }
 
-/// Adds a word where what it names is offered. Returns whether the next word is the first one.
+/// Adds the word if its action is offered.
+///
+/// `first` says whether no word has been added before. Returns the same for the next word.
 fn put_word(
     out: &mut Vec<u8>,
     first: bool,

@@ -1,4 +1,4 @@
-//! What is to happen next.
+//! What happens next, in the state of a match.
 ghost use Rattle.std.specs.Prelude.{◌≡◌, ◌++◌, OnOk};
 ghost use Rattle.bg_states.specs.Phases.{dice_in, dice_text, phase_text, throw_text, winner_in, words_text};
 
@@ -10,7 +10,8 @@ use bg_text::{put_phase, put_text};
 use bg_turns::Dice;
 use std::alloc::AllocError;
 
-/// Adds what is to happen next in words, whose turn it is, the dice that are to be moved, and who has won.
+/// Adds what happens next, in words; whose turn it is; the dice that are to be played; and who has
+/// won the match.
 #[tactic(auto, unfolding(crate::specs::Phases::phase_text))]
 pub(crate) fn put_phases(out: &mut Vec<u8>, standing: &Standing) -> Result<(), AllocError>
     ensures { OnOk result (out.new.items ≡ out.old.items ++ phase_text standing.now) }
@@ -20,7 +21,8 @@ pub(crate) fn put_phases(out: &mut Vec<u8>, standing: &Standing) -> Result<(), A
     Ok(())
 }
 
-/// Adds what is to happen next in words, and whose turn it is.
+/// Adds what happens next, in words, and the letter of the player who acts. There is no letter
+/// while the referee acts, or after the match.
 #[tactic(auto, unfolding(crate::specs::Phases::words_text))]
 fn put_words(out: &mut Vec<u8>, standing: &Standing) -> Result<(), AllocError>
     ensures { OnOk result (out.new.items ≡ out.old.items ++ words_text standing.now) }
@@ -32,7 +34,7 @@ fn put_words(out: &mut Vec<u8>, standing: &Standing) -> Result<(), AllocError>
     Ok(())
 }
 
-/// Adds the dice that are to be moved, and who has won.
+/// Adds the dice that are to be played, and the letter of the player who has won the match, if any.
 #[tactic(auto, unfolding(crate::specs::Phases::throw_text))]
 fn put_throw(out: &mut Vec<u8>, phase: Phase) -> Result<(), AllocError>
     ensures { OnOk result (out.new.items ≡ out.old.items ++ throw_text phase) }
@@ -45,7 +47,8 @@ fn put_throw(out: &mut Vec<u8>, phase: Phase) -> Result<(), AllocError>
     Ok(())
 }
 
-/// The dice that are to be moved.
+/// Returns the dice that are to be played, if any. An offer to resign keeps the dice that had been
+/// rolled before it.
 fn dice_of(phase: Phase) -> Option<Dice>
     ensures { result ≡ dice_in phase }
 {
@@ -56,7 +59,7 @@ fn dice_of(phase: Phase) -> Option<Dice>
     }
 }
 
-/// Who has won the match.
+/// Returns the player who has won the match, if it is over.
 fn winner(phase: Phase) -> Option<Player>
     ensures { result ≡ winner_in phase }
 {
@@ -66,7 +69,7 @@ fn winner(phase: Phase) -> Option<Player>
     }
 }
 
-/// Adds dice as a list of two numbers, or of none.
+/// Adds dice as a list of two numbers from 1 to 6, or as an empty list if there are none.
 fn put_dice(out: &mut Vec<u8>, dice: Option<Dice>) -> Result<(), AllocError>
     ensures { OnOk result (out.new.items ≡ out.old.items ++ dice_text dice) }
 {

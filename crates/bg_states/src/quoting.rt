@@ -1,15 +1,15 @@
-//! Texts as JSON has them.
+//! JSON strings.
 ghost use Rattle.std.specs.Prelude.{◌≡◌, ◌++◌, OnOk};
 ghost use Rattle.bg_states.specs.Quoting.{escaped, escaped_byte, quoted};
 
 use bg_text::put_text;
 use std::alloc::AllocError;
 
-/// Adds a text between quotes, as JSON has it: a quote and a backslash stand behind a backslash, and a blank stands for
-/// each control character.
+/// Adds a text as a JSON string, in quotes: each quote and each backslash gets a backslash before
+/// it, and each byte below 32 becomes a blank.
 ///
 /// # Errors
-/// AllocError where there is no memory; then some of it may be added.
+/// `AllocError` if memory runs out; part of the string may have been added by then.
 pub fn put_quoted(out: &mut Vec<u8>, text: &str) -> Result<(), AllocError>
     ensures { OnOk result (out.new.items ≡ out.old.items ++ quoted text.now) }
 {
@@ -18,7 +18,7 @@ pub fn put_quoted(out: &mut Vec<u8>, text: &str) -> Result<(), AllocError>
     put_text(out, "\"")
 }
 
-/// Adds the bytes of a text, as they stand between quotes.
+/// Adds the bytes of a text, escaped as inside a JSON string.
 fn put_escaped(out: &mut Vec<u8>, bytes: &[u8]) -> Result<(), AllocError>
     ensures { OnOk result (out.new.items ≡ out.old.items ++ escaped bytes.now) }
 {
@@ -28,7 +28,7 @@ fn put_escaped(out: &mut Vec<u8>, bytes: &[u8]) -> Result<(), AllocError>
     Ok(())
 }
 
-/// Adds a byte of a text, as it stands between quotes.
+/// Adds one byte of a text, escaped as inside a JSON string.
 fn put_byte(out: &mut Vec<u8>, byte: u8) -> Result<(), AllocError>
     ensures { OnOk result (out.new.items ≡ out.old.items ++ escaped_byte byte) }
 {

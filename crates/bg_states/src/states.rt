@@ -12,11 +12,14 @@ use bg_match::{Record, Standing};
 use bg_text::put_text;
 use std::alloc::{AllocError, Global};
 
-/// Returns the state of a match as an object of JSON (docs/SERVING.md, "State"): where it stands after its entries,
-/// and the lines of the last of these. A player is told whose seat he has, and what he may do.
+/// Returns the state of a match as a JSON object (docs/SERVING.md, "State"): where the match stands
+/// after all entries of the record, and the lines of the last entries.
+///
+/// With a seat, the object also has the seat's letter in `you`, and the actions that its player may
+/// take now in `may`. Without one, `you` is empty and there is no `may`.
 ///
 /// # Errors
-/// AllocError where there is no memory for it.
+/// `AllocError` if memory runs out.
 pub fn state_text(alloc: Global, log: &Record, seat: Option<Player>) -> Result<Vec<u8>, AllocError>
     ensures { IfOk result (λ text. IsStateText log.now seat text.items) }
 {
@@ -30,7 +33,7 @@ pub fn state_text(alloc: Global, log: &Record, seat: Option<Player>) -> Result<V
     Ok(out)
 }
 
-/// Adds where a match stands.
+/// Adds where the match stands: game, score, cube, phase and checkers.
 #[tactic(auto, unfolding(crate::specs::StateTexts::standing_text))]
 fn put_standing(out: &mut Vec<u8>, standing: &Standing) -> Result<(), AllocError>
     ensures { OnOk result (out.new.items ≡ out.old.items ++ standing_text standing.now) }
@@ -42,7 +45,8 @@ fn put_standing(out: &mut Vec<u8>, standing: &Standing) -> Result<(), AllocError
     put_board(out, &standing.board())
 }
 
-/// Adds what the player of a seat is told; whoever has none is told so.
+/// Adds `you`, the letter of the seat, and `may`, what its player may do. Without a seat `you` is
+/// empty, and `may` is left out.
 fn put_seat(out: &mut Vec<u8>, standing: &Standing, seat: Option<Player>) -> Result<(), AllocError>
     ensures { OnOk result (AddsSeat standing.now seat out.old.items out.new.items) }
 {

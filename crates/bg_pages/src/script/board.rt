@@ -19,7 +19,8 @@ function triangle(point) {
   return drawn('path', { class: kind, d: `M${x - 19} ${base}L${x + 19} ${base}L${x} ${tip}Z` });
 }
 
-// A pile of checkers that grows from a height up or down; where it has more than five a number says how many.
+// A pile of checkers that grows from a height up or down; where it has more than five a number says
+// how many.
 function pile(x, y, grows, count, player, marks) {
   const group = drawn('g', {}), shown = Math.min(count, 5);
   for (let index = 0; index < shown; index++) {

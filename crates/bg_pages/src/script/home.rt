@@ -2,7 +2,7 @@
 
 pub(crate) const TEXT: &str = r#"
 // ---- The page of all matches.
-const lists = { live: { page: 1, search: '' }, finished: { page: 1, search: '' } };
+const lists = { live: { page: 1, search: '' }, idle: { page: 1, search: '' }, finished: { page: 1, search: '' } };
 
 async function makeMatch(event) {
   event.preventDefault();
@@ -18,7 +18,9 @@ async function makeMatch(event) {
   fill(byId('made'), element('h2', {}, 'Your match is ready'),
     element('p', {}, 'Whoever has the link of a seat plays it. Keep one, and send the other to your opponent.'),
     row((wanted.x || 'X') + ' plays here', made.x), row((wanted.o || 'O') + ' plays here', made.o),
-    row('Others watch here', made.watch));
+    row('Others watch here', made.watch),
+    element('p', { class: 'none' }, 'The dice are made of a secret, which is told when the match is over. Its SHA‑256 is ',
+      element('code', {}, made.dice), ' ', copying(made.dice)));
   byId('made').querySelector('a').focus();
   refresh();
 }
@@ -49,6 +51,7 @@ async function refreshList(kind) {
     button('▶', () => turnPage(kind, 1, found.pages)),
   ];
   const place = byId(kind);
+  if (kind === 'idle') byId('idlers').hidden = !found.count;
   if (!found.count) return fill(place, element('p', { class: 'none' }, list.search ? 'Nothing found.' : 'None yet.'));
   fill(place, element('table', {}, element('thead', {}, head), element('tbody', {}, ...found.matches.map(matchRow))),
     element('p', { class: 'pages' }, ...pages), kind === 'finished' ? downloads(list.search, found) : null);
@@ -85,6 +88,7 @@ function turnPage(kind, by, pages) {
 
 function refresh() {
   refreshList('live');
+  refreshList('idle');
   refreshList('finished');
 }
 

@@ -1,8 +1,8 @@
 //! The part of the script that keeps a page in touch with the server.
 
 pub(crate) const TEXT: &str = r#"
-// ---- The socket: it comes back by itself. An action that was sent is sent again until it is answered; it has the
-// number of the entry that it is to become, so it acts once.
+// ---- The socket: it comes back by itself. An action that was sent is sent again until it is
+// answered; it has the number of the entry that it is to become, so it acts once.
 let socket = null, pause = 500, beat = null;
 
 const isPlayer = () => location.pathname === '/play';
@@ -50,6 +50,7 @@ function hearGreeting(message) {
   game.match = message.match;
   game.names = message.names;
   game.you = message.you;
+  game.dice = message.dice || '';
   netSays('live', 'here');
   drawLinks();
   sendOpen();
@@ -70,6 +71,7 @@ function hearAnswer(message) {
 function hearState(state) {
   const before = game.state, isNew = !before || before.number !== state.number;
   game.state = state;
+  if (state.winner && !(before && before.winner)) drawLinks();
   if (game.open && state.number >= game.open.number) game.open = null;
   if (isNew) {
     game.steps = [];
@@ -106,6 +108,21 @@ function drawLinks() {
     element('a', { href: base + '/transcript', download: game.match + '.txt' }, 'Transcript'), ' ',
     element('a', { href: base + '/mat', download: game.match + '.mat' }, 'Match file'), ' ',
     element('a', { href: base + '/picture' }, 'Picture'));
+  fill(byId('dice'), diceNote(base));
+}
+
+// What is told of the dice: the SHA-256 of the secret that they are made of, and the secret once
+// the match is over.
+function diceNote(base) {
+  const isOver = Boolean(game.state && game.state.winner);
+  if (!game.dice && !isOver) return null;
+  const before = element('p', {}, 'They are made of a secret, drawn before the first roll. Its SHA‑256 is ',
+    element('code', {}, game.dice), ' ', copying(game.dice));
+  const after = isOver
+    ? element('p', {}, element('a', { href: base + '/dice', download: game.match + '-dice.txt' }, 'The secret'),
+      ' is told now: bg_relay dice checks each roll by it.')
+    : element('p', {}, 'The secret is told when the match is over. Then bg_relay dice checks each roll by it.');
+  return element('details', {}, element('summary', {}, 'Dice'), game.dice ? before : null, after);
 }
 
 function startMatch() {

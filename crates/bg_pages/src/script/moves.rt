@@ -1,7 +1,8 @@
 //! The part of the script that finds the ways to play a throw.
 
 pub(crate) const TEXT: &str = r#"
-// ---- The ways to play a throw, by the rules of the game. The server judges what is sent: these only help.
+// ---- The ways to play a throw, by the rules of the game. The server judges what is sent: these
+// only help.
 
 function afterStep(position, step) {
   const mine = position.mine.slice(), theirs = position.theirs.slice();
@@ -33,8 +34,8 @@ function stepsBy(position, pips) {
   return found;
 }
 
-// All ways to play a throw: as many dice as can be, and where one alone can, the larger if possible. A turn that bears
-// off the last checker is whole in any case.
+// All ways to play a throw: as many dice as can be, and where one alone can, the larger if
+// possible. A turn that bears off the last checker is whole in any case.
 function waysOf(position, dice) {
   const ways = [], seen = new Set();
   let most = 0;
@@ -67,7 +68,8 @@ function waysBehind(ways, steps) {
   return ways.filter(way => steps.every((step, index) => way.steps[index] && sameStep(step, way.steps[index])));
 }
 
-// Where the checker of a point may go, and by which steps: by one, or by more that follow each other.
+// Where the checker of a point may go, and by which steps: by one, or by more that follow each
+// other.
 function targetsFrom(ways, steps, from) {
   const targets = new Map();
   for (const way of waysBehind(ways, steps)) {

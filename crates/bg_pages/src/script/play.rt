@@ -1,9 +1,10 @@
 //! The part of the script that shows a match, and lets a player play.
 
 pub(crate) const TEXT: &str = r#"
-// ---- A match: what the server told of it, what is shown, and the steps that the player has made of his turn.
+// ---- A match: what the server told of it, what is shown, and the steps that the player has made
+// of his turn.
 const game = {
-  match: '', names: ['', ''], you: '', here: [false, false, 0],
+  match: '', names: ['', ''], you: '', dice: '', here: [false, false, 0],
   state: null, earlier: null, lines: [], steps: [], from: null, ways: [], open: null, secret: '', isMine: false,
   wanted: NaN, asked: 0,
 };
@@ -16,7 +17,8 @@ const isLive = () => game.earlier === null;
 const isMyMove = () => isLive() && game.state && game.state.may && game.state.may.includes('move');
 const mayMove = () => isMyMove() && !game.open;
 
-// The points where the checkers of the last move have come to stand, in the numbers of the side from which one looks.
+// The points where the checkers of the last move have come to stand, in the numbers of the side
+// from which one looks.
 function lastPoints(state) {
   const line = state.last[state.last.length - 1] || '', moved = / move /.test(line) ? line : state.last[state.last.length - 2] || '';
   if (!/ move /.test(moved) || (line !== moved && !/ roll |pass/.test(line))) return [];
@@ -132,7 +134,7 @@ function draw() {
   dragging(picture);
   fill(byId('away'), ...playerLine(state, other(side)));
   fill(byId('home'), ...playerLine(state, side));
-  byId('phase').textContent = phaseWords(state) + (state.crawford ? ' · Crawford game' : '');
+  byId('phase').textContent = phaseWords(state) + (state.crawford && !state.winner ? ' · Crawford game' : '');
   byId('title').textContent = `${nameOf('X')} – ${nameOf('O')}, to ${state.length} point${state.length > 1 ? 's' : ''}, game ${state.game}`;
   fill(byId('acts'), ...(isLive() && game.you ? actionButtons(game.state) : []));
   if (game.open) byId('acts').querySelectorAll('button').forEach(made => { made.disabled = true; });

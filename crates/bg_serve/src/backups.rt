@@ -1,0 +1,116 @@
+//! Copies of matches: whole ones, also of a match that is played meanwhile.
+
+use bg_console::path_in;
+use bg_processes::{MatchFile, read_saved};
+use bg_wire::{REFEREE, SEAT_OF_O, SEAT_OF_X, restore};
+use std::fs::{DirBuilder, File, OpenOptions};
+use std::io::{ErrorKind, Write};
+use std::os::unix::fs::{DirBuilderExt, OpenOptionsExt};
+use std::rt::Files;
+use std::{fs, io};
+
+/// A folder, and a file, for their owner alone.
+const FOLDER: u32 = 0o700;
+
+const FILE: u32 = 0o600;
+
+/// So often a match is copied until its copy is whole.
+const MOST_COPIES: u32 = 100;
+
+/// The slots of each party that saves.
+const SLOTS: [(u8, &str, &str); 3] = [
+    (REFEREE, "party-0.0", "party-0.1"),
+    (SEAT_OF_X, "party-1.0", "party-1.1"),
+    (SEAT_OF_O, "party-2.0", "party-2.1"),
+];
+
+/// Copies the folder of a match into a new one. The match may go on meanwhile: then it is copied
+/// until the copy can be restored.
+///
+/// # Errors
+/// Why it could not be copied; `Interrupted` where no copy was whole.
+pub(crate) fn copy_match(rt: &HostRuntime, from: &str, to: &str) -> io::Result<()> {
+    DirBuilder::new().mode(FOLDER).create(rt, to)?;
+    for _ in 0..MOST_COPIES {
+        copy_files(rt, from, to)?;
+        if is_whole(rt, to)? {
+            return File::open(rt, to)?.sync_all();
+        }
+    }
+    Err(io::Error::from(ErrorKind::Interrupted))
+}
+
+/// Copies the files of a folder, the slots of seats before those of the referee: so the copy of the
+/// referee has whatever that of a seat has.
+fn copy_files(rt: &HostRuntime, from: &str, to: &str) -> io::Result<()> {
+    let mut names = Vec::new(rt.alloc());
+    for entry in fs::read_dir(rt, from)? {
+        names.push(String::from_str(rt.alloc(), entry?.file_name())?)?;
+    }
+    names.sort()?;
+    for name in names.iter().rev() {
+        if !name.as_str().ends_with(".new") {
+            copy_file(rt, from, to, name.as_str())?;
+        }
+    }
+    Ok(())
+}
+
+/// Copies a file.
+fn copy_file(
+    rt: &(impl Files<File = File> + AllocGlobal),
+    from: &str,
+    to: &str,
+    name: &str,
+) -> io::Result<()> {
+    let bytes = fs::read(rt, path_in(rt.alloc(), from, name)?.as_str())?;
+    let path = path_in(rt.alloc(), to, name)?;
+    let mut file = OpenOptions::new()
+        .write(true)
+        .create(true)
+        .truncate(true)
+        .mode(FILE)
+        .open(rt, path.as_str())?;
+    file.write_all(&bytes)?;
+    file.sync_all()
+}
+
+/// Returns whether the saves in a folder can be restored, and no seat has more entries than the
+/// referee.
+fn is_whole(rt: &(impl Files<File = File> + AllocGlobal), folder: &str) -> io::Result<bool> {
+    let path = path_in(rt.alloc(), folder, "match")?;
+    let Some(file) = MatchFile::read(rt, path.as_str())? else {
+        return Ok(false);
+    };
+    let mut most = u32::MAX;
+    for (party, zero, one) in SLOTS {
+        match entries_of(rt, folder, &file, party, zero, one)? {
+            Some(entries) if entries <= most => most = if party == REFEREE {
+                entries
+            } else {
+                most
+            },
+            _ => return Ok(false),
+        }
+    }
+    Ok(true)
+}
+
+/// Returns how many entries a party has saved; None where its saves can't be restored.
+fn entries_of(
+    rt: &(impl Files<File = File> + AllocGlobal),
+    folder: &str,
+    file: &MatchFile,
+    party: u8,
+    zero: &str,
+    one: &str,
+) -> io::Result<Option<u32>> {
+    let zero = read_saved(rt, path_in(rt.alloc(), folder, zero)?.as_str())?;
+    let one = read_saved(rt, path_in(rt.alloc(), folder, one)?.as_str())?;
+    let (length, rules) = (file.terms.length, file.terms.rules);
+    match restore(rt.alloc(), &zero, &one, party, file.id, length, rules) {
+        Ok(Some(saved)) => Ok(Some(saved.log.len())),
+        Ok(None) => Ok(Some(0)),
+        Err(_) => Ok(None),
+    }
+}

@@ -1,0 +1,76 @@
+//! How a match is made in a folder of its own.
+
+use crate::folders::{FolderStore, Kept};
+use crate::seat_files::{random_digits, write_seats};
+use bg_console::path_in;
+use bg_dice::{digest_of, write_digest};
+use bg_match::Terms;
+use bg_processes::{MatchFile, NamedMatch, Names, make_secret, read_secret};
+use bg_site::{Found, Made, Seats};
+use std::fs::{DirBuilder, File};
+use std::io;
+use std::os::unix::fs::DirBuilderExt;
+use std::random::RandomSource;
+
+/// No match of the server has sockets of its own. A match file wants a port nevertheless.
+const PORT: u16 = 1024;
+
+/// A folder that only its owner reads, writes and enters.
+const OWNER_ALONE: u32 = 0o700;
+
+impl<'a> FolderStore<'a> {
+    /// Makes a match, with secrets of its seats.
+    ///
+    /// # Errors
+    /// Why it could not be made.
+    pub(crate) fn try_make(&self, terms: Terms, names: Names) -> io::Result<Made<Kept<'a>>> {
+        let (x, o) = (random_digits(self.rt, 16)?, random_digits(self.rt, 16)?);
+        let found = self.make_found(x.as_str(), o.as_str(), terms, names)?;
+        Ok(Made { found, x, o })
+    }
+
+    /// Makes a match whose seats have these secrets.
+    fn make_found(
+        &self,
+        x: &str,
+        o: &str,
+        terms: Terms,
+        names: Names,
+    ) -> io::Result<Found<Kept<'a>>> {
+        let name = random_digits(self.rt, 6)?;
+        let path = path_in(self.rt.alloc(), self.folder, name.as_str())?;
+        let seats = self.make_folder(path.as_str(), x, o)?;
+        let file = NamedMatch {
+            table: MatchFile {
+                id: self.random_id()?,
+                terms,
+                port: PORT,
+            },
+            names,
+        };
+        self.write_match(path.as_str(), &file)?;
+        self.found(name.as_str(), path.as_str(), file, Some(seats))
+    }
+
+    /// Makes the folder of a match, with the secret of its dice, its SHA-256, and the digests of
+    /// its seats.
+    fn make_folder(&self, path: &str, x: &str, o: &str) -> io::Result<Seats> {
+        DirBuilder::new().mode(OWNER_ALONE).create(self.rt, path)?;
+        make_secret(self.rt, path)?;
+        write_digest(self.rt, path, &digest_of(&read_secret(self.rt, path)?))?;
+        write_seats(self.rt, path, x, o)
+    }
+
+    /// Writes the match file. It comes last, as a folder without one is no match.
+    fn write_match(&self, path: &str, file: &NamedMatch) -> io::Result<()> {
+        file.write(self.rt, path)?;
+        File::open(self.rt, self.folder)?.sync_all()
+    }
+
+    /// Returns a random number for a match.
+    fn random_id(&self) -> io::Result<u64> {
+        let mut id = [0; 8];
+        self.rt.fill_bytes(&mut id)?;
+        Ok(u64::from_be_bytes(id))
+    }
+}

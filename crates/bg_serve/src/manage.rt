@@ -1,0 +1,188 @@
+//! The command by which an operator changes the matches in a folder, also while they are served.
+
+use crate::tables::Tables;
+use bg_board::Player;
+use bg_console::{check_folder, failed_at, failed_for, say, written, wrong};
+use bg_options::{ManageOptions, Management};
+use bg_processes::{FolderLock, Printable};
+use bg_reports::Ending;
+use std::fs::TryLockError;
+use std::io;
+use std::io::ErrorKind;
+
+/// What is said where there is nothing to do, or more than one thing.
+const NOTHING: &str =
+    "give one of --hide, --show, --delete, --forget-names, --new-link, --backup and --restore";
+
+/// Does what an operator wants with a match in a folder, or with all of them.
+pub fn run(rt: &HostRuntime, options: ManageOptions<'_>) -> Result<Ending, Ending> {
+    let ManageOptions {
+        folder,
+        name,
+        wanted,
+    } = options;
+    let Some(wanted) = wanted else {
+        return Err(wrong(rt, NOTHING));
+    };
+    check_folder(rt, folder, " is no folder: name the one that `serve` has")?;
+    let lock = lock_unless_served(rt, folder)?;
+    let tables = Tables {
+        rt,
+        folder,
+        is_served: lock.is_none(),
+    };
+    match (wanted, name) {
+        (Management::Backup(out), None) => back_up(rt, tables, out),
+        (Management::Backup(_), Some(_)) => {
+            Err(wrong(rt, "--backup copies all matches: leave out --match"))
+        }
+        (Management::Restore(from), Some(name)) => restore(rt, tables, from, name),
+        (Management::Restore(from), None) => restore_all(rt, tables, from),
+        (_, Some(name)) => change(rt, tables, name, wanted),
+        (_, None) => Err(wrong(rt, "name the match: --match NAME")),
+    }
+}
+
+/// Locks the folder; returns None where a server runs over it.
+fn lock_unless_served(rt: &HostRuntime, folder: &str) -> Result<Option<FolderLock>, Ending> {
+    match FolderLock::take(rt, folder) {
+        Ok(lock) => Ok(Some(lock)),
+        Err(TryLockError::WouldBlock) => Ok(None),
+        Err(TryLockError::Error(error)) => {
+            Err(failed_at(rt, folder, " could not be locked", &error))
+        }
+    }
+}
+
+/// Changes a match.
+fn change(
+    rt: &HostRuntime,
+    tables: Tables<'_>,
+    name: &str,
+    wanted: Management<'_>,
+) -> Result<Ending, Ending> {
+    let path = match tables.path_of(name) {
+        Ok(Some(path)) => path,
+        Ok(None) => return Err(no_match(rt, tables.folder, name)),
+        Err(error) => return Err(failed_for(rt, "the match can't be read", &error)),
+    };
+    let path = path.as_str();
+    let secret = match changed(tables, path, wanted) {
+        Ok(secret) => secret,
+        Err(error) => return Err(failed_at(rt, path, " could not be changed", &error)),
+    };
+    tell_server(rt, tables, name)?;
+    match (wanted, secret) {
+        (Management::NewLink(player), Some(secret)) => {
+            let letter = if player == Player::X { "X" } else { "O" };
+            let link = secret.as_str();
+            written(rt, println!(rt; "{letter} plays at /play#{link}"))?;
+            Ok(Ending::Served)
+        }
+        (Management::NewLink(_), None) => Err(wrong(
+            rt,
+            "nobody can play it here: `new` has made it, and it has no links",
+        )),
+        _ => Ok(Ending::Served),
+    }
+}
+
+/// Does what is wanted with the folder of a match. Returns the secret of a seat, if it has a new
+/// one.
+fn changed(tables: Tables<'_>, path: &str, wanted: Management<'_>) -> io::Result<Option<String>> {
+    match wanted {
+        Management::NewLink(player) => return tables.renew(path, player),
+        Management::Hide => tables.set_hidden(path, true)?,
+        Management::Show => tables.set_hidden(path, false)?,
+        Management::Delete => tables.delete(path)?,
+        Management::ForgetNames => tables.forget_names(path)?,
+        Management::Backup(_) | Management::Restore(_) => {}
+    }
+    Ok(None)
+}
+
+/// Reports that a folder has no match of a name.
+fn no_match(rt: &HostRuntime, folder: &str, name: &str) -> Ending {
+    let (name, folder) = (Printable(name), Printable(folder));
+    wrong(rt, format_args!("{folder} has no match {name}"))
+}
+
+/// Tells the server that a match was changed, if one runs.
+fn tell_server(rt: &HostRuntime, tables: Tables<'_>, name: &str) -> Result<(), Ending> {
+    match tables.tell(name) {
+        Ok(true) => Ok(()),
+        Ok(false) => {
+            say(
+                rt,
+                "it is changed, but the server has not answered within 5 seconds: it takes that in when it goes on, or is started again",
+            );
+            Ok(())
+        }
+        Err(error) => Err(failed_for(rt, "the server could not be told", &error)),
+    }
+}
+
+/// Copies all matches.
+fn back_up(rt: &HostRuntime, tables: Tables<'_>, out: &str) -> Result<Ending, Ending> {
+    match tables.back_up(out) {
+        Ok(count) => {
+            written(rt, println!(rt; "matches copied: {count}"))?;
+            Ok(Ending::Served)
+        }
+        Err(error) if error.kind() == ErrorKind::AlreadyExists => {
+            let shown = Printable(out);
+            Err(wrong(
+                rt,
+                format_args!("{shown} is there already: name a new folder"),
+            ))
+        }
+        Err(error) => Err(failed_at(rt, out, " has no whole copy: name a new folder", &error)),
+    }
+}
+
+/// Copies a match back.
+fn restore(rt: &HostRuntime, tables: Tables<'_>, from: &str, name: &str) -> Result<Ending, Ending> {
+    match tables.is_kept_in(from, name) {
+        Ok(true) => {}
+        Ok(false) => return Err(no_match(rt, from, name)),
+        Err(error) => return Err(failed_at(rt, from, " could not be read", &error)),
+    }
+    match tables.put_back(from, name) {
+        Ok(true) => {
+            tell_server(rt, tables, name)?;
+            written(rt, println!(rt; "restored: {}", Printable(name)))?;
+            Ok(Ending::Served)
+        }
+        Ok(false) => {
+            let shown = Printable(name);
+            Err(wrong(
+                rt,
+                format_args!("{shown} is there: delete it first, if the copy is to take its place"),
+            ))
+        }
+        Err(error) => Err(failed_at(rt, name, " could not be restored", &error)),
+    }
+}
+
+/// Copies all matches back that are not there any more.
+fn restore_all(rt: &HostRuntime, tables: Tables<'_>, from: &str) -> Result<Ending, Ending> {
+    let names = match tables.names_in(from) {
+        Ok(names) => names,
+        Err(error) => return Err(failed_at(rt, from, " could not be read", &error)),
+    };
+    let mut count = 0u64;
+    for name in names.iter() {
+        match tables.put_back(from, name.as_str()) {
+            Ok(true) => {
+                tell_server(rt, tables, name.as_str())?;
+                count = count.saturating_add(1);
+            }
+            Ok(false) => {}
+            Err(error) => {
+                return Err(failed_at(rt, name.as_str(), " could not be restored", &error));
+            }
+        }
+    }
+    written(rt, println!(rt; "matches restored: {count}"))?;
+    Ok(Ending::Served)
+}

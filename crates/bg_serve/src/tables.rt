@@ -1,0 +1,151 @@
+//! What an operator does with the matches in a folder, whether a server runs over it or not.
+
+use crate::backups::copy_match;
+use crate::changes::tell_change;
+use crate::marks::{hide, show};
+use crate::seat_files::{random_digits, read_seats, replace_seat};
+use bg_board::Player;
+use bg_console::path_in;
+use bg_processes::{NamedMatch, Names};
+use bg_requests::is_name;
+use std::fs::{DirBuilder, File};
+use std::io::ErrorKind;
+use std::os::unix::fs::DirBuilderExt;
+use std::{fs, io};
+
+/// A folder for its owner alone.
+const OWNER_ALONE: u32 = 0o700;
+
+/// The folder of all matches.
+#[derive(Clone, Copy)]
+pub(crate) struct Tables<'a> {
+    pub(crate) rt: &'a HostRuntime,
+    pub(crate) folder: &'a str,
+    /// Whether a server runs over it.
+    pub(crate) is_served: bool,
+}
+
+impl<'a> Tables<'a> {
+    /// Returns the path of the folder of a match; None where there is no match of this name.
+    pub(crate) fn path_of(&self, name: &str) -> io::Result<Option<String>> {
+        if !is_name(name) {
+            return Ok(None);
+        }
+        let path = path_in(self.rt.alloc(), self.folder, name)?;
+        Ok(if has_match(self.rt, path.as_str())? {
+            Some(path)
+        } else {
+            None
+        })
+    }
+
+    /// Tells the server that a match was changed, if one runs. Returns false where it has not taken
+    /// that in.
+    pub(crate) fn tell(&self, name: &str) -> io::Result<bool> {
+        if self.is_served {
+            tell_change(self.rt, self.folder, name)
+        } else {
+            Ok(true)
+        }
+    }
+
+    /// Has lists leave a match out, or show it again.
+    pub(crate) fn set_hidden(&self, path: &str, is_hidden: bool) -> io::Result<()> {
+        if is_hidden {
+            hide(self.rt, path)
+        } else {
+            show(self.rt, path)
+        }
+    }
+
+    /// Takes the names of the players out of a match.
+    pub(crate) fn forget_names(&self, path: &str) -> io::Result<()> {
+        let file = path_in(self.rt.alloc(), path, "match")?;
+        match NamedMatch::read(self.rt, file.as_str())? {
+            Some(NamedMatch { table, .. }) => {
+                let names = Names::none();
+                NamedMatch { table, names }.write(self.rt, path)
+            }
+            None => Err(io::Error::from(ErrorKind::InvalidData)),
+        }
+    }
+
+    /// Gives a player's seat another secret, and returns it. Returns None where nobody may play the
+    /// match here.
+    pub(crate) fn renew(&self, path: &str, player: Player) -> io::Result<Option<String>> {
+        let Some(seats) = read_seats(self.rt, path)? else {
+            return Ok(None);
+        };
+        let secret = random_digits(self.rt, 16)?;
+        replace_seat(self.rt, path, seats, player, secret.as_str())?;
+        Ok(Some(secret))
+    }
+
+    /// Deletes a match. First it is given a name that no match has, so that nothing is left of it
+    /// where a kill comes.
+    pub(crate) fn delete(&self, path: &str) -> io::Result<()> {
+        let gone = format!(in self.rt.alloc(); "{path}.deleted")?;
+        fs::rename(self.rt, path, gone.as_str())?;
+        fs::remove_dir_all(self.rt, gone.as_str())
+    }
+
+    /// Copies all matches into a new folder, has that written through, and returns how many there
+    /// are.
+    pub(crate) fn back_up(&self, out: &str) -> io::Result<u64> {
+        DirBuilder::new().mode(OWNER_ALONE).create(self.rt, out)?;
+        let mut count = 0u64;
+        for name in self.names_in(self.folder)? {
+            let from = path_in(self.rt.alloc(), self.folder, name.as_str())?;
+            let to = path_in(self.rt.alloc(), out, name.as_str())?;
+            copy_match(self.rt, from.as_str(), to.as_str())?;
+            count = count.saturating_add(1);
+        }
+        File::open(self.rt, out)?.sync_all()?;
+        Ok(count)
+    }
+
+    /// Returns whether a folder has a match of this name.
+    pub(crate) fn is_kept_in(&self, folder: &str, name: &str) -> io::Result<bool> {
+        let path = path_in(self.rt.alloc(), folder, name)?;
+        Ok(is_name(name) && has_match(self.rt, path.as_str())?)
+    }
+
+    /// Copies a match back that is not there any more, and has that written through. Returns false,
+    /// and copies nothing, where it is there still.
+    pub(crate) fn put_back(&self, from: &str, name: &str) -> io::Result<bool> {
+        let to = path_in(self.rt.alloc(), self.folder, name)?;
+        if fs::symlink_metadata(self.rt, to.as_str()).is_ok() {
+            return Ok(false);
+        }
+        let beside = format!(in self.rt.alloc(); "{}.restored", to.as_str())?;
+        // What a kill has left of an earlier copy is removed first.
+        let _ = fs::remove_dir_all(self.rt, beside.as_str());
+        let from = path_in(self.rt.alloc(), from, name)?;
+        if let Err(error) = copy_match(self.rt, from.as_str(), beside.as_str()) {
+            let _ = fs::remove_dir_all(self.rt, beside.as_str());
+            return Err(error);
+        }
+        fs::rename(self.rt, beside.as_str(), to.as_str())?;
+        File::open(self.rt, self.folder)?.sync_all()?;
+        Ok(true)
+    }
+
+    /// Returns the names of the matches in a folder.
+    pub(crate) fn names_in(&self, folder: &str) -> io::Result<Vec<String>> {
+        let mut names = Vec::new(self.rt.alloc());
+        for entry in fs::read_dir(self.rt, folder)? {
+            let name = String::from_str(self.rt.alloc(), entry?.file_name())?;
+            if self.is_kept_in(folder, name.as_str())? {
+                names.push(name)?;
+            }
+        }
+        names.sort()?;
+        Ok(names)
+    }
+}
+
+/// Returns whether a folder has a match file.
+fn has_match(rt: &HostRuntime, path: &str) -> io::Result<bool> {
+    let file = path_in(rt.alloc(), path, "match")?;
+    Ok(fs::metadata(rt, file.as_str()).is_ok())
+}

@@ -1,0 +1,56 @@
+//! Who looks at a match.
+
+use bg_board::Player;
+
+/// How many peers look at a match.
+#[derive(Clone, Copy, Debug, PartialEq, Eq)]
+pub(crate) struct Presence {
+    pub(crate) x: u32,
+    pub(crate) o: u32,
+    pub(crate) watching: u32,
+}
+
+impl Presence {
+    /// Nobody.
+    pub(crate) const NOBODY: Presence = Presence {
+        x: 0,
+        o: 0,
+        watching: 0,
+    };
+
+    /// Returns the presence after one more has come who has this seat, or none.
+    pub(crate) fn come(self, seat: Option<Player>) -> Presence {
+        match seat {
+            None => Presence {
+                watching: self.watching.saturating_add(1),
+                ..self
+            },
+            Some(Player::X) => Presence {
+                x: self.x.saturating_add(1),
+                ..self
+            },
+            Some(Player::O) => Presence {
+                o: self.o.saturating_add(1),
+                ..self
+            },
+        }
+    }
+
+    /// Returns the presence after one has left who had this seat, or none.
+    pub(crate) fn leave(self, seat: Option<Player>) -> Presence {
+        match seat {
+            None => Presence {
+                watching: self.watching.saturating_sub(1),
+                ..self
+            },
+            Some(Player::X) => Presence {
+                x: self.x.saturating_sub(1),
+                ..self
+            },
+            Some(Player::O) => Presence {
+                o: self.o.saturating_sub(1),
+                ..self
+            },
+        }
+    }
+}

@@ -1,0 +1,39 @@
+//! For how long nobody has acted in a match.
+
+/// The minute of the last action, as the host counts minutes, and how many had gone by then.
+#[derive(Clone, Copy, Debug, PartialEq, Eq)]
+pub(crate) struct Quiet {
+    since: u64,
+    before: u64,
+}
+
+impl Quiet {
+    /// Returns the quiet where nobody has acted for `before` minutes in the minute `now`.
+    pub(crate) fn for_minutes(before: u64, now: u64) -> Quiet {
+        Quiet { since: now, before }
+    }
+
+    /// Returns the quiet where somebody acts in this minute.
+    pub(crate) fn broken(now: u64) -> Quiet {
+        Quiet::for_minutes(0, now)
+    }
+
+    /// Returns for how many minutes nobody has acted.
+    pub(crate) fn minutes(self, now: u64) -> u64 {
+        now.saturating_sub(self.since).saturating_add(self.before)
+    }
+}
+
+/// The minute, and after how many minutes without an action a match is listed apart; 0 for never.
+#[derive(Clone, Copy, Debug, PartialEq, Eq)]
+pub(crate) struct Patience {
+    pub(crate) now: u64,
+    pub(crate) idle: u64,
+}
+
+impl Patience {
+    /// Returns whether nobody has acted for so long that the match is listed apart.
+    pub(crate) fn is_over(self, quiet: Quiet) -> bool {
+        self.idle > 0 && quiet.minutes(self.now) >= self.idle
+    }
+}
