@@ -18,10 +18,13 @@ void make_room(struct text *text) {
 }
 
 void must(bg_status status, const char *call) {
-    char why[256] = {0};
-    size_t needed = 0;
     if (status != BG_OK) {
-        bg_status_text(status, (uint8_t *)why, sizeof why - 1, &needed);
-        stop(call, why);
+        stop(call, bg_status_name(status));
     }
+}
+
+uint32_t entries_of(const bg_party *party) {
+    uint32_t entries = 0;
+    must(bg_party_entries(party, &entries), "bg_party_entries");
+    return entries;
 }

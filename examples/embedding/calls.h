@@ -20,4 +20,7 @@ void stop(const char *call, const char *why);
 /* Ends the program where a call answers anything but BG_OK. */
 void must(bg_status status, const char *call);
 
+/* How many entries a party has. */
+uint32_t entries_of(const bg_party *party);
+
 #endif

@@ -2,18 +2,19 @@
 """Judges a transcript through the shared library, as `bg_relay judge` does: prints the board and the verdict, and ends
 with status 0 where it is fine and 2 where it is refused. With --turns it lists the legal turns after it.
 
-    ./judge.py OUT/libbg_relay.so.1 TRANSCRIPT [--turns]
+    ./judge.py OUT/libbg_relay.so.2 TRANSCRIPT [--turns]
 """
 import ctypes
 import sys
 
 OK, NO_ROOM = 0, 1
+ABI, VERSION = 2, 200
 
 
 class Verdict(ctypes.Structure):
     """bg_verdict."""
 
-    _fields_ = [("kind", ctypes.c_uint32), ("number", ctypes.c_uint32)]
+    _fields_ = [("kind", ctypes.c_uint32), ("number", ctypes.c_uint32), ("reserved", ctypes.c_uint32 * 2)]
 
 
 class Refused(Exception):
@@ -27,10 +28,13 @@ class Library:
         text_in, text_out = [ctypes.c_char_p, ctypes.c_size_t], [ctypes.c_char_p, ctypes.c_size_t]
         needed = [ctypes.POINTER(ctypes.c_size_t)]
         self.calls = ctypes.CDLL(path)
-        self.calls.bg_status_text.argtypes = [ctypes.c_uint32, *text_out, *needed]
+        if self.calls.bg_abi() != ABI or self.calls.bg_version() < VERSION:
+            raise Refused(f"{path} is another version of the library")
+        self.calls.bg_status_name.argtypes = [ctypes.c_uint32]
+        self.calls.bg_status_name.restype = ctypes.c_char_p
         self.calls.bg_judge.argtypes = [*text_in, ctypes.POINTER(Verdict), *text_out, *needed]
         self.calls.bg_transcript_turns.argtypes = [*text_in, *text_out, *needed]
-        for call in (self.calls.bg_status_text, self.calls.bg_judge, self.calls.bg_transcript_turns):
+        for call in (self.calls.bg_judge, self.calls.bg_transcript_turns):
             call.restype = ctypes.c_uint32
 
     def text(self, call, *arguments):
@@ -42,7 +46,7 @@ class Library:
             out = ctypes.create_string_buffer(room)
             status = call(*arguments, out, room, ctypes.byref(needed))
         if status != OK:
-            raise Refused(self.text(self.calls.bg_status_text, status).decode())
+            raise Refused(self.calls.bg_status_name(status).decode())
         return out.raw[: needed.value]
 
     def judge(self, transcript):

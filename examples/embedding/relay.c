@@ -17,8 +17,8 @@ enum { REFEREE = 0, SEAT_OF_X = 1, SEAT_OF_O = 2, PARTIES = 3, NOBODY = 3 };
 
 struct table {
     bg_party parties[PARTIES];
-    uint8_t length;
-    uint8_t rules;
+    uint32_t length;
+    uint32_t rules;
     const char *folder;
     uint64_t random;
     struct text text;
@@ -38,14 +38,41 @@ static int happens(struct table *table, uint32_t one_in) {
     return next_word(table) % one_in == 0;
 }
 
-/* Opens a party as its slots restore it. What it was before is let go. */
+static void begin_party(struct table *table, unsigned number, const struct slot_text *zero,
+                        const struct slot_text *one) {
+    must(bg_party_begin(&table->parties[number], number, MATCH, table->length, table->rules,
+                        zero->bytes, zero->length, one->bytes, one->length), "bg_party_begin");
+}
+
+/* Goes on with what the slots have. A first save that was cut short is none: nothing was told of what it had, so the
+ * party begins as if its slots were empty. */
+static void resume_party(struct table *table, unsigned number, const struct slot_text *zero,
+                         const struct slot_text *one) {
+    const struct slot_text empty = {0};
+    bg_saved saved = {0};
+    bg_status status = bg_party_resume(&table->parties[number], number, MATCH, table->length, table->rules,
+                                       zero->bytes, zero->length, one->bytes, one->length, &saved);
+    if (status == BG_NOTHING_SAVED) {
+        begin_party(table, number, &empty, &empty);
+        return;
+    }
+    must(status, "bg_party_resume");
+    if (saved.misplaced) {
+        stop("bg_party_resume", "a save was written to the wrong slot");
+    }
+}
+
+/* Opens a party: it begins where its slots are empty, and else goes on. What it was before is let go. */
 static void open_party(struct table *table, unsigned number) {
     struct slot_text zero, one;
     if (slot_read(table->folder, number, 0, &zero) || slot_read(table->folder, number, 1, &one)) {
         stop("slot_read", "a slot could not be read");
     }
-    must(bg_party_open(&table->parties[number], (uint8_t)number, MATCH, table->length, table->rules,
-                       zero.bytes, zero.length, one.bytes, one.length), "bg_party_open");
+    if (zero.length == 0 && one.length == 0) {
+        begin_party(table, number, &zero, &one);
+    } else {
+        resume_party(table, number, &zero, &one);
+    }
     free(zero.bytes);
     free(one.bytes);
 }
@@ -96,7 +123,7 @@ static bg_status choose(struct table *table, unsigned seat, const void *action, 
     return status;
 }
 
-/* One of the legal turns of the player to move, if he is. */
+/* Plays one of the legal turns, if the player is to move. */
 static bg_status choose_turn(struct table *table, unsigned seat) {
     struct text *text = &table->text;
     bg_status status;
@@ -119,7 +146,7 @@ static bg_status choose_turn(struct table *table, unsigned seat) {
     return choose(table, seat, line, (size_t)(feed - line));
 }
 
-/* What a player does, if he acts: he tries one thing behind the other. */
+/* Acts for a player whose turn it is: tries one action after the other. */
 static bg_status act(struct table *table, unsigned seat) {
     const char *const wishes[] = {
         happens(table, 256) ? "resign normal" : "roll",
@@ -207,9 +234,11 @@ static void judge(struct table *table, struct text *transcript) {
 /* How many entries each party holds, and how many of them the referee has saved. */
 static void print_counts(struct table *table) {
     for (unsigned number = 0; number < PARTIES; number++) {
-        printf("party %u: %u entries\n", number, (unsigned)bg_party_entries(&table->parties[number]));
+        printf("party %u: %u entries\n", number, (unsigned)entries_of(&table->parties[number]));
     }
-    printf("saved: %u entries\n", (unsigned)bg_party_saved(&table->parties[REFEREE]));
+    uint32_t saved = 0;
+    must(bg_party_saved(&table->parties[REFEREE], &saved), "bg_party_saved");
+    printf("saved: %u entries\n", (unsigned)saved);
 }
 
 static void write_transcript(const char *folder, const struct text *transcript) {
@@ -227,8 +256,8 @@ int main(int count, char **arguments) {
     }
     struct table table = {.random = 88172645463325252u, .folder = arguments[3]};
     struct text transcript = {0};
-    table.length = (uint8_t)atoi(arguments[1]);
-    table.rules = (uint8_t)atoi(arguments[2]);
+    table.length = (uint32_t)atoi(arguments[1]);
+    table.rules = (uint32_t)atoi(arguments[2]);
     for (unsigned number = 0; number < PARTIES; number++) {
         open_party(&table, number);
     }
@@ -237,7 +266,7 @@ int main(int count, char **arguments) {
     print_counts(&table);
     write_transcript(table.folder, &transcript);
     for (unsigned number = 0; number < PARTIES; number++) {
-        bg_party_close(&table.parties[number]);
+        must(bg_party_close(&table.parties[number]), "bg_party_close");
     }
     free(table.text.bytes);
     free(transcript.bytes);

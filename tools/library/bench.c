@@ -19,6 +19,7 @@ static const uint8_t WANT[] = "BG\2\1\0\0\0\0\0\0\0\1\1\3\0\0\0\0";
 struct sample {
     uint8_t *saved, *transcript;
     size_t saved_length, transcript_length;
+    uint32_t slot;
     bg_party party;
 };
 static struct sample sample;
@@ -74,6 +75,7 @@ static void keep(bg_party *referee) {
     sample.saved = malloc(needed);
     memcpy(sample.saved, out, needed);
     sample.saved_length = needed;
+    sample.slot = slot;
     must(bg_party_transcript(referee, out, sizeof out, &needed), "bg_party_transcript");
     sample.transcript = malloc(needed);
     memcpy(sample.transcript, out, needed);
@@ -83,15 +85,15 @@ static void keep(bg_party *referee) {
 /* Plays until the referee holds so many entries. */
 static void play(uint32_t entries) {
     bg_party parties[PARTIES] = {BG_PARTY_INIT, BG_PARTY_INIT, BG_PARTY_INIT};
-    for (uint8_t number = 0; number < PARTIES; number++) {
-        must(bg_party_open(&parties[number], number, 1, LENGTH, 1, NULL, 0, NULL, 0), "bg_party_open");
+    for (uint32_t number = 0; number < PARTIES; number++) {
+        must(bg_party_begin(&parties[number], number, 1, LENGTH, 1, NULL, 0, NULL, 0), "bg_party_begin");
     }
-    while (bg_party_entries(&parties[REFEREE]) < entries) {
+    while (entries_of(&parties[REFEREE]) < entries) {
         uint32_t number = 0;
         if (bg_referee_due(&parties[REFEREE], next_word(), &number) == BG_OK) {
             save(&parties[REFEREE]);
         }
-        for (int seat = 1; seat < PARTIES && bg_party_entries(&parties[REFEREE]) < entries; seat++) {
+        for (int seat = 1; seat < PARTIES && entries_of(&parties[REFEREE]) < entries; seat++) {
             act(&parties[seat]);
             carry(&parties[REFEREE], &parties[seat]);
         }
@@ -102,10 +104,19 @@ static void play(uint32_t entries) {
     }
 }
 
+/* The referee goes on with the saved text, which stands in the slot that it stood in before. */
+static void resume(bg_party *party) {
+    bg_saved saved = {0};
+    const uint8_t *zero = sample.slot == 0 ? sample.saved : NULL, *one = sample.slot == 1 ? sample.saved : NULL;
+    size_t length = sample.saved_length;
+    must(bg_party_resume(party, REFEREE, 1, LENGTH, 1, zero, zero ? length : 0, one, one ? length : 0, &saved),
+         "bg_party_resume");
+}
+
 /* What is timed. */
 static void open_and_close(void) {
     bg_party party = BG_PARTY_INIT;
-    must(bg_party_open(&party, REFEREE, 1, LENGTH, 1, sample.saved, sample.saved_length, NULL, 0), "bg_party_open");
+    resume(&party);
     bg_party_close(&party);
 }
 
@@ -127,7 +138,7 @@ static void tick(void) {
 }
 
 static void entries(void) {
-    if (bg_party_entries(&sample.party) == 0) {
+    if (entries_of(&sample.party) == 0) {
         stop("bg_party_entries", "it holds nothing");
     }
 }
@@ -143,7 +154,7 @@ static void request(void) {
     bg_party party = BG_PARTY_INIT;
     bg_outcome outcome = {0};
     bg_datagram answer = {0};
-    must(bg_party_open(&party, REFEREE, 1, LENGTH, 1, sample.saved, sample.saved_length, NULL, 0), "bg_party_open");
+    resume(&party);
     must(bg_party_take(&party, WANT, sizeof WANT - 1, 0, &outcome, &answer), "bg_party_take");
     save(&party);
     bg_party_close(&party);
@@ -153,13 +164,13 @@ static const struct timed {
     const char *name;
     void (*call)(void);
 } TIMED[] = {
-    {"bg_party_open, bg_party_close", open_and_close},
+    {"bg_party_resume, bg_party_close", open_and_close},
     {"bg_party_to_save", to_save},
     {"bg_party_take of a want", take_want},
     {"bg_party_tick", tick},
     {"bg_party_entries", entries},
     {"bg_judge", judge},
-    {"open, take, save, close", request},
+    {"resume, take, save, close", request},
 };
 enum { CALLS = sizeof TIMED / sizeof *TIMED };
 
@@ -203,7 +214,7 @@ int main(int count, char **arguments) {
             keep_file(arguments[1], "saved", ENTRIES[size], sample.saved, sample.saved_length);
             keep_file(arguments[1], "transcript", ENTRIES[size], sample.transcript, sample.transcript_length);
         }
-        must(bg_party_open(&sample.party, REFEREE, 1, LENGTH, 1, sample.saved, sample.saved_length, NULL, 0), "open");
+        resume(&sample.party);
         for (int call = 0; call < CALLS; call++) {
             times[call][size] = time_of(TIMED[call].call);
         }

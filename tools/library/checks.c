@@ -17,7 +17,7 @@ void check(int holds, const char *what) {
 
 void check_status(bg_status got, bg_status wanted, const char *what) {
     if (got != wanted) {
-        printf("status %" PRIu32 ", expected %" PRIu32 ": ", got, wanted);
+        printf("%s, expected %s: ", bg_status_name(got), bg_status_name(wanted));
     }
     check(got == wanted, what);
 }
@@ -35,6 +35,21 @@ void check_text(const uint8_t *got, size_t length, const char *wanted, const cha
         printf("'%.*s', expected '%s': ", (int)length, (const char *)got, wanted);
     }
     check(is_same, what);
+}
+
+uint32_t entries_of(const bg_party *party) {
+    uint32_t entries = 0;
+    return bg_party_entries(party, &entries) == BG_OK ? entries : UINT32_MAX;
+}
+
+uint32_t saved_of(const bg_party *party) {
+    uint32_t saved = 0;
+    return bg_party_saved(party, &saved) == BG_OK ? saved : UINT32_MAX;
+}
+
+uint32_t told_of(const bg_party *party) {
+    uint32_t told = 0;
+    return bg_party_told(party, &told) == BG_OK ? told : UINT32_MAX;
 }
 
 int checked(void) {

@@ -22,6 +22,7 @@ struct answers {
     bg_verdict verdict;
     bg_packet packet;
     bg_saved saved;
+    bg_peeked peeked;
     bg_outcome outcome;
     bg_datagram first, second;
 };
@@ -40,13 +41,13 @@ static struct run run;
 typedef bg_status (*step)(void);
 
 static bg_status open_referee(void) {
-    return bg_party_open(&run.referee, 0, 1, 1, 1, NULL, 0, NULL, 0);
+    return bg_party_begin(&run.referee, 0, 1, 1, 1, NULL, 0, NULL, 0);
 }
 static bg_status open_seat(void) {
-    return bg_party_open(&run.seat, 1, 1, 1, 1, NULL, 0, NULL, 0);
+    return bg_party_begin(&run.seat, 1, 1, 1, 1, NULL, 0, NULL, 0);
 }
 static bg_status open_watcher(void) {
-    return bg_party_open(&run.watcher, 3, 1, 1, 1, NULL, 0, NULL, 0);
+    return bg_party_begin(&run.watcher, 3, 1, 1, 1, NULL, 0, NULL, 0);
 }
 static bg_status due(void) {
     return bg_referee_due(&run.referee, THREE_ONE, &run.now.number);
@@ -96,11 +97,24 @@ static bg_status board(void) {
 static bg_status transcript(void) {
     return bg_party_transcript(&run.referee, run.now.out, ROOM, &run.now.needed);
 }
+static bg_status lines(void) {
+    return bg_party_entries_text(&run.watcher, 1, 2, run.now.out, ROOM, &run.now.needed);
+}
 static bg_status read_slots(void) {
-    return bg_slots_read(1, 1, 1, 1, run.saved_text, run.saved_length, NULL, 0, &run.now.saved);
+    return bg_slots_read(1, 1, 1, 1, NULL, 0, run.saved_text, run.saved_length, &run.now.saved);
 }
 static bg_status open_again(void) {
-    return bg_party_open(&run.seat, 1, 1, 1, 1, run.saved_text, run.saved_length, NULL, 0);
+    return bg_party_resume(&run.seat, 1, 1, 1, 1, NULL, 0, run.saved_text, run.saved_length, &run.now.saved);
+}
+static bg_status peek(void) {
+    return bg_saved_peek(run.saved_text, run.saved_length, &run.now.peeked);
+}
+static bg_status claim(void) {
+    return bg_party_claim(&run.seat, &run.now.number, run.now.out, ROOM, &run.now.needed);
+}
+static bg_status try_action(void) {
+    bg_status status = bg_party_try(&run.watcher, 1, BYTES("roll"), &run.now.number, &run.now.other);
+    return status == BG_NOT_YOUR_TURN ? BG_OK : status;
 }
 static bg_status judge(void) {
     return bg_judge(BYTES(TRANSCRIPT), &run.now.verdict, run.now.out, ROOM, &run.now.needed);
@@ -123,8 +137,9 @@ static bg_status status_text(void) {
 
 static const step STEPS[] = {
     open_referee, open_seat, open_watcher, due, save_referee, mark_referee, tick_seat, packet_read, referee_takes,
-    seat_takes, turns, choose, save_seat, mark_seat, read_slots, tick_seat, referee_takes, save_referee, mark_referee,
-    tick_watcher, referee_takes, watcher_takes, board, transcript, open_again, turns, judge, judge_without_room,
+    seat_takes, turns, choose, claim, try_action, save_seat, mark_seat, read_slots, peek, tick_seat, referee_takes,
+    save_referee, mark_referee,
+    tick_watcher, referee_takes, watcher_takes, board, transcript, lines, open_again, turns, judge, judge_without_room,
     transcript_board, transcript_turns, status_text,
 };
 enum { COUNT = sizeof STEPS / sizeof *STEPS };
@@ -150,7 +165,7 @@ static uint64_t held(void) {
     for (int at = 0; at < 3; at++) {
         size_t needed = 0;
         bg_party_transcript(parties[at], texts[at], ROOM - 8, &needed);
-        texts[at][ROOM - 1] = (uint8_t)bg_party_saved(parties[at]);
+        texts[at][ROOM - 1] = (uint8_t)saved_of(parties[at]);
     }
     counting_heap.is_paused = 0;
     return digest_of(texts, sizeof texts);

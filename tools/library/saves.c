@@ -17,8 +17,8 @@ struct save {
     size_t length;
 };
 
-static void open_fresh(bg_party *party, uint8_t number) {
-    check_status(bg_party_open(party, number, 1, 1, 1, NULL, 0, NULL, 0), BG_OK, "a fresh party");
+static void open_fresh(bg_party *party, uint32_t number) {
+    check_status(bg_party_begin(party, number, 1, 1, 1, NULL, 0, NULL, 0), BG_OK, "a fresh party");
 }
 
 static void begin(bg_party *party, struct save *save) {
@@ -81,16 +81,17 @@ static void check_accepted_between(const bg_datagram *claim, bg_party *seat) {
     opens_game(&referee);
     begin(&referee, &save);
     check_number(take(&referee, claim, &answer), BG_TOOK_ACCEPTED, "a claim is accepted");
-    check_number(bg_party_entries(&referee), 2, "the entries of the referee");
+    check_number(entries_of(&referee), 2, "the entries of the referee");
     check_status(bg_party_mark_saved(&referee, save.number), BG_WRONG_SAVE, "a save that an entry came in between of");
-    check_number(bg_party_saved(&referee), 0, "what is saved after it");
+    check_number(saved_of(&referee), 0, "what is saved after it");
+    check_number(told_of(&referee), 0, "what it may show then");
     check_number(take(&referee, claim, &answer), BG_TOOK_NOTHING, "a claim is not answered before it is saved");
     save_whole(&referee);
-    check_number(bg_party_saved(&referee), 2, "what is saved at last");
+    check_number(saved_of(&referee), 2, "what is saved at last");
     check_number(take(&referee, claim, &answer), BG_TOOK_ANSWERED, "a claim is answered once it is saved");
     check_number(answer.to, 1, "the answer goes to the seat");
     check_number(take(seat, &answer, &(bg_datagram){0}), BG_TOOK_GREW, "the seat learns");
-    check_number(bg_party_entries(seat), 2, "the entries of the seat");
+    check_number(entries_of(seat), 2, "the entries of the seat");
     bg_party_close(&referee);
 }
 
@@ -143,9 +144,12 @@ static void check_claim_between(bg_party *seat) {
     check_status(bg_seat_choose(seat, BYTES("roll"), &number, &why), BG_ALREADY_CLAIMED, "a second claim");
     check_number(why, 77, "which has no reason");
     begin(seat, &save);
-    bg_status status = bg_party_open(&other, 1, 1, 1, 1, NULL, 0, save.text, save.length);
+    bg_saved found = {0};
+    bg_status status = bg_party_resume(&other, 1, 1, 1, 1, save.text, save.length, NULL, 0, &found);
     check_status(status, BG_OK, "the seat opens as it was saved");
-    check_number(bg_party_entries(&other), 1, "with its entry");
+    check(found.save == save.number && found.slot == 0 && found.claim == 2, "by the save that it was handed");
+    check_number(found.misplaced, 0, "which stands in its slot");
+    check_number(entries_of(&other), 1, "with its entry");
     check_status(bg_seat_choose(&other, BYTES("roll"), &number, &why), BG_ALREADY_CLAIMED, "and with its claim");
     bg_party_close(&other);
 }

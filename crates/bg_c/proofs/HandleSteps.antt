@@ -1,4 +1,5 @@
--- The machine value of a handle: a pointer that may be null, and the allocator's handle. Assumes `Logic`.
+-- The machine value of a handle: a pointer that may be null, and the allocator's handle. Assumes
+-- `Logic`.
 use Rattle.std.proofs.Common.{◌≡◌, List, [], ◌∷◌, ◌++◌, refl, subst}
 use seplogic.Ra.Ura.{Ura}
 use mir.Syntax.{impl, tnil, dnil}

@@ -1,4 +1,5 @@
 mod Values
 mod HandleSteps
 mod StatusCodes
-mod Opened
+mod Fresh
+mod EntryLines

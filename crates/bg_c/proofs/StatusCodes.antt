@@ -11,7 +11,8 @@ all =
     status.Ok ∷ status.NoRoom ∷ status.Memory ∷ status.BadArgument ∷ status.NotOpen ∷
     status.WrongParty ∷ status.NotAPacket ∷ status.NotAnAction ∷ status.Damaged ∷ status.WrongMatch ∷
     status.WrongSave ∷ status.SavesSpent ∷ status.NotYourTurn ∷ status.AlreadyClaimed ∷ status.Illegal ∷
-    status.NotDue ∷ status.WordRefused ∷ status.NotToMove ∷ status.Refused ∷ []
+    status.NotDue ∷ status.WordRefused ∷ status.NotToMove ∷ status.Refused ∷ status.NotEmpty ∷
+    status.NothingSaved ∷ status.NotASave ∷ status.Busy ∷ status.Closed ∷ status.Copied ∷ []
 
 is_coded : (s : Status) → slice_get all (status_code s) ≡ Some s
 is_coded status.Ok = refl
@@ -33,6 +34,12 @@ is_coded status.NotDue = refl
 is_coded status.WordRefused = refl
 is_coded status.NotToMove = refl
 is_coded status.Refused = refl
+is_coded status.NotEmpty = refl
+is_coded status.NothingSaved = refl
+is_coded status.NotASave = refl
+is_coded status.Busy = refl
+is_coded status.Closed = refl
+is_coded status.Copied = refl
 
 pub same_status : (a b : Status) → status_code a ≡ status_code b → a ≡ b
 same_status a b same =

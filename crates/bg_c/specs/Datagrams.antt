@@ -15,10 +15,16 @@ padded size text = text ++ replicate (size - length text) 0
 
 -- the packet that goes to a party, or nothing, which goes to none
 abbrev pub datagram_of : Option (ℕ × Packet) → Datagram
-datagram_of None = record { to = 0; length = 0; bytes = replicate longest_datagram 0 }
+datagram_of None = record {
+  to = 0;
+  length = 0;
+  reserved = replicate 2 0;
+  bytes = replicate longest_datagram 0;
+}
 datagram_of (Some sent) = record {
   to = sent.0;
   length = length (packet_text sent.1);
+  reserved = replicate 2 0;
   bytes = padded longest_datagram (packet_text sent.1);
 }
 

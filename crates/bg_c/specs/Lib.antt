@@ -5,10 +5,17 @@ pub mod Sets
 pub mod Handle
 pub mod Outcomes
 pub mod Datagrams
+pub mod Terms
 pub mod Packets
+pub mod SavedTexts
+pub mod Slots
 pub mod Turns
 pub mod Openings
 pub mod PartyCalls
+pub mod EntryLines
 pub mod PartyTexts
+pub mod Claims
+pub mod Options
+pub mod Standings
 pub mod Verdicts
 pub mod Transcripts

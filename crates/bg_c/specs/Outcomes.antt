@@ -1,5 +1,5 @@
 -- What is told of a packet that a party took, of why an entry does not follow, and of who acts.
-use Rattle.std.specs.Prelude.{ℕ, ◌+◌, Option, Some, None}
+use Rattle.std.specs.Prelude.{ℕ, ◌+◌, Option, Some, None, replicate}
 use Rattle.bg_board.specs.declared.players.Player.TheVariants.{X, O}
 use Rattle.bg_turns.specs.declared.faults.TurnFault.{TurnFault}
 use Rattle.bg_turns.specs.declared.faults.TurnFault.TheVariants as turn
@@ -71,7 +71,7 @@ took_code took.Conflict = 10
 took_code took.Invalid = 11
 
 abbrev pub told : Took → ℕ → ℕ → Outcome
-told kind number why = record { kind = took_code kind; number = number; why = why }
+told kind number why = record { kind = took_code kind; number = number; why = why; reserved = replicate 5 0 }
 
 -- what is told of what the referee answers; nothing where there was no memory
 abbrev pub referee_outcome : TakeOutcome → Option Outcome

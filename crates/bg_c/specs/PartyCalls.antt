@@ -1,5 +1,6 @@
 -- What the calls of a party come to: its core, and the save that is under way.
-use Rattle.std.specs.Prelude.{◌≡◌, ℕ, List, Option, Some, None, Result, Ok, Err, is_ok, nat_le, length, if◌then◌else◌}
+use Rattle.std.specs.Prelude.{◌≡◌, ℕ, List, Option, Some, None, Result, Ok, Err, is_ok, nat_le, length, unwrap_or}
+use Rattle.std.specs.Prelude.{if◌then◌else◌}
 use Rattle.std.specs.Global.{Vec}
 use Rattle.bg_match.specs.Entry.{IsAction}
 use Rattle.bg_match.specs.Match.{StandsAt}
@@ -14,7 +15,7 @@ use Rattle.bg_referee.specs.declared.outcomes.DueFault.{DueFault}
 use Rattle.bg_party.specs.declared.outcomes.ChooseFault.{ChooseFault}
 use Rattle.bg_party.specs.declared.outcomes.ChooseFault.TheVariants.{Illegal}
 use Rattle.bg_parties.specs.Calls.{PartyChooses, PartyDues, PartySaves, PartyTakes, PartyTicks}
-use Rattle.bg_parties.specs.Calls.{grows, kept_save, log_of}
+use Rattle.bg_parties.specs.Calls.{grows, kept_save, log_of, saved_of}
 use Rattle.bg_parties.specs.declared.faults.RoleFault.{RoleFault}
 use Rattle.bg_parties.specs.declared.faults.RoleFault.TheVariants.{Core}
 use Rattle.bg_parties.specs.declared.party.Taken.{Taken}
@@ -32,6 +33,11 @@ use Rattle.bg_c.specs.declared.statuses.Status.TheVariants.{Memory, NotAPacket, 
 -- its record leads to this state
 abbrev pub PartyStands : Held → State → Type 0
 PartyStands party s = StandsAt (log_of party.core).terms (log_of party.core).entries s
+
+-- how many entries it may show to others: the referee those that are saved, as it tells no others,
+-- and another party all that it holds
+abbrev pub count_told : Held → ℕ
+count_told party = unwrap_or (saved_of party.core) (length (log_of party.core).entries)
 
 -- ---- an entry of its own
 
@@ -101,7 +107,8 @@ abbrev pub slot_code : Slot → ℕ
 slot_code Zero = 0
 slot_code One = 1
 
--- the save that is under way: the next one from its text on, none where the text does not fit into the room
+-- the save that is under way: the next one from its text on, none where the text does not fit into
+-- the room
 abbrev pub save_in_room : Option ℕ → SaveAnswer → List ℕ → Option ℕ
 save_in_room old (Ok next) room = if nat_le (length next.2.items) (length room) then Some next.1 else None
 save_in_room old (Err why) room = old

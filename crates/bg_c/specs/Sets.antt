@@ -26,7 +26,8 @@ pub record Sets {T : Type 0} (made : Result T Status) (before : T) (code : ℕ) 
   pub answers : code ≡ status_code (status_of made)
   pub sets : after ≡ set_to made before
 
--- the text that was made is put into the room; where none was made, the room and what is needed are as before
+-- the text that was made is put into the room; where none was made, the room and what is needed are
+-- as before
 abbrev pub Gives : Result (Vec ℕ) Status → List ℕ → ℕ → Status → List ℕ → ℕ → Type 0
 Gives (Ok text) room before status new needed = PutsText text.items room status new needed
 Gives (Err why) room before status new needed = (status ≡ why) × (new ≡ room) × (needed ≡ before)

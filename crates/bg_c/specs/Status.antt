@@ -23,6 +23,12 @@ status_code status.NotDue = 15
 status_code status.WordRefused = 16
 status_code status.NotToMove = 17
 status_code status.Refused = 18
+status_code status.NotEmpty = 19
+status_code status.NothingSaved = 20
+status_code status.NotASave = 21
+status_code status.Busy = 22
+status_code status.Closed = 23
+status_code status.Copied = 24
 
 abbrev pub status_text : Status → List ℕ
 status_text status.Ok = codes "it is done"
@@ -44,3 +50,9 @@ status_text status.NotDue = codes "the referee has nothing to add, or the record
 status_text status.WordRefused = codes "the word opens no game"
 status_text status.NotToMove = codes "no player is to move"
 status_text status.Refused = codes "the transcript is refused"
+status_text status.NotEmpty = codes "a new match wants empty slots, and a slot has something"
+status_text status.NothingSaved = codes "the slots have no save to go on from"
+status_text status.NotASave = codes "the bytes are no saved text"
+status_text status.Busy = codes "another call is inside the handle"
+status_text status.Closed = codes "the handle was closed"
+status_text status.Copied = codes "the handle is a copy, or was moved after it was opened"

@@ -37,7 +37,8 @@ abbrev pub IsTurnsText : Position → Player × Dice → List ℕ → Type 0
 IsTurnsText board mover text =
     (turns : List (List FromTo)) × AreLegalTurns board mover.0 mover.1 turns × (text ≡ turns_text turns)
 
--- what is found of a state: the text of the legal turns of the player to move, or nothing where none is
+-- what is found of a state: the text of the legal turns of the player to move, or nothing where
+-- none is
 abbrev pub FindsTurns : State → Option (Vec ℕ) → Type 0
 FindsTurns s None = mover_of s ≡ None
 FindsTurns s (Some text) =

@@ -18,6 +18,8 @@ pub struct Datagram {
     /// The length of the packet in bytes, from 18 to 98, or 0 where nothing is sent; then `to`
     /// is 0.
     pub length: u32,
+    /// 0.
+    pub reserved: [u32; 2],
     /// The packet at the front, followed by 0.
     pub bytes: [u8; MOST_DATAGRAM_BYTES],
 }
@@ -40,6 +42,7 @@ impl Datagram {
         Datagram {
             to: 0,
             length: 0,
+            reserved: [0; 2],
             bytes: [0; MOST_DATAGRAM_BYTES],
         }
     }
@@ -54,6 +57,7 @@ impl Datagram {
         Datagram {
             to: u32::from(to),
             length: text.len() as u32,
+            reserved: [0; 2],
             bytes: padded(text),
         }
     }

@@ -9,8 +9,8 @@ use std::marker::Model;
 use std::mem::replace;
 use std::ptr::null_mut;
 
-/// A place for a party, `bg_party` of the header. C sees a pointer, which is null where there is
-/// none, so that a place of zero bytes is an empty one. Contracts see the party.
+/// A place for a party, `bg_inner` of include/handles.c. C sees a pointer, which is null where
+/// there is none, so that a place of zero bytes is an empty one. Contracts see the party.
 #[repr(C)]
 pub struct Handle {
     at: *mut u8,

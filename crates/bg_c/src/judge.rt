@@ -22,6 +22,8 @@ pub struct VerdictFields {
     /// The number of entries where it is fine, that of the refused line, from 1, where it is
     /// refused, and 0 otherwise.
     pub number: u32,
+    /// 0.
+    pub reserved: [u32; 2],
 }
 
 impl VerdictFields {
@@ -34,12 +36,17 @@ impl VerdictFields {
             Verdict::Refused(line) => (1, line),
             Verdict::TooLong => (2, 0),
         };
-        VerdictFields { kind, number }
+        VerdictFields {
+            kind,
+            number,
+            reserved: [0; 2],
+        }
     }
 }
 
 /// Judges a transcript: writes the board after its longest legal part, and the line of the verdict.
-/// `verdict` is set where the result is BG_OK or BG_NO_ROOM. BG_MEMORY where there was no memory.
+/// `verdict` is set where the result is BG_OK or BG_NO_ROOM. Returns BG_MEMORY where there was no
+/// memory.
 #[unsafe(no_mangle)]
 pub extern "C" fn bg_judge(
     alloc: Global,

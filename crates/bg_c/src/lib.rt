@@ -10,6 +10,7 @@
 
 mod answers;
 mod datagrams;
+mod entry_lines;
 mod handle;
 mod judge;
 mod loose;
@@ -17,8 +18,11 @@ mod outcomes;
 mod packets;
 mod parties;
 mod rooms;
+mod saved_texts;
 mod slots;
+mod standings;
 mod statuses;
+mod terms;
 #[cfg(test)]
 mod tests;
 mod transcripts;
@@ -33,19 +37,30 @@ ghost use Rattle.bg_c.specs.declared.statuses.Status.TheVariants.{BadArgument};
 use rooms::put;
 use statuses::Status;
 
-/// The version of the calls, `BG_VERSION` of the header.
-const VERSION: u32 = 1;
+/// The number of the calls and the structs that no later library changes, `BG_ABI` of the header.
+const ABI: u32 = 2;
 
-/// Returns the version of the calls.
+/// The number of the calls that there are, `BG_VERSION` of the header. It grows with each new call.
+const VERSION: u32 = 202;
+
+/// Returns the number of the calls and the structs that no later library changes.
+#[unsafe(no_mangle)]
+pub extern "C" fn bg_abi() -> u32
+    ensures { result ≡ 2 }
+{
+    ABI
+}
+
+/// Returns the number of the calls that there are.
 #[unsafe(no_mangle)]
 pub extern "C" fn bg_version() -> u32
-    ensures { result ≡ 1 }
+    ensures { result ≡ 202 }
 {
     VERSION
 }
 
-/// Writes the description of a status, in English, without a line feed. BG_BAD_ARGUMENT where there
-/// is no such status.
+/// Writes the description of a status, in English, without a line feed. Returns BG_BAD_ARGUMENT
+/// where there is no such status.
 #[unsafe(no_mangle)]
 pub extern "C" fn bg_status_text(status: u32, out: &mut [u8], needed: &mut usize) -> u32
     ensures text { (of : AStatus) → status ≡ status_code of → (answer : AStatus) × (result ≡ status_code answer)

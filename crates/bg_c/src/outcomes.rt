@@ -107,6 +107,8 @@ pub struct Outcome {
     pub number: u32,
     /// The reason why the claimed action does not follow; else 0.
     pub why: u32,
+    /// 0.
+    pub reserved: [u32; 5],
 }
 
 impl Outcome {
@@ -118,6 +120,7 @@ impl Outcome {
             kind: kind.code(),
             number,
             why: NO_WHY,
+            reserved: [0; 5],
         }
     }
 
@@ -143,6 +146,7 @@ impl Outcome {
                 kind: Took::Illegal.code(),
                 number: 0,
                 why: why_code(*why),
+                reserved: [0; 5],
             },
             TakeOutcome::Memory => return None,
             TakeOutcome::Accepted(number) => Outcome::numbered(Took::Accepted, *number),

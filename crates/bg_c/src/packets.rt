@@ -28,10 +28,12 @@ pub struct PacketFields {
     pub number: u32,
     /// The number of entries that are told, from 1 to 8; else 0.
     pub count: u32,
+    /// 0.
+    pub reserved: [u32; 3],
 }
 
 /// Returns the number of the rules.
-fn rules_code(rules: Rules) -> u32
+pub(crate) fn rules_code(rules: Rules) -> u32
     ensures { result ≡ rules_code rules }
 {
     match rules {
@@ -58,6 +60,7 @@ impl PacketFields {
             sender,
             number,
             count,
+            reserved: [0; 3],
         }
     }
 }

@@ -43,6 +43,18 @@ pub enum Status {
     NotToMove,
     /// The transcript is refused.
     Refused,
+    /// A slot is not empty.
+    NotEmpty,
+    /// Neither slot has a saved text.
+    NothingSaved,
+    /// The bytes are no saved text.
+    NotASave,
+    /// Another call is inside the handle.
+    Busy,
+    /// The handle was closed.
+    Closed,
+    /// The handle is a copy, or was moved.
+    Copied,
 }
 
 impl Status {
@@ -72,6 +84,12 @@ impl Status {
             Status::WordRefused => 16,
             Status::NotToMove => 17,
             Status::Refused => 18,
+            Status::NotEmpty => 19,
+            Status::NothingSaved => 20,
+            Status::NotASave => 21,
+            Status::Busy => 22,
+            Status::Closed => 23,
+            Status::Copied => 24,
         }
     }
 
@@ -100,6 +118,12 @@ impl Status {
             16 => Status::WordRefused,
             17 => Status::NotToMove,
             18 => Status::Refused,
+            19 => Status::NotEmpty,
+            20 => Status::NothingSaved,
+            21 => Status::NotASave,
+            22 => Status::Busy,
+            23 => Status::Closed,
+            24 => Status::Copied,
             _ => return None,
         })
     }
@@ -130,6 +154,12 @@ impl Status {
             Status::WordRefused => "the word opens no game",
             Status::NotToMove => "no player is to move",
             Status::Refused => "the transcript is refused",
+            Status::NotEmpty => "a new match wants empty slots, and a slot has something",
+            Status::NothingSaved => "the slots have no save to go on from",
+            Status::NotASave => "the bytes are no saved text",
+            Status::Busy => "another call is inside the handle",
+            Status::Closed => "the handle was closed",
+            Status::Copied => "the handle is a copy, or was moved after it was opened",
         }
     }
 }

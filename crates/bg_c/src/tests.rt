@@ -1,7 +1,10 @@
 //! The calls, as C makes them, with the numbers of the header and the bytes of docs/FORMATS.md.
 mod calls;
+mod claim_calls;
+mod claims;
 mod closed_handles;
 mod judging;
+mod number_calls;
 mod openings;
 mod packets;
 mod party_calls;
@@ -11,5 +14,9 @@ mod readers;
 mod roles;
 mod rooms;
 mod save_order;
+mod shown;
+mod shown_calls;
+mod standing_calls;
+mod standings;
 mod transcripts;
 mod words;

@@ -51,8 +51,8 @@ fn turns(alloc: Global, transcript: &[u8]) -> Result<Vec<u8>, Status>
     }
 }
 
-/// Writes the board after a transcript. BG_REFUSED where [`bg_judge`](crate::judge::bg_judge) does
-/// not find it fine.
+/// Writes the board after a transcript. Returns BG_REFUSED where
+/// [`bg_judge`](crate::judge::bg_judge) does not find it fine.
 #[unsafe(no_mangle)]
 pub extern "C" fn bg_transcript_board(
     alloc: Global,
@@ -66,7 +66,7 @@ pub extern "C" fn bg_transcript_board(
 }
 
 /// Writes each legal turn after a transcript, one to a line, such as `move 8-5 6-5`, the greatest
-/// first. BG_REFUSED where [`bg_judge`](crate::judge::bg_judge) does not find it fine;
+/// first. Returns BG_REFUSED where [`bg_judge`](crate::judge::bg_judge) does not find it fine;
 /// BG_NOT_TO_MOVE where no player is to move.
 #[unsafe(no_mangle)]
 pub extern "C" fn bg_transcript_turns(

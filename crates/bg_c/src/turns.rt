@@ -15,7 +15,7 @@ use std::alloc::{AllocError, Global};
 const LETTER: usize = 2;
 
 /// Returns the player to move, with the dice. A turn that is to be passed is the referee's.
-fn mover(standing: &Standing) -> Option<(Player, Dice)>
+pub(crate) fn mover(standing: &Standing) -> Option<(Player, Dice)>
     ensures { result ≡ mover_of standing.now }
 {
     match (standing.actor(), standing.phase()) {
@@ -24,12 +24,19 @@ fn mover(standing: &Standing) -> Option<(Player, Dice)>
     }
 }
 
-/// Adds the line of a turn, as it is claimed: the line of its entry, without the player.
+/// Adds a turn, as it is claimed: the line of its entry, without the player.
+pub(crate) fn put_move(out: &mut Vec<u8>, player: Player, turn: &Turn) -> Result<(), AllocError>
+    ensures { OnOk result (out.new.items ≡ out.old.items ++ action_text (Move turn.now)) }
+{
+    let line = entry_text(Some(player), &Entry::Moved(turn.copy()));
+    out.extend_from_slice(&line.as_str().as_bytes()[LETTER..])
+}
+
+/// Adds the line of a turn, as it is claimed.
 fn put_turn(out: &mut Vec<u8>, player: Player, turn: &Turn) -> Result<(), AllocError>
     ensures { OnOk result (out.new.items ≡ out.old.items ++ line_text (action_text (Move turn.now))) }
 {
-    let line = entry_text(Some(player), &Entry::Moved(turn.copy()));
-    out.extend_from_slice(&line.as_str().as_bytes()[LETTER..])?;
+    put_move(out, player, turn)?;
     put_text(out, "\n")
 }
 
@@ -45,7 +52,7 @@ fn put_turns(alloc: Global, player: Player, turns: &[Turn]) -> Result<Vec<u8>, A
 }
 
 /// Returns each legal turn of the player to move as a line, such as `move 8-5 6-5`, in the order of
-/// [`legal_turns`]. `None` where no player is to move.
+/// [`legal_turns`]. Returns `None` where no player is to move.
 ///
 /// # Errors
 /// `AllocError` where memory runs out.

@@ -40,18 +40,12 @@ func textOf(call func(out *C.uint8_t, room C.size_t, needed *C.size_t) C.bg_stat
 	}
 }
 
-// failed gives what a status says; nil where it is BG_OK.
+// failed gives the name of a status; nil where it is BG_OK.
 func failed(status C.bg_status) error {
 	if status == C.BG_OK {
 		return nil
 	}
-	text, err := textOf(func(out *C.uint8_t, room C.size_t, needed *C.size_t) C.bg_status {
-		return C.bg_status_text(status, out, room, needed)
-	})
-	if err != nil {
-		return err
-	}
-	return errors.New(string(text))
+	return errors.New(C.GoString(C.bg_status_name(status)))
 }
 
 // Judge gives what the judge writes of a transcript, and whether it is fine.
@@ -63,25 +57,49 @@ func Judge(transcript []byte) ([]byte, bool, error) {
 	return text, verdict.kind == 0, err
 }
 
-// Party is the referee, a seat or a watcher. No two goroutines use it at once, and it is to be closed.
+// Party is the referee, a seat or a watcher. It is to be closed, and its handle stays where it is: use it by its
+// pointer. Of two goroutines that use it at once one gets BG_BUSY.
 type Party struct{ handle C.bg_party }
 
-// Open opens a party as its two slots restore it.
-func Open(number uint8, id uint64, length, rules uint8, slot0, slot1 []byte) (*Party, error) {
+// Begin opens a party of a new match: its slots must be empty.
+func Begin(number uint32, id uint64, length, rules uint32, slot0, slot1 []byte) (*Party, error) {
 	party := new(Party)
-	status := C.bg_party_open(&party.handle, C.uint8_t(number), C.uint64_t(id), C.uint8_t(length), C.uint8_t(rules),
-		pointer(slot0), C.size_t(len(slot0)), pointer(slot1), C.size_t(len(slot1)))
+	status := C.bg_party_begin(&party.handle, C.uint32_t(number), C.uint64_t(id), C.uint32_t(length),
+		C.uint32_t(rules), pointer(slot0), C.size_t(len(slot0)), pointer(slot1), C.size_t(len(slot1)))
 	if err := failed(status); err != nil {
 		return nil, err
 	}
 	return party, nil
 }
 
+// ErrMisplaced says that a slot has a text which belongs into the other one, so that a crash would lose the match.
+var ErrMisplaced = errors.New("a saved text stands in the wrong slot")
+
+// Resume opens a party that goes on with what its two slots restore.
+func Resume(number uint32, id uint64, length, rules uint32, slot0, slot1 []byte) (*Party, error) {
+	party := new(Party)
+	var saved C.bg_saved
+	status := C.bg_party_resume(&party.handle, C.uint32_t(number), C.uint64_t(id), C.uint32_t(length),
+		C.uint32_t(rules), pointer(slot0), C.size_t(len(slot0)), pointer(slot1), C.size_t(len(slot1)), &saved)
+	if err := failed(status); err != nil {
+		return nil, err
+	}
+	if saved.misplaced != 0 {
+		party.Close()
+		return nil, ErrMisplaced
+	}
+	return party, nil
+}
+
 // Close lets the party go.
-func (party *Party) Close() { C.bg_party_close(&party.handle) }
+func (party *Party) Close() error { return failed(C.bg_party_close(&party.handle)) }
 
 // Entries is how many entries the party holds.
-func (party *Party) Entries() uint32 { return uint32(C.bg_party_entries(&party.handle)) }
+func (party *Party) Entries() (uint32, error) {
+	var entries C.uint32_t
+	err := failed(C.bg_party_entries(&party.handle, &entries))
+	return uint32(entries), err
+}
 
 // Due lets the referee add what is its to add.
 func (party *Party) Due(word uint32) (uint32, error) {
@@ -115,7 +133,7 @@ func run(path string) error {
 		return err
 	}
 	fmt.Print(string(text))
-	referee, err := Open(0, 7, 1, 1, nil, nil)
+	referee, err := Begin(0, 7, 1, 1, nil, nil)
 	if err != nil {
 		return err
 	}
@@ -123,11 +141,22 @@ func run(path string) error {
 	if _, err := referee.Due(12); err != nil {
 		return err
 	}
+	var slots [2][]byte
 	err = referee.Save(func(slot uint32, text []byte) error {
 		fmt.Printf("slot %d: %d bytes\n", slot, len(text))
+		slots[slot] = text
 		return nil
 	})
-	fmt.Println("entries:", referee.Entries())
+	if err != nil {
+		return err
+	}
+	again, err := Resume(0, 7, 1, 1, slots[0], slots[1])
+	if err != nil {
+		return err
+	}
+	defer again.Close()
+	entries, err := again.Entries()
+	fmt.Println("entries:", entries)
 	return err
 }
 

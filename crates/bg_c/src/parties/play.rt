@@ -28,10 +28,10 @@ use std::alloc::Global;
 /// passes a turn without steps. `number` is that entry's where the result is BG_OK, and else as
 /// before. Save after BG_OK.
 ///
-/// BG_WRONG_PARTY where the party is not the referee; else BG_NOT_DUE, BG_WORD_REFUSED or BG_MEMORY
-/// with what [`Party::due`] refuses.
+/// Returns BG_WRONG_PARTY where the party is not the referee; else BG_NOT_DUE, BG_WORD_REFUSED or
+/// BG_MEMORY with what [`Party::due`] refuses.
 #[unsafe(no_mangle)]
-pub extern "C" fn bg_referee_due(
+pub extern "C" fn bg_proved_referee_due(
     alloc: Global,
     handle: &mut Handle,
     word: u32,
@@ -63,9 +63,10 @@ fn due(party: &mut Party, word: u32) -> Result<Number, Status>
 /// accepts a roll; followers do not read it. `outcome` and `answer` are set where the result is
 /// BG_OK.
 ///
-/// BG_NOT_A_PACKET where the bytes are none, and BG_MEMORY; then everything is as before.
+/// Returns BG_NOT_A_PACKET where the bytes are no packet, or BG_MEMORY; then everything is as
+/// before.
 #[unsafe(no_mangle)]
-pub extern "C" fn bg_party_take(
+pub extern "C" fn bg_proved_party_take(
     alloc: Global,
     handle: &mut Handle,
     packet: &[u8],
@@ -110,10 +111,11 @@ fn take(party: &mut Party, bytes: &[u8], word: u32) -> Result<(Outcome, Datagram
 /// `number` is that of the entry that shall answer it. `why` is set where it is BG_ILLEGAL. Else
 /// they are as before. Save after BG_OK: a claim is sent once it is saved.
 ///
-/// BG_NOT_AN_ACTION where the text is no action's; else BG_WRONG_PARTY where the party is no seat;
-/// else BG_NOT_YOUR_TURN, BG_ALREADY_CLAIMED or BG_ILLEGAL with what [`Party::choose`] refuses.
+/// Returns BG_NOT_AN_ACTION where the text is no action's; else BG_WRONG_PARTY where the party is
+/// no seat; else BG_NOT_YOUR_TURN, BG_ALREADY_CLAIMED or BG_ILLEGAL with what [`Party::choose`]
+/// refuses.
 #[unsafe(no_mangle)]
-pub extern "C" fn bg_seat_choose(
+pub extern "C" fn bg_proved_seat_choose(
     alloc: Global,
     handle: &mut Handle,
     action: &[u8],
@@ -146,7 +148,7 @@ fn choose(party: &mut Party, text: &[u8], why: &mut u32) -> Result<Number, Statu
 
 /// Returns the reason why the action of a claim does not follow, where it does not; else the reason
 /// that was there before.
-fn why_after(chosen: Result<Number, RoleFault<ChooseFault>>, before: u32) -> u32
+pub(crate) fn why_after(chosen: Result<Number, RoleFault<ChooseFault>>, before: u32) -> u32
     ensures { result ≡ why_after chosen before }
 {
     match chosen {
@@ -158,7 +160,7 @@ fn why_after(chosen: Result<Number, RoleFault<ChooseFault>>, before: u32) -> u32
 /// Sets the packets to send now, at most two; call it about once a second. Both are set where the
 /// result is BG_OK.
 #[unsafe(no_mangle)]
-pub extern "C" fn bg_party_tick(
+pub extern "C" fn bg_proved_party_tick(
     alloc: Global,
     handle: &mut Handle,
     first: &mut Datagram,

@@ -52,14 +52,14 @@ fn begin_save(
 }
 
 /// Begins the next save of a referee or a seat, and sets `slot` and `save`. Write the whole text to
-/// slot `slot` (0 or 1), make sure that it is durable, and then call [`bg_party_mark_saved`] with
-/// `save`. A change of the record or the claim in between ends the save: begin again. Where the
-/// result is BG_NO_ROOM no save is under way, and `slot` and `save` are as before.
+/// slot `slot` (0 or 1), make sure that it is durable, and then call [`bg_proved_party_mark_saved`]
+/// with `save`. A change of the record or the claim in between ends the save: begin again. Where
+/// the result is BG_NO_ROOM no save is under way, and `slot` and `save` are as before.
 ///
-/// BG_WRONG_PARTY where the party is a watcher; else BG_SAVES_SPENT or BG_MEMORY with what
+/// Returns BG_WRONG_PARTY where the party is a watcher; else BG_SAVES_SPENT or BG_MEMORY with what
 /// [`Party::to_save`] refuses.
 #[unsafe(no_mangle)]
-pub extern "C" fn bg_party_to_save(
+pub extern "C" fn bg_proved_party_to_save(
     alloc: Global,
     handle: &mut Handle,
     slot: &mut u32,
@@ -82,10 +82,10 @@ pub extern "C" fn bg_party_to_save(
     status.code()
 }
 
-/// Marks the save of this number as written. BG_WRONG_SAVE where it is not under way; a watcher has
-/// none.
+/// Marks the save of this number as written. Returns BG_WRONG_SAVE where it is not under way; a
+/// watcher has none.
 #[unsafe(no_mangle)]
-pub extern "C" fn bg_party_mark_saved(alloc: Global, handle: &mut Handle, save: u32) -> u32
+pub extern "C" fn bg_proved_party_mark_saved(alloc: Global, handle: &mut Handle, save: u32) -> u32
     ensures closed { handle.old.value ≡ None → (result ≡ status_code status.NotOpen) × (handle.new.value ≡ None) }
     ensures marks { (old : Held) → handle.old.value ≡ Some old → old.under_way ≡ Some save
         → (new : Held) × (handle.new.value ≡ Some new) × (new.core ≡ after_save old.core save)

@@ -2,19 +2,21 @@
 //! contract, which keeps what it ensures out of other proofs. It sets places that had 99 or 7.
 use crate::judge::{VerdictFields, bg_judge};
 use crate::packets::{PacketFields, bg_packet_read};
+use crate::saved_texts::{PeekedFields, bg_saved_peek};
 use crate::slots::{SavedFields, bg_slots_read};
-use crate::tests::words::{BLANK, are_numbers, bytes_of, is_given, number, small_number, word};
+use crate::tests::words::{BLANK, are_numbers, bytes_of, is_given, number, word};
 use crate::transcripts::{bg_transcript_board, bg_transcript_turns};
-use crate::{bg_status_text, bg_version};
+use crate::{bg_abi, bg_status_text, bg_version};
 use std::alloc::Global;
 use std::process::Abort;
 
-/// How many bytes a room has, as the word in a place says.
+/// Returns how many bytes a room has, as the word in a place says.
 pub(crate) fn size(rt: &impl Abort, words: &str, place: usize) -> usize {
     word(rt, words, place).parse().expect(rt, "a size")
 }
 
-/// "packet WANT: OK 1 1 1 3 0 0": the status, the match, its rules, kind, sender, number and count.
+/// Checks a line such as `packet WANT: OK 1 1 1 3 0 0 0 0 0`. After the colon come the status, the
+/// match, its rules, kind, sender, number, count, and what is reserved.
 fn reads_packet(rt: &impl Abort, words: &str, wanted: &str) -> bool {
     let mut packet = PacketFields {
         id: 99,
@@ -23,6 +25,7 @@ fn reads_packet(rt: &impl Abort, words: &str, wanted: &str) -> bool {
         sender: 99,
         number: 99,
         count: 99,
+        reserved: [99; 3],
     };
     let status = bg_packet_read(bytes_of(words), &mut packet);
     let found = [
@@ -33,40 +36,91 @@ fn reads_packet(rt: &impl Abort, words: &str, wanted: &str) -> bool {
         packet.sender as usize,
         packet.number as usize,
         packet.count as usize,
+        packet.reserved[0] as usize,
+        packet.reserved[1] as usize,
+        packet.reserved[2] as usize,
     ];
     are_numbers(rt, &found, wanted)
 }
 
-/// "slots 0 1 1 1 SAVE_2 -: OK 1 2 2 0": the party, the match, its length, its rules, both slots;
-/// and the status, whether something is saved, the number of the save, its entries and its claim.
+/// What stands in a place that no call sets.
+pub(crate) const NO_SAVED: SavedFields = SavedFields {
+    found: 99,
+    slot: 99,
+    save: 99,
+    entries: 99,
+    claim: 99,
+    misplaced: 99,
+    reserved: [99; 2],
+};
+
+/// Returns whether a status and what is saved have these numbers.
+pub(crate) fn is_saved(rt: &impl Abort, status: u32, saved: &SavedFields, wanted: &str) -> bool {
+    let found = [
+        status as usize,
+        saved.found as usize,
+        saved.slot as usize,
+        saved.save as usize,
+        saved.entries as usize,
+        saved.claim as usize,
+        saved.misplaced as usize,
+        saved.reserved[0] as usize,
+        saved.reserved[1] as usize,
+    ];
+    are_numbers(rt, &found, wanted)
+}
+
+/// Checks a line such as `slots 0 1 1 1 SAVE_2 -: OK 1 0 2 2 0 0 0 0`. It gives the party, the
+/// match, its length, its rules and both slots. After the colon come the status, whether something
+/// is saved, the slot, the number of the save, its entries, its claim, which texts are misplaced,
+/// and what is reserved.
 fn reads_slots(rt: &impl Abort, alloc: Global, words: &str, wanted: &str) -> bool {
-    let mut saved = SavedFields {
-        found: 99,
-        save: 99,
-        entries: 99,
-        claim: 99,
-    };
+    let mut saved = NO_SAVED;
     let status = bg_slots_read(
         alloc,
-        small_number(rt, words, 0),
+        number(rt, words, 0),
         u64::from(number(rt, words, 1)),
-        small_number(rt, words, 2),
-        small_number(rt, words, 3),
+        number(rt, words, 2),
+        number(rt, words, 3),
         bytes_of(word(rt, words, 4)),
         bytes_of(word(rt, words, 5)),
         &mut saved,
     );
+    is_saved(rt, status, &saved, wanted)
+}
+
+/// Checks a line such as `peek SAVE_2: OK 1 0 1 1 2 2 0 0`. After the colon come the status, the
+/// match, the party, the length, the rules, the number of the save, its entries, its claim, and
+/// what is reserved.
+fn peeks(rt: &impl Abort, alloc: Global, words: &str, wanted: &str) -> bool {
+    let mut saved = PeekedFields {
+        id: 99,
+        party: 99,
+        match_length: 99,
+        rules: 99,
+        save: 99,
+        entries: 99,
+        claim: 99,
+        reserved: [99; 4],
+    };
+    let status = bg_saved_peek(alloc, bytes_of(words), &mut saved);
     let found = [
         status as usize,
-        saved.found as usize,
+        saved.id as usize,
+        saved.party as usize,
+        saved.match_length as usize,
+        saved.rules as usize,
         saved.save as usize,
         saved.entries as usize,
         saved.claim as usize,
+        saved.reserved[0] as usize,
+        saved.reserved[3] as usize,
     ];
     are_numbers(rt, &found, wanted)
 }
 
-/// "status 80 4: OK 25; the handle holds no party": the room and the status.
+/// Checks a line such as `status 80 4: OK 25; the handle holds no party`. It gives the room and the
+/// status.
 fn says_status(rt: &impl Abort, words: &str, wanted: &str) -> bool {
     let mut all = BLANK;
     let room = all.get_mut(..size(rt, words, 0)).expect(rt, "a room");
@@ -75,11 +129,13 @@ fn says_status(rt: &impl Abort, words: &str, wanted: &str) -> bool {
     is_given(rt, &[status as usize, needed], room, needed, wanted)
 }
 
-/// "judge 512 MOVED: OK 0 2; HEAD .. FINE": the room, the transcript; and the status, the verdict.
+/// Checks a line such as `judge 512 MOVED: OK 0 2; HEAD .. FINE`. It gives the room and the
+/// transcript; after the colon come the status and the verdict.
 fn judges(rt: &impl Abort, alloc: Global, words: &str, wanted: &str) -> bool {
     let mut verdict = VerdictFields {
         kind: 99,
         number: 99,
+        reserved: [99; 2],
     };
     let mut all = BLANK;
     let room = all.get_mut(..size(rt, words, 0)).expect(rt, "a room");
@@ -95,7 +151,7 @@ fn judges(rt: &impl Abort, alloc: Global, words: &str, wanted: &str) -> bool {
     is_given(rt, &found, room, needed, wanted)
 }
 
-/// The call that writes a text of a transcript: its board, or its turns.
+/// Makes the call that writes a text of a transcript: its board, or its turns.
 fn write(
     alloc: Global,
     is_board: bool,
@@ -110,7 +166,8 @@ fn write(
     }
 }
 
-/// "board_after 512 MOVED: OK; MOVED_BOARD": the room and the transcript.
+/// Checks a line such as `board_after 512 MOVED: OK; MOVED_BOARD`. It gives the room and the
+/// transcript.
 fn writes(rt: &impl Abort, alloc: Global, is_board: bool, words: &str, wanted: &str) -> bool {
     let mut all = BLANK;
     let room = all.get_mut(..size(rt, words, 0)).expect(rt, "a room");
@@ -120,7 +177,7 @@ fn writes(rt: &impl Abort, alloc: Global, is_board: bool, words: &str, wanted: &
     is_given(rt, &[status as usize, needed], room, needed, wanted)
 }
 
-/// Whether a call that gives parts comes to what its line wants, if it is one.
+/// Returns whether a call that gives parts comes to what its line wants, if it is one.
 fn gave_parts(
     rt: &impl Abort,
     alloc: Global,
@@ -131,12 +188,14 @@ fn gave_parts(
     match name {
         "packet" => Some(reads_packet(rt, words, wanted)),
         "slots" => Some(reads_slots(rt, alloc, words, wanted)),
+        "peek" => Some(peeks(rt, alloc, words, wanted)),
+        "abi" => Some(are_numbers(rt, &[bg_abi() as usize], wanted)),
         "version" => Some(are_numbers(rt, &[bg_version() as usize], wanted)),
         _ => None,
     }
 }
 
-/// Whether a call that writes a text comes to what its line wants.
+/// Returns whether a call that writes a text comes to what its line wants.
 fn gave_text(rt: &impl Abort, alloc: Global, name: &str, words: &str, wanted: &str) -> bool {
     match name {
         "status" => says_status(rt, words, wanted),
@@ -147,7 +206,7 @@ fn gave_text(rt: &impl Abort, alloc: Global, name: &str, words: &str, wanted: &s
     }
 }
 
-/// Whether a call that needs no party comes to what its line wants.
+/// Returns whether a call that needs no party comes to what its line wants.
 pub(crate) fn gave(rt: &impl Abort, alloc: Global, name: &str, words: &str, wanted: &str) -> bool {
     match gave_parts(rt, alloc, name, words, wanted) {
         Some(holds) => holds,

@@ -3,16 +3,19 @@
 use crate::datagrams::Datagram;
 use crate::handle::Handle;
 use crate::outcomes::Outcome;
-use crate::parties::play::{bg_party_take, bg_party_tick, bg_referee_due, bg_seat_choose};
-use crate::parties::saves::{bg_party_mark_saved, bg_party_to_save};
-use crate::parties::texts::{bg_party_board, bg_party_transcript, bg_party_turns};
-use crate::parties::{
-    bg_party_actor, bg_party_close, bg_party_entries, bg_party_open, bg_party_saved,
+use crate::parties::bg_proved_party_close;
+use crate::parties::openings::{bg_proved_party_begin, bg_proved_party_resume};
+use crate::parties::play::{
+    bg_proved_party_take, bg_proved_party_tick, bg_proved_referee_due, bg_proved_seat_choose,
 };
-use crate::tests::calls::size;
-use crate::tests::words::{
-    BLANK, are_numbers, bytes_of, is_given, number, parted, small_number, word,
+use crate::parties::saves::{bg_proved_party_mark_saved, bg_proved_party_to_save};
+use crate::parties::texts::{
+    bg_proved_party_board, bg_proved_party_transcript, bg_proved_party_turns,
 };
+use crate::tests::calls::{NO_SAVED, is_saved, size};
+use crate::tests::claim_calls::{claims, tries};
+use crate::tests::shown_calls::writes_lines;
+use crate::tests::words::{BLANK, are_numbers, bytes_of, is_given, number, parted, word};
 use std::alloc::Global;
 use std::process::Abort;
 
@@ -20,6 +23,7 @@ use std::process::Abort;
 const NO_DATAGRAM: Datagram = Datagram {
     to: 99,
     length: 99,
+    reserved: [99; 2],
     bytes: [9; 128],
 };
 
@@ -27,19 +31,22 @@ const NO_DATAGRAM: Datagram = Datagram {
 const NOTHING: Datagram = Datagram {
     to: 0,
     length: 0,
+    reserved: [0; 2],
     bytes: [0; 128],
 };
 
-/// Whether a datagram sends these bytes to a party, followed by 0.
+/// Returns whether a datagram sends these bytes to a party, followed by 0.
 fn sends(datagram: &Datagram, to: u32, bytes: &[u8]) -> bool {
     let Some((packet, rest)) = datagram.bytes.split_at_checked(bytes.len()) else {
         return false;
     };
     let is_whole = datagram.to == to && datagram.length as usize == bytes.len();
-    is_whole && packet == bytes && NOTHING.bytes.starts_with(rest)
+    let is_blank = datagram.reserved == NOTHING.reserved;
+    is_whole && is_blank && packet == bytes && NOTHING.bytes.starts_with(rest)
 }
 
-/// Whether a datagram is this one: "OPENING to 3", "nothing", or "kept" where no call has set it.
+/// Returns whether a datagram is this one: `OPENING to 3`, `nothing`, or `kept` where no call has
+/// set it.
 fn is_datagram(rt: &impl Abort, datagram: &Datagram, words: &str) -> bool {
     match words {
         "kept" => *datagram == NO_DATAGRAM,
@@ -48,42 +55,63 @@ fn is_datagram(rt: &impl Abort, datagram: &Datagram, words: &str) -> bool {
     }
 }
 
-/// "open 0 1 1 1 SAVE_2 -: OK": the party, the match, its length, its rules, and both slots.
-fn opens(rt: &impl Abort, alloc: Global, handle: &mut Handle, words: &str, wanted: &str) -> bool {
-    let status = bg_party_open(
+/// Checks a line such as `begin 0 1 1 1 - -: OK`. It gives the party, the match, its length, its
+/// rules, and both slots.
+fn begins(rt: &impl Abort, alloc: Global, handle: &mut Handle, words: &str, wanted: &str) -> bool {
+    let status = bg_proved_party_begin(
         alloc,
         handle,
-        small_number(rt, words, 0),
+        number(rt, words, 0),
         u64::from(number(rt, words, 1)),
-        small_number(rt, words, 2),
-        small_number(rt, words, 3),
+        number(rt, words, 2),
+        number(rt, words, 3),
         bytes_of(word(rt, words, 4)),
         bytes_of(word(rt, words, 5)),
     );
     are_numbers(rt, &[status as usize], wanted)
 }
 
-/// "close: done".
+/// Checks a line such as `resume 0 1 1 1 SAVE_2 -: OK 1 0 2 2 0 0`. It gives the same as `begin`;
+/// after the status comes what is told of the save.
+fn resumes(rt: &impl Abort, alloc: Global, handle: &mut Handle, words: &str, wanted: &str) -> bool {
+    let mut saved = NO_SAVED;
+    let status = bg_proved_party_resume(
+        alloc,
+        handle,
+        number(rt, words, 0),
+        u64::from(number(rt, words, 1)),
+        number(rt, words, 2),
+        number(rt, words, 3),
+        bytes_of(word(rt, words, 4)),
+        bytes_of(word(rt, words, 5)),
+        &mut saved,
+    );
+    is_saved(rt, status, &saved, wanted)
+}
+
+/// Checks the line `close: done`.
 fn closes(alloc: Global, handle: &mut Handle, wanted: &str) -> bool {
-    bg_party_close(alloc, handle);
+    bg_proved_party_close(alloc, handle);
     wanted == "done"
 }
 
-/// "due 12: OK 1": the word; and the status and the entry's number.
+/// Checks a line such as `due 12: OK 1`. It gives the word; after the colon come the status and the
+/// entry's number.
 fn dues(rt: &impl Abort, alloc: Global, handle: &mut Handle, words: &str, wanted: &str) -> bool {
     let mut made = 99;
-    let status = bg_referee_due(alloc, handle, number(rt, words, 0), &mut made);
+    let status = bg_proved_referee_due(alloc, handle, number(rt, words, 0), &mut made);
     are_numbers(rt, &[status as usize, made as usize], wanted)
 }
 
-/// "choose move 8-5 6-5: OK 2 99": the action; and the status, the entry's number and the reason.
+/// Checks a line such as `choose move 8-5 6-5: OK 2 99`. It gives the action; after the colon come
+/// the status, the entry's number and the reason.
 fn chooses(rt: &impl Abort, alloc: Global, handle: &mut Handle, words: &str, wanted: &str) -> bool {
     let (mut made, mut why) = (99, 99);
-    let status = bg_seat_choose(alloc, handle, words.as_bytes(), &mut made, &mut why);
+    let status = bg_proved_seat_choose(alloc, handle, words.as_bytes(), &mut made, &mut why);
     are_numbers(rt, &[status as usize, made as usize, why as usize], wanted)
 }
 
-/// Whether a status and an outcome have these numbers.
+/// Returns whether a status and an outcome have these numbers.
 fn is_outcome(rt: &impl Abort, status: u32, outcome: &Outcome, numbers: &str) -> bool {
     let found = [
         status as usize,
@@ -94,24 +122,25 @@ fn is_outcome(rt: &impl Abort, status: u32, outcome: &Outcome, numbers: &str) ->
     are_numbers(rt, &found, numbers)
 }
 
-/// "take WANT: OK 2 0 0; OPENING to 3": the packet; and the status, the kind, number and reason of
-/// the outcome, and the answer.
+/// Checks a line such as `take WANT: OK 2 0 0; OPENING to 3`. It gives the packet; after the colon
+/// come the status, the kind, number and reason of the outcome, and the answer.
 fn takes(rt: &impl Abort, alloc: Global, handle: &mut Handle, words: &str, wanted: &str) -> bool {
     let mut outcome = Outcome {
         kind: 99,
         number: 99,
         why: 99,
+        reserved: [99; 5],
     };
     let mut answer = NO_DATAGRAM;
-    let status = bg_party_take(alloc, handle, bytes_of(words), 0, &mut outcome, &mut answer);
+    let status = bg_proved_party_take(alloc, handle, bytes_of(words), 0, &mut outcome, &mut answer);
     let (numbers, sent) = parted(rt, wanted, "; ");
     is_outcome(rt, status, &outcome, numbers) && is_datagram(rt, &answer, sent)
 }
 
-/// "tick: OK; WANT to 0; nothing": the status and both datagrams.
+/// Checks a line such as `tick: OK; WANT to 0; nothing`, with the status and both datagrams.
 fn ticks(rt: &impl Abort, alloc: Global, handle: &mut Handle, wanted: &str) -> bool {
     let (mut first, mut second) = (NO_DATAGRAM, NO_DATAGRAM);
-    let status = bg_party_tick(alloc, handle, &mut first, &mut second);
+    let status = bg_proved_party_tick(alloc, handle, &mut first, &mut second);
     let (word, sent) = parted(rt, wanted, "; ");
     let (one, other) = parted(rt, sent, "; ");
     are_numbers(rt, &[status as usize], word)
@@ -119,40 +148,24 @@ fn ticks(rt: &impl Abort, alloc: Global, handle: &mut Handle, wanted: &str) -> b
         && is_datagram(rt, &second, other)
 }
 
-/// "save 64: OK 1 1 27; any": the room; and the status, slot, save, the length and the text.
+/// Checks a line such as `save 64: OK 1 1 27; any`. It gives the room; after the colon come the
+/// status, slot, save, the length and the text.
 fn saves(rt: &impl Abort, alloc: Global, handle: &mut Handle, words: &str, wanted: &str) -> bool {
     let mut all = BLANK;
     let room = all.get_mut(..size(rt, words, 0)).expect(rt, "a room");
     let (mut slot, mut save, mut needed) = (99, 99, 99);
-    let status = bg_party_to_save(alloc, handle, &mut slot, &mut save, room, &mut needed);
+    let status = bg_proved_party_to_save(alloc, handle, &mut slot, &mut save, room, &mut needed);
     let found = [status as usize, slot as usize, save as usize, needed];
     is_given(rt, &found, room, needed, wanted)
 }
 
-/// "mark 1: OK": the save.
+/// Checks a line such as `mark 1: OK`. It gives the save.
 fn marks(rt: &impl Abort, alloc: Global, handle: &mut Handle, words: &str, wanted: &str) -> bool {
-    let status = bg_party_mark_saved(alloc, handle, number(rt, words, 0));
+    let status = bg_proved_party_mark_saved(alloc, handle, number(rt, words, 0));
     are_numbers(rt, &[status as usize], wanted)
 }
 
-/// "actor: OK 1": the status, and who acts.
-fn has_actor(rt: &impl Abort, alloc: Global, handle: &mut Handle, wanted: &str) -> bool {
-    let mut actor = 99;
-    let status = bg_party_actor(alloc, handle, &mut actor);
-    are_numbers(rt, &[status as usize, actor as usize], wanted)
-}
-
-/// "entries: 2".
-fn has_entries(rt: &impl Abort, alloc: Global, handle: &mut Handle, wanted: &str) -> bool {
-    are_numbers(rt, &[bg_party_entries(alloc, handle) as usize], wanted)
-}
-
-/// "saved: 2".
-fn has_saved(rt: &impl Abort, alloc: Global, handle: &mut Handle, wanted: &str) -> bool {
-    are_numbers(rt, &[bg_party_saved(alloc, handle) as usize], wanted)
-}
-
-/// The call of this name, which writes a text of a party.
+/// Makes the call of this name, which writes a text of a party.
 fn write(
     alloc: Global,
     handle: &mut Handle,
@@ -161,13 +174,14 @@ fn write(
     needed: &mut usize,
 ) -> u32 {
     match name {
-        "board" => bg_party_board(alloc, handle, room, needed),
-        "transcript" => bg_party_transcript(alloc, handle, room, needed),
-        _ => bg_party_turns(alloc, handle, room, needed),
+        "board" => bg_proved_party_board(alloc, handle, room, needed),
+        "transcript" => bg_proved_party_transcript(alloc, handle, room, needed),
+        _ => bg_proved_party_turns(alloc, handle, room, needed),
     }
 }
 
-/// "board 512: OK; BOARD": the room; and the status, the length, which may be left out, the text.
+/// Checks a line such as `board 512: OK; BOARD`. It gives the room; after the colon come the
+/// status, the length, which may be left out, and the text.
 pub(crate) fn writes(
     rt: &impl Abort,
     alloc: Global,
@@ -183,7 +197,7 @@ pub(crate) fn writes(
     is_given(rt, &[status as usize, needed], room, needed, wanted)
 }
 
-/// Whether a call by which a party plays comes to what its line wants, if it is one.
+/// Returns whether a call by which a party plays comes to what its line wants, if it is one.
 pub(crate) fn played(
     rt: &impl Abort,
     alloc: Global,
@@ -195,13 +209,17 @@ pub(crate) fn played(
     match name {
         "due" => Some(dues(rt, alloc, handle, words, wanted)),
         "choose" => Some(chooses(rt, alloc, handle, words, wanted)),
+        "claim" => Some(claims(rt, alloc, handle, words, wanted)),
+        "try" => Some(tries(rt, alloc, handle, words, wanted)),
         "take" => Some(takes(rt, alloc, handle, words, wanted)),
+        "lines" => Some(writes_lines(rt, alloc, handle, words, wanted)),
         "tick" => Some(ticks(rt, alloc, handle, wanted)),
         _ => None,
     }
 }
 
-/// Whether a call that opens, closes or saves a party comes to what its line wants, if it is one.
+/// Returns whether a call that opens, closes or saves a party comes to what its line wants, if it
+/// is one.
 pub(crate) fn kept(
     rt: &impl Abort,
     alloc: Global,
@@ -211,26 +229,11 @@ pub(crate) fn kept(
     wanted: &str,
 ) -> Option<bool> {
     match name {
-        "open" => Some(opens(rt, alloc, handle, words, wanted)),
+        "begin" => Some(begins(rt, alloc, handle, words, wanted)),
+        "resume" => Some(resumes(rt, alloc, handle, words, wanted)),
         "close" => Some(closes(alloc, handle, wanted)),
         "save" => Some(saves(rt, alloc, handle, words, wanted)),
         "mark" => Some(marks(rt, alloc, handle, words, wanted)),
-        _ => None,
-    }
-}
-
-/// Whether a call that reads a number of a party comes to what its line wants, if it is one.
-pub(crate) fn read(
-    rt: &impl Abort,
-    alloc: Global,
-    handle: &mut Handle,
-    name: &str,
-    wanted: &str,
-) -> Option<bool> {
-    match name {
-        "entries" => Some(has_entries(rt, alloc, handle, wanted)),
-        "saved" => Some(has_saved(rt, alloc, handle, wanted)),
-        "actor" => Some(has_actor(rt, alloc, handle, wanted)),
         _ => None,
     }
 }

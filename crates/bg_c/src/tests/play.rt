@@ -6,14 +6,14 @@ use crate::tests::plays::check_plays;
 /// for a roll; and neither die shows 4.
 const PLAYS: &str = "\
 a_referee_opens_one_game
-open 0 1 1 1 - -: OK
+begin 0 1 1 1 - -: OK
 due 0: WORD_REFUSED 99
 due 12: OK 1
 due 12: NOT_DUE 99
-entries: 1
+entries: OK 1
 
 what_is_saved_is_told
-open 0 1 1 1 - -: OK
+begin 0 1 1 1 - -: OK
 due 12: OK 1
 take WANT: OK 0 0 0; nothing
 save 128: OK 1 1; any
@@ -21,28 +21,28 @@ mark 1: OK
 take WANT: OK 2 0 0; OPENING to 3
 
 a_claim_is_accepted
-open 0 1 1 1 - -: OK
+begin 0 1 1 1 - -: OK
 due 12: OK 1
 take CLAIM: OK 3 2 0; nothing
-entries: 2
+entries: OK 2
 
 what_is_no_packet_changes_nothing
-open 0 1 1 1 - -: OK
+begin 0 1 1 1 - -: OK
 due 12: OK 1
 take BG: NOT_A_PACKET 99 99 99; kept
-entries: 1
+entries: OK 1
 
 a_watcher_learns
-open 3 1 1 1 - -: OK
+begin 3 1 1 1 - -: OK
 take ENTRIES: OK 8 2 0; nothing
 take OPENING: OK 0 0 0; nothing
 
 a_follower_wants_entries
-open 3 1 1 1 - -: OK
+begin 3 1 1 1 - -: OK
 tick: OK; WANT to 0; nothing
 
 a_seat_sends_its_claim_once_it_is_saved
-open 1 1 1 1 - -: OK
+begin 1 1 1 1 - -: OK
 take OPENING: OK 8 1 0; nothing
 choose move 8-5 6-5: OK 2 99
 save 128: OK 1 1; any
@@ -51,7 +51,7 @@ tick: OK; CLAIM to 0; nothing
 choose move 8-5 6-5: ALREADY_CLAIMED 99 99
 
 a_seat_is_told_why_an_action_does_not_follow
-open 1 1 1 1 - -: OK
+begin 1 1 1 1 - -: OK
 take OPENING: OK 8 1 0; nothing
 choose roll: ILLEGAL 99 3
 choose move 8-5 6-2: ILLEGAL 99 12

@@ -2,12 +2,13 @@
 //! isn't open; empty lines stand between plays. Above a call's function stands what its line says.
 use crate::handle::Handle;
 use crate::tests::calls::gave;
-use crate::tests::party_calls::{kept, played, read, writes};
+use crate::tests::number_calls::read;
+use crate::tests::party_calls::{kept, played, writes};
 use crate::tests::words::parted;
 use std::alloc::Global;
 use std::process::Abort;
 
-/// Whether a call that writes a text, or needs no party, comes to what its line wants.
+/// Returns whether a call that writes a text, or needs no party, comes to what its line wants.
 fn gives(
     rt: &impl Abort,
     alloc: Global,
@@ -22,7 +23,7 @@ fn gives(
     }
 }
 
-/// Whether the call of a line comes to what the line wants.
+/// Returns whether the call of a line comes to what the line wants.
 fn holds(rt: &impl Abort, alloc: Global, handle: &mut Handle, line: &str) -> bool {
     let (call, wanted) = parted(rt, line, ": ");
     let (name, words) = call.split_once(' ').unwrap_or((call, ""));
@@ -38,7 +39,7 @@ fn holds(rt: &impl Abort, alloc: Global, handle: &mut Handle, line: &str) -> boo
     }
 }
 
-/// The lines of a play hold, one after the other.
+/// Checks that the lines of a play hold, one after the other.
 fn check_play(rt: &impl Abort, alloc: Global, play: &str) {
     let (name, lines) = parted(rt, play, "\n");
     let mut handle = Handle::empty(alloc);
@@ -47,7 +48,7 @@ fn check_play(rt: &impl Abort, alloc: Global, play: &str) {
     }
 }
 
-/// The lines of all plays hold.
+/// Checks that the lines of all plays hold.
 pub(crate) fn check_plays(rt: &(impl AllocGlobal + Abort), plays: &str) {
     for play in plays.split("\n\n") {
         check_play(rt, rt.alloc(), play);

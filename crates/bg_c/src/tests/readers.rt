@@ -4,40 +4,41 @@ use crate::tests::plays::check_plays;
 /// No other turn than the last one of `the_turns_are_listed_greatest_first` begins below 6.
 const PLAYS: &str = "\
 a_referee_counts_what_is_saved
-open 0 1 1 1 - -: OK
+begin 0 1 1 1 - -: OK
 due 12: OK 1
-entries: 1
-saved: 0
+entries: OK 1
+saved: OK 0
 save 128: OK 1 1; any
 mark 1: OK
-saved: 1
+saved: OK 1
 
 the_referee_opens_and_then_x_acts
-open 0 1 1 1 - -: OK
+begin 0 1 1 1 - -: OK
 actor: OK 0
 due 12: OK 1
 actor: OK 1
 
 the_board_is_that_of_the_start
-open 2 1 1 1 - -: OK
+begin 2 1 1 1 - -: OK
 board 512: OK; BOARD
 
 the_transcript_is_that_of_the_opening
-open 0 1 1 1 - -: OK
+begin 0 1 1 1 - -: OK
 due 12: OK 1
 transcript 64: OK; OPENED
 
 the_turns_are_listed_greatest_first
-open 0 1 1 1 - -: OK
+begin 0 1 1 1 - -: OK
 due 12: OK 1
 turns 4096: OK; FIRST_TURNS .. LAST_TURN
 
 nobody_moves_before_the_opening
-open 0 1 1 1 - -: OK
+begin 0 1 1 1 - -: OK
 turns 8: NOT_TO_MOVE 99; kept
 
 statuses_say_what_they_mean
-version: 1
+abi: 2
+version: 202
 status 80 0: OK; it is done
 status 80 1: OK; the text does not fit into the room
 status 80 2: OK; there was no memory
@@ -57,7 +58,13 @@ status 80 15: OK; the referee has nothing to add, or the record is full
 status 80 16: OK; the word opens no game
 status 80 17: OK; no player is to move
 status 80 18: OK; the transcript is refused
-status 80 19: BAD_ARGUMENT 99; kept
+status 80 19: OK; a new match wants empty slots, and a slot has something
+status 80 20: OK; the slots have no save to go on from
+status 80 21: OK; the bytes are no saved text
+status 80 22: OK; another call is inside the handle
+status 80 23: OK; the handle was closed
+status 80 24: OK; the handle is a copy, or was moved after it was opened
+status 80 25: BAD_ARGUMENT 99; kept
 ";
 
 #[test]

@@ -3,25 +3,25 @@ use crate::tests::plays::check_plays;
 
 const PLAYS: &str = "\
 followers_open_nothing
-open 1 1 1 1 - -: OK
+begin 1 1 1 1 - -: OK
 due 12: WRONG_PARTY 99
-open 2 1 1 1 - -: OK
+begin 2 1 1 1 - -: OK
 due 12: WRONG_PARTY 99
-open 3 1 1 1 - -: OK
+begin 3 1 1 1 - -: OK
 due 12: WRONG_PARTY 99
 
 the_referee_and_watchers_claim_nothing
-open 0 1 1 1 - -: OK
+begin 0 1 1 1 - -: OK
 choose roll: WRONG_PARTY 99 99
-open 3 1 1 1 - -: OK
+begin 3 1 1 1 - -: OK
 choose roll: WRONG_PARTY 99 99
 
 a_seat_waits_for_its_turn
-open 2 1 1 1 - -: OK
+begin 2 1 1 1 - -: OK
 choose roll: NOT_YOUR_TURN 99 99
 
 watchers_save_nothing
-open 3 1 1 1 - -: OK
+begin 3 1 1 1 - -: OK
 save 64: WRONG_PARTY 99 99 99; kept
 mark 1: WRONG_SAVE
 ";

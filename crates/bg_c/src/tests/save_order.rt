@@ -7,19 +7,19 @@ use crate::tests::plays::check_plays;
 /// In `a_save_is_marked_once` a packet which brings nothing new leaves the save under way.
 const PLAYS: &str = "\
 a_stale_save_is_not_marked
-open 0 1 1 1 - -: OK
+begin 0 1 1 1 - -: OK
 due 12: OK 1
 save 64: OK 1 1; any
 take CLAIM: OK 3 2 0; nothing
 mark 1: WRONG_SAVE
-saved: 0
+saved: OK 0
 take WANT: OK 0 0 0; nothing
 save 128: OK 1 1; any
 mark 1: OK
-saved: 2
+saved: OK 2
 
 a_save_is_marked_once
-open 0 1 1 1 - -: OK
+begin 0 1 1 1 - -: OK
 due 12: OK 1
 mark 1: WRONG_SAVE
 save 64: OK 1 1; any
@@ -30,7 +30,7 @@ mark 1: WRONG_SAVE
 take WANT: OK 2 0 0; OPENING to 3
 
 the_text_of_a_save_is_that_of_its_format
-open 0 1 1 1 - -: OK
+begin 0 1 1 1 - -: OK
 due 12: OK 1
 save 128: OK 1 1; any
 mark 1: OK

@@ -4,6 +4,8 @@ mod raw;
 
 use std::error::Error;
 use std::fmt;
+use std::cell::UnsafeCell;
+use std::ffi::CStr;
 use std::ptr::null_mut;
 
 /// Why a call does not answer BG_OK, in the order of the numbers, from 2.
@@ -27,14 +29,21 @@ pub enum Status {
     WordRefused,
     NotToMove,
     Refused,
+    NotEmpty,
+    NothingSaved,
+    NotASave,
+    Busy,
+    Closed,
+    Copied,
 }
 
 use Status::*;
 
 /// Every status, in the order of the numbers.
-pub const STATUSES: [Status; 17] = [
+pub const STATUSES: [Status; 23] = [
     Memory, BadArgument, NotOpen, WrongParty, NotAPacket, NotAnAction, Damaged, WrongMatch, WrongSave, SavesSpent,
-    NotYourTurn, AlreadyClaimed, Illegal, NotDue, WordRefused, NotToMove, Refused,
+    NotYourTurn, AlreadyClaimed, Illegal, NotDue, WordRefused, NotToMove, Refused, NotEmpty, NothingSaved, NotASave,
+    Busy, Closed, Copied,
 ];
 
 const OK: u32 = 0;
@@ -51,9 +60,9 @@ fn done(status: u32) -> Result<(), Status> {
 
 impl fmt::Display for Status {
     fn fmt(&self, f: &mut fmt::Formatter<'_>) -> fmt::Result {
-        // SAFETY: room and length belong to one buffer.
-        let text = text(|out, room, needed| unsafe { raw::bg_status_text(*self as u32, out, room, needed) });
-        f.write_str(&String::from_utf8_lossy(&text.map_err(|_| fmt::Error)?))
+        // SAFETY: the call hands out a constant text, which a zero byte ends.
+        let name = unsafe { CStr::from_ptr(raw::bg_status_name(*self as u32)) };
+        f.write_str(&name.to_string_lossy())
     }
 }
 
@@ -106,7 +115,7 @@ pub struct Datagram {
     pub bytes: Vec<u8>,
 }
 
-const NOTHING: raw::Datagram = raw::Datagram { to: 0, length: 0, bytes: [0; 128] };
+const NOTHING: raw::Datagram = raw::Datagram { to: 0, length: 0, reserved: [0; 2], bytes: [0; 128] };
 
 fn sent(datagram: &raw::Datagram) -> Option<Datagram> {
     let bytes = &datagram.bytes[..datagram.length as usize];
@@ -130,67 +139,94 @@ pub struct Save {
     pub text: Vec<u8>,
 }
 
-/// The referee, a seat or a watcher of a match. It may pass to another thread, and no two use it at once: hence `&mut`.
-pub struct Party(raw::Party);
+/// What was saved of a party that goes on.
+pub use raw::Saved;
+
+/// The referee, a seat or a watcher of a match. It may pass to another thread. Its handle stands in a box, since it must
+/// not move. What two threads ask of it at once is no error of theirs: one of them gets `Busy`.
+pub struct Party(Box<UnsafeCell<raw::Party>>);
 
 // SAFETY: the library has no state of a thread, and says that a party may pass from thread to thread.
 unsafe impl Send for Party {}
+// SAFETY: of two calls on one party the library lets one in.
+unsafe impl Sync for Party {}
 
 impl Drop for Party {
     fn drop(&mut self) {
-        // SAFETY: the handle is one that bg_party_open has set, and is not used again.
-        unsafe { raw::bg_party_close(&mut self.0) }
+        // SAFETY: the handle is one that was opened, and is not used again.
+        unsafe { raw::bg_party_close(self.0.get()) };
     }
 }
 
-// SAFETY of the calls below: the handle is one that bg_party_open has set, each pointer is that of a buffer of the
+// SAFETY of the calls below: the handle is one that was opened, each pointer is that of a buffer of the
 // length beside it, or of an object that is initialised, and none of them overlap.
 impl Party {
-    /// Opens a party as its two slots restore it.
-    pub fn open(number: u8, id: u64, length: u8, rules: u8, slots: [&[u8]; 2]) -> Result<Party, Status> {
-        let mut party = raw::Party(null_mut());
+    /// A handle that is not open.
+    fn fresh() -> Box<UnsafeCell<raw::Party>> {
+        Box::new(UnsafeCell::new(raw::Party { inner: null_mut(), place: 0, state: 0, reserved: [0; 3] }))
+    }
+
+    /// Opens a party of a new match: its slots must be empty.
+    pub fn begin(number: u32, id: u64, length: u32, rules: u32, slots: [&[u8]; 2]) -> Result<Party, Status> {
+        let party = Party::fresh();
         let [zero, one] = slots;
         done(unsafe {
-            raw::bg_party_open(
-                &mut party, number, id, length, rules, zero.as_ptr(), zero.len(), one.as_ptr(), one.len(),
+            raw::bg_party_begin(
+                party.get(), number, id, length, rules, zero.as_ptr(), zero.len(), one.as_ptr(), one.len(),
             )
         })?;
         Ok(Party(party))
     }
 
-    pub fn entries(&mut self) -> u32 {
-        unsafe { raw::bg_party_entries(&mut self.0) }
+    /// Opens a party that goes on with what its two slots restore. Look at `misplaced` of what was saved.
+    pub fn resume(number: u32, id: u64, length: u32, rules: u32, slots: [&[u8]; 2]) -> Result<(Party, Saved), Status> {
+        let (party, mut saved) = (Party::fresh(), Saved::default());
+        let [zero, one] = slots;
+        done(unsafe {
+            raw::bg_party_resume(
+                party.get(), number, id, length, rules, zero.as_ptr(), zero.len(), one.as_ptr(), one.len(), &mut saved,
+            )
+        })?;
+        Ok((Party(party), saved))
     }
 
-    pub fn saved(&mut self) -> u32 {
-        unsafe { raw::bg_party_saved(&mut self.0) }
+    pub fn entries(&self) -> Result<u32, Status> {
+        let mut entries = 0;
+        done(unsafe { raw::bg_party_entries(self.0.get(), &mut entries) })?;
+        Ok(entries)
     }
 
-    pub fn board(&mut self) -> Result<Vec<u8>, Status> {
-        text(|out, room, needed| unsafe { raw::bg_party_board(&mut self.0, out, room, needed) })
+    pub fn saved(&self) -> Result<u32, Status> {
+        let mut saved = 0;
+        done(unsafe { raw::bg_party_saved(self.0.get(), &mut saved) })?;
+        Ok(saved)
     }
 
-    pub fn transcript(&mut self) -> Result<Vec<u8>, Status> {
-        text(|out, room, needed| unsafe { raw::bg_party_transcript(&mut self.0, out, room, needed) })
+    pub fn board(&self) -> Result<Vec<u8>, Status> {
+        text(|out, room, needed| unsafe { raw::bg_party_board(self.0.get(), out, room, needed) })
     }
 
-    pub fn turns(&mut self) -> Result<Vec<u8>, Status> {
-        text(|out, room, needed| unsafe { raw::bg_party_turns(&mut self.0, out, room, needed) })
+    pub fn transcript(&self) -> Result<Vec<u8>, Status> {
+        text(|out, room, needed| unsafe { raw::bg_party_transcript(self.0.get(), out, room, needed) })
+    }
+
+    pub fn turns(&self) -> Result<Vec<u8>, Status> {
+        text(|out, room, needed| unsafe { raw::bg_party_turns(self.0.get(), out, room, needed) })
     }
 
     /// The referee adds what is its to add, and gives that entry's number.
     pub fn due(&mut self, word: u32) -> Result<u32, Status> {
         let mut number = 0;
-        done(unsafe { raw::bg_referee_due(&mut self.0, word, &mut number) })?;
+        done(unsafe { raw::bg_referee_due(self.0.get(), word, &mut number) })?;
         Ok(number)
     }
 
     pub fn take(&mut self, packet: &[u8], word: u32) -> Result<Taken, Status> {
         let (mut outcome, mut answer) = (raw::Outcome::default(), NOTHING);
         done(unsafe {
-            raw::bg_party_take(&mut self.0, packet.as_ptr(), packet.len(), word, &mut outcome, &mut answer)
+            raw::bg_party_take(self.0.get(), packet.as_ptr(), packet.len(), word, &mut outcome, &mut answer)
         })?;
-        let raw::Outcome { kind, number, why } = outcome;
+        let raw::Outcome { kind, number, why, .. } = outcome;
         Ok(Taken { kind, number, why, answer: sent(&answer) })
     }
 
@@ -198,7 +234,7 @@ impl Party {
     /// status is not `Illegal`.
     pub fn choose(&mut self, action: &str) -> Result<u32, (Status, u32)> {
         let (mut number, mut why) = (0, 0);
-        done(unsafe { raw::bg_seat_choose(&mut self.0, action.as_ptr(), action.len(), &mut number, &mut why) })
+        done(unsafe { raw::bg_seat_choose(self.0.get(), action.as_ptr(), action.len(), &mut number, &mut why) })
             .map_err(|status| (status, why))?;
         Ok(number)
     }
@@ -206,7 +242,7 @@ impl Party {
     /// What is to be sent now, at most two packets.
     pub fn tick(&mut self) -> Result<Vec<Datagram>, Status> {
         let (mut first, mut second) = (NOTHING, NOTHING);
-        done(unsafe { raw::bg_party_tick(&mut self.0, &mut first, &mut second) })?;
+        done(unsafe { raw::bg_party_tick(self.0.get(), &mut first, &mut second) })?;
         Ok([sent(&first), sent(&second)].into_iter().flatten().collect())
     }
 
@@ -214,12 +250,12 @@ impl Party {
     pub fn to_save(&mut self) -> Result<Save, Status> {
         let (mut slot, mut number) = (0, 0);
         let text = text(|out, room, needed| unsafe {
-            raw::bg_party_to_save(&mut self.0, &mut slot, &mut number, out, room, needed)
+            raw::bg_party_to_save(self.0.get(), &mut slot, &mut number, out, room, needed)
         })?;
         Ok(Save { slot, number, text })
     }
 
     pub fn mark_saved(&mut self, number: u32) -> Result<(), Status> {
-        done(unsafe { raw::bg_party_mark_saved(&mut self.0, number) })
+        done(unsafe { raw::bg_party_mark_saved(self.0.get(), number) })
     }
 }

@@ -1,5 +1,5 @@
 use Rattle.std.proofs.Common.{◌≡◌}
-use Rattle.bg_c.proofs.parties.saves.bg_party_mark_saved.Goals as goal
+use Rattle.bg_c.proofs.parties.saves.bg_proved_party_mark_saved.Goals as goal
 
 pub returns-in-Ok-clause-marks : goal.returns-in-Ok-clause-marks
 returns-in-Ok-clause-marks c = λ old is under_way.

@@ -1,5 +1,5 @@
 use Rattle.std.proofs.Common.{◌≡◌, refl}
-use Rattle.bg_c.proofs.parties.play.bg_party_take.Goals as goal
+use Rattle.bg_c.proofs.parties.play.bg_proved_party_take.Goals as goal
 
 pub returns-in-Ok-clause-takes : goal.returns-in-Ok-clause-takes
 returns-in-Ok-clause-takes c = λ old is.

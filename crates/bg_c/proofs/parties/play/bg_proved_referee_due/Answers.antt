@@ -1,5 +1,5 @@
 use Rattle.std.proofs.Common.{◌≡◌}
-use Rattle.bg_c.proofs.parties.play.bg_referee_due.Goals as goal
+use Rattle.bg_c.proofs.parties.play.bg_proved_referee_due.Goals as goal
 
 pub returns-clause-due : goal.returns-clause-due
 returns-clause-due c = λ old is.

@@ -1,6 +1,6 @@
 use Rattle.std.proofs.Common.{◌≡◌}
 use Rattle.bg_c.specs.PartyCalls.{HeldTicks}
-use Rattle.bg_c.proofs.parties.play.bg_party_tick.Goals as goal
+use Rattle.bg_c.proofs.parties.play.bg_proved_party_tick.Goals as goal
 
 pub returns-clause-ticks : goal.returns-clause-ticks
 returns-clause-ticks c = λ old is.

@@ -1,5 +1,5 @@
 use Rattle.std.proofs.Common.{◌≡◌}
-use Rattle.bg_c.proofs.parties.play.bg_seat_choose.Goals as goal
+use Rattle.bg_c.proofs.parties.play.bg_proved_seat_choose.Goals as goal
 
 pub returns-clause-chooses : goal.returns-clause-chooses
 returns-clause-chooses c = λ old is.

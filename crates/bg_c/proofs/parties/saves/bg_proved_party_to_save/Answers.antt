@@ -1,5 +1,5 @@
 use Rattle.std.proofs.Common.{◌≡◌}
-use Rattle.bg_c.proofs.parties.saves.bg_party_to_save.Goals as goal
+use Rattle.bg_c.proofs.parties.saves.bg_proved_party_to_save.Goals as goal
 
 pub returns-clause-saves : goal.returns-clause-saves
 returns-clause-saves c = λ old is.
