@@ -10,6 +10,13 @@ use bg_reports::Ending;
 use bg_world::{Event, Outcome, RestoreCause, outcome_text};
 use std::fmt::Display;
 
+/// What to do where the parties can't go on together.
+const TOGETHER: &str =
+    "end all processes, and put back copies that were made together, or `recover`";
+
+/// The sign of that at a referee whose folder is older than that of another party.
+const BEHIND: &str = "another party has entries that the referee lacks";
+
 /// An observer that reports failed devices on the standard error. It also reports, once, that the
 /// parties can't go on together, and the sign of that (docs/OPERATING.md, "Messages").
 #[derive(Drop)]
@@ -48,7 +55,9 @@ impl<'a, R: Eprint> FailureReporter<'a, R> {
         if !self.warned {
             say(
                 self.rt,
-                format_args!("the files of the parties do not belong together: {sign}"),
+                format_args!(
+                    "the folders of the parties are from different points in time: {sign}; {TOGETHER}"
+                ),
             );
         }
         self.warned = true;
@@ -60,7 +69,12 @@ impl<'a, R: Eprint> FailureReporter<'a, R> {
     /// together.
     pub fn saw(&mut self, event: &Event, outcome: &Outcome) {
         self.say_failures();
-        if is_out_of_step(outcome) {
+        if !is_out_of_step(outcome) {
+            return;
+        }
+        if matches!(outcome, Outcome::Took(TakeOutcome::Ahead)) {
+            self.warn(BEHIND);
+        } else {
             let line = outcome_text(outcome);
             self.warn(format_args!("at party {}: {}", party_at(event), line.as_str()));
         }

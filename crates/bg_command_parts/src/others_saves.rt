@@ -23,7 +23,7 @@ impl Display for Owner {
             REFEREE => "the referee",
             SEAT_OF_X => "player X",
             SEAT_OF_O => "player O",
-            _ => "one who watches",
+            _ => "a watcher",
         })
     }
 }

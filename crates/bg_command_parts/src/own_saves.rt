@@ -1,7 +1,7 @@
 //! The saves of a party, and the messages where they are why it can't go on.
 
 use crate::others_saves::Owner;
-use bg_console::{failed_barely, say};
+use bg_console::{failed_barely, no_memory, say};
 use bg_match::Rules;
 use bg_processes::{MatchFile, Printable, SlotName, read_saved};
 use bg_reports::Ending;
@@ -81,8 +81,8 @@ pub struct OwnSaves<'a> {
     pub asked: Asked<'a>,
 }
 
-/// Reports why a party is down for good, in a line of its own. Where its saves are why, the line
-/// before that says whose saves they are, and what to do.
+/// Reports why a party is down for good, in a line of its own. The line before that says what to
+/// do and, where its saves are why, whose saves they are.
 pub fn stopped<R>(rt: &R, saves: OwnSaves<'_>, outcome: &Outcome) -> Ending
 where
     R: Files<File = File> + Eprint + AllocGlobal,
@@ -92,8 +92,8 @@ where
     failed_barely(rt, line.as_str())
 }
 
-/// Reports what is wrong with the saves of a party that is down for good, and what to do, where
-/// they are why.
+/// Reports what to do of a party that is down for good, and what is wrong with its saves, where
+/// they are why. Of a file that can't be read that has been reported.
 fn say_remedy<R>(rt: &R, saves: OwnSaves<'_>, outcome: &Outcome)
 where
     R: Files<File = File> + Eprint + AllocGlobal,
@@ -122,7 +122,11 @@ where
                 format_args!("{owner} can save no more in {folder}: {remedy}"),
             );
         }
-        _ => {}
+        Outcome::RestoreFault(RestoreCause::Device) => {}
+        // Nothing else ends a party but want of memory.
+        _ => {
+            let _ = no_memory(rt);
+        }
     }
 }
 

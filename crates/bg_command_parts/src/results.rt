@@ -94,6 +94,12 @@ impl Results {
         }
     }
 
+    /// Returns the number of entries that were followed: behind a result, that of the entry that
+    /// ended the game.
+    pub fn followed(&self) -> Number {
+        self.followed
+    }
+
     /// Returns the result of the next game that has ended, between players with these names. A
     /// record of a restarted party may hold less for a while.
     pub fn next(&mut self, record: &Record, names: &Names) -> Option<GameResult> {

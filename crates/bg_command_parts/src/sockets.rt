@@ -17,6 +17,9 @@ const RUNNING_OR: &str = "running already, or a match whose ports begin at";
 
 const END_IT: &str = "End that process first";
 
+/// The words on what a socket needs.
+const OPEN_FILES: &str = "it needs a loopback address, and room for open files (`ulimit -n`)";
+
 /// Opens the socket of a party of the match that has this port, with its keys. Later failures are
 /// noted in `failures`. Ends with `Failed` where the port is taken, or there is no socket.
 pub fn socket_of<'a, R: Net + Clock + Eprint>(
@@ -57,6 +60,6 @@ fn holder_of(party: u8) -> &'static str {
 pub fn no_socket(rt: &impl Eprint, party: u8, error: &io::Error) -> Ending {
     failed(
         rt,
-        format_args!("no socket for party {party} on 127.0.0.1: {error}"),
+        format_args!("no socket for party {party} on 127.0.0.1: {error}; {OPEN_FILES}"),
     )
 }

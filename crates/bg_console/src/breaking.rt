@@ -2,8 +2,12 @@
 
 use std::alloc::{AllocError, Global};
 
+/// The start of the line of a player's offers.
+pub(crate) const TURN: &[u8] = b"your turn, ";
+
 /// Returns the lines broken between words, each of at most this number of columns. Lines that fit
-/// stay as they are. A longer word has a line of its own.
+/// stay as they are. A longer word has a line of its own. The words of an offer to a player stay
+/// together if a line has room for them.
 ///
 /// # Errors
 /// AllocError where there is no memory for them.
@@ -22,8 +26,15 @@ fn put_broken(text: &mut Vec<u8>, line: &[u8], columns: usize) -> Result<(), All
         return Ok(text.push(b'\n')?);
     }
     let mut column = 0usize;
+    let mut rest = line;
+    let has_offers = line.starts_with(TURN);
+    let mut begins_offer = has_offers;
     for word in line.split(|byte| *byte == b' ') {
-        let end = column.saturating_add(1).saturating_add(word.len());
+        let kept = match first_offer(rest, columns) {
+            Some(length) if begins_offer => length,
+            _ => word.len(),
+        };
+        let end = column.saturating_add(1).saturating_add(kept);
         if column > 0 && end > columns {
             text.push(b'\n')?;
             column = 0;
@@ -33,6 +44,20 @@ fn put_broken(text: &mut Vec<u8>, line: &[u8], columns: usize) -> Result<(), All
         }
         text.extend_from_slice(word)?;
         column = column.saturating_add(word.len());
+        rest = rest.get(word.len().saturating_add(1)..).unwrap_or_default();
+        begins_offer = has_offers && matches!(word.last(), Some(b',' | b':'));
     }
     Ok(text.push(b'\n')?)
+}
+
+/// Returns the length of the offer that this part of a line begins with, up to its comma or colon.
+/// Returns `None` if it is longer than a line.
+fn first_offer(rest: &[u8], columns: usize) -> Option<usize> {
+    let end = rest.iter().position(|byte| matches!(byte, b',' | b':'));
+    let length = end.map_or(rest.len(), |end| end.saturating_add(1));
+    if length <= columns {
+        Some(length)
+    } else {
+        None
+    }
 }

@@ -1,5 +1,6 @@
 //! Colours for a terminal: for checkers, and for what a player is offered.
 
+use crate::breaking::TURN;
 use bg_board::Player;
 use bg_text::letter;
 use std::alloc::{AllocError, Global};
@@ -19,9 +20,7 @@ const OF_POINTS: &[u8] = b" .|XO0123456789";
 /// The starts of the lines for the bar and for the checkers that are borne off.
 const ASIDE: [&[u8]; 2] = [b"bar: ", b"off: "];
 
-/// The start of the line of a player's offers, up to the offers.
-const TURN: &[u8] = b"your turn, ";
-
+/// The end of the start of the line of a player's offers.
 const BEFORE_OFFERS: u8 = b':';
 
 /// Returns a text in which the lines of boards have the checkers of one player bold, and those of

@@ -9,6 +9,9 @@ use std::fs;
 use std::fs::File;
 use std::rt::Files;
 
+/// What to do with a key file of another match.
+const OTHER_MATCH: &str = "put the file of this match in its place, or name another folder";
+
 /// Returns whether a referee's folder has a secret that its keys are derived from.
 pub fn has_key_secret<R>(rt: &R, folder: &str) -> Result<bool, Ending>
 where
@@ -69,7 +72,7 @@ where
     Err(wrong(
         rt,
         format_args!(
-            "{shown} is not of match {id}, or has another length, other rules or another port"
+            "{shown} is not of match {id}, or has another length, other rules or another port: {OTHER_MATCH}"
         ),
     ))
 }

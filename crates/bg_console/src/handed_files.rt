@@ -1,6 +1,6 @@
 //! The match files and key files that commands are given, and the reasons why they are refused.
 
-use crate::messages::{failed_at, wrong, wrong_at};
+use crate::messages::{failed_with, wrong, wrong_at};
 use bg_board::Player;
 use bg_reports::Ending;
 use bg_system::{KeyFile, MatchFile, NamedMatch, Printable, name_of_key_file};
@@ -9,9 +9,15 @@ use std::fs::File;
 use std::rt::Files;
 use std::{fs, io};
 
+/// The message on a path without a character.
+const NO_NAME: &str = "the name of a file is empty";
+
+/// The message on a file that can't be read.
+const UNREAD: &str = " could not be read";
+
 /// The message on a key file of those who watch, where a seat's is asked for.
 const OF_NO_SEAT: &str =
-    " is the key file of those who watch: for a player it is `match-x` or `match-o`";
+    " is the key file of the watchers: for a player it is `match-x` or `match-o`";
 
 /// The messages on a file that is no match file, and on one that is no key file.
 const NO_MATCH_FILE: &str =
@@ -20,20 +26,40 @@ const NO_MATCH_FILE: &str =
 const NO_KEY_FILE: &str =
     " is no key file: name the one that `bg_relay new` made for this party, or a copy of it";
 
+/// The messages on what to do where the match file of a referee can't be read, any file of the
+/// match that was handed out, or the key file of a party.
+const OF_REFEREE: &str =
+    "name the folder that `bg_relay new` made; if its file `match` is lost, any key file of the match, without its last line, is one";
+
+const HANDED: &str = "name a key file of the match, or a copy of one";
+
+const KEY_REMEDY: &str =
+    "name the key file that `bg_relay new` made for this party, or a copy of it";
+
 /// The message on a folder where a key file is asked for.
 const A_FOLDER: &str =
     " is a folder: name the key file in it, `match-x`, `match-o` or `match-watch`";
 
-/// Reads the match file at a path. Ends with `WrongArguments` where it isn't one, and with `Failed`
-/// where it can't be read.
+/// Reads the match file at a path in a referee's folder. Ends with `WrongArguments` where it isn't
+/// one, and with `Failed` where it can't be read.
 pub fn match_of(
     rt: &(impl Files<File = File> + Eprint + AllocGlobal),
     path: &str,
 ) -> Result<NamedMatch, Ending> {
+    match_or(rt, path, OF_REFEREE)
+}
+
+/// Reads the match file at a path. Reports this remedy if it can't be read.
+fn match_or(
+    rt: &(impl Files<File = File> + Eprint + AllocGlobal),
+    path: &str,
+    remedy: &str,
+) -> Result<NamedMatch, Ending> {
     match NamedMatch::read(rt, path) {
         Ok(Some(file)) => Ok(file),
+        Err(_) if path.is_empty() => Err(wrong(rt, NO_NAME)),
         Ok(None) => Err(wrong_at(rt, path, NO_MATCH_FILE)),
-        Err(error) => Err(failed_at(rt, path, " could not be read", &error)),
+        Err(error) => Err(failed_with(rt, path, UNREAD, &error, remedy)),
     }
 }
 
@@ -89,15 +115,18 @@ pub fn table_of(
 ) -> Result<NamedMatch, Ending> {
     match KeyFile::read(rt, path) {
         Ok(Some(file)) => Ok(file.named_match()),
-        _ => match_of(rt, path),
+        _ => match_or(rt, path, HANDED),
     }
 }
 
-/// Reports that a key file can't be read, and why; or that it is a folder.
+/// Reports that a key file can't be read, and why; or that it is a folder or has no name.
 fn unread_key(rt: &(impl Files<File = File> + Eprint), path: &str, error: &io::Error) -> Ending {
+    if path.is_empty() {
+        return wrong(rt, NO_NAME);
+    }
     match fs::metadata(rt, path) {
         Ok(found) if found.is_dir() => wrong_at(rt, path, A_FOLDER),
-        _ => failed_at(rt, path, " could not be read", error),
+        _ => failed_with(rt, path, UNREAD, error, KEY_REMEDY),
     }
 }
 
@@ -106,7 +135,7 @@ fn holder(party: u8) -> &'static str {
     match party {
         SEAT_OF_X => "player X",
         SEAT_OF_O => "player O",
-        _ => "those who watch",
+        _ => "the watchers",
     }
 }
 

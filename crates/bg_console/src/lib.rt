@@ -19,18 +19,22 @@
 //! ```
 #![tactic(auto)]
 
+mod below;
 mod beside;
 mod breaking;
 mod colours;
 mod folder_keys;
 mod handed_files;
 mod messages;
+mod out_folders;
 mod pairings;
+mod paths;
 mod published;
 mod screens;
 mod startup;
 mod tellings;
 
+pub use below::{Finding, MatchBelow, NO_MATCH, matches_below};
 pub use beside::{MatchBeside, matches_beside};
 pub use breaking::broken;
 pub use colours::{with_bold_offers, with_coloured_checkers};
@@ -39,10 +43,12 @@ pub use handed_files::{key_file_of, match_of, seat_key_file_of, table_of};
 pub use messages::progress::Progress;
 pub use messages::says::{say, say_failures, say_number, say_of, say_why};
 pub use messages::{
-    allocated, engine_failed, failed, failed_at, failed_barely, failed_for, no_memory, unread,
-    unwritten, written, wrong, wrong_at, wrong_for,
+    allocated, engine_failed, failed, failed_at, failed_barely, failed_for, failed_or, failed_with,
+    no_memory, unread, unwritten, written, wrong, wrong_at, wrong_for,
 };
+pub use out_folders::check_out_folder;
 pub use pairings::{Called, Pairing, page_words, title_of};
+pub use paths::{folder_of, not_memory, path_in, slot_path, without_slashes};
 pub use published::{Outputs, Published, is_one_file};
 pub use screens::{Terminal, columns, output_terminal};
 pub use startup::{

@@ -4,16 +4,22 @@
 pub(crate) mod progress;
 pub(crate) mod says;
 
-use crate::messages::says::{say, say_of, say_why};
+use crate::messages::says::{remedy_of, say, say_of, say_why};
 use bg_reports::Ending;
 use bg_streams::EngineFault;
+use bg_system::Printable;
 use std::alloc::AllocError;
 use std::fmt::Display;
 use std::io;
 use std::io::ErrorKind;
 
-/// The message for want of memory.
-const NO_MEMORY: &str = "out of memory";
+/// The message for want of memory, and those on an input that can't be read.
+const NO_MEMORY: &str =
+    "out of memory: end other programs, or allow this one more (`ulimit -v`), and start it again";
+
+const NO_INPUT: &str = "the input could not be read";
+
+const OTHER_INPUT: &str = "; give it a file or a terminal that can be read, and run it again";
 
 /// Reports that reading, writing or memory failed.
 pub fn failed<D: Display + Drop>(rt: &impl Eprint, message: D) -> Ending {
@@ -35,14 +41,11 @@ pub fn engine_failed(
     of_input: Option<&io::Error>,
     of_output: Option<&io::Error>,
 ) -> Ending {
-    let reason = match fault {
-        EngineFault::Read => of_input,
-        EngineFault::Write => of_output,
-        EngineFault::Memory => None,
-    };
-    match reason {
-        Some(reason) => failed(rt, format_args!("{fault}: {reason}")),
-        None => failed(rt, fault),
+    match (fault, of_input, of_output) {
+        (EngineFault::Read, Some(reason), _) => unread(rt, reason),
+        (EngineFault::Write, _, Some(reason)) => unwritten(rt, reason),
+        (EngineFault::Memory, _, _) => no_memory(rt),
+        _ => failed(rt, fault),
     }
 }
 
@@ -59,15 +62,40 @@ pub fn allocated<T>(rt: &impl Eprint, attempt: Result<T, AllocError>) -> Result<
     }
 }
 
-/// Reports that this failed, and why.
+/// Reports that this failed, and why. Then what to do, where a right or room is missing.
 pub fn failed_for(rt: &impl Eprint, what: &str, reason: &io::Error) -> Ending {
-    failed(rt, format_args!("{what}: {reason}"))
+    let remedy = remedy_of(reason);
+    failed(rt, format_args!("{what}: {reason}{remedy}"))
+}
+
+/// Reports that this failed, and why. Then what to do: how to get the right or the room that is
+/// missing, and else this.
+pub fn failed_or(rt: &impl Eprint, what: &str, reason: &io::Error, remedy: &str) -> Ending {
+    let known = remedy_of(reason);
+    let remedy = if known.is_empty() { remedy } else { known };
+    failed(rt, format_args!("{what}: {reason}{remedy}"))
 }
 
 /// Reports that reading, writing or locking a file or a folder failed, with its name, these words
-/// and the reason.
+/// and the reason. Then what to do, where a right or room is missing.
 pub fn failed_at(rt: &impl Eprint, path: &str, words: &str, reason: &io::Error) -> Ending {
     say_why(rt, path, words, reason);
+    Ending::Failed
+}
+
+/// Reports as [`failed_at`], and then what to do by a line of its own, unless the first line says
+/// that.
+pub fn failed_with(
+    rt: &impl Eprint,
+    path: &str,
+    words: &str,
+    reason: &io::Error,
+    remedy: &str,
+) -> Ending {
+    say_why(rt, path, words, reason);
+    if remedy_of(reason).is_empty() {
+        say(rt, remedy);
+    }
     Ending::Failed
 }
 
@@ -88,9 +116,9 @@ pub fn written<T>(rt: &impl Eprint, attempt: io::Result<T>) -> Result<T, Ending>
     }
 }
 
-/// Reports that the input could not be read, and why.
+/// Reports that the input could not be read, why, and what to do.
 pub fn unread(rt: &impl Eprint, error: &io::Error) -> Ending {
-    failed_for(rt, "the input could not be read", error)
+    failed_or(rt, NO_INPUT, error, OTHER_INPUT)
 }
 
 /// Reports why the arguments are refused.
@@ -105,8 +133,9 @@ pub fn wrong_at(rt: &impl Eprint, path: &str, words: &str) -> Ending {
     Ending::WrongArguments
 }
 
-/// Reports that a folder can't be used or created, with its name, these words and the reason.
+/// Reports that a folder can't be used or created, with its name, these words, which say what to
+/// do, and the reason.
 pub fn wrong_for(rt: &impl Eprint, path: &str, words: &str, reason: &io::Error) -> Ending {
-    say_why(rt, path, words, reason);
-    Ending::WrongArguments
+    let shown = Printable(path);
+    wrong(rt, format_args!("{shown}{words}: {reason}"))
 }

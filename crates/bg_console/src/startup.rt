@@ -1,7 +1,7 @@
 //! The start of the commands that run one party, and the reasons why they don't start or end early.
 
 use crate::messages::says::say_of;
-use crate::messages::{failed, failed_at, failed_for, no_memory, wrong, wrong_at, wrong_for};
+use crate::messages::{failed, failed_or, failed_with, no_memory, wrong, wrong_at, wrong_for};
 use bg_reports::Ending;
 use bg_system::{FolderLock, Printable, Ticking, Waiting};
 use std::fs::{DirBuilder, File, TryLockError};
@@ -12,6 +12,18 @@ use std::os::unix::fs::{DirBuilderExt, MetadataExt};
 use std::rt::Files;
 use std::time::Clock;
 use std::{fs, io};
+
+/// The messages on a folder that can't be locked, made or used, with what to do.
+const NO_LOCK: &str = "its file system locks no folder: use a folder on a disk of this machine";
+
+const NOT_MADE: &str = " can't be made: give another --dir, or the right to make it there";
+
+const NOT_USED: &str = " can't be used: name another folder, or give the right to enter it";
+
+/// The message on a socket that can't be waited for, and what to do.
+const NOT_WAITED: &str = "the socket can't be waited for";
+
+const MORE_FILES: &str = "; allow it more open files (`ulimit -n`), and start it again";
 
 /// Locks a folder, and returns the lock. Ends with `Failed` where another process plays over it, or
 /// it can't be locked.
@@ -31,7 +43,7 @@ pub fn lock_of(
             ))
         }
         Err(TryLockError::Error(error)) => {
-            Err(failed_at(rt, folder, " could not be locked", &error))
+            Err(failed_with(rt, folder, " could not be locked", &error, NO_LOCK))
         }
     }
 }
@@ -52,7 +64,7 @@ pub fn own_folder(
         .create(rt, folder);
     match made {
         Err(error) if error.kind() != ErrorKind::AlreadyExists => {
-            return Err(wrong_for(rt, folder, " can't be made", &error));
+            return Err(wrong_for(rt, folder, NOT_MADE, &error));
         }
         // An empty path creates nothing.
         _ => check_folder(rt, folder, " is no folder: give another --dir")?,
@@ -87,7 +99,7 @@ pub fn check_folder(
     match fs::metadata(rt, folder) {
         Ok(found) if found.is_dir() => Ok(()),
         Err(error) if error.kind() != ErrorKind::NotFound => {
-            Err(wrong_for(rt, folder, " can't be used", &error))
+            Err(wrong_for(rt, folder, NOT_USED, &error))
         }
         _ => Err(wrong_at(rt, folder, words)),
     }
@@ -146,6 +158,6 @@ pub fn waiting_for(
 pub fn waited<T>(rt: &impl Eprint, attempt: io::Result<T>) -> Result<T, Ending> {
     match attempt {
         Ok(next) => Ok(next),
-        Err(error) => Err(failed_for(rt, "the socket can't be waited for", &error)),
+        Err(error) => Err(failed_or(rt, NOT_WAITED, &error, MORE_FILES)),
     }
 }

@@ -6,8 +6,7 @@ mod targets;
 use crate::batches::beside::{bytes_beside, headers_beside, keep_headers};
 use crate::batches::targets::{NameEndings, check_targets, target_of};
 use crate::inputs::{match_file_text, read_input, transcript_as_match_file};
-use crate::out_folders::check_out_folder;
-use bg_console::{Progress, allocated, failed_at, say, wrong, wrong_at};
+use bg_console::{Progress, allocated, check_out_folder, failed_at, say, wrong, wrong_at};
 use bg_match::Rules;
 use bg_options::{BatchOptions, HeaderOptions};
 use bg_reports::{Ending, Tally};
@@ -17,7 +16,7 @@ use std::fs::File;
 use std::rt::Files;
 use std::time::Clock;
 
-/// What is made of each file.
+/// The conversion of each file.
 #[derive(Clone, Copy)]
 pub(crate) enum Conversion<'a> {
     /// The transcript of a match file, by these rules.

@@ -1,6 +1,7 @@
 //! The command that judges many files.
 
-use crate::checkers::{Checker, STANDARD_INPUT, unread_list};
+use crate::checkers::lists::unread_list;
+use crate::checkers::{Checker, STANDARD_INPUT};
 use crate::walks::is_folder;
 use bg_console::{Progress, wrong};
 use bg_options::CheckOptions;

@@ -2,10 +2,9 @@
 
 use crate::headers::Headers;
 use crate::marks::Mark;
-use bg_match::Number;
-use bg_reports::{RowForm, check_row, is_read_as_match_file};
+use bg_reports::{RowForm, check_row, is_read_as_match_file, refused_line};
 use bg_system::Printable;
-use bg_text::{Verdict, put_text, split_line};
+use bg_text::{Verdict, put_text};
 use std::alloc::{AllocError, Global};
 use std::io;
 
@@ -128,22 +127,7 @@ fn put_headers(
 /// Returns what other programs write, and was met in the line of a transcript that is refused.
 fn met_in(bytes: &[u8], verdict: Verdict) -> Option<&'static str> {
     match verdict {
-        Verdict::Refused(number) => Mark::in_line(line_at(bytes, number)).map(Mark::words),
+        Verdict::Refused(_) => Mark::in_line(refused_line(bytes, verdict)).map(Mark::words),
         _ => None,
-    }
-}
-
-/// Returns the line with this number, from 1, without its line feed; nothing where there is none.
-fn line_at(bytes: &[u8], number: Number) -> &[u8] {
-    let mut rest = bytes;
-    for _ in 1..number {
-        match split_line(rest) {
-            Some((_, behind)) => rest = behind,
-            None => return &[],
-        }
-    }
-    match split_line(rest) {
-        Some((line, _)) => line,
-        None => &[],
     }
 }

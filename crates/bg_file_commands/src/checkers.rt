@@ -1,27 +1,24 @@
 //! Judging many files, one after the other.
 
+pub(crate) mod lists;
+
 use crate::check_rows::{HEADINGS, row_of, unread_row};
 use crate::inputs::read_input;
 use crate::walks::files_below;
-use bg_console::{
-    Progress, allocated, failed_for, no_memory, print_text, say, say_number, say_of, say_why,
-};
+use bg_console::{Progress, allocated, no_memory, print_text, say, say_of, say_why};
 use bg_options::CheckFormat;
-use bg_reports::{Ending, MOST_SHOWN, RowForm, Tally, check_text, harmless};
+use bg_reports::{Ending, RowForm, Tally, check_text};
 use bg_system::Printable;
 use bg_text::Verdict;
 use std::alloc::{AllocError, Global};
 use std::fs::File;
 use std::io;
-use std::io::{BufRead, BufReader, ErrorKind, Read};
+use std::io::ErrorKind;
 use std::rt::Files;
 use std::time::Clock;
 
 /// The name for the standard input.
 pub(crate) const STANDARD_INPUT: &str = "-";
-
-/// Number of bytes of a line in a list of files, at most: more than the name of any file has.
-const MOST_NAME_BYTES: u64 = 65_536;
 
 /// Goes through many files, prints the result of each, and counts them.
 #[derive(Drop)]
@@ -104,67 +101,6 @@ where
         );
         self.pass_over();
         self.print_unread(name, &io::Error::from(ErrorKind::IsADirectory))
-    }
-
-    /// Judges the files of a list, which has one name per line.
-    pub(crate) fn check_list(&mut self, list: impl Read + Drop) -> Result<(), Ending> {
-        let Ok(mut list) = BufReader::new(self.rt.alloc(), list) else {
-            return Err(no_memory(self.rt));
-        };
-        let mut name = Vec::new(self.rt.alloc());
-        for _ in 0..u64::MAX {
-            if !self.check_next(&mut list, &mut name)? {
-                break;
-            }
-        }
-        Ok(())
-    }
-
-    /// Judges the file that the next line of a list names. Returns whether there is such a line.
-    fn check_next(&mut self, list: &mut impl BufRead, name: &mut Vec<u8>) -> Result<bool, Ending> {
-        name.clear();
-        match list.take(MOST_NAME_BYTES).read_until(b'\n', name) {
-            Ok(0) => Ok(false),
-            Ok(_) => {
-                self.check_listed(name)?;
-                Ok(true)
-            }
-            Err(error) => Err(unread_list(self.rt, &error)),
-        }
-    }
-
-    /// Judges the file that a line of a list names, with its line feed if it has one.
-    fn check_listed(&mut self, line: &[u8]) -> Result<(), Ending> {
-        let name = match line.strip_suffix(b"\n") {
-            Some(name) => name,
-            None if (line.len() as u64) < MOST_NAME_BYTES => line,
-            None => {
-                let why = "the list of files has a line of more than ";
-                say_number(self.rt, why, MOST_NAME_BYTES, " bytes");
-                return Err(Ending::Failed);
-            }
-        };
-        match str::from_utf8(name) {
-            Ok("") => {
-                say(self.rt, "a file of the list has an empty name");
-                self.pass_over();
-            }
-            Ok(name) => return self.check_file(name),
-            Err(_) => self.pass_over_bytes(name)?,
-        }
-        Ok(())
-    }
-
-    /// Reports that a file is not judged because its name isn't text, and counts it.
-    fn pass_over_bytes(&mut self, name: &[u8]) -> Result<(), Ending> {
-        let shown = allocated(self.rt, harmless(self.rt.alloc(), name, MOST_SHOWN))?;
-        let shown = str::from_utf8(&shown).unwrap_or_default();
-        say(
-            self.rt,
-            format_args!("{shown} could not be read: its name is not valid UTF-8"),
-        );
-        self.pass_over();
-        Ok(())
     }
 
     /// Prints the result of a file with these bytes, or reports why it could not be read.
@@ -250,9 +186,4 @@ fn report_on(
     let name = format!(in alloc; "{}", Printable(name))?;
     let (text, verdict) = check_text(alloc, name.as_str(), bytes, columns)?;
     Ok((text, matches!(verdict, Verdict::Fine(_))))
-}
-
-/// Reports that the list of files could not be read.
-pub(crate) fn unread_list(rt: &impl Eprint, error: &io::Error) -> Ending {
-    failed_for(rt, "the list of files could not be read", error)
 }

@@ -12,8 +12,8 @@ use std::time::Clock;
 /// The name of a transcript on the standard input, in messages.
 const TRANSCRIPT: &str = "the transcript";
 
-/// Prints the match file of the transcript on the standard input, or writes those of the named files
-/// into a folder.
+/// Prints the match file of the transcript on the standard input, or writes those of the named
+/// files into a folder.
 pub fn run<R>(rt: &R, options: ExportOptions<'_, '_>, progress: Progress) -> Result<Ending, Ending>
 where
     R: Input + Files<File = File> + Clock + Print + Eprint + AllocGlobal,

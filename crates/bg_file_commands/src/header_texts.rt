@@ -1,4 +1,4 @@
-//! What is written of the players of a match, and of when and where they met.
+//! The headers of a match file: the players, and when and where they met.
 
 use crate::headers::Headers;
 use bg_options::HeaderOptions;

@@ -1,4 +1,4 @@
-//! What a match file says of its match beside the games: who met, when, where, and at what event.
+//! The headers of a match file: who met, when, where, and at what event.
 
 use crate::marks::BYTE_ORDER_MARK;
 use bg_match::Number;
@@ -10,7 +10,7 @@ use std::{fmt, str};
 /// The names that an export writes where it is told none.
 const NO_NAMES: (&[u8], &[u8]) = (b"X", b"O");
 
-/// What a header tells. `Display` names it.
+/// The kind of a header. `Display` names it.
 #[derive(Clone, Copy, Debug, PartialEq, Eq)]
 pub(crate) enum Label {
     NameX,

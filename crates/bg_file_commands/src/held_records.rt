@@ -1,9 +1,8 @@
 //! The records that seats and transcripts hold of a match.
 
 use crate::inputs::{read_input, record_in};
-use crate::paths::slot_path;
 use bg_board::Player;
-use bg_console::{allocated, failed_at, no_memory, say, unread, wrong, wrong_at};
+use bg_console::{allocated, failed_at, no_memory, say, slot_path, unread, wrong, wrong_at};
 use bg_match::{Number, Record};
 use bg_reports::{Compared, Ending, compare};
 use bg_system::{MatchFile, Printable, read_saved};
@@ -46,7 +45,7 @@ impl<'a> Held<'a> {
             Compared::Behind(_) => *self = other,
             Compared::Differs(number) => return Err(differ(rt, one, two, number)),
             Compared::OtherMatch => {
-                let words = " is of another length or other rules: nothing was made";
+                let words = " is of another length or other rules: nothing was made; leave it out";
                 return Err(wrong_at(rt, two, words));
             }
         }
@@ -59,7 +58,9 @@ fn differ(rt: &impl Eprint, one: &str, two: &str, number: Number) -> Ending {
     let (one, two) = (Printable(one), Printable(two));
     wrong(
         rt,
-        format_args!("{one} and {two} differ at entry {number}: nothing was made"),
+        format_args!(
+            "{one} and {two} differ at entry {number}: nothing was made; leave out the one of another match"
+        ),
     )
 }
 
@@ -97,11 +98,11 @@ where
             Ok(None)
         }
         Err(RestoreRefusal::Damaged) => {
-            let why = " are damaged (`show` says how): nothing was made";
+            let why = " are damaged (`show` says how): nothing was made; put a copy in their place";
             Err(wrong_seat(rt, folder, party, why))
         }
         Err(RestoreRefusal::WrongMatch) => {
-            let why = " are of another match: nothing was made";
+            let why = " are of another match: nothing was made; name the folder of this one";
             Err(wrong_seat(rt, folder, party, why))
         }
         Err(RestoreRefusal::Memory) => Err(no_memory(rt)),
@@ -146,7 +147,7 @@ where
     Err(wrong(
         rt,
         format_args!(
-            "{shown} has saves of party {other}, and none of party {own}: nothing was made"
+            "{shown} has saves of party {other}, and none of party {own}: nothing was made; name the folder of that seat"
         ),
     ))
 }

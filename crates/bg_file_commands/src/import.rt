@@ -14,8 +14,8 @@ use std::time::Clock;
 /// The name of a match file on the standard input, in messages.
 const MATCH_FILE: &str = "the match file";
 
-/// Prints the transcript of the match file on the standard input, or writes those of the named files
-/// into a folder.
+/// Prints the transcript of the match file on the standard input, or writes those of the named
+/// files into a folder.
 pub fn run<R>(rt: &R, options: ImportOptions<'_, '_>, progress: Progress) -> Result<Ending, Ending>
 where
     R: Input + Files<File = File> + Clock + Print + Eprint + AllocGlobal,

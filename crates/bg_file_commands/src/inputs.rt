@@ -15,6 +15,12 @@ use std::io::Read;
 /// The number of a match that is read from a transcript or a match file, which have none.
 const NO_NUMBER: u64 = 0;
 
+/// The message on a match file where a transcript is asked for.
+pub(crate) const IS_MATCH_FILE: &str = "it is a match file, of which `import` makes a transcript";
+
+/// The message on a transcript where a match file is asked for.
+const IS_TRANSCRIPT: &str = "it begins as a transcript, of which `export` makes a match file";
+
 /// The name of a transcript on the standard input, in messages.
 const TRANSCRIPT: &str = "the transcript";
 
@@ -55,10 +61,7 @@ where
             let said = said_of_transcript_fault(rt.alloc(), name, bytes, fault, None);
             let ending = refused(rt, said);
             if is_match_file(bytes) {
-                say(
-                    rt,
-                    "it is a match file, of which `import` makes a transcript",
-                );
+                say(rt, IS_MATCH_FILE);
             }
             Err(ending)
         }
@@ -81,7 +84,11 @@ where
         Err(fault) => {
             let name = allocated(rt, shown(rt.alloc(), name))?;
             let said = said_of_import_fault(rt.alloc(), name.as_str(), bytes, fault, None);
-            Err(refused(rt, said))
+            let ending = refused(rt, said);
+            if bytes.starts_with(b"length ") {
+                say(rt, IS_TRANSCRIPT);
+            }
+            Err(ending)
         }
     }
 }

@@ -1,14 +1,17 @@
 //! The command that judges a transcript.
 
+use crate::inputs::IS_MATCH_FILE;
 use crate::marks::Noting;
 use bg_console::{engine_failed, say};
+use bg_mat::is_match_file;
 use bg_reports::Ending;
 use bg_streams::{Reading, Writing};
 use bg_text::{Verdict, judge};
 use std::io;
 
 /// Judges the transcript on the standard input. Where the line that is refused has what other
-/// programs write, and transcripts don't have, it is named on the standard error.
+/// programs write, and transcripts don't have, it is named on the standard error; and so is a match
+/// file.
 pub fn run<R>(rt: &R) -> Result<Ending, Ending>
 where
     R: Input + Print + Eprint + AllocGlobal,
@@ -24,6 +27,9 @@ where
         if let Some(mark) = noting.mark_of(line) {
             let mark = mark.words();
             say(rt, format_args!("met at line {line}: {mark}"));
+        }
+        if is_match_file(noting.head()) {
+            say(rt, IS_MATCH_FILE);
         }
     }
     Ok(Ending::Judged(verdict))

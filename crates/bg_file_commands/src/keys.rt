@@ -1,9 +1,8 @@
 //! The command that makes the key files of a match.
 
 use crate::new_folders::{derived_keys, make_secret_of_keys, tell_key_files, write_key_files};
-use crate::paths::path_in;
 use bg_console::{
-    allocated, check_folder, has_key_secret, key_files_of, lock_of, match_of, tell_if_open,
+    allocated, check_folder, has_key_secret, key_files_of, lock_of, match_of, path_in, tell_if_open,
 };
 use bg_reports::Ending;
 use bg_system::{KeyFiles, NamedMatch};
@@ -17,7 +16,11 @@ pub fn run<R>(rt: &R, folder: &str) -> Result<Ending, Ending>
 where
     R: Files<File = File> + RandomSource + Print + Eprint + AllocGlobal,
 {
-    check_folder(rt, folder, " is no folder")?;
+    check_folder(
+        rt,
+        folder,
+        " is no folder: name the one that `bg_relay new` made",
+    )?;
     let _lock = lock_of(rt, folder)?;
     tell_if_open(rt, folder);
     let path = allocated(rt, path_in(rt.alloc(), folder, "match"))?;

@@ -14,10 +14,10 @@
 #![tactic(auto)]
 
 mod batches;
-pub mod board;
 pub mod check;
 mod check_rows;
 mod checkers;
+pub mod dice;
 pub mod export;
 mod header_files;
 mod header_texts;
@@ -33,9 +33,7 @@ pub mod list;
 mod marks;
 mod new_folders;
 pub mod new_match;
-mod out_folders;
 pub mod page;
-mod paths;
 pub mod picture;
 mod ports_beside;
 pub mod recover;

@@ -6,7 +6,6 @@ mod locks;
 mod objects;
 mod rows;
 mod saves;
-pub(crate) mod searching;
 mod times;
 
 use crate::list::aligning::aligned;
@@ -14,18 +13,15 @@ use crate::list::examining::{Listed, Soundness, examine};
 use crate::list::locks::Locks;
 use crate::list::objects::put_object;
 use crate::list::rows::put_row;
-use crate::list::searching::{Place, places_below};
-use bg_console::{allocated, no_memory, print_text, say_of, wrong};
+use bg_console::{
+    Finding, MatchBelow, NO_MATCH, allocated, matches_below, no_memory, print_text, say_of, wrong,
+};
 use bg_options::{ListFormat, ListOptions};
 use bg_reports::{Ending, Found};
 use std::alloc::{AllocError, Global};
 use std::fs::File;
 use std::io;
 use std::rt::Files;
-
-/// The message behind the name of a folder without a match.
-pub(crate) const NO_MATCH: &str =
-    " has no match, nor has a folder at most three folders deep in it";
 
 /// Lists the matches in the folders that the options name, and below them.
 pub fn run<R>(rt: &R, options: ListOptions<'_, '_>) -> Result<Ending, Ending>
@@ -62,7 +58,8 @@ fn list<R>(
 where
     R: Files<File = File> + Eprint + AllocGlobal,
 {
-    let places = read(rt, places_below(rt, folder))?;
+    let mut places = read(rt, matches_below(rt, folder))?;
+    places.retain(|place| !matches!(place.finding, Finding::WatchKey));
     if places.is_empty() {
         say_of(rt, folder, NO_MATCH);
     }
@@ -75,14 +72,14 @@ where
     Ok(worst)
 }
 
-/// Returns the listing of a place.
-fn listing_of<R>(rt: &R, place: Place, locks: &Locks) -> io::Result<Listed>
+/// Returns the listing of a folder that was found.
+fn listing_of<R>(rt: &R, place: MatchBelow, locks: &Locks) -> io::Result<Listed>
 where
     R: Files<File = File> + AllocGlobal,
 {
-    match place.fault {
-        Some(fault) => Listed::unread(rt.alloc(), place.path, fault),
-        None => examine(rt, place.path, locks),
+    match place.finding {
+        Finding::Unread(fault) => Listed::unread(rt.alloc(), place.path, fault),
+        _ => examine(rt, place.path, locks),
     }
 }
 

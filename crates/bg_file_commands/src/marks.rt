@@ -1,4 +1,4 @@
-//! What other programs write in lines, and no line of a transcript has.
+//! Marks that other programs write in lines, and no line of a transcript has.
 
 use bg_match::Number;
 use std::io;
@@ -7,10 +7,11 @@ use std::io::Read;
 /// The bytes that some programs write in front of a text in UTF-8.
 pub(crate) const BYTE_ORDER_MARK: &[u8] = b"\xef\xbb\xbf";
 
-/// What other programs write in a line, and no line of a transcript has.
+/// A mark that other programs write in a line, and no line of a transcript has.
 #[derive(Clone, Copy, Debug, PartialEq, Eq)]
 pub(crate) enum Mark {
     ByteOrderMark,
+    WideByteOrderMark,
     Comment,
     CarriageReturn,
 }
@@ -20,6 +21,7 @@ impl Mark {
     pub(crate) fn words(self) -> &'static str {
         match self {
             Mark::ByteOrderMark => "byte order mark at the start of the line",
+            Mark::WideByteOrderMark => "byte order mark of UTF-16 at the start of the line",
             Mark::Comment => "comment",
             Mark::CarriageReturn => "carriage return at the end of the line",
         }
@@ -35,8 +37,9 @@ impl Mark {
         if front.starts_with(BYTE_ORDER_MARK) {
             return Some(Mark::ByteOrderMark);
         }
-        match front.first() {
-            Some(b';' | b'#') => Some(Mark::Comment),
+        match front {
+            [0xff, 0xfe, ..] | [0xfe, 0xff, ..] => Some(Mark::WideByteOrderMark),
+            [b';' | b'#', ..] => Some(Mark::Comment),
             _ if last == Some(b'\r') => Some(Mark::CarriageReturn),
             _ => None,
         }
@@ -50,10 +53,18 @@ struct Marked {
     mark: Mark,
 }
 
-/// A reader that notes the first line with a mark. A transcript is refused there at the latest.
+/// Number of bytes from the start of an input that are kept.
+const HEAD_BYTES: usize = 512;
+
+/// A reader that keeps the first bytes, and notes the first line with a mark. A transcript is
+/// refused there at the latest.
 #[derive(Drop)]
 pub(crate) struct Noting<R> {
     reader: R,
+    /// The first bytes of the input.
+    head: [u8; HEAD_BYTES],
+    /// Number of these bytes.
+    kept: usize,
     /// The number of the line that is read, from 1.
     line: Number,
     /// The first bytes of that line, as many as a byte order mark has, or fewer.
@@ -70,12 +81,19 @@ impl<R> Noting<R> {
     pub(crate) fn new(reader: R) -> Noting<R> {
         Noting {
             reader,
+            head: [0; HEAD_BYTES],
+            kept: 0,
             line: 1,
             front: [0; 3],
             count: 0,
             last: None,
             found: None,
         }
+    }
+
+    /// Returns the first bytes of the input.
+    pub(crate) fn head(&self) -> &[u8] {
+        &self.head[..self.kept.min(HEAD_BYTES)]
     }
 
     /// Returns the mark of a line with this number, if it is the first line with a mark. All of the
@@ -91,6 +109,14 @@ impl<R> Noting<R> {
     /// Returns the mark of the line that is read.
     fn mark(&self) -> Option<Mark> {
         Mark::between(&self.front[..self.count.min(3)], self.last)
+    }
+
+    /// Keeps a byte, if it is one of the first.
+    fn keep(&mut self, byte: u8) {
+        if self.kept < HEAD_BYTES {
+            self.head[self.kept] = byte;
+            self.kept += 1;
+        }
     }
 
     /// Notes a byte.
@@ -121,10 +147,13 @@ impl<R: Read> Read for Noting<R> {
     fn read(&mut self, buffer: &mut [u8]) -> io::Result<usize> {
         let count = self.reader.read(buffer)?;
         for byte in &buffer[..count] {
-            if self.found.is_some() {
+            if self.found.is_some() && self.kept >= HEAD_BYTES {
                 break;
             }
-            self.note(*byte);
+            self.keep(*byte);
+            if self.found.is_none() {
+                self.note(*byte);
+            }
         }
         Ok(count)
     }

@@ -1,11 +1,13 @@
 //! Creating a referee's folder.
 
-use crate::paths::path_in;
-use bg_console::{allocated, failed, failed_at, has_key_secret, own_folder, written, wrong};
+use bg_console::{
+    allocated, failed, failed_at, has_key_secret, own_folder, path_in, written, wrong,
+};
+use bg_dice::{Digest, digest_of, told_text, write_digest};
 use bg_reports::Ending;
 use bg_system::{
     FolderLock, KeyFiles, NamedMatch, Printable, make_key_secret, make_secret, name_of_key_file,
-    read_key_secret,
+    read_key_secret, read_secret,
 };
 use bg_wire::{FIRST_WATCHER, SEAT_OF_O, SEAT_OF_X};
 use std::fs;
@@ -28,15 +30,33 @@ where
     Ok(lock)
 }
 
-/// Writes a new secret of the dice to the folder.
-pub(crate) fn make_secret_of_dice<R>(rt: &R, folder: &str) -> Result<(), Ending>
+/// Writes a new secret of the dice to the folder, and its SHA-256, which it returns.
+pub(crate) fn make_secret_of_dice<R>(rt: &R, folder: &str) -> Result<Digest, Ending>
 where
     R: Files<File = File> + RandomSource + Eprint + AllocGlobal,
 {
-    match make_secret(rt, folder) {
-        Ok(()) => Ok(()),
-        Err(error) => Err(failed_at(rt, folder, "/secret could not be written", &error)),
+    if let Err(error) = make_secret(rt, folder) {
+        return Err(failed_at(rt, folder, "/secret could not be written", &error));
     }
+    let digest = match read_secret(rt, folder) {
+        Ok(secret) => digest_of(&secret),
+        Err(error) => return Err(failed_at(rt, folder, "/secret could not be read", &error)),
+    };
+    match write_digest(rt, folder, &digest) {
+        Ok(()) => Ok(digest),
+        Err(error) => Err(failed_at(rt, folder, "/dice could not be written", &error)),
+    }
+}
+
+/// Prints the SHA-256 of the secret of the dice, which players are told before the first roll.
+pub(crate) fn tell_dice<R>(rt: &R, digest: &Digest) -> Result<(), Ending>
+where
+    R: Print + Eprint + AllocGlobal,
+{
+    let text = allocated(rt, told_text(rt.alloc(), Some(digest), None))?;
+    let line = str::from_utf8(&text).unwrap_or_default();
+    let told = println!(rt; "dice: {}", line.trim_ascii_end());
+    written(rt, told)
 }
 
 /// Writes a new secret of the keys to the folder.
@@ -122,7 +142,7 @@ pub(crate) fn tell_key_files<R: Print + Eprint>(rt: &R, folder: &str) -> Result<
         name_of_key_file(FIRST_WATCHER),
     );
     let told = println!(rt;
-        "hand {folder}/{x} to X, {folder}/{o} to O, and {folder}/{watch} to who may watch"
+        "hand {folder}/{x} to X, {folder}/{o} to O, and {folder}/{watch} to whoever may watch"
     );
     written(rt, told)
 }
@@ -130,7 +150,7 @@ pub(crate) fn tell_key_files<R: Print + Eprint>(rt: &R, folder: &str) -> Result<
 /// Prints that no key file needs to be handed out.
 pub(crate) fn tell_kept_keys<R: Print + Eprint>(rt: &R) -> Result<(), Ending> {
     let told = println!(rt;
-        "the keys are kept: X, O and who watches go on with the key files that they have"
+        "the keys are kept: X, O and the watchers continue with the key files that they have"
     );
     written(rt, told)
 }
@@ -144,7 +164,10 @@ where
         let path = allocated(rt, path_in(rt.alloc(), folder, name))?;
         if fs::symlink_metadata(rt, path.as_str()).is_ok() {
             let shown = Printable(folder);
-            return Err(wrong(rt, format_args!("{shown} has a match already: {name}")));
+            return Err(wrong(
+                rt,
+                format_args!("{shown} has a match already: {name}; give another --dir"),
+            ));
         }
     }
     Ok(())

@@ -1,19 +1,24 @@
 //! The command that makes a match between processes.
 
 use crate::new_folders::{
-    begin_folder, derived_keys, end_folder, make_secret_of_dice, make_secret_of_keys,
+    begin_folder, derived_keys, end_folder, make_secret_of_dice, make_secret_of_keys, tell_dice,
     tell_key_files,
 };
 use crate::ports_beside::check_ports;
-use bg_console::{failed_for, written};
+use bg_console::{failed_or, written};
+use bg_dice::Digest;
 use bg_match::Terms;
 use bg_options::NewOptions;
 use bg_reports::Ending;
-use bg_system::{MatchFile, NamedMatch, Names};
+use bg_system::{MatchFile, NamedMatch, Names, Printable, name_of_key_file};
+use bg_wire::SEAT_OF_X;
 use std::fs;
 use std::fs::File;
 use std::random::RandomSource;
 use std::rt::Files;
+
+/// What to do where the system gives no random bytes.
+const ELSEWHERE: &str = "; run it where the system lets a process call `getrandom`";
 
 /// Makes the match that the options name, and prints its line.
 pub fn run<R>(rt: &R, options: NewOptions<'_>) -> Result<Ending, Ending>
@@ -27,10 +32,21 @@ where
         folder,
         ..
     } = options;
-    let file = make_match(rt, terms, port, names, folder)?;
+    let (file, digest) = make_match(rt, terms, port, names, folder)?;
     written(rt, rt.print(file.table))?;
     tell_key_files(rt, folder)?;
+    tell_commands(rt, folder)?;
+    tell_dice(rt, &digest)?;
     Ok(Ending::Served)
+}
+
+/// Prints the commands by which the match is played.
+fn tell_commands<R: Print + Eprint>(rt: &R, folder: &str) -> Result<(), Ending> {
+    let (folder, x) = (Printable(folder), name_of_key_file(SEAT_OF_X));
+    let told = println!(rt;
+        "run it by `bg_relay referee --dir {folder}`; X plays by `bg_relay play --match {folder}/{x} --dir x`, and O likewise"
+    );
+    written(rt, told)
 }
 
 /// Makes the secrets first, and the match file last, so that where there is one the match is
@@ -42,7 +58,7 @@ fn make_match<R>(
     port: u16,
     names: Names,
     folder: &str,
-) -> Result<NamedMatch, Ending>
+) -> Result<(NamedMatch, Digest), Ending>
 where
     R: Files<File = File> + RandomSource + Eprint + AllocGlobal,
 {
@@ -52,13 +68,13 @@ where
     let _lock = begin_folder(rt, folder)?;
     check_ports(rt, folder, port)?;
     let id = random_number(rt)?;
-    make_secret_of_dice(rt, folder)?;
+    let digest = make_secret_of_dice(rt, folder)?;
     make_secret_of_keys(rt, folder)?;
     let table = MatchFile { id, terms, port };
     let file = NamedMatch { table, names };
     let keys = derived_keys(rt, folder, &file)?;
     end_folder(rt, folder, &file, &keys)?;
-    Ok(file)
+    Ok((file, digest))
 }
 
 /// Returns a number that nobody can foresee.
@@ -66,6 +82,6 @@ fn random_number(rt: &(impl RandomSource + Eprint)) -> Result<u64, Ending> {
     let mut bytes = [0; 8];
     match rt.fill_bytes(&mut bytes) {
         Ok(()) => Ok(u64::from_be_bytes(bytes)),
-        Err(error) => Err(failed_for(rt, "no random bytes", &error)),
+        Err(error) => Err(failed_or(rt, "no random bytes", &error, ELSEWHERE)),
     }
 }

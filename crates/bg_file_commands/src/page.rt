@@ -41,7 +41,8 @@ where
     print_text(rt, &text)
 }
 
-/// Returns the names of the players: those of the options, or else those of the file that they name.
+/// Returns the names of the players: those of the options, or else those of the file that they
+/// name.
 fn names_of<R>(rt: &R, options: &PageOptions<'_>) -> Result<Names, Ending>
 where
     R: Files<File = File> + Eprint + AllocGlobal,

@@ -3,7 +3,7 @@
 use crate::held_records::{Held, saved_of, seat_of, transcript_of};
 use crate::new_folders::{
     begin_folder, derived_keys, end_folder, make_secret_of_dice, make_secret_of_keys,
-    remove_secret_of_keys, tell_kept_keys, tell_key_files,
+    remove_secret_of_keys, tell_dice, tell_kept_keys, tell_key_files,
 };
 use bg_board::Player;
 use bg_console::{
@@ -79,7 +79,11 @@ fn take_seat<'a, R>(
 where
     R: Files<File = File> + Eprint + AllocGlobal,
 {
-    check_folder(rt, folder, " is no folder")?;
+    check_folder(
+        rt,
+        folder,
+        " is no folder: name that of the seat, or an empty one",
+    )?;
     if locks.push(lock_of(rt, folder)?).is_err() {
         return Err(no_memory(rt));
     }
@@ -107,10 +111,11 @@ where
     R: Files<File = File> + RandomSource + Print + Eprint + AllocGlobal,
 {
     let _lock = begin_folder(rt, folder)?;
-    make_secret_of_dice(rt, folder)?;
+    let digest = make_secret_of_dice(rt, folder)?;
     remove_secret_of_keys(rt, folder)?;
     fill(rt, file, folder, kept, longest)?;
-    tell_kept_keys(rt)
+    tell_kept_keys(rt)?;
+    tell_dice(rt, &digest)
 }
 
 /// Makes the folder with new keys, and their secret.
@@ -119,11 +124,12 @@ where
     R: Files<File = File> + RandomSource + Print + Eprint + AllocGlobal,
 {
     let _lock = begin_folder(rt, folder)?;
-    make_secret_of_dice(rt, folder)?;
+    let digest = make_secret_of_dice(rt, folder)?;
     make_secret_of_keys(rt, folder)?;
     let keys = derived_keys(rt, folder, file)?;
     fill(rt, file, folder, &keys, longest)?;
-    tell_key_files(rt, folder)
+    tell_key_files(rt, folder)?;
+    tell_dice(rt, &digest)
 }
 
 /// Writes the first save with this record, and the keys. The match file comes last, so that where

@@ -1,7 +1,6 @@
 //! The command that shows saved files.
 
-use crate::paths::{path_in, slot_path};
-use bg_console::{allocated, check_folder, failed_at, print_text, say, wrong};
+use bg_console::{allocated, check_folder, failed_at, path_in, print_text, say, slot_path, wrong};
 use bg_options::ShowOptions;
 use bg_reports::{Ending, SlotBytes, folder_text, party_text, restored_transcript, show_text};
 use bg_system::read_saved;

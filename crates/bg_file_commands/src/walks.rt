@@ -1,5 +1,6 @@
 //! The files below a folder.
 
+use bg_console::{not_memory, without_slashes};
 use std::alloc::Global;
 use std::fs::File;
 use std::io::ErrorKind;
@@ -44,12 +45,6 @@ where
     }
     places.sort_by(|one: &Place, other: &Place| one.path.as_str().cmp(other.path.as_str()))?;
     Ok(places)
-}
-
-/// Returns the name of a folder without the slashes at its end.
-pub(crate) fn without_slashes(folder: &str) -> &str {
-    let name = folder.trim_end_matches('/');
-    if name.is_empty() { "/" } else { name }
 }
 
 /// Appends the files in these folders, and those of them that can't be read. Returns the folders in
@@ -125,16 +120,5 @@ fn is_hidden(path: &str) -> bool {
     match path.rsplit_once('/') {
         Some((_, name)) => name.starts_with('.'),
         None => path.starts_with('.'),
-    }
-}
-
-/// Returns the error, unless it is want of memory.
-///
-/// # Errors
-/// `OutOfMemory` alone.
-pub(crate) fn not_memory(error: io::Error) -> io::Result<io::Error> {
-    match error.kind() {
-        ErrorKind::OutOfMemory => Err(error),
-        _ => Ok(error),
     }
 }

@@ -1,7 +1,7 @@
-//! The commands that play, run or watch a whole match: in memory, over sockets and files, and those
-//! of the referee and of a watcher. Each prints its result, reports errors on the standard error,
-//! and returns its ending, as an error where it ended early. For a program that exits with the
-//! status of that ending.
+//! The commands that play, run or watch whole matches: in memory, over sockets and files, those of
+//! the referee and of a watcher, and the one that keeps pages of many matches. Each prints its
+//! result, reports errors on the standard error, and returns its ending, as an error where it ended
+//! early. For a program that exits with the status of that ending.
 //!
 //! ```
 //! // A match of no length is none.
@@ -17,8 +17,10 @@
 //! ```
 #![tactic(auto)]
 
+pub mod board;
 pub mod play_loop;
 pub mod referee;
 pub mod script;
 pub mod sim;
 pub mod watch;
+mod watchers;

@@ -3,7 +3,8 @@
 use bg_auto::LoopFault;
 use bg_command_parts::{Asked, Operator, OwnSaves, stopped};
 use bg_console::{
-    Progress, allocated, check_folder, failed, failed_barely, lock_of, tell_if_open, unwritten,
+    Progress, allocated, check_folder, failed, failed_barely, lock_of, no_memory, tell_if_open,
+    unwritten,
 };
 use bg_options::LoopOptions;
 use bg_processes::{Failures, Printable, play_loop};
@@ -80,6 +81,7 @@ fn loop_failed(rt: &impl Eprint, fault: LoopFault, reason: Option<&io::Error>) -
     match (fault, reason) {
         (LoopFault::Write, Some(error)) => unwritten(rt, error),
         (fault @ (LoopFault::Memory | LoopFault::World(WorldFault::Memory)), _) => {
+            let _ = no_memory(rt);
             failed_barely(rt, fault)
         }
         (fault, _) => failed(rt, fault),

@@ -2,8 +2,8 @@
 
 use bg_command_parts::{Asked, FailureReporter, Logbook, OwnSaves, socket_of, stopped};
 use bg_console::{
-    Progress, check_folder, check_writable, failed_at, has_key_secret, key_files_of, lock_of,
-    match_of, no_memory, say, say_failures, tell_if_open, waited, waiting_for, wrong,
+    Progress, check_folder, check_writable, failed_with, has_key_secret, key_files_of, lock_of,
+    match_of, no_memory, say_failures, tell_if_open, waited, waiting_for, wrong,
 };
 use bg_match::Number;
 use bg_options::RefereeOptions;
@@ -15,7 +15,6 @@ use bg_reports::Ending;
 use bg_wire::REFEREE;
 use bg_world::Outcome;
 use std::fs::File;
-use std::io;
 use std::net::Net;
 use std::rt::Files;
 use std::time::Clock;
@@ -24,9 +23,6 @@ use std::time::Clock;
 const NO_FOLDER: &str = " is no folder: name the one that `bg_relay new` made";
 
 /// The messages on files of the folder that can't be read, and what to do about each.
-const MATCH_REMEDY: &str =
-    "name the folder that `bg_relay new` made; if its file `match` is lost, any key file of the match, without its last line, is one";
-
 const NO_SECRET: &str = "/secret could not be read";
 
 const SECRET_REMEDY: &str =
@@ -76,7 +72,7 @@ where
     ended
 }
 
-/// Reads the match file of a folder. Reports what to do if it can't be read.
+/// Reads the match file of a folder.
 fn match_in<R>(rt: &R, folder: &str) -> Result<NamedMatch, Ending>
 where
     R: Files<File = File> + Eprint + AllocGlobal,
@@ -84,18 +80,7 @@ where
     let Ok(path) = format!(in rt.alloc(); "{folder}/match") else {
         return Err(no_memory(rt));
     };
-    let found = match_of(rt, path.as_str());
-    if matches!(found, Err(Ending::Failed)) {
-        say(rt, MATCH_REMEDY);
-    }
-    found
-}
-
-/// Reports that a file of a folder can't be read, and why, and then what to do.
-fn unread<R: Eprint>(rt: &R, folder: &str, words: &str, error: &io::Error, remedy: &str) -> Ending {
-    let ending = failed_at(rt, folder, words, error);
-    say(rt, remedy);
-    ending
+    match_of(rt, path.as_str())
 }
 
 /// Begins the referee of the match in a folder, with this match file, and returns its ways to wait
@@ -111,7 +96,7 @@ where
 {
     let key = match read_secret(rt, folder) {
         Ok(key) => key,
-        Err(error) => return Err(unread(rt, folder, NO_SECRET, &error, SECRET_REMEDY)),
+        Err(error) => return Err(failed_with(rt, folder, NO_SECRET, &error, SECRET_REMEDY)),
     };
     let keys = keys_of(rt, folder, table)?;
     let link = socket_of(rt, table.port, REFEREE, keys, failures)?;
@@ -157,7 +142,7 @@ where
     }
     match read_key_secret(rt, folder) {
         Ok(secret) => Ok(Keyring::of_referee(&secret, file.id)),
-        Err(error) => Err(unread(rt, folder, NO_KEY_SECRET, &error, KEY_SECRET_REMEDY)),
+        Err(error) => Err(failed_with(rt, folder, NO_KEY_SECRET, &error, KEY_SECRET_REMEDY)),
     }
 }
 

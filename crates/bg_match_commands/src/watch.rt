@@ -1,6 +1,4 @@
 //! The command that watches a match.
-ghost use Rattle.std.specs.Prelude.{◌≤◌};
-ghost use Rattle.bg_wire.specs.Entries.Codes.{first_watcher};
 
 mod live_boards;
 mod screens;
@@ -8,23 +6,25 @@ mod showing;
 
 use crate::watch::live_boards::LiveBoard;
 use crate::watch::showing::{Lines, Showing};
+use crate::watchers::{NoWatcher, Watcher, begin_watcher};
 use bg_command_parts::{Audience, FailureReporter, Logbook, SilenceReporter, no_socket};
 use bg_console::{
-    MatchBeside, Outputs, Published, Telling, Terminal, failed, key_file_of, matches_beside,
-    page_words, title_of, waited, waiting_for, wrong, wrong_at,
+    Outputs, Published, Telling, Terminal, failed, key_file_of, page_words, title_of, waited,
+    waiting_for, wrong_at,
 };
 use bg_options::WatchOptions;
-use bg_processes::{
-    Failures, Going, Keyring, Liveness, MatchFile, PartySocket, Ticking, Waiting, WatcherProcess,
-};
+use bg_processes::{Failures, Going, Liveness, MatchFile, Ticking, Waiting};
 use bg_reports::Ending;
 use bg_seals::Key;
-use bg_wire::{FIRST_WATCHER, LAST_WATCHER};
+use bg_wire::FIRST_WATCHER;
 use std::fs::File;
-use std::io::ErrorKind;
 use std::net::Net;
 use std::rt::Files;
 use std::time::Clock;
+
+/// The message where there is no room for one more who watches.
+const NO_PORT: &str =
+    "no port of a watcher is free: 253 watch already, or others have the ports; end one of them";
 
 /// Watches the match that the options name, and keeps the files that were asked for. Draws its
 /// board on the terminal, if the standard output is one, and otherwise prints its transcript.
@@ -132,27 +132,8 @@ fn check_outputs(
     Ok(())
 }
 
-type Watcher<'a, R> = WatcherProcess<PartySocket<'a, R>>;
-
-/// Returns the folder of the file with this path.
-fn folder_of(path: &str) -> &str {
-    match path.rsplit_once('/') {
-        Some(("", _)) => "/",
-        Some((folder, _)) => folder,
-        None => ".",
-    }
-}
-
-/// Returns whether the ports of one of these matches begin at that of a party of the match that has
-/// this port.
-fn begins_at(beside: &[MatchBeside], port: u16, party: u8) -> bool {
-    let own = u32::from(port) + u32::from(party);
-    beside.iter().any(|other| u32::from(other.port) == own)
-}
-
-/// Begins a watcher of this match, and returns its number too. `path` and `key` are those of its
-/// key file. The number is the first whose port is free, and isn't another referee's as far as the
-/// folders beside that of the key file show. Its socket notes its failures in `failures`.
+/// Begins a watcher of the match of this key file, and returns its number too, its wait and its
+/// ticks.
 fn begin<'a, R>(
     rt: &'a R,
     path: &str,
@@ -163,39 +144,14 @@ fn begin<'a, R>(
 where
     R: Net + Files<File = File> + Clock + Eprint + AllocGlobal,
 {
-    let beside = matches_beside(rt, folder_of(path))?;
-    for party in FIRST_WATCHER..=LAST_WATCHER {
-        if begins_at(&beside, table.port, party) {
-            continue;
-        }
-        let keys = Keyring::OfParty(Key::new(key.bytes()));
-        match PartySocket::bind(rt, rt, table.port, party, keys, failures) {
-            Ok(link) => {
-                let (process, waiting, ticking) = sit_down(rt, *table, party, link)?;
-                return Ok((party, process, waiting, ticking));
-            }
-            Err(error) if error.kind() == ErrorKind::AddrInUse => {}
-            Err(error) => return Err(no_socket(rt, party, &error)),
-        }
-    }
-    Err(failed(rt, "no port of a watcher is free"))
-}
-
-fn sit_down<'a, R>(
-    rt: &R,
-    file: MatchFile,
-    party: u8,
-    link: PartySocket<'a, R>,
-) -> Result<(Watcher<'a, R>, Waiting, Ticking), Ending>
-where
-    R: Net + Clock + Eprint + AllocGlobal,
-    requires { first_watcher ≤ party }
-{
-    let (waiting, ticking) = waiting_for(rt, link.descriptor(), false)?;
-    match WatcherProcess::begin(rt.alloc(), party, file.id, file.terms, link) {
-        Ok(process) => Ok((process, waiting, ticking)),
-        Err(_) => Err(wrong(rt, "length out of range")),
-    }
+    let (party, process) = match begin_watcher(rt, path, table, key, failures) {
+        Ok(begun) => begun,
+        Err(NoWatcher::NoPort) => return Err(failed(rt, NO_PORT)),
+        Err(NoWatcher::NoSocket(party, error)) => return Err(no_socket(rt, party, &error)),
+        Err(NoWatcher::Reported(ending)) => return Err(ending),
+    };
+    let (waiting, ticking) = waiting_for(rt, process.link().descriptor(), false)?;
+    Ok((party, process, waiting, ticking))
 }
 
 /// Runs rounds until the match is over.

@@ -102,7 +102,7 @@ pub(crate) struct Description {
     /// The line on the command in the list of all.
     pub(crate) about: &'static str,
     pub(crate) long_about: &'static str,
-    /// What its help ends with, if anything.
+    /// The end of its help, if there is one.
     pub(crate) after_help: Option<&'static str>,
     pub(crate) arguments: &'static [Argument],
 }

@@ -32,7 +32,7 @@ pub(crate) const FILES: Argument = Argument {
     name: "FILE",
     kind: Kind::Words,
     need: Need::Optional,
-    about: "The files to convert, with --out; without it the standard input is read",
+    about: "The files to convert, with --out; without it standard input is read",
 };
 
 pub(crate) const OUT: Argument = Argument {

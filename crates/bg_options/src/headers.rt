@@ -48,7 +48,7 @@ pub(crate) const EVENT: Argument = Argument {
     name: "event",
     kind: Kind::Text("EVENT"),
     need: Need::Optional,
-    about: "The event that the match belongs to, 1 to 64 bytes",
+    about: "The event, such as a tournament, 1 to 64 bytes",
 };
 
 pub(crate) const PLACE: Argument = Argument {

@@ -27,6 +27,7 @@ pub use commands::check::{CheckFormat, CheckOptions};
 pub use commands::export::ExportOptions;
 pub use commands::import::ImportOptions;
 pub use commands::list::{ListFormat, ListOptions};
+pub use commands::manage::{ManageOptions, Management};
 pub use commands::new_match::NewOptions;
 pub use commands::page::PageOptions;
 pub use commands::picture::PictureOptions;

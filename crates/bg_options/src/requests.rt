@@ -7,6 +7,7 @@ use crate::commands::check::CheckOptions;
 use crate::commands::export::ExportOptions;
 use crate::commands::import::{HEADERS, ImportOptions};
 use crate::commands::list::ListOptions;
+use crate::commands::manage::ManageOptions;
 use crate::commands::new_match::NewOptions;
 use crate::commands::page::PageOptions;
 use crate::commands::picture::PictureOptions;
@@ -39,6 +40,7 @@ pub enum Request<'m, 'a> {
     Page(PageOptions<'a>),
     Picture(PictureOptions<'a>),
     Id,
+    Dice { secret: &'a str },
     Script(ScriptOptions),
     Sim(SimOptions),
     Loop(LoopOptions<'a>),
@@ -51,6 +53,7 @@ pub enum Request<'m, 'a> {
     Auto(SeatOptions<'a>),
     Watch(WatchOptions<'a>),
     Serve(ServeOptions<'a>),
+    Manage(ManageOptions<'a>),
 }
 
 /// The reason why options make no request.
@@ -73,14 +76,14 @@ impl Display for RequestFault {
     fn fmt<W: Write>(&self, f: &mut Formatter<W>) -> fmt::Result {
         match self {
             RequestFault::MisplacedFile(command) => {
-                let why = "a file is handed in on the standard input: bg_relay";
+                let why = "this command reads the standard input: bg_relay";
                 write!(f, "{why} {command} < FILE")
             }
             RequestFault::NoFiles => f.write_str(
                 "--out needs the files to convert: --out DIR FILE..",
             ),
             RequestFault::HeadersOfMany => {
-                f.write_str("--headers is for one match file: with --out give --with-headers")
+                f.write_str("--headers is for one match file: with --out use --with-headers")
             }
             RequestFault::Name(option, why) => write!(f, "--{option} is refused: {why}"),
             RequestFault::Missing => f.write_str("an option is missing"),
@@ -135,6 +138,9 @@ fn of_task<'m, 'a>(task: Task, options: &'m ArgMatches<'a>) -> Option<Request<'m
         Task::Page => Request::Page(PageOptions::read(options)),
         Task::Picture => Request::Picture(PictureOptions::read(options)),
         Task::Id => Request::Id,
+        Task::Dice => Request::Dice {
+            secret: options.get_str("secret")?,
+        },
         Task::Script => Request::Script(ScriptOptions::read(options)?),
         Task::Sim => Request::Sim(SimOptions::read(options)?),
         Task::Loop => Request::Loop(LoopOptions::read(options)?),
@@ -149,5 +155,6 @@ fn of_task<'m, 'a>(task: Task, options: &'m ArgMatches<'a>) -> Option<Request<'m
         Task::Auto => Request::Auto(SeatOptions::read(options)?),
         Task::Watch => Request::Watch(WatchOptions::read(options)?),
         Task::Serve => Request::Serve(ServeOptions::read(options)?),
+        Task::Manage => Request::Manage(ManageOptions::read(options)?),
     })
 }

@@ -30,8 +30,8 @@ pub(crate) const THREE_TERMINALS: &str =
     bg_relay play --match table/match-x --dir x
     bg_relay play --match table/match-o --dir o
 
-The first two go into one terminal. Anybody who has table/match-watch may watch:
-bg_relay watch --match table/match-watch. Each process may be ended and started again at any moment.";
+The first two go into one terminal. Whoever has table/match-watch can watch:
+bg_relay watch --match table/match-watch. You can stop and restart each process at any moment.";
 
 /// Returns the number that an option gives, if it is there.
 pub(crate) fn number_in(options: &ArgMatches<'_>, name: &str) -> Option<u32> {
@@ -52,7 +52,7 @@ pub(crate) const SEED: Argument = Argument {
     name: "seed",
     kind: Kind::LongNumber("N"),
     need: Need::Required,
-    about: "What the random words go by, and the number of the match: 0 to 18446744073709551615",
+    about: "The seed of the random words, and the number of the match: 0 to 18446744073709551615",
 };
 
 /// Returns the number of 64 bits that an option gives, if it is there.
@@ -71,7 +71,7 @@ pub(crate) const RULES: Argument = Argument {
     name: "rules",
     kind: Kind::Number("N", 1, 2),
     need: Need::Usually("1"),
-    about: "The rules: 1, or 2, by which the referee passes a turn that has no step",
+    about: "The rules: 1, or 2, by which the referee passes a turn in which nothing can be moved",
 };
 
 /// Returns the rules that the options name.
@@ -87,14 +87,14 @@ pub(crate) const WATCHERS: Argument = Argument {
     name: "watchers",
     kind: Kind::Number("N", 0, MOST_WATCHERS as u32),
     need: Need::Required,
-    about: "How many watch it: 0 to 253",
+    about: "The number of watchers: 0 to 253",
 };
 
 pub(crate) const PLAYER: Argument = Argument {
     name: "player",
     kind: Kind::OneOf("P", &["X", "O", "x", "o"]),
     need: Need::Optional,
-    about: "The player; without it the one whose key file it is",
+    about: "The player; without it, the owner of the key file",
 };
 
 /// Returns the player that the options name, if they name one.
@@ -128,7 +128,7 @@ pub(crate) const NUMBERING: Argument = Argument {
     name: "numbering",
     kind: Kind::OneOf("WHOSE", &["mover", "X"]),
     need: Need::Usually("mover"),
-    about: "In whose numbers the points are: those of the player who moves, or always those of X",
+    about: "Number the points from the side of the player who moves, or always from X's",
 };
 
 /// Returns the numbering of the points that the options name.
@@ -143,7 +143,7 @@ pub(crate) const TITLE: Argument = Argument {
     name: "title",
     kind: Kind::Text("TITLE"),
     need: Need::Optional,
-    about: "The title of the page; without it the names of both players, or else \"Backgammon match\"",
+    about: "The title of the page; without it both players' names, or else \"Backgammon match\"",
 };
 
 /// Returns the title of a page, if the options give one.
@@ -185,7 +185,7 @@ pub(crate) const MATCH: Argument = Argument {
     name: "match",
     kind: Kind::Text("FILE"),
     need: Need::Required,
-    about: "The key file that `new` made for the player, or for who watches",
+    about: "The key file that `new` made for the player, or for the watchers",
 };
 
 /// The option to log only errors.
@@ -193,12 +193,12 @@ pub(crate) const QUIET_LOG: Argument = Argument {
     name: "quiet",
     kind: Kind::Flag,
     need: Need::Optional,
-    about: "Say on the standard error only what is wrong",
+    about: "Log only problems on standard error",
 };
 
 pub(crate) const FOLDER: Argument = Argument {
     name: "dir",
     kind: Kind::Text("DIR"),
     need: Need::Required,
-    about: "The folder of the saved files, which no other process uses",
+    about: "The folder of the saved files; no other process may use it",
 };

@@ -2,8 +2,8 @@
 
 use crate::arguments::Description;
 use crate::commands::{
-    act, auto, board, check, export, id, import, judge, keys, list, new_match, page, picture, play,
-    play_loop, recover, referee, script, serve, show, sim, watch,
+    act, auto, board, check, dice, export, id, import, judge, keys, list, manage, new_match, page,
+    picture, play, play_loop, recover, referee, script, serve, show, sim, watch,
 };
 use clap::{Command, Error};
 use std::alloc::Global;
@@ -24,6 +24,7 @@ pub enum Task {
     Page,
     Picture,
     Id,
+    Dice,
     Script,
     Sim,
     Loop,
@@ -36,10 +37,11 @@ pub enum Task {
     Auto,
     Watch,
     Serve,
+    Manage,
 }
 
 /// The commands by their names, in the order in which help lists them.
-pub const TASKS: [(&str, Task); 22] = [
+pub const TASKS: [(&str, Task); 24] = [
     ("judge", Task::Judge),
     ("check", Task::Check),
     ("import", Task::Import),
@@ -50,6 +52,7 @@ pub const TASKS: [(&str, Task); 22] = [
     ("page", Task::Page),
     ("picture", Task::Picture),
     ("id", Task::Id),
+    ("dice", Task::Dice),
     ("script", Task::Script),
     ("sim", Task::Sim),
     ("loop", Task::Loop),
@@ -62,6 +65,7 @@ pub const TASKS: [(&str, Task); 22] = [
     ("auto", Task::Auto),
     ("watch", Task::Watch),
     ("serve", Task::Serve),
+    ("manage", Task::Manage),
 ];
 
 impl Task {
@@ -95,6 +99,7 @@ impl Task {
             Task::Page => Some("page"),
             Task::Picture => Some("picture"),
             Task::Id => Some("id"),
+            Task::Dice => Some("dice --secret FILE"),
             Task::Script => Some("script --length N --watchers N"),
             _ => None,
         }
@@ -113,6 +118,7 @@ impl Task {
             Task::Page => page::COMMAND,
             Task::Picture => picture::COMMAND,
             Task::Id => id::COMMAND,
+            Task::Dice => dice::COMMAND,
             Task::Script => script::COMMAND,
             Task::Sim => sim::COMMAND,
             Task::Loop => play_loop::COMMAND,
@@ -125,6 +131,7 @@ impl Task {
             Task::Auto => auto::COMMAND,
             Task::Watch => watch::COMMAND,
             Task::Serve => serve::COMMAND,
+            Task::Manage => manage::COMMAND,
         }
     }
 }

@@ -8,15 +8,15 @@ pub use bg_auto::{
 };
 use bg_console::{Progress, columns, failed, no_memory, output_terminal, unwritten, wrong};
 use bg_file_commands::{
-    board, check, export, id, import, judge, keys, list, new_match, page, picture, recover, show,
+    check, dice, export, id, import, judge, keys, list, new_match, page, picture, recover, show,
 };
-use bg_match_commands::{play_loop, referee, script, sim, watch};
+use bg_match_commands::{board, play_loop, referee, script, sim, watch};
 use bg_options::{Request, command_line};
 use bg_processes::PrintableLines;
 pub use bg_processes::{FileKeeper, UdpLink, run_loop};
 use bg_reports::Ending;
 use bg_seat_commands::{act, auto, play};
-use bg_serve::serve;
+use bg_serve::{manage, serve};
 use clap::ArgMatches;
 use clap::error::ErrorKind;
 use std::io;
@@ -35,7 +35,10 @@ fn run(rt: &HostRuntime) -> Ending {
             Err(_) => return no_memory(rt),
         },
         Err(error) if error.kind() == io::ErrorKind::InvalidData => {
-            return wrong(rt, "an argument is not valid UTF-8");
+            return wrong(
+                rt,
+                "an argument is not valid UTF-8: rename that file or folder",
+            );
         }
         Err(error) => return failed(rt, error),
     };
@@ -74,6 +77,7 @@ fn obey(rt: &HostRuntime, request: Request<'_, '_>) -> Result<Ending, Ending> {
         Request::Page(options) => page::run(rt, options),
         Request::Picture(options) => picture::run(rt, options),
         Request::Id => id::run(rt),
+        Request::Dice { secret } => dice::run(rt, secret),
         Request::Script(options) => script::run(rt, options),
         Request::Sim(options) => sim::run(rt, options, progress),
         Request::Loop(options) => play_loop::run(rt, options, progress),
@@ -85,9 +89,8 @@ fn obey(rt: &HostRuntime, request: Request<'_, '_>) -> Result<Ending, Ending> {
         Request::Act(options) => act::run(rt, options, is_watched),
         Request::Auto(options) => auto::run(rt, options, is_watched),
         Request::Watch(options) => watch::run(rt, options, output_terminal(rt), is_watched),
-        Request::Serve(options) => {
-            serve::run(rt, options.folder, options.port, options.tells_requests)
-        }
+        Request::Serve(options) => serve::run(rt, options),
+        Request::Manage(options) => manage::run(rt, options),
     }
 }
 

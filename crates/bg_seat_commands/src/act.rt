@@ -159,7 +159,11 @@ where
             return Ok(None);
         }
         if entry > seat.held().saturating_add(1) {
-            say_number(rt, "entry ", entry.into(), " is not the next one");
+            let next = seat.held().saturating_add(1);
+            say(
+                rt,
+                format_args!("entry {entry} is not the next one, which is {next}"),
+            );
             return Err(Ending::ActionRefused);
         }
     }
@@ -212,7 +216,10 @@ where
                 format_args!("the time is over, and nothing was heard of the referee: {why}"),
             )
         }
-        None => failed(rt, "the time is over"),
+        None => failed(
+            rt,
+            "the time is over: call it again, or with more --seconds",
+        ),
     }
 }
 
@@ -237,7 +244,12 @@ where
     };
     let ending = ending_of(record, action, number);
     if ending == Ending::ActionRefused {
-        say_number(rt, "entry ", number.into(), " is another");
+        say_number(
+            rt,
+            "entry ",
+            number.into(),
+            " is another: the board shows what may be done now",
+        );
     }
     Ok(ending)
 }

@@ -15,6 +15,7 @@
 
 pub mod act;
 pub mod auto;
+mod foreign_entries;
 pub mod play;
 mod seats;
 mod typed_lines;

@@ -8,12 +8,15 @@ mod opponents;
 mod players;
 mod screens;
 mod showing;
+mod single_dice;
 mod turn_lists;
 mod turn_words;
+mod unanswered;
 mod wishes;
 
 use crate::play::joining::Joining;
 use crate::play::screens::Screen;
+use crate::play::unanswered::Unanswered;
 use crate::play::wishes::{Wish, wish_of};
 use crate::seats::Seat;
 use crate::typed_lines::TypedLines;
@@ -24,6 +27,7 @@ use bg_match::{Number, Standing};
 use bg_options::PlayOptions;
 use bg_processes::{Failures, Going, Opponent};
 use bg_reports::Ending;
+use bg_typed::typed_steps;
 use std::fs::File;
 use std::io::Read;
 use std::net::Net;
@@ -37,7 +41,8 @@ const MOST_LINES: u32 = 64;
 const GOES_ON: &[u8] = b"you left the table: the match goes on by the same command";
 
 /// The question to a player who resigns.
-const WHICH_LEVEL: &[u8] = b"at which level do you resign? Type `normal`, `gammon` or `backgammon`";
+const WHICH_LEVEL: &[u8] =
+    b"at which level do you resign? Type `normal`, `gammon` or `backgammon`, or Enter alone to play on";
 
 /// Lets a person play for the player that the options name, at this terminal if there is one.
 pub fn run<R>(
@@ -58,6 +63,7 @@ where
         plays_forced: options.plays_forced,
         joining: Joining::Waiting(0),
         caught_up: 0,
+        still: 0,
         foreign: None,
         shown: 0,
         stood: None,
@@ -65,6 +71,7 @@ where
         listed: 0,
         asks_level: false,
         is_silent: false,
+        unanswered: Unanswered::new(),
         opponent: Opponent::new(),
     };
     table.play()
@@ -83,6 +90,8 @@ struct Table<'a, R> {
     joining: Joining,
     /// Number of entries that the seat held at the last tick.
     caught_up: Number,
+    /// Number of ticks without an entry since the referee was heard.
+    still: u32,
     /// The first entry in the player's name that this seat never claimed, where it came before the
     /// player had joined.
     foreign: Option<Number>,
@@ -98,6 +107,8 @@ struct Table<'a, R> {
     asks_level: bool,
     /// Whether nothing is heard of the referee.
     is_silent: bool,
+    /// The report on a choice that the referee doesn't answer.
+    unanswered: Unanswered,
     /// The reports on the other player's coming and going.
     opponent: Opponent,
 }
@@ -158,7 +169,8 @@ where
     /// Obeys a typed line. Returns whether it ends the game.
     fn obey(&mut self, line: &[u8]) -> Result<bool, Ending> {
         let wish = allocated(self.rt, wish_of(self.rt.alloc(), line, self.asks_level))?;
-        self.asks_level = matches!(wish, Wish::Resign);
+        let is_asked = self.asks_level;
+        self.asks_level = false;
         match wish {
             Wish::Quit => return Ok(true),
             Wish::Nothing | Wish::Board => self.look_at_table()?,
@@ -166,10 +178,19 @@ where
             Wish::Legal => self.list_turns(0)?,
             Wish::More => self.list_turns(self.listed)?,
             Wish::Undo => self.undo()?,
-            Wish::Resign => self.screen.say(WHICH_LEVEL)?,
+            Wish::Resign => self.ask_level()?,
             Wish::Act(action) => self.choose(action)?,
+            Wish::Move if is_asked && typed_steps(self.rt.alloc(), line).is_err() => {
+                self.ask_level()?;
+            }
             Wish::Move => self.move_by(line)?,
         }
         Ok(false)
+    }
+
+    /// Asks at which level the player resigns.
+    fn ask_level(&mut self) -> Result<(), Ending> {
+        self.asks_level = true;
+        self.screen.say(WHICH_LEVEL)
     }
 }

@@ -1,5 +1,6 @@
 //! The process of a seat, for the commands that play.
 
+use crate::foreign_entries::{NOT_CHOSEN, first_foreign};
 use bg_board::Player;
 use bg_command_parts::{
     Asked, Audience, FailureReporter, OwnSaves, SilenceReporter, check_seat_folder, socket_of,
@@ -15,9 +16,10 @@ use bg_processes::{
     Failures, FileKeeper, FolderLock, Going, KeyFile, Keyring, Liveness, LivenessChange, MatchFile,
     Names, PartySocket, SeatProcess, Ticking, Waiting,
 };
-use bg_reports::{Ending, ending_of};
+use bg_reports::Ending;
 use bg_wire::party_of;
 use bg_world::Outcome;
+use std::fs;
 use std::fs::File;
 use std::net::Net;
 use std::rt::Files;
@@ -45,6 +47,8 @@ pub(crate) struct Seat<'a, R> {
     pub(crate) player: Player,
     /// Number of entries that it has ever held.
     known: Number,
+    /// Whether an entry was found that others made for the player.
+    has_foreign: bool,
     _lock: FolderLock,
 }
 
@@ -58,7 +62,8 @@ pub(crate) struct Round {
     pub(crate) going: Going,
     /// Whether the referee is heard of, where that has changed.
     pub(crate) word: Option<LivenessChange>,
-    /// The first entry that came in the player's name, and that this seat never claimed.
+    /// The first entry of all rounds that came in the player's name, and that this seat never
+    /// claimed, where it came in this round.
     pub(crate) foreign: Option<Number>,
 }
 
@@ -88,10 +93,10 @@ where
             party,
             key,
         } = key_file;
-        let lock = own_folder(rt, folder)?;
+        // First, as the folder may be locked because it is another party's.
         check_seat_folder(rt, folder, player)?;
-        check_writable(rt, folder)?;
-        let link = socket_of(rt, table.port, party, Keyring::OfParty(key), failures)?;
+        let keys = Keyring::OfParty(key);
+        let (lock, link) = folder_and_link(rt, folder, table.port, party, keys, failures)?;
         let (waiting, ticking) = waiting_for(rt, link.descriptor(), with_input)?;
         let Ok(keeper) = FileKeeper::new(rt, folder, party, failures) else {
             return Err(no_memory(rt));
@@ -111,6 +116,7 @@ where
             table,
             player,
             known,
+            has_foreign: false,
             process,
             names,
             waiting,
@@ -155,17 +161,20 @@ where
     }
 
     /// Looks through the entries that came. Returns the first in the player's name that doesn't
-    /// answer this claim, if there is one, and reports it unless a person at a table is told.
+    /// answer this claim, if there is one and none was returned before, and reports it unless a
+    /// person at a table is told.
     fn news_of_others(&mut self, claim: &Option<(Number, Action)>) -> Option<Number> {
         let foreign = first_foreign(self.process.held(), self.player, self.known, claim);
         self.known = self.known.max(self.held());
-        match foreign {
-            Some(number) if !self.is_at_table => {
-                say_number(self.rt, NOT_CHOSEN.0, number.into(), NOT_CHOSEN.1);
-            }
-            _ => {}
+        let number = foreign?;
+        if self.has_foreign {
+            return None;
         }
-        foreign
+        self.has_foreign = true;
+        if !self.is_at_table {
+            say_number(self.rt, NOT_CHOSEN.0, number.into(), NOT_CHOSEN.1);
+        }
+        Some(number)
     }
 
     /// Claims an action, and returns the outcome.
@@ -182,6 +191,29 @@ where
     }
 }
 
+/// Locks the folder of a party, which it makes if there is none, and opens the party's socket. Where
+/// there is no socket, a folder that it made is removed again.
+fn folder_and_link<'a, R>(
+    rt: &'a R,
+    folder: &str,
+    port: u16,
+    party: u8,
+    keys: Keyring,
+    failures: &'a Failures,
+) -> Result<(FolderLock, PartySocket<'a, R>), Ending>
+where
+    R: Net + Files<File = File> + Clock + Eprint + AllocGlobal,
+{
+    let is_new = fs::metadata(rt, folder).is_err();
+    let lock = own_folder(rt, folder)?;
+    check_writable(rt, folder)?;
+    let link = socket_of(rt, port, party, keys, failures);
+    if is_new && link.is_err() {
+        let _ = fs::remove_dir(rt, folder);
+    }
+    Ok((lock, link?))
+}
+
 /// Returns the saves of a player's seat of a match in a folder.
 fn saves_of<'a>(folder: &'a str, player: Player, table: &'a MatchFile) -> OwnSaves<'a> {
     OwnSaves {
@@ -191,42 +223,9 @@ fn saves_of<'a>(folder: &'a str, player: Player, table: &'a MatchFile) -> OwnSav
     }
 }
 
-/// The words before and behind the number of an entry that somebody else made for the player.
-pub(crate) const NOT_CHOSEN: (&str, &str) = (
-    "somebody else plays for you: entry ",
-    " is in your name, and was not chosen here",
-);
-
 fn count_of(held: Option<&Record>) -> Number {
     match held {
         Some(record) => record.len(),
         None => 0,
-    }
-}
-
-/// Returns the number of the first entry after entry `behind` that is in the player's name, and
-/// doesn't answer this claim.
-fn first_foreign(
-    held: Option<&Record>,
-    player: Player,
-    behind: Number,
-    claim: &Option<(Number, Action)>,
-) -> Option<Number> {
-    let record = held?;
-    for before in behind..record.len() {
-        if record.by(before + 1) == Some(player) && !is_claimed(record, before + 1, claim) {
-            return Some(before + 1);
-        }
-    }
-    None
-}
-
-/// Returns whether the entry with this number answers this claim.
-fn is_claimed(record: &Record, number: Number, claim: &Option<(Number, Action)>) -> bool {
-    match claim {
-        Some((claimed, action)) if *claimed == number => {
-            ending_of(record, action, number) == Ending::Served
-        }
-        _ => false,
     }
 }

@@ -12,8 +12,8 @@ use Rattle.bg_system.specs.declared.files.key_files.KeyFiles.{KeyFiles}
 use Rattle.bg_system.specs.declared.files.match_files.MatchFile.{MatchFile}
 use Rattle.bg_system.specs.declared.files.name_lines.Names.{Names}
 
--- what a party can be handed: the match, names, the seat's number or that of the first watcher for all of them, and a
--- key
+-- what a party can be handed: the match, names, the seat's number or that of the first watcher for
+-- all of them, and a key
 pub record IsKeyFile (file : KeyFile) : Type 0 where
   pub of_match : IsMatchFile file.table
   pub named : IsNames file.names

@@ -11,7 +11,8 @@ use Rattle.bg_system.specs.declared.files.names.NameFault.TheVariants.{Length, C
 abbrev pub most_name_bytes : ℕ
 most_name_bytes = 64
 
--- a character is not seen: a control character, or one that ends a line or turns the direction of a text
+-- a character is not seen: a control character, or one that ends a line or turns the direction of a
+-- text
 abbrev pub is_unseen : ℕ → Bool
 is_unseen c =
     is_control c || c == 0x061C || is_in_range 0x200E 0x200F c || is_in_range 0x2028 0x202E c

@@ -15,7 +15,8 @@ use Rattle.bg_system.specs.declared.sockets.keyrings.Keyring.{Keyring}
 abbrev pub localhost : Ipv4Addr
 localhost = record { octets = 127 ∷ 0 ∷ 0 ∷ 1 ∷ [] }
 
--- the address of a party of the match that has this port: on this machine, and as many ports above as its number
+-- the address of a party of the match that has this port: on this machine, and as many ports above
+-- as its number
 abbrev pub IsAddressOf : ℕ → ℕ → SocketAddr → Type 0
 IsAddressOf port party address = (socket_ip address ≡ V4 localhost) × (socket_port address ≡ port + party)
 

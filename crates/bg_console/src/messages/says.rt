@@ -1,8 +1,9 @@
 //! Messages on the standard error.
 
-use bg_system::{Failures, Printable};
+use bg_system::{DeviceFailure, FailedCall, Failures, Printable};
 use std::fmt::Display;
 use std::io;
+use std::io::ErrorKind;
 
 /// Prints a message to the standard error, after the program's name (docs/OPERATING.md,
 /// "Messages"). Where that can't be written, there is nobody to tell.
@@ -16,10 +17,24 @@ pub fn say_of(rt: &impl Eprint, path: &str, words: &str) {
     say(rt, format_args!("{shown}{words}"));
 }
 
-/// Prints the name of a file or a folder, and these words and a reason behind it.
+/// Prints the name of a file or a folder, and these words and a reason behind it. Then what to do,
+/// where a right or room is missing.
 pub fn say_why(rt: &impl Eprint, path: &str, words: &str, reason: &io::Error) {
-    let shown = Printable(path);
-    say(rt, format_args!("{shown}{words}: {reason}"));
+    let (shown, remedy) = (Printable(path), remedy_of(reason));
+    say(rt, format_args!("{shown}{words}: {reason}{remedy}"));
+}
+
+/// Returns what to do where a file can't be used for this reason. Returns an empty text where that
+/// depends on the file.
+pub(crate) fn remedy_of(reason: &io::Error) -> &'static str {
+    match reason.kind() {
+        ErrorKind::PermissionDenied =>
+            "; `ls -ld` says whose it is: run this as that user, or let them give you the right",
+        ErrorKind::StorageFull | ErrorKind::QuotaExceeded =>
+            "; make room there, and run this again",
+        ErrorKind::OutOfMemory => "; end other programs, or allow this one more (`ulimit -v`)",
+        _ => "",
+    }
 }
 
 /// Prints a number between these words.
@@ -31,6 +46,22 @@ pub fn say_number(rt: &impl Eprint, before: &str, number: u64, behind: &str) {
 /// are in this folder.
 pub fn say_failures(rt: &impl Eprint, failures: &Failures, folder: &str) {
     for failure in failures.drain() {
-        say(rt, failure.in_folder(folder));
+        let (text, remedy) = (failure.in_folder(folder), remedy_of_failure(&failure));
+        say(rt, format_args!("{text}{remedy}"));
+    }
+}
+
+/// Returns what to do where the file of a slot can't be used, as a right or room is missing.
+fn remedy_of_failure(failure: &DeviceFailure) -> &'static str {
+    match (failure.call, failure.error.kind()) {
+        (
+            FailedCall::Write(_) | FailedCall::Sync,
+            ErrorKind::StorageFull | ErrorKind::QuotaExceeded,
+        ) => "; make room there: the match goes on from what is saved",
+        (
+            FailedCall::Write(_) | FailedCall::Read(_) | FailedCall::Sync,
+            ErrorKind::PermissionDenied,
+        ) => "; let its owner give you the right: the match goes on from what is saved",
+        _ => "",
     }
 }

@@ -1,4 +1,4 @@
-//! What stands above matches, in files beside their transcripts.
+//! Headers of matches, in files beside their transcripts.
 
 use crate::batches::put_file;
 use crate::batches::targets::target_of;
@@ -80,7 +80,7 @@ where
             Err(wrong(
                 rt,
                 format_args!(
-                    "{name}: line {line} of the headers beside it is none: nothing was made of it"
+                    "{name}: line {line} of the headers beside it is invalid: it was not exported"
                 ),
             ))
         }

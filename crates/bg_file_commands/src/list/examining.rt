@@ -2,8 +2,7 @@
 
 use crate::list::locks::Locks;
 use crate::list::saves::{Held, held_in};
-use crate::paths::{path_in, slot_path};
-use crate::walks::not_memory;
+use bg_console::{not_memory, path_in, slot_path};
 use bg_match::{Number, Standing};
 use bg_system::{MatchFile, NamedMatch, read_saved};
 use bg_wire::{REFEREE, Slot};
@@ -97,7 +96,7 @@ where
     }
 }
 
-/// What is wrong with a match file.
+/// A fault of a match file.
 #[derive(Drop)]
 struct MatchFileFault {
     soundness: Soundness,

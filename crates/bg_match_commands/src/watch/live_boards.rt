@@ -15,7 +15,7 @@ use std::rt::Files;
 use std::{fmt, io};
 
 /// The message where parties can't go on together.
-const APART: &str = "the files of the parties do not belong together";
+const APART: &str = "the folders of the parties are from different points in time";
 
 /// The message where a file that is kept for others can't be written.
 const UNWRITTEN: &str = "a file that is kept can't be written: `--plain` says which, and why";
@@ -53,8 +53,8 @@ pub(super) struct LiveBoard<'a, R> {
     file: NamedMatch,
     referee: Referee,
     results: Results,
-    /// The result of the game before.
-    result: Option<GameResult>,
+    /// The result of the game before, and the number of the entry that ended it.
+    result: Option<(GameResult, Number)>,
     /// The error since the last news, if there was one.
     trouble: Option<String>,
     /// Whether a file that is kept for others can't be written.
@@ -119,7 +119,7 @@ impl<'a, R: Files<File = File> + Print + Eprint + AllocGlobal> LiveBoard<'a, R> 
     fn note_results(&mut self, record: &Record) {
         for _ in 0..record.len() {
             match self.results.next(record, &self.file.names) {
-                Some(result) => self.result = Some(result),
+                Some(result) => self.result = Some((result, self.results.followed())),
                 None => return,
             }
         }
@@ -159,11 +159,12 @@ impl<'a, R: Files<File = File> + Print + Eprint + AllocGlobal> LiveBoard<'a, R> 
         Ok(broken(alloc, line.as_bytes(), self.terminal.columns)?)
     }
 
-    /// Returns the lines below the entries: the result of the game before, and whether the referee
-    /// is heard. At the end of the match they give its result.
+    /// Returns the lines below the entries: the result of the game before until a player acts in
+    /// the next one, and whether the referee is heard. At the end of the match they give its result.
     fn foot(&self, alloc: Global, record: &Record) -> io::Result<String> {
         let mut foot = String::new(alloc);
-        if let Some(result) = self.result {
+        let opened = record.len().saturating_sub(1);
+        if let Some((result, _)) = self.result.filter(|(_, end)| opened <= *end) {
             foot = format!(in alloc; "{result}\n")?;
             if let Some(result) = result.of_match() {
                 foot = format!(in alloc; "{foot}{result}\n")?;

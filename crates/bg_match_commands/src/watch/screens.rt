@@ -22,8 +22,8 @@ const SPEAKS_TO_PLAYER: &str = " (you)";
 
 const LAST: &str = "last: ";
 
-/// The start of the line that is left out first on a terminal that has too few lines, and the starts
-/// of those that follow when the heading is left out too.
+/// The start of the line that is left out first on a terminal that has too few lines, and the
+/// starts of those that follow when the heading is left out too.
 const PIPS: &str = "pips: ";
 
 const LEFT_OUT: [&str; 3] = ["length ", "cube: ", "score: "];

@@ -8,12 +8,13 @@ use clap::ArgMatches;
 
 /// The help on `act`.
 const ABOUT_ACT: &str =
-    "Make one action when it is the player's turn, and wait for its entry; with no ACTION wait for\n\
-             the turn. Prints the entries since the call before, and the board.\n\
-             \n\
-             A call that finds a claim of an earlier one follows that first. Ends with status 0 where the entry\n\
-             answers the action; with 2 where it is refused, and nothing is claimed, or the entry is another;\n\
-             with 1 where the time is over, or as `play`.";
+    "Make one action on the player's turn, and wait for its entry. Without ACTION, wait for the turn.
+Prints the entries since the last call, and the board.
+
+If an earlier call left a claim, this call follows it up first.
+
+Exit status: 0 if the entry answers the action; 2 if the action is refused, and so nothing is
+claimed, or if the entry is another one; 1 if the time is over, or as for `play`.";
 
 /// Number of seconds that one action may take, at most.
 const MOST_SECONDS: u32 = 1_000_000;
@@ -45,14 +46,14 @@ const SECONDS: Argument = Argument {
     name: "seconds",
     kind: Kind::Number("N", 1, MOST_SECONDS),
     need: Need::Required,
-    about: "How long it may take: 1 to 1000000",
+    about: "How many seconds to wait at most: 1 to 1000000",
 };
 
 const ENTRY: Argument = Argument {
     name: "entry",
     kind: Kind::Number("N", 1, MOST_ENTRIES),
     need: Need::Optional,
-    about: "The entry that the action is claimed as, so that two calls act once: 1 to 1000000",
+    about: "The entry to claim the action as, so that a repeated call acts once: 1 to 1000000",
 };
 
 const ACTION: Argument = Argument {

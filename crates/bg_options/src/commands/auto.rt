@@ -5,10 +5,11 @@ use crate::shared::{FOLDER, MATCH, PLAYER, THREE_TERMINALS};
 
 /// The help on `auto`.
 const ABOUT_AUTO: &str =
-    "Let an automatic player play a match until it is over, and print its transcript.\n\
-             \n\
-             Keeps what it claims in DIR, a folder of this player alone, which is made where it is missing.\n\
-             Ends with the statuses of `play`.";
+    "Let an automatic player play a match until it is over, and print its transcript.
+
+Saves its actions in DIR, a folder for this player alone, which is made if it is missing.
+
+Exit status: as for `play`.";
 
 /// The command with its options and help.
 pub(crate) const COMMAND: Description = Description {

@@ -7,30 +7,37 @@ use clap::ArgMatches;
 
 /// The help on `board`, with an example.
 const ABOUT_BOARD: &str =
-    "Keep pages of many matches for a web server: of each folder of a referee among those that are named,
-and those at most three folders deep in one of them.
+    "Keep web pages of many matches: of each referee's folder among those named, and of those up to
+three folders below them. A folder with a key file `match-watch` and no match file stands for its
+match too, and so does a key file that is named: such a match is watched.
 
     $ bg_relay board tables --out public
     $ ls public
     index.html  monday.html  monday.svg  tuesday.html  tuesday.svg
+    $ bg_relay board friday/match-watch --out public
 
-`index.html` shows all boards small, with names, scores and whose turn it is, those that are played
-apart from those that are over. Each match has a page, and its board as a picture; these have the name
-of its folder, in which any sign but a letter, a digit, `.`, `_` and `-` becomes `-`. If two folders have
-one name, the later one gets the number of its match behind it.
+`index.html` shows all boards in small, with names, scores and whose turn it is; finished matches
+are listed separately. Each match has a page and a picture, named after its folder. In their
+names, every character except letters, digits, `.`, `_` and `-` becomes `-`. If two folders have
+the same name, the number of the match is added to the second.
 
-It looks at the referees' saved files once a second, and every ten seconds for new matches. It writes a
-file only where something changed, and each file is whole at any time. It takes no lock and sends
-nothing, so all may run meanwhile. A match that can't be read is named on the standard error once, and
-keeps the files that it has.
+It reads the referees' saved files once a second, and looks for new matches every ten seconds. It
+writes only the files that changed, and each file is whole at all times. It takes no lock, and sends
+nothing to referees whose folders it has, so the matches can go on meanwhile. With a key file it is
+a watcher, as `watch` is: it says whether the referee is heard, and writes nothing before. A match
+that can't be read is reported once on standard error, and its files stay as they are; the others
+go on.
 
-Runs until it is ended, or with --once until each file is written. Ends with status 0; with 2 where FOLDER
-is no folder, and 1 where writing or memory failed.";
+Runs until it is stopped, or with --once until each file is written. --once leaves out matches that
+would be watched.
+
+Exit status: 0 for success, 2 if FOLDER is not a folder, 1 if writing or memory failed.";
 
 /// The folders whose matches are shown, and the place of the pages.
 #[derive(Clone, Copy)]
 pub struct BoardOptions<'m, 'a> {
-    pub folders: &'m [&'a str],
+    /// The folders, and the key files of matches that are watched.
+    pub places: &'m [&'a str],
     /// The folder of the pages.
     pub out: &'a str,
     /// The title of the index.
@@ -44,7 +51,7 @@ pub struct BoardOptions<'m, 'a> {
 impl<'m, 'a> BoardOptions<'m, 'a> {
     pub(crate) fn read(options: &'m ArgMatches<'a>) -> Option<BoardOptions<'m, 'a>> {
         Some(BoardOptions {
-            folders: options.get_strs("DIR").unwrap_or_default(),
+            places: options.get_strs("DIR").unwrap_or_default(),
             out: options.get_str(OUT.name)?,
             title: options.get_str(TITLE.name)?,
             numbering: numbering_in(options),
@@ -57,7 +64,7 @@ const OUT: Argument = Argument {
     name: "out",
     kind: Kind::Text("FOLDER"),
     need: Need::Required,
-    about: "The folder of the pages, which a web server serves",
+    about: "The folder to write the pages to, for a web server to serve",
 };
 
 const TITLE: Argument = Argument {
@@ -74,19 +81,19 @@ const ONCE: Argument = Argument {
     about: "Write each file once, and end",
 };
 
-/// The folders of the matches.
-const FOLDERS: Argument = Argument {
+/// The folders of the matches, and key files.
+const PLACES: Argument = Argument {
     name: "DIR",
     kind: Kind::SomeWords,
     need: Need::Required,
-    about: "Folders of referees, or folders that have them",
+    about: "Folders of referees or with key files, folders above them, or key files",
 };
 
 /// The command with its options and help.
 pub(crate) const COMMAND: Description = Description {
     name: "board",
-    about: "Keep pages of many matches for a web server",
+    about: "Keep web pages of many matches",
     long_about: ABOUT_BOARD,
     after_help: None,
-    arguments: &[OUT, TITLE, NUMBERING, ONCE, FOLDERS],
+    arguments: &[OUT, TITLE, NUMBERING, ONCE, PLACES],
 };

@@ -4,9 +4,7 @@ use crate::arguments::{Argument, Description, Kind, Need};
 use clap::ArgMatches;
 
 /// The help on `check`, with an example.
-const ABOUT_CHECK: &str =
-    "Judge many files, transcripts as `judge` reads them and match files as `import` does: a line for
-each, in the order given.
+const ABOUT_CHECK: &str = "Judge many files, and print a line for each, in the order given.
 
     $ bg_relay check good.txt bad.txt other.mat
     good.txt: ok 2, not over
@@ -14,26 +12,30 @@ each, in the order given.
     other.mat: ok 10, O wins 1-0
     bg_relay: 2 ok, 1 refused
 
-A file is taken for a match file of another program, by the first rules, where its first line that is
-neither blank nor a comment says how long the match is, as `7 point match` does; its name says
-nothing. With --recursive a folder stands for all files in it and below it, in the order of their
-names; links to folders are not followed, and files whose names begin with a dot are left out.
+Transcripts are judged as by `judge`, and match files of other programs as by `import`, by rules
+1. A file is taken for a match file if its first line that is neither blank nor a comment says
+how long the match is, as `7 point match` does. So is any other file whose name ends in `.mat`,
+unless it begins with `length `.
 
-For programs, --format tsv prints a line of names and then a line for each file, with a tab between
-the fields, and --format json an object for each file: the file, its kind, the verdict, the line that
-is refused and why; of a good match its entries, length, rules, score, game, winner and state; and of
-a match file the names of the players, the date, the event and the place.
+With --recursive, a folder stands for all files in it and below it, in the order of their names.
+Links to folders are not followed, and files whose names begin with a dot are skipped.
 
-One process judges one file after the other. Several at once are judged by xargs:
+For programs, --format tsv prints a line of column names, and then a line for each file, with tabs
+between the fields. --format json prints an object for each file. Both have the file, its kind and
+the verdict; the refused line and the reason; the entries, length, rules, score, game, winner and
+state of a legal match; and the players, date, event and place that a match file names.
+
+One process judges one file after another. To judge several at once, use xargs:
 
     find archive -name '*.mat' -print0 | xargs -0 -n 1000 -P 4 bg_relay check --quiet
 
-Behind the reason stands the line itself, cut to the width of the screen where the standard output is
-one (COLUMNS says how wide it is, and else it is taken for 80 columns), and to 1000 columns elsewhere.
-What can't be printed is shown as an escape. A file that can't be read is named on the standard error,
-and the others are judged all the same. Where the standard error is a terminal, it says there each
-second how far it is. Ends with status 0 where all are good, 2 where one is refused, and 1 where one
-can't be read, also where another is refused, or writing failed.";
+The refused line follows the reason. At a terminal it is cut to the width of the screen (COLUMNS,
+or else 80), and elsewhere to 1000 columns. Characters that can't be printed are escaped. A file
+that can't be read is reported on standard error, and the others are still judged. If standard
+error is a terminal, progress is shown there once a second.
+
+Exit status: 0 if all files are legal, 2 if one is refused, 1 if one can't be read (even if
+another is refused) or writing failed.";
 
 /// The format of the results.
 #[derive(Clone, Copy, Debug, PartialEq, Eq)]
@@ -79,35 +81,35 @@ const QUIET: Argument = Argument {
     name: "quiet",
     kind: Kind::Flag,
     need: Need::Optional,
-    about: "Print only what is refused",
+    about: "Print only refused files",
 };
 
 const RECURSIVE: Argument = Argument {
     name: "recursive",
     kind: Kind::Flag,
     need: Need::Optional,
-    about: "Judge all files in folders that are named, and below them",
+    about: "Judge all files in the folders named, and below them",
 };
 
 const FORMAT: Argument = Argument {
     name: "format",
     kind: Kind::OneOf("FORMAT", &["text", "tsv", "json"]),
     need: Need::Usually("text"),
-    about: "How: text for people; fields with tabs, or an object of JSON in each line, for programs",
+    about: "The format: text for people; tab-separated fields or one JSON object per line for programs",
 };
 
 const LIST: Argument = Argument {
     name: "files-from",
     kind: Kind::Text("LIST"),
     need: Need::Optional,
-    about: "A file with the names of further files, one in each line; - is the standard input",
+    about: "A file with the names of more files, one per line; - is standard input",
 };
 
 const FILES: Argument = Argument {
     name: "FILE",
     kind: Kind::SomeWords,
     need: Need::Unless("files-from"),
-    about: "The files, and folders with --recursive; - is the standard input",
+    about: "Files, and folders with --recursive; - is standard input",
 };
 
 /// The command with its options and help.

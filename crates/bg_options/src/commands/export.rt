@@ -7,15 +7,15 @@ use clap::ArgMatches;
 
 /// The help on `export`, with an example.
 const ABOUT_EXPORT: &str =
-    "Write the transcript on the standard input for other programs: bg_relay export < TRANSCRIPT
+    "Convert a transcript into a match file for other programs: bg_relay export < TRANSCRIPT
 
-Prints a match file as most backgammon programs read it, `.mat`. So of
+Prints a match file (.mat) as most backgammon programs read it. From
 
     length 1
     open 3 1
     X move 8-5 6-5
 
-it prints
+it makes
 
      1 point match
 
@@ -23,18 +23,19 @@ it prints
      X : 0                          O : 0
       1) 31: 8/5 6/5
 
-Offers to resign that were not accepted are left out, as is what such files don't have: the number of
-the match and its rules. A transcript has no names: --x and --o give those of the players, in place of
-X and O, and --date, --event and --place what else stands above a match. Each has 1 to 64 bytes.
+Match files have no place for the number of the match, its rules, and offers to resign that were
+rejected, so these are left out. A transcript has no names: give them with --x and --o, instead of
+X and O, and what else stands above a match with --date, --event and --place. Each has 1 to 64
+bytes.
 
-A transcript that is refused is named on the standard error as `check` names it, and nothing is
-printed. With --out each FILE is written into a folder: `export --out DIR a.txt b.txt` writes DIR/a.mat
-and DIR/b.mat. Nothing is overwritten without --force. A file that is refused is named, and the others
-are written all the same. With --with-headers what stands above a match is read from the file a.headers
-beside a.txt, if there is one, as `import` writes it; --x, --date and the others go before it.
+A refused transcript is reported on standard error as by `check`, and nothing is printed.
 
-Ends with status 0; with 2 where a transcript is refused, and 1 where reading, writing or memory
-failed.";
+With --out, each FILE is converted into a folder: `export --out DIR a.txt b.txt` writes DIR/a.mat
+and DIR/b.mat. No file is overwritten without --force. A refused file is reported, and the others
+are still converted. With --with-headers, names and the like are read from the file a.headers
+beside a.txt, if there is one, as `import` writes it; --x, --date and the others override it.
+
+Exit status: 0 for success, 2 if a transcript is refused, 1 if reading, writing or memory failed.";
 
 /// The options of `export`.
 #[derive(Clone, Copy)]
@@ -70,7 +71,7 @@ const O: Argument = Argument {
 /// The command with its options and help.
 pub(crate) const COMMAND: Description = Description {
     name: "export",
-    about: "Write a transcript as a match file for other programs",
+    about: "Convert a transcript into a match file for other programs",
     long_about: ABOUT_EXPORT,
     after_help: None,
     arguments: &[X, O, DATE, EVENT, PLACE, OUT, WITH_HEADERS, FORCE, FILES],

@@ -8,10 +8,11 @@ use bg_match::Rules;
 use clap::ArgMatches;
 
 /// The help on `import`, with an example.
-const ABOUT_IMPORT: &str = "Take over a match file of another program: bg_relay import < FILE.mat
+const ABOUT_IMPORT: &str =
+    "Convert a match file of another program into a transcript: bg_relay import < FILE.mat
 
-Reads a match file as most backgammon programs write it, `.mat`, and prints the transcript of its
-match. X has the left column. So of
+Reads a match file (.mat) as most backgammon programs write it, and prints the transcript of its
+match. The player in the left column becomes X. From
 
      1 point match
 
@@ -19,23 +20,23 @@ match. X has the left column. So of
      Ada : 0                     Zoe : 0
       1) 31: 8/5 6/5
 
-it prints
+it makes
 
     length 1
     open 3 1
     X move 8-5 6-5
 
-A file that is none, or that the match rules don't have, as a money game or a cube above 128, is
-refused with its line on the standard error, and nothing is printed. With --headers the names of the
-players, the date, the event and the place of the match are written into a file, as far as the match
-file says them.
+A file is refused if it isn't a match file, or if the rules here don't allow its match (a money
+game, or a cube above 128). The refused line is reported on standard error, and nothing is
+printed. With --headers, the names of the players, the date, the event and the place are written
+to a file, as far as the match file has them.
 
-With --out each FILE is taken over into a folder: `import --out DIR a.mat b.mat` writes DIR/a.txt and
-DIR/b.txt. With --with-headers it also writes DIR/a.headers, if a.mat says anything of that kind.
-Nothing is overwritten without --force. A file that is refused is named on the standard error, as
-`check` names it, and the others are written all the same.
+With --out, each FILE is converted into a folder: `import --out DIR a.mat b.mat` writes DIR/a.txt
+and DIR/b.txt. With --with-headers it also writes DIR/a.headers, if a.mat has names or the like.
+No file is overwritten without --force. A refused file is reported as by `check`, and the others
+are still converted.
 
-Ends with status 0; with 2 where a file is refused, and 1 where reading, writing or memory failed.";
+Exit status: 0 for success, 2 if a file is refused, 1 if reading, writing or memory failed.";
 
 /// The options of `import`.
 #[derive(Clone, Copy)]
@@ -65,13 +66,13 @@ pub(crate) const HEADERS: Argument = Argument {
     name: "headers",
     kind: Kind::Text("FILE"),
     need: Need::Optional,
-    about: "Write names, date, event and place of the match into this file",
+    about: "Write names, date, event and place of the match to this file",
 };
 
 /// The command with its options and help.
 pub(crate) const COMMAND: Description = Description {
     name: "import",
-    about: "Take over a match file of another program",
+    about: "Convert a match file of another program into a transcript",
     long_about: ABOUT_IMPORT,
     after_help: None,
     arguments: &[RULES, HEADERS, OUT, WITH_HEADERS, FORCE, FILES],

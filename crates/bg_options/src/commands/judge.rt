@@ -6,14 +6,14 @@ use crate::shared::MISPLACED_FILE;
 /// The help on `judge`, with a transcript and what it prints for it.
 const ABOUT_JUDGE: &str = "Judge the transcript of a match on standard input: bg_relay judge < FILE
 
-A transcript has a line with the length of the match, and then one for each entry:
+The first line of a transcript has the length of the match. Each further line is an entry:
 
     length 1
     open 3 1
     X move 8-5 6-5
 
-Prints the board after the good lines, and then `ok N` with the number of entries, or
-`refused at line L: REASON`. For these three lines:
+Prints the board after the legal entries. The last line is `ok N`, with the number of entries, or
+`refused at line L: REASON`. For the transcript above:
 
     length 1 game 1 score 0-0 cube 1 middle crawford
       13  14  15  16  17  18  19  20  21  22  23  24
@@ -24,9 +24,11 @@ Prints the board after the good lines, and then `ok N` with the number of entrie
     O to roll
     ok 2
 
-Where line 1 is refused it prints that line alone, and for an input of more than 41943040 bytes
-`refused: input too long`. Ends with status 0 where the transcript is good, 2 where it is refused,
-and 1 where reading, writing or memory failed.";
+If line 1 is refused, no board is printed. An input of more than 41943040 bytes is refused whole:
+`refused: input too long`.
+
+Exit status: 0 if the transcript is legal, 2 if it is refused, 1 if reading, writing or memory
+failed.";
 
 /// The command with its options and help.
 pub(crate) const COMMAND: Description = Description {

@@ -9,20 +9,22 @@ use bg_system::{HIGHEST_PORT, LOWEST_PORT, Names};
 use clap::ArgMatches;
 
 /// The help on `new`.
-const ABOUT_NEW: &str = "Make a match between processes.\n\
-             \n\
-             Writes the files of the referee into DIR, which is made where it is missing, and prints the line of\n\
-             `match`. Of the others hand `match-x` to player X, `match-o` to player O, and `match-watch` to who\n\
-             may watch: each has the key of its party, so show it to nobody else. `secret`, by which the dice\n\
-             go, and `key-secret`, which all keys are derived from, stay with the referee. A match takes the port\n\
-             P and the 255 above it.\n\
-             \n\
-             A match may have the names of its players, which `play`, `watch`, `list` and pages show: each has 1 to\n\
-             64 bytes, no control characters, none that change the direction of a text, and no blank at its\n\
-             beginning or its end. The files of a match with names need a program that knows names.\n\
-             \n\
-             Ends with status 0; with 2 where a name is refused, DIR has a match already, or another match beside it\n\
-             has one of these ports; with 1 where reading, writing or memory failed.";
+const ABOUT_NEW: &str = "Make a match between processes.
+
+Writes the referee's files into DIR, which is made if it is missing, and prints the line of
+`match`. Hand `match-x` to player X, `match-o` to player O, and `match-watch` to whoever may
+watch. Each has the key of its party, so show it to nobody else. `secret`, which decides the dice,
+and `key-secret`, from which all keys are derived, stay with the referee. The last line printed is
+the SHA-256 of `secret`, which the file `dice` has too: tell it to both players before the first
+roll. When the match is over, hand them `secret`, and `bg_relay dice` checks each roll by it. The
+match uses port P and the 255 above it.
+
+You can name the players: `play`, `watch`, `list` and pages show the names. A name has 1 to 64
+bytes, no control characters, none that change the direction of text, and no blank at either end.
+Programs older than names can't read the files of a match that has them.
+
+Exit status: 0 for success; 2 if a name is refused, DIR has a match already, or a match beside it
+uses one of these ports; 1 if reading, writing or memory failed.";
 
 /// A new match between processes, and the place of its files.
 #[derive(Clone, Copy)]
@@ -60,7 +62,7 @@ const PORT: Argument = Argument {
     name: "port",
     kind: Kind::Number("P", LOWEST_PORT as u32, HIGHEST_PORT as u32),
     need: Need::Required,
-    about: "The port of the referee on 127.0.0.1, below those of all others: 1024 to 65280",
+    about: "The referee's port on 127.0.0.1; the 255 above it are for the others: 1024 to 65280",
 };
 
 /// The command with its options and help.

@@ -10,18 +10,22 @@ use bg_system::Names;
 use clap::ArgMatches;
 
 /// The help on `page`, with an example.
-const ABOUT_PAGE: &str = "Make a page for browsers of the transcript on the standard input.
+const ABOUT_PAGE: &str = "Turn the transcript on standard input into a web page.
 
     $ bg_relay page --title \"Anna against Otto\" < transcript.txt > match.html
 
-The page is one file that needs nothing from elsewhere. It shows each position with its entry, the pip
-counts and the last move, and the entries by game. Keys, buttons, links and the list of games go
-through it, and no result is shown before the reader is there. Without scripts it is a plain list with
-the last position behind it. The players' names are those of --name-x and --name-o, or else of the file
-of --match; both names are the title where none is given. Behind the title stand event, place and date,
-as far as they are given. A transcript that is refused is named on the
-standard error as `check` names it, and nothing is printed. Ends with status 0; with 2 where the
-transcript or a name is refused or FILE is no such file, and 1 where reading, writing or memory failed.";
+The page is one file and loads nothing else. It shows each position with its entry, the pip counts
+and the last move, and lists the entries by game. Keys, buttons, links and the list of games step
+through it, and no result is shown before the reader gets there. Without scripts it is a plain
+list, with the last position below.
+
+The names of the players come from --name-x and --name-o, or else from the FILE of --match.
+Without --title, the names are the title. The event, the place and the date follow it, as far as
+they are given. A refused transcript is reported on standard error as by `check`, and nothing is
+printed.
+
+Exit status: 0 for success, 2 if the transcript or a name is refused or FILE is neither a match
+file nor a key file, 1 if reading, writing or memory failed.";
 
 /// The contents of a page beside the positions.
 #[derive(Clone, Copy)]
@@ -56,13 +60,13 @@ const MATCH: Argument = Argument {
     name: "match",
     kind: Kind::Text("FILE"),
     need: Need::Optional,
-    about: "A match file or a key file that has the names of the players",
+    about: "A match file or key file with the names of the players",
 };
 
 /// The command with its options and help.
 pub(crate) const COMMAND: Description = Description {
     name: "page",
-    about: "Make a page for browsers of a transcript",
+    about: "Turn a transcript into a web page",
     long_about: ABOUT_PAGE,
     after_help: None,
     arguments: &[

@@ -8,16 +8,18 @@ use clap::ArgMatches;
 
 /// The help on `picture`, with an example.
 const ABOUT_PICTURE: &str =
-    "Draw where the match stands whose transcript is on the standard input, as an SVG file.
+    "Draw the last position of the transcript on standard input, as an SVG file.
 
     $ bg_relay picture < transcript.txt > board.svg
     $ head -n 10 transcript.txt | bg_relay picture > after-9-entries.svg
 
-The picture shows the points and their numbers, the checkers, the cube, the dice of the turn, the
-score, and what is to happen next. Below stand the names of the players, and event, place and date, as
-far as --name-x, --name-o, --event, --place and --date give them. A transcript that is refused is
-named on the standard error as `check` names it, and nothing is printed. Ends with status 0; with 2
-where the transcript is refused, and 1 where reading, writing or memory failed.";
+The picture shows the points and their numbers, the checkers, the cube, the dice, the score and
+what comes next. Below are the names of the players, the event, the place and the date, as far as
+--name-x, --name-o, --event, --place and --date give them. A refused transcript is reported on
+standard error as by `check`, and nothing is printed.
+
+Exit status: 0 for success, 2 if the transcript is refused, 1 if reading, writing or memory
+failed.";
 
 /// The options of `picture`.
 #[derive(Clone, Copy)]
@@ -40,7 +42,7 @@ impl<'a> PictureOptions<'a> {
 /// The command with its options and help.
 pub(crate) const COMMAND: Description = Description {
     name: "picture",
-    about: "Draw where a match stands",
+    about: "Draw the last position of a transcript",
     long_about: ABOUT_PICTURE,
     after_help: None,
     arguments: &[

@@ -6,14 +6,16 @@ use bg_board::Player;
 use clap::ArgMatches;
 
 /// The help on `play`.
-const ABOUT_PLAY: &str = "Play a match at this terminal, until it is over or you quit.\n\
-             \n\
-             Draws the board when you are to act, and takes the lines that you type: `help` lists them. What\n\
-             you chose is kept in DIR, a folder of this player alone, which is made where it is missing: the\n\
-             same command goes on where you were. A terminal has colours, unless NO_COLOR is set or TERM is dumb.\n\
-             Ends with status 0; with 1 where the port is taken, another process plays over DIR, its files are\n\
-             damaged or of another match, or reading, writing or memory failed; with 2 where the match file or DIR\n\
-             is none, or DIR is the other player's or can't be written to.";
+const ABOUT_PLAY: &str = "Play a match at this terminal, until it is over or you quit.
+
+Draws the board when it is your turn, and reads the lines that you type; type `help` for a list.
+Your actions are saved in DIR, a folder for this player alone, which is made if it is missing.
+After a restart the same command continues where you were. Colours are used at a terminal, unless
+NO_COLOR is set or TERM is dumb.
+
+Exit status: 0 for success; 1 if the port is taken, another process uses DIR, its files are
+damaged or of another match, or reading, writing or memory failed; 2 if the match file is invalid,
+or DIR is not a folder, belongs to the other player or can't be written to.";
 
 /// The least and the greatest number of columns that a screen may be given.
 const FEWEST_COLUMNS: u32 = 20;
@@ -64,14 +66,14 @@ const COLUMNS: Argument = Argument {
     name: "columns",
     kind: Kind::Number("N", FEWEST_COLUMNS, MOST_COLUMNS),
     need: Need::Optional,
-    about: "How many columns the screen has, 20 to 400, where the variable COLUMNS doesn't say it",
+    about: "The width of the screen, 20 to 400; without it the variable COLUMNS, or else 80",
 };
 
 const FORCED: Argument = Argument {
     name: "forced",
     kind: Kind::Flag,
     need: Need::Optional,
-    about: "Play a turn at once where it is the only legal one",
+    about: "Play a turn at once if it is the only legal one",
 };
 
 /// The command with its options and help.

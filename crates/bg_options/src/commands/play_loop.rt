@@ -6,15 +6,17 @@ use bg_match::Rules;
 use clap::ArgMatches;
 
 /// The help on `loop`.
-const ABOUT_LOOP: &str = "Play an automatic match over UDP sockets and files.\n\
-             \n\
-             A referee, two seats and one watcher send each other packets over sockets on 127.0.0.1, and save\n\
-             in the files `party-P.S` of DIR, P the party and S the slot. Over the same folder, with the same\n\
-             seed, length and rules, a match goes on where it was left, also after a crash. Prints how many\n\
-             entries each party holds in the end, and the board. Says each second how far it is, where the\n\
-             standard error is a terminal. Ends with status 0; with 1 where another process plays over DIR, a socket\n\
-             can't be had, the files can't be read or are of another match or damaged, or writing or memory\n\
-             failed; with 2 where DIR is no folder.";
+const ABOUT_LOOP: &str = "Play an automatic match over UDP sockets and files.
+
+A referee, two seats and one watcher send each other packets over sockets on 127.0.0.1. They save
+to the files `party-P.S` of DIR, where P is the party and S the slot. With the same folder, seed,
+length and rules, the match continues where it was left, also after a crash. At the end it prints
+how many entries each party holds, and the board. If standard error is a terminal, progress is
+shown there once a second.
+
+Exit status: 0 for success; 1 if another process uses DIR, a socket can't be opened, the files
+can't be read, are damaged or of another match, or writing or memory failed; 2 if DIR is not a
+folder.";
 
 /// Number of rounds of a match over sockets, at most.
 const MOST_ROUNDS: u32 = 1_000_000;
@@ -48,14 +50,14 @@ const ROUNDS: Argument = Argument {
     name: "rounds",
     kind: Kind::Number("N", 0, MOST_ROUNDS),
     need: Need::Required,
-    about: "How many rounds are played: 0 to 1000000",
+    about: "The number of rounds: 0 to 1000000",
 };
 
 const FOLDER: Argument = Argument {
     name: "dir",
     kind: Kind::Text("DIR"),
     need: Need::Required,
-    about: "The folder of the saved files, which must exist",
+    about: "The folder of the saved files; it must exist",
 };
 
 /// The command with its options and help.

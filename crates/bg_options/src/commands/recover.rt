@@ -5,26 +5,26 @@ use crate::shared::FOLDER;
 use clap::ArgMatches;
 
 /// The help on `recover`, with an example.
-const ABOUT_RECOVER: &str =
-    "Make a referee's folder anew, where it was lost, from what the seats and others hold.
+const ABOUT_RECOVER: &str = "Make a lost referee's folder again from what the seats and others hold.
 
     $ bg_relay recover --match keys/match-x --keys keys --x x --o o --dir new-table board/transcript
     bg_relay: new-table begins with the 57 entries of board/transcript
-    the keys are kept: X, O and who watches go on with the key files that they have
+    the keys are kept: X, O and the watchers continue with the key files that they have
     $ bg_relay referee --dir new-table
 
-End all processes of the match first. Every party holds the front of what the referee had, so the
-longest record is taken, of both seats' folders and of the transcripts that are named: what watchers
-keep, or what `auto` and `watch` have printed. Name each that there is: where one that is left out
-holds more, the parties can't go on together. The dice go by a new secret from there on.
+Stop all processes of the match first. Every party holds the first entries of what the referee
+had, so `recover` takes the longest record of both seats' folders and the transcripts that you
+name: what watchers keep, or what `auto` and `watch` printed. Name all that exist. If one that you
+leave out holds more, its party can't continue. From here on the dice come from a new secret.
 
-The folder that --keys names has copies of `match-x`, `match-o` and `match-watch`, which players and
-watchers have: these keys are kept. Without it all keys are new: hand the new key files out, as `new`
-says.
+The folder of --keys has copies of `match-x`, `match-o` and `match-watch`, as the players and
+watchers have them: these keys are kept. Without --keys, all keys are new: hand out the new key
+files, as `new` says.
 
-Where two records differ, or a key file is of another match or another party, nothing is made. Ends
-with status 0; with 2 where a file or a folder is none, something does not belong together, or DIR has
-a match already; with 1 where a process plays over a folder, or reading, writing or memory failed.";
+If two records differ, or a key file is of another match or party, nothing is made.
+
+Exit status: 0 for success; 2 if a file or folder is invalid, the records differ, or DIR has a
+match already; 1 if another process uses a folder, or reading, writing or memory failed.";
 
 /// The sources of the folder, and its place.
 #[derive(Clone, Copy)]
@@ -67,34 +67,34 @@ const KEYS: Argument = Argument {
     name: "keys",
     kind: Kind::Text("DIR"),
     need: Need::Optional,
-    about: "A folder with the key files whose keys are kept; without it all keys are new",
+    about: "A folder with the key files whose keys to keep; without it all keys are new",
 };
 
 const X: Argument = Argument {
     name: "x",
     kind: Kind::Text("DIR"),
     need: Need::Required,
-    about: "The folder of the seat of X",
+    about: "The folder of X's seat",
 };
 
 const O: Argument = Argument {
     name: "o",
     kind: Kind::Text("DIR"),
     need: Need::Required,
-    about: "The folder of the seat of O",
+    about: "The folder of O's seat",
 };
 
 const TRANSCRIPTS: Argument = Argument {
     name: "TRANSCRIPT",
     kind: Kind::Words,
     need: Need::Optional,
-    about: "Transcripts of the match; - is the standard input",
+    about: "Transcripts of the match; - is standard input",
 };
 
 /// The command with its options and help.
 pub(crate) const COMMAND: Description = Description {
     name: "recover",
-    about: "Make a referee's folder from what others hold",
+    about: "Make a lost referee's folder again from what others hold",
     long_about: ABOUT_RECOVER,
     after_help: None,
     arguments: &[MATCH, KEYS, X, O, FOLDER, TRANSCRIPTS],

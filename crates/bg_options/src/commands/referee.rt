@@ -5,12 +5,13 @@ use crate::shared::{FOLDER, QUIET_LOG, THREE_TERMINALS};
 use clap::ArgMatches;
 
 /// The help on `referee`.
-const ABOUT_REFEREE: &str = "Run the referee of the match in DIR until it is over.\n\
-             \n\
-             Says on the standard error, for a log, that it begins, the result of each game, who comes and goes,\n\
-             and that it ends. Ends some seconds after nobody lacks an entry any more, with status 0; with 1\n\
-             where the port is taken, another process plays over DIR, its files are damaged or of another match,\n\
-             or reading, writing or memory failed.";
+const ABOUT_REFEREE: &str = "Run the referee of the match in DIR until it is over.
+
+Logs on standard error when it starts, the result of each game, who comes and goes, and when it
+ends. It ends some seconds after every party has all entries.
+
+Exit status: 0 once the match is over; 1 if the port is taken, another process uses DIR, its files
+are damaged or of another match, or reading, writing or memory failed.";
 
 /// The match whose referee is run.
 #[derive(Clone, Copy)]

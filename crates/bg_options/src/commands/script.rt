@@ -6,15 +6,18 @@ use bg_match::Terms;
 use clap::ArgMatches;
 
 /// The help on `script`.
-const ABOUT_SCRIPT: &str = "Let the events on standard input happen to a match in memory.\n\
-             \n\
-             Each line is one event: `due WORD`, `take PARTY PICK WORD`, `choose PLAYER ACTION`,\n\
-             `save PARTY`, `tick PARTY` or `restart PARTY`. Party 0 is the referee, 1 and 2 are the seats of\n\
-             X and O, and watchers follow from 3. Prints a line for what each event came to, then how many\n\
-             entries each party holds, and the board. Nothing happens unless all lines are good: else it\n\
-             prints `refused at line L: REASON`, and for an input of more than 41943040 bytes\n\
-             `refused: input too long`. Ends with status 0 where the script is good, 2 where it is refused,\n\
-             and 1 where reading, writing or memory failed.";
+const ABOUT_SCRIPT: &str = "Apply the events on standard input to a match in memory.
+
+Each line is one event: `due WORD`, `take PARTY PICK WORD`, `choose PLAYER ACTION`, `save PARTY`,
+`tick PARTY` or `restart PARTY`. Party 0 is the referee, 1 and 2 are the seats of X and O, and
+watchers are numbered from 3. Prints the outcome of each event, then how many entries each party
+holds, and the board.
+
+If any line is refused, no event is applied, and it prints `refused at line L: REASON`. An input
+of more than 41943040 bytes is refused whole: `refused: input too long`.
+
+Exit status: 0 if the script is accepted, 2 if it is refused, 1 if reading, writing or memory
+failed.";
 
 /// The match that a script is played on.
 #[derive(Clone, Copy)]
@@ -39,7 +42,7 @@ impl ScriptOptions {
 /// The command with its options and help.
 pub(crate) const COMMAND: Description = Description {
     name: "script",
-    about: "Let the events on standard input happen to a match in memory",
+    about: "Apply the events on standard input to a match in memory",
     long_about: ABOUT_SCRIPT,
     after_help: None,
     arguments: &[LENGTH, RULES, WATCHERS, MISPLACED_FILE],

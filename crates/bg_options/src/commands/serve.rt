@@ -5,29 +5,36 @@ use crate::shared::number_in;
 use clap::ArgMatches;
 
 /// The help on `serve`.
-const ABOUT_SERVE: &str = "Let people make matches, play and watch in a browser.\n\
-             \n\
-             Serves pages at http://127.0.0.1:P. Whoever makes a match there gets a link for each player, and one\n\
-             for those who watch. Each match has a folder in DIR, which is made where it is missing; those that\n\
-             lie there are served too, as one that `new` has made, which can be watched alone. It may be killed\n\
-             at any moment, and goes on where it is started again.\n\
-             \n\
-             Only this machine can reach it: others do by a proxy in front of it, with TLS (docs/SERVING.md).\n\
-             At most 4096 connections and 10000 matches are served, and 60 matches made in a minute. A head of a\n\
-             request has at most 8192 bytes, a body 4096, and a message 512. A request has to come within 15\n\
-             seconds, and a socket that is silent for 75 seconds, or takes nothing for 60, is closed.\n\
-             \n\
-             Says on the standard error, for a log, that it begins, that matches are made, and what fails. Runs\n\
-             until it is ended. Ends with status 1 where the port is taken, another process serves DIR, or\n\
-             reading, writing or memory failed; with 2 where DIR is no folder.";
+const ABOUT_SERVE: &str = "Let people make matches, play and watch in a browser.
 
-/// What is served, and where.
+Serves pages at http://127.0.0.1:P. Whoever makes a match there gets a link for each player, and
+one for the watchers. Each match has a folder in DIR, which is made if it is missing. Matches that
+are there already are served too; one that `new` made can only be watched. You can kill the server
+at any moment: started again, it continues. `manage` hides, deletes, copies and restores matches
+while the server runs.
+
+Only this machine can reach it. To let others in, put a proxy with TLS in front of it
+(docs/SERVING.md). It serves at most 4096 connections and 10000 matches, and makes at most 60
+matches a minute. The head of a request has at most 8192 bytes, a body 4096 and a message 512. A
+request must be complete within 15 seconds. A socket is closed if it is silent for 75 seconds, or
+takes nothing for 60. Behind a proxy, an address has at most 128 connections, 64 of them sockets,
+and makes at most 10 matches a minute.
+
+Logs on standard error that it has started, that matches are made, and what fails. Runs until it
+is stopped.
+
+Exit status: 1 if the port is taken, another process serves DIR, or reading, writing or memory
+failed; 2 if DIR is not a folder.";
+
+/// The folder to serve, and the port.
 #[derive(Clone, Copy)]
 pub struct ServeOptions<'a> {
     /// The folder of the matches.
     pub folder: &'a str,
     pub port: u16,
-    /// Whether each request is said.
+    /// A match in which nobody has acted for this many hours is listed apart; 0 means never.
+    pub idle_hours: u32,
+    /// Whether each request is logged.
     pub tells_requests: bool,
 }
 
@@ -36,6 +43,7 @@ impl<'a> ServeOptions<'a> {
         Some(ServeOptions {
             folder: options.get_str(FOLDER.name)?,
             port: u16::try_from(number_in(options, PORT.name)?).ok()?,
+            idle_hours: number_in(options, IDLE.name)?,
             tells_requests: options.get_flag(ACCESS_LOG.name),
         })
     }
@@ -45,21 +53,28 @@ const FOLDER: Argument = Argument {
     name: "dir",
     kind: Kind::Text("DIR"),
     need: Need::Required,
-    about: "The folder of all matches, which no other process uses",
+    about: "The folder of all matches; no other process may use it",
 };
 
 const PORT: Argument = Argument {
     name: "port",
     kind: Kind::Number("P", 1, 65_535),
     need: Need::Usually("8080"),
-    about: "The port on 127.0.0.1 that browsers, or a proxy, connect to",
+    about: "The port on 127.0.0.1 for browsers, or for a proxy",
+};
+
+const IDLE: Argument = Argument {
+    name: "idle",
+    kind: Kind::Number("HOURS", 0, 87_600),
+    need: Need::Usually("720"),
+    about: "List a match apart if nobody has acted for so many hours; 0 for never",
 };
 
 const ACCESS_LOG: Argument = Argument {
     name: "access-log",
     kind: Kind::Flag,
     need: Need::Optional,
-    about: "Say each request too: its method, path and status",
+    about: "Log each request too: its method, path and status",
 };
 
 /// The command with its options and help.
@@ -68,5 +83,5 @@ pub(crate) const COMMAND: Description = Description {
     about: "Let people play and watch matches in a browser",
     long_about: ABOUT_SERVE,
     after_help: None,
-    arguments: &[FOLDER, PORT, ACCESS_LOG],
+    arguments: &[FOLDER, PORT, IDLE, ACCESS_LOG],
 };

@@ -4,22 +4,22 @@ use crate::arguments::{Argument, Description, Kind, Need};
 use clap::ArgMatches;
 
 /// The help on `show`.
-const ABOUT_SHOW: &str = "Show what saved files hold: the two of a party, or the six of a folder.
+const ABOUT_SHOW: &str =
+    "Show what saved files hold: the two files of a party, or the six files of a folder.
 
-A party saves its match in two files by turns: saves with even numbers in the one, with odd
-numbers in the other, so that a save that is cut short leaves the one before it. Prints a line
-for each file, and the board of the newer one that loads. A missing file counts as empty.
+A party saves its match in two files in turn: even saves in one, odd saves in the other. If a save
+is cut short, the save before it is still in the other file. Prints a line for each file, and the
+board of the newer one that loads. A missing file counts as empty.
 
-Of a folder it shows the files party-P.S of the referee, 0, and of the seats of X and O, 1 and 2:
-a line for each, then for each party how many entries it holds, and how many it is behind the
-one that holds most, and the board of that one.
+For a folder, it shows the files party-P.S, where party 0 is the referee and parties 1 and 2 are
+the seats of X and O. After a line for each file it prints how many entries each party holds, how
+many it lacks, and the board of the party that holds most.
 
-With --transcript it prints the transcript of what the two files restore, and nothing else:
+With --transcript it prints only the transcript of what the two files restore:
 
     bg_relay show --transcript DIR/party-0.0 DIR/party-0.1 > transcript.txt
 
-Ends with status 0 where a file loads, 2 where none does, and 1 where reading, writing or memory
-failed.";
+Exit status: 0 if a file loads, 2 if none does, 1 if reading, writing or memory failed.";
 
 /// The saved files to show.
 #[derive(Clone, Copy)]

@@ -6,14 +6,16 @@ use bg_match::Rules;
 use clap::ArgMatches;
 
 /// The help on `sim`.
-const ABOUT_SIM: &str = "Play an automatic match in memory.\n\
-             \n\
-             Random events happen to a referee, two seats and watchers, over a network that loses, repeats\n\
-             and reorders: packets are sent and taken, players choose, parties save and restart. Prints the\n\
-             transcript of the referee's record, then how many entries each party holds, and the board.\n\
-             Seed, length and rules alone decide what the entries are, and the rest how many there are. Says\n\
-             each second how far it is, where the standard error is a terminal. Ends with status 0, and 1\n\
-             where writing or memory failed.";
+const ABOUT_SIM: &str = "Play an automatic match in memory.
+
+Random events happen to a referee, two seats and watchers: packets are sent and received, players
+act, parties save and restart. The network loses, repeats and reorders packets. Prints the
+transcript of the referee's record, then how many entries each party holds, and the board.
+
+Seed, length and rules alone decide what the entries are; the other options decide how many of
+them are played. If standard error is a terminal, progress is shown there once a second.
+
+Exit status: 0 for success, 1 if writing or memory failed.";
 
 /// Number of events of an automatic match, at most.
 const MOST_STEPS: u32 = 1_000_000;
@@ -48,7 +50,7 @@ const STEPS: Argument = Argument {
     name: "steps",
     kind: Kind::Number("N", 0, MOST_STEPS),
     need: Need::Required,
-    about: "How many events happen: 0 to 1000000",
+    about: "The number of events: 0 to 1000000",
 };
 
 /// The command with its options and help.

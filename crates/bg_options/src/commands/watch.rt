@@ -7,17 +7,19 @@ use clap::ArgMatches;
 
 /// The help on `watch`.
 const ABOUT_WATCH: &str =
-    "Watch a match until it is over: its board at a terminal, its transcript elsewhere.\n\
-             \n\
-             Where the standard output is a terminal, the board is drawn anew in place, from X's side, with the\n\
-             newest entries below it, and whether the referee is heard. Export COLUMNS and LINES where it is not of\n\
-             80 columns and 24 lines. Elsewhere, and with --plain, the transcript is printed, entry by entry.\n\
-             \n\
-             Takes the first number of a watcher, from 3, whose port is free. A file that is there already is\n\
-             left as it is until the referee is heard. Says on the standard error, for a log, that it begins, the\n\
-             result of each game, whether the referee is heard, and that it ends; but not where that is a terminal\n\
-             too and the board is drawn. Ends with status 0; with 1 where no port is free, or reading, writing or\n\
-             memory failed; with 2 where the match file is none.";
+    "Watch a match until it is over: the board at a terminal, the transcript elsewhere.
+
+At a terminal it redraws the board in place, from X's side, with the newest entries below it and
+whether the referee answers. If the terminal doesn't have 80 columns and 24 lines, export COLUMNS
+and LINES. Elsewhere, and with --plain, it prints the transcript, entry by entry.
+
+It takes the first watcher's number, from 3, whose port is free. The files that you name are left
+as they are until the referee has answered. It logs on standard error when it starts, the result
+of each game, whether the referee answers, and when it ends. If standard error is a terminal too,
+and the board is drawn, it doesn't log.
+
+Exit status: 0 for success; 1 if no port is free, or reading, writing or memory failed; 2 if the
+match file is invalid.";
 
 /// The match to watch, and the files that are kept of it.
 #[derive(Clone, Copy)]
@@ -59,21 +61,21 @@ const BOARD: Argument = Argument {
     name: "board",
     kind: Kind::Text("FILE"),
     need: Need::Optional,
-    about: "A file that has the board, always whole",
+    about: "Keep the board in this file, whole at all times",
 };
 
 const TRANSCRIPT: Argument = Argument {
     name: "transcript",
     kind: Kind::Text("FILE"),
     need: Need::Optional,
-    about: "A file that has the transcript, always whole",
+    about: "Keep the transcript in this file, whole at all times",
 };
 
 const PAGE: Argument = Argument {
     name: "page",
     kind: Kind::Text("FILE"),
     need: Need::Optional,
-    about: "A file that has a page for browsers, always whole; they show it anew by themselves",
+    about: "Keep a web page in this file, whole at all times; browsers reload it by themselves",
 };
 
 /// The option to continue where a file can't be written.
@@ -81,7 +83,7 @@ const GO_ON: Argument = Argument {
     name: "go-on",
     kind: Kind::Flag,
     need: Need::Optional,
-    about: "Go on where a file can't be written, which is said once; without it, watching ends there",
+    about: "Continue if a file can't be written, and say so once; without it, watching ends there",
 };
 
 /// The option to print the transcript at a terminal.
@@ -89,7 +91,7 @@ const PLAIN: Argument = Argument {
     name: "plain",
     kind: Kind::Flag,
     need: Need::Optional,
-    about: "Print the transcript at a terminal too, in place of the board",
+    about: "Print the transcript at a terminal too, instead of the board",
 };
 
 /// The command with its options and help.

@@ -40,8 +40,8 @@ where
         }
     }
 
-    /// Forgets what was typed of a turn, as a choice is made. Says so where the choice waits for the
-    /// referee.
+    /// Forgets what was typed of a turn, as a choice is made. Says so where the choice waits for
+    /// the referee.
     fn note_chosen(&mut self) -> Result<(), Ending> {
         self.typed.clear();
         if self.is_silent {

@@ -10,7 +10,7 @@ use std::net::Net;
 use std::rt::Files;
 use std::time::Clock;
 
-/// What may be typed on the player's turn, each with its meaning.
+/// The lines that can be typed on the player's turn, each with its meaning.
 const ON_TURN: [(&str, &str); 7] = [
     ("roll, double", "or r, d"),
     ("take, drop", "or t, p: after the other player's double"),
@@ -22,19 +22,19 @@ const ON_TURN: [(&str, &str); 7] = [
     ),
     (
         "8/5",
-        "the first step of a turn: then type the next, or undo",
+        "the first step of a turn: then type the next, or `undo`",
     ),
     ("m", "the only legal turn, also where nothing can be moved"),
 ];
 
-/// What may be typed at any time.
+/// The lines that can be typed at any time.
 const ALWAYS: [(&str, &str); 4] = [
     ("board", "the board, from your side; so does an empty line"),
     (
         "legal",
-        "the legal turns; more lists those that did not fit",
+        "the legal turns; `more` lists those that did not fit",
     ),
-    ("help", "this list; so does ?"),
+    ("help", "this list; so does `?`"),
     ("quit", "ends; the same command goes on later"),
 ];
 

@@ -12,6 +12,9 @@ use std::time::Clock;
 /// Number of ticks for which a player who comes waits for what the referee has, at most.
 const TICKS_TO_WAIT: u32 = 10;
 
+/// Number of ticks without an entry after which the seat has what the referee has.
+const STILL_TICKS: u32 = 3;
+
 /// How far a player has come to the table. Entries that come before the player has joined are not
 /// shown one by one: they may have been shown to the player before.
 #[derive(Clone, Copy, PartialEq, Eq)]
@@ -44,10 +47,11 @@ where
             let has_news = self.seat.held() > self.shown;
             let is_seated = self.is_seated();
             self.joining = Joining::Joined;
-            if has_news || !is_seated {
-                self.greet()?;
-            }
-            return self.play_if_forced();
+            return if has_news || !is_seated {
+                self.greet()
+            } else {
+                Ok(())
+            };
         }
         if let Joining::Waiting(ticks) = self.joining {
             let ticks = ticks.saturating_add(u32::from(round.tick));
@@ -69,7 +73,7 @@ where
     }
 
     /// Returns whether the seat has what the referee has, as far as this round shows that: the
-    /// referee is heard, and nothing came since the tick before.
+    /// referee is heard, and nothing came for some ticks.
     fn has_caught_up(&mut self, round: Round) -> bool {
         if round.going == Going::Over {
             return true;
@@ -78,8 +82,13 @@ where
             return false;
         }
         let held = self.seat.held();
-        let is_still = held == self.caught_up;
+        let is_still = held == self.caught_up && self.seat.process.link().heard() > 0;
         self.caught_up = held;
-        is_still && self.seat.process.link().heard() > 0
+        self.still = if is_still {
+            self.still.saturating_add(1)
+        } else {
+            0
+        };
+        self.still >= STILL_TICKS
     }
 }

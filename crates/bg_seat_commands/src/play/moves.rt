@@ -1,11 +1,12 @@
 //! A turn as a person types it, whole or step by step.
 
 use crate::play::Table;
+use crate::play::single_dice::in_single_dice;
 use crate::play::turn_words::{
     adds_nothing, forced, must_play_more, only_way, so_far, together, turn_beyond, which_of,
 };
 use bg_board::Board;
-use bg_console::allocated;
+use bg_console::{allocated, no_memory};
 use bg_match::{Action, Phase};
 use bg_reports::Ending;
 use bg_table::turn_refusal_text;
@@ -23,7 +24,7 @@ const NOT_UNDERSTOOD: &str = "that is not understood: `help` lists what may be t
 const TOO_MANY_STEPS: &str = "a turn has four steps at most";
 
 const WRONG_HITS: &str =
-    "this turn hits on other points than those that are marked with `*`: leave the marks out, or mark all hits";
+    "this turn doesn't hit exactly where you marked it with `*`: leave the marks out, or mark all hits";
 
 const SEVERAL_TURNS: &[u8] = b"several turns are legal: `legal` lists them";
 
@@ -31,8 +32,7 @@ const SEVERAL_TURNS: &[u8] = b"several turns are legal: `legal` lists them";
 /// of it.
 const TAKEN_BACK: &[u8] = b"what you typed of this turn is taken back";
 
-const NOTHING_TYPED: &[u8] =
-    b"nothing of a turn is typed: a turn that was sent can't be taken back";
+const NOTHING_TYPED: &[u8] = b"nothing to undo: a turn that was sent can't be taken back";
 
 impl<'a, R> Table<'a, R>
 where
@@ -79,25 +79,19 @@ where
         }
     }
 
-    /// Plays the only legal turn, where there is one.
-    fn play_forced(&mut self) -> Result<(), Ending> {
-        match self.only_way()? {
-            Some(turn) => {
-                let line = allocated(self.rt, forced(self.rt.alloc(), self.player, &turn))?;
-                self.screen.say(&line)?;
-                self.choose(Action::Move(turn))
-            }
-            None => Ok(()),
-        }
-    }
-
     /// Plays the only legal turn, where there is one and such a turn is to be played at once.
-    pub(super) fn play_if_forced(&mut self) -> Result<(), Ending> {
-        if self.plays_forced && self.claims_nothing() {
-            self.play_forced()
-        } else {
-            Ok(())
+    /// Returns whether it is played.
+    pub(super) fn plays_at_once(&mut self) -> Result<bool, Ending> {
+        if !self.plays_forced || !self.claims_nothing() {
+            return Ok(false);
         }
+        let Some(turn) = self.only_way()? else {
+            return Ok(false);
+        };
+        let line = allocated(self.rt, forced(self.rt.alloc(), self.player, &turn))?;
+        self.screen.say(&line)?;
+        self.choose(Action::Move(turn))?;
+        Ok(!self.claims_nothing())
     }
 
     /// Prints why a line is not a move now.
@@ -111,7 +105,7 @@ where
     /// Prints that more must be played than the typed part of a turn, with a turn that begins so.
     fn refuse_part(&self, board: &Board, dice: Dice) -> Result<(), Ending> {
         let part = match typed_steps(self.rt.alloc(), &self.typed) {
-            Ok(part) => part,
+            Ok(part) => in_single_dice(part, dice),
             Err(fault) => return self.tell_fault(&fault),
         };
         if let Some(turn) = self.beyond(board, dice, &part)? {
@@ -140,7 +134,7 @@ where
     fn go_on(&mut self, typed: Vec<u8>, board: &Board, dice: Dice) -> Result<(), Ending> {
         let rt = self.rt;
         let turn = match typed_steps(rt.alloc(), &typed) {
-            Ok(turn) => turn,
+            Ok(turn) => in_single_dice(turn, dice),
             Err(fault) => return self.tell_fault(&fault),
         };
         let Err(fault) = judge_turn(board, self.player, dice, &turn) else {
@@ -207,7 +201,7 @@ where
             TypedFault::Ambiguous(one, other) => return self.ask_which(one, other),
             TypedFault::NoSuchTurn =>
                 "no legal turn has this movement: `legal` lists those that are",
-            TypedFault::Memory => "out of memory",
+            TypedFault::Memory => return Err(no_memory(self.rt)),
         };
         self.screen.say(words.as_bytes())
     }

@@ -10,28 +10,32 @@ use bg_table::Drawing;
 use bg_text::{put_number, put_text};
 use std::alloc::{AllocError, Global};
 
-/// The columns of a screen of unknown size.
+/// The columns and the lines of a screen of unknown size.
 const USUAL_COLUMNS: usize = 80;
+
+const USUAL_LINES: usize = 24;
 
 /// The columns of a board in rows: one more than the narrowest screen that has it.
 const COLUMNS_OF_ROWS: usize = 51;
 
-/// A screen, its number of columns, and whether it has colours.
+/// A screen, its numbers of columns and lines, and whether it has colours.
 #[derive(Drop)]
 pub(crate) struct Screen<'a, R> {
     rt: &'a R,
     pub(crate) columns: usize,
+    pub(crate) lines: usize,
     has_colours: bool,
 }
 
 impl<'a, R: Print + Eprint + AllocGlobal> Screen<'a, R> {
     /// Creates a screen with as many columns as the options say, or else as the terminal has, if it
-    /// is one.
+    /// is one, and with its lines.
     pub(crate) fn new(rt: &'a R, said: Option<u32>, terminal: Option<Terminal>) -> Screen<'a, R> {
         let found = terminal.map_or(USUAL_COLUMNS, |terminal| terminal.columns);
         Screen {
             rt,
             columns: said.map_or(found, |columns| columns as usize),
+            lines: terminal.map_or(USUAL_LINES, |terminal| terminal.lines),
             has_colours: terminal.is_some_and(|terminal| terminal.has_colours),
         }
     }

@@ -1,19 +1,33 @@
 //! The views of a person at a terminal.
 
+use crate::foreign_entries::NOT_CHOSEN;
 use crate::play::Table;
 use crate::play::joining::Joining;
-use crate::play::players::players_text;
-use crate::seats::{NOT_CHOSEN, Round};
+use crate::play::players::{named_score, players_text};
+use crate::seats::Round;
 use bg_command_parts::Silence;
 use bg_console::{allocated, put_entries, written};
-use bg_match::Actor;
+use bg_match::{Actor, Number};
 use bg_processes::{Going, LivenessChange};
 use bg_reports::Ending;
 use bg_table::{Drawing, prompt_text, result_text, seat_view_text, waiting_text};
+use std::alloc::{AllocError, Global};
 use std::fs::File;
 use std::net::Net;
 use std::rt::Files;
 use std::time::Clock;
+
+/// The hint to a player who comes.
+const HINT: &[u8] = b"`help` lists what you can type; Enter alone draws the board";
+
+/// The start of the line of an entry that begins a game.
+const OPENING: &[u8] = b"open ";
+
+/// The start of the line of the score in a view of a match.
+const SCORE: &[u8] = b"score: ";
+
+/// Number of entries that are shown at once, at most. A screen has little more.
+const MOST_NEWS: Number = 20;
 
 /// The message behind the reason why nothing is heard of the referee.
 const KEPT_MEANWHILE: &str =
@@ -23,20 +37,33 @@ impl<'a, R> Table<'a, R>
 where
     R: Input + Net + Files<File = File> + Clock + Print + Eprint + AllocGlobal,
 {
-    /// Shows the standing of the match as far as the seat knows it.
+    /// Shows the standing of the match as far as the seat knows it, as
+    /// [`show_table`](Self::show_table) does, below the names of the players.
     pub(super) fn greet(&mut self) -> Result<(), Ending> {
+        let is_first = self.stood.is_none();
         self.note_shown();
-        self.look_at_table()
-    }
-
-    /// Shows the board below the names of the players.
-    pub(super) fn look_at_table(&self) -> Result<(), Ending> {
-        let names = &self.seat.names;
-        let players = allocated(self.rt, players_text(self.rt.alloc(), names, self.player))?;
-        if !players.is_empty() {
-            self.screen.say(players.as_bytes())?;
+        self.show_players()?;
+        if is_first {
+            self.screen.say(HINT)?;
         }
         self.show_table()
+    }
+
+    /// Shows the board below the names of the players, and what the player may do.
+    pub(super) fn look_at_table(&self) -> Result<(), Ending> {
+        self.show_players()?;
+        self.show_board()?;
+        self.offer()
+    }
+
+    /// Shows the names of the players, if one has a name.
+    fn show_players(&self) -> Result<(), Ending> {
+        let names = &self.seat.names;
+        let players = allocated(self.rt, players_text(self.rt.alloc(), names, self.player))?;
+        if players.is_empty() {
+            return Ok(());
+        }
+        self.screen.say(players.as_bytes())
     }
 
     /// Notes that all entries are shown, and forgets what was typed of a turn before them.
@@ -49,16 +76,38 @@ where
         }
     }
 
-    /// Shows the board, the only legal turn if there is one, and what the player may do or that
-    /// their choice waits.
-    pub(super) fn show_table(&self) -> Result<(), Ending> {
+    /// Shows the board. Below it, plays the only legal turn where that is to be done at once, and
+    /// else shows what the player may do.
+    fn show_table(&mut self) -> Result<(), Ending> {
+        self.show_board()?;
+        if self.plays_at_once()? {
+            Ok(())
+        } else {
+            self.offer()
+        }
+    }
+
+    /// Shows the board, with the names of the players beside the score where they fit.
+    fn show_board(&self) -> Result<(), Ending> {
         let rt = self.rt;
         let Some(record) = self.seat.process.held() else {
             return Ok(());
         };
-        let drawing = Drawing::fitting(self.screen.columns);
+        let columns = self.screen.columns;
+        let drawing = Drawing::fitting(columns);
         let view = seat_view_text(rt.alloc(), record, self.player, drawing);
-        self.screen.show_board(&allocated(rt, view)?, self.player)?;
+        let mut view = allocated(rt, view)?;
+        let (standing, names) = (record.standing(), &self.seat.names);
+        let score = named_score(rt.alloc(), &standing, names, self.player, columns);
+        if let Some(score) = allocated(rt, score)? {
+            view = allocated(rt, with_score(rt.alloc(), &view, score.as_bytes()))?;
+        }
+        self.screen.show_board(&view, self.player)
+    }
+
+    /// Shows the only legal turn if there is one, and what the player may do or that their choice
+    /// waits.
+    fn offer(&self) -> Result<(), Ending> {
         self.show_forced()?;
         self.prompt()
     }
@@ -100,6 +149,7 @@ where
                 wants_prompt = !self.show_news(round.going)?;
             }
         }
+        wants_prompt = self.tell_of_unanswered(round)? || wants_prompt;
         if self.tell_of_opponent()? || wants_prompt {
             return self.prompt();
         }
@@ -120,11 +170,16 @@ where
     }
 
     /// Shows the entries that came, the result of a game or the match, and the board where they
-    /// matter to the player. Returns whether it showed the board, which has a prompt below it.
+    /// matter to the player; of more entries than a screen has, the board alone. Returns whether it
+    /// showed the board, which has a prompt below it.
     fn show_news(&mut self, going: Going) -> Result<bool, Ending> {
         let Some(record) = self.seat.process.held() else {
             return Ok(false);
         };
+        if record.len().saturating_sub(self.shown) > MOST_NEWS {
+            self.greet()?;
+            return Ok(true);
+        }
         let rt = self.rt;
         let mut text = Vec::new(rt.alloc());
         written(rt, put_entries(&mut text, record, self.shown))?;
@@ -132,14 +187,44 @@ where
         let stood = self.stood;
         if let Some(before) = stood {
             let result = result_text(rt.alloc(), &before, &record.standing(), self.player);
-            allocated(rt, text.extend_from_slice(&allocated(rt, result)?))?;
+            let result = allocated(rt, result)?;
+            text = allocated(rt, with_result(rt.alloc(), &text, &result))?;
         }
         self.screen.print(&text)?;
         self.note_shown();
         if acts {
             self.show_table()?;
         }
-        self.play_if_forced()?;
         Ok(acts)
     }
+}
+
+/// Returns a view of a match with this line in place of its line of the score.
+fn with_score(alloc: Global, view: &[u8], score: &[u8]) -> Result<Vec<u8>, AllocError> {
+    let mut text = Vec::new(alloc);
+    for line in view.split_inclusive(|byte| *byte == b'\n') {
+        if line.starts_with(SCORE) {
+            text.extend_from_slice(score)?;
+            text.push(b'\n')?;
+        } else {
+            text.extend_from_slice(line)?;
+        }
+    }
+    Ok(text)
+}
+
+/// Returns the lines of entries with the result of a game behind the last one of that game: before
+/// the opening of the next one, if that has come too.
+fn with_result(alloc: Global, entries: &[u8], won: &[u8]) -> Result<Vec<u8>, AllocError> {
+    let mut text = Vec::new(alloc);
+    let mut rest = won;
+    for line in entries.split_inclusive(|byte| *byte == b'\n') {
+        if line.starts_with(OPENING) {
+            text.extend_from_slice(rest)?;
+            rest = &[];
+        }
+        text.extend_from_slice(line)?;
+    }
+    text.extend_from_slice(rest)?;
+    Ok(text)
 }

@@ -12,14 +12,15 @@ use std::net::Net;
 use std::rt::Files;
 use std::time::Clock;
 
-/// Number of lines of legal turns that are printed at once.
-const LINES_AT_ONCE: usize = 16;
+/// Number of lines of a screen below those of legal turns: that of `more`, and that in which the
+/// player types.
+const LINES_BELOW: usize = 2;
 
 /// The columns of a screen that is wider than any.
 const MOST_COLUMNS: u16 = 400;
 
 /// The message where there is nothing to move.
-const NO_DICE: &[u8] = b"you have no dice to move now";
+const NO_DICE: &[u8] = b"nothing to move: it isn't your turn, or you haven't rolled";
 
 /// The message where not all legal turns were printed.
 const THERE_IS_MORE: &[u8] = b"`more` lists further turns";
@@ -28,10 +29,9 @@ impl<'a, R> Table<'a, R>
 where
     R: Input + Net + Files<File = File> + Clock + Print + Eprint + AllocGlobal,
 {
-    /// Prints the only legal turn if there is one, and how to play it, unless such a turn is played
-    /// at once.
+    /// Prints the only legal turn if there is one, and how to play it, unless a choice waits.
     pub(super) fn show_forced(&self) -> Result<(), Ending> {
-        if self.plays_forced || !self.claims_nothing() || self.only_way()?.is_none() {
+        if !self.claims_nothing() || self.only_way()?.is_none() {
             return Ok(());
         }
         match self.to_move() {
@@ -48,19 +48,20 @@ where
         allocated(rt, text)
     }
 
-    /// Prints the lines of the legal turns behind the first `behind`.
+    /// Prints the lines of the legal turns behind the first `behind`, as many as the screen has.
     pub(super) fn list_turns(&mut self, behind: usize) -> Result<(), Ending> {
         let Some((board, dice)) = self.to_move() else {
             self.screen.say(NO_DICE)?;
             return self.prompt();
         };
         let text = self.list_of(&board, dice)?;
-        let (shown, is_last) = lines_behind(&text, behind, LINES_AT_ONCE);
+        let at_once = self.screen.lines.saturating_sub(LINES_BELOW).max(1);
+        let (shown, is_last) = lines_behind(&text, behind, at_once);
         self.screen.say(shown)?;
         self.listed = if is_last {
             0
         } else {
-            behind.saturating_add(LINES_AT_ONCE)
+            behind.saturating_add(at_once)
         };
         if is_last {
             Ok(())

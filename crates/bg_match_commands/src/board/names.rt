@@ -1,14 +1,42 @@
 //! The names of the files of a match.
 
+use crate::board::matches::BoardMatch;
 use std::alloc::{AllocError, Global};
 
 /// The name of the index's file, which no match can have.
 const INDEX: &str = "index";
 
+/// The end of the path of a key file that has its usual name.
+const KEY_FILE: &str = "/match-watch";
+
+/// Returns the path by which the match of a key file is named: that of its folder where it has its
+/// usual name, and else its own.
+pub(crate) fn place_of_key_file(path: &str) -> &str {
+    path.strip_suffix(KEY_FILE).unwrap_or(path)
+}
+
+/// Returns a name for the files of a match that no other match has.
+pub(crate) fn free_name<R>(
+    alloc: Global,
+    searched: &str,
+    path: &str,
+    id: u64,
+    others: &[BoardMatch<'_, R>],
+) -> Result<String, AllocError> {
+    let name = name_of(alloc, searched, path, id, false)?;
+    let is_taken = others
+        .iter()
+        .any(|other| other.pages.name.as_str() == name.as_str());
+    if is_taken {
+        return name_of(alloc, searched, path, id, true);
+    }
+    Ok(name)
+}
+
 /// Returns the name of a match's files: that of its folder as the search in `searched` found it,
-/// with a hyphen for each sign that an address would have to spell otherwise. If that name is taken,
-/// or is the index's, the number of the match stands behind it.
-pub(crate) fn name_of(
+/// with a hyphen for each sign that an address would have to spell otherwise. If that name is
+/// taken, or is the index's, the number of the match stands behind it.
+fn name_of(
     alloc: Global,
     searched: &str,
     path: &str,

@@ -1,8 +1,8 @@
 //! Writing files that others read at any moment, where they changed.
 
 use bg_console::failed_at;
+use bg_processes::publish;
 use bg_reports::Ending;
-use bg_system::publish;
 use std::fs;
 use std::fs::File;
 use std::rt::Files;

@@ -1,23 +1,26 @@
 //! The folders that files are written into.
 
-use bg_console::{wrong_at, wrong_for};
+use crate::messages::{wrong_at, wrong_for};
 use bg_reports::Ending;
 use std::fs;
 use std::fs::File;
 use std::io::ErrorKind;
 use std::rt::Files;
 
+/// The message on a folder that can't be used.
+const NOT_USED: &str = " can't be used: name another folder, or give the right to enter it";
+
 /// Refuses what isn't a folder, and says what to do if it is missing.
-pub(crate) fn check_out_folder(
+pub fn check_out_folder(
     rt: &(impl Files<File = File> + Eprint),
     folder: &str,
 ) -> Result<(), Ending> {
     match fs::metadata(rt, folder) {
         Ok(found) if found.is_dir() => Ok(()),
-        Ok(_) => Err(wrong_at(rt, folder, " is no folder")),
+        Ok(_) => Err(wrong_at(rt, folder, " is no folder: name another one")),
         Err(error) if error.kind() == ErrorKind::NotFound => {
             Err(wrong_at(rt, folder, " is missing: make it first"))
         }
-        Err(error) => Err(wrong_for(rt, folder, " can't be used", &error)),
+        Err(error) => Err(wrong_for(rt, folder, NOT_USED, &error)),
     }
 }

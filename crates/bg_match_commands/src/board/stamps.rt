@@ -1,6 +1,6 @@
-//! Whether saved files have changed.
+//! Stamps of saved files, which tell whether these have changed.
 
-use crate::paths::slot_path;
+use bg_console::slot_path;
 use bg_wire::{REFEREE, Slot};
 use std::alloc::{AllocError, Global};
 use std::fs;
@@ -15,9 +15,9 @@ pub(crate) struct SavedFiles {
     pub(crate) one: String,
 }
 
-/// What tells one state of a file from the next: its number, its size, and when it was written.
+/// A stamp of a file: its number, its size, and when it was written.
 #[derive(Clone, Copy, Debug, PartialEq, Eq)]
-struct FileStamp {
+pub(crate) struct FileStamp {
     inode: u64,
     size: u64,
     seconds: i64,
@@ -53,7 +53,7 @@ impl SavedFiles {
 }
 
 /// Returns the stamp of a file.
-fn stamp_of(rt: &impl Files<File = File>, path: &str) -> Option<FileStamp> {
+pub(crate) fn stamp_of(rt: &impl Files<File = File>, path: &str) -> Option<FileStamp> {
     let found = fs::metadata(rt, path).ok()?;
     Some(FileStamp {
         inode: found.ino(),

@@ -1,0 +1,53 @@
+//! The paths of files and folders.
+
+use bg_system::SlotName;
+use bg_wire::Slot;
+use std::alloc::{AllocError, Global};
+use std::io;
+use std::io::ErrorKind;
+
+/// Returns the path of a file with this name in a folder.
+///
+/// # Errors
+/// `AllocError` where memory runs out.
+pub fn path_in(alloc: Global, folder: &str, name: &str) -> Result<String, AllocError> {
+    let mut path = String::from_str(alloc, folder)?;
+    path.push_str("/")?;
+    path.push_str(name)?;
+    Ok(path)
+}
+
+/// Returns the path of a party's file in a folder.
+///
+/// # Errors
+/// `AllocError` where memory runs out.
+pub fn slot_path(alloc: Global, folder: &str, party: u8, slot: Slot) -> Result<String, AllocError> {
+    let name = SlotName { party, slot };
+    format!(in alloc; "{folder}/{name}")
+}
+
+/// Returns the name of a folder without the slashes at its end.
+pub fn without_slashes(folder: &str) -> &str {
+    let name = folder.trim_end_matches('/');
+    if name.is_empty() { "/" } else { name }
+}
+
+/// Returns the folder of the file with this path.
+pub fn folder_of(path: &str) -> &str {
+    match path.rsplit_once('/') {
+        Some(("", _)) => "/",
+        Some((folder, _)) => folder,
+        None => ".",
+    }
+}
+
+/// Returns the error, unless it is want of memory.
+///
+/// # Errors
+/// `OutOfMemory` alone.
+pub fn not_memory(error: io::Error) -> io::Result<io::Error> {
+    match error.kind() {
+        ErrorKind::OutOfMemory => Err(error),
+        _ => Ok(error),
+    }
+}

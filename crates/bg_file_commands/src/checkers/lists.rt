@@ -1,0 +1,84 @@
+//! Judging the files that a list names.
+
+use crate::checkers::Checker;
+use bg_console::{allocated, failed_for, no_memory, say, say_number};
+use bg_reports::{Ending, MOST_SHOWN, harmless};
+use std::fs::File;
+use std::io;
+use std::io::{BufRead, BufReader, Read};
+use std::rt::Files;
+use std::time::Clock;
+
+/// Number of bytes of a line in a list of files, at most: more than the name of any file has.
+const MOST_NAME_BYTES: u64 = 65_536;
+
+impl<'a, R> Checker<'a, R>
+where
+    R: Input + Files<File = File> + Clock + Print + Eprint + AllocGlobal,
+{
+    /// Judges the files of a list, which has one name per line.
+    pub(crate) fn check_list(&mut self, list: impl Read + Drop) -> Result<(), Ending> {
+        let Ok(mut list) = BufReader::new(self.rt.alloc(), list) else {
+            return Err(no_memory(self.rt));
+        };
+        let mut name = Vec::new(self.rt.alloc());
+        for _ in 0..u64::MAX {
+            if !self.check_next(&mut list, &mut name)? {
+                break;
+            }
+        }
+        Ok(())
+    }
+
+    /// Judges the file that the next line of a list names. Returns whether there is such a line.
+    fn check_next(&mut self, list: &mut impl BufRead, name: &mut Vec<u8>) -> Result<bool, Ending> {
+        name.clear();
+        match list.take(MOST_NAME_BYTES).read_until(b'\n', name) {
+            Ok(0) => Ok(false),
+            Ok(_) => {
+                self.check_listed(name)?;
+                Ok(true)
+            }
+            Err(error) => Err(unread_list(self.rt, &error)),
+        }
+    }
+
+    /// Judges the file that a line of a list names, with its line feed if it has one.
+    fn check_listed(&mut self, line: &[u8]) -> Result<(), Ending> {
+        let name = match line.strip_suffix(b"\n") {
+            Some(name) => name,
+            None if (line.len() as u64) < MOST_NAME_BYTES => line,
+            None => {
+                let why = "the list of files has a line of more than ";
+                say_number(self.rt, why, MOST_NAME_BYTES, " bytes");
+                return Err(Ending::Failed);
+            }
+        };
+        match str::from_utf8(name) {
+            Ok("") => {
+                say(self.rt, "a file of the list has an empty name");
+                self.pass_over();
+            }
+            Ok(name) => return self.check_file(name),
+            Err(_) => self.pass_over_bytes(name)?,
+        }
+        Ok(())
+    }
+
+    /// Reports that a file is not judged because its name isn't text, and counts it.
+    fn pass_over_bytes(&mut self, name: &[u8]) -> Result<(), Ending> {
+        let shown = allocated(self.rt, harmless(self.rt.alloc(), name, MOST_SHOWN))?;
+        let shown = str::from_utf8(&shown).unwrap_or_default();
+        say(
+            self.rt,
+            format_args!("{shown} could not be read: its name is not valid UTF-8"),
+        );
+        self.pass_over();
+        Ok(())
+    }
+}
+
+/// Reports that the list of files could not be read.
+pub(crate) fn unread_list(rt: &impl Eprint, error: &io::Error) -> Ending {
+    failed_for(rt, "the list of files could not be read", error)
+}

@@ -1,0 +1,49 @@
+//! The command that checks the dice of a match by their secret.
+
+use crate::inputs::{read_input, read_record};
+use bg_console::{allocated, failed_at, print_text, wrong};
+use bg_dice::{Secret, checked_text, secret_in};
+use bg_reports::{Ending, Found};
+use bg_system::Printable;
+use std::fs::File;
+use std::io;
+use std::rt::Files;
+
+/// Prints what the secret in this file says of the dice of the transcript on the standard input.
+pub fn run<R>(rt: &R, secret: &str) -> Result<Ending, Ending>
+where
+    R: Input + Files<File = File> + Print + Eprint + AllocGlobal,
+{
+    let secret = secret_of_file(rt, secret)?;
+    let record = read_record(rt)?;
+    let checked = allocated(rt, checked_text(rt.alloc(), &secret, &record))?;
+    print_text(rt, &checked.text)?;
+    Ok(Ending::Checked(if checked.others == 0 {
+        Found::Good
+    } else {
+        Found::Refused
+    }))
+}
+
+/// Returns the secret in a file. Reports why where it has none.
+fn secret_of_file<R>(rt: &R, path: &str) -> Result<Secret, Ending>
+where
+    R: Files<File = File> + Eprint + AllocGlobal,
+{
+    let bytes = match bytes_of(rt, path) {
+        Ok(bytes) => bytes,
+        Err(error) => return Err(failed_at(rt, path, " could not be read", &error)),
+    };
+    match secret_in(&bytes) {
+        Ok(secret) => Ok(secret),
+        Err(why) => {
+            let shown = Printable(path);
+            Err(wrong(rt, format_args!("{shown} is refused: {why}")))
+        }
+    }
+}
+
+/// Returns the bytes of a file.
+fn bytes_of(rt: &(impl Files<File = File> + AllocGlobal), path: &str) -> io::Result<Vec<u8>> {
+    read_input(rt.alloc(), File::open(rt, path)?)
+}

@@ -1,0 +1,59 @@
+//! The index of all matches.
+
+use crate::board::matches::BoardMatch;
+use crate::board::outputs::put;
+use bg_console::{allocated, path_in};
+use bg_options::BoardOptions;
+use bg_picture::{begin_index, begin_section, end_index, end_section};
+use bg_reports::Ending;
+use std::alloc::{AllocError, Global};
+use std::fs::File;
+use std::rt::Files;
+
+/// Number of seconds after which a browser asks for a newer index.
+const INDEX_SECONDS: u16 = 5;
+
+/// Writes the index of matches.
+pub(crate) fn write_index<R>(
+    rt: &R,
+    options: &BoardOptions<'_, '_>,
+    matches: &[BoardMatch<'_, R>],
+) -> Result<(), Ending>
+where
+    R: Files<File = File> + Eprint + AllocGlobal,
+{
+    let index = allocated(rt, index_of(rt.alloc(), options.title, matches))?;
+    let path = allocated(rt, path_in(rt.alloc(), options.out, "index.html"))?;
+    put(rt, path.as_str(), &index)
+}
+
+/// Returns the index of matches.
+fn index_of<R>(
+    alloc: Global,
+    title: &str,
+    matches: &[BoardMatch<'_, R>],
+) -> Result<Vec<u8>, AllocError> {
+    let mut index = Vec::new(alloc);
+    begin_index(&mut index, title, INDEX_SECONDS)?;
+    put_section(alloc, &mut index, "live", matches, false)?;
+    put_section(alloc, &mut index, "over", matches, true)?;
+    end_index(&mut index)?;
+    Ok(index)
+}
+
+/// Appends the matches that are over, or those that are not.
+fn put_section<R>(
+    alloc: Global,
+    index: &mut Vec<u8>,
+    words: &str,
+    matches: &[BoardMatch<'_, R>],
+    over: bool,
+) -> Result<(), AllocError> {
+    begin_section(index, words)?;
+    for one in matches {
+        if one.pages.is_over() == over {
+            one.pages.put_into(alloc, index)?;
+        }
+    }
+    end_section(index)
+}

@@ -1,0 +1,104 @@
+//! What is wrong with the files of matches, which is reported once.
+
+use crate::watchers::{NoWatcher, Watcher, begin_watcher};
+use bg_console::{allocated, key_file_of, match_of, no_memory, say_of, say_why};
+use bg_processes::{Failures, KeyFile, NamedMatch};
+use bg_reports::Ending;
+use bg_wire::FIRST_WATCHER;
+use std::fs::File;
+use std::net::Net;
+use std::rt::Files;
+use std::time::Clock;
+
+/// The files and folders of which it was reported what is wrong.
+#[derive(Drop)]
+pub(crate) struct Reports<'a, R> {
+    rt: &'a R,
+    reported: Vec<String>,
+}
+
+impl<'a, R> Reports<'a, R>
+where
+    R: Net + Files<File = File> + Clock + Eprint + AllocGlobal,
+{
+    /// Creates the state before anything was reported.
+    pub(crate) fn new(rt: &'a R) -> Reports<'a, R> {
+        Reports {
+            rt,
+            reported: Vec::new(rt.alloc()),
+        }
+    }
+
+    /// Returns the contents of the match file at a path, if it is one. Reports once that it isn't.
+    pub(crate) fn match_file_at(&mut self, path: &str) -> Result<Option<NamedMatch>, Ending> {
+        if let Ok(Some(file)) = NamedMatch::read(self.rt, path) {
+            return Ok(Some(file));
+        }
+        if self.is_news(path)? {
+            let _ = match_of(self.rt, path);
+        }
+        Ok(None)
+    }
+
+    /// Returns the contents of the key file at a path, if it is one of those who watch. Reports
+    /// once that it isn't.
+    pub(crate) fn key_file_at(&mut self, path: &str) -> Result<Option<KeyFile>, Ending> {
+        match KeyFile::read(self.rt, path) {
+            Ok(Some(file)) if file.party == FIRST_WATCHER => return Ok(Some(file)),
+            _ => {}
+        }
+        if self.is_news(path)? {
+            let _ = key_file_of(self.rt, path, FIRST_WATCHER);
+        }
+        Ok(None)
+    }
+
+    /// Begins a watcher of the match of a key file. Reports once why there is none.
+    pub(crate) fn watcher_of(
+        &mut self,
+        path: &str,
+        file: &KeyFile,
+        failures: &'a Failures,
+    ) -> Result<Option<Watcher<'a, R>>, Ending> {
+        match begin_watcher(self.rt, path, &file.table, &file.key, failures) {
+            Ok((_, process)) => Ok(Some(process)),
+            Err(fault) => {
+                self.report(path, &fault)?;
+                Ok(None)
+            }
+        }
+    }
+
+    /// Reports why a match has no watcher, unless something was reported of its key file.
+    fn report(&mut self, path: &str, fault: &NoWatcher) -> Result<(), Ending> {
+        if let NoWatcher::Reported(ending) = fault {
+            return Err(*ending);
+        }
+        if self.is_news(path)? {
+            match fault {
+                NoWatcher::NoSocket(_, error) => {
+                    say_why(self.rt, path, ": no socket for its watcher", error);
+                }
+                _ => say_of(self.rt, path, ": no port of a watcher is free"),
+            }
+        }
+        Ok(())
+    }
+
+    /// Returns whether nothing was reported of a path yet, and notes that something is now.
+    pub(crate) fn is_news(&mut self, path: &str) -> Result<bool, Ending> {
+        if self.reported.iter().any(|other| other.as_str() == path) {
+            return Ok(false);
+        }
+        let kept = allocated(self.rt, String::from_str(self.rt.alloc(), path))?;
+        match self.reported.push(kept) {
+            Ok(()) => Ok(true),
+            Err(_) => Err(no_memory(self.rt)),
+        }
+    }
+
+    /// Notes that nothing is wrong with a file.
+    pub(crate) fn forget(&mut self, path: &str) {
+        self.reported.retain(|other| other.as_str() != path);
+    }
+}
