@@ -9,7 +9,7 @@ use requests::{is_between_processes, is_converted, is_in_one_process, is_of_file
 use std::test::Fail;
 
 /// The words of commands, without the program's name.
-const WORDS: [&[&str]; 35] = [
+const WORDS: [&[&str]; 36] = [
     &["judge"],
     &["check", "--quiet", "a", "-", "b"],
     &[
@@ -127,6 +127,7 @@ const WORDS: [&[&str]; 35] = [
     ],
     &["page", "--name-o", "Otto", "--name-x", "Anna"],
     &["board", "--once", "--out", "p", "a", "b"],
+    &["dice", "--secret", "s"],
 ];
 
 /// Whether the words of this row ask for what they should.

@@ -1,6 +1,7 @@
-//! The colours of checkers and of offers, and the texts without them.
+//! The colours of checkers and of offers, and the texts without them; and the lines that texts are
+//! broken into.
 use bg_board::Player;
-use bg_console::{with_bold_offers, with_coloured_checkers};
+use bg_console::{broken, with_bold_offers, with_coloured_checkers};
 use std::test::Fail;
 
 /// What a player sees where checkers stand one above another, where they are numbers, and where
@@ -96,6 +97,50 @@ fn offers_are_bold(rt: HostRuntime) -> Result<(), Fail> {
         let bold = with_bold_offers(rt.alloc(), text.as_bytes())?;
         assert!(rt; bold.as_slice() == wanted.as_bytes(), "{text}");
         assert!(rt; plain(&rt, &bold)?.as_slice() == text.as_bytes(), "{text}");
+    }
+    Ok(())
+}
+
+/// The offers to a player who is to move; and what is no offer.
+const TO_MOVE: &str =
+    "your turn, X: move .. (`legal` lists the turns), resign normal, resign gammon, resign backgammon";
+
+const TO_ROLL: &str = "your turn, O: roll, double, resign normal, resign gammon, resign backgammon";
+
+const NO_OFFER: &str = "X is away, resign normal, and wait";
+
+#[test]
+fn lines_break_between_words_and_offers(rt: HostRuntime) -> Result<(), Fail> {
+    for (columns, text, wanted) in [
+        (
+            60,
+            TO_MOVE,
+            "your turn, X: move .. (`legal` lists the turns),\nresign normal, resign gammon, resign backgammon\n",
+        ),
+        (
+            40,
+            TO_MOVE,
+            "your turn, X:\nmove .. (`legal` lists the turns),\nresign normal, resign gammon,\nresign backgammon\n",
+        ),
+        (
+            30,
+            TO_MOVE,
+            "your turn, X: move .. (`legal`\nlists the turns),\nresign normal, resign gammon,\nresign backgammon\n",
+        ),
+        (
+            60,
+            TO_ROLL,
+            "your turn, O: roll, double, resign normal, resign gammon,\nresign backgammon\n",
+        ),
+        (20, NO_OFFER, "X is away, resign\nnormal, and wait\n"),
+        (4, "abcdef g\n\nh i\n", "abcdef\ng\n\nh i\n"),
+        (9, "", "\n"),
+    ] {
+        let lines = broken(rt.alloc(), text.as_bytes(), columns)?;
+        assert!(rt;
+            lines.as_slice() == wanted.as_bytes(),
+            "{text} in {columns} columns"
+        );
     }
     Ok(())
 }

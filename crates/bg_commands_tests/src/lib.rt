@@ -1,5 +1,5 @@
-//! Tests of the commands: the words that name them, what they say of devices and parties, and the lines of use of their
-//! libraries.
+//! Tests of the commands: the words that name them, what they say of devices and parties, and the
+//! lines of use of their libraries.
 #![tactic(auto)]
 
 #[cfg(test)]

@@ -9,7 +9,8 @@ use bg_world::{Event, Outcome, RestoreCause};
 use std::fs;
 use std::test::Fail;
 
-/// Keeps the last event that it is told of, by its party and whether the slots were damaged, and counts rounds.
+/// Keeps the last event that it is told of, by its party and whether the slots were damaged, and
+/// counts rounds.
 #[derive(Drop)]
 struct Heard {
     last: Option<(u8, bool)>,

@@ -14,6 +14,10 @@ use bg_world::{DeviceFault, Event, Keeper, Outcome, RestoreCause};
 use std::fs;
 use std::test::Fail;
 
+/// What the operator is told to do where the parties can't go on together.
+const TOGETHER: &str =
+    "end all processes, and put back copies that were made together, or `recover`";
+
 /// An operator of a match over this folder, who is told of no round.
 fn operator<'a, 'b>(
     heard: &'a KeptOutput<'b>,
@@ -47,23 +51,31 @@ fn said_of_take(rt: &HostRuntime, party: u8, outcome: &Outcome) -> String {
 fn signs_of_files_of_different_ages(rt: HostRuntime) -> Result<(), Fail> {
     let illegal = Outcome::Took(TakeOutcome::Illegal(EntryFault::WrongPhase));
     for (party, outcome, sign) in [
-        (0, Outcome::Took(TakeOutcome::Ahead), "0: ahead"),
+        (
+            0,
+            Outcome::Took(TakeOutcome::Ahead),
+            "another party has entries that the referee lacks",
+        ),
         (
             0,
             Outcome::Took(TakeOutcome::NotYourTurn),
-            "0: not your turn",
+            "at party 0: not your turn",
         ),
-        (0, illegal, "0: illegal: wrong phase"),
-        (2, Outcome::Learned(Learned::Conflict(3)), "2: conflict 3"),
+        (0, illegal, "at party 0: illegal: wrong phase"),
+        (
+            2,
+            Outcome::Learned(Learned::Conflict(3)),
+            "at party 2: conflict 3",
+        ),
         (
             3,
             Outcome::Learned(Learned::Illegal(4)),
-            "3: illegal entry 4",
+            "at party 3: illegal entry 4",
         ),
     ] {
         let said = said_of_take(&rt, party, &outcome);
-        let head = "bg_relay: the files of the parties do not belong together: at party";
-        let wanted = format!(in rt.alloc(); "{head} {sign}\n")?;
+        let head = "bg_relay: the folders of the parties are from different points in time:";
+        let wanted = format!(in rt.alloc(); "{head} {sign}; {TOGETHER}\n")?;
         assert!(rt; said.as_str() == wanted.as_str(), "{said}");
     }
     Ok(())
@@ -108,8 +120,8 @@ fn seats_that_begin_with_more(rt: HostRuntime) -> Result<(), Fail> {
         ([1, 0, 2], "party 2 has 2 entries saved, the referee 1"),
     ] {
         let said = said_at_start(&rt, held);
-        let head = "bg_relay: the files of the parties do not belong together:";
-        let wanted = format!(in rt.alloc(); "{head} {sign}\n")?;
+        let head = "bg_relay: the folders of the parties are from different points in time:";
+        let wanted = format!(in rt.alloc(); "{head} {sign}; {TOGETHER}\n")?;
         assert!(rt; said.as_str() == wanted.as_str(), "{said}");
     }
     assert!(rt; said_at_start(&rt, [4, 4, 0]).as_str() == "");
@@ -203,7 +215,8 @@ fn the_referee_of_an_older_day(rt: HostRuntime) -> Result<(), Fail> {
     fs::write(&rt, zero.as_str(), older[0].as_slice())?;
     fs::write(&rt, one.as_str(), older[1].as_slice())?;
     let said = said_while_played(&rt, folder, 60)?;
-    let head = "bg_relay: the files of the parties do not belong together: party 1 has ";
+    let head =
+        "bg_relay: the folders of the parties are from different points in time: party 1 has ";
     assert!(rt;
         said.as_str().starts_with(head) && said.as_str().lines().count() == 1,
         "{said}"

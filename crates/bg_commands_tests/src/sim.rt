@@ -25,8 +25,8 @@ fn printed(rt: &HostRuntime, seed: u64, steps: u32) -> Option<Vec<u8>> {
     Some(system.into_printed())
 }
 
-/// The command prints what `sim_text` gives of the same match: after so many events, and after one more, which tell
-/// more.
+/// The command prints what `sim_text` gives of the same match: after so many events, and after one
+/// more, which tell more.
 #[test]
 fn command_prints_the_text_after_thousands_of_events(rt: HostRuntime) -> Result<(), Fail> {
     for (seed, steps) in [(34, 999), (4, 1000), (127, 1999), (127, 2000), (3, 2500)] {

@@ -1,4 +1,5 @@
-//! The lines of use of the libraries of commands and of processes, run (`tools/checks/check_uses` compares them).
+//! The lines of use of the libraries of commands and of processes, run (`tools/checks/check_uses`
+//! compares them).
 use crate::folders::new_folder;
 use bg_auto::NoObserver;
 use bg_board::{Die, Player};
@@ -126,8 +127,8 @@ fn processes(rt: HostRuntime) -> Result<(), Fail> {
     // What all processes of a match agree on is a line; this is one of a match to 3 points.
     let file = MatchFile::parse("match 7 length 3 rules 1 port 4000\n").expect(&rt, "a good text");
     assert!(rt; file.terms.length == 3);
-    // The referee's process, over its own socket and a folder, with the keys of all parties and a secret that its dice
-    // go by. Why a call of the socket or of the files failed is noted.
+    // The referee's process, over its own socket and a folder, with the keys of all parties and a
+    // secret that its dice go by. Why a call of the socket or of the files failed is noted.
     let failures = Failures::new();
     let keys = Keyring::of_referee(&MasterSecret::new(&[8; 32]), file.id);
     let link = PartySocket::bind(&rt, &rt, file.port, REFEREE, keys, &failures)?;
@@ -135,7 +136,8 @@ fn processes(rt: HostRuntime) -> Result<(), Fail> {
     let begun = RefereeProcess::begin(alloc, file.id, file.terms, [7; 32], link, keeper)?;
     let (mut referee, outcome) = begun;
     assert!(rt; outcome == Outcome::Restarted);
-    // A round opens the game, and saves that. Between two of them a process waits (`Waiting`, `Ticking`).
+    // A round opens the game, and saves that. Between two of them a process waits (`Waiting`,
+    // `Ticking`).
     assert!(rt; referee.round(true, &mut NoObserver) == Ok(Going::On));
     assert!(rt; !read_saved(&rt, format!(in alloc; "{folder}/party-0.1")?.as_str())?.is_empty());
     assert!(rt; failures.drain().next().is_none());

@@ -1,8 +1,9 @@
-//! Followers of match 1, of length 1, packet by packet. The packets are read from bytes, as they come from the
-//! referee.
+//! Followers of match 1, of length 1, packet by packet. The packets are read from bytes, as they
+//! come from the referee.
 //!
-//! A test is a table of rows, and each row a call with what it gives. The rows are compared by short functions with no
-//! contract, so that neither what a call ensures nor the values that it makes burden the proof of the test.
+//! A test is a table of rows, and each row a call with what it gives. The rows are compared by
+//! short functions with no contract, so that neither what a call ensures nor the values that it
+//! makes burden the proof of the test.
 mod claims;
 mod learning;
 mod passes;
@@ -21,8 +22,8 @@ use bg_match::{Number, Rules};
 use bg_turns::Turn;
 use bg_wire::{Packet, decode};
 
-/// Entries as bytes: none, the opening 3 1, the opening 5 1, 8-5 6-5, 8-5 6-4, 8-5 alone, a double, an offer of a
-/// normal game, one of a gammon, a rejection.
+/// Entries as bytes: none, the opening 3 1, the opening 5 1, 8-5 6-5, 8-5 6-4, 8-5 alone, a double,
+/// an offer of a normal game, one of a gammon, a rejection.
 const NONE: [u8; 0] = [];
 
 const OPENING: [u8; 3] = [1, 3, 1];
@@ -62,7 +63,8 @@ fn packet(kind: u8, id: u8, head: &[u8], first: &[u8], second: &[u8]) -> Option<
     decode(bytes.as_slice()).ok()
 }
 
-/// The packet that tells an entry under a number, and another one behind it unless that has no bytes.
+/// The packet that tells an entry under a number, and another one behind it unless that has no
+/// bytes.
 fn entries(number: u8, first: &[u8], second: &[u8]) -> Option<Packet>
     ensures { IfSome result IsPacket }
 {

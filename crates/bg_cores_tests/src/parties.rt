@@ -1,7 +1,8 @@
 //! Parties as a host uses them.
 //!
-//! A test is a table of rows, and each row a call with what it comes to. The rows are compared by short functions with
-//! no contract, so that what a call ensures does not burden the proof of the test.
+//! A test is a table of rows, and each row a call with what it comes to. The rows are compared by
+//! short functions with no contract, so that what a call ensures does not burden the proof of the
+//! test.
 ghost use Rattle.std.specs.Prelude.{◌≤◌};
 ghost use Rattle.bg_wire.specs.Entries.Codes.{seat_of_o, seat_of_x};
 ghost use Rattle.bg_wire.specs.Packets.PacketText.{IsPacket};

@@ -1,4 +1,5 @@
-//! The lines of use that stand in the library's documentation, run (`tools/checks/check_uses` compares them).
+//! The lines of use that stand in the library's documentation, run (`tools/checks/check_uses`
+//! compares them).
 use bg_board::{Board, Player};
 use bg_ids::{PositionId, Xgid, XgidFault};
 use bg_match::{Rules, Standing};

@@ -93,8 +93,8 @@ fn comes_to(rt: &impl Host, folder: &str, calls: &Calls) -> bool {
 /// Why a match ends of which a read fails.
 const STOPPED: LoopFault = LoopFault::Stopped(Outcome::RestoreFault(RestoreCause::Device));
 
-/// Each call of ten rounds fails once. Of four calls in a row a test takes the one of this rest by four, so that none
-/// takes long.
+/// Each call of ten rounds fails once. Of four calls in a row a test takes the one of this rest by
+/// four, so that none takes long.
 fn check_each_fourth_call(rt: &impl Host, name: &str, rest: u32) {
     for failing in 1..=MOST_CALLS {
         if failing % 4 == rest && !comes_to_call(rt, name, failing) {

@@ -53,7 +53,8 @@ fn check_unsynced(rt: &impl Host) {
     let failures = failures(rt);
     let keeper = lasting_keeper(rt, files, folder, 1, failures);
     files.barred.set(folder);
-    // The name of the file may be lost: so what was written is taken back, and nothing is read. It is noted once.
+    // The name of the file may be lost: so what was written is taken back, and nothing is read. It
+    // is noted once.
     for _ in 0..2 {
         check_both(rt, keeper, FAILED, FAILED);
         assert!(rt; is_empty(rt, path_in(rt, folder, "party-1.0")));

@@ -1,4 +1,5 @@
-//! Want of memory: no run of the tests refuses a growth, but `tools/checks/refuse_growths` refuses each in turn.
+//! Want of memory: no run of the tests refuses a growth, but `tools/checks/refuse_growths` refuses
+//! each in turn.
 use super::failing_calls::is_sound;
 use crate::helpers::failing_devices::Calls;
 use crate::helpers::folders::{remove_folder, try_folder};
@@ -18,7 +19,8 @@ use std::process::Abort;
 use std::random::RandomSource;
 use std::{fs, io};
 
-/// Fails where the growth that comes next is refused: so `tools/checks/refuse_growths` learns how many came before.
+/// Fails where the growth that comes next is refused: so `tools/checks/refuse_growths` learns how
+/// many came before.
 fn check_no_growth_is_left(rt: &(impl AllocGlobal + Abort)) {
     let growth = Vec::<u8>::with_capacity(rt.alloc(), 1);
     assert!(rt; growth.is_ok(), "no growth is left");
@@ -108,7 +110,8 @@ fn read_key(rt: &impl Host, folder: &str) -> io::Result<()> {
     Ok(())
 }
 
-/// Processes that lacked memory lose nothing: the match goes on, by the same process or by the next.
+/// Processes that lacked memory lose nothing: the match goes on, by the same process or by the
+/// next.
 #[test]
 fn refused_growths_of_processes(rt: HostRuntime) {
     check_processes(&rt);
@@ -136,8 +139,8 @@ fn lacked_memory(fault: &LoopFault) -> bool {
     }
 }
 
-/// A round that lacked memory loses nothing: over the same folder the match goes on. No run of the tests refuses any,
-/// but `tools/checks/refuse_growths` refuses each growth in turn.
+/// A round that lacked memory loses nothing: over the same folder the match goes on. No run of the
+/// tests refuses any, but `tools/checks/refuse_growths` refuses each growth in turn.
 #[test]
 fn refused_growths_of_a_round(rt: HostRuntime) {
     check_round(&rt);

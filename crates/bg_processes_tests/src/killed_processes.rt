@@ -6,8 +6,8 @@ use crate::helpers::lasting::lasting;
 use crate::helpers::tables::Table;
 use bg_match::Rules;
 
-/// Matches whose processes end at random, about one turn in so many, and of each of which one call fails, counted from
-/// the first; of call 0 there is none.
+/// Matches whose processes end at random, about one turn in so many, and of each of which one call
+/// fails, counted from the first; of call 0 there is none.
 fn check_matches(rt: &impl Host, name: &str, rules: Rules, kills: u32, calls: &[u32]) {
     for failing in calls {
         let folder = new_folder(rt, name);

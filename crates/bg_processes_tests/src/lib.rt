@@ -1,4 +1,5 @@
-//! Tests of the devices of parties and of matches between processes, by what is public of bg_processes.
+//! Tests of the devices of parties and of matches between processes, by what is public of
+//! bg_processes.
 #![tactic(auto)]
 
 #[cfg(test)]

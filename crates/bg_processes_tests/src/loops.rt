@@ -84,8 +84,9 @@ fn check_forty(rt: &impl Host) {
     remove_folder(rt, folder);
 }
 
-/// Matches of length 3, so many rounds of each, and how many entries these have at least. The first game of match 417
-/// is over with entry 76; the first two words of match 8 have equal dice, 5 5 and 4 4, and open no game.
+/// Matches of length 3, so many rounds of each, and how many entries these have at least. The first
+/// game of match 417 is over with entry 76; the first two words of match 8 have equal dice, 5 5 and
+/// 4 4, and open no game.
 const PLAYED: [(u64, u32, Number); 2] = [(417, 170, 80), (8, 12, 4)];
 
 /// The entries are those that seed and length decide: those of the automatic match in memory.

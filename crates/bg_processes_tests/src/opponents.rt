@@ -1,7 +1,7 @@
 //! What is said of the other player's coming and going.
 //!
-//! A play has lines of what happens around the seat of X, with ticks from the first on and before the last; ten ticks
-//! are a second:
+//! A play has lines of what happens around the seat of X, with ticks from the first on and before
+//! the last; ten ticks are a second:
 //! - "x 0-600": when X is there, and asks the referee once a second;
 //! - "o 60-100 250-310": when O asks, once a second too;
 //! - "referee 0-600": when the referee is there, who begins anew each time;

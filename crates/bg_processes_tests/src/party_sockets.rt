@@ -54,8 +54,8 @@ fn refusal<R: Host>(sockets: &Sockets<'_, R>, port: u16, party: u8) -> Option<Er
     }
 }
 
-/// Packets of strangers, well made or not, are passed over, those of parties that send for others, and those that are
-/// sealed under another key.
+/// Packets of strangers, well made or not, are passed over, those of parties that send for others,
+/// and those that are sealed under another key.
 #[test]
 fn packets_of_strangers(rt: HostRuntime) {
     check_script(&rt, STRANGERS);
@@ -103,7 +103,8 @@ take 1 opening
 heard 1 2
 ";
 
-/// What the referee is to send is lost before a party was heard, and a minute after; what a party sends never is.
+/// What the referee is to send is lost before a party was heard, and a minute after; what a party
+/// sends never is.
 #[test]
 fn parties_that_are_not_heard(rt: HostRuntime) {
     check_script(&rt, NOT_HEARD);

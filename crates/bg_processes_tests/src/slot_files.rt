@@ -87,7 +87,8 @@ fn check_all_files(rt: &impl Host) {
     remove_folder(rt, folder);
 }
 
-/// The writes of a party, and what its files have after each; of slot 0 nothing before it was written.
+/// The writes of a party, and what its files have after each; of slot 0 nothing before it was
+/// written.
 fn check_files(rt: &impl Host, folder: &str, party: u8, zero: &str, one: &str) {
     let keeper = lasting_keeper(rt, rt, folder, party, failures(rt));
     let (long, own, short) = (b"the longer text", [party], b"text");
@@ -147,8 +148,9 @@ fn fail_as<R: Host>(files: &StandIn<'_, R>, kind: ErrorKind) {
     files.files_fail.set(Some(io::Error::from(kind)));
 }
 
-/// Of the system's errors the wants of memory are told from all others, by their numbers on Linux: ENOMEM is 12, and
-/// the others EPERM, ENOENT, EIO, EMFILE, ENOSPC, EROFS, EADDRINUSE, ENOBUFS and ECONNREFUSED.
+/// Of the system's errors the wants of memory are told from all others, by their numbers on Linux:
+/// ENOMEM is 12, and the others EPERM, ENOENT, EIO, EMFILE, ENOSPC, EROFS, EADDRINUSE, ENOBUFS and
+/// ECONNREFUSED.
 #[test]
 fn faults_of_devices(rt: HostRuntime) {
     check_faults(&rt);
@@ -188,8 +190,9 @@ fn is_save(alloc: Global, bytes: &[u8], party: u8, save: u32) -> bool {
     }
 }
 
-/// In each round each party but the watcher saves once, and nothing else is kept: save 1 stands in the file with the
-/// number 1, while the other one is missing, save 2 in the file with the number 0, and save 3 in the place of save 1.
+/// In each round each party but the watcher saves once, and nothing else is kept: save 1 stands in
+/// the file with the number 1, while the other one is missing, save 2 in the file with the number
+/// 0, and save 3 in the place of save 1.
 #[test]
 fn files_of_the_first_rounds(rt: HostRuntime) {
     check_first_rounds(&rt);

@@ -51,7 +51,8 @@ fn check_taken<L: Link>(rt: &impl Abort, link: &mut L, party: u8, expected: Opti
     assert!(rt; takes(link, party, expected), "party {party}");
 }
 
-/// A datagram comes whole to its own party alone, and once; what came first is taken first, whatever the pick.
+/// A datagram comes whole to its own party alone, and once; what came first is taken first,
+/// whatever the pick.
 #[test]
 fn datagrams_come_to_their_party(rt: HostRuntime) {
     check_datagrams(&rt);
@@ -124,7 +125,8 @@ fn sends_itself(socket: &UdpSocket, bytes: &[u8]) -> bool {
     }
 }
 
-/// A party that has no socket takes nothing, and what is sent to it fails; the others are as they were.
+/// A party that has no socket takes nothing, and what is sent to it fails; the others are as they
+/// were.
 #[test]
 fn parties_beyond_the_last(rt: HostRuntime) {
     check_parties(&rt);
@@ -150,8 +152,8 @@ fn check_beyond<L: Link>(rt: &impl Abort, link: &mut L, party: u8) {
     check_taken(rt, link, party, if party < 4 { Some(&own) } else { None });
 }
 
-/// Where the process may not have as many open files as there are parties, there is no link: it notes for which party
-/// it got no socket.
+/// Where the process may not have as many open files as there are parties, there is no link: it
+/// notes for which party it got no socket.
 #[test]
 fn too_few_open_files(rt: HostRuntime) {
     check_too_few(&rt);

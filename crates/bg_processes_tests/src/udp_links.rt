@@ -17,8 +17,8 @@ use std::alloc::Global;
 use std::net::{Ipv4Addr, SocketAddr, UdpSocket};
 use std::process::Abort;
 
-/// Packets of match 7 that no party of it sends: an opening 5 6, another one 1 2, a claim of X and one of O to resign
-/// as entry 2, and party 1 asking for what follows entry 1000000.
+/// Packets of match 7 that no party of it sends: an opening 5 6, another one 1 2, a claim of X and
+/// one of O to resign as entry 2, and party 1 asking for what follows entry 1000000.
 const FORGED: [&[u8]; 5] = [
     &[
         0x42, 0x47, 2, 3, 0, 0, 0, 0, 0, 0, 0, 7, 1, 0, 0, 0, 1, 1, 1, 5, 6,
@@ -144,8 +144,8 @@ fn check_forged(rt: &impl Host) {
     remove_folder(rt, folder);
 }
 
-/// Sockets of three parties. Those of the first two reach a port that nobody has, so that the call after each send
-/// fails.
+/// Sockets of three parties. Those of the first two reach a port that nobody has, so that the call
+/// after each send fails.
 fn broken<'a>(rt: &impl Host, failures: &'a Failures) -> &'a mut UdpLink<'a> {
     let net = stand_in(rt, 3);
     let link = lasting_link(rt, net, 3, failures);

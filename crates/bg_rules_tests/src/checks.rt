@@ -1,4 +1,5 @@
-//! Checks that the tests of several crates share. Each fails with a message that names what was wrong.
+//! Checks that the tests of several crates share. Each fails with a message that names what was
+//! wrong.
 use std::alloc::Global;
 use std::fmt::Display;
 use std::process::Abort;
@@ -30,8 +31,8 @@ pub(crate) fn check_printed<T: Display>(rt: &(impl AllocGlobal + Abort), value: 
     check_row(rt, text, is_printed(rt.alloc(), value, text));
 }
 
-/// Ends the test where the growth that comes next is refused: so `tools/checks/refuse_growths` learns how many came
-/// before.
+/// Ends the test where the growth that comes next is refused: so `tools/checks/refuse_growths`
+/// learns how many came before.
 pub(crate) fn check_no_growth_is_left(rt: &(impl AllocGlobal + Abort)) {
     let growth = Vec::<u8>::with_capacity(rt.alloc(), 1);
     check_row(rt, "no growth is left", growth.is_ok());

@@ -1,4 +1,5 @@
-//! Tests of the rules, by what is public of their crates: boards, turns, matches, and bytes in and out.
+//! Tests of the rules, by what is public of their crates: boards, turns, matches, and bytes in and
+//! out.
 #![tactic(auto)]
 
 #[cfg(test)]

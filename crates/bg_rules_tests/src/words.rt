@@ -1,5 +1,5 @@
-//! What the words of the tests say: numbers, dice, turns, boards. A word that says nothing of the kind ends the
-//! test.
+//! What the words of the tests say: numbers, dice, turns, boards. A word that says nothing of the
+//! kind ends the test.
 use bg_board::{Board, Die, Player, Step};
 use bg_match::Rules;
 use bg_turns::{Dice, Turn};
@@ -90,7 +90,8 @@ pub(crate) fn counts(rt: &impl Abort, words: &str) -> [u8; 26] {
     counts
 }
 
-/// A board, the checkers of X before those of O, as "20:1 0:14 / 16:2 0:13", or that of the start, as "start".
+/// A board, the checkers of X before those of O, as "20:1 0:14 / 16:2 0:13", or that of the start,
+/// as "start".
 pub(crate) fn board(rt: &impl Abort, words: &str) -> Board {
     if words == "start" {
         return Board::start();

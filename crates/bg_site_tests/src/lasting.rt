@@ -1,4 +1,5 @@
-//! What lasts as long as the process. It has nothing to drop, and what has nothing to drop is cheap to prove.
+//! What lasts as long as the process. It has nothing to drop, and what has nothing to drop is cheap
+//! to prove.
 use std::process::Abort;
 
 /// A value that is never dropped.

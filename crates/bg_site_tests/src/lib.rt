@@ -8,6 +8,10 @@ mod lasting;
 #[cfg(test)]
 mod matches;
 #[cfg(test)]
+mod operators;
+#[cfg(test)]
 mod queues;
+#[cfg(test)]
+mod requests;
 #[cfg(test)]
 mod uses;

@@ -1,11 +1,13 @@
-//! The lines of use that stand in the libraries' documentation, run (`tools/checks/check_uses` compares them).
+//! The lines of use that stand in the libraries' documentation, run (`tools/checks/check_uses`
+//! compares them).
 use crate::keepers::{Shelf, ShelfKeeper, lasting_shelf};
 use bg_board::{Die, Player};
+use bg_dice::{Ruling, digest_of, drawn_behind, ruling_of, told_text};
 use bg_hosted::{Acted, HostedMatch};
 use bg_match::{Action, Entry, Record, Rules, Terms};
 use bg_pages::{Page, answer_page};
 use bg_processes::Failures;
-use bg_requests::{Message, Part, Target, parse_message, target_of};
+use bg_requests::{Message, Part, Target, is_key_of_order, parse_message, target_of};
 use bg_serve::Server;
 use bg_site::{Found, Made, Site, Store};
 use bg_states::state_text;
@@ -51,6 +53,24 @@ fn paths_and_messages(rt: HostRuntime) -> Result<(), Fail> {
     // bg_requests
     assert!(rt; target_of("/matches/7f3a/state") == Target::Of("7f3a", Part::State));
     assert!(rt; parse_message("act 12 roll") == Message::Act(12, "roll"));
+    assert!(rt; is_key_of_order("x") && !is_key_of_order("name_x"));
+    // end
+    Ok(())
+}
+
+#[test]
+fn dice(rt: HostRuntime) -> Result<(), Fail> {
+    let alloc = rt.alloc();
+    // bg_dice
+    // The first entry opens a game, so the equal dice of an attempt before would have been passed
+    // over.
+    let drawn = drawn_behind(&[3; 32], 0, true).expect(&rt, "one of 65,536 attempts");
+    assert!(rt; drawn.attempt == 0 && !drawn.dice.is_double());
+    let entry = Entry::Opening(drawn.dice.first, drawn.dice.second);
+    assert!(rt; ruling_of(&[3; 32], 0, &entry) == Ruling::Own(0));
+    // What is told of the dice before a match and after it.
+    let before = told_text(alloc, Some(&digest_of(&[3; 32])), None)?;
+    assert!(rt; before.starts_with(b"sha256 ") && before.len() == 72);
     // end
     Ok(())
 }
@@ -93,7 +113,10 @@ fn found<'a>(rt: &(impl AllocGlobal + Abort), shelf: &'a Shelf) -> Found<ShelfKe
         },
         seats: None,
         key: [3; 32],
+        digest: None,
         keepers: shelf.keepers(),
+        is_hidden: false,
+        quiet_minutes: 0,
     }
 }
 
@@ -107,7 +130,8 @@ fn sites(rt: HostRuntime) -> Result<(), Fail> {
     let mut site = Site::new(alloc, store);
     let is_open = site.open(found);
     assert!(rt; is_open && site.len() == 1);
-    // A connection of http_server calls the site for each request, and a Channel for each message of a socket.
+    // A connection of http_server calls the site for each request, and a Channel for each message
+    // of a socket.
     let mut connection = Connection::new(alloc, keys, Config::default());
     connection.advance(&mut site);
     // end

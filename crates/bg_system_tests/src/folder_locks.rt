@@ -23,7 +23,8 @@ fn is_missing(rt: &impl Host, folder: &str) -> bool {
     }
 }
 
-/// While a folder is locked nobody else can lock it, by another name neither; other folders are free.
+/// While a folder is locked nobody else can lock it, by another name neither; other folders are
+/// free.
 fn check_lock(rt: &impl Host, folder: &str, alias: &str, other: &str) {
     let _lock = FolderLock::take(rt, folder).expect(rt, "a lock");
     let is_alone = is_taken(rt, folder) && is_taken(rt, alias) && is_free(rt, other);

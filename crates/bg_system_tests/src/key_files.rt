@@ -27,7 +27,8 @@ const TEXT: &str = "match 1 length 3 rules 1 port 4000
 key 2 000102030405060708090a0b0c0d0e0f101112131415161718191a1b1c1d1e1f
 ";
 
-/// That of those who watch, with the key that is derived from a secret of these bytes, as another program computed it.
+/// That of those who watch, with the key that is derived from a secret of these bytes, as another
+/// program computed it.
 const DERIVED: &str = "match 1 length 3 rules 1 port 4000
 key 3 f23c903e8be5d05a05177d2a64c1f60431eea1d42c09d41b9152479ea4e9f0a2
 ";
@@ -163,7 +164,8 @@ fn keys_of_files(secret: &MasterSecret, other: &MasterSecret) -> Keyring {
     Keyring::of_key_files(files)
 }
 
-/// A referee that has key files opens what each party seals by its own, as one that has their secret.
+/// A referee that has key files opens what each party seals by its own, as one that has their
+/// secret.
 #[test]
 fn a_referee_with_key_files(rt: HostRuntime) {
     let (secret, other) = (secret(), MasterSecret::new(&[9; 32]));

@@ -8,7 +8,8 @@ use std::process::Abort;
 
 pub(crate) const PORT: u16 = 4000;
 
-/// Party 3 holds nothing of match 1, as another program sealed it under the key that is derived from the bytes 0 to 31.
+/// Party 3 holds nothing of match 1, as another program sealed it under the key that is derived
+/// from the bytes 0 to 31.
 const WANT_OF_3: [u8; 34] = [
     0x42, 0x47, 0x02, 0x01, 0x00, 0x00, 0x00, 0x00, 0x00, 0x00, 0x00, 0x01, 0x01, 0x03, 0x00, 0x00,
     0x00, 0x00, 0xb4, 0xb5, 0x41, 0x3d, 0x2c, 0x34, 0x50, 0x73, 0x2b, 0xa9, 0xdf, 0xc5, 0x2f, 0x8f,
@@ -78,7 +79,8 @@ fn a_datagram_of_another_program(rt: HostRuntime) {
     );
 }
 
-/// Whether the second keys hear a packet of one party as what the first keys sealed to go to another.
+/// Whether the second keys hear a packet of one party as what the first keys sealed to go to
+/// another.
 fn is_heard_as(sealing: &Keyring, from: u8, to: u8, packet: &[u8], opening: &Keyring) -> bool {
     let Some(datagram) = sealed(sealing, from, to, packet) else {
         return false;
@@ -99,9 +101,9 @@ fn is_heard(rt: &(impl AllocGlobal + Abort), row: &str) -> bool {
     is_heard_as(&sealing, from, to, packet, &opening)
 }
 
-/// By whose keys a packet is sealed to go from one party to another, its bytes, and by whose keys it
-/// is heard there. The packets are those of parties that hold nothing of match 1, the opening 5 6 of
-/// its referee, and the sign of life.
+/// By whose keys a packet is sealed to go from one party to another, its bytes, and by whose keys
+/// it is heard there. The packets are those of parties that hold nothing of match 1, the opening 5
+/// 6 of its referee, and the sign of life.
 const HEARD: &str = "\
 1 1 0 424702010000000000000001010100000000 referee
 2 2 0 424702010000000000000001010200000000 referee
@@ -113,7 +115,8 @@ referee 0 2 00 2
 ";
 
 /// The same of what is not heard: of a watcher who claims to be X, or that the referee speaks; by
-/// other keys; between two parties of which none is the referee, or both are; and what is no packet.
+/// other keys; between two parties of which none is the referee, or both are; and what is no
+/// packet.
 const NOT_HEARD: &str = "\
 3 3 0 424702010000000000000001010100000000 referee
 3 1 0 424702010000000000000001010100000000 referee

@@ -1,4 +1,5 @@
-//! Tests of sockets, files and what is noted of them, and of sealed datagrams, by what is public of their crates.
+//! Tests of sockets, files and what is noted of them, and of sealed datagrams, by what is public of
+//! their crates.
 #![tactic(auto)]
 
 #[cfg(test)]

@@ -39,8 +39,8 @@ fn notices(rt: HostRuntime) {
     check_notice(&rt, Presence::Away, &[0, 2]);
 }
 
-/// By whose keys a notice is sealed for which seat, to which one it comes, and from which port: what
-/// goes to the other seat, under its key, or not from the referee's port.
+/// By whose keys a notice is sealed for which seat, to which one it comes, and from which port:
+/// what goes to the other seat, under its key, or not from the referee's port.
 const STRAYS: &str = "\
 referee 2 1 4000
 2 1 1 4000

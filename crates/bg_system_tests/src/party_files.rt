@@ -1,7 +1,7 @@
 //! The files of a party: what is away is not empty, and what was not there before is.
 //!
-//! The files and what they note of failures are dropped at each way out of a function, so the functions that have them
-//! do little else, and hand them on.
+//! The files and what they note of failures are dropped at each way out of a function, so the
+//! functions that have them do little else, and hand them on.
 use crate::helpers::{
     Host, check_told, lasting, make_folder, mode_of, new_folder, path_in, remove_empty,
     remove_file, remove_folder, rename, told, write_file,
@@ -44,7 +44,8 @@ fn check_another(rt: &impl Host, files: &mut Files<'_>, folder: &str) {
     remove_empty(rt, folder);
 }
 
-/// Neither a folder that was moved away nor one that stands in its place has slots, until the first is back.
+/// Neither a folder that was moved away nor one that stands in its place has slots, until the first
+/// is back.
 #[test]
 fn a_folder_that_is_away_for_a_while(rt: HostRuntime) {
     check_away_for_a_while(&rt, &rt);

@@ -49,7 +49,8 @@ fn push_word(rt: &impl Abort, bytes: &mut Vec<u8>, word: &str) {
     }
 }
 
-/// The bytes of a word, which last as long as the process: what has nothing to drop is cheap to prove.
+/// The bytes of a word, which last as long as the process: what has nothing to drop is cheap to
+/// prove.
 pub(crate) fn bytes_of(rt: &(impl AllocGlobal + Abort), word: &str) -> &'static [u8] {
     bytes_of_both(rt, word, "-")
 }

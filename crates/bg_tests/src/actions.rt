@@ -34,7 +34,8 @@ fn any_line(word: u32) -> &'static str {
     }
 }
 
-/// The line of an action that may follow in this phase, of one or the other kind; of any where the referee is to act.
+/// The line of an action that may follow in this phase, of one or the other kind; of any where the
+/// referee is to act.
 fn line_of(phase: Phase, is_first: bool, word: u32) -> &'static str {
     match (phase, is_first) {
         (Phase::ToAct(_), true) => "double",

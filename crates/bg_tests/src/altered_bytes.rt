@@ -1,4 +1,5 @@
-//! Packets and saved texts in which each byte was changed to every other value, given to the calls that take bytes.
+//! Packets and saved texts in which each byte was changed to every other value, given to the calls
+//! that take bytes.
 ghost use Rattle.bg_wire.specs.Packets.PacketText.{IsPacket};
 ghost use Rattle.bg_wire.specs.Saved.SavedText.{IsSavable, parts_of};
 
@@ -131,7 +132,8 @@ fn has_log(again: &Saved, saved: &Saved) -> bool {
     again.log.len() == saved.log.len() && is_front(&again.log, &saved.log)
 }
 
-/// What was loaded is written as it stood, or, where it stood in the layout of old, as a text that loads as the same.
+/// What was loaded is written as it stood, or, where it stood in the layout of old, as a text that
+/// loads as the same.
 fn check_written(rt: &impl Abort, alloc: Global, saved: &Saved, bytes: &[u8])
     requires { IsSavable (parts_of saved.now) }
 {

@@ -6,7 +6,8 @@ use std::process::Abort;
 
 pub(crate) type MemoryWorld = World<MemoryNet, MemoryKeeper>;
 
-/// Appends a copy of the entry that another record has under this number. Whether there is one, and it may follow.
+/// Appends a copy of the entry that another record has under this number. Whether there is one, and
+/// it may follow.
 fn push(record: &mut Record, other: &Record, number: Number) -> bool {
     match other.entry(number) {
         Some(entry) => record.push(entry.copy()).is_ok(),
@@ -45,7 +46,8 @@ fn holds_front(world: &MemoryWorld, party: u8, whole: &Record) -> bool {
     }
 }
 
-/// The record of every party up to the last that is up is a front of the referee's, where that is up.
+/// The record of every party up to the last that is up is a front of the referee's, where that is
+/// up.
 pub(crate) fn check_fronts(rt: &impl Abort, world: &MemoryWorld, last: u8) {
     let Some(whole) = world.held(0) else {
         return;

@@ -71,7 +71,8 @@ fn turn<R: Host>(rt: &R, host: &mut RefereeHost<'_, R>) {
     host.turn().expect(rt, "a turn");
 }
 
-/// Asks once for all entries, as watcher 3, and waits until the host tells some: they may come as an answer or unasked.
+/// Asks once for all entries, as watcher 3, and waits until the host tells some: they may come as
+/// an answer or unasked.
 fn told<R: Host>(rt: &R, host: &mut RefereeHost<'_, R>) -> Packet {
     let watcher = client(rt);
     send(rt, &watcher, &WANT, address(rt, host));
@@ -116,9 +117,9 @@ fn is_in_use(refusal: Option<HostFault>) -> bool {
     matches!(refusal, Some(HostFault::System(_)))
 }
 
-/// A watcher that asked is told the opening once it is saved, in the file of slot 1, and a later host over the same
-/// folder tells it again. None begins while another one has the files, or for a match of another length or by other
-/// rules.
+/// A watcher that asked is told the opening once it is saved, in the file of slot 1, and a later
+/// host over the same folder tells it again. None begins while another one has the files, or for a
+/// match of another length or by other rules.
 #[test]
 fn hosts_answer(rt: HostRuntime) {
     let folder = new_folder(&rt, "hosts-answer");
@@ -179,8 +180,8 @@ fn take(socket: &UdpSocket, seat: &mut Seat) {
     }
 }
 
-/// One round of a seat: it sends what its core gives, the host has a turn, the core takes what came, and the player
-/// gives the match up as soon as he may, or accepts that the other one does.
+/// One round of a seat: it sends what its core gives, the host has a turn, the core takes what
+/// came, and the player gives the match up as soon as he may, or accepts that the other one does.
 fn play<R: Host>(rt: &R, socket: &UdpSocket, seat: &mut Seat, host: &mut RefereeHost<'_, R>) {
     tick(rt, socket, seat, address(rt, host));
     turn(rt, host);
@@ -199,7 +200,8 @@ fn holds_three(seat: &Seat) -> bool {
     seat.held().len() == 3 && seat.held().actor() == Actor::Nobody
 }
 
-/// Two seats play a match of one point over the host's socket: an opening, an offer to resign, and its acceptance.
+/// Two seats play a match of one point over the host's socket: an opening, an offer to resign, and
+/// its acceptance.
 #[test]
 fn hosts_referee(rt: HostRuntime) {
     let folder = new_folder(&rt, "hosts-referee");

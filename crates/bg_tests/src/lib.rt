@@ -1,5 +1,5 @@
-//! Tests that cross crates: whole worlds under random events and failing devices, bytes that nobody sent, and the hosts
-//! and devices that the documents show.
+//! Tests that cross crates: whole worlds under random events and failing devices, bytes that nobody
+//! sent, and the hosts and devices that the documents show.
 #![tactic(auto)]
 
 #[cfg(test)]

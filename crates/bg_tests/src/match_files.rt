@@ -28,8 +28,8 @@ fn level(word: u32) -> Level {
     }
 }
 
-/// What the player does who is to act: what an automatic player does, but for an offer to resign now and then, which is
-/// accepted every other time.
+/// What the player does who is to act: what an automatic player does, but for an offer to resign
+/// now and then, which is accepted every other time.
 fn action(rt: &impl Abort, alloc: Global, record: &Record, player: Player, word: u32) -> Action {
     match record.standing().phase() {
         Phase::Resigned(..) if word % 2 == 0 => Action::Accept,
@@ -100,8 +100,8 @@ fn played(rt: &impl Abort, alloc: Global, seed: u8, rules: Rules) -> Record {
     record
 }
 
-/// Whether a match file keeps the entry of this number: all but offers to resign that were not accepted, and the
-/// answers to these.
+/// Whether a match file keeps the entry of this number: all but offers to resign that were not
+/// accepted, and the answers to these.
 fn is_kept(record: &Record, number: Number) -> bool {
     match record.entry(number) {
         Some(Entry::Rejected) => false,

@@ -204,8 +204,8 @@ fn happen(
     count(counts, &outcome);
 }
 
-/// After each event the record of each party is a front of the referee's, and in the end each entry of a seat is one
-/// that it claimed, and the entries follow each other.
+/// After each event the record of each party is a front of the referee's, and in the end each entry
+/// of a seat is one that it claimed, and the entries follow each other.
 fn check_run(rt: &impl Abort, alloc: Global, seed: u8, rules: Rules) {
     let mut words = ChaCha20Rng::from_seed([seed; 32]);
     let mut world = planned(rt, alloc, &mut words, rules);
@@ -225,7 +225,8 @@ fn check_events(rt: &impl Abort, alloc: Global, world: &mut MemoryWorld, words: 
     check_end(rt, alloc, world, &claims);
 }
 
-/// How often each outcome came, where all events happen. After each of them the records are fronts of the referee's.
+/// How often each outcome came, where all events happen. After each of them the records are fronts
+/// of the referee's.
 fn counts_of_events(
     rt: &impl Abort,
     world: &mut MemoryWorld,

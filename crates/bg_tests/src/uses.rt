@@ -1,4 +1,5 @@
-//! The lines of use that stand in each library's documentation, run (`tools/checks/check_uses` compares them).
+//! The lines of use that stand in each library's documentation, run (`tools/checks/check_uses`
+//! compares them).
 use bg_auto::{auto_action, dice_word, sim_text};
 use bg_board::{Board, Die, Player, Step};
 use bg_match::{Action, Actor, Entry, Level, Record, Rules, Terms};

@@ -11,8 +11,8 @@ fn place(rt: &impl Abort, word: &str) -> (usize, u8) {
     )
 }
 
-/// Where a player's checkers stand, in his own numbering, as "24:2 13:5 8:3 6:5", where 25 is the bar. The others are
-/// off, as "0:15".
+/// Where a player's checkers stand, in his own numbering, as "24:2 13:5 8:3 6:5", where 25 is the
+/// bar. The others are off, as "0:15".
 pub(crate) fn counts(rt: &impl Abort, words: &str) -> [u8; 26] {
     let mut counts = [0; 26];
     counts[0] = 15;

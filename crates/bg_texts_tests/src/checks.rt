@@ -1,4 +1,5 @@
-//! Checks that the tests of several crates share. Each ends the test with a message that names what was wrong.
+//! Checks that the tests of several crates share. Each ends the test with a message that names what
+//! was wrong.
 use std::alloc::{AllocError, Global};
 use std::fmt::Display;
 use std::process::Abort;
@@ -55,8 +56,8 @@ pub(crate) fn text_of(bytes: &[u8]) -> &str {
     std::str::from_utf8(bytes).unwrap_or("no text")
 }
 
-/// Ends the test where the growth that comes next is refused: so `tools/checks/refuse_growths` learns how many came
-/// before.
+/// Ends the test where the growth that comes next is refused: so `tools/checks/refuse_growths`
+/// learns how many came before.
 pub(crate) fn check_no_growth_is_left(rt: &impl Abort, alloc: Global) {
     let growth = Vec::<u8>::with_capacity(alloc, 1);
     check_row(rt, "no growth is left", growth.is_ok());

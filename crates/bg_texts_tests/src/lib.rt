@@ -1,5 +1,6 @@
-//! Tests of texts, by what is public of their crates: lines and the judge, pictures and pages, what a player sees, match
-//! files of other programs, turns as people type them, and what is reported of files.
+//! Tests of texts, by what is public of their crates: lines and the judge, pictures and pages, what
+//! a player sees, match files of other programs, turns as people type them, and what is reported of
+//! files.
 #![tactic(auto)]
 
 #[cfg(test)]

@@ -1,4 +1,5 @@
-//! Match files. What they tell is worked out by hand, or is what another program says of the same match.
+//! Match files. What they tell is worked out by hand, or is what another program says of the same
+//! match.
 mod dialects;
 mod exports;
 mod faults;

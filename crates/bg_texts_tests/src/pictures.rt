@@ -1,4 +1,5 @@
-//! Pictures and pages. The expected texts are worked out by hand, from where things stand on a board.
+//! Pictures and pages. The expected texts are worked out by hand, from where things stand on a
+//! board.
 mod games;
 mod growths;
 mod pages;

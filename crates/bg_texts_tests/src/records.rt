@@ -5,7 +5,8 @@ use bg_text::{TranscriptFault, parse_entry, read_transcript, transcript_text};
 use std::alloc::Global;
 use std::process::Abort;
 
-/// The record of a transcript, as that of a match of this number, also where memory is refused once.
+/// The record of a transcript, as that of a match of this number, also where memory is refused
+/// once.
 pub(crate) fn read(rt: &impl Abort, alloc: Global, number: u64, transcript: &[u8]) -> Record {
     match read_transcript(alloc, number, transcript) {
         Err(TranscriptFault::Memory) => read_transcript(alloc, number, transcript),

@@ -1,4 +1,5 @@
-//! What is reported of files that were judged and of saved files. What is expected is worked out by hand.
+//! What is reported of files that were judged and of saved files. What is expected is worked out by
+//! hand.
 mod checks;
 mod folders;
 mod growths;

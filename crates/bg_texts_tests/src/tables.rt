@@ -1,4 +1,5 @@
-//! What a player sees of a match. The expected texts are worked out by hand, from where things stand on a board.
+//! What a player sees of a match. The expected texts are worked out by hand, from where things
+//! stand on a board.
 mod drawings;
 mod growths;
 mod pips;

@@ -1,5 +1,5 @@
-//! Lines, boards, transcripts and judgements. The expected texts are those of the rules and formats, worked out by
-//! hand.
+//! Lines, boards, transcripts and judgements. The expected texts are those of the rules and
+//! formats, worked out by hand.
 mod actions;
 mod boards;
 mod devices;

@@ -1,4 +1,5 @@
-//! Turns as people type them. The expected turns are worked out by hand, from where things stand on a board.
+//! Turns as people type them. The expected turns are worked out by hand, from where things stand on
+//! a board.
 mod growths;
 mod refusals;
 mod turns;
@@ -22,7 +23,8 @@ struct Place {
     dice: Dice,
 }
 
-/// Where X has these dice, and the checkers of X and of O stand so, each in his own numbering, and the others are off.
+/// Where X has these dice, and the checkers of X and of O stand so, each in his own numbering, and
+/// the others are off.
 fn placed(rt: &impl Abort, x: &str, o: &str, first: Die, second: Die) -> Place {
     Place {
         board: board(rt, x, o),

@@ -28,7 +28,8 @@ pub(crate) fn check_outcome(rt: &impl Abort, row: usize, outcome: &Outcome, hold
     assert!(rt; holds, "row {row} comes to {outcome:?}");
 }
 
-/// Fails where the growth that comes next is refused: so `tools/checks/refuse_growths` learns how many came before.
+/// Fails where the growth that comes next is refused: so `tools/checks/refuse_growths` learns how
+/// many came before.
 pub(crate) fn check_no_growth_is_left(alloc: Global) -> Result<(), Fail> {
     match Vec::<u8>::with_capacity(alloc, 1) {
         Ok(_) => Ok(()),

@@ -1,5 +1,5 @@
-//! Devices of the tests' own, in memory: a link and keepers, which record what they are asked, and fail where they are
-//! told to.
+//! Devices of the tests' own, in memory: a link and keepers, which record what they are asked, and
+//! fail where they are told to.
 
 pub(crate) mod keepers;
 pub(crate) mod links;
@@ -44,9 +44,9 @@ fn put(text: &mut Vec<u8>, words: &str, numbers: &[u32]) -> Result<(), AllocErro
     Ok(())
 }
 
-/// Adds what a datagram says: "want" and a party with how many entries it holds, "claim" and a party with the number of
-/// the entry that it claims, "entries" and the first one's number with how many they are, or "garbled", where it is no
-/// packet. Where there is none that is "nothing".
+/// Adds what a datagram says: "want" and a party with how many entries it holds, "claim" and a
+/// party with the number of the entry that it claims, "entries" and the first one's number with how
+/// many they are, or "garbled", where it is no packet. Where there is none that is "nothing".
 fn put_said(text: &mut Vec<u8>, datagram: Option<&[u8]>) -> Result<(), AllocError> {
     let Some(bytes) = datagram else {
         return put(text, ": nothing", &[]);
@@ -63,8 +63,8 @@ fn put_said(text: &mut Vec<u8>, datagram: Option<&[u8]>) -> Result<(), AllocErro
 
 /// The calls of all devices of a match, in order, and which of them fail. A call is a line:
 /// - "read 1 0": slot 0 of party 1 is read;
-/// - "write 1 0 2 3 4": to slot 0 of party 1 save 2 is written, in which entry 3 is claimed, 0 where none is, and 4 are
-///   held; "failed write" where that fails;
+/// - "write 1 0 2 3 4": to slot 0 of party 1 save 2 is written, in which entry 3 is claimed, 0
+///   where none is, and 4 are held; "failed write" where that fails;
 /// - "take 1 0: want 2 3": party 1 takes with pick 0, and is handed what says this;
 /// - "send 1: want 2 3": to party 1 this is sent.
 #[derive(Drop)]

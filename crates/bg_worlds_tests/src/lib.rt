@@ -1,5 +1,5 @@
-//! Tests of worlds, of their parties by themselves, and of automatic players and their matches, by what is public of
-//! bg_world and bg_auto.
+//! Tests of worlds, of their parties by themselves, and of automatic players and their matches, by
+//! what is public of bg_world and bg_auto.
 #![tactic(auto)]
 
 #[cfg(test)]

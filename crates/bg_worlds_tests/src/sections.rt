@@ -1,4 +1,5 @@
-//! Texts of tests in sections, each of which begins with its name, and an empty line stands between each two.
+//! Texts of tests in sections, each of which begins with its name, and an empty line stands between
+//! each two.
 use arrayvec::ArrayVec;
 use std::process::Abort;
 
@@ -22,7 +23,8 @@ fn add(rt: &impl Abort, lines: &mut Lines<'static>, text: &'static str) {
     }
 }
 
-/// The lines of the section of this name, where a line "as NAME" stands for those of the shared section of that name.
+/// The lines of the section of this name, where a line "as NAME" stands for those of the shared
+/// section of that name.
 pub(crate) fn lines_of(
     rt: &impl Abort,
     text: &'static str,

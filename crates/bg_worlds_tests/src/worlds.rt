@@ -1,4 +1,5 @@
-//! Worlds and the nodes of their parties, event by event and in lines; the roles of parties, and copies of events.
+//! Worlds and the nodes of their parties, event by event and in lines; the roles of parties, and
+//! copies of events.
 
 mod beginnings;
 mod device_growths;

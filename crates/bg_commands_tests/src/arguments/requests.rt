@@ -134,13 +134,14 @@ pub(crate) fn is_shown(row: usize, request: &Request<'_, '_>) -> bool {
         (28, Request::Page(page)) => {
             (page.title, page.match_path) == (None, Some("m")) && page.names() == Names::none()
         }
+        (35, Request::Dice { secret }) => *secret == "s",
         (33, Request::Page(page)) => {
             page.match_path.is_none()
                 && page.names().x.is_some_and(|name| name.as_str() == "Anna")
                 && page.names().o.is_some_and(|name| name.as_str() == "Otto")
         }
         (34, Request::Board(board)) => {
-            board.folders == ["a", "b"].as_slice()
+            board.places == ["a", "b"].as_slice()
                 && (board.out, board.title) == ("p", "Backgammon matches")
                 && (board.numbering, board.is_once) == (Numbering::Mover, true)
         }

@@ -131,7 +131,8 @@ fn check_bytes_at(rt: &impl Abort, bytes: &[u8], offset: usize) {
     }
 }
 
-/// A part of a packet's text is short, and what else is read of changed bytes is spelled as they are.
+/// A part of a packet's text is short, and what else is read of changed bytes is spelled as they
+/// are.
 #[test]
 fn cut_and_changed_packets(rt: HostRuntime) {
     for bytes in [WANT.as_slice(), &CLAIM, &ENTRIES] {

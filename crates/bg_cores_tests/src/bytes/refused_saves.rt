@@ -104,7 +104,8 @@ fn check_with(
     check_load_fault(rt, with_bytes(rt, bytes, offset, new).as_slice(), fault);
 }
 
-/// A number above 1000000 is out of its range in the second layout: of a claim, and of entries with and without one.
+/// A number above 1000000 is out of its range in the second layout: of a claim, and of entries with
+/// and without one.
 #[test]
 fn great_numbers_refused(rt: HostRuntime) {
     check_with(&rt, &SEAT_SAVE, 20, &TOO_GREAT, LoadFault::Field(20));

@@ -27,7 +27,8 @@ const OTHER_THIRD: [u8; 33] = [
 /// Its save 2 in the first layout, which holds both entries too.
 const OLD_SECOND: [u8; 30] = OLD_REFEREE_SAVE;
 
-/// What the referee of match 1 restores: the numbers of the save and of its entries, if there is one.
+/// What the referee of match 1 restores: the numbers of the save and of its entries, if there is
+/// one.
 fn restored(
     alloc: Global,
     slot0: &[u8],
@@ -49,7 +50,8 @@ fn check_restored(
     );
 }
 
-/// Every cut of the newer text, the empty one included, leaves the older one; the whole of it counts.
+/// Every cut of the newer text, the empty one included, leaves the older one; the whole of it
+/// counts.
 #[test]
 fn cut_texts(rt: HostRuntime) {
     for cut in 0..FOURTH.len() {
@@ -60,7 +62,8 @@ fn cut_texts(rt: HostRuntime) {
     check_restored(&rt, &THIRD, &FOURTH, Ok(Some((4, 2))));
 }
 
-/// Where neither slot has a saved text, slot 0 decides: nothing was ever saved, or what was is damaged.
+/// Where neither slot has a saved text, slot 0 decides: nothing was ever saved, or what was is
+/// damaged.
 #[test]
 fn no_texts(rt: HostRuntime) {
     let damaged = Err(RestoreRefusal::Damaged);
@@ -76,7 +79,8 @@ fn no_texts(rt: HostRuntime) {
     check_restored(&rt, &THIRD[..26], &FOURTH[..32], damaged);
 }
 
-/// Of two saves with one number the one in slot 0 counts, and the number counts before the length of the text.
+/// Of two saves with one number the one in slot 0 counts, and the number counts before the length
+/// of the text.
 #[test]
 fn equal_saves(rt: HostRuntime) {
     check_restored(&rt, &THIRD, &OTHER_THIRD, Ok(Some((3, 1))));
@@ -85,7 +89,8 @@ fn equal_saves(rt: HostRuntime) {
     check_restored(&rt, &THIRD, &[], Ok(Some((3, 1))));
 }
 
-/// A text of the first layout is restored, and the number of its save decides against one of the second.
+/// A text of the first layout is restored, and the number of its save decides against one of the
+/// second.
 #[test]
 fn old_texts(rt: HostRuntime) {
     check_restored(&rt, &OLD_SECOND, &[], Ok(Some((2, 2))));

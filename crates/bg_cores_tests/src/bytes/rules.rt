@@ -8,16 +8,16 @@ use bg_wire::{LoadFault, RestoreRefusal, Saved, restore};
 use std::alloc::Global;
 use std::process::Abort;
 
-/// The referee's save 2 of match 1, of length 1, by the second rules: the opening 2 1, 13-11 6-5, O's 4 3, 24-20 13-10,
-/// X's 6 6, with which he cannot leave the bar, and the pass.
+/// The referee's save 2 of match 1, of length 1, by the second rules: the opening 2 1, 13-11 6-5,
+/// O's 4 3, 24-20 13-10, X's 6 6, with which he cannot leave the bar, and the pass.
 const PASSED_SAVE: [u8; 46] = [
     0x42, 0x47, 0x53, 0x32, 0, 0, 0, 0, 0, 0, 0, 0, 0x01, 0x01, 0x02, 0, 0, 0, 0x02, 0, 0, 0, 0,
     0x06, 0x01, 0x02, 0x01, 0x06, 0x02, 0x0d, 0x0b, 0x06, 0x05, 0x02, 0x04, 0x03, 0x06, 0x02, 0x18,
     0x14, 0x0d, 0x0a, 0x02, 0x06, 0x06, 0x0a,
 ];
 
-/// What the referee of match 1, of length 1, restores of slot 0 by these rules: the rules of what is restored, if
-/// there is something.
+/// What the referee of match 1, of length 1, restores of slot 0 by these rules: the rules of what
+/// is restored, if there is something.
 fn restored(alloc: Global, slot0: &[u8], rules: Rules) -> Result<Option<Rules>, RestoreRefusal> {
     let found = restore(alloc, slot0, &[], 0, 1, 1, rules)?;
     Ok(found.map(|saved| saved.log.rules()))

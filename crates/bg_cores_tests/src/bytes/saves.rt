@@ -27,7 +27,8 @@ pub(crate) const OLD_REFEREE_SAVE: [u8; 30] = [
     0x03, 0x01, 0x06, 0x02, 0x08, 0x05, 0x06, 0x05,
 ];
 
-/// The first save of the seat of X in that match, with the opening alone, and the claim of 8-5 6-5 as entry 2.
+/// The first save of the seat of X in that match, with the opening alone, and the claim of 8-5 6-5
+/// as entry 2.
 pub(crate) const SEAT_SAVE: [u8; 37] = [
     0x42, 0x47, 0x53, 0x32, 0x01, 0, 0, 0, 0, 0, 0, 0, 0x01, 0x01, 0x01, 0, 0, 0, 0x01, 0x01, 0, 0,
     0, 0x02, 0x06, 0x02, 0x08, 0x05, 0x06, 0x05, 0, 0, 0, 0x01, 0x01, 0x03, 0x01,
@@ -79,8 +80,8 @@ fn check_bytes(rt: &impl Abort, text: &[u8], bytes: &[u8]) {
     assert!(rt; text == bytes, "{text:?}");
 }
 
-/// Whether it is a record of match 1, of length 1, by the first rules, with so many entries. The first is the opening
-/// 3 1.
+/// Whether it is a record of match 1, of length 1, by the first rules, with so many entries. The
+/// first is the opening 3 1.
 fn is_log(log: &Record, count: Number) -> bool {
     (log.id(), log.length(), log.len()) == (1, 1, count)
         && log.rules() == Rules::One
@@ -155,7 +156,8 @@ pub(crate) fn check_entries(rt: &impl Abort, log: &Record, expected: &Record) {
     }
 }
 
-/// The referee's text of the first layout with 65535 entries, which are those of this text of the second.
+/// The referee's text of the first layout with 65535 entries, which are those of this text of the
+/// second.
 fn old_text(alloc: Global, text: &[u8]) -> Result<Vec<u8>, Fail> {
     let mut old = Vec::new(alloc);
     old.extend_from_slice(&OLD_REFEREE_SAVE[..19])?;
@@ -221,8 +223,8 @@ fn longer_record(rt: HostRuntime) -> Result<(), Fail> {
     Ok(())
 }
 
-/// What stands before the entries has at most 38 bytes, with the claim of a turn of four steps; an entry has at
-/// most ten.
+/// What stands before the entries has at most 38 bytes, with the claim of a turn of four steps; an
+/// entry has at most ten.
 #[test]
 fn longest_texts(rt: HostRuntime) {
     assert!(rt; MOST_ENTRIES == 1000000);

@@ -92,8 +92,8 @@ fn lengths(rt: HostRuntime) {
     assert!(rt; id_of_a_seat(rt.alloc(), 99) == Ok(7));
 }
 
-/// Whether a seat learns an offer to resign under this number, and its rejection, which may have come before it.
-/// Entries that lack memory are told again.
+/// Whether a seat learns an offer to resign under this number, and its rejection, which may have
+/// come before it. Entries that lack memory are told again.
 fn learns_an_offer(seat: &mut Seat, number: u8, rejection_first: bool) -> bool {
     let mut rejection = REJECTED.as_slice();
     if rejection_first {
@@ -121,16 +121,17 @@ fn learns_eleven_offers(seat: &mut Seat) -> bool {
     true
 }
 
-/// What a seat has that holds the opening and eleven offers to resign, each rejected. Of its save, what stands before
-/// the entries has 34 bytes, the opening three, each of eleven offers two, each rejection one.
+/// What a seat has that holds the opening and eleven offers to resign, each rejected. Of its save,
+/// what stands before the entries has 34 bytes, the opening three, each of eleven offers two, each
+/// rejection one.
 const AFTER_ELEVEN_OFFERS: [Row; 3] = [
     Row::Move(Ok(24)),
     Row::SizeOfSave(Ok((Slot::One, 1, 70))),
     Row::Asks(23),
 ];
 
-/// Where memory is refused nothing has changed, and the same call then succeeds. No run of the tests refuses any, but
-/// `tools/checks/refuse_growths` refuses each growth in turn.
+/// Where memory is refused nothing has changed, and the same call then succeeds. No run of the
+/// tests refuses any, but `tools/checks/refuse_growths` refuses each growth in turn.
 #[test]
 fn refused_growths(rt: HostRuntime) -> Result<(), Fail> {
     let mut seat = Seat::fresh(rt.alloc(), Player::X, 1, 1, Rules::One)?;

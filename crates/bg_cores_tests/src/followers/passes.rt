@@ -1,5 +1,5 @@
-//! Seats and watchers of a match by the second rules, in which X is hit, and rolls double sixes with which he can't
-//! enter.
+//! Seats and watchers of a match by the second rules, in which X is hit, and rolls double sixes
+//! with which he can't enter.
 ghost use Rattle.std.specs.Prelude.{IfSome};
 ghost use Rattle.bg_wire.specs.Packets.PacketText.{IsPacket};
 
@@ -14,7 +14,8 @@ use bg_turns::Turn;
 use bg_wire::{FIRST_WATCHER, Packet, decode};
 use std::process::Abort;
 
-/// Five entries of match 1: the opening 2 1, X's 13-11 6-5, O's roll 4 3 and 24-20 13-10, and X's roll 6 6.
+/// Five entries of match 1: the opening 2 1, X's 13-11 6-5, O's roll 4 3 and 24-20 13-10, and X's
+/// roll 6 6.
 const FIVE: [u8; 21] = [
     1, 2, 1, 6, 2, 13, 11, 6, 5, 2, 4, 3, 6, 2, 24, 20, 13, 10, 2, 6, 6,
 ];
@@ -136,7 +137,8 @@ fn first_rules_have_no_pass(rt: HostRuntime) {
     check_rows(&rt, fresh(&rt, Player::X, Rules::One), &NO_PASS);
 }
 
-/// What a watcher learns of the five entries, in a match by these rules, and how many entries it then holds.
+/// What a watcher learns of the five entries, in a match by these rules, and how many entries it
+/// then holds.
 fn shown(watcher: &mut Watcher, rules: u8) -> Option<(Learned, Number)> {
     let packet = entries(rules, 1, 5, &FIVE)?;
     let learned = watcher.take(&packet);

@@ -55,8 +55,8 @@ fn check_resumed(rt: &(impl AllocGlobal + Abort), bytes: &[u8], rows: &[Row]) {
     check_rows(rt, &mut seat, rows);
 }
 
-/// A seat that goes on from a text of the first save has its record and its claim, which it sends and does not make
-/// again, and saves both in the layout that is written.
+/// A seat that goes on from a text of the first save has its record and its claim, which it sends
+/// and does not make again, and saves both in the layout that is written.
 const FROM_THE_FIRST_SAVE: [Row; 5] = [
     Row::TheOpening,
     Row::NextSave(Slot::Zero, 2, &SECOND_SAVE),

@@ -96,7 +96,8 @@ fn sends_the_claim(seat: &mut Seat) -> bool {
     seat.tick() == Some(claim)
 }
 
-/// The slot, the number and the length of the next save, also where the memory for it is refused once.
+/// The slot, the number and the length of the next save, also where the memory for it is refused
+/// once.
 fn size_of_save(seat: &Seat) -> Result<(Slot, u32, usize), SaveRefusal> {
     let (slot, save, text) = match seat.to_save() {
         Err(SaveRefusal::Memory) => seat.to_save()?,

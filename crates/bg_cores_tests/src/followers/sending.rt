@@ -2,7 +2,8 @@
 use super::watchers::fresh;
 use bg_party::Watcher;
 
-/// Whether a watcher sends on the ticks 1, 2, 4, 8, 16, 32, 64, 96 and 128, and on no other up to 128.
+/// Whether a watcher sends on the ticks 1, 2, 4, 8, 16, 32, 64, 96 and 128, and on no other up to
+/// 128.
 fn keeps_the_gaps(watcher: &mut Watcher) -> bool {
     for tick in 1..129 {
         let sends = matches!(tick, 1 | 2 | 4 | 8 | 16 | 32 | 64 | 96 | 128);

@@ -34,8 +34,8 @@ fn an_early_entry_that_does_not_follow(rt: HostRuntime) {
     check_rows(&rt, fresh(&rt), &EARLY_ENTRIES);
 }
 
-/// An early entry that does not follow the opening, 8-5 6-4 after 3 1, is not appended with it, nor kept: the entry
-/// that follows is then taken in its place.
+/// An early entry that does not follow the opening, 8-5 6-4 after 3 1, is not appended with it, nor
+/// kept: the entry that follows is then taken in its place.
 const ONE_EARLY_ENTRY: [Row; 7] = [
     Row::Told(2, &MOVED_OTHERWISE, &NONE, Learned::Gap),
     Row::Held(0),
@@ -66,7 +66,8 @@ fn early_entries_that_come_twice(rt: HostRuntime) {
     check_rows(&rt, fresh(&rt), &EARLY_ENTRIES_TWICE);
 }
 
-/// Whether a watcher learns the entries of this number, even and above 1, and of the next: an offer and its rejection.
+/// Whether a watcher learns the entries of this number, even and above 1, and of the next: an offer
+/// and its rejection.
 fn learns_an_offer(watcher: &mut Watcher, number: u8, learned: Learned) -> bool {
     learns(watcher, number, &OFFERED, &REJECTED, learned)
 }

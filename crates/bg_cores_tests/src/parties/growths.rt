@@ -17,7 +17,8 @@ fn opens(referee: &mut Party) -> bool {
     }
 }
 
-/// Whether the seat of X gives the match up by entry 2, also where the memory for it is refused once.
+/// Whether the seat of X gives the match up by entry 2, also where the memory for it is refused
+/// once.
 fn gives_up(referee: &mut Party) -> bool {
     let accepted = Taken::Referee(TakeOutcome::Accepted(2));
     match referee.take(&resigns(1), 0) {
@@ -50,7 +51,8 @@ fn resumed(alloc: Global, text: &[u8]) -> Result<Party, Fail> {
     }
 }
 
-/// Fails where the growth that comes next is refused: so `tools/checks/refuse_growths` learns how many came before.
+/// Fails where the growth that comes next is refused: so `tools/checks/refuse_growths` learns how
+/// many came before.
 fn check_no_growth_is_left(alloc: Global) -> Result<(), Fail> {
     match Vec::<u8>::with_capacity(alloc, 1) {
         Ok(_) => Ok(()),
@@ -81,8 +83,8 @@ fn check_second(rt: &(impl AllocGlobal + Abort), second: &[u8]) -> Result<(), Fa
     Ok(())
 }
 
-/// Where memory is refused nothing has changed, and the same call then succeeds. No run of the tests refuses any, but
-/// `tools/checks/refuse_growths` refuses each growth in turn.
+/// Where memory is refused nothing has changed, and the same call then succeeds. No run of the
+/// tests refuses any, but `tools/checks/refuse_growths` refuses each growth in turn.
 #[test]
 fn refused_growths(rt: HostRuntime) -> Result<(), Fail> {
     let first = first_text(&rt)?;

@@ -14,7 +14,8 @@ const UNSAVED: [Row; 11] = [
     Row::Claim(O, 1, &ROLL, 0, Gives::TheOpening(O)),
     Row::Want(WATCHER, 1, Gives::Nothing),
     Row::Want(WATCHER, 2, Gives::Ahead),
-    // The seat of X is not known to have the opening, as nothing was saved when it was heard of last.
+    // The seat of X is not known to have the opening, as nothing was saved when it was heard of
+    // last.
     Row::Push(X, 1, Told::Opening),
     Row::Silence,
 ];

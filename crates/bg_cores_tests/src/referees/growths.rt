@@ -16,8 +16,8 @@ fn opens(referee: &mut Referee) -> bool {
     }
 }
 
-/// Where memory is refused nothing has changed, and the same call then succeeds. No run of the tests refuses any, but
-/// `tools/checks/refuse_growths` refuses each growth in turn.
+/// Where memory is refused nothing has changed, and the same call then succeeds. No run of the
+/// tests refuses any, but `tools/checks/refuse_growths` refuses each growth in turn.
 #[test]
 fn refused_growths(rt: HostRuntime) -> Result<(), Fail> {
     let mut referee = Referee::fresh(rt.alloc(), 1, 1, Rules::One)?;
@@ -28,7 +28,8 @@ fn refused_growths(rt: HostRuntime) -> Result<(), Fail> {
 fn check_growths(rt: &impl Abort, referee: &mut Referee) {
     assert!(rt; opens(referee));
     assert!(rt; offers(referee, 20));
-    // What stands before the entries has 24 bytes, the opening three, each of ten offers two, each rejection one.
+    // What stands before the entries has 24 bytes, the opening three, each of ten offers two, each
+    // rejection one.
     assert!(rt; size_of_save(referee) == Ok((Slot::One, 1, 56)));
     assert!(rt; referee.saved() == 0);
     assert!(rt; claim_gives(referee, X, 22, &OFFER_A_GAMMON, 0, TakeOutcome::Ahead));

@@ -27,8 +27,8 @@ pub(crate) const O: u8 = 2;
 /// The first watcher.
 pub(crate) const WATCHER: u8 = 3;
 
-/// Actions as bytes: to roll, to take a double, to play 8-5 6-5, to play 8-5 alone, to offer a normal game or a
-/// gammon, to reject an offer.
+/// Actions as bytes: to roll, to take a double, to play 8-5 6-5, to play 8-5 alone, to offer a
+/// normal game or a gammon, to reject an offer.
 pub(crate) const ROLL: [u8; 1] = [2];
 
 pub(crate) const TAKE: [u8; 1] = [4];
@@ -43,8 +43,8 @@ pub(crate) const OFFER_A_GAMMON: [u8; 2] = [7, 2];
 
 pub(crate) const REJECT: [u8; 1] = [9];
 
-/// What the referee makes of the packet by these rules, of this kind and in match `id`, with these bytes; `None` where
-/// they are no packet.
+/// What the referee makes of the packet by these rules, of this kind and in match `id`, with these
+/// bytes; `None` where they are no packet.
 pub(crate) fn taken_by_rules(
     referee: &mut Referee,
     rules: u8,

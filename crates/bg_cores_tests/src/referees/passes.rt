@@ -1,4 +1,5 @@
-//! A referee of match 1, of length 1, by the second rules: X is hit, and rolls double sixes with which he can't enter.
+//! A referee of match 1, of length 1, by the second rules: X is hit, and rolls double sixes with
+//! which he can't enter.
 use super::packets::{O, OFFER, ROLL, X};
 use super::referees::fresh_by;
 use super::rows::{Gives, Row, Told, check_rows};

@@ -62,8 +62,8 @@ pub(crate) fn first_push_goes_to(referee: &mut Referee, party: u8) -> bool {
     }
 }
 
-/// The watcher is told the opening, and O has it. Nobody learns of party 255, which is ahead. X, who claims, has all
-/// that is saved then.
+/// The watcher is told the opening, and O has it. Nobody learns of party 255, which is ahead. X,
+/// who claims, has all that is saved then.
 const UNASKED: [Row; 10] = [
     Row::Silence,
     Row::Want(WATCHER, 0, Gives::TheOpening(WATCHER)),

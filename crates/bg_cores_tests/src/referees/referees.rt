@@ -47,8 +47,8 @@ pub(crate) fn after_the_move(rt: &(impl AllocGlobal + Abort)) -> &'static mut Re
     referee
 }
 
-/// Appends the entry of this number: an offer to resign by X, or its rejection by O. A claim that lacks memory is
-/// sent again.
+/// Appends the entry of this number: an offer to resign by X, or its rejection by O. A claim that
+/// lacks memory is sent again.
 fn offer(referee: &mut Referee, number: u8) -> bool {
     let (party, action) = if number % 2 == 0 {
         (X, OFFER.as_slice())

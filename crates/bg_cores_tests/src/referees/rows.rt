@@ -118,7 +118,8 @@ fn outcome_of(gives: Gives) -> Option<TakeOutcome> {
     })
 }
 
-/// Whether the referee makes this of a packet by these rules, of this kind and match, with these bytes.
+/// Whether the referee makes this of a packet by these rules, of this kind and match, with these
+/// bytes.
 fn takes(
     referee: &mut Referee,
     rules: u8,

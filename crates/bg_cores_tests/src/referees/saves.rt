@@ -29,7 +29,8 @@ pub(crate) fn is_next_save(
     Ok((next_slot, next_save) == (slot, save) && next_text.as_slice() == text)
 }
 
-/// The slot, the number and the length of the next save, also where the memory for it is refused once.
+/// The slot, the number and the length of the next save, also where the memory for it is refused
+/// once.
 pub(crate) fn size_of_save(referee: &Referee) -> Result<(Slot, u32, usize), SaveRefusal> {
     let (slot, save, text) = match referee.to_save() {
         Err(SaveRefusal::Memory) => referee.to_save()?,
@@ -61,8 +62,8 @@ fn resumed(alloc: Global, bytes: &[u8]) -> Option<Referee> {
     }
 }
 
-/// Whether a referee that goes on from a text of the second save has saved all of it, and saves it again as the third,
-/// in the layout that is written.
+/// Whether a referee that goes on from a text of the second save has saved all of it, and saves it
+/// again as the third, in the layout that is written.
 fn goes_on_from_the_second_save(alloc: Global, text: &[u8]) -> bool {
     let mut third = SECOND_SAVE;
     third[18] = 3;

@@ -9,8 +9,8 @@
 //! - "take as 1 0 nothing": the same for the first party, from the socket of the second;
 //! - "ask 1": the party asks whether the referee is there;
 //! - "heard 1 2": so often the party has heard of the referee;
-//! - "told 1 here", "told 1 nothing": the referee has told the party so of the other seat within the
-//!   last seconds, or nothing;
+//! - "told 1 here", "told 1 nothing": the referee has told the party so of the other seat within
+//!   the last seconds, or nothing;
 //! - "rebind 1 3": another process has the first party's port, with the keys of the second;
 //! - "# ..": a comment.
 
@@ -93,7 +93,8 @@ pub(crate) struct Sockets<'a, R> {
     o: Option<PartySocket<'a, SetClock>>,
 }
 
-/// Sockets of a match at a port of its own, by a clock that shows 0. They last as long as the process.
+/// Sockets of a match at a port of its own, by a clock that shows 0. They last as long as the
+/// process.
 pub(crate) fn lasting_sockets<R: Host>(rt: &R) -> &mut Sockets<'_, R> {
     let sockets = lasting(rt, Sockets::unbound(rt, free_port(rt, 10_000)));
     for party in 0..3 {

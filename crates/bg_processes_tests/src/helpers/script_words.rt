@@ -2,8 +2,8 @@
 use bg_processes::Presence;
 use std::process::Abort;
 
-/// The packets of scripts, by their names: a seat asks the referee of match 7 for all entries, and the
-/// referee tells the opening 5 6. Others are none.
+/// The packets of scripts, by their names: a seat asks the referee of match 7 for all entries, and
+/// the referee tells the opening 5 6. Others are none.
 const PACKETS: [(&str, &[u8]); 6] = [
     ("x-wants", b"BG\x02\x01\0\0\0\0\0\0\0\x07\x01\x01\0\0\0\0"),
     ("o-wants", b"BG\x02\x01\0\0\0\0\0\0\0\x07\x01\x02\0\0\0\0"),

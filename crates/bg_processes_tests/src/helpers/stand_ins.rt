@@ -1,4 +1,5 @@
-//! A runtime that stands in for the system's: it has so many sockets and no more, and opens files, or some, or none.
+//! A runtime that stands in for the system's: it has so many sockets and no more, and opens files,
+//! or some, or none.
 use crate::helpers::lasting::lasting;
 use std::alloc::{Alloc, Allocator, Global};
 use std::cell::{Cell, RefCell};
@@ -19,7 +20,8 @@ pub(crate) struct StandIn<'a, R> {
     pub(crate) files_fail: Cell<Option<io::Error>>,
     /// The file or folder that can't be opened, if there is one.
     pub(crate) barred: Cell<&'a str>,
-    /// Whether a socket was asked for at another address than 127.0.0.1, or at a port that the system did not choose.
+    /// Whether a socket was asked for at another address than 127.0.0.1, or at a port that the
+    /// system did not choose.
     pub(crate) strayed: Cell<bool>,
     /// Another handle of each socket.
     sockets: RefCell<Vec<UdpSocket>>,

@@ -112,7 +112,8 @@ impl<'a, R: Host> Table<'a, R> {
         Failing::over(keeper, self.calls)
     }
 
-    /// A round of the referee, which begins first where it does not run. Whether the match is over for it.
+    /// A round of the referee, which begins first where it does not run. Whether the match is over
+    /// for it.
     fn referee_turn(&mut self) -> bool {
         if self.referee.is_none() {
             let (socket, keeper) = (self.socket(REFEREE), self.keeper(REFEREE));
@@ -169,7 +170,8 @@ impl<'a, R: Host> Table<'a, R> {
         }
     }
 
-    /// Rounds of all parties in turn until the match is over for everybody; about one turn in so many ends a process.
+    /// Rounds of all parties in turn until the match is over for everybody; about one turn in so
+    /// many ends a process.
     pub(crate) fn play(&mut self, seed: u32, kills: u32) {
         let rt = self.rt;
         let mut seed = seed;

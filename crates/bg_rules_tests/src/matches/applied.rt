@@ -1,10 +1,12 @@
-//! Entries applied to standings in place: each leads where `next` says, and a refused one changes nothing.
+//! Entries applied to standings in place: each leads where `next` says, and a refused one changes
+//! nothing.
 use super::lines::entry;
 use crate::checks::{check_line, check_number, check_row};
 use bg_match::{Entry, Number, Record, Standing};
 use std::process::Abort;
 
-/// An entry of each kind, and a second opening and a second turn, which are refused for their numbers.
+/// An entry of each kind, and a second opening and a second turn, which are refused for their
+/// numbers.
 const TRIED: &str = "\
 open 3 1
 open 3 3
@@ -19,7 +21,8 @@ accept
 reject
 pass";
 
-/// Whether an entry leads a copy of a standing where `next` says, and a refused one leaves it as it is.
+/// Whether an entry leads a copy of a standing where `next` says, and a refused one leaves it as it
+/// is.
 pub(super) fn is_applied(standing: &Standing, entry: &Entry) -> bool {
     let mut after = *standing;
     let applied = after.apply(entry);

@@ -153,7 +153,8 @@ fn check_refused(rt: &(impl AllocGlobal + Abort), refused: &[Entry], list: &[Ent
     check_row(rt, "with room", goes_on(rt, refused, list, 4));
 }
 
-/// A refused list leaves the record as it was, so that another one is appended as if there had been none.
+/// A refused list leaves the record as it was, so that another one is appended as if there had been
+/// none.
 #[test]
 fn refused_lists(rt: HostRuntime) {
     check_refused(&rt, &entries(&rt, REFUSED), &entries(&rt, LIST));

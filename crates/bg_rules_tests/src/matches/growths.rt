@@ -13,7 +13,8 @@ fn push(record: &mut Record, entry: &Entry) -> bool {
     record.push(entry.copy()).is_ok()
 }
 
-/// Whether an entry and its answer are appended again and again, until there is room for one more, and then that too.
+/// Whether an entry and its answer are appended again and again, until there is room for one more,
+/// and then that too.
 fn push_all(record: &mut Record, offer: &Entry, answer: &Entry) -> bool {
     for _ in 0..499_999 {
         if !push(record, offer) || !push(record, answer) {
@@ -23,7 +24,8 @@ fn push_all(record: &mut Record, offer: &Entry, answer: &Entry) -> bool {
     push(record, offer)
 }
 
-/// Whether a record is filled: after the opening X offers to resign again and again, until there is no room for more.
+/// Whether a record is filled: after the opening X offers to resign again and again, until there is
+/// no room for more.
 fn is_filled(record: &mut Record) -> bool {
     push(record, &Entry::Opening(Die::Three, Die::One))
         && push_all(record, &Entry::Resigned(Level::Normal), &Entry::Rejected)
@@ -75,7 +77,8 @@ fn is_kept(record: &Record, len: Number, before: &(Standing, Option<Player>)) ->
     has_len(record, len) && state_at(record, len) == *before
 }
 
-/// Whether an entry is appended to a record of so many, again where memory is refused: then nothing has changed.
+/// Whether an entry is appended to a record of so many, again where memory is refused: then nothing
+/// has changed.
 fn is_pushed(record: &mut Record, entry: &Entry, pushed: Number) -> bool {
     let before = state_at(record, pushed);
     push(record, entry) || is_kept(record, pushed, &before) && push(record, entry)
@@ -110,7 +113,8 @@ fn is_offer(record: &Record, number: Number) -> bool {
     record.entry(number) == Some(&Entry::Resigned(Level::Normal))
 }
 
-/// Whether room is made in a record of twenty entries, again where memory is refused: then nothing has changed.
+/// Whether room is made in a record of twenty entries, again where memory is refused: then nothing
+/// has changed.
 fn is_reserved(record: &mut Record) -> bool {
     let before = state_at(record, 20);
     if record.reserve(100).is_ok() {
@@ -119,7 +123,8 @@ fn is_reserved(record: &mut Record) -> bool {
     is_kept(record, 20, &before) && is_offer(record, 20) && record.reserve(100).is_ok()
 }
 
-/// Whether a list is appended to a record of twenty entries, again where memory is refused: then nothing has changed.
+/// Whether a list is appended to a record of twenty entries, again where memory is refused: then
+/// nothing has changed.
 fn is_extended(record: &mut Record, list: &[Entry]) -> bool {
     let before = state_at(record, 20);
     let is_extended = match record.extend(list) {
@@ -157,8 +162,8 @@ fn check_growths(rt: &impl Abort, record: &mut Record) {
     check_row(rt, "copied", has_good_copy(rt, record));
 }
 
-/// Where memory is refused nothing has changed, and the same call then succeeds. No run of the tests refuses any, but
-/// `tools/checks/refuse_growths` refuses each growth in turn.
+/// Where memory is refused nothing has changed, and the same call then succeeds. No run of the
+/// tests refuses any, but `tools/checks/refuse_growths` refuses each growth in turn.
 #[test]
 fn refused_growths(rt: HostRuntime) {
     check_growths(&rt, &mut begun(&rt, 1, Rules::One));

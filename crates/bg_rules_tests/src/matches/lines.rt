@@ -139,8 +139,9 @@ pub(super) fn crawford(rt: &impl Abort, word: &str) -> bool {
     named(rt, &[("crawford", true), ("plain", false)], word)
 }
 
-/// The standing that has these parts, if there is one: the length, the board, the phase, the cube, the score, whether
-/// it is the Crawford game, and the number of the game, as "7, start, X acts, 2 O, 3-2, plain, 4".
+/// The standing that has these parts, if there is one: the length, the board, the phase, the cube,
+/// the score, whether it is the Crawford game, and the number of the game, as "7, start, X acts, 2
+/// O, 3-2, plain, 4".
 pub(super) fn standing(rt: &impl Abort, rules: Rules, line: &str) -> Option<Standing> {
     let (length, rest) = parted(rt, line, ", ");
     let (points, rest) = parted(rt, rest, ", ");

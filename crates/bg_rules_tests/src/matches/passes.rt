@@ -1,8 +1,8 @@
 //! Turns in which no step can be played.
 use super::plays::check_plays;
 
-/// X is hit, and rolls double sixes: O's six point keeps him on the bar. Other entries are refused where a pass is due.
-/// Before each entry of a short match a pass is refused.
+/// X is hit, and rolls double sixes: O's six point keeps him on the bar. Other entries are refused
+/// where a pass is due. Before each entry of a short match a pass is refused.
 const PLAYS: &str = "\
 turn_is_passed, applied_on_the_bar: 1 by rules 2
 open 2 1

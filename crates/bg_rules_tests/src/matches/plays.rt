@@ -1,16 +1,16 @@
-//! Plays: lines that are done to a record, or tell what it then has. At the head of each stand the names of what it
-//! tries, the length of the match and its rules, as "crawford_game: 3 by rules 1".
+//! Plays: lines that are done to a record, or tell what it then has. At the head of each stand the
+//! names of what it tries, the length of the match and its rules, as "crawford_game: 3 by rules 1".
 //!
 //! - "double" appends an entry, and "double -> wrong phase" is refused so;
 //! - "may: roll 6 6" says that an entry follows, and leaves it at that;
 //! - "copy" goes on with a copy, which is compared;
 //! - "stands: 7, start, X acts, 2 O, 3-2, plain, 4" tells the standing;
-//! - "by 2: X", "entry 2: double" and "entries: 2" tell the entries, where "nobody" and "none" stand for what is not
-//!   there;
+//! - "by 2: X", "entry 2: double" and "entries: 2" tell the entries, where "nobody" and "none"
+//!   stand for what is not there;
 //! - "actor: referee", "id: 7" and the like tell a part.
 //!
-//! Each call of the library stands in one short function with no contract, so that what the call ensures does not
-//! burden the proofs of the tests.
+//! Each call of the library stands in one short function with no contract, so that what the call
+//! ensures does not burden the proofs of the tests.
 use super::applied::check_applied;
 use super::is_refused;
 use super::lines::{self, crawford, cube, entry, fault, phase, score};

@@ -10,7 +10,8 @@ use bg_turns::Dice;
 use std::alloc::Global;
 use std::process::Abort;
 
-/// A match of one point in which X opened with 8-5 6-5, and one that opens after other entries were refused.
+/// A match of one point in which X opened with 8-5 6-5, and one that opens after other entries were
+/// refused.
 const PLAYS: &str = "\
 entries_of_a_short_record: 1 by rules 1
 open 3 1

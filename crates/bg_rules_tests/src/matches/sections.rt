@@ -1,6 +1,6 @@
-//! Sections of rows about standings. At the head of each stand the names of what it tries, and the rules, as
-//! "cubes_of_standings: rules 1". A row has the parts of a standing, as "7, start, X acts, 2 O, 3-2, plain, 4", and
-//! what is told of it:
+//! Sections of rows about standings. At the head of each stand the names of what it tries, and the
+//! rules, as "cubes_of_standings: rules 1". A row has the parts of a standing, as "7, start, X
+//! acts, 2 O, 3-2, plain, 4", and what is told of it:
 //!
 //! - "double -> wrong phase" refuses an entry;
 //! - "after double: STANDING" tells where an entry leads;

@@ -1,7 +1,8 @@
 //! Standings from their parts.
 use super::sections::check_sections;
 
-/// In the games of standings it is whether the game of this number can begin at this score in a match of nine points.
+/// In the games of standings it is whether the game of this number can begin at this score in a
+/// match of nine points.
 const SECTIONS: &str = "\
 refused_doubles: rules 1
 99, start, X acts, 128 X, 0-0, plain, 1; double -> no double: at cap

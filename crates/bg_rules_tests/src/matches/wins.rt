@@ -7,8 +7,8 @@ use bg_board::{Board, Player};
 use bg_match::{Level, level_of};
 use std::process::Abort;
 
-/// X bears off his last checker, while O has one on the bar: three times the cube of 2 win the match of seven points. In
-/// other matches of seven points at 3-2 an offer is accepted.
+/// X bears off his last checker, while O has one on the bar: three times the cube of 2 win the
+/// match of seven points. In other matches of seven points at 3-2 an offer is accepted.
 const SECTIONS: &str = "\
 match_won_by_a_backgammon, applied_as_the_match_ends: rules 1
 7, 1:1 0:14 / 25:1 1:14, X moves 6 5, 2 O, 3-2, plain, 4; after move 1-0: 7, 0:15 / 25:1 1:14, X won, 2 O, 9-2, plain, 4
@@ -39,8 +39,8 @@ fn is_level(board: &Board, player: Player, level: Option<Level>) -> bool {
     level_of(board, player) == level
 }
 
-/// Whether a row holds, as "X gammon: 0:15 / 1:14 18:1", which tells who wins on a board, and what it counts; "none"
-/// is told where it is no win.
+/// Whether a row holds, as "X gammon: 0:15 / 1:14 18:1", which tells who wins on a board, and what
+/// it counts; "none" is told where it is no win.
 fn counts_so(rt: &impl Abort, row: &str) -> bool {
     let (win, points) = parted(rt, row, ": ");
     let (name, word) = parted(rt, win, " ");

@@ -2,8 +2,8 @@
 use std::alloc::Global;
 use std::io::{self, Read, Write};
 
-/// Gives some bytes, at most so many in a read, and fails at one of its reads, if any; without end the same bytes
-/// again.
+/// Gives some bytes, at most so many in a read, and fails at one of its reads, if any; without end
+/// the same bytes again.
 #[derive(Drop)]
 pub(crate) struct Fed<'a> {
     bytes: &'a [u8],

@@ -59,7 +59,8 @@ fn fails(alloc: Global, room: usize) -> bool {
         && writer.flushed == 0
 }
 
-/// A writer with less room than the text, or one that fails as it is flushed, has taken what it has room for.
+/// A writer with less room than the text, or one that fails as it is flushed, has taken what it has
+/// room for.
 #[test]
 fn writers_that_fail(rt: HostRuntime) {
     for &room in &[0, 1, 14, 15] {

@@ -3,8 +3,9 @@ use crate::words::{bytes_of, word};
 use bg_seals::{HMAC_BYTES, HmacSha256};
 use std::process::Abort;
 
-/// The test cases: key, text, what the HMAC begins with, which is all of it but in case 5, and the name. The texts are
-/// "Hi There", "what do ya want for nothing?", "Test With Truncation" and longer ones, under the key "Jefe" and others.
+/// The test cases: key, text, what the HMAC begins with, which is all of it but in case 5, and the
+/// name. The texts are "Hi There", "what do ya want for nothing?", "Test With Truncation" and
+/// longer ones, under the key "Jefe" and others.
 const CASES: &str = "\
 0b*20 4869205468657265 b0344c61d8db38535ca8afceaf0bf12b881dc200c9833da726e9376c2e32cff7 case_1
 4a656665 7768617420646f2079612077616e7420666f72206e6f7468696e673f \

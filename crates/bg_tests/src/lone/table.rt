@@ -1,4 +1,5 @@
-//! A match between parties that run each in a process of its own: processes end at random, and begin again.
+//! A match between parties that run each in a process of its own: processes end at random, and
+//! begin again.
 use crate::fronts::is_front;
 use crate::hosts::Host;
 use bg_auto::auto_action;
@@ -205,7 +206,8 @@ impl<'a, R: Host> Table<'a, R> {
         }
     }
 
-    /// The referee holds at least so many entries, and the others fronts of what it holds. Gives how many it holds.
+    /// The referee holds at least so many entries, and the others fronts of what it holds. Gives
+    /// how many it holds.
     fn check(&self, before: Number) -> Number {
         let rt = self.rt;
         let Some(whole) = self.held(REFEREE) else {
@@ -244,7 +246,8 @@ impl<'a, R: Host> Table<'a, R> {
         panic!(rt; "the match did not end")
     }
 
-    /// All parties hold one record, whose transcript is good, and more than one process took part in it.
+    /// All parties hold one record, whose transcript is good, and more than one process took part
+    /// in it.
     pub(crate) fn check_end(&self) {
         let rt = self.rt;
         let whole = self.held(REFEREE).expect(rt, "the referee runs");

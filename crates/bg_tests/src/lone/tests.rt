@@ -18,7 +18,8 @@ const TERMS: Terms = Terms {
 /// More turns than it takes to open a game.
 const TURNS: u32 = 100;
 
-/// A match of one point, whose processes end at random and begin again, is the same for all in the end.
+/// A match of one point, whose processes end at random and begin again, is the same for all in the
+/// end.
 fn check_match(rt: &impl Host, name: &str, rules: Rules) {
     let folder = new_folder(rt, name);
     play_match(rt, folder, rules);
@@ -158,7 +159,8 @@ fn path_away(rt: &(impl AllocGlobal + Abort), folder: &str) -> &'static str {
     lasting(rt, path.expect(rt, "memory for a path"))
 }
 
-/// Where the first save can't be written, the referee goes on with nothing; and it tells nothing until one is.
+/// Where the first save can't be written, the referee goes on with nothing; and it tells nothing
+/// until one is.
 #[test]
 fn a_save_fails(rt: HostRuntime) {
     let folder = new_folder(&rt, "lone-save");

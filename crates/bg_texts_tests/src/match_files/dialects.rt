@@ -6,8 +6,8 @@ use bg_match::{Record, Rules};
 use std::alloc::{AllocError, Global};
 use std::process::Abort;
 
-/// A spelling, and behind a bar its plain form or its refusal. A tilde stands for a line feed. Rows of a first game stand
-/// behind the lines before it; what begins with an at sign is a whole file.
+/// A spelling, and behind a bar its plain form or its refusal. A tilde stands for a line feed. Rows
+/// of a first game stand behind the lines before it; what begins with an at sign is a whole file.
 const SPELLINGS: &str = "\
 @\u{FEFF} 3 point match~Game 1~X : 0 O : 0~31: 8/5 6/5 | 31: 8/5 6/5
 @ 3 Point MATCH~gAME 1~X : 0 O : 0~31: 8/5 6/5 | 31: 8/5 6/5
@@ -34,6 +34,17 @@ const SPELLINGS: &str = "\
 31: 8/5 6/5 62: 24/18 13/11~61: 13/7* 8/7 66:cannot move | 31: 8/5 6/5 62: 24/18 13/11~61: 13/7* 8/7 66:
 31: 8/5 6/5 42: Cannot Move | refused at line 5: no legal turn has this movement
 31: 8/5 6/5 42: Cannot Go | refused at line 5: not a line of a match file
+31: 8/5 6/5 42: Cannot | refused at line 5: not a line of a match file
+31: 8/5 6/5 42: CannotMove | refused at line 5: not a line of a match file
+31: 8/5 6/5 42: Cannot Move 8/4 | refused at line 5: not a line of a match file
+31: 8/5 6/5 Cannot Move | refused at line 5: not a line of a match file
+31: Cannot Move | refused at line 5: no legal turn has this movement
+33: Cannot Move | refused at line 5: equal opening
+31: 8/5 6/5~42: Cannot Move | refused at line 6: out of turn
+31: 8/5 6/5 42: Cannot Move~Wins 1 point | refused at line 5: no legal turn has this movement
+31: 8/5 6/5 Doubles => 2~Drops~42: Cannot Move | refused at line 7: the game is over
+31: 8/5 6/5 Doubles => 2~Takes 42: 8/4 6/4~61: 13/7 8/7 Doubles => 4 | refused at line 7: no double: not owner
+31: 8/5 6/5 Doubles => 2~Takes 21: 13/11 6/5~Doubles => 4 Takes~21: 13/11 6/5 Doubles => 8~Takes 21: 13/11 24/23~Doubles => 16 Takes~21: 13/11 24/23 Doubles => 32~Takes 21: 13/11 6/5~Doubles => 64 Takes~21: 13/11 6/5 Doubles => 128~Takes 21: 11/9 11/10~Doubles => 256 | refused at line 16: no double: at cap
 31: 8/5 6/5 42: ???? | refused at line 5: a turn that is not known
 31: ? | refused at line 5: a turn that is not known
 31: 8/5 6/5 ???? | refused at line 5: not a line of a match file

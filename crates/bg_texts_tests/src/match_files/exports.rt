@@ -7,7 +7,8 @@ use bg_match::{Record, Rules};
 use std::alloc::Global;
 use std::process::Abort;
 
-/// Two games of a match to three points: a win by a drop, and one by an offer to resign in the midst of a turn.
+/// Two games of a match to three points: a win by a drop, and one by an offer to resign in the
+/// midst of a turn.
 const TWO_GAMES: &str = " 3 point match
 
  Game 1
@@ -37,7 +38,8 @@ const DROP_OF_X: &str = " 3 point match
   1) 61: 13/7 8/7                 Doubles => 2
   2)  Takes                      \n";
 
-/// What is written of the record of a text is that text, and it has so many entries, where that is told.
+/// What is written of the record of a text is that text, and it has so many entries, where that is
+/// told.
 fn check_written(rt: &impl Abort, alloc: Global, text: &str, len: Option<u32>) {
     let imported = read(rt, alloc, text);
     check_export(rt, alloc, &imported.record, text);
@@ -68,7 +70,8 @@ fn first_lines(rt: &impl Abort, count: usize) -> &'static str {
     TWO_GAMES.get(..length).expect(rt, "so many lines")
 }
 
-/// A file that breaks off within a game, behind a win, or with dice that are not moved comes back as it was.
+/// A file that breaks off within a game, behind a win, or with dice that are not moved comes back
+/// as it was.
 #[test]
 fn files_that_break_off(rt: HostRuntime) {
     for &count in &[1, 5, 6, 8, 12, 13] {
@@ -128,7 +131,8 @@ fn check_offers(rt: &impl Abort, alloc: Global, record: &mut Record) {
     check_transcript(rt, alloc, &imported.record, NO_OFFERS);
 }
 
-/// An offer to resign that is not accepted is left out, and the order of the dice of a throw is kept.
+/// An offer to resign that is not accepted is left out, and the order of the dice of a throw is
+/// kept.
 #[test]
 fn offers_that_are_not_accepted(rt: HostRuntime) {
     let mut record = Record::new(rt.alloc(), 1, 3, Rules::Two).expect(&rt, "a record");

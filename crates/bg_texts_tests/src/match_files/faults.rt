@@ -104,8 +104,8 @@ const FAULTS_OF_GAMES: [(&str, &str); 9] = [
     ),
 ];
 
-/// Of several faults the first one is named: of a line its shape comes first, from left to right, and then what it
-/// tells.
+/// Of several faults the first one is named: of a line its shape comes first, from left to right,
+/// and then what it tells.
 const FIRST_OF_SEVERAL_FAULTS: [(&str, &str); 16] = [
     ("31: 8/5 6/5\n Game 5\n", "6 WrongGame"),
     ("31: 8/5 6/5\n Game 1\n", "6 WrongGame"),
@@ -140,7 +140,8 @@ const FIRST_OF_SEVERAL_FAULTS: [(&str, &str); 16] = [
     ),
 ];
 
-/// Dice alone are refused at once where the player may not bring them; that a step can be played shows behind them.
+/// Dice alone are refused at once where the player may not bring them; that a step can be played
+/// shows behind them.
 const FAULTS_OF_DICE_ALONE: [(&str, &str); 6] = [
     ("33:\nhello\n", "5 Entry(EqualOpening)"),
     ("31: 8/5 6/5\n42:\nhello\n", "6 OutOfTurn"),

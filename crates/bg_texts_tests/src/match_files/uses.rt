@@ -1,4 +1,5 @@
-//! The lines of use that stand in the library's documentation, run (`tools/checks/check_uses` compares them).
+//! The lines of use that stand in the library's documentation, run (`tools/checks/check_uses`
+//! compares them).
 use bg_mat::{export_mat, import_mat};
 use bg_match::Rules;
 use std::test::Fail;

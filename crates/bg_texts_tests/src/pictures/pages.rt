@@ -129,7 +129,8 @@ fn page_that_is_shown_anew(rt: HostRuntime) {
     check_begins_with_parts(&rt, &page, &SHOWN_ANEW);
 }
 
-/// What no end of a game shows: an offered cube, one that is taken, and the dice behind an offer to resign.
+/// What no end of a game shows: an offered cube, one that is taken, and the dice behind an offer to
+/// resign.
 const OFFERED: &str =
     "length 7\nopen 3 1\nX move 8-5 6-5\nO double\nX take\nO roll 6 5\nO resign gammon\nX reject\n";
 

@@ -6,7 +6,8 @@ use bg_picture::Numbering;
 use std::alloc::Global;
 use std::process::Abort;
 
-/// X wins three points, one, and then loses four; between these resignations one is refused, and double and take.
+/// X wins three points, one, and then loses four; between these resignations one is refused, and
+/// double and take.
 const RESIGNATIONS: &str = "length 7\nopen 3 1\nX move 8-5 6-5\nO resign backgammon\nX accept\n\
     open 2 6\nO resign gammon\nX reject\nO resign normal\nX accept\n\
     open 5 1\nX move 13-8 6-5\nO double\nX take\nO roll 6 5\nO move 24-18 18-13\nX resign gammon\nO accept\n";

@@ -1,4 +1,5 @@
-//! The lines of use that stand in the library's documentation, run (`tools/checks/check_uses` compares them).
+//! The lines of use that stand in the library's documentation, run (`tools/checks/check_uses`
+//! compares them).
 use bg_match::{Record, Rules};
 use bg_picture::{Numbering, PageWords, page_text, picture_text};
 use std::test::Fail;

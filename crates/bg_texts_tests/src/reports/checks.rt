@@ -6,7 +6,8 @@ use bg_text::Verdict;
 use std::alloc::Global;
 use std::process::Abort;
 
-/// This is said of a file on a screen of so many columns, if there is one, and the verdict stands behind it.
+/// This is said of a file on a screen of so many columns, if there is one, and the verdict stands
+/// behind it.
 fn check_said(rt: &impl Abort, alloc: Global, bytes: &[u8], columns: Option<usize>, wanted: &str) {
     let said = check_text(alloc, "a/file", bytes, columns);
     check_words(rt, wanted, told(alloc, said), wanted);
@@ -31,7 +32,8 @@ fn files_that_are_good(rt: HostRuntime) {
     }
 }
 
-/// The winner stands first, with his points before those of the other player. Only a match file is cut.
+/// The winner stands first, with his points before those of the other player. Only a match file is
+/// cut.
 const RESULTS: [(&str, &str); 7] = [
     (
         "length 1\nopen 3 1\nX resign normal\nO accept\n",
@@ -127,8 +129,8 @@ fn refused_lines_of_which_nothing_is_seen(rt: HostRuntime) {
     check_files(&rt, rt.alloc(), &NOTHING_SEEN);
 }
 
-/// A match file of another program is one where its first line that tells something is a length, and is judged by what
-/// it imports to; any other file is judged as a transcript.
+/// A match file of another program is one where its first line that tells something is a length,
+/// and is judged by what it imports to; any other file is judged as a transcript.
 const OTHER_KINDS: [(&[u8], &str); 5] = [
     (
         b"; [Site \"here\"]\n\n 3 point match\n",
@@ -189,8 +191,8 @@ fn lines_are_cut(rt: HostRuntime) {
     }
 }
 
-/// Whether an endless line is cut. The name, the verdict, and 1000 columns with what stands before them are shown; an
-/// escape takes four.
+/// Whether an endless line is cut. The name, the verdict, and 1000 columns with what stands before
+/// them are shown; an escape takes four.
 fn is_cut(alloc: Global, bytes: &[u8]) -> bool {
     let front = b"a/file: refused at line 1: not a length line: \\x00\\x00\\x00";
     match check_text(alloc, "a/file", bytes, None) {

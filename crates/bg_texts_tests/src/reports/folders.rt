@@ -37,8 +37,8 @@ fn files_of(alloc: Global, zero: File, one: File) -> Result<SlotBytes, AllocErro
     })
 }
 
-/// Files of the referee, of X and of O, two of each, the lines that are shown of them, and the board. Where there is no
-/// board none of them loads.
+/// Files of the referee, of X and of O, two of each, the lines that are shown of them, and the
+/// board. Where there is no board none of them loads.
 type Row = ([File; 6], &'static str, &'static str);
 
 /// What is shown of the files of a row.
@@ -130,8 +130,8 @@ fn parties_behind_others(rt: HostRuntime) {
     }
 }
 
-/// A party, its two files in a folder with no others, the lines that are shown of them, the board, and whether one of
-/// them loads.
+/// A party, its two files in a folder with no others, the lines that are shown of them, the board,
+/// and whether one of them loads.
 type OneRow = (u8, [File; 2], &'static str, &'static str, bool);
 
 /// What is shown of the two files of a party.
@@ -199,7 +199,8 @@ fn parties_alone(rt: HostRuntime) {
     }
 }
 
-/// Seats whose entries are others than the referee's: the dice of the opening, and the turn behind it.
+/// Seats whose entries are others than the referee's: the dice of the opening, and the turn behind
+/// it.
 const ENTRIES_THAT_DIFFER: &str = "party-0.0: party 0 match 1 length 1 save 2 entries 2
 party-0.1: empty
 party-1.0: party 1 match 1 length 1 save 2 entries 2

@@ -1,5 +1,6 @@
-//! Refused growths. Want of memory is answered and harms nothing: asked again, the answer is the same. No run of the
-//! tests refuses any, but `tools/checks/refuse_growths` refuses each growth in turn.
+//! Refused growths. Want of memory is answered and harms nothing: asked again, the answer is the
+//! same. No run of the tests refuses any, but `tools/checks/refuse_growths` refuses each growth in
+//! turn.
 use super::folders::slots;
 use super::saved_files::{AFTER_THE_MOVE, AFTER_THE_OPENING, OPENING, REFEREE, SEAT};
 use crate::checks::{check_no_growth_is_left, check_row};

@@ -7,8 +7,8 @@ use bg_reports::said_of_import_fault;
 use std::alloc::Global;
 use std::process::Abort;
 
-/// A match that is good by the first rules: X, who is on the bar and can't enter, resigns in place of his turn. By the
-/// second rules this turn is to be passed, and nobody resigns in it.
+/// A match that is good by the first rules: X, who is on the bar and can't enter, resigns in place
+/// of his turn. By the second rules this turn is to be passed, and nobody resigns in it.
 const OFFER_IN_A_TURN_WITHOUT_STEPS: &str = " 1 point match
 
  Game 1

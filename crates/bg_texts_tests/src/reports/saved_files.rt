@@ -1,4 +1,5 @@
-//! Saved files of a match of length 1, the boards of what they restore, and the comparison of what is shown of them.
+//! Saved files of a match of length 1, the boards of what they restore, and the comparison of what
+//! is shown of them.
 use crate::checks::{check_words, text_of};
 use std::alloc::{AllocError, Global};
 use std::process::Abort;
@@ -20,8 +21,8 @@ pub(super) const OPENING: [u8; 27] = [
     0x42, 0x47, 0x53, 0x32, 0, 0, 0, 0, 0, 0, 0, 0, 1, 1, 1, 0, 0, 0, 3, 0, 0, 0, 0, 1, 1, 3, 1,
 ];
 
-/// Save 1 of the seat of X, which has the opening and claims its move as entry 2, in the layout that is no longer
-/// written.
+/// Save 1 of the seat of X, which has the opening and claims its move as entry 2, in the layout
+/// that is no longer written.
 pub(super) const SEAT: [u8; 32] = [
     0x42, 0x47, 0x53, 0x31, 1, 0, 0, 0, 0, 0, 0, 0, 1, 1, 0, 0, 0, 1, 1, 0, 2, 6, 2, 8, 5, 6, 5, 0,
     1, 1, 3, 1,

@@ -1,4 +1,5 @@
-//! What is said of transcripts that give no record, by the fault that was met: the same as of files that are checked.
+//! What is said of transcripts that give no record, by the fault that was met: the same as of files
+//! that are checked.
 use super::told;
 use crate::checks::{check_row, check_words};
 use bg_match::EntryFault;
@@ -23,7 +24,8 @@ fn checked(alloc: Global, bytes: &[u8], columns: Option<usize>) -> Result<String
     told(alloc, check_text(alloc, "a", bytes, columns))
 }
 
-/// Whether the same is said of the fault as of the transcript where that is checked, with this verdict.
+/// Whether the same is said of the fault as of the transcript where that is checked, with this
+/// verdict.
 fn is_same(
     alloc: Global,
     bytes: &[u8],
@@ -43,7 +45,8 @@ fn is_same(
 /// Screens of some widths, and none.
 const COLUMNS: [Option<usize>; 5] = [None, Some(0), Some(30), Some(45), Some(200)];
 
-/// A transcript gives no record, and this is said of its fault, with the verdict behind it. It is checked likewise.
+/// A transcript gives no record, and this is said of its fault, with the verdict behind it. It is
+/// checked likewise.
 fn check_as_checked(rt: &impl Abort, alloc: Global, bytes: &[u8], wanted: &str) {
     let fault = read_transcript(alloc, 1, bytes).err().expect(rt, wanted);
     check_words(rt, wanted, said(alloc, bytes, fault, None), wanted);

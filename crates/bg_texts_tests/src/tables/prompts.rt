@@ -135,7 +135,8 @@ fn without_a_step(rt: &impl Abort, rules: Rules) -> Standing {
     )
 }
 
-/// A player without a step moves nothing under rules one, and under rules two the referee passes his turn.
+/// A player without a step moves nothing under rules one, and under rules two the referee passes
+/// his turn.
 #[test]
 fn turns_without_a_step(rt: HostRuntime) {
     let first = without_a_step(&rt, Rules::One);

@@ -216,6 +216,68 @@ const TURNS: [[&str; 4]; 10] = [
     ],
 ];
 
+/// With 6 and 4. A die that was played is left for no other step, and a checker that was moved is no
+/// longer there.
+const LATER_STEPS: [[&str; 4]; 7] = [
+    [
+        "24:2 13:5 8:3 6:5",
+        "24:2 13:6 8:2 6:5",
+        "move 24-18 18-12",
+        "18-12 can't be played: no die is left for it\n",
+    ],
+    [
+        "24:2 13:5 8:3 6:5",
+        "24:2 13:4 11:2 8:2 6:5",
+        "move 24-18 18-14",
+        "18-14 can't be played: point 14 is held by O\n",
+    ],
+    [
+        "24:2 13:5 8:3 6:5",
+        "24:2 13:6 8:2 6:5",
+        "move 24-18 24-19",
+        "24-19 can't be played: the dice are 6 and 4\n",
+    ],
+    [
+        "24:1 13:6 8:3 6:5",
+        "24:2 13:6 8:2 6:5",
+        "move 24-18 24-20",
+        "24-20 can't be played: you have no further checker on point 24\n",
+    ],
+    [
+        "25:1 13:6 8:3 6:5",
+        "24:2 13:6 8:2 6:5",
+        "move bar-21 bar-19",
+        "bar-19 can't be played: you have no further checker on the bar\n",
+    ],
+    [
+        "5:3 3:2",
+        "1:15",
+        "move 5-off 3-off",
+        "3-off can't be played: a checker on a higher point must be moved first\n",
+    ],
+    [
+        "6:3 5:3",
+        "1:15",
+        "move 6-2 6-off 5-off",
+        "5-off can't be played: no die is left for it\n",
+    ],
+];
+
+/// With 6 and 2.
+const BORNE_OFF: [&str; 4] = [
+    "5:2 3:2",
+    "1:15",
+    "move 5-off 3-off",
+    "3-off can't be played: no die is left for it\n",
+];
+
+const BY_TWO_THREES: [&str; 4] = [
+    "13:7 8:1 6:5",
+    "1:15",
+    "move 8-5 8-5",
+    "8-5 can't be played: you have no further checker on point 8\n",
+];
+
 const BY_3_AND_1: [&str; 4] = [
     "5:1 2:1",
     "1:15",
@@ -242,6 +304,11 @@ fn refusals_of_turns(rt: HostRuntime) {
     for row in &TURNS {
         check_turn(&rt, rt.alloc(), Die::Six, Die::One, row);
     }
+    for row in &LATER_STEPS {
+        check_turn(&rt, rt.alloc(), Die::Six, Die::Four, row);
+    }
+    check_turn(&rt, rt.alloc(), Die::Six, Die::Two, &BORNE_OFF);
+    check_turn(&rt, rt.alloc(), Die::Three, Die::Three, &BY_TWO_THREES);
     check_turn(&rt, rt.alloc(), Die::Three, Die::One, &BY_3_AND_1);
     check_turn(&rt, rt.alloc(), Die::Six, Die::Five, &BY_6_AND_5);
     check_turn(&rt, rt.alloc(), Die::Two, Die::Two, &BY_TWO_TWOS);

@@ -17,8 +17,8 @@ const SIX_FIVE: Dice = Dice {
     second: Die::Five,
 };
 
-/// Where the checkers of X and of O stand as the first two words say, this is the list of the turns of X with these
-/// dice, where a line has so many letters.
+/// Where the checkers of X and of O stand as the first two words say, this is the list of the turns
+/// of X with these dice, where a line has so many letters.
 fn check_list(rt: &impl Abort, alloc: Global, row: &[&str; 3], dice: Dice, columns: u16) {
     let [x, o, wanted] = *row;
     let board = board(rt, x, o);

@@ -1,4 +1,5 @@
-//! The lines of use that stand in the library's documentation, run (`tools/checks/check_uses` compares them).
+//! The lines of use that stand in the library's documentation, run (`tools/checks/check_uses`
+//! compares them).
 use bg_board::{Board, Die, Player};
 use bg_match::{Action, Entry, EntryFault, Record, Rules};
 use bg_table::{Drawing, offered, pip_count, refusal_text, seat_view_text};

@@ -1,5 +1,5 @@
 //! What a player sees.
-use crate::checks::check_text;
+use crate::checks::{check_row, check_text};
 use crate::records::record_of;
 use bg_board::Player;
 use bg_table::{Drawing, seat_view_text};
@@ -164,6 +164,34 @@ last: X resign normal
 O wins the match
 ";
 
+/// X has a checker on the bar, and no step by his sixes. By the first rules he moves no checker, and
+/// by the second the turn is passed.
+const SHUT_OUT: &str = "open 2 1\nX move 13-11 6-5\nO roll 4 3\nO move 24-20 13-10\nX roll 6 6\n";
+
+/// What follows, and the last lines that O then sees, by the first rules.
+const SHUT_OUT_OF_O: [(&str, &str); 4] = [
+    ("", "last: X roll 6 6\nX to move 6 6\n"),
+    (
+        "X move\n",
+        "last: X rolled 6 6 and could not move\nO to roll\n",
+    ),
+    (
+        "X resign normal\nO reject\nX move\nO roll 4 2\n",
+        "last: X rolled 6 6 and could not move\nO to move 4 2\n",
+    ),
+    ("X move\nO double\nX take\n", "last: X take\nO to roll\n"),
+];
+
+/// The same, by the second rules.
+const PASSED_OF_O: [(&str, &str); 3] = [
+    ("", "last: X roll 6 6\nX to pass 6 6\n"),
+    (
+        "pass\n",
+        "last: X rolled 6 6 and could not move\nO to roll\n",
+    ),
+    ("pass\nO double\nX take\n", "last: X take\nO to roll\n"),
+];
+
 /// A player sees this at the end of a transcript.
 pub(crate) fn check_view(
     rt: &impl Abort,
@@ -196,5 +224,23 @@ const VIEWS: [(&str, Player, &str); 10] = [
 fn words_of_views(rt: HostRuntime) {
     for &(transcript, player, wanted) in &VIEWS {
         check_view(&rt, rt.alloc(), transcript, player, Drawing::Rows, wanted);
+    }
+}
+
+/// O sees these lines last, where these ones follow behind the turn in which X is shut out.
+fn check_end(rt: &impl Abort, alloc: Global, length: &str, more: &str, wanted: &str) {
+    let transcript = format!(in alloc; "{length}\n{SHUT_OUT}{more}").expect(rt, "memory");
+    let record = record_of(rt, alloc, transcript.as_str());
+    let view = seat_view_text(alloc, &record, Player::O, Drawing::Rows).expect(rt, "memory");
+    check_row(rt, more, view.ends_with(wanted.as_bytes()));
+}
+
+#[test]
+fn last_lines_of_a_player_who_could_not_move(rt: HostRuntime) {
+    for &(more, wanted) in &SHUT_OUT_OF_O {
+        check_end(&rt, rt.alloc(), "length 3", more, wanted);
+    }
+    for &(more, wanted) in &PASSED_OF_O {
+        check_end(&rt, rt.alloc(), "length 3 rules 2", more, wanted);
     }
 }

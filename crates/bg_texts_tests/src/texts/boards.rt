@@ -28,7 +28,8 @@ const OF_X: [u8; 26] = [
     2, 0, 0, 0, 0, 0, 12, 0, 0, 0, 0, 0, 0, 0, 0, 0, 0, 0, 0, 0, 0, 0, 0, 0, 0, 1,
 ];
 
-/// The standing of the first game of a match of length 3 where X is to act, and O has these checkers.
+/// The standing of the first game of a match of length 3 where X is to act, and O has these
+/// checkers.
 fn standing_of(rt: &impl Abort, o: &[u8; 26]) -> Standing {
     let board = Board::from_counts(OF_X, *o).expect(rt, "a board");
     let phase = Phase::ToAct(Player::X);

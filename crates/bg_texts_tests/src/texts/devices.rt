@@ -18,7 +18,8 @@ pub(crate) fn verdict_on<R: Read, W: Write>(
     judge(alloc, &mut Reading::new(reader), &mut Writing::new(writer))
 }
 
-/// Whether what a reader gives is judged so, and this is written and flushed, at most so many bytes in a write.
+/// Whether what a reader gives is judged so, and this is written and flushed, at most so many bytes
+/// in a write.
 fn is_judged(
     alloc: Global,
     reader: &mut Fed<'_>,
@@ -31,7 +32,8 @@ fn is_judged(
     found == verdict && writer.taken.as_slice() == text && writer.flushed == text.len()
 }
 
-/// Whether an input, of which a reader gives at most so many bytes in a read, is read whole and judged so.
+/// Whether an input, of which a reader gives at most so many bytes in a read, is read whole and
+/// judged so.
 fn is_whole(
     alloc: Global,
     input: &[u8],
@@ -133,7 +135,8 @@ fn readers_that_never_end(rt: HostRuntime) {
     }
 }
 
-/// An input, of which a reader gives at most one or another number of bytes in a read, is read whole and judged so.
+/// An input, of which a reader gives at most one or another number of bytes in a read, is read
+/// whole and judged so.
 fn check_steps(
     rt: &impl Abort,
     alloc: Global,
@@ -164,8 +167,8 @@ fn longest_input_is_read(rt: HostRuntime) {
     check_steps(&rt, rt.alloc(), &longer, &[1000, 4096], long, text);
 }
 
-/// Whether a writer with this room, which is less than the text, or which fails as it is flushed, has taken what it has
-/// room for.
+/// Whether a writer with this room, which is less than the text, or which fails as it is flushed,
+/// has taken what it has room for.
 fn is_filled(alloc: Global, text: &[u8], room: usize) -> bool {
     let mut writer = Slow::new(alloc, 50, room);
     writer.flushes = room < text.len();

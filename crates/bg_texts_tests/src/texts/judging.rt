@@ -1,5 +1,5 @@
-//! The boards and the verdicts of the judge. The expected texts are those of the rules and formats, worked out by
-//! hand.
+//! The boards and the verdicts of the judge. The expected texts are those of the rules and formats,
+//! worked out by hand.
 use super::pictures::{HEADER, OPENED, START, check_drawings};
 
 /// X has moved 8-5 6-5, and O 24-18 24-18 13-7 13-7.

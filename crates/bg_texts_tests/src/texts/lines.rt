@@ -18,7 +18,8 @@ fn is_written(line: &str) -> bool {
     }
 }
 
-/// A row's line is read as the seat and the entry, or refused for the fault, that stand behind the arrow.
+/// A row's line is read as the seat and the entry, or refused for the fault, that stand behind the
+/// arrow.
 fn check_line(rt: &impl Abort, alloc: Global, row: &str) {
     let (line, wanted) = parted(rt, row);
     check_words(rt, row, told_of(alloc, line.as_bytes()), wanted);

@@ -1,5 +1,5 @@
-//! The judge where a turn is to be passed, and where none is. The expected texts are those of the rules and formats,
-//! worked out by hand.
+//! The judge where a turn is to be passed, and where none is. The expected texts are those of the
+//! rules and formats, worked out by hand.
 use super::pictures::{HEADER, START, check_drawings, check_drawn, judged};
 use super::rules::SECOND_HEADER;
 use super::transcripts::{full_text, is_judged};
@@ -22,8 +22,8 @@ bar X 1 O 0 off X 0 O 0
 
 const DUE: &str = "X to pass 6 6";
 
-/// The judge draws this where X was shut out, by the first rules or the second: a row has the line behind that, the
-/// phase, and what is said last with the verdict.
+/// The judge draws this where X was shut out, by the first rules or the second: a row has the line
+/// behind that, the phase, and what is said last with the verdict.
 fn check_shut_out(rt: &impl Abort, alloc: Global, length: &str, header: &str, row: &[&str; 3]) {
     let [line, phase, last] = *row;
     let input = format!(in alloc; "{length}\n{SHUT_OUT}{line}").expect(rt, "memory");

@@ -47,8 +47,8 @@ pub(crate) fn check_each(rt: &impl Abort, alloc: Global, inputs: &[&str], wanted
     }
 }
 
-/// The judge draws this of an input: a row has the input, the header, the points, the phase, and what is said last with
-/// the verdict.
+/// The judge draws this of an input: a row has the input, the header, the points, the phase, and
+/// what is said last with the verdict.
 pub(crate) fn check_drawn(rt: &impl Abort, alloc: Global, row: &[&str; 5]) {
     let [input, header, points, phase, last] = *row;
     let wanted = format!(in alloc; "{header}\n{points}{phase}\n{last}").expect(rt, "memory");

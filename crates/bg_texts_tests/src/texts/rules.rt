@@ -1,5 +1,5 @@
-//! What is written and read of the rules: line 1, the header and the phase line. The expected texts are those of the
-//! formats, worked out by hand.
+//! What is written and read of the rules: line 1, the header and the phase line. The expected texts
+//! are those of the formats, worked out by hand.
 use super::inputs::{LENGTH_OUT_OF_RANGE, NO_LENGTH};
 use super::pictures::{START, check_board, check_drawings, check_each};
 use crate::checks::check_text;
@@ -84,8 +84,8 @@ const O_ON_THE_BAR: [u8; 26] = [
     14, 0, 0, 0, 0, 0, 0, 0, 0, 0, 0, 0, 0, 0, 0, 0, 0, 0, 0, 0, 0, 0, 0, 0, 0, 1,
 ];
 
-/// The standing of a match by these rules where O is to move these dice, with a checker on the bar: a one alone lets it
-/// in.
+/// The standing of a match by these rules where O is to move these dice, with a checker on the bar:
+/// a one alone lets it in.
 fn standing_of(rt: &impl Abort, rules: Rules, first: Die, second: Die) -> Standing {
     let cube = Cube {
         value: 2,

@@ -48,7 +48,8 @@ fn refusals(rt: HostRuntime) {
     check_typed(&rt, rt.alloc(), &at, &REFUSALS);
 }
 
-/// Marks that are not just the hits. O has single checkers on his 5 and his 7 point, which are 20 and 18 to X.
+/// Marks that are not just the hits. O has single checkers on his 5 and his 7 point, which are 20
+/// and 18 to X.
 const HITS: [(&str, &str); 7] = [
     ("24/14*", OTHER_HITS),
     ("24/20*/14*", OTHER_HITS),

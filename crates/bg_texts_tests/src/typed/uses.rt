@@ -1,4 +1,5 @@
-//! The lines of use that stand in the library's documentation, run (`tools/checks/check_uses` compares them).
+//! The lines of use that stand in the library's documentation, run (`tools/checks/check_uses`
+//! compares them).
 use bg_board::{Board, Die, Player, Step};
 use bg_turns::Dice;
 use bg_typed::{TypedFault, read_turn};

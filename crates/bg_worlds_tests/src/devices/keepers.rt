@@ -15,7 +15,8 @@ fn number_of(slot: Slot) -> u32 {
     }
 }
 
-/// The number of the save that a text has, that of the entry which it claims, 0 for none, and how many entries it has.
+/// The number of the save that a text has, that of the entry which it claims, 0 for none, and how
+/// many entries it has.
 fn told_by(alloc: Global, bytes: &[u8]) -> Result<[u32; 3], DeviceFault> {
     let Ok(saved) = load(alloc, bytes) else {
         return Err(DeviceFault::Failed);

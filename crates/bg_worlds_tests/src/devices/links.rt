@@ -100,7 +100,8 @@ impl<'a> Queue<'a> {
     }
 }
 
-/// A link that hands over what was sent to a party: by picks, as often as it is asked, or in order and once.
+/// A link that hands over what was sent to a party: by picks, as often as it is asked, or in order
+/// and once.
 #[derive(Drop)]
 pub(crate) struct OwnLink<'a> {
     queue: Queue<'a>,

@@ -1,4 +1,5 @@
-//! The calls of automatic players and of their matches, each in one short function with no contract.
+//! The calls of automatic players and of their matches, each in one short function with no
+//! contract.
 use bg_auto::{auto_action, sim_text};
 use bg_board::Player;
 use bg_match::{Action, Record, Rules};

@@ -8,11 +8,11 @@ use bg_text::parse_action;
 use bg_turns::{Dice, Turn, legal_turns};
 use std::process::Abort;
 
-/// The lines of a match: its length, entries, "offers 4", which are as many offers to resign that are rejected, and what
-/// a player then does, "-" where nothing.
+/// The lines of a match: its length, entries, "offers 4", which are as many offers to resign that
+/// are rejected, and what a player then does, "-" where nothing.
 ///
-/// Only who acts does something. Every fifth entry drops a double, and every sixteenth one doubles where it may: played
-/// to two points, the second game is the Crawford game.
+/// Only who acts does something. Every fifth entry drops a double, and every sixteenth one doubles
+/// where it may: played to two points, the second game is the Crawford game.
 const MATCHES: &str = "\
 only_who_acts_does_something
 length 1

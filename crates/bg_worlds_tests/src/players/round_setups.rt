@@ -1,4 +1,5 @@
-//! Matches in rounds over devices that have something as they begin, and the comparison of their calls with texts.
+//! Matches in rounds over devices that have something as they begin, and the comparison of their
+//! calls with texts.
 use super::round_calls::{CALLS, SHARED_CALLS};
 use crate::devices::keepers::OwnKeeper;
 use crate::devices::links::OwnLink;

@@ -1,5 +1,5 @@
-//! The order of the calls of a match that is played round by round (docs/PROTOCOL.md, "Rounds"). What each match is
-//! about is said with its calls.
+//! The order of the calls of a match that is played round by round (docs/PROTOCOL.md, "Rounds").
+//! What each match is about is said with its calls.
 use super::round_calls::BEFORE_THE_DROP;
 use super::round_setups::{Devices, ONE_BYTE, UNUSED, check_rounds, first_save};
 use crate::devices::{NO_FAILURE, tearing};

@@ -110,8 +110,8 @@ fn check_one_match(rt: &impl Abort, left: &str, right: &str) {
     assert!(rt; left.starts_with(right) || right.starts_with(left));
 }
 
-/// Whether somebody moves in a match of this seed: the seed and the length alone decide what its entries are, and the
-/// rest how many there are.
+/// Whether somebody moves in a match of this seed: the seed and the length alone decide what its
+/// entries are, and the rest how many there are.
 fn moves_in(rt: &(impl AllocGlobal + Abort), seed: u64, rules: Rules) -> bool {
     let short = good_transcript(rt, seed, rules, 1, 200);
     let long = good_transcript(rt, seed, rules, 1, 2000);

@@ -10,8 +10,8 @@ use rand_core::SeedableRng;
 use rand_core::utils::NextWord;
 use std::process::Abort;
 
-/// Words that were computed from the definition of ChaCha20 by another program: of a seed, the number of an entry and
-/// an attempt.
+/// Words that were computed from the definition of ChaCha20 by another program: of a seed, the
+/// number of an entry and an attempt.
 const DICE_WORDS: [(u64, u32, u16, u32); 8] = [
     (0, 1, 0, 1632817391),
     (1, 1, 0, 2668804065),
@@ -87,7 +87,8 @@ fn schedule_goes_on_from_event_to_event(rt: HostRuntime) {
     }
 }
 
-/// Whether this follows an attempt whose event came to the outcome, where the referee held four entries.
+/// Whether this follows an attempt whose event came to the outcome, where the referee held four
+/// entries.
 fn follows(
     attempt: u16,
     restarted: bool,
@@ -173,8 +174,8 @@ fn comes_to_the_same(rt: &(impl AllocGlobal + Abort), seed: u64, steps: u32) -> 
     text_of(rt.alloc(), seed, 3, Rules::Two, 1, steps) == Ok(single)
 }
 
-/// A match by kept words comes to the same as one whose every event makes its own, also where the referee is down, and
-/// where attempts are in vain.
+/// A match by kept words comes to the same as one whose every event makes its own, also where the
+/// referee is down, and where attempts are in vain.
 #[test]
 fn single_steps_come_to_the_same_text(rt: HostRuntime) {
     let rows = [

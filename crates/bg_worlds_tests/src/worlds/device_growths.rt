@@ -1,5 +1,5 @@
-//! The devices in memory where memory is refused. No run of the tests refuses any, but `tools/checks/refuse_growths`
-//! refuses each growth in turn.
+//! The devices in memory where memory is refused. No run of the tests refuses any, but
+//! `tools/checks/refuse_growths` refuses each growth in turn.
 use crate::checks::{check_no_growth_is_left, check_party};
 use crate::worlds::lines::check_outcome;
 use crate::worlds::memory_worlds::{
@@ -46,8 +46,8 @@ fn sent_at_last(rt: &impl Abort, world: &mut MemoryWorld, to: u8, event: &Event)
     outcome
 }
 
-/// The referee's save has this number, also where there was no memory for it: then it is down, and comes back with
-/// what it had saved, so many entries, or opens a game anew.
+/// The referee's save has this number, also where there was no memory for it: then it is down, and
+/// comes back with what it had saved, so many entries, or opens a game anew.
 fn check_save_at_last(rt: &impl Abort, world: &mut MemoryWorld, save: u32) {
     let outcome = saved_at_last(rt, world, save);
     assert!(rt; outcome == Outcome::Saved(save), "save {save}");
@@ -151,8 +151,8 @@ fn refused_growths_of_keepers(rt: HostRuntime) -> Result<(), Fail> {
     check_no_growth_is_left(rt.alloc())
 }
 
-/// A write that is torn and leaves no bytes fails by itself, whatever memory there is. A read that fails or finds no
-/// bytes wants no memory, nor does a restart over slots that have none.
+/// A write that is torn and leaves no bytes fails by itself, whatever memory there is. A read that
+/// fails or finds no bytes wants no memory, nor does a restart over slots that have none.
 #[test]
 fn refused_growths_of_no_bytes(rt: HostRuntime) -> Result<(), Fail> {
     let plan = [

@@ -8,15 +8,17 @@ use bg_world::{Event, RunReport, WorldFault};
 use std::alloc::Global;
 use std::process::Abort;
 
-/// `the_drawn_run` is the run that docs/PROTOCOL.md draws: an answer that is lost, a claim that is accepted twice and
-/// counts once, a watcher, and a save that is torn. In the end X learns his move, and then the lost answer arrives: it
-/// tells him nothing new.
+/// `the_drawn_run` is the run that docs/PROTOCOL.md draws: an answer that is lost, a claim that is
+/// accepted twice and counts once, a watcher, and a save that is torn. In the end X learns his
+/// move, and then the lost answer arrives: it tells him nothing new.
 ///
-/// In `failed_sends_that_are_lost` and `failed_sends_that_went` the first send fails, and its datagram went out or not.
+/// In `failed_sends_that_are_lost` and `failed_sends_that_went` the first send fails, and its
+/// datagram went out or not.
 ///
 /// In `failed_reads` the referee's first read fails.
 ///
-/// In `failed_writes` the first save of the seat of O fails: it is down until it restarts, and the others are up.
+/// In `failed_writes` the first save of the seat of O fails: it is down until it restarts, and the
+/// others are up.
 ///
 /// In `parties_that_are_not_there` events are at parties that are not there, or that save nothing.
 pub(crate) const PLAYS: &str = "\
@@ -85,7 +87,8 @@ fn faults_of_devices(rt: HostRuntime) {
     check_plays(&rt, PLAYS);
 }
 
-/// The referee's second save is torn: what follows where the torn text is lost, and where all of it was written.
+/// The referee's second save is torn: what follows where the torn text is lost, and where all of it
+/// was written.
 const TORN: &str = "\
 the_save_before
 fails: write 0 2 cut

@@ -99,8 +99,8 @@ fn final_texts(rt: HostRuntime) {
     }
 }
 
-/// Want of memory is answered and harms nothing: asked again, the answer is the same. No run of the tests refuses any,
-/// but `tools/checks/refuse_growths` refuses each growth in turn.
+/// Want of memory is answered and harms nothing: asked again, the answer is the same. No run of the
+/// tests refuses any, but `tools/checks/refuse_growths` refuses each growth in turn.
 #[test]
 fn refused_growths_of_final_texts(rt: HostRuntime) -> Result<(), Fail> {
     let world = world_of(&rt, &["length 3"]);

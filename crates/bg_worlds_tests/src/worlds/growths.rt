@@ -1,5 +1,5 @@
-//! Runs in which memory is refused. No run of the tests refuses any, but `tools/checks/refuse_growths` refuses each
-//! growth in turn.
+//! Runs in which memory is refused. No run of the tests refuses any, but
+//! `tools/checks/refuse_growths` refuses each growth in turn.
 use crate::checks::check_no_growth_is_left;
 use crate::worlds::lines::{check_outcome, lines_of};
 use crate::worlds::memory_worlds::{MemoryWorld, happen, record_of, world_of};
@@ -58,7 +58,8 @@ as to_the_claim
 as the_claim_kept
 ";
 
-/// The rows of a play, in which a growth may be refused. They hold as long as no memory was wanted and nothing failed.
+/// The rows of a play, in which a growth may be refused. They hold as long as no memory was wanted
+/// and nothing failed.
 fn check_refused(rt: &(impl AllocGlobal + Abort), name: &str) -> Result<(), Fail> {
     check_rows(rt, &lines_of(rt, PLAYS, name));
     check_no_growth_is_left(rt.alloc())

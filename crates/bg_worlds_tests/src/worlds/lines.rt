@@ -1,9 +1,11 @@
-//! The lines of plays: rows, each the line of an event, an arrow, and the line that it comes to, and others.
+//! The lines of plays: rows, each the line of an event, an arrow, and the line that it comes to,
+//! and others.
 use crate::sections::{self, Lines};
 use bg_world::{Event, Outcome, outcome_text, parse_event};
 use std::process::Abort;
 
-/// The lines of the play of this name, where a line "as NAME" stands for the shared rows of that name.
+/// The lines of the play of this name, where a line "as NAME" stands for the shared rows of that
+/// name.
 pub(crate) fn lines_of(rt: &impl Abort, plays: &'static str, name: &str) -> Lines<'static> {
     sections::lines_of(rt, plays, SHARED, name)
 }

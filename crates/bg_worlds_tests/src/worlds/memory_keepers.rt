@@ -2,14 +2,14 @@
 use crate::worlds::memory_nets::LAST;
 use crate::worlds::memory_worlds::{check_plays, played};
 
-/// In `slots_are_kept` a slot has what was last written to it: nothing, then one entry, then two. The third write is
-/// torn in the slot of the first; the second stays in the other one.
+/// In `slots_are_kept` a slot has what was last written to it: nothing, then one entry, then two.
+/// The third write is torn in the slot of the first; the second stays in the other one.
 ///
-/// In `tears_of_others` entries of no call tear nothing, and each of another party tears that one's. Of two entries for
-/// one write the first counts.
+/// In `tears_of_others` entries of no call tear nothing, and each of another party tears that
+/// one's. Of two entries for one write the first counts.
 ///
-/// In `failing_reads` reads are counted by themselves at each party, those that failed included: a restart reads slot 0
-/// and then slot 1.
+/// In `failing_reads` reads are counted by themselves at each party, those that failed included: a
+/// restart reads slot 0 and then slot 1.
 const PLAYS: &str = "\
 slots_are_kept
 fails: write 0 3 20
@@ -69,8 +69,9 @@ fn keepers_in_memory(rt: HostRuntime) {
     check_plays(&rt, PLAYS);
 }
 
-/// The second write of the seat of X is torn. In `the_write_before` the save before it is restored, and the next writes
-/// are whole; in `the_write_itself` the torn save is restored, as all of it was left.
+/// The second write of the seat of X is torn. In `the_write_before` the save before it is restored,
+/// and the next writes are whole; in `the_write_itself` the torn save is restored, as all of it was
+/// left.
 const TORN: &str = "\
 the_write_before
 fails: write 1 2 cut
@@ -87,8 +88,9 @@ as to_the_torn_write
 as the_write_itself
 ";
 
-/// A torn write leaves the first bytes, as many as the cut says, all of them where there are no more, or the slot as it
-/// was. The text has 37: 20, a claim of 10, a count of 4 and the opening of 3.
+/// A torn write leaves the first bytes, as many as the cut says, all of them where there are no
+/// more, or the slot as it was. The text has 37: 20, a claim of 10, a count of 4 and the opening of
+/// 3.
 #[test]
 fn torn_writes(rt: HostRuntime) {
     for cut in [None, Some(0), Some(1), Some(19), Some(36)] {

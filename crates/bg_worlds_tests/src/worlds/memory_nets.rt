@@ -11,14 +11,17 @@ use std::process::Abort;
 /// The number that names no call and no datagram.
 pub(crate) const LAST: u32 = 4294967295;
 
-/// In `datagrams_are_handed_over` each party is handed its own datagrams, by their order, and as often as it asks.
+/// In `datagrams_are_handed_over` each party is handed its own datagrams, by their order, and as
+/// often as it asks.
 ///
 /// In `garbled_pick` the last pick gives what is no packet, also where nothing was sent.
 ///
-/// In `counts_of_datagrams` how many were sent is counted for each party by itself, and takes don't change it.
+/// In `counts_of_datagrams` how many were sent is counted for each party by itself, and takes don't
+/// change it.
 ///
-/// In `failing_sends` a failed send that went out is counted and can be picked; one that did not go out left nothing.
-/// Of two entries for the first send the first counts. The last two entries name no send.
+/// In `failing_sends` a failed send that went out is counted and can be picked; one that did not go
+/// out left nothing. Of two entries for the first send the first counts. The last two entries name
+/// no send.
 const PLAYS: &str = "\
 datagrams_are_handed_over
 watchers 253
@@ -143,7 +146,8 @@ fn ask_anew(rt: &impl Abort, world: &mut MemoryWorld) -> Outcome {
     take_last(world, 0)
 }
 
-/// The watcher forgets all, and learns so many entries from the datagram of this index: those of the referee.
+/// The watcher forgets all, and learns so many entries from the datagram of this index: those of
+/// the referee.
 fn learns(rt: &impl Abort, world: &mut MemoryWorld, index: u32) -> bool {
     happen(rt, world, "restart 3");
     take(world, 3, index);
@@ -165,8 +169,9 @@ answer to 3: entries 1 to 6
 answer to 3: entries 1 to 7
 answer to 3: entries 1 to 8";
 
-/// Texts of eight lengths, from 21 bytes to 32, are handed over as they were sent, though they are kept one behind the
-/// other: an opening, and then by turns an offer to resign and its rejection, from one entry to eight.
+/// Texts of eight lengths, from 21 bytes to 32, are handed over as they were sent, though they are
+/// kept one behind the other: an opening, and then by turns an offer to resign and its rejection,
+/// from one entry to eight.
 #[test]
 fn texts_of_many_lengths(rt: HostRuntime) {
     let world = played(&rt, THE_OPENING, "the_opening", None);

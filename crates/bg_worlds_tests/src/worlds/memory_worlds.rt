@@ -2,14 +2,15 @@
 //!
 //! A play has rows, and lines that say what its world is made of and what is seen of it:
 //! - "length 3", "watchers 2": the setup, else of length 1 and with none who watches;
-//! - "fails: write 0 2 20", "fails: read 1 1", "fails: send 7 went", "fails: send 7 lost": the plan, where a cut is
-//!   "none" or a number, or "cut", the one that the play is given;
-//! - "held: 2 1 -": how many entries the parties hold, from party 0 on, "-" where one is down or not there;
+//! - "fails: write 0 2 20", "fails: read 1 1", "fails: send 7 went", "fails: send 7 lost": the
+//!   plan, where a cut is "none" or a number, or "cut", the one that the play is given;
+//! - "held: 2 1 -": how many entries the parties hold, from party 0 on, "-" where one is down or
+//!   not there;
 //! - "sent to 0: 4": how many datagrams were sent to a party;
 //! - "entry 2 of 0: O roll": an entry that a party holds.
 //!
-//! Each call of a world stands in one short function with no contract, so that what the call ensures does not burden
-//! the proofs of the tests.
+//! Each call of a world stands in one short function with no contract, so that what the call
+//! ensures does not burden the proofs of the tests.
 use crate::checks::lasting;
 use crate::sections::names_of;
 use crate::worlds::lines::{check_outcome, event, lines_of};

@@ -1,5 +1,5 @@
-//! Parties that are nodes of their own: rows of the worked matches, and the same events through a world and through
-//! nodes.
+//! Parties that are nodes of their own: rows of the worked matches, and the same events through a
+//! world and through nodes.
 ghost use Rattle.std.specs.Prelude.{◌<◌, ◌≤◌};
 
 use crate::checks::{check_no_growth_is_left, check_party, check_row};
@@ -93,7 +93,8 @@ fn check_same(rt: &impl Abort, parties: &Parties, world: &MemoryWorld) {
     }
 }
 
-/// The devices of a world that fail as those of the nodes do, but for the reads with which nodes begin.
+/// The devices of a world that fail as those of the nodes do, but for the reads with which nodes
+/// begin.
 const FAILING: [&str; 4] = [
     "watchers 2",
     "fails: write 0 2 20",
@@ -101,8 +102,8 @@ const FAILING: [&str; 4] = [
     "fails: read 1 3",
 ];
 
-/// The same events through a world and through nodes come to the same, over devices that fail alike. A process that
-/// begins reads both slots, which a new world does not.
+/// The same events through a world and through nodes come to the same, over devices that fail
+/// alike. A process that begins reads both slots, which a new world does not.
 fn check_events(rt: &(impl AllocGlobal + Abort), seed: u32, fails: bool) {
     let mut seed = seed;
     let failing = if fails { failing(5) } else { NO_FAILURE };
@@ -145,8 +146,8 @@ const CLAIM: [u8; 24] = [
     0x00, 0x02, 0x06, 0x02, 0x08, 0x05, 0x06, 0x05,
 ];
 
-/// A seat's claim is kept over the end of its process, and told by the next one, byte for byte. It counts once, also
-/// where somebody else repeats it.
+/// A seat's claim is kept over the end of its process, and told by the next one, byte for byte. It
+/// counts once, also where somebody else repeats it.
 #[test]
 fn a_claim_over_two_processes(rt: HostRuntime) {
     let recorder = Recorder::that_lasts(&rt, rt.alloc(), NO_FAILURE);
@@ -168,8 +169,8 @@ fn begin_at_last(rt: &impl Abort, recorder: &'static Recorder) -> Result<Parties
     }
 }
 
-/// What each party holds that is up is a front of what the referee does. One that could not save, or come back, is
-/// down.
+/// What each party holds that is up is a front of what the referee does. One that could not save,
+/// or come back, is down.
 fn check_fronts(rt: &impl Abort, parties: &Parties) {
     let Some(whole) = parties.held(0) else {
         return;
@@ -181,8 +182,8 @@ fn check_fronts(rt: &impl Abort, parties: &Parties) {
     }
 }
 
-/// No run of the tests refuses any growth, but `tools/checks/refuse_growths` refuses each in turn: then what a party
-/// holds is still a front of what the referee does.
+/// No run of the tests refuses any growth, but `tools/checks/refuse_growths` refuses each in turn:
+/// then what a party holds is still a front of what the referee does.
 #[test]
 fn refused_growths_of_nodes(rt: HostRuntime) -> Result<(), Fail> {
     let recorder = Recorder::that_lasts(&rt, rt.alloc(), NO_FAILURE);

@@ -235,8 +235,8 @@ impl Parties {
     }
 }
 
-/// Devices that fail once each: the referee's second write is torn, the seventh send goes out all the same, and this
-/// read of X's seat fails.
+/// Devices that fail once each: the referee's second write is torn, the seventh send goes out all
+/// the same, and this read of X's seat fails.
 pub(crate) fn failing(read: u32) -> Failing {
     Failing {
         tear: Some(Tear {

@@ -202,8 +202,8 @@ fn has(text: &[u8], words: &[u8]) -> bool {
     false
 }
 
-/// A script that lacked memory has written nothing; or one of its events lacked it, and the outcome says so (a save
-/// that could not be kept is a fault).
+/// A script that lacked memory has written nothing; or one of its events lacked it, and the outcome
+/// says so (a save that could not be kept is a fault).
 fn check_lacking(rt: &impl Abort, answer: Result<Verdict, ScriptFault>, written: &[u8]) {
     match answer {
         Ok(verdict) => {
@@ -220,8 +220,9 @@ fn check_lacking(rt: &impl Abort, answer: Result<Verdict, ScriptFault>, written:
     }
 }
 
-/// A script without a final line end. Where memory is refused the same script then comes to its text. No run of the
-/// tests refuses any, but `tools/checks/refuse_growths` refuses each growth in turn.
+/// A script without a final line end. Where memory is refused the same script then comes to its
+/// text. No run of the tests refuses any, but `tools/checks/refuse_growths` refuses each growth in
+/// turn.
 #[test]
 fn refused_growths_of_scripts(rt: HostRuntime) -> Result<(), Fail> {
     let input = A_TURN.as_bytes();

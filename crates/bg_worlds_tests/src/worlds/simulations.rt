@@ -4,7 +4,8 @@ use crate::worlds::memory_worlds::{MemoryWorld, check_lines, events_of, simulate
 use bg_world::RunReport;
 use std::process::Abort;
 
-/// In `four_saves` the referee has one entry in its third save, and two in its fourth, which fails; then it restarts.
+/// In `four_saves` the referee has one entry in its third save, and two in its fourth, which fails;
+/// then it restarts.
 ///
 /// In `one_save` the referee's first save fails; then it restarts.
 const RUNS: &str = "\

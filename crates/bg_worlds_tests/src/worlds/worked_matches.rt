@@ -4,23 +4,24 @@ use crate::worlds::memory_worlds::{MemoryWorld, check_line, check_plays, played,
 use bg_world::Event;
 use std::process::Abort;
 
-/// In `a_turn_with_a_watcher` the watcher restarts behind the turn, and is handed the datagrams of its earlier life in
-/// the other order: it keeps the later one until the earlier one comes. After another restart it has it no more.
+/// In `a_turn_with_a_watcher` the watcher restarts behind the turn, and is handed the datagrams of
+/// its earlier life in the other order: it keeps the later one until the earlier one comes. After
+/// another restart it has it no more.
 ///
 /// Nothing comes to `a_watcher_alone`: it asks ever more seldom.
 ///
-/// In `a_move_is_pushed` the referee pushes the move to X, who claimed it, and to nobody else: it has heard of no other
-/// party.
+/// In `a_move_is_pushed` the referee pushes the move to X, who claimed it, and to nobody else: it
+/// has heard of no other party.
 ///
-/// In `a_roll_is_lost` the referee restarts before it has saved the roll, and throws again: the dice of a roll that was
-/// never saved are seen by nobody.
+/// In `a_roll_is_lost` the referee restarts before it has saved the roll, and throws again: the
+/// dice of a roll that was never saved are seen by nobody.
 ///
 /// In `a_claim_is_kept` the seat of X restarts after it has sent its claim, which it sends again
-/// (`a_claim_over_two_processes` compares its bytes). The third datagram to the referee is the claim, which counts; the
-/// second is the same claim, as the seat sent it before.
+/// (`a_claim_over_two_processes` compares its bytes). The third datagram to the referee is the
+/// claim, which counts; the second is the same claim, as the seat sent it before.
 ///
-/// In `a_claim_is_lost` the seat of X restarts before it has saved its claim: that is gone, and so is what the seat had
-/// learned. It wants all entries.
+/// In `a_claim_is_lost` the seat of X restarts before it has saved its claim: that is gone, and so
+/// is what the seat had learned. It wants all entries.
 pub(crate) const PLAYS: &str = "\
 a_turn_with_a_watcher
 watchers 1
@@ -100,7 +101,8 @@ parties_that_are_alone
 watchers 2
 ";
 
-/// A party that nothing comes to sends on its ticks 1, 2, 4, 8, 16, 32, 64, 96 and 128, and on no other up to 128.
+/// A party that nothing comes to sends on its ticks 1, 2, 4, 8, 16, 32, 64, 96 and 128, and on no
+/// other up to 128.
 fn check_gaps(rt: &impl Abort, world: &mut MemoryWorld, party: u8) {
     for tick in 1..129 {
         let sends = matches!(tick, 1 | 2 | 4 | 8 | 16 | 32 | 64 | 96 | 128);
@@ -110,7 +112,8 @@ fn check_gaps(rt: &impl Abort, world: &mut MemoryWorld, party: u8) {
     }
 }
 
-/// What the seats and the watchers send goes to the referee, who takes none of it and sends nothing.
+/// What the seats and the watchers send goes to the referee, who takes none of it and sends
+/// nothing.
 #[test]
 fn ticks_of_parties_that_are_alone(rt: HostRuntime) {
     let world = played(&rt, ALONE, "parties_that_are_alone", None);

@@ -44,7 +44,8 @@ pub(super) fn begun_watcher<L: Link + Drop>(
     WatcherProcess::begin(alloc, WATCHER, ID, terms, link).ok()
 }
 
-/// A round of the referee, where it runs; where it can't go on its process ends. Whether the match is over for it.
+/// A round of the referee, where it runs; where it can't go on its process ends. Whether the match
+/// is over for it.
 pub(super) fn referee_round<L: Link + Drop, K: Keeper + Drop>(
     running: &mut Option<RefereeProcess<L, K>>,
 ) -> bool {
@@ -96,7 +97,8 @@ fn round_and_play<L: Link, K: Keeper>(
     }
 }
 
-/// A round of a seat, where it runs; where it can't go on its process ends. Whether the match is over for it.
+/// A round of a seat, where it runs; where it can't go on its process ends. Whether the match is
+/// over for it.
 pub(super) fn seat_round<L: Link + Drop, K: Keeper + Drop>(
     alloc: Global,
     player: Player,

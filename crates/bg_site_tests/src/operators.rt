@@ -1,0 +1,120 @@
+//! What is told of a match's dice, and what an operator changes of a match.
+use crate::keepers::ShelfKeeper;
+use crate::requests::{OneShelf, answer_to, get, lasting_site, order};
+use bg_site::{Changed, Seats, Site, digest_of};
+use bg_system::Names;
+use std::process::Abort;
+use std::random::RandomSource;
+
+type Server<'a> = Site<ShelfKeeper<'a>, OneShelf<'a>>;
+
+/// A site with the match `made`.
+fn site_with_match<'a>(rt: &(impl AllocGlobal + Abort + RandomSource)) -> &'a mut Server<'a> {
+    let site = lasting_site(rt);
+    check_made(rt, site);
+    site
+}
+
+/// The match `made` is made.
+fn check_made<'s>(rt: &(impl AllocGlobal + Abort + RandomSource), site: &mut Server<'s>) {
+    let answer = answer_to(rt, site, order(rt, "{\"length\":1,\"x\":\"Anna\"}"));
+    assert!(rt;
+        answer.contains("201 Created"),
+        "the order came to {answer}"
+    );
+}
+
+/// The answer to a request for a path has these words.
+fn check_path<'s>(
+    rt: &(impl AllocGlobal + Abort + RandomSource),
+    site: &mut Server<'s>,
+    path: &str,
+    words: &str,
+) {
+    let answer = answer_to(rt, site, get(rt, path));
+    assert!(rt; answer.contains(words), "{path} came to {answer}");
+}
+
+/// The answer to a request for a path lacks these words.
+fn check_without<'s>(
+    rt: &(impl AllocGlobal + Abort + RandomSource),
+    site: &mut Server<'s>,
+    path: &str,
+    words: &str,
+) {
+    let answer = answer_to(rt, site, get(rt, path));
+    assert!(rt; !answer.contains(words), "{path} came to {answer}");
+}
+
+/// The SHA-256 of 32 bytes that are 3 each.
+const DIGEST: &str = "sha256 648aa5c579fb30f38af744d97d6ec840c7a91277a499a0d780f3e7314eca090b\n";
+
+#[test]
+fn the_secret_of_the_dice_is_not_told_before_the_end(rt: HostRuntime) {
+    let site = site_with_match(&rt);
+    check_path(&rt, site, "/matches/made/dice", DIGEST);
+    check_without(&rt, site, "/matches/made/dice", "secret");
+}
+
+/// Changes the match: its secrets are these, and lists leave it out if that is wanted.
+fn change(site: &mut Server<'_>, x: &str, o: &str, is_hidden: bool) -> bool {
+    site.change(
+        "made",
+        Changed {
+            names: Names::none(),
+            seats: Some(Seats {
+                x: digest_of(x),
+                o: digest_of(o),
+            }),
+            is_hidden,
+        },
+    )
+}
+
+#[test]
+fn what_an_operator_changes(rt: HostRuntime) {
+    let site = site_with_match(&rt);
+    check_path(&rt, site, "/matches", "\"names\":[\"Anna\",\"\"]");
+    assert!(rt; change(site, "of x", "of o", false), "names are removed");
+    check_path(
+        &rt,
+        site,
+        "/matches",
+        "\"match\":\"made\",\"names\":[\"\",\"\"]",
+    );
+    assert!(rt; change(site, "of x", "of o", true), "it is hidden");
+    check_path(&rt, site, "/matches", "\"count\":0");
+    check_path(&rt, site, "/matches?search=made", "\"count\":0");
+    check_path(&rt, site, "/matches/made/state", "\"number\":1");
+    assert!(rt;
+        site.remove("made") && !site.remove("made"),
+        "it is deleted once"
+    );
+    check_path(&rt, site, "/matches/made/state", "404 Not Found");
+    check_path(&rt, site, "/matches/made/dice", "404 Not Found");
+    assert!(rt;
+        !change(site, "of x", "of o", false),
+        "what is deleted is not changed"
+    );
+}
+
+#[test]
+fn matches_without_an_action_are_listed_apart(rt: HostRuntime) {
+    let site = site_with_match(&rt);
+    site.set_idle(10);
+    site.begin_minute(9);
+    check_path(&rt, site, "/matches?list=idle", "\"count\":0");
+    check_path(&rt, site, "/matches", "\"count\":1");
+    site.begin_minute(10);
+    check_path(&rt, site, "/matches?list=idle", "\"count\":1");
+    check_path(&rt, site, "/matches", "\"count\":0");
+    check_path(&rt, site, "/matches?list=finished", "\"count\":0");
+    check_path(
+        &rt,
+        site,
+        "/metrics",
+        "bg_relay_matches{state=\"idle\"} 1\n",
+    );
+    site.set_idle(0);
+    check_path(&rt, site, "/matches", "\"count\":1");
+}
