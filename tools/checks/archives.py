@@ -19,9 +19,10 @@ FILES = {
 FILES |= {f"share/doc/bg_relay/{name}" for name in (
     "README.md", "CHANGELOG.md", "SECURITY.md", "docs/COMPATIBILITY.md", "docs/OPERATING.md",
     "examples/opening.txt", "examples/service/bg_relay-referee@.service",
-    "examples/service/bg_relay-page@.service", "examples/service/bg_relay-board.service", "include/heap.c")}
+    "examples/service/bg_relay-page@.service", "examples/service/bg_relay-board.service", "include/heap.c",
+    "include/handles.c", "include/names.c")}
 LIBRARY = {
-    "include/bg_relay.h", "lib/libbg_relay.a", "lib/libbg_relay.so", "lib/libbg_relay.so.1",
+    "include/bg_relay.h", "lib/libbg_relay.a", "lib/libbg_relay.so", "lib/libbg_relay.so.2",
     "lib/pkgconfig/bg_relay.pc", "share/man/man3/bg_relay.3",
 }
 # The list of what is installed, below a prefix, and the sum of an empty file.

@@ -9,7 +9,7 @@ DOCUMENTS = "usr/share/doc/bg-relay"
 FILES = ("usr/bin/bg_relay", "usr/libexec/bg_relay/bg_relay", "usr/share/man/man1/bg_relay.1.gz",
          f"{DOCUMENTS}/copyright", f"{DOCUMENTS}/MANIFEST", f"{DOCUMENTS}/changelog.gz")
 LIBRARY = tuple(f"usr/lib/x86_64-linux-gnu/{name}" for name in (
-    "libbg_relay.a", "libbg_relay.so.1", "pkgconfig/bg_relay.pc"))
+    "libbg_relay.a", "libbg_relay.so.2", "pkgconfig/bg_relay.pc"))
 
 
 class Root:

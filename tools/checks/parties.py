@@ -160,9 +160,9 @@ class Party(Stranger):
 class Typist:
     """A process whose standard input is a pipe that stays open, and its screen, both streams of output."""
 
-    def __init__(self, *command):
+    def __init__(self, *command, environment=None):
         pipe = subprocess.PIPE
-        self.process = subprocess.Popen(command, stdin=pipe, stdout=pipe, stderr=subprocess.STDOUT)
+        self.process = subprocess.Popen(command, stdin=pipe, stdout=pipe, stderr=subprocess.STDOUT, env=environment)
         os.set_blocking(self.process.stdout.fileno(), False)
         self.screen = ""
 

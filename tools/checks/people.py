@@ -19,15 +19,15 @@ MOST_SECONDS = 40
 PATIENCE = 60
 # So many faults of what he sees are told, at most.
 MOST_TOLD = 12
-PROMPT = re.compile(r"^your turn, [XO]: ((?:.|\n)*)", re.M)
+PROMPT = re.compile(r"^your turn, [XO]:\s((?:.|\n)*)", re.M)
 # What the legal turns are answered with, and one of them there.
 LISTED = r"turns:|the only turn|can't move"
 TURN = re.compile(r"(?<= )(?:[\w]+-\w+\*?)(?: [\w]+-\w+\*?)*")
 # What stands below an answer: what may be done now, to its last word.
-PROMPTED = r"(?:.|\n)*^your turn, [XO]: (?:.|\n)*?(?:backgammon|drop|reject)\n"
+PROMPTED = r"(?:.|\n)*^your turn, [XO]:\s(?:.|\n)*?(?:backgammon|drop|reject)\n"
 # What a busy machine may add to a screen: that the referee is not heard, or is again, each time with what may be done
 # now; that a choice waits for it; and how the other player stands.
-SAID_ANEW = r"(?:your turn, [XO]: (?:.|\n)*?(?:backgammon|drop|reject)\n|it is .* turn\n)?"
+SAID_ANEW = r"(?:your turn, [XO]:\s(?:.|\n)*?(?:backgammon|drop|reject)\n|it is .* turn\n)?"
 WORDS = re.compile(r"no word from the referee for three\s+seconds[^`]*?heard\s+again\n" + SAID_ANEW
                    + r"|the referee is heard again\n" + SAID_ANEW
                    + r"|your choice is kept, and sent when the referee is heard\s+again\n"
@@ -35,8 +35,11 @@ WORDS = re.compile(r"no word from the referee for three\s+seconds[^`]*?heard\s+a
 # What bold and coloured letters begin and end with.
 LOOKS = re.compile(r"\x1b\[\d*m")
 CTRL_D = b"\x04"
-# What is said where a turn is played at once, to who leaves, and below the first lines of the legal turns.
+# What is said where a turn is played at once, where there is no memory, with what to do, to who leaves, and below the
+# first lines of the legal turns.
 PLAYED = "the only turn is played: "
+NO_MEMORY = "out of memory"
+MORE_MEMORY = "end other programs, or allow this one more (`ulimit -v`)"
 LEFT = "you left the table: the match goes on by the same command"
 # What each line that acts is answered with: the entry that it made.
 MADE = {"r": "roll", "d": "double", "double": "double", "t": "take", "p": "drop", "a": "accept", "n": "reject"}
@@ -49,7 +52,7 @@ class Person:
     is typed, by the number of its dice. He plays one of the first turns that are listed, out of so many as `among` says.
     What came is kept in `raw`, and what he reads, without colours, in `screen`; `lives` says where in it each call of the
     command begins, and with how many columns. Where `exports` is not set, an option says how many there are, and no
-    variable."""
+    variable, and none says how many lines."""
 
     def __init__(self, command, player, columns, rows, lines, choices, has_colours=False, exports=True, tries=(), parts=(),
                  among=1):
@@ -68,9 +71,10 @@ class Person:
         command = self.command if self.exports else [*self.command, "--columns", columns]
         pid, self.terminal = pty.fork()
         if pid == 0:
-            os.environ.pop("COLUMNS", None)
+            for name in ("COLUMNS", "LINES"):
+                os.environ.pop(name, None)
             if self.exports:
-                os.environ["COLUMNS"] = columns
+                os.environ.update(COLUMNS=columns, LINES=str(self.size[1]))
             os.environ.update(TERM="xterm", NO_COLOR=self.no_color, **self.variables)
             os.execv(command[0], command)
         self.pid, self.status = pid, None
@@ -96,11 +100,11 @@ class Person:
         self.variables = variables
         self.leave("quit")
         self.variables = {}
-        self.end("without memory", 1, "bg_relay: out of memory")
+        self.end("without memory", 1, MORE_MEMORY)
         self.start()
 
     def end(self, how, status, wanted):
-        """Waits until his process has ended: with this status, and these words as the last on his screen."""
+        """Waits until his process has ended: with this status, and these words among the last on his screen."""
         until = time.time() + MOST_SECONDS
         while self.status is None and time.time() < until:
             if select.select([self.terminal], [], [], 0.1)[0]:
@@ -109,8 +113,8 @@ class Person:
             self.wrong.append(f"{self.player} did not leave {how}: {self.screen[-300:]!r}")
             return self.kill()
         os.close(self.terminal)
-        left = " ".join(self.screen[self.seen:].split()[-len(wanted.split()):])
-        if self.status != status or left != wanted:
+        left = " ".join(word for line in self.screen[self.seen:].split("\n")[-3:] for word in line.split())
+        if self.status != status or wanted not in left:
             self.wrong.append(f"{self.player} left {how} with status {self.status}, and saw {left}")
 
     def is_asked(self):
@@ -276,7 +280,7 @@ class Person:
         self.typed_turns.append(" ".join(steps).replace("*", ""))
         if len(lines) > 1:
             self.later[lines[0]] = lines[1]
-            return self.type(lines[0], r"so\s+far " + steps[0].replace("*", ""))
+            return self.type(lines[0], r"so\s+far " + lines[0].replace("/", "-"))
         return self.do(lines[0], f"move {self.typed_turns[-1]}$")
 
 
@@ -318,8 +322,16 @@ def counted(steps):
     return [" ".join(f"{step}({count})" if count > 1 else step for step, count in groups)]
 
 
+def half(steps):
+    """Half of a double by one checker that hits nothing, and then the rest."""
+    if len(steps) == 4 and is_chain(steps[:2]) and "*" not in steps[0] + steps[1]:
+        return [f"{steps[0].split('-')[0]}/{steps[1].split('-')[1]}", " ".join(slashed(steps[2:]))]
+    return None
+
+
 # Ways to type a turn, the rarest first; nothing where one does not fit it.
 STYLES = {
+    "half": half,
     "counted": counted,
     "merged": merged,
     "path": path,

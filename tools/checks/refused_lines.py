@@ -88,6 +88,20 @@ def held(player, kind, screen):
     return None
 
 
+def held_by_both(player, kind, screen):
+    """A way of one checker by both dice to a point that is held: the part that can't be played, by the larger die first."""
+    board = seen(player, kind, screen)
+    if not board or board.bar or board.dice[0] == board.dice[1]:
+        return None
+    for point in board.own_points():
+        middle = point - max(board.dice)
+        to = middle - min(board.dice)
+        if to > 0 and board.count(board.other, to) > 1:
+            part = (point, middle) if board.count(board.other, middle) > 1 else (middle, to)
+            return f"{point}/{to}", rf"{shown([part])} can't be played:\s+point {part[1]} is held by {board.other}"
+    return None
+
+
 def bar_first(player, kind, screen):
     board = seen(player, kind, screen)
     for point, to in board.steps() if board and board.bar else ():
@@ -121,7 +135,7 @@ def wrong_hits(player, kind, screen):
     for point, to in open_ones:
         for other_point, other_to in open_ones:
             if point != other_point and sorted((point - to, other_point - other_to)) == sorted(board.dice):
-                return f"{point}/{to}* {other_point}/{other_to}", r"hits on other points"
+                return f"{point}/{to}* {other_point}/{other_to}", r"doesn't\s+hit\s+exactly\s+where"
     return None
 
 
@@ -229,5 +243,5 @@ def at_cap(player, kind, screen):
     return None
 
 
-BY_BOARD = (held, bar_first, not_home, higher, wrong_hits, other_cube, no_die, no_bar, which_way)
+BY_BOARD = (held, held_by_both, bar_first, not_home, higher, wrong_hits, other_cube, no_die, no_bar, which_way)
 BY_TURN = (larger_die, both_dice)

@@ -3,6 +3,8 @@ stand-ins that are noted as proved; for tools/checks/check_release."""
 import os
 import pathlib
 import re
+import shutil
+import tempfile
 
 from installed import needs, right, run, tree
 from releases import TASKS, TOP, VERSION, manifest_of, unpacked
@@ -17,8 +19,6 @@ case $1 in
     *) cat "{TOP}/docs/help/$1.txt" ;;
 esac
 """
-# Stands for the library for C: an archive without members.
-LIBRARY = "!<arch>\n"
 # Copies the files of the repository as they stand, and commits them.
 COPY = """
 set -e
@@ -41,7 +41,7 @@ sum_of_sources bg_relay
 sum_of_sources bg_c
 toolchain
 """
-INTERFACE = re.search(r"#define BG_VERSION (\d+)u", (TOP / "include/bg_relay.h").read_text())[1]
+INTERFACE = re.search(r"#define BG_ABI (\d+)u", (TOP / "include/bg_relay.h").read_text())[1]
 # What pkg-config reads, with the prefix, and the rest of the library's folder.
 CONFIG = f"""prefix={{}}
 interface={INTERFACE}
@@ -51,7 +51,27 @@ Version: {VERSION}
 Libs: -L${{{{prefix}}}}/lib{{}} -lbg_relay
 Cflags: -I${{{{prefix}}}}/include
 """
+# A line of README.md, "What is proved".
+PROVED = ("match, and each party's record is a prefix of it. Each entry of a seat in it answers the one action that the "
+          "seat")
 NO_LICENCE = "No licence has been chosen yet, so ask the owner"
+
+
+def library():
+    """Returns what stands for the library for C: an archive of the calls that the C of include/ makes, and none does
+    anything."""
+    source = (TOP / "include/handles.c").read_text()
+    calls = sorted(set(re.findall(r"\bbg_proved_\w+(?=\()", source)))
+    near = pathlib.Path(shutil.which("rt")).resolve().parents[1] / "toolchain/bin"
+    compiler = shutil.which(os.environ.get("CC", "cc")) or near / "clang"
+    archiver = shutil.which(os.environ.get("AR", "ar")) or near / "llvm-ar"
+    with tempfile.TemporaryDirectory() as work:
+        work = pathlib.Path(work)
+        (work / "calls.c").write_text("".join(f"void {call}(void) {{}}\n" for call in calls))
+        made = [run(compiler, "-fPIC", "-c", work / "calls.c", "-o", work / "calls.o"),
+                run(archiver, "rcs", work / "calls.a", work / "calls.o")]
+        right(all(status == 0 for status, _ in made), f"making what stands for the library: {made}")
+        return (work / "calls.a").read_bytes()
 
 
 class Copy:
@@ -68,9 +88,9 @@ class Copy:
         if os.geteuid() == 0:
             os.chown(top / "docs/RULES.md", 65534, 65534)
         self.first = self.git("rev-parse", "HEAD")
-        for place, text in ((BUILT, PROGRAM), (ARCHIVE, LIBRARY)):
+        for place, has in ((BUILT, PROGRAM.encode()), (ARCHIVE, library())):
             (top / place).parent.mkdir(parents=True)
-            (top / place).write_text(text)
+            (top / place).write_bytes(has)
             (top / place).chmod(0o755)
         _, said = run("bash", "-c", NOTE, "sh", top, more={"BG_RELAY": ""})
         self.sources, self.library_sources, self.toolchain = [*said.splitlines(), "", "", ""][:3]
@@ -120,7 +140,7 @@ def check_words(copy):
     for line in (f"bg_relay {VERSION} for x86_64-linux", f"revision   {copy.first}",
                  f"program    proved, of the sources {copy.sources}",
                  f"library    proved, of the sources {copy.library_sources}",
-                 f"toolchain  {copy.toolchain}", "- the referee's record is a legal match;"):
+                 f"toolchain  {copy.toolchain}", PROVED):
         right(f"\n{line}\n" in f"\n{head}\n", f"the manifest does not say '{line}': {head}")
     right("- **Trusted:**" in head and NO_LICENCE in head, f"the manifest says {head}")
     text = (folder / "README.md").read_text()
@@ -181,7 +201,7 @@ def check_refusals(copy):
     check_refused(copy, "another program", "nothing says that the program which stands here")
     (top / f"{BUILT}.proved").unlink()
     check_refused(copy, "a program without a note", "nothing says that the program")
-    (top / ARCHIVE).write_text(f"{LIBRARY}\n")
+    (top / ARCHIVE).write_bytes((top / ARCHIVE).read_bytes() + b"\n")
     check_refused(copy, "another library", "the library for C does not stand proved")
     note = top / f"{ARCHIVE}.proved"
     note.write_text(re.sub("^toolchain .*", "toolchain any", note.read_text(), flags=re.M))

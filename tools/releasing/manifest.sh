@@ -28,22 +28,17 @@ parts() {
         return
     fi
     echo "library    proved, of the sources $(noted "$library" sources)"
-    echo "           libbg_relay.a is what was proved and include/heap.c, which is trusted;"
+    echo "           libbg_relay.a is what was proved and include/*.c, which are trusted;"
     echo "           libbg_relay.so.$interface is linked of it"
     if [ -n "$is_trial" ]; then echo "toolchain  $(noted "$library" toolchain), of the library"; fi
 }
 
 # claims (what is proved and what is not, as README.md says it)
 claims() {
-    local headline parts
-    headline=$(awk 'sub(/.*The headline: */, "") { on = 1 } /^Two calls of/ { on = 0 } on' \
-        "$top/README.md")
-    parts=$(awk '/^## / { on = $0 == "## What is proved, and what is not"; next } on' \
-        "$top/README.md")
-    if [ -z "$headline" ] || [ -z "$parts" ]; then
-        stop "README.md says no more what is proved, where it did"
-    fi
-    printf 'What is proved, and what is not:\n%s\n%s\n' "$headline" "$parts"
+    local parts
+    parts=$(awk '/^## / { on = $0 == "## What is proved"; next } on' "$top/README.md")
+    if [ -z "$parts" ]; then stop "README.md says no more what is proved, where it did"; fi
+    printf 'What is proved, and what is not:\n%s\n' "$parts"
 }
 
 # make_manifest FOLDER FILE (of all that lies in a folder; the file, which lies there, is written)
