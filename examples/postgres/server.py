@@ -1,0 +1,156 @@
+#!/usr/bin/env python3
+"""One of any number of servers that carry the same matches over one PostgreSQL. Each holds parties of matches as it last
+saw them, and may be behind the others at any time: the fence of the store decides which save counts. Bots play.
+
+    ./server.py LIBRARY DATABASE TOLD [FENCE]
+
+LIBRARY   OUT/libbg_relay.so.N, as tools/build_library leaves it
+DATABASE  how to connect, as libpq takes it
+TOLD      a file, which gets a line for each entry that this server tells: the match, the number, and the entry
+FENCE     next, which is right; equal or none, to see what goes wrong with another fence, and without one
+"""
+import os
+import random
+import secrets
+import sys
+
+from database import DatabaseError
+from library import NOBODY, NOT_DUE, OK, TOOK_ACCEPTED, TOOK_WORD_REFUSED, WORD_REFUSED, Library, Party, Refused
+from store import Store
+
+REFEREE, SEATS, WATCHER = 0, (1, 2), 3
+MATCHES_A_TURN = 4
+
+
+def word():
+    return secrets.randbits(32)
+
+
+class Table:
+    """The parties of one match at this server. What changed is in `unsaved` until the store has it."""
+
+    def __init__(self, library, store, match):
+        self.library, self.store, self.match = library, store, match
+        self.parties = {number: self.open(number) for number in (REFEREE, *SEATS)}
+        self.parties[WATCHER] = Party(library, WATCHER, match)
+        self.unsaved, self.told = set(), 0
+
+    def open(self, number):
+        return Party(self.library, number, self.match, self.store.slots(self.match[0], number))
+
+    def reopen(self, number):
+        """Drops what a party holds: it goes on from what the store has."""
+        self.parties[number].close()
+        self.parties[number] = self.open(number)
+        self.unsaved.discard(number)
+
+    def close(self):
+        for party in self.parties.values():
+            party.close()
+
+    def deliver(self, datagram):
+        """Carries a packet to its party, and then the answer."""
+        party = self.parties.get(datagram.to)
+        if party is None or not datagram.length:
+            return
+        kind = TOOK_WORD_REFUSED
+        while kind == TOOK_WORD_REFUSED:
+            kind, answer = party.take(datagram.packet(), word())
+        if kind == TOOK_ACCEPTED:
+            self.unsaved.add(datagram.to)
+        self.deliver(answer)
+
+    def referee_adds(self):
+        """The referee opens a game, or passes a turn, where that is due."""
+        status = WORD_REFUSED
+        while status == WORD_REFUSED:
+            status = self.parties[REFEREE].due(word())
+        if status != NOT_DUE:
+            self.unsaved.add(REFEREE)
+
+    def act(self, seat):
+        """What a bot does, if it acts: it tries one thing after another."""
+        party = self.parties[seat]
+        if party.actor() != seat:
+            return
+        wishes = [random.choice(["roll", "roll", "double"]), random.choice(["take", "take", "drop"]), "roll"]
+        for action in [*wishes, *random.sample(turns := party.turns(), min(1, len(turns)))]:
+            if party.choose(action) == OK:
+                self.unsaved.add(seat)
+                return
+
+    def tick(self):
+        for party in list(self.parties.values()):
+            for datagram in party.tick():
+                self.deliver(datagram)
+
+    def newly_told(self):
+        """A line for each entry that was told and not noted yet: what is told is what a watcher comes to hold."""
+        entries = self.parties[WATCHER].entries()
+        lines = [f"{self.match[0]} {at + 1} {entries[at]}\n" for at in range(self.told, len(entries))]
+        self.told = len(entries)
+        return "".join(lines)
+
+    def is_over(self):
+        return REFEREE not in self.unsaved and self.parties[REFEREE].actor() == NOBODY
+
+
+def save(store, tables):
+    """Saves what changed at these tables in one transaction. A party whose save was refused begins again from the
+    store: never count a save as made that was not taken."""
+    saves = {}
+    for table in tables:
+        for number in table.unsaved:
+            saves[table.match[0], number] = table.parties[number].to_save()
+    taken = store.save_all(saves) if saves else set()
+    for table in tables:
+        for number in list(table.unsaved):
+            if (table.match[0], number) in taken:
+                table.parties[number].mark_saved(saves[table.match[0], number][1])
+                table.unsaved.discard(number)
+            else:
+                table.reopen(number)
+    return len(saves) - len(taken)
+
+
+def serve(library, store, told):
+    """Takes turns until all matches are over, and returns how many saves were refused. In a turn the parties of some
+    matches act; then all that changed is saved at once; and only then it is told."""
+    tables, refused = {}, 0
+    while matches := store.open_matches():
+        chosen = random.sample(matches, min(MATCHES_A_TURN, len(matches)))
+        for match in chosen:
+            tables.setdefault(match[0], None)
+            if tables[match[0]] is None:
+                tables[match[0]] = Table(library, store, match)
+        turn = [tables[match[0]] for match in chosen]
+        for step in (Table.referee_adds, lambda table: [table.act(seat) for seat in SEATS]):
+            for table in turn:
+                step(table)
+            refused += save(store, turn)
+        # Ticks carry claims to the referee, whose entries are saved before they are told at the next tick.
+        for _ in range(2):
+            for table in turn:
+                table.tick()
+            refused += save(store, turn)
+        for table in turn:
+            os.write(told, table.newly_told().encode())
+            if table.is_over():
+                store.end(table.match[0])
+                table.close()
+                del tables[table.match[0]]
+    return refused
+
+
+def main():
+    library, where, path, *fence = sys.argv[1:]
+    told = os.open(path, os.O_WRONLY | os.O_CREAT | os.O_APPEND, 0o644)
+    try:
+        refused = serve(Library(library), Store(where, *fence), told)
+    except (DatabaseError, Refused) as why:
+        sys.exit(f"server.py: {why}")
+    print(f"{refused} saves refused")
+
+
+if __name__ == "__main__":
+    main()
